@@ -1,0 +1,6 @@
+pub mod Steps
+pub mod Places
+pub mod Passes
+pub mod Running
+pub mod Answering
+pub mod Splitting

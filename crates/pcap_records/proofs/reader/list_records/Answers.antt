@@ -1,0 +1,38 @@
+use Rattle.std.proofs.Common.{length, map, drop, ◌+◌, sym, ◌∙◌, subst, arith}
+use Rattle.std.proofs.lemmas.List.{drop-drop, map_push, length_push}
+use Rattle.std.proofs.lemmas.List.Elements.{All-push, All-nil}
+use Rattle.pcap_records.specs.Reading.{in_microseconds}
+use Rattle.pcap_records.specs.Captured.{IsWithin, packet_of}
+use Rattle.pcap_records.proofs.Passes.{with_front-none, listed-whole, listed-end, IsWholeList}
+use Rattle.pcap_records.proofs.reader.list_records.Goals as goal
+
+pub records-init : goal.records-init
+records-init c = record {
+  place = omega arith;
+  within = rw c.in_ok-records.ensures.items (All-nil (IsWithin c.args.bytes.now));
+  same = rw c.in_ok-records.ensures.items (with_front-none _);
+}
+
+pub returns-in-Torn : goal.returns-in-Torn
+returns-in-Torn c =
+    let bytes = c.args.bytes.now in
+    let h = in_microseconds c.args.order in
+    let packets = map (packet_of bytes) c.records.records.items in
+    record {
+      within = c.records.invariant.within;
+      same = subst (IsWholeList h packets) c.records.invariant.same (listed-end h packets (length c.records.records.items) bytes c.records.at c.found_at.result c.in-Torn.is c.found_at.ensures);
+    }
+
+pub records-preserved : goal.records-preserved
+records-preserved c =
+    let bytes = c.args.bytes.now in
+    let h = in_microseconds c.args.order in
+    let found = c.in-Whole.ensures in
+    let before = c.records.records.items in
+    record {
+      place = omega (arith, found.within.ends, found.start);
+      within = rw c.in_ok-push-in-Whole.ensures.items (All-push (IsWithin bytes) before c.in-Whole.record c.records.invariant.within found.within);
+      same =
+          rw (c.in_ok-push-in-Whole.ensures.items, map_push (packet_of bytes) before c.in-Whole.record, length_push before c.in-Whole.record, found.packet, ← drop-drop (16 + c.in-Whole.record.len) c.records.at bytes, found.len)
+          (sym (listed-whole h (map (packet_of bytes) before) (length before) (drop c.records.at bytes) found.is_whole) ∙ c.records.invariant.same);
+    }

@@ -1,0 +1,14 @@
+use Rattle.std.proofs.Common.{◌≡◌, ◌≤◌, length, drop, ◌-◌, ◌*◌}
+use Rattle.pcap_records.specs.Reading.{in_microseconds, records_after}
+use Rattle.pcap_records.specs.Survey.{survey_from}
+use Rattle.pcap_records.proofs.reader.survey_records.Given as goal
+
+abbrev pub invariant-records : goal.invariant-records
+invariant-records l = record {
+  place : l.at ≤ length l.bytes;
+  sixteen_each : 16 * l.count ≤ l.at;
+  same : survey_from l.count (records_after 0 (in_microseconds l.order) l.count (drop l.at l.bytes)) ≡ survey_from 0 (records_after 0 (in_microseconds l.order) 0 (drop 24 l.bytes));
+}
+
+abbrev pub decreases-records : goal.decreases-records
+decreases-records l = length l.bytes - l.at

@@ -1,0 +1,35 @@
+-- Instants: whole ticks from 0 to a horizon, and the greatest stamp so far.
+use Rattle.std.specs.Prelude.{◌≡◌, ◌≤◌, ℕ, ◌+◌, ◌*◌, ◌^◌, min, max, List, [], ◌∷◌, length, map, take}
+use Rattle.std.specs.List.{range_with_len, slice_range}
+
+-- the ticks of a second where instants count microseconds
+abbrev pub microseconds : ℕ
+microseconds = 1000000
+
+-- the horizon, past which no instant lies: the first whose seconds no field of 32 bits holds
+abbrev pub horizon : ℕ → ℕ
+horizon ticks = 2 ^ 32 * ticks
+
+-- the instant n ticks after 0: the horizon where n is past it
+abbrev pub instant : ℕ → ℕ → ℕ
+instant ticks n = min n (horizon ticks)
+
+-- the greatest of some instants, 0 of none
+abbrev pub greatest : List ℕ → ℕ
+greatest [] = 0
+greatest (n ∷ ns) = max n (greatest ns)
+
+-- the greatest of `carry` and of the stamps from the first to the one at place i
+abbrev pub greatest_so_far : ℕ → List ℕ → ℕ → ℕ
+greatest_so_far carry stamps i = max carry (greatest (take (i + 1) stamps))
+
+-- that instant for each stamp in turn
+unfoldable pub instants : ℕ → List ℕ → List ℕ
+instants carry stamps = map (greatest_so_far carry stamps) (range_with_len 0 (length stamps))
+
+-- carried from record `from` on, the instants are those of the whole file: where the greatest stamp
+-- before is the carry, each is the greatest stamp of the file so far
+abbrev pub CarriedIsWhole : Type 0
+CarriedIsWhole =
+    (stamps : List ℕ) (from to : ℕ) → from ≤ to → to ≤ length stamps
+    → instants (greatest (take from stamps)) (slice_range stamps from to) ≡ slice_range (instants 0 stamps) from to

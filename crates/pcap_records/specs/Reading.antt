@@ -1,0 +1,136 @@
+-- What a classic pcap file holds (pcap 2.4, "Savefile Format"): a file header of 24 bytes, then records,
+-- each a header of 16 bytes and a packet, then the rest, which begins with no whole record.
+use Rattle.std.specs.Prelude.{◌==◌, ℕ, zero, suc, ◌+◌, ◌-◌, ◌*◌, ◌^◌, nat_lt, ◌||◌, not, if◌then◌else◌, List, [], ◌∷◌, length, take, drop, Option, Some, None, Result, Ok, Err}
+use Rattle.byteorder.specs.Endian.{big_number, little_number}
+use Rattle.pcap_records.specs.declared.order.Order.{Order}
+use Rattle.pcap_records.specs.declared.order.Order.TheVariants.{Big, Little}
+use Rattle.pcap_records.specs.declared.fault.CaptureFault.{CaptureFault}
+use Rattle.pcap_records.specs.declared.fault.CaptureFault.TheVariants.{CaptureTooLong, ShortHeader, BadMagic, BadVersion, BadLink, RecordTooLong}
+use Rattle.pcap_records.specs.Instants.{microseconds, instant}
+
+-- ---- what is read
+
+-- a packet, and the instant with which it is stamped
+pub record Packet : Type 0 where
+  pub stamp : ℕ
+  pub bytes : List ℕ
+
+-- the ticks of a second, the whole records in the file's order, and how many bytes follow them
+pub record Contents : Type 0 where
+  pub ticks : ℕ
+  pub packets : List Packet
+  pub rest : ℕ
+
+-- what the magic number tells: the order of the bytes of each field, and the ticks of a second
+pub record Heading : Type 0 where
+  pub order : Order
+  pub ticks : ℕ
+
+-- a file as it was read
+pub record Reading : Type 0 where
+  pub order : Order
+  pub contents : Contents
+
+-- ---- limits of this project
+
+-- a file is at most this long
+abbrev pub capture_limit : ℕ
+capture_limit = 2 ^ 30
+
+-- a packet is at most this long, the limit of libpcap
+abbrev pub packet_limit : ℕ
+packet_limit = 262144
+
+-- ---- numbers
+
+-- the number in the first n bytes
+abbrev pub number : Order → ℕ → List ℕ → ℕ
+number Big n bytes = big_number n bytes
+number Little n bytes = little_number n bytes
+
+-- ---- the file header
+
+abbrev pub in_microseconds : Order → Heading
+in_microseconds o = record { order = o; ticks = microseconds }
+
+abbrev pub magic : ℕ
+magic = 0xa1b2c3d4
+
+-- the heading in whose order the first four bytes are the magic number
+abbrev pub heading : List ℕ → Option Heading
+heading bytes =
+    if number Big 4 bytes == magic then Some (in_microseconds Big) else
+    (if number Little 4 bytes == magic then Some (in_microseconds Little) else None)
+
+-- version 2.4, and link type 1, which is Ethernet with no bits of a frame check sequence
+abbrev pub checked : Option Heading → List ℕ → Result Heading CaptureFault
+checked None bytes = Err BadMagic
+checked (Some h) bytes =
+    if not (number h.order 2 (drop 4 bytes) == 2) || not (number h.order 2 (drop 6 bytes) == 4) then Err BadVersion else
+    (if not (number h.order 4 (drop 20 bytes) == 1) then Err BadLink else Ok h)
+
+-- the heading, or the first fault of the file header
+unfoldable pub header : List ℕ → Result Heading CaptureFault
+header bytes =
+    if nat_lt capture_limit (length bytes) then Err CaptureTooLong else
+    (if nat_lt (length bytes) 24 then Err ShortHeader else checked (heading bytes) bytes)
+
+-- ---- the record at the front of some bytes
+
+-- its header's third field: how long its packet is
+abbrev pub packet_len : Heading → List ℕ → ℕ
+packet_len h bytes = number h.order 4 (drop 8 bytes)
+
+-- its first two fields: seconds, and ticks however many
+abbrev pub stamp : Heading → List ℕ → ℕ
+stamp h bytes = instant h.ticks (number h.order 4 bytes * h.ticks + number h.order 4 (drop 4 bytes))
+
+abbrev pub first_packet : Heading → List ℕ → Packet
+first_packet h bytes = record { stamp = stamp h bytes; bytes = take (packet_len h bytes) (drop 16 bytes) }
+
+-- bytes begin with a whole record, with a part of one at most, or with a header that announces too
+-- long a packet, whether or not the file holds it
+pub data Front : Type 0 where
+  whole : Front
+  torn : Front
+  too_long : Front
+
+unfoldable pub front : Heading → List ℕ → Front
+front h bytes =
+    if nat_lt (length bytes) 16 then torn else
+    (if nat_lt packet_limit (packet_len h bytes) then too_long else
+    (if nat_lt (length bytes - 16) (packet_len h bytes) then torn else whole))
+
+-- ---- all records
+
+abbrev pub with_packet : Packet → Result Contents CaptureFault → Result Contents CaptureFault
+with_packet p (Ok c) = Ok (record { ticks = c.ticks; packets = p ∷ c.packets; rest = c.rest })
+with_packet p (Err e) = Err e
+
+-- what bytes hold of which the k-th record would stand at the front, by what the front is and by what
+-- is read after that record
+abbrev pub placed : Front → Heading → ℕ → List ℕ → Result Contents CaptureFault → Result Contents CaptureFault
+placed torn h k bytes after = Ok (record { ticks = h.ticks; packets = []; rest = length bytes })
+placed too_long h k bytes after = Err (RecordTooLong k)
+placed whole h k bytes after = with_packet (first_packet h bytes) after
+
+-- the records from number k on in bytes of which the first n still belong to the record before
+unfoldable pub records_after : ℕ → Heading → ℕ → List ℕ → Result Contents CaptureFault
+records_after n h k [] = Ok (record { ticks = h.ticks; packets = []; rest = 0 })
+records_after zero h k (b ∷ bytes) =
+    placed (front h (b ∷ bytes)) h k (b ∷ bytes) (records_after (15 + packet_len h (b ∷ bytes)) h (suc k) bytes)
+records_after (suc n) h k (b ∷ bytes) = records_after n h k bytes
+
+-- ---- a file
+
+abbrev pub in_order : Order → Result Contents CaptureFault → Result Reading CaptureFault
+in_order o (Ok c) = Ok (record { order = o; contents = c })
+in_order o (Err e) = Err e
+
+abbrev pub read_with : Result Heading CaptureFault → List ℕ → Result Reading CaptureFault
+read_with (Ok h) bytes = in_order h.order (records_after 0 h 0 (drop 24 bytes))
+read_with (Err e) bytes = Err e
+
+-- what the file holds, or its first fault
+unfoldable pub reading : List ℕ → Result Reading CaptureFault
+reading bytes = read_with (header bytes) bytes

@@ -1,0 +1,113 @@
+//! A file that was read.
+use crate::moment::Moment;
+use crate::order::Order;
+use crate::record_place::Record;
+use std::alloc::{AllocError, Global};
+use std::marker::Model;
+
+/// A capture: the records of a classic pcap file, each a slice of the file's bytes.
+#[derive(Debug, Drop)]
+pub struct Capture<'a> {
+    bytes: &'a [u8],
+    order: Order,
+    records: Vec<Record>,
+    rest: u32,
+}
+
+impl<'a> Model for Capture<'a> {
+    ghost use Rattle.pcap_records.specs.Captured.{Captured, IsWithin};
+    ghost use Rattle.std.specs.Prelude.{All};
+
+    ghost Value = { Captured };
+
+    ghost view = { λ c. record {
+      bytes = c.bytes.now;
+      order = c.order;
+      records = c.records.items;
+      rest = c.rest;
+    } };
+
+    ghost invariant = { λ c. All (IsWithin c.bytes.now) c.records.items };
+}
+
+impl<'a> Capture<'a> {
+    ghost use Rattle.std.specs.Prelude.{◌≡◌, ◌≤◌, ◌<◌, length, Some, All, IfOk};
+    ghost use Rattle.pcap_records.specs.Captured.{IsWithin, packet_at, stamps_between};
+    ghost use Rattle.pcap_records.specs.Instants.{instants};
+
+    // The capture of a file whose records were found.
+    pub(crate) fn of_records(
+        bytes: &'a [u8],
+        order: Order,
+        records: Vec<Record>,
+        rest: u32,
+    ) -> Capture<'a>
+        requires { All (IsWithin bytes.now) records.items }
+        ensures bytes { result.bytes ≡ bytes.entry.now }
+        ensures order { result.order ≡ order }
+        ensures records { result.records ≡ records.items }
+        ensures rest { result.rest ≡ rest }
+    {
+        Capture {
+            bytes,
+            order,
+            records,
+            rest,
+        }
+    }
+
+    /// The order of the bytes in the file's fields.
+    pub fn order(&self) -> Order
+        ensures { result ≡ self.now.order }
+    {
+        self.order
+    }
+
+    /// The whole records, in the file's order. Their number is below 2^26.
+    pub fn records(&self) -> &[Record]
+        ensures records { result.now ≡ self.now.records }
+        ensures within { All (IsWithin self.now.bytes) result.now }
+    {
+        &self.records
+    }
+
+    /// How many bytes follow the last whole record: the beginning of a record that the file does not hold whole.
+    pub fn rest(&self) -> u32
+        ensures { result ≡ self.now.rest }
+    {
+        self.rest
+    }
+
+    /// The bytes of the packet of record `i`, a slice of the file.
+    pub fn packet(&self, i: usize) -> &'a [u8]
+        requires { i < length self.now.records }
+        ensures { packet_at self.now i ≡ Some result.now }
+    {
+        let record = self.records[i];
+        let bytes = self.bytes;
+        let start = record.start as usize;
+        &bytes[start..start + record.len as usize]
+    }
+
+    /// For each record from `from` to below `to`, the greatest of `carry` and the stamps from record `from` to
+    /// that one: where `carry` is the greatest stamp before `from`, the greatest stamp of the file so far.
+    pub fn times(
+        &self,
+        alloc: Global,
+        from: usize,
+        to: usize,
+        carry: Moment,
+    ) -> Result<Vec<Moment>, AllocError>
+        requires ordered { from ≤ to }
+        requires within { to ≤ length self.now.records }
+        ensures { IfOk result (λ times. times.items ≡ instants carry (stamps_between self.now from to)) }
+    {
+        let mut times = Vec::with_capacity(alloc, to - from)?;
+        let mut greatest = carry;
+        for record in &self.records[from..to] {
+            greatest = greatest.greater(record.stamp);
+            times.push(greatest)?;
+        }
+        Ok(times)
+    }
+}

@@ -1,0 +1,56 @@
+//! The file header.
+ghost use Rattle.std.specs.Prelude.{◌≡◌, ◌≤◌, ◌^◌, length, option_map, OnOk};
+ghost use Rattle.pcap_records.specs.Reading.{header, heading, in_microseconds};
+ghost use Rattle.pcap_records.specs.Captured.{Is};
+
+use crate::fault::CaptureFault;
+use crate::order::Order;
+
+/// The most bytes that a file may have.
+pub(crate) const CAPTURE_LIMIT: usize = 1 << 30;
+
+/// The bytes of a file header.
+pub(crate) const FILE_HEADER_LEN: usize = 24;
+
+const MAGIC: u32 = 0xa1b2_c3d4;
+
+const ETHERNET: u32 = 1;
+
+// The byte order that the magic number tells.
+fn order_of(bytes: &[u8]) -> Option<Order>
+    requires { 4 ≤ length bytes.now }
+    ensures { option_map in_microseconds result ≡ heading bytes.now }
+{
+    if Order::Big.u32_of(bytes) == MAGIC {
+        Some(Order::Big)
+    } else if Order::Little.u32_of(bytes) == MAGIC {
+        Some(Order::Little)
+    } else {
+        None
+    }
+}
+
+// The byte order of a file's fields, or the first fault of its length and header.
+#[tactic(auto, unfolding(crate::specs::Reading::header))]
+pub(crate) fn read_heading(bytes: &[u8]) -> Result<Order, CaptureFault>
+    ensures exact { Is in_microseconds result (header bytes.now) }
+    ensures whole { OnOk result (24 ≤ length bytes.now) }
+    ensures limited { OnOk result (length bytes.now ≤ 2 ^ 30) }
+{
+    if bytes.len() > CAPTURE_LIMIT {
+        return Err(CaptureFault::CaptureTooLong);
+    }
+    if bytes.len() < FILE_HEADER_LEN {
+        return Err(CaptureFault::ShortHeader);
+    }
+    let Some(order) = order_of(bytes) else {
+        return Err(CaptureFault::BadMagic);
+    };
+    if order.u16_of(&bytes[4..]) != 2 || order.u16_of(&bytes[6..]) != 4 {
+        return Err(CaptureFault::BadVersion);
+    }
+    if order.u32_of(&bytes[20..]) != ETHERNET {
+        return Err(CaptureFault::BadLink);
+    }
+    Ok(order)
+}

@@ -1,0 +1,28 @@
+//! Theorems about the definitions of this crate. Each function does nothing: its contract is the theorem.
+ghost use Rattle.pcap_records.specs.Instants.{CarriedIsWhole};
+ghost use Rattle.pcap_records.specs.Grammar.{ReadingsSplit, SplitsAreRead, RefusalsSplit, SplitsAreRefused};
+
+/// What is read has a split by the grammar.
+pub fn readings_split()
+    ensures { ReadingsSplit }
+{}
+
+/// What has a split by the grammar is read so; hence there is one split at most.
+pub fn splits_are_read()
+    ensures { SplitsAreRead }
+{}
+
+/// A refusal at record k means k whole records, and then a header that announces too much.
+pub fn refusals_split()
+    ensures { RefusalsSplit }
+{}
+
+/// A file of k whole records and then a header that announces too much is refused at record k.
+pub fn splits_are_refused()
+    ensures { SplitsAreRefused }
+{}
+
+/// Instants that are carried into a range are the instants of the whole file there.
+pub fn carried_is_whole()
+    ensures { CarriedIsWhole }
+{}

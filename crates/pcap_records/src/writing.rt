@@ -1,0 +1,59 @@
+//! Writing a capture: fields with the lowest byte first, stamps in microseconds.
+ghost use Rattle.std.specs.Prelude.{◌≡◌, ◌≤◌, ◌<◌, ◌++◌, length, OnOk, OnErr};
+ghost use Rattle.pcap_records.specs.Instants.{horizon, microseconds};
+ghost use Rattle.pcap_records.specs.Reading.{packet_limit};
+ghost use Rattle.pcap_records.specs.Writing.{file_header, record_header, record_bytes};
+
+use crate::front::RECORD_HEADER_LEN;
+use crate::heading::FILE_HEADER_LEN;
+use crate::moment::Moment;
+use byteorder::{ByteOrder, LittleEndian};
+use std::alloc::AllocError;
+
+const FILE_HEADER: [u8; FILE_HEADER_LEN] = [
+    0xd4, 0xc3, 0xb2, 0xa1, 2, 0, 4, 0, 0, 0, 0, 0, 0, 0, 0, 0, 0xff, 0xff, 0, 0, 1, 0, 0, 0,
+];
+
+/// Appends the header of a file (pcap 2.4): fields with the lowest byte first, microseconds, Ethernet, packets of
+/// at most 65,535 bytes.
+///
+/// # Errors
+/// Where a growth is refused; `out` is then unchanged.
+#[tactic(auto, unfolding(crate::specs::Writing::file_header))]
+pub fn write_header(out: &mut Vec<u8>) -> Result<(), AllocError>
+    ensures ok { OnOk result (out.new.items ≡ out.old.items ++ file_header) }
+    ensures err { OnErr result (out.new.items ≡ out.old.items) }
+{
+    out.extend_from_slice(&FILE_HEADER)
+}
+
+/// Appends the record of a packet that was captured whole at the instant `at`, which lies before the horizon.
+///
+/// # Errors
+/// Where a growth is refused; `out` is then unchanged.
+pub fn write_record(out: &mut Vec<u8>, at: Moment, packet: &[u8]) -> Result<(), AllocError>
+    requires before_horizon { at < horizon microseconds }
+    requires limited { length packet.now ≤ packet_limit }
+    ensures ok { OnOk result (out.new.items ≡ out.old.items ++ record_bytes microseconds at packet.now) }
+    ensures err { OnErr result (out.new.items ≡ out.old.items) }
+{
+    let header = record_header_bytes(at, packet.len() as u32);
+    out.reserve(header.len() + packet.len())?;
+    out.extend_from_slice(&header)?;
+    out.extend_from_slice(packet)
+}
+
+// The header of a record: seconds, microseconds, and the packet's length twice.
+#[tactic(auto, unfolding(crate::specs::Writing::record_header))]
+fn record_header_bytes(at: Moment, len: u32) -> [u8; RECORD_HEADER_LEN]
+    requires { at < horizon microseconds }
+    ensures { result ≡ record_header microseconds at len }
+{
+    let mut header = [0; RECORD_HEADER_LEN];
+    let fields: &mut [u8] = &mut header;
+    LittleEndian::write_u32(fields, (at.count() / Moment::SECOND) as u32);
+    LittleEndian::write_u32(&mut fields[4..], (at.count() % Moment::SECOND) as u32);
+    LittleEndian::write_u32(&mut fields[8..], len);
+    LittleEndian::write_u32(&mut fields[12..], len);
+    header
+}

@@ -1,6 +1,7 @@
 -- The greatest stamp so far, one stamp at a time.
 use Rattle.std.proofs.Common.{◌≡◌, ◌≤◌, ◌<◌, ℕ, zero, suc, get_or, ◌+◌, ◌-◌, max, List, [], ◌∷◌, ◌++◌, length, map, take, drop, refl, sym, ap, ◌∙◌, arith}
 use Rattle.std.specs.List.{range_with_len, slice_range}
+use Rattle.std.proofs.lemmas.List.FromFn.{length-map-range_with_len}
 use Rattle.std.proofs.lemmas.List.{append-nil, append_assoc, take-map, drop-map, drop_more, drop_all}
 use Rattle.pcap_records.specs.declared.record_place.Record.{Record}
 use Rattle.pcap_records.specs.Captured.{packet_of}
@@ -73,3 +74,7 @@ pub carried_is_whole : CarriedIsWhole
 carried_is_whole stamps from to ordered within =
     let none : max 0 (greatest (take from stamps)) ≡ greatest (take from stamps) = omega arith in
     rw (instants-drop 0 from stamps, none, instants-take (greatest (take from stamps)) (to - from) (drop from stamps)) refl
+
+pub length-instants : (carry : ℕ) (stamps : List ℕ) → length (instants carry stamps) ≡ length stamps
+unfolding instants
+length-instants carry stamps = length-map-range_with_len (greatest_so_far carry stamps) 0 (length stamps)

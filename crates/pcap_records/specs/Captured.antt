@@ -1,5 +1,5 @@
 -- What contracts see of a `Capture`, and how the answer of `read_capture` agrees with the reading.
-use Rattle.std.specs.Prelude.{◌≡◌, ◌≤◌, ℕ, ◌+◌, List, map, length, take, drop, Option, option_map, slice_get, Result, Ok, Err, IsOk}
+use Rattle.std.specs.Prelude.{◌≡◌, ◌≤◌, ◌<◌, ℕ, ◌+◌, ◌^◌, List, map, length, take, drop, Option, option_map, slice_get, All, Result, Ok, Err, IsOk}
 use Rattle.std.specs.List.{slice_range}
 use Rattle.pcap_records.specs.declared.order.Order.{Order}
 use Rattle.pcap_records.specs.declared.fault.CaptureFault.{CaptureFault}
@@ -39,6 +39,11 @@ pub record IsWithin (bytes : List ℕ) (r : Record) : Type 0 where
   pub ends : r.start + r.len ≤ length bytes
   pub limited : r.len ≤ packet_limit
   pub stamped : r.stamp ≤ horizon microseconds
+
+-- what holds of every capture: its records lie within the bytes, and are too few for their numbers to pass 26 bits
+pub record IsSound (bytes : List ℕ) (records : List Record) : Type 0 where
+  pub within : All (IsWithin bytes) records
+  pub few : length records < 2 ^ 26
 
 -- an answer agrees with the reading: a value that shows it, the fault that it names, or want of memory
 -- where the file has no fault

@@ -15,8 +15,7 @@ pub struct Capture<'a> {
 }
 
 impl<'a> Model for Capture<'a> {
-    ghost use Rattle.pcap_records.specs.Captured.{Captured, IsWithin};
-    ghost use Rattle.std.specs.Prelude.{All};
+    ghost use Rattle.pcap_records.specs.Captured.{Captured, IsSound};
 
     ghost Value = { Captured };
 
@@ -27,12 +26,12 @@ impl<'a> Model for Capture<'a> {
       rest = c.rest;
     } };
 
-    ghost invariant = { λ c. All (IsWithin c.bytes.now) c.records.items };
+    ghost invariant = { λ c. IsSound c.bytes.now c.records.items };
 }
 
 impl<'a> Capture<'a> {
-    ghost use Rattle.std.specs.Prelude.{◌≡◌, ◌≤◌, ◌<◌, length, Some, All, IfOk};
-    ghost use Rattle.pcap_records.specs.Captured.{IsWithin, packet_at, stamps_between};
+    ghost use Rattle.std.specs.Prelude.{◌≡◌, ◌≤◌, ◌<◌, ◌-◌, length, Some, IfOk};
+    ghost use Rattle.pcap_records.specs.Captured.{IsSound, packet_at, stamps_between};
     ghost use Rattle.pcap_records.specs.Instants.{instants};
 
     // The capture of a file whose records were found.
@@ -42,7 +41,7 @@ impl<'a> Capture<'a> {
         records: Vec<Record>,
         rest: u32,
     ) -> Capture<'a>
-        requires { All (IsWithin bytes.now) records.items }
+        requires { IsSound bytes.now records.items }
         ensures bytes { result.bytes ≡ bytes.entry.now }
         ensures order { result.order ≡ order }
         ensures records { result.records ≡ records.items }
@@ -66,7 +65,7 @@ impl<'a> Capture<'a> {
     /// The whole records, in the file's order. Their number is below 2^26.
     pub fn records(&self) -> &[Record]
         ensures records { result.now ≡ self.now.records }
-        ensures within { All (IsWithin self.now.bytes) result.now }
+        ensures sound { IsSound self.now.bytes result.now }
     {
         &self.records
     }
@@ -100,7 +99,8 @@ impl<'a> Capture<'a> {
     ) -> Result<Vec<Moment>, AllocError>
         requires ordered { from ≤ to }
         requires within { to ≤ length self.now.records }
-        ensures { IfOk result (λ times. times.items ≡ instants carry (stamps_between self.now from to)) }
+        ensures exact { IfOk result (λ times. times.items ≡ instants carry (stamps_between self.now from to)) }
+        ensures len { IfOk result (λ times. length times.items ≡ to - from) }
     {
         let mut times = Vec::with_capacity(alloc, to - from)?;
         let mut greatest = carry;

@@ -9,6 +9,7 @@ use Rattle.pcap_records.proofs.reader.list_records.Goals as goal
 pub records-init : goal.records-init
 records-init c = record {
   place = omega arith;
+  sixteen_each = rw c.in_ok-records.ensures.items (omega arith);
   within = rw c.in_ok-records.ensures.items (All-nil (IsWithin c.args.bytes.now));
   same = rw c.in_ok-records.ensures.items (with_front-none _);
 }
@@ -19,7 +20,7 @@ returns-in-Torn c =
     let h = in_microseconds c.args.order in
     let packets = map (packet_of bytes) c.records.records.items in
     record {
-      within = c.records.invariant.within;
+      sound = record { within = c.records.invariant.within; few = omega arith };
       same = subst (IsWholeList h packets) c.records.invariant.same (listed-end h packets (length c.records.records.items) bytes c.records.at c.found_at.result c.in-Torn.is c.found_at.ensures);
     }
 
@@ -31,6 +32,7 @@ records-preserved c =
     let before = c.records.records.items in
     record {
       place = omega (arith, found.within.ends, found.start);
+      sixteen_each = rw (c.in_ok-push-in-Whole.ensures.items, length_push before c.in-Whole.record) (omega arith);
       within = rw c.in_ok-push-in-Whole.ensures.items (All-push (IsWithin bytes) before c.in-Whole.record c.records.invariant.within found.within);
       same =
           rw (c.in_ok-push-in-Whole.ensures.items, map_push (packet_of bytes) before c.in-Whole.record, length_push before c.in-Whole.record, found.packet, ← drop-drop (16 + c.in-Whole.record.len) c.records.at bytes, found.len)

@@ -1,0 +1,3 @@
+pub mod PartWrites
+pub mod FilledSums
+pub mod ReadBack

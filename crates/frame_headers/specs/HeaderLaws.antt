@@ -1,0 +1,41 @@
+-- What holds of written headers: their checksums are filled, and their fields are read back.
+use Rattle.std.specs.Prelude.{◌≡◌, ◌≢◌, ℕ, ◌<◌, ◌^◌, List, length, drop, slice_range}
+use Rattle.frame_headers.specs.Frame.{SegmentFields, kind, fields, segment}
+use Rattle.frame_headers.specs.Sum.{sum16, tcp_sum}
+use Rattle.frame_headers.specs.declared.written.Header.{Header}
+
+-- the fields of a header lie in the ranges of their types
+pub record IsHeader (h : Header) : Type 0 where
+  pub mac_from : length h.mac_from ≡ 6
+  pub mac_to : length h.mac_to ≡ 6
+  pub from_addr : h.from.addr < 2 ^ 32
+  pub from_port : h.from.port < 2 ^ 16
+  pub to_addr : h.to.addr < 2 ^ 32
+  pub to_port : h.to.port < 2 ^ 16
+  pub seq : h.seq < 2 ^ 32
+  pub ack : h.ack < 2 ^ 32
+  pub flags : h.flags < 2 ^ 8
+
+-- the fields of the segment that has this header and payload
+abbrev pub fields_with : Header → List ℕ → SegmentFields
+fields_with h bytes = record {
+  mac_from = h.mac_from;
+  mac_to = h.mac_to;
+  from = h.from;
+  to = h.to;
+  seq = h.seq;
+  ack = h.ack;
+  flags = h.flags;
+  payload = bytes;
+}
+
+-- the checksums of the IPv4 header and of TCP in a frame with this header are right: each sum over what it covers, itself
+-- among it, is all ones, so its complement is 0
+pub record SumsToNothing (h : Header) (frame : List ℕ) : Type 0 where
+  pub ipv4 : sum16 (slice_range frame 14 34) ≡ 0
+  pub tcp : tcp_sum h.from.addr h.to.addr (drop 34 frame) ≡ 0
+
+-- a frame is read as a segment with this header and payload; the class needs ends that differ
+pub record IsReadBack (h : Header) (bytes frame : List ℕ) : Type 0 where
+  pub fields : fields frame ≡ fields_with h bytes
+  pub class : h.from ≢ h.to → kind frame ≡ segment

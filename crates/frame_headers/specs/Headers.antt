@@ -1,0 +1,34 @@
+-- The 54 bytes of headers of a TCP segment that is written: Ethernet II, IPv4 and TCP without options.
+use Rattle.std.specs.Prelude.{ℕ, ◌+◌, List, length, ◌++◌}
+use Rattle.byteorder.specs.Endian.{big_bytes}
+use Rattle.frame_headers.specs.Sum.{sum16, tcp_sum}
+use Rattle.frame_headers.specs.declared.written.Header.{Header}
+
+-- Ethernet II: the receiver's address, the sender's, and the type IPv4
+abbrev pub ethernet : Header → List ℕ
+ethernet h = (h.mac_to ++ h.mac_from) ++ big_bytes 2 0x0800
+
+-- IPv4 (RFC 791 section 3.1) before n bytes, with a number in the place of its checksum: version 4 and 5 words of header,
+-- the total length, no identification, "don't fragment" and no offset, 64 hops and TCP's protocol number, the checksum,
+-- source and destination
+abbrev pub ipv4_with : ℕ → Header → ℕ → List ℕ
+ipv4_with sum h n =
+    ((((((big_bytes 2 0x4500 ++ big_bytes 2 (20 + n)) ++ big_bytes 2 0) ++ big_bytes 2 0x4000) ++ big_bytes 2 0x4006) ++ big_bytes 2 sum) ++ big_bytes 4 h.from.addr) ++ big_bytes 4 h.to.addr
+
+-- the same with its checksum, which is taken with 0 in its place
+unfoldable pub ipv4 : Header → ℕ → List ℕ
+ipv4 h n = ipv4_with (sum16 (ipv4_with 0 h n)) h n
+
+-- TCP (RFC 9293 section 3.1) with a number in the place of its checksum: the two ports, sequence and acknowledgment
+-- numbers, 5 words of header and the flags, the widest window, the checksum, and no urgent bytes
+abbrev pub tcp_with : ℕ → Header → List ℕ
+tcp_with sum h =
+    ((((((big_bytes 2 h.from.port ++ big_bytes 2 h.to.port) ++ big_bytes 4 h.seq) ++ big_bytes 4 h.ack) ++ big_bytes 2 (0x5000 + h.flags)) ++ big_bytes 2 0xffff) ++ big_bytes 2 sum) ++ big_bytes 2 0
+
+-- the same with its checksum over the payload too, which is taken with 0 in its place
+unfoldable pub tcp : Header → List ℕ → List ℕ
+tcp h payload = tcp_with (tcp_sum h.from.addr h.to.addr (tcp_with 0 h ++ payload)) h
+
+-- the headers before a payload
+unfoldable pub headers : Header → List ℕ → List ℕ
+headers h payload = (ethernet h ++ ipv4 h (20 + length payload)) ++ tcp h payload

@@ -1,0 +1,207 @@
+// Which class a captured frame has, and the fields of the TCP segment in it.
+
+ghost use Rattle.std.specs.Prelude.{◌≡◌, ◌+◌, ◌≤◌, length, slice_range};
+ghost use Rattle.frame_headers.specs.Class.{kind_of, SegmentIs, fields_of};
+ghost use Rattle.frame_headers.specs.Frame.{kind, fields, datagram, header_len, total_len, is_not_ipv4, is_bad_ipv4, is_fragment, is_bad_tcp, carried, data_offset};
+
+use crate::ends::Peer;
+use crate::flag_bits::Flags;
+use byteorder::{BigEndian, ByteOrder};
+
+/// The bytes of an Ethernet II header: two addresses and the type of what follows.
+const LINK_LEN: usize = 14;
+
+/// The type of a frame that carries an IPv4 datagram.
+const IPV4: u16 = 0x0800;
+
+/// The protocol number of TCP in an IPv4 header.
+const TCP: u8 = 6;
+
+/// The least bytes of an IPv4 header, and of a TCP header.
+const LEAST_HEADER: usize = 20;
+
+/// What a captured Ethernet frame is: the first of these that holds of it. Checksums play no part, because a capture of
+/// outgoing packets commonly holds unfilled ones.
+#[derive(Clone, Copy, Debug, PartialEq, Eq)]
+pub enum Class<'a> {
+    /// Fewer than the 14 bytes of an Ethernet II header.
+    Short,
+    /// The type is another than IPv4's, `0x0800`.
+    NotIpv4,
+    /// Fewer bytes than an IPv4 header has, or a version, a header length or a total length that cannot be (RFC 791
+    /// section 3.1).
+    BadIpv4,
+    /// A fragment of a datagram: more follow, or its offset is not 0.
+    Fragment,
+    /// The protocol is another than TCP's, 6.
+    NotTcp,
+    /// The capture holds fewer bytes than the datagram's total length.
+    Cut,
+    /// Fewer bytes than a TCP header has, or a data offset that cannot be (RFC 9293 section 3.1).
+    BadTcp,
+    /// Source and destination are the same address and port.
+    SameEnds,
+    /// A TCP segment.
+    Segment(Segment<'a>),
+}
+
+/// The fields of a captured TCP segment and of the headers that carry it.
+#[derive(Clone, Copy, Debug, PartialEq, Eq)]
+pub struct Segment<'a> {
+    /// The sender's Ethernet address.
+    pub mac_from: [u8; 6],
+    /// The receiver's Ethernet address.
+    pub mac_to: [u8; 6],
+    /// The sender.
+    pub from: Peer,
+    /// The receiver.
+    pub to: Peer,
+    /// The sequence number.
+    pub seq: u32,
+    /// The acknowledgment number.
+    pub ack: u32,
+    /// The flags byte.
+    pub flags: Flags,
+    /// The bytes from the end of the TCP header to the datagram's total length, a slice of the frame.
+    pub payload: &'a [u8],
+}
+
+/// The class of a captured frame, and a segment's fields. It takes no memory, and every list of bytes has a class.
+#[tactic(auto, unfolding(crate::specs::Frame::kind, crate::specs::Frame::fields))]
+pub fn classify(packet: &[u8]) -> Class<'_>
+    ensures class { kind_of result ≡ kind packet.now }
+    ensures segment { SegmentIs result (fields packet.now) }
+{
+    if packet.len() < LINK_LEN {
+        return Class::Short;
+    }
+    if is_not_ipv4(packet) {
+        return Class::NotIpv4;
+    }
+    let ip = behind_link(packet);
+    if is_bad_ipv4(ip) {
+        return Class::BadIpv4;
+    }
+    if is_fragment(ip) {
+        return Class::Fragment;
+    }
+    if ip[9] != TCP {
+        return Class::NotTcp;
+    }
+    if ip.len() < total_len(ip) {
+        return Class::Cut;
+    }
+    let tcp = &ip[header_len(ip)..total_len(ip)];
+    if is_bad_tcp(tcp) {
+        return Class::BadTcp;
+    }
+    let segment = segment_in(packet, ip, tcp);
+    if segment.from == segment.to {
+        return Class::SameEnds;
+    }
+    Class::Segment(segment)
+}
+
+/// Whether the frame carries something else than an IPv4 datagram.
+fn is_not_ipv4(packet: &[u8]) -> bool
+    requires { LINK_LEN ≤ length packet.now }
+    ensures { result ≡ is_not_ipv4 packet.now }
+{
+    BigEndian::read_u16(&packet[LINK_LEN - 2..]) != IPV4
+}
+
+/// What follows the Ethernet header.
+fn behind_link(packet: &[u8]) -> &[u8]
+    requires { LINK_LEN ≤ length packet.now }
+    ensures { result.now ≡ datagram packet.now }
+{
+    &packet[LINK_LEN..]
+}
+
+/// The bytes of an IPv4 header.
+fn header_len(ip: &[u8]) -> usize
+    requires { LEAST_HEADER ≤ length ip.now }
+    ensures { result ≡ header_len ip.now }
+{
+    4 * usize::from(ip[0] % 16)
+}
+
+/// The bytes of a whole IPv4 datagram.
+fn total_len(ip: &[u8]) -> usize
+    requires { LEAST_HEADER ≤ length ip.now }
+    ensures { result ≡ total_len ip.now }
+{
+    usize::from(BigEndian::read_u16(&ip[2..]))
+}
+
+/// Whether there is no whole IPv4 header, or one that contradicts itself.
+fn is_bad_ipv4(ip: &[u8]) -> bool
+    ensures { result ≡ is_bad_ipv4 ip.now }
+{
+    ip.len() < LEAST_HEADER
+        || ip[0] / 16 != 4
+        || header_len(ip) < LEAST_HEADER
+        || total_len(ip) < header_len(ip)
+}
+
+/// Whether a datagram is a fragment: more of them follow, or its offset is not 0.
+fn is_fragment(ip: &[u8]) -> bool
+    requires { LEAST_HEADER ≤ length ip.now }
+    ensures { result ≡ is_fragment ip.now }
+{
+    BigEndian::read_u16(&ip[6..]) % 0x4000 != 0
+}
+
+/// The bytes of a TCP header.
+fn data_offset(tcp: &[u8]) -> usize
+    requires { LEAST_HEADER ≤ length tcp.now }
+    ensures { result ≡ data_offset tcp.now }
+{
+    4 * usize::from(tcp[12] / 16)
+}
+
+/// Whether there is no whole TCP header, or one that contradicts itself.
+fn is_bad_tcp(tcp: &[u8]) -> bool
+    ensures { result ≡ is_bad_tcp tcp.now }
+{
+    tcp.len() < LEAST_HEADER || data_offset(tcp) < LEAST_HEADER || tcp.len() < data_offset(tcp)
+}
+
+/// The fields of the segment in a frame, whose datagram is `ip` and whose TCP bytes are `tcp`.
+#[tactic(auto, unfolding(crate::specs::Frame::fields))]
+fn segment_in<'a>(packet: &'a [u8], ip: &[u8], tcp: &[u8]) -> Segment<'a>
+    requires datagram { ip.now ≡ datagram packet.now }
+    requires ipv4 { LEAST_HEADER ≤ length ip.now }
+    requires whole { total_len ip.now ≤ length ip.now }
+    requires carried { tcp.now ≡ carried ip.now }
+    requires tcp { LEAST_HEADER ≤ length tcp.now }
+    requires offset { data_offset tcp.now ≤ length tcp.now }
+    ensures { fields_of result ≡ fields packet.now }
+{
+    Segment {
+        mac_from: mac_at(packet, 6),
+        mac_to: mac_at(packet, 0),
+        from: Peer {
+            addr: BigEndian::read_u32(&ip[12..]),
+            port: BigEndian::read_u16(tcp),
+        },
+        to: Peer {
+            addr: BigEndian::read_u32(&ip[16..]),
+            port: BigEndian::read_u16(&tcp[2..]),
+        },
+        seq: BigEndian::read_u32(&tcp[4..]),
+        ack: BigEndian::read_u32(&tcp[8..]),
+        flags: Flags::of(tcp[13]),
+        payload: &packet[LINK_LEN + header_len(ip) + data_offset(tcp)..LINK_LEN + total_len(ip)],
+    }
+}
+
+/// The Ethernet address at a place of a frame.
+fn mac_at(packet: &[u8], at: usize) -> [u8; 6]
+    requires { at + 6 ≤ length packet.now }
+    ensures { result ≡ slice_range packet.now at (at + 6) }
+{
+    let mut mac = [0; 6];
+    mac.copy_from_slice(&packet[at..at + 6]);
+    mac
+}

@@ -1,0 +1,71 @@
+// Internet checksums.
+
+ghost use Rattle.std.specs.Prelude.{◌≡◌, ◌+◌, ◌≤◌, length};
+ghost use Rattle.frame_headers.specs.Sum.{folded, words_sum, sum16, tcp_sum};
+
+use byteorder::{BigEndian, ByteOrder};
+
+/// TCP's protocol number in an IPv4 header.
+const TCP: u64 = 6;
+
+/// The Internet checksum of the bytes as they stand (RFC 1071): the complement of the one's complement sum of their
+/// 16-bit words, the high byte of each first. An odd last byte is padded with a zero byte. Of bytes that hold their own
+/// checksum it is 0.
+pub fn checksum(bytes: &[u8]) -> u16
+    ensures { result ≡ sum16 bytes.now }
+{
+    !add_words(0, bytes)
+}
+
+/// The checksum of a TCP header and its payload as they stand (RFC 9293 section 3.1), sent from one address to another.
+/// It covers a pseudo header of the two addresses, TCP's protocol number and the length. Of bytes that hold their own
+/// checksum it is 0.
+#[tactic(auto, unfolding(crate::specs::Sum::tcp_sum))]
+pub fn tcp_checksum(from: u32, to: u32, tcp: &[u8]) -> u16
+    requires { length tcp.now ≤ 65535 }
+    ensures { result ≡ tcp_sum from to tcp.now }
+{
+    let pseudo = u64::from(from) + u64::from(to) + TCP + tcp.len() as u64;
+    !add_words(pseudo, tcp)
+}
+
+/// A number and the 16-bit words of the bytes, added in one's complement of 16 bits.
+///
+/// Wider words may be added in their place, because 2^16, 2^32 and 2^48 are 1 modulo 65535. So 8 bytes are added a turn,
+/// and the sum is folded once.
+fn add_words(start: u64, bytes: &[u8]) -> u16
+    ensures { result ≡ folded (start + words_sum bytes.now) }
+{
+    let mut sum = u128::from(start);
+    let mut rest = bytes;
+    'wide: while rest.len() >= 8 {
+        sum += u128::from(BigEndian::read_u64(rest));
+        rest = &rest[8..];
+    }
+    'words: while let [high, low, tail @ ..] = rest {
+        sum += u128::from(u16::from_be_bytes([*high, *low]));
+        rest = tail;
+    }
+    if let [last] = rest {
+        sum += 256 * u128::from(*last);
+    }
+    fold(fold_wide(sum))
+}
+
+/// A sum of 128 bits as one of 34 bits.
+fn fold_wide(sum: u128) -> u64
+    ensures same { folded result ≡ folded sum }
+{
+    let sum = (sum >> 64) + (sum & 0xffff_ffff_ffff_ffff);
+    ((sum >> 32) + (sum & 0xffff_ffff)) as u64
+}
+
+/// A sum as one of 16 bits.
+fn fold(sum: u64) -> u16
+    ensures { result ≡ folded sum }
+{
+    let sum = (sum >> 32) + (sum & 0xffff_ffff);
+    let sum = (sum >> 16) + (sum & 0xffff);
+    let sum = (sum >> 16) + (sum & 0xffff);
+    ((sum >> 16) + (sum & 0xffff)) as u16
+}

@@ -1,4 +1,4 @@
-use Rattle.std.proofs.Common.{◌≡◌, ◌+◌, ◌-◌, length, take, drop, refl, ap, ◌∙◌, arith, length-drop, length-take}
+use Rattle.std.proofs.Common.{◌+◌, ◌-◌, take, drop, refl, ap, ◌∙◌}
 use Rattle.std.proofs.lemmas.List.{length_push}
 use Rattle.pcap_records.proofs.Running.{running_more, running_all, stamps_of_packets}
 use Rattle.pcap_records.proofs.capture.Capture.times.Goals as goal
@@ -9,8 +9,8 @@ loop-record-preserved c =
     let before = c.loop-record.times.items in
     record {
       so_far =
-        rw (c.in_ok-push.ensures.items, c.greater-greatest.ensures)
-        (running_more before c.loop-record.greatest records c.loop-record.record-index c.record-item.result _ c.loop-record-test.true c.record-item.is c.loop-record.invariant.so_far);
+          rw (c.in_ok-push.ensures.items, c.greater-greatest.ensures)
+          (running_more before c.loop-record.greatest records c.loop-record.record-index c.record-item.result _ c.loop-record-test.true c.record-item.is c.loop-record.invariant.so_far);
       count = rw c.in_ok-push.ensures.items (length_push before c.greater-greatest.result ∙ ap (λ n. n + 1) c.loop-record.invariant.count);
     }
 

@@ -1,0 +1,83 @@
+-- Lists in order by a test: of two that agree on what ties with each element, there is one alone.
+use Rattle.std.proofs.Common.{◌≡◌, ℕ, suc, ◌<◌, ◌≤◌, Bool, true, false, cond, not, ◌&&◌, List, [], ◌∷◌, length, get_or, filter, refl, sym, ap, ◌∙◌, arith}
+use Rattle.std.specs.Cmp.{IsStrictWeakOrder}
+use Rattle.std.specs.List.Sorted.{ties, IsSortedBy}
+use Rattle.std.proofs.lemmas.List.Sorted.{sorted_far}
+
+module _ {X : Type 0} (lt : X → X → Bool) where
+  -- none of these is below x
+  abbrev pub NoneBelow : X → List X → Type 0
+  NoneBelow x [] = Unit {0}
+  NoneBelow x (y ∷ ys) = (lt y x ≡ false) × NoneBelow x ys
+
+  -- none is below one before it
+  abbrev pub Ordered : List X → Type 0
+  Ordered [] = Unit {0}
+  Ordered (x ∷ xs) = NoneBelow x xs × Ordered xs
+
+  none_below : (x : X) (ys : List X) → ((j : ℕ) (d : X) → j < length ys → lt (get_or ys j d) x ≡ false) → NoneBelow x ys
+  none_below x [] h = tt
+  none_below x (y ∷ ys) h = (h 0 x (omega arith), none_below x ys (λ j d within. h (suc j) d (omega arith)))
+
+  ordered_far : (xs : List X) → ((i j : ℕ) (d : X) → i ≤ j → j < length xs → lt (get_or xs j d) (get_or xs i d) ≡ false) → Ordered xs
+  ordered_far [] h = tt
+  ordered_far (x ∷ xs) h =
+      (none_below x xs (λ j d within. h 0 (suc j) d (omega arith) (omega arith)), ordered_far xs (λ i j d le within. h (suc i) (suc j) d (omega arith) (omega arith)))
+
+  module _ (o : IsStrictWeakOrder lt) where
+    -- what a sort ensures
+    pub ordered-from_sorted : (xs : List X) → IsSortedBy lt xs → Ordered xs
+    ordered-from_sorted xs sorted = ordered_far xs (sorted_far lt o xs sorted)
+
+    below_itself : (b : Bool) → (b ≡ true → b ≡ false) → b ≡ false
+    below_itself true h = h refl
+    below_itself false h = refl
+
+    not_below_itself : (x : X) → lt x x ≡ false
+    not_below_itself x = below_itself (lt x x) (o.one_way x x)
+
+    -- what a filter keeps first is not below x
+    first_kept : (p : X → Bool) (x : X) (xs : List X) (y : X) (ys : List X) → NoneBelow x xs → filter p xs ≡ y ∷ ys → lt y x ≡ false
+    first_kept p x [] y ys none kept = cc
+    first_kept p x (w ∷ xs) y ys none kept = by (p w) (first_kept p x xs y ys none.1) kept
+      where
+        by : (b : Bool) → (filter p xs ≡ y ∷ ys → lt y x ≡ false) → cond b (w ∷ filter p xs) (filter p xs) ≡ y ∷ ys → lt y x ≡ false
+        by true later kept = let same : y ≡ w = cc in rw same none.0
+        by false later kept = later kept
+
+    -- a filter by what ties with x keeps an element that ties with x
+    keeps_itself : (x y : X) (ys : List X) → lt x y ≡ false → lt y x ≡ false → filter (ties lt x) (y ∷ ys) ≡ y ∷ filter (ties lt x) ys
+    keeps_itself x y ys a b = rw (a, b) refl
+
+    tail_kept : (b : Bool) (x y : X) (xs ys : List X) → cond b (x ∷ xs) xs ≡ cond b (y ∷ ys) ys → xs ≡ ys
+    tail_kept true x y xs ys h = cc
+    tail_kept false x y xs ys h = h
+
+    -- two lists in order that agree on what ties with each element are one
+    pub only_one : (xs ys : List X) → Ordered xs → Ordered ys → ((x : X) → filter (ties lt x) xs ≡ filter (ties lt x) ys) → xs ≡ ys
+    only_one [] [] a b same = refl
+    only_one [] (y ∷ ys) a b same = cc (same y ∙ keeps_itself y y ys (not_below_itself y) (not_below_itself y))
+    only_one (x ∷ xs) [] a b same = cc (sym (same x) ∙ keeps_itself x x xs (not_below_itself x) (not_below_itself x))
+    only_one (x ∷ xs) (y ∷ ys) a b same =
+        let x_kept = keeps_itself x x xs (not_below_itself x) (not_below_itself x) in
+        let y_kept = keeps_itself y y ys (not_below_itself y) (not_below_itself y) in
+        let not_above = first_kept (ties lt y) x (x ∷ xs) y (filter (ties lt y) ys) (not_below_itself x, a.0) (same y ∙ y_kept) in
+        let not_below = first_kept (ties lt x) y (y ∷ ys) x (filter (ties lt x) xs) (not_below_itself y, b.0) (sym (same x) ∙ x_kept) in
+        let heads : x ≡ y = cc (sym x_kept ∙ same x ∙ keeps_itself x y ys not_below not_above) in
+        let tails : xs ≡ ys = only_one xs ys a.1 b.1 (λ z. tail_kept (ties lt z x) x y (filter (ties lt z) xs) (filter (ties lt z) ys)
+        (same z ∙ ap (λ w. cond (ties lt z w) (y ∷ filter (ties lt z) ys) (filter (ties lt z) ys)) (sym heads))) in
+        cc
+
+    -- what is not below y is not below x
+    pub none_below-chain : (x y : X) (ys : List X) → lt y x ≡ false → NoneBelow y ys → NoneBelow x ys
+    none_below-chain x y [] h none = tt
+    none_below-chain x y (w ∷ ys) h none = (o.chain w y x none.0 h, none_below-chain x y ys h none.1)
+
+    tie_parts : (b c : Bool) → not b && not c ≡ true → (b ≡ false) × (c ≡ false)
+    tie_parts false false h = (refl, refl)
+    tie_parts false true h = cc
+    tie_parts true c h = cc
+
+    -- two that tie with one element are not below each other
+    pub not_below-ties : (z x y : X) → ties lt z x ≡ true → ties lt z y ≡ true → lt y x ≡ false
+    not_below-ties z x y a b = o.chain y z x (tie_parts (lt z y) (lt y z) b).1 (tie_parts (lt z x) (lt x z) a).0

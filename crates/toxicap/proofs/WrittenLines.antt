@@ -1,0 +1,50 @@
+-- A line and its line feed, written one after the other.
+use Rattle.std.proofs.Common.{◌≡◌, ℕ, ◌+◌, ◌<◌, ◌≤◌, true, false, List, length, take, Result, Ok, Err, OnOk, OnErr, inl, inr, subst, refl, sym, ◌∙◌, arith, append-nil, length-append}
+use Rattle.std.specs.Prelude.{codes, is_ok}
+use Rattle.std.specs.declared.option.Option.{Option}
+use Rattle.std.specs.Io.KnownBytes.{Appends}
+use Rattle.std.proofs.KnownBytes.{Appends-trans}
+use Rattle.std.proofs.lemmas.List.{take_at, take-append-le}
+use Rattle.toxicap.specs.declared.faults.RunFault.{RunFault}
+use Rattle.toxicap.specs.Statuses.{ended, WrittenSoFar}
+
+-- a first part of the line, not all of it, was written
+pub line_stopped : (old new : Option (List ℕ)) (line : List ℕ) (before after : ℕ)
+    → ((written : ℕ) × (written < length line) × Appends old new (take written line)) → after ≡ before + 1
+    → WrittenSoFar (ended line) (Appends old new) before after
+line_stopped old new line before after part failed =
+    let short : part.0 ≤ length line = omega (arith, part.1) in
+    inr (
+      part.0,
+      omega (arith, part.1, length-append line (codes "\n")),
+      subst (Appends old new) (sym (take-append-le part.0 line (codes "\n") short)) part.2,
+      failed,
+    )
+
+-- the line was written, and then perhaps its line feed
+pub line_written : (second : Result (Unit {0}) RunFault) (old mid new : Option (List ℕ)) (line : List ℕ) (before between after : ℕ)
+    → Appends old mid line → between ≡ before
+    → OnOk second (Appends mid new (codes "\n")) → OnOk second (after ≡ between)
+    → OnErr second ((written : ℕ) × (written < 1) × Appends mid new (take written (codes "\n"))) → OnErr second (after ≡ between + 1)
+    → WrittenSoFar (ended line) (Appends old new) before after
+line_written (Ok done) old mid new line before between after first same whole none part failed =
+    inl (Appends-trans old mid new line (codes "\n") first whole, omega arith)
+line_written (Err fault) old mid new line before between after first same whole none part failed =
+    let nothing : part.0 ≡ 0 = omega (arith, part.1) in
+    let rest : Appends mid new (take 0 (codes "\n")) = subst (λ n. Appends mid new (take n (codes "\n"))) nothing part.2 in
+    let both = Appends-trans old mid new line (take 0 (codes "\n")) first rest in
+    inr (
+      length line,
+      omega (arith, length-append line (codes "\n")),
+      subst (Appends old new) (append-nil line ∙ sym (take_at line (codes "\n") (length line) refl)) both,
+      omega arith,
+    )
+
+-- what a clause says of a call that went well, and of one that failed
+pub OnOk-at : {P : Type 0} (r : Result (Unit {0}) RunFault) → is_ok r ≡ true → OnOk r P → P
+OnOk-at (Ok done) went h = h
+OnOk-at (Err fault) went h = absurd cc
+
+pub OnErr-at : {P : Type 0} (r : Result (Unit {0}) RunFault) → is_ok r ≡ false → OnErr r P → P
+OnErr-at (Ok done) went h = absurd cc
+OnErr-at (Err fault) went h = h

@@ -1,0 +1,90 @@
+-- What the plain body groups: segments without payloads and record numbers.
+use Rattle.std.specs.Prelude.{◌≡◌, ℕ, ◌+◌, List, [], ◌∷◌, ◌++◌, map, filter, Option, Some, None, is_none, Bool, false, ◌&&◌, ◌||◌, ◌==◌, not, if◌then◌else◌}
+use Rattle.frame_headers.specs.Flags.{has_flag, syn, ack, rst}
+use Rattle.frame_headers.specs.Frame.{SegmentFields}
+use Rattle.toxicap.specs.declared.heads.Head.{Head}
+use Rattle.toxicap.specs.declared.opened.Opened.{Opened}
+use Rattle.toxicap.specs.Segments.{Seg, same_peer, same_pair, pair_of}
+use Rattle.toxicap.specs.Connections.{Conn, last_of, conns_after, unopened_after}
+use Rattle.toxicap.specs.Positions.{client_of, server_of, client_base, server_base}
+
+abbrev pub head_with : ℕ → SegmentFields → Head
+head_with at f = record { at = at; mac_from = f.mac_from; mac_to = f.mac_to; from = f.from; to = f.to; seq = f.seq; flags = f.flags }
+
+abbrev pub head_of : Seg → Head
+head_of s = head_with s.timed.at s.timed.fields
+
+-- what is written of a connection today hangs on these alone
+abbrev pub opened_of : Conn → Opened
+opened_of c = record {
+  number = c.number;
+  at = c.opening.at;
+  mac_client = c.opening.fields.mac_from;
+  mac_server = c.opening.fields.mac_to;
+  client = client_of c;
+  server = server_of c;
+  client_base = client_base c;
+  server_base = server_base c;
+}
+
+abbrev pub opens : Head → Bool
+opens h = has_flag h.flags syn && not (has_flag h.flags ack) && not (has_flag h.flags rst)
+
+abbrev pub one_pair : Head → Head → Bool
+one_pair h x = same_pair (pair_of x.from x.to) (pair_of h.from h.to)
+
+abbrev pub repeats_head : Option Head → Head → Bool
+repeats_head None h = false
+repeats_head (Some last) h = same_peer last.from h.from && (last.seq == h.seq)
+
+abbrev pub opening_head : List Head → Head → Option Head
+opening_head earlier h = last_of (filter (λ x. opens x && one_pair h x) earlier)
+
+unfoldable pub begins_head : List Head → Head → Bool
+begins_head earlier h = opens h && not (repeats_head (opening_head earlier h) h)
+
+abbrev pub answers : Head → Head → Bool
+answers b h = same_peer h.from b.to && has_flag h.flags syn && has_flag h.flags ack
+
+abbrev pub resets : Head → Bool
+resets h = has_flag h.flags rst
+
+-- the number of the first answer to the opening b, before a reset and before the pair's next beginning
+unfoldable pub answer_after : List Head → Head → List Head → Option ℕ
+answer_after earlier b [] = None
+answer_after earlier b (h ∷ hs) =
+    if one_pair b h
+    then (if begins_head earlier h || resets h then None else (if answers b h then Some h.seq else answer_after (earlier ++ h ∷ []) b hs))
+    else answer_after (earlier ++ h ∷ []) b hs
+
+abbrev pub opened_by : ℕ → Head → Option ℕ → Opened
+opened_by n h answer = record {
+  number = n;
+  at = h.at;
+  mac_client = h.mac_from;
+  mac_server = h.mac_to;
+  client = h.from;
+  server = h.to;
+  client_base = h.seq;
+  server_base = answer;
+}
+
+unfoldable pub opened_after : ℕ → List Head → List Head → List Opened
+opened_after n earlier [] = []
+opened_after n earlier (h ∷ hs) =
+    if begins_head earlier h
+    then opened_by n h (answer_after (earlier ++ h ∷ []) h hs) ∷ opened_after (n + 1) (earlier ++ h ∷ []) hs
+    else opened_after n (earlier ++ h ∷ []) hs
+
+abbrev pub is_unopened_head : List Head → Head → Bool
+is_unopened_head earlier h = not (opens h) && is_none (opening_head earlier h)
+
+unfoldable pub unopened_heads : List Head → List Head → ℕ
+unopened_heads earlier [] = 0
+unopened_heads earlier (h ∷ hs) = (if is_unopened_head earlier h then 1 else 0) + unopened_heads (earlier ++ h ∷ []) hs
+
+-- heads are grouped as their segments are
+abbrev pub HeadsAgree : Type 0
+HeadsAgree =
+    (segs : List Seg)
+    → (opened_after 0 [] (map head_of segs) ≡ map opened_of (conns_after 0 [] segs)) × (unopened_heads [] (map head_of segs) ≡ unopened_after [] segs)

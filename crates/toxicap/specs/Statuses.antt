@@ -1,0 +1,26 @@
+-- How the program ends: its exit status, and the line that it prints on standard error.
+use Rattle.std.specs.Prelude.{◌≡◌, ℕ, ◌+◌, ◌<◌, ◌⊎◌, List, ◌++◌, length, take, codes, Result, Ok, Err}
+use Rattle.toxicap.specs.declared.faults.RunFault.{RunFault}
+
+-- 0 where all went well, 1 for a refusal
+abbrev pub status_of : Result (Unit {0}) RunFault → ℕ
+status_of (Ok _) = 0
+status_of (Err _) = 1
+
+-- the status where the command line has a fault
+abbrev pub usage_status : ℕ
+usage_status = 2
+
+-- what is told of words on the command line
+abbrev pub usage_line : List ℕ
+usage_line = codes "toxicap takes no words: it reads a capture from standard input"
+
+-- a line with its line feed
+abbrev pub ended : List ℕ → List ℕ
+ended line = line ++ codes "\n"
+
+-- How far a text was written, given what it is to have written some bytes, by the count of failed writes before and after:
+-- it was written whole and no write failed, or one write failed and a first part was written, not all of it.
+abbrev pub WrittenSoFar : List ℕ → (List ℕ → Type 0) → ℕ → ℕ → Type 0
+WrittenSoFar text Wrote old_failed new_failed =
+    (Wrote text × (new_failed ≡ old_failed)) ⊎ ((written : ℕ) × (written < length text) × Wrote (take written text) × (new_failed ≡ old_failed + 1))

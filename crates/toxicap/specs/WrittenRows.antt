@@ -1,0 +1,125 @@
+-- Worked rows: what the definitions give, beside values from outside.
+use Rattle.std.specs.Prelude.{◌≡◌, ℕ, List, [], ◌∷◌, map, codes, Option, Some, None, true, false}
+use Rattle.frame_headers.specs.declared.ends.Peer.{Peer}
+use Rattle.toxicap.specs.Recorded.{Cell, Flow, live, fin, Recorded}
+use Rattle.toxicap.specs.Delivered.{delivered, Met}
+use Rattle.toxicap.specs.Written.{Talk, segments, said_by, pieces}
+use Rattle.toxicap.specs.Merged.{capture_of}
+use Rattle.toxicap.specs.Texts.{connection_line}
+
+abbrev pub client : Peer
+client = record { addr = 0x0a000001; port = 40000 }
+
+abbrev pub server : Peer
+server = record { addr = 0x0a000002; port = 80 }
+
+-- the lines that the plain session records, written out by hand
+abbrev pub session : Recorded
+session = record {
+  up = record {
+    flow = record {
+      cells = record { value = 104; at = 1001000; starts = true } ∷ record { value = 101; at = 1001000; starts = false } ∷ record { value = 108; at = 1001000; starts = false } ∷ record { value = 108; at = 1001000; starts = false } ∷ record { value = 111; at = 1001000; starts = false } ∷ [];
+      end = fin 1002000;
+    };
+    lost = 0;
+  };
+  down = record { flow = record { cells = []; end = fin 1003000 }; lost = 0 };
+  client_base = 1000;
+  server_base = Some 5000;
+  opened = 1000000;
+  mac_client = 2 ∷ 0 ∷ 0 ∷ 0 ∷ 0 ∷ 1 ∷ [];
+  mac_server = 2 ∷ 0 ∷ 0 ∷ 0 ∷ 0 ∷ 2 ∷ [];
+}
+
+abbrev pub session_talk : Option Met → Talk
+session_talk met = record {
+  number = 0;
+  opened = 1000000;
+  refused = (delivered 1000000 met session).refused;
+  client = record { host = record { mac = session.mac_client; peer = client }; base = 1000; flow = (delivered 1000000 met session).up };
+  server = record { host = record { mac = session.mac_server; peer = server }; base = 5000; flow = (delivered 1000000 met session).down };
+}
+
+-- the capture of the plain session, 449 bytes
+abbrev pub session_bytes : List ℕ
+session_bytes =
+    212 ∷ 195 ∷ 178 ∷ 161 ∷ 2 ∷ 0 ∷ 4 ∷ 0 ∷ 0 ∷ 0 ∷ 0 ∷ 0 ∷ 0 ∷ 0 ∷ 0 ∷ 0 ∷ 255 ∷ 255 ∷ 0 ∷ 0 ∷ 1 ∷ 0 ∷ 0 ∷ 0 ∷
+    1 ∷ 0 ∷ 0 ∷ 0 ∷ 0 ∷ 0 ∷ 0 ∷ 0 ∷ 54 ∷ 0 ∷ 0 ∷ 0 ∷ 54 ∷ 0 ∷ 0 ∷ 0 ∷ 2 ∷ 0 ∷ 0 ∷ 0 ∷ 0 ∷ 2 ∷ 2 ∷ 0 ∷
+    0 ∷ 0 ∷ 0 ∷ 1 ∷ 8 ∷ 0 ∷ 69 ∷ 0 ∷ 0 ∷ 40 ∷ 0 ∷ 0 ∷ 64 ∷ 0 ∷ 64 ∷ 6 ∷ 38 ∷ 206 ∷ 10 ∷ 0 ∷ 0 ∷ 1 ∷ 10 ∷ 0 ∷
+    0 ∷ 2 ∷ 156 ∷ 64 ∷ 0 ∷ 80 ∷ 0 ∷ 0 ∷ 3 ∷ 232 ∷ 0 ∷ 0 ∷ 0 ∷ 0 ∷ 80 ∷ 2 ∷ 255 ∷ 255 ∷ 251 ∷ 103 ∷ 0 ∷ 0 ∷ 1 ∷ 0 ∷
+    0 ∷ 0 ∷ 0 ∷ 0 ∷ 0 ∷ 0 ∷ 54 ∷ 0 ∷ 0 ∷ 0 ∷ 54 ∷ 0 ∷ 0 ∷ 0 ∷ 2 ∷ 0 ∷ 0 ∷ 0 ∷ 0 ∷ 1 ∷ 2 ∷ 0 ∷ 0 ∷ 0 ∷
+    0 ∷ 2 ∷ 8 ∷ 0 ∷ 69 ∷ 0 ∷ 0 ∷ 40 ∷ 0 ∷ 0 ∷ 64 ∷ 0 ∷ 64 ∷ 6 ∷ 38 ∷ 206 ∷ 10 ∷ 0 ∷ 0 ∷ 2 ∷ 10 ∷ 0 ∷ 0 ∷ 1 ∷
+    0 ∷ 80 ∷ 156 ∷ 64 ∷ 0 ∷ 0 ∷ 19 ∷ 136 ∷ 0 ∷ 0 ∷ 3 ∷ 233 ∷ 80 ∷ 18 ∷ 255 ∷ 255 ∷ 231 ∷ 206 ∷ 0 ∷ 0 ∷ 1 ∷ 0 ∷ 0 ∷ 0 ∷
+    0 ∷ 0 ∷ 0 ∷ 0 ∷ 54 ∷ 0 ∷ 0 ∷ 0 ∷ 54 ∷ 0 ∷ 0 ∷ 0 ∷ 2 ∷ 0 ∷ 0 ∷ 0 ∷ 0 ∷ 2 ∷ 2 ∷ 0 ∷ 0 ∷ 0 ∷ 0 ∷ 1 ∷
+    8 ∷ 0 ∷ 69 ∷ 0 ∷ 0 ∷ 40 ∷ 0 ∷ 0 ∷ 64 ∷ 0 ∷ 64 ∷ 6 ∷ 38 ∷ 206 ∷ 10 ∷ 0 ∷ 0 ∷ 1 ∷ 10 ∷ 0 ∷ 0 ∷ 2 ∷ 156 ∷ 64 ∷
+    0 ∷ 80 ∷ 0 ∷ 0 ∷ 3 ∷ 233 ∷ 0 ∷ 0 ∷ 19 ∷ 137 ∷ 80 ∷ 16 ∷ 255 ∷ 255 ∷ 231 ∷ 207 ∷ 0 ∷ 0 ∷ 1 ∷ 0 ∷ 0 ∷ 0 ∷ 232 ∷ 3 ∷
+    0 ∷ 0 ∷ 59 ∷ 0 ∷ 0 ∷ 0 ∷ 59 ∷ 0 ∷ 0 ∷ 0 ∷ 2 ∷ 0 ∷ 0 ∷ 0 ∷ 0 ∷ 2 ∷ 2 ∷ 0 ∷ 0 ∷ 0 ∷ 0 ∷ 1 ∷ 8 ∷ 0 ∷
+    69 ∷ 0 ∷ 0 ∷ 45 ∷ 0 ∷ 0 ∷ 64 ∷ 0 ∷ 64 ∷ 6 ∷ 38 ∷ 201 ∷ 10 ∷ 0 ∷ 0 ∷ 1 ∷ 10 ∷ 0 ∷ 0 ∷ 2 ∷ 156 ∷ 64 ∷ 0 ∷ 80 ∷
+    0 ∷ 0 ∷ 3 ∷ 233 ∷ 0 ∷ 0 ∷ 19 ∷ 137 ∷ 80 ∷ 24 ∷ 255 ∷ 255 ∷ 163 ∷ 240 ∷ 0 ∷ 0 ∷ 104 ∷ 101 ∷ 108 ∷ 108 ∷ 111 ∷ 1 ∷ 0 ∷ 0 ∷
+    0 ∷ 208 ∷ 7 ∷ 0 ∷ 0 ∷ 54 ∷ 0 ∷ 0 ∷ 0 ∷ 54 ∷ 0 ∷ 0 ∷ 0 ∷ 2 ∷ 0 ∷ 0 ∷ 0 ∷ 0 ∷ 2 ∷ 2 ∷ 0 ∷ 0 ∷ 0 ∷ 0 ∷
+    1 ∷ 8 ∷ 0 ∷ 69 ∷ 0 ∷ 0 ∷ 40 ∷ 0 ∷ 0 ∷ 64 ∷ 0 ∷ 64 ∷ 6 ∷ 38 ∷ 206 ∷ 10 ∷ 0 ∷ 0 ∷ 1 ∷ 10 ∷ 0 ∷ 0 ∷ 2 ∷ 156 ∷
+    64 ∷ 0 ∷ 80 ∷ 0 ∷ 0 ∷ 3 ∷ 238 ∷ 0 ∷ 0 ∷ 19 ∷ 137 ∷ 80 ∷ 17 ∷ 255 ∷ 255 ∷ 231 ∷ 201 ∷ 0 ∷ 0 ∷ 1 ∷ 0 ∷ 0 ∷ 0 ∷ 184 ∷
+    11 ∷ 0 ∷ 0 ∷ 54 ∷ 0 ∷ 0 ∷ 0 ∷ 54 ∷ 0 ∷ 0 ∷ 0 ∷ 2 ∷ 0 ∷ 0 ∷ 0 ∷ 0 ∷ 1 ∷ 2 ∷ 0 ∷ 0 ∷ 0 ∷ 0 ∷ 2 ∷ 8 ∷
+    0 ∷ 69 ∷ 0 ∷ 0 ∷ 40 ∷ 0 ∷ 0 ∷ 64 ∷ 0 ∷ 64 ∷ 6 ∷ 38 ∷ 206 ∷ 10 ∷ 0 ∷ 0 ∷ 2 ∷ 10 ∷ 0 ∷ 0 ∷ 1 ∷ 0 ∷ 80 ∷ 156 ∷
+    64 ∷ 0 ∷ 0 ∷ 19 ∷ 137 ∷ 0 ∷ 0 ∷ 3 ∷ 239 ∷ 80 ∷ 17 ∷ 255 ∷ 255 ∷ 231 ∷ 200 ∷ 0 ∷ 0 ∷ []
+
+-- the capture of the plain session under a disabled proxy, 164 bytes
+abbrev pub refused_bytes : List ℕ
+refused_bytes =
+    212 ∷ 195 ∷ 178 ∷ 161 ∷ 2 ∷ 0 ∷ 4 ∷ 0 ∷ 0 ∷ 0 ∷ 0 ∷ 0 ∷ 0 ∷ 0 ∷ 0 ∷ 0 ∷ 255 ∷ 255 ∷ 0 ∷ 0 ∷ 1 ∷ 0 ∷ 0 ∷ 0 ∷
+    1 ∷ 0 ∷ 0 ∷ 0 ∷ 0 ∷ 0 ∷ 0 ∷ 0 ∷ 54 ∷ 0 ∷ 0 ∷ 0 ∷ 54 ∷ 0 ∷ 0 ∷ 0 ∷ 2 ∷ 0 ∷ 0 ∷ 0 ∷ 0 ∷ 2 ∷ 2 ∷ 0 ∷
+    0 ∷ 0 ∷ 0 ∷ 1 ∷ 8 ∷ 0 ∷ 69 ∷ 0 ∷ 0 ∷ 40 ∷ 0 ∷ 0 ∷ 64 ∷ 0 ∷ 64 ∷ 6 ∷ 38 ∷ 206 ∷ 10 ∷ 0 ∷ 0 ∷ 1 ∷ 10 ∷ 0 ∷
+    0 ∷ 2 ∷ 156 ∷ 64 ∷ 0 ∷ 80 ∷ 0 ∷ 0 ∷ 3 ∷ 232 ∷ 0 ∷ 0 ∷ 0 ∷ 0 ∷ 80 ∷ 2 ∷ 255 ∷ 255 ∷ 251 ∷ 103 ∷ 0 ∷ 0 ∷ 1 ∷ 0 ∷
+    0 ∷ 0 ∷ 0 ∷ 0 ∷ 0 ∷ 0 ∷ 54 ∷ 0 ∷ 0 ∷ 0 ∷ 54 ∷ 0 ∷ 0 ∷ 0 ∷ 2 ∷ 0 ∷ 0 ∷ 0 ∷ 0 ∷ 1 ∷ 2 ∷ 0 ∷ 0 ∷ 0 ∷
+    0 ∷ 2 ∷ 8 ∷ 0 ∷ 69 ∷ 0 ∷ 0 ∷ 40 ∷ 0 ∷ 0 ∷ 64 ∷ 0 ∷ 64 ∷ 6 ∷ 38 ∷ 206 ∷ 10 ∷ 0 ∷ 0 ∷ 2 ∷ 10 ∷ 0 ∷ 0 ∷ 1 ∷
+    0 ∷ 80 ∷ 156 ∷ 64 ∷ 0 ∷ 0 ∷ 0 ∷ 0 ∷ 0 ∷ 0 ∷ 3 ∷ 233 ∷ 80 ∷ 20 ∷ 255 ∷ 255 ∷ 251 ∷ 84 ∷ 0 ∷ 0 ∷ []
+
+abbrev pub SessionWritten : Type 0
+SessionWritten = capture_of (segments 1000000 (session_talk None)) ≡ session_bytes
+
+abbrev pub SessionTold : Type 0
+SessionTold =
+    connection_line 0 client server session (delivered 1000000 None session)
+    ≡ codes "0 10.0.0.1:40000 > 10.0.0.2:80 proxy - up 5/5/0 fin+2000 max 0 down 0/0/0 fin+3000 max 0\n"
+
+abbrev pub disabled : Option Met
+disabled = Some (record { number = 0; enabled = false })
+
+abbrev pub RefusedWritten : Type 0
+RefusedWritten = capture_of (segments 1000000 (session_talk disabled)) ≡ refused_bytes
+
+abbrev pub RefusedTold : Type 0
+RefusedTold =
+    connection_line 0 client server session (delivered 1000000 disabled session)
+    ≡ codes "0 10.0.0.1:40000 > 10.0.0.2:80 proxy 0 up 0/5/0 refused max 0 down 0/0/0 refused max 0\n"
+
+-- ---- bytes of both directions at one instant: each acknowledges what was delivered strictly before
+
+abbrev pub one_byte : ℕ → ℕ → Flow
+one_byte value at = record { cells = record { value = value; at = at; starts = true } ∷ []; end = live }
+
+abbrev pub crossing_talk : Talk
+crossing_talk = record {
+  number = 0;
+  opened = 1000000;
+  refused = false;
+  client = record { host = record { mac = session.mac_client; peer = client }; base = 1000; flow = one_byte 97 1001000 };
+  server = record { host = record { mac = session.mac_server; peer = server }; base = 5000; flow = one_byte 98 1001000 };
+}
+
+-- both segments of data acknowledge the other's SYN and nothing more
+abbrev pub CrossingSaid : Type 0
+CrossingSaid =
+    (map (λ s. s.ack) (said_by crossing_talk.client crossing_talk.server) ≡ 5001 ∷ [])
+    × (map (λ s. s.ack) (said_by crossing_talk.server crossing_talk.client) ≡ 1001 ∷ [])
+
+-- ---- a chunk in pieces: PSH stands on its last one alone
+
+abbrev pub three_bytes : List Cell
+three_bytes =
+    record { value = 1; at = 5; starts = true } ∷ record { value = 2; at = 5; starts = false } ∷ record { value = 3; at = 5; starts = false } ∷ record { value = 4; at = 6; starts = true } ∷ []
+
+abbrev pub PiecesCut : Type 0
+PiecesCut =
+    pieces 2 2 three_bytes
+    ≡ record { at = 5; bytes = 1 ∷ 2 ∷ []; ends = false } ∷ record { at = 5; bytes = 3 ∷ []; ends = true } ∷ record { at = 6; bytes = 4 ∷ []; ends = true } ∷ []

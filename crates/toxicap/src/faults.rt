@@ -1,0 +1,82 @@
+//! Why a run is refused.
+ghost use Rattle.std.specs.Prelude.{◌≡◌};
+
+use pcap_records::CaptureFault;
+use std::alloc::{AllocError, AllocFailed};
+use thiserror::Error;
+
+/// Why a run is refused. [`fault_line`](crate::fault_line) gives the line that tells a fault to users.
+#[derive(Clone, Copy, Debug, PartialEq, Eq, Error)]
+pub enum RunFault {
+    /// The capture has fewer bytes than a file header.
+    #[error("the capture ends within its file header")]
+    ShortHeader,
+    /// The capture's first four bytes are no known magic number.
+    #[error("the capture begins with an unknown magic number")]
+    BadMagic,
+    /// The capture is of another version than 2.4.
+    #[error("the capture is not of version 2.4")]
+    BadVersion,
+    /// The capture is of another link type than Ethernet.
+    #[error("the capture is not of link type Ethernet")]
+    BadLink,
+    /// The record of this number, from 0, claims more bytes than a record may have.
+    #[error("record {at} is too long")]
+    RecordTooLong { at: u32 },
+    /// More than 256 scenarios were given.
+    #[error("there are more than 256 scenarios")]
+    TooManyScenarios,
+    /// More than 2^30 bytes were given.
+    #[error("the capture is longer than 2^30 bytes")]
+    CaptureTooLong,
+    /// Memory was refused.
+    #[error("out of memory")]
+    Memory,
+    /// The dump is broken at this byte, from 0, or at its end.
+    #[error("the dump is broken at byte {at}")]
+    BadDump { at: usize },
+    /// A read failed.
+    #[error("a read failed")]
+    ReadFailed,
+    /// A write failed.
+    #[error("a write failed")]
+    WriteFailed,
+}
+
+impl From<CaptureFault> for RunFault {
+    ghost use Rattle.toxicap.specs.RunFaults.{run_fault};
+
+    ghost from_gives = { λ fault r. r ≡ run_fault fault };
+
+    fn from(fault: CaptureFault) -> RunFault {
+        match fault {
+            CaptureFault::ShortHeader => RunFault::ShortHeader,
+            CaptureFault::BadMagic => RunFault::BadMagic,
+            CaptureFault::BadVersion => RunFault::BadVersion,
+            CaptureFault::BadLink => RunFault::BadLink,
+            CaptureFault::RecordTooLong { at } => RunFault::RecordTooLong { at },
+            CaptureFault::CaptureTooLong => RunFault::CaptureTooLong,
+            CaptureFault::Memory(_) => RunFault::Memory,
+        }
+    }
+}
+
+impl From<AllocError> for RunFault {
+    ghost use Rattle.toxicap.specs.declared.faults.RunFault.TheVariants.{Memory};
+
+    ghost from_gives = { λ _ r. r ≡ Memory };
+
+    fn from(_refused: AllocError) -> RunFault {
+        RunFault::Memory
+    }
+}
+
+impl<T: Drop> From<AllocFailed<T>> for RunFault {
+    ghost use Rattle.toxicap.specs.declared.faults.RunFault.TheVariants.{Memory};
+
+    ghost from_gives = { λ _ r. r ≡ Memory };
+
+    fn from(_refused: AllocFailed<T>) -> RunFault {
+        RunFault::Memory
+    }
+}

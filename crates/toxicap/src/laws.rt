@@ -1,0 +1,33 @@
+//! Theorems about the definitions of this crate. Each function does nothing: its contract is the theorem.
+ghost use Rattle.toxicap.specs.Connections.{GroupingsAgree};
+ghost use Rattle.toxicap.specs.Dumps.{ReadsBack};
+ghost use Rattle.toxicap.specs.KeyOrder.{PartsAreOrderedFirst, RisingIsInOrder};
+ghost use Rattle.toxicap.specs.Rehearsal.{ByteOrderDoesNotMatter};
+
+/// For every capture, filtering the list of its segments and reading it in turn give the same beginnings, the same
+/// connections with the same segments, and the same number of unopened segments.
+pub fn groupings_agree()
+    ensures { GroupingsAgree }
+{}
+
+/// Segments whose keys rise are in order already.
+pub fn rising_is_in_order()
+    ensures { RisingIsInOrder }
+{}
+
+/// Two lists of segments may be put in order before they are joined and put in order.
+pub fn parts_are_ordered_first()
+    ensures { PartsAreOrderedFirst }
+{}
+
+/// The hexadecimal digits of some bytes, all in lower or all in upper case, are a dump of these bytes, whatever blanks stand
+/// before, between and after them.
+pub fn dumps_read_back()
+    ensures { ReadsBack }
+{}
+
+/// Two captures with the same records and rest are rehearsed alike, whichever order the bytes of their fields have.
+#[tactic(auto, unfolding(crate::specs::Rehearsal::answer))]
+pub fn byte_order_does_not_matter()
+    ensures { ByteOrderDoesNotMatter }
+{}

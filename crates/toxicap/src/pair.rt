@@ -1,0 +1,28 @@
+//! Pairs of ends.
+ghost use Rattle.std.specs.Prelude.{◌≡◌};
+ghost use Rattle.toxicap.specs.Segments.{peer_le, same_peer};
+
+use frame_headers::Peer;
+
+/// Two ends without order: the lower one first.
+#[derive(Clone, Copy, Debug, PartialEq, Eq)]
+pub struct Pair {
+    /// The lower end, by address and then by port.
+    pub low: Peer,
+    /// The higher end.
+    pub high: Peer,
+}
+
+/// Whether the two ends are one.
+pub(crate) fn same_peer(a: Peer, b: Peer) -> bool
+    ensures { result ≡ same_peer a b }
+{
+    a.addr == b.addr && a.port == b.port
+}
+
+/// Whether an end is lower than another or the same, by address and then by port.
+pub(crate) fn peer_le(a: Peer, b: Peer) -> bool
+    ensures { result ≡ peer_le a b }
+{
+    a.addr < b.addr || (a.addr == b.addr && a.port <= b.port)
+}

@@ -1,0 +1,43 @@
+//! Rehearsing a capture.
+ghost use Rattle.toxicap.specs.Rehearsal.{Answers, answer};
+
+use crate::bare_outputs::bare_outputs;
+use crate::faults::RunFault;
+use crate::gates::Gate;
+use crate::outputs::Outputs;
+use crate::plans::Plan;
+use crate::scenario::Scenario;
+use crate::values::Values;
+use pcap_records::read_capture;
+use std::alloc::Global;
+use std::sync::Wait;
+use std::thread::Threads;
+
+/// The most scenarios of a rehearsal.
+const SCENARIO_LIMIT: usize = 256;
+
+/// Rehearses a capture under each of the scenarios: for each, in order, a capture of what each side would have received and a
+/// report. The answer is that of the definition, `answer` in `specs/Rehearsal.antt`, whatever the plan and the gate; no scenario gives no output.
+///
+/// # Errors
+/// `TooManyScenarios` for more than 256, before the capture is looked at; then the capture's own fault; then `Memory`, where a
+/// growth was refused.
+#[tactic(auto, unfolding(crate::specs::Rehearsal::answer))]
+pub fn rehearse<R: Threads + Wait, G: Gate>(
+    rt: &R,
+    alloc: Global,
+    capture: &[u8],
+    scenarios: &[Scenario],
+    seed: u64,
+    plan: Plan,
+    gate: &G,
+) -> Result<Outputs, RunFault>
+    ensures { Answers result (answer capture.now scenarios.now seed) }
+{
+    if scenarios.len() > SCENARIO_LIMIT {
+        return Err(RunFault::TooManyScenarios);
+    }
+    let capture = read_capture(alloc, capture)?;
+    let outputs = bare_outputs(alloc, &capture, scenarios)?;
+    Ok(Values::of(outputs))
+}

@@ -60,33 +60,27 @@ fn refused_and_empty_headers(rt: HostRuntime) -> Result<(), Fail> {
             );
         }
     }
-    // The unknown magic number in both orders; then that of nanoseconds.
-    let unknown: [u8; 24] = [
-        0xa1, 0xb2, 0xcd, 0x34, 0, 2, 0, 4, 0, 0, 0, 0, 0, 0, 0, 0, 0, 0, 0xff, 0xff, 0, 0, 0, 1,
-    ];
-    assert!(rt; matches!(read_capture(alloc, &unknown), Err(CaptureFault::BadMagic)));
-    let unknown_little: [u8; 24] = [
-        0x34, 0xcd, 0xb2, 0xa1, 2, 0, 4, 0, 0, 0, 0, 0, 0, 0, 0, 0, 0xff, 0xff, 0, 0, 1, 0, 0, 0,
-    ];
-    assert!(rt;
-        matches!(
-            read_capture(alloc, &unknown_little),
-            Err(CaptureFault::BadMagic)
-        )
-    );
-    let nano_big: [u8; 24] = [
-        0xa1, 0xb2, 0x3c, 0x4d, 0, 2, 0, 4, 0, 0, 0, 0, 0, 0, 0, 0, 0, 0, 0xff, 0xff, 0, 0, 0, 1,
-    ];
-    assert!(rt; matches!(read_capture(alloc, &nano_big), Err(CaptureFault::BadMagic)));
-    let nano_little: [u8; 24] = [
-        0x4d, 0x3c, 0xb2, 0xa1, 2, 0, 4, 0, 0, 0, 0, 0, 0, 0, 0, 0, 0xff, 0xff, 0, 0, 1, 0, 0, 0,
-    ];
-    assert!(rt;
-        matches!(
-            read_capture(alloc, &nano_little),
-            Err(CaptureFault::BadMagic)
-        )
-    );
+    Ok(())
+}
+
+#[test]
+fn unknown_magic_numbers(rt: HostRuntime) {
+    // An unknown number in both orders; then that of nanoseconds.
+    for magic in [0xa1b2_cd34_u32, 0xa1b2_3c4d] {
+        let mut big = BIG;
+        big[..4].copy_from_slice(&magic.to_be_bytes());
+        let mut little = LITTLE;
+        little[..4].copy_from_slice(&magic.to_le_bytes());
+        for file in [big, little] {
+            let refused = read_capture(rt.alloc(), &file);
+            assert!(rt; matches!(refused, Err(CaptureFault::BadMagic)), "{magic}");
+        }
+    }
+}
+
+#[test]
+fn fields_of_the_header(rt: HostRuntime) -> Result<(), Fail> {
+    let alloc = rt.alloc();
     // Version 2.3 and 3.4; link types 113 and 1 with bits of a frame check sequence.
     for (header, at, byte) in [(BIG, 7, 3), (LITTLE, 6, 3), (BIG, 5, 3), (LITTLE, 4, 3)] {
         let file = changed(alloc, &header, at, byte)?;

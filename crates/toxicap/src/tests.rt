@@ -220,6 +220,10 @@ fn writers(rt: HostRuntime) {
             "{most} bytes a call, {calls} calls"
         );
     }
+}
+
+#[test]
+fn nothing_to_write(rt: HostRuntime) {
     let mut writer = Counted::new(Sips {
         taken: Vec::new(rt.alloc()),
         most: 0,

@@ -82,7 +82,10 @@ fn headers(rt: HostRuntime) {
         let raw = undump(rt.alloc(), dump.as_bytes()).expect(&rt, "a dump");
         check_run(&rt, &raw, wanted);
     }
+}
 
+#[test]
+fn starts_that_read_as_a_dump(rt: HostRuntime) {
     // An unknown magic number whose first byte is the digit 4 makes a broken dump.
     let dump = "34cdb2a1 02000400 00000000 00000000 ffff0000 01000000";
     check_run(&rt, dump.as_bytes(), Err(RunFault::BadMagic));

@@ -9,8 +9,8 @@ use std::io::{ErrorKind, Read, Write};
 
 #[test]
 fn dumps(rt: HostRuntime) {
-    let bytes: &[u8] = &[0xd4, 0xc3];
-    let whole: [&[u8]; 4] = [b"d4c3", b"D4\nc3", b"d 4\tC\r\n3 ", b"\n\n d4C3"];
+    let bytes: &[u8] = &[0x1a, 0xc3];
+    let whole: [&[u8]; 4] = [b"1ac3", b"1A\nc3", b"1 a\tC\r\n3 ", b"\n\n 1aC3"];
     for text in whole {
         assert_eq!(rt;
             undump(rt.alloc(), text).expect(&rt, "a dump").as_slice(),

@@ -4,6 +4,7 @@ use Rattle.frame_headers.specs.Flags.{has_flag, syn, ack, rst}
 use Rattle.frame_headers.specs.Frame.{SegmentFields}
 use Rattle.toxicap.specs.declared.heads.Head.{Head}
 use Rattle.toxicap.specs.declared.opened.Opened.{Opened}
+use Rattle.toxicap.specs.declared.pair.Pair.{Pair}
 use Rattle.toxicap.specs.Segments.{Seg, same_peer, same_pair, pair_of}
 use Rattle.toxicap.specs.Connections.{Conn, last_of, conns_after, unopened_after}
 use Rattle.toxicap.specs.Positions.{client_of, server_of, client_base, server_base}
@@ -37,11 +38,20 @@ abbrev pub repeats_head : Option Head → Head → Bool
 repeats_head None h = false
 repeats_head (Some last) h = same_peer last.from h.from && (last.seq == h.seq)
 
+-- the last opening of a pair
+abbrev pub last_opening : List Head → Pair → Option Head
+last_opening earlier p = last_of (filter (λ x. opens x && same_pair (pair_of x.from x.to) p) earlier)
+
 abbrev pub opening_head : List Head → Head → Option Head
-opening_head earlier h = last_of (filter (λ x. opens x && one_pair h x) earlier)
+opening_head earlier h = last_opening earlier (pair_of h.from h.to)
 
 unfoldable pub begins_head : List Head → Head → Bool
 begins_head earlier h = opens h && not (repeats_head (opening_head earlier h) h)
+
+-- of each segment, whether it begins a connection
+unfoldable pub begun_after : List Head → List Head → List Bool
+begun_after earlier [] = []
+begun_after earlier (h ∷ hs) = begins_head earlier h ∷ begun_after (earlier ++ h ∷ []) hs
 
 abbrev pub answers : Head → Head → Bool
 answers b h = same_peer h.from b.to && has_flag h.flags syn && has_flag h.flags ack

@@ -14,7 +14,7 @@ use crate::framed::Framed;
 use crate::head_list::list_heads;
 use crate::opened::Opened;
 use crate::opening_written::put_opening;
-use crate::openings::{count_unopened, list_opened};
+use crate::openings::{find_beginnings, list_opened};
 use crate::ordering::ordered;
 use crate::outputs::Output;
 use crate::scenario::Scenario;
@@ -99,11 +99,11 @@ pub(crate) fn bare_outputs(
     ensures { IfOk result (λ outputs. (seed : ℕ) → outputs.items ≡ out (contents_of capture.now) scenarios.now seed) }
 {
     let heads = list_heads(alloc, capture)?;
-    let opened = list_opened(alloc, &heads)?;
-    let unopened = count_unopened(&heads);
+    let found = find_beginnings(alloc, &heads)?;
+    let opened = list_opened(alloc, &heads, &found.begun)?;
     let mut outputs = Vec::new(alloc);
     for number in 0..scenarios.len() {
-        outputs.push(bare_output(alloc, capture, number as u32, &opened, unopened)?)?;
+        outputs.push(bare_output(alloc, capture, number as u32, &opened, found.unopened)?)?;
     }
     Ok(outputs)
 }

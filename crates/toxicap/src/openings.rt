@@ -1,12 +1,13 @@
-//! Connections by what stands earlier: a plain search for each opening.
-ghost use Rattle.std.specs.Prelude.{◌≡◌, ◌<◌, ◌≤◌, ◌+◌, ◌^◌, ℕ, [], IfOk, take, drop, length};
+//! Connections by what stands earlier: one look-up for each segment, and from each opening a search for its answer.
+ghost use Rattle.std.specs.Prelude.{◌≡◌, ◌<◌, ◌≤◌, ◌+◌, ◌^◌, ◌&&◌, not, ℕ, [], IfOk, take, drop, length};
 ghost use Rattle.toxicap.specs.Segments.{pair_of, same_pair};
-ghost use Rattle.toxicap.specs.Heads.{opens, one_pair, answers, resets, begins_head, repeats_head, answer_after, opened_by, opened_after, unopened_heads, is_unopened_head, opening_head};
+ghost use Rattle.toxicap.specs.Heads.{opens, one_pair, answers, resets, begun_after, repeats_head, answer_after, opened_by, opened_after, unopened_heads};
 
 use crate::heads::Head;
 use crate::opened::Opened;
 use crate::pair::{Pair, peer_le, same_peer};
 use frame_headers::{Flags, Peer};
+use indexmap::IndexMap;
 use std::alloc::{AllocError, Global};
 
 /// The pair of two ends.
@@ -54,19 +55,6 @@ fn answers(opening: &Head, head: &Head) -> bool
     same_peer(head.from, opening.to) && head.flags.has(Flags::SYN) && head.flags.has(Flags::ACK)
 }
 
-/// The last opening of its pair among earlier segments.
-fn opening_before(earlier: &[Head], head: &Head) -> Option<Head>
-    ensures { result ≡ opening_head earlier.now head.now }
-{
-    let mut last = None;
-    for x in earlier {
-        if opens(x) && one_pair(head, x) {
-            last = Some(*x);
-        }
-    }
-    last
-}
-
 /// Sent again: the last opening has the same sender and sequence number.
 fn repeats(last: Option<Head>, head: &Head) -> bool
     ensures { result ≡ repeats_head last head.now }
@@ -77,24 +65,53 @@ fn repeats(last: Option<Head>, head: &Head) -> bool
     }
 }
 
-/// Whether a segment begins a connection: an opening that is not sent again.
-#[tactic(auto, unfolding(crate::specs::Heads::begins_head))]
-fn begins(earlier: &[Head], head: &Head) -> bool
-    ensures { result ≡ begins_head earlier.now head.now }
+/// Of each segment whether it begins a connection, and how many stand before their pair's first opening.
+#[derive(Drop)]
+pub(crate) struct Beginnings {
+    pub begun: Vec<bool>,
+    pub unopened: usize,
+}
+
+/// The beginnings among segments: an opening that is not sent again begins a connection.
+pub(crate) fn find_beginnings(alloc: Global, heads: &[Head]) -> Result<Beginnings, AllocError>
+    ensures begun { IfOk result (λ found. found.begun.items ≡ begun_after [] heads.now) }
+    ensures unopened { IfOk result (λ found. found.unopened ≡ unopened_heads [] heads.now) }
 {
-    opens(head) && !repeats(opening_before(earlier, head), head)
+    let mut openings = IndexMap::new(alloc);
+    let mut begun = Vec::with_capacity(alloc, heads.len())?;
+    let mut unopened = 0;
+    for i in 0..heads.len() {
+        let head = heads[i];
+        let pair = pair_of(head.from, head.to);
+        let last = openings.get(&pair).copied();
+        begun.push(begins(last, &head))?;
+        if opens(&head) {
+            openings.insert(pair, head)?;
+        } else if last.is_none() {
+            unopened += 1;
+        }
+    }
+    Ok(Beginnings { begun, unopened })
+}
+
+/// Whether a segment begins a connection, where `last` is its pair's last opening.
+fn begins(last: Option<Head>, head: &Head) -> bool
+    ensures { result ≡ (opens head.now && not (repeats_head last head.now)) }
+{
+    opens(head) && !repeats(last, head)
 }
 
 /// The server's sequence number: that of its first answer among the segments from `from` on, before a reset and before
 /// the pair's next beginning.
-fn answer(heads: &[Head], from: usize, opening: &Head) -> Option<u32>
-    requires { from ≤ length heads.now }
+fn answer(heads: &[Head], begun: &[bool], from: usize, opening: &Head) -> Option<u32>
+    requires within { from ≤ length heads.now }
+    requires all { begun.now ≡ begun_after [] heads.now }
     ensures { result ≡ answer_after (take from heads.now) opening.now (drop from heads.now) }
 {
     for i in from..heads.len() {
         let head = heads[i];
         if one_pair(opening, &head) {
-            if begins(&heads[..i], &head) || resets(&head) {
+            if begun[i] || resets(&head) {
                 return None;
             }
             if answers(opening, &head) {
@@ -124,39 +141,23 @@ fn opened_by(number: u32, head: Head, server_base: Option<u32>) -> Opened
 }
 
 /// The connections that segments begin, numbered in the order of the file.
-pub(crate) fn list_opened(alloc: Global, heads: &[Head]) -> Result<Vec<Opened>, AllocError>
-    requires { length heads.now < 2 ^ 32 }
+pub(crate) fn list_opened(
+    alloc: Global,
+    heads: &[Head],
+    begun: &[bool],
+) -> Result<Vec<Opened>, AllocError>
+    requires all { begun.now ≡ begun_after [] heads.now }
+    requires numbered { length heads.now < 2 ^ 32 }
     ensures opened { IfOk result (λ opened. opened.items ≡ opened_after 0 [] heads.now) }
     ensures few { IfOk result (λ opened. length opened.items ≤ length heads.now) }
 {
     let mut opened = Vec::new(alloc);
     for i in 0..heads.len() {
         let head = heads[i];
-        if begins(&heads[..i], &head) {
+        if begun[i] {
             let number = opened.len() as u32;
-            opened.push(opened_by(number, head, answer(heads, i + 1, &head)))?;
+            opened.push(opened_by(number, head, answer(heads, begun, i + 1, &head)))?;
         }
     }
     Ok(opened)
-}
-
-/// Whether no opening of its pair stands before a segment, nor is it one.
-fn is_unopened(earlier: &[Head], head: &Head) -> bool
-    ensures { result ≡ is_unopened_head earlier.now head.now }
-{
-    !opens(head) && opening_before(earlier, head).is_none()
-}
-
-/// How many segments stand before their pair's first opening.
-pub(crate) fn count_unopened(heads: &[Head]) -> usize
-    ensures { result ≡ unopened_heads [] heads.now }
-{
-    let mut count = 0;
-    for i in 0..heads.len() {
-        let head = heads[i];
-        if is_unopened(&heads[..i], &head) {
-            count += 1;
-        }
-    }
-    count
 }

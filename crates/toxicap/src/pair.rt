@@ -5,7 +5,7 @@ ghost use Rattle.toxicap.specs.Segments.{peer_le, same_peer};
 use frame_headers::Peer;
 
 /// Two ends without order: the lower one first.
-#[derive(Clone, Copy, Debug, PartialEq, Eq)]
+#[derive(Clone, Copy, Debug, PartialEq, Eq, Hash)]
 pub struct Pair {
     /// The lower end, by address and then by port.
     pub low: Peer,

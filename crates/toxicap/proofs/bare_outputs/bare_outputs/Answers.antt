@@ -9,7 +9,7 @@ pub loop-number-preserved : goal.loop-number-preserved
 loop-number-preserved c =
     let contents = contents_of c.args.capture.now in
     let made = rw c.deref-in-loop-number.ensures.value at c.in_ok-bare_output.ensures in
-    let more = map-range_with_len_more (bare_output contents c.in_ok-opened.opened.items c.count_unopened-unopened.result) 0 c.loop-number.number c.loop-number.number (omega arith) in
+    let more = map-range_with_len_more (bare_output contents c.in_ok-opened.opened.items c.in_ok-found.found.unopened) 0 c.loop-number.number c.loop-number.number (omega arith) in
     rw (c.in_ok-push.ensures.items, made, more, c.loop-number.invariant) refl
 
 pub returns : goal.returns
@@ -17,7 +17,7 @@ returns c = λ seed.
     let scenarios = c.args.scenarios.now in
     let all : c.loop-number.number ≡ length scenarios = omega arith in
     let contents = contents_of c.args.capture.now in
-    let opened = rw c.deref.ensures.value at c.in_ok-opened.ensures.opened in
-    let unopened = rw c.deref-2.ensures.value at c.count_unopened-unopened.ensures in
+    let opened = rw c.deref-2.ensures.value at c.in_ok-opened.ensures.opened in
+    let unopened = rw c.deref.ensures.value at c.in_ok-found.ensures.unopened in
     (rw all at c.loop-number.invariant)
-    ∙ outputs_are contents c.in_ok-heads.heads.items c.in_ok-opened.opened.items c.count_unopened-unopened.result refl c.in_ok-heads.ensures.segments opened unopened scenarios seed
+    ∙ outputs_are contents c.in_ok-heads.heads.items c.in_ok-opened.opened.items c.in_ok-found.found.unopened refl c.in_ok-heads.ensures.segments opened unopened scenarios seed

@@ -5,4 +5,4 @@ use Rattle.toxicap.specs.BareParts.{bare_output}
 use Rattle.toxicap.proofs.bare_outputs.bare_outputs.Given as goal
 
 abbrev pub invariant-loop-number : goal.invariant-loop-number
-invariant-loop-number l = l.outputs.items ≡ map (bare_output (contents_of l.capture) l.opened.items l.unopened) (range_with_len 0 l.number)
+invariant-loop-number l = l.outputs.items ≡ map (bare_output (contents_of l.capture) l.opened.items l.found.unopened) (range_with_len 0 l.number)

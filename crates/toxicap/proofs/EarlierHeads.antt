@@ -1,27 +1,14 @@
 -- Loops over segments with those that stand earlier, one segment at a time.
-use Rattle.std.proofs.Common.{◌≡◌, ◌<◌, ◌≤◌, ℕ, zero, suc, ◌+◌, List, [], ◌∷◌, ◌++◌, length, take, drop, get_or, Option, Some, None, is_none, is_some, Bool, not, true, false, ◌&&◌, ◌||◌, refl, sym, ap, ◌∙◌, arith, if◌then◌else◌}
-use Rattle.std.proofs.lemmas.List.{append-nil, append_assoc, drop_more, take_more, drop_all}
+use Rattle.std.proofs.Common.{◌≡◌, ◌<◌, ◌≤◌, ℕ, zero, suc, ◌+◌, List, [], ◌∷◌, ◌++◌, length, take, drop, get_or, reverse, Option, Some, None, is_none, is_some, Bool, not, true, false, ◌&&◌, ◌||◌, refl, sym, ap, ◌∙◌, arith, if◌then◌else◌}
+use Rattle.std.specs.List.{count_by}
+use Rattle.std.proofs.lemmas.List.Sums.{count_by_more_yes, count_by_more_no}
+use Rattle.std.proofs.lemmas.List.{append-nil, append_assoc, reverse-append, drop_more, take_more, drop_all}
 use Rattle.toxicap.specs.declared.heads.Head.{Head}
-use Rattle.std.specs.Prelude.{filter}
+use Rattle.toxicap.specs.declared.opened.Opened.{Opened}
 use Rattle.toxicap.specs.declared.pair.Pair.{Pair}
 use Rattle.toxicap.specs.Segments.{pair_of, same_pair}
-use Rattle.toxicap.specs.Connections.{last_or, last_of}
-use Rattle.toxicap.specs.Heads.{one_pair, opens, repeats_head, answers, resets, is_unopened_head, begins_head, begun_after, answer_after, opened_by, opened_after, unopened_heads, last_opening}
-
--- the last of a list that pass a test, with one element more
-last_more : {X : Type 0} (before : Option X) (xs : List X) (x : X) (q : X → Bool) → last_or before (filter q (xs ++ x ∷ [])) ≡ (if q x then Some x else last_or before (filter q xs))
-last_more before [] x q = by (q x)
-  where
-    by : (b : Bool) → last_or before (if b then x ∷ [] else []) ≡ (if b then Some x else before)
-    by true = refl
-    by false = refl
-last_more before (y ∷ ys) x q = by (q y) (last_more before ys x q) (last_more (Some y) ys x q)
-  where
-    by : (b : Bool) → last_or before (filter q (ys ++ x ∷ [])) ≡ (if q x then Some x else last_or before (filter q ys))
-        → last_or (Some y) (filter q (ys ++ x ∷ [])) ≡ (if q x then Some x else last_or (Some y) (filter q ys))
-        → last_or before (if b then y ∷ filter q (ys ++ x ∷ []) else filter q (ys ++ x ∷ [])) ≡ (if q x then Some x else last_or before (if b then y ∷ filter q ys else filter q ys))
-    by true kept skipped = skipped
-    by false kept skipped = kept
+use Rattle.toxicap.proofs.GroupingFilters.{last_or-push}
+use Rattle.toxicap.specs.Heads.{opens, repeats_head, answer_at, is_unopened_head, begins_head, begun_after, answer_after, opened_by, opened_after, unopened_heads, last_opening}
 
 -- what is told by the last opening of its pair
 pub begins_by_last : (earlier : List Head) (h : Head) (last : Option Head) → last ≡ last_opening earlier (pair_of h.from h.to) → (opens h && not (repeats_head last h)) ≡ begins_head earlier h
@@ -63,10 +50,7 @@ module _ (heads : List Head) (i : ℕ) (h : Head) (within : i < length heads) (i
   before : take (i + 1) heads ≡ take i heads ++ h ∷ []
   before = take_more heads i h within ∙ ap (λ x. take i heads ++ x ∷ []) (sym is)
 
-  pub answer_next : (b : Head) → answer_after (take i heads) b (drop i heads)
-      ≡ (if one_pair b h
-      then (if begins_head (take i heads) h || resets h then None else (if answers b h then Some h.seq else answer_after (take (i + 1) heads) b (drop (i + 1) heads)))
-      else answer_after (take (i + 1) heads) b (drop (i + 1) heads))
+  pub answer_next : (b : Head) → answer_after (take i heads) b (drop i heads) ≡ answer_at (begins_head (take i heads) h) b h (answer_after (take (i + 1) heads) b (drop (i + 1) heads))
   unfolding answer_after
   answer_next b = rw (behind, before) refl
 
@@ -82,7 +66,7 @@ module _ (heads : List Head) (i : ℕ) (h : Head) (within : i < length heads) (i
   begun_next = rw (behind, before) refl
 
   pub last_next : (p : Pair) → last_opening (take (i + 1) heads) p ≡ (if opens h && same_pair (pair_of h.from h.to) p then Some h else last_opening (take i heads) p)
-  last_next p = rw before (last_more None (take i heads) h (λ x. opens x && same_pair (pair_of x.from x.to) p))
+  last_next p = rw before (last_or-push None (λ x. opens x && same_pair (pair_of x.from x.to) p) (take i heads) h)
 
   pub unopened_next : unopened_heads (take i heads) (drop i heads)
       ≡ (if is_unopened_head (take i heads) h then 1 else 0) + unopened_heads (take (i + 1) heads) (drop (i + 1) heads)
@@ -104,3 +88,31 @@ begun_end earlier heads i done = rw (drop_all i heads done) refl
 pub unopened_end : (earlier heads : List Head) (i : ℕ) → length heads ≤ i → unopened_heads earlier (drop i heads) ≡ 0
 unfolding unopened_heads
 unopened_end earlier heads i done = rw (drop_all i heads done) refl
+
+-- ---- from the end to the front
+
+module _ (heads : List Head) (begun : List Bool) (all : begun ≡ begun_after [] heads) (i k : ℕ) (follows : i ≡ k + 1) (within : k < length heads) (h : Head) (is : h ≡ get_or heads k h) where
+  begun_here : get_or begun k false ≡ begins_head (take k heads) h
+  begun_here = begun_at heads begun all k within h is
+
+  pub answer_back : (b : Head) → answer_at (get_or begun k false) b h (answer_after (take i heads) b (drop i heads)) ≡ answer_after (take k heads) b (drop k heads)
+  answer_back b = rw (follows, begun_here) (sym (answer_next heads k h within is b))
+
+  module _ (opened : List Opened) (n : ℕ) (so_far : reverse opened ≡ opened_after n (take i heads) (drop i heads)) (counted : n ≡ count_by (λ b. b) (take i begun)) where
+    pub number_back : get_or begun k false ≡ true → n ≡ count_by (λ b. b) (take k begun) + 1
+    number_back begins = counted ∙ rw follows (count_by_more_yes (λ b. b) begun k false (begun_within heads begun all k within) begins)
+
+    pub number_stays : get_or begun k false ≡ false → n ≡ count_by (λ b. b) (take k begun)
+    number_stays other = counted ∙ rw follows (count_by_more_no (λ b. b) begun k false (begun_within heads begun all k within) other)
+
+    pub opened_back : (m : ℕ) → n ≡ m + 1 → get_or begun k false ≡ true → (o : Opened) → o ≡ opened_by m h (answer_after (take i heads) h (drop i heads))
+        → reverse (opened ++ o ∷ []) ≡ opened_after m (take k heads) (drop k heads)
+    opened_back m number marked o made =
+        let begins : begins_head (take k heads) h ≡ true = sym begun_here ∙ marked in
+        let before : reverse opened ≡ opened_after (m + 1) (take (k + 1) heads) (drop (k + 1) heads) = rw (← number, ← follows) so_far in
+        reverse-append opened (o ∷ []) ∙ (rw (made, follows, before) (sym (opened_next heads k h within is m ∙ rw begins refl)))
+
+    pub opened_stays : get_or begun k false ≡ false → reverse opened ≡ opened_after n (take k heads) (drop k heads)
+    opened_stays other =
+        let begins : begins_head (take k heads) h ≡ false = sym begun_here ∙ other in
+        so_far ∙ (rw follows (sym (opened_next heads k h within is n ∙ rw begins refl)))

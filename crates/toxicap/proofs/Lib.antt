@@ -1,3 +1,4 @@
+pub mod AnswerSides
 pub mod DumpTable
 pub mod DumpLemmas
 pub mod Evaluated

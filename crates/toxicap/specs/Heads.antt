@@ -2,9 +2,12 @@
 use Rattle.std.specs.Prelude.{◌≡◌, ℕ, ◌+◌, List, [], ◌∷◌, ◌++◌, map, filter, Option, Some, None, is_none, Bool, false, ◌&&◌, ◌||◌, ◌==◌, not, if◌then◌else◌}
 use Rattle.frame_headers.specs.Flags.{has_flag, syn, ack, rst}
 use Rattle.frame_headers.specs.Frame.{SegmentFields}
+use Rattle.frame_headers.specs.declared.ends.Peer.{Peer}
+use Rattle.indexmap.specs.IndexMap.{IndexMap, get}
 use Rattle.toxicap.specs.declared.heads.Head.{Head}
 use Rattle.toxicap.specs.declared.opened.Opened.{Opened}
 use Rattle.toxicap.specs.declared.pair.Pair.{Pair}
+use Rattle.toxicap.specs.declared.side.Side.{Side}
 use Rattle.toxicap.specs.Segments.{Seg, same_peer, same_pair, pair_of}
 use Rattle.toxicap.specs.Connections.{Conn, last_of, conns_after, unopened_after}
 use Rattle.toxicap.specs.Positions.{client_of, server_of, client_base, server_base}
@@ -53,19 +56,25 @@ unfoldable pub begun_after : List Head → List Head → List Bool
 begun_after earlier [] = []
 begun_after earlier (h ∷ hs) = begins_head earlier h ∷ begun_after (earlier ++ h ∷ []) hs
 
+abbrev pub accepts : Head → Bool
+accepts h = has_flag h.flags syn && has_flag h.flags ack
+
+-- h answers the opening b
 abbrev pub answers : Head → Head → Bool
 answers b h = same_peer h.from b.to && has_flag h.flags syn && has_flag h.flags ack
 
 abbrev pub resets : Head → Bool
 resets h = has_flag h.flags rst
 
--- the number of the first answer to the opening b, before a reset and before the pair's next beginning
+-- what is answered to the opening b from the segment h on, where the segments behind h say `later`: nothing that stands
+-- behind a reset or behind the pair's next beginning counts
+abbrev pub answer_at : Bool → Head → Head → Option ℕ → Option ℕ
+answer_at begun b h later = if one_pair b h then (if begun || resets h then None else (if answers b h then Some h.seq else later)) else later
+
+-- the number of the first answer to the opening b
 unfoldable pub answer_after : List Head → Head → List Head → Option ℕ
 answer_after earlier b [] = None
-answer_after earlier b (h ∷ hs) =
-    if one_pair b h
-    then (if begins_head earlier h || resets h then None else (if answers b h then Some h.seq else answer_after (earlier ++ h ∷ []) b hs))
-    else answer_after (earlier ++ h ∷ []) b hs
+answer_after earlier b (h ∷ hs) = answer_at (begins_head earlier h) b h (answer_after (earlier ++ h ∷ []) b hs)
 
 abbrev pub opened_by : ℕ → Head → Option ℕ → Opened
 opened_by n h answer = record {
@@ -92,6 +101,22 @@ is_unopened_head earlier h = not (opens h) && is_none (opening_head earlier h)
 unfoldable pub unopened_heads : List Head → List Head → ℕ
 unopened_heads earlier [] = 0
 unopened_heads earlier (h ∷ hs) = (if is_unopened_head earlier h then 1 else 0) + unopened_heads (earlier ++ h ∷ []) hs
+
+-- ---- answers by side
+
+abbrev pub same_side : Side → Side → Bool
+same_side a b = same_pair a.pair b.pair && same_peer a.server b.server
+
+abbrev pub side_with : Head → Peer → Side
+side_with h server = record { pair = pair_of h.from h.to; server = server }
+
+-- the side that answers an opening
+abbrev pub side_of : Head → Side
+side_of b = side_with b b.to
+
+-- the answer to an opening that a map by sides holds
+abbrev pub answer_in : {S : Type 0} → IndexMap Side ℕ S → Head → Option ℕ
+answer_in answers b = get same_side answers (side_of b)
 
 -- heads are grouped as their segments are
 abbrev pub HeadsAgree : Type 0

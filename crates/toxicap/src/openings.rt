@@ -1,11 +1,14 @@
-//! Connections by what stands earlier: one look-up for each segment, and from each opening a search for its answer.
-ghost use Rattle.std.specs.Prelude.{◌≡◌, ◌<◌, ◌≤◌, ◌+◌, ◌^◌, ◌&&◌, not, ℕ, [], IfOk, take, drop, length};
-ghost use Rattle.toxicap.specs.Segments.{pair_of, same_pair};
-ghost use Rattle.toxicap.specs.Heads.{opens, one_pair, answers, resets, begun_after, repeats_head, answer_after, opened_by, opened_after, unopened_heads};
+//! Connections by what stands earlier: forwards for the beginnings, backwards for the answers to them.
+ghost use Rattle.std.specs.Prelude.{◌≡◌, ◌<◌, ◌^◌, ◌&&◌, not, [], IfOk, OnOk, length};
+ghost use Rattle.std.specs.List.{count_by};
+ghost use Rattle.toxicap.specs.Segments.{pair_of};
+ghost use Rattle.toxicap.specs.declared.heads.Head.{Head};
+ghost use Rattle.toxicap.specs.Heads.{opens, accepts, resets, side_with, begun_after, repeats_head, answer_at, answer_in, opened_by, opened_after, unopened_heads};
 
 use crate::heads::Head;
 use crate::opened::Opened;
 use crate::pair::{Pair, peer_le, same_peer};
+use crate::side::Side;
 use frame_headers::{Flags, Peer};
 use indexmap::IndexMap;
 use std::alloc::{AllocError, Global};
@@ -19,19 +22,6 @@ fn pair_of(a: Peer, b: Peer) -> Pair
     } else {
         Pair { low: b, high: a }
     }
-}
-
-fn same_pair(p: Pair, q: Pair) -> bool
-    ensures { result ≡ same_pair p q }
-{
-    same_peer(p.low, q.low) && same_peer(p.high, q.high)
-}
-
-/// Whether `x` is of the same pair of ends.
-fn one_pair(head: &Head, x: &Head) -> bool
-    ensures { result ≡ one_pair head.now x.now }
-{
-    same_pair(pair_of(x.from, x.to), pair_of(head.from, head.to))
 }
 
 /// An opening segment (RFC 9293 section 3.5): SYN, and neither ACK nor RST.
@@ -48,11 +38,11 @@ fn resets(head: &Head) -> bool
     head.flags.has(Flags::RST)
 }
 
-/// The server's answer to an opening: SYN and ACK.
-fn answers(opening: &Head, head: &Head) -> bool
-    ensures { result ≡ answers opening.now head.now }
+/// An answer to an opening: SYN and ACK.
+fn accepts(head: &Head) -> bool
+    ensures { result ≡ accepts head.now }
 {
-    same_peer(head.from, opening.to) && head.flags.has(Flags::SYN) && head.flags.has(Flags::ACK)
+    head.flags.has(Flags::SYN) && head.flags.has(Flags::ACK)
 }
 
 /// Sent again: the last opening has the same sender and sequence number.
@@ -80,13 +70,12 @@ pub(crate) fn find_beginnings(alloc: Global, heads: &[Head]) -> Result<Beginning
     let mut openings = IndexMap::new(alloc);
     let mut begun = Vec::with_capacity(alloc, heads.len())?;
     let mut unopened = 0;
-    for i in 0..heads.len() {
-        let head = heads[i];
+    for head in heads {
         let pair = pair_of(head.from, head.to);
         let last = openings.get(&pair).copied();
-        begun.push(begins(last, &head))?;
-        if opens(&head) {
-            openings.insert(pair, head)?;
+        begun.push(begins(last, head))?;
+        if opens(head) {
+            openings.insert(pair, *head)?;
         } else if last.is_none() {
             unopened += 1;
         }
@@ -101,25 +90,26 @@ fn begins(last: Option<Head>, head: &Head) -> bool
     opens(head) && !repeats(last, head)
 }
 
-/// The server's sequence number: that of its first answer among the segments from `from` on, before a reset and before
-/// the pair's next beginning.
-fn answer(heads: &[Head], begun: &[bool], from: usize, opening: &Head) -> Option<u32>
-    requires within { from ≤ length heads.now }
-    requires all { begun.now ≡ begun_after [] heads.now }
-    ensures { result ≡ answer_after (take from heads.now) opening.now (drop from heads.now) }
+/// The side of a segment's pair that has an end of it as the server.
+fn side(head: &Head, server: Peer) -> Side
+    ensures { result ≡ side_with head.now server }
 {
-    for i in from..heads.len() {
-        let head = heads[i];
-        if one_pair(opening, &head) {
-            if begun[i] || resets(&head) {
-                return None;
-            }
-            if answers(opening, &head) {
-                return Some(head.seq);
-            }
-        }
+    let pair = pair_of(head.from, head.to);
+    Side { pair, server }
+}
+
+/// Notes what a segment says to the openings that stand before it: a beginning or a reset takes back what stands behind it,
+/// and an answer hides what stands behind it.
+fn note(answers: &mut IndexMap<Side, u32>, begun: bool, head: &Head) -> Result<(), AllocError>
+    ensures { OnOk result ((b : Head) → answer_in answers.new b ≡ answer_at begun b head.now (answer_in answers.old b)) }
+{
+    if begun || resets(head) {
+        answers.swap_remove(&side(head, head.from));
+        answers.swap_remove(&side(head, head.to));
+    } else if accepts(head) {
+        answers.insert(side(head, head.from), head.seq)?;
     }
-    None
+    Ok(())
 }
 
 /// The connection that a segment begins.
@@ -140,6 +130,12 @@ fn opened_by(number: u32, head: Head, server_base: Option<u32>) -> Opened
     }
 }
 
+fn count_begun(begun: &[bool]) -> usize
+    ensures { result ≡ count_by (λ begins. begins) begun.now }
+{
+    begun.iter().filter(|begins| **begins).count()
+}
+
 /// The connections that segments begin, numbered in the order of the file.
 pub(crate) fn list_opened(
     alloc: Global,
@@ -149,15 +145,19 @@ pub(crate) fn list_opened(
     requires all { begun.now ≡ begun_after [] heads.now }
     requires numbered { length heads.now < 2 ^ 32 }
     ensures opened { IfOk result (λ opened. opened.items ≡ opened_after 0 [] heads.now) }
-    ensures few { IfOk result (λ opened. length opened.items ≤ length heads.now) }
 {
-    let mut opened = Vec::new(alloc);
-    for i in 0..heads.len() {
+    let mut number = count_begun(begun);
+    let mut opened = Vec::with_capacity(alloc, number)?;
+    let mut answers = IndexMap::new(alloc);
+    for i in (0..heads.len()).rev() {
         let head = heads[i];
         if begun[i] {
-            let number = opened.len() as u32;
-            opened.push(opened_by(number, head, answer(heads, begun, i + 1, &head)))?;
+            number -= 1;
+            let answer = answers.get(&side(&head, head.to)).copied();
+            opened.push(opened_by(number as u32, head, answer))?;
         }
+        note(&mut answers, begun[i], &head)?;
     }
+    opened.reverse();
     Ok(opened)
 }

@@ -5,10 +5,10 @@ use Rattle.toxicap.specs.declared.pair.Pair.{Pair}
 use Rattle.toxicap.specs.Heads.{begun_after, last_opening, unopened_heads}
 use Rattle.toxicap.proofs.openings.find_beginnings.Given as goal
 
-abbrev pub invariant-loop-i : goal.invariant-loop-i
-invariant-loop-i l = record {
-  last : (p : Pair) → get pair_impl.eq l.openings p ≡ last_opening (take l.i l.heads) p;
-  begun : l.begun.items ++ begun_after (take l.i l.heads) (drop l.i l.heads) ≡ begun_after [] l.heads;
-  unopened : l.unopened + unopened_heads (take l.i l.heads) (drop l.i l.heads) ≡ unopened_heads [] l.heads;
-  few : l.unopened ≤ l.i;
+abbrev pub invariant-loop-head : goal.invariant-loop-head
+invariant-loop-head l = record {
+  last : (p : Pair) → get pair_impl.eq l.openings p ≡ last_opening (take l.head-index l.heads) p;
+  begun : l.begun.items ++ begun_after (take l.head-index l.heads) (drop l.head-index l.heads) ≡ begun_after [] l.heads;
+  unopened : l.unopened + unopened_heads (take l.head-index l.heads) (drop l.head-index l.heads) ≡ unopened_heads [] l.heads;
+  few : l.unopened ≤ l.head-index;
 }

@@ -1,9 +1,11 @@
-use Rattle.std.proofs.Common.{◌≡◌, ◌≤◌, ◌++◌, [], take, drop, length}
-use Rattle.toxicap.specs.Heads.{opened_after}
+use Rattle.std.proofs.Common.{◌≡◌, [], take, drop, reverse, count_by}
+use Rattle.toxicap.specs.declared.heads.Head.{Head}
+use Rattle.toxicap.specs.Heads.{answer_after, answer_in, opened_after}
 use Rattle.toxicap.proofs.openings.list_opened.Given as goal
 
 abbrev pub invariant-loop-i : goal.invariant-loop-i
 invariant-loop-i l = record {
-  same : l.opened.items ++ opened_after (length l.opened.items) (take l.i l.heads) (drop l.i l.heads) ≡ opened_after 0 [] l.heads;
-  few : length l.opened.items ≤ l.i;
+  answers : (b : Head) → answer_in l.answers b ≡ answer_after (take l.i l.heads) b (drop l.i l.heads);
+  opened : reverse l.opened.items ≡ opened_after l.number (take l.i l.heads) (drop l.i l.heads);
+  number : l.number ≡ count_by (λ b. b) (take l.i l.begun);
 }

@@ -1,10 +1,9 @@
 -- Answers by side, as the segments before them are met: what one more segment makes of them.
-use Rattle.std.proofs.Common.{◌≡◌, ℕ, Option, Some, None, Bool, true, false, cond, ◌&&◌, ◌||◌, refl, rules, if◌then◌else◌}
+use Rattle.std.proofs.Common.{◌≡◌, ℕ, Option, Some, None, Bool, true, false, cond, ◌&&◌, ◌||◌, refl, if◌then◌else◌}
 use Rattle.std.proofs.Math.Bool.{and_assoc}
 use Rattle.std.proofs.lemmas.Bool.{and_parts}
 use Rattle.frame_headers.specs.Flags.{has_flag, syn, ack}
 use Rattle.toxicap.specs.declared.heads.Head.{Head}
-use Rattle.toxicap.specs.declared.pair.Pair.{Pair}
 use Rattle.toxicap.specs.Segments.{peer_le, same_peer, same_pair}
 use Rattle.toxicap.specs.Heads.{one_pair, resets, accepts, answers, side_with, side_of, same_side, answer_at}
 

@@ -1,8 +1,7 @@
-use Rattle.std.proofs.Common.{◌≡◌, ◌≤◌, ◌+◌, ◌&&◌, ◌++◌, [], ◌∷◌, take, drop, length, Option, Some, is_none, not, true, false, refl, sym, ap, ◌∙◌, arith, append_assoc}
+use Rattle.std.proofs.Common.{◌≡◌, ◌+◌, ◌++◌, [], take, drop, is_none, not, true, false, refl, sym, ap, ◌∙◌, arith, append_assoc}
 use Rattle.std.proofs.lemmas.List.{append-nil}
-use Rattle.toxicap.specs.declared.heads.Head.{Head}
 use Rattle.toxicap.specs.Segments.{pair_of}
-use Rattle.toxicap.specs.Heads.{begins_head, begun_after, last_opening, is_unopened_head}
+use Rattle.toxicap.specs.Heads.{begins_head, begun_after, last_opening}
 use Rattle.toxicap.proofs.EarlierHeads.{begun_next, begun_end, last_next, unopened_next, unopened_end, begins_by_last, unopened_by_last, none_told}
 use Rattle.toxicap.proofs.openings.find_beginnings.Goals as goal
 use Rattle.toxicap.proofs.openings.find_beginnings.Goals.{then-opens+in_ok-insert, else-opens+then-is_none, else-opens+else-is_none}

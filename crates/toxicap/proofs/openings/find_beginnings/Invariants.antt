@@ -1,4 +1,4 @@
-use Rattle.std.proofs.Common.{◌≡◌, ◌≤◌, ◌+◌, ◌++◌, [], take, drop, length}
+use Rattle.std.proofs.Common.{◌≡◌, ◌≤◌, ◌+◌, ◌++◌, [], take, drop}
 use Rattle.indexmap.specs.IndexMap.{get}
 use Rattle.toxicap.specs.contracts.pair.PairPartialEq.TheImpl.{ghosts as pair_impl}
 use Rattle.toxicap.specs.declared.pair.Pair.{Pair}

@@ -1,4 +1,4 @@
-use Rattle.std.proofs.Common.{◌≡◌, [], take, drop, reverse, count_by}
+use Rattle.std.proofs.Common.{◌≡◌, take, drop, reverse, count_by}
 use Rattle.toxicap.specs.declared.heads.Head.{Head}
 use Rattle.toxicap.specs.Heads.{answer_after, answer_in, opened_after}
 use Rattle.toxicap.proofs.openings.list_opened.Given as goal

@@ -1,4 +1,4 @@
-use Rattle.std.proofs.Common.{◌≡◌, Bool, true, false, ◌||◌, sym, ◌∙◌}
+use Rattle.std.proofs.Common.{◌≡◌, ◌||◌, sym, ◌∙◌}
 use Rattle.toxicap.specs.Heads.{resets, side_of, answer_in}
 use Rattle.toxicap.proofs.AnswerSides.{forgotten, answered, silent}
 use Rattle.toxicap.proofs.openings.note.Goals as goal
@@ -13,9 +13,9 @@ returns-then-resets c =
       | else-begun w ↦ rw w.if-begun.false (sym (w.value-is ∙ w.resets.ensures))
     ] in
     λ b.
-        let from = rw c.side.ensures at (c.swap_remove.ensures.updates.0 (side_of b)) in
-        let to = rw c.side-then-resets.ensures at (c.swap_remove-then-resets.ensures.updates.0 (side_of b)) in
-        to ∙ (rw from (forgotten b h c.args.begun (answer_in c.args.answers.now b) (told ∙ c.if-resets.true)))
+    let from = rw c.side.ensures at (c.swap_remove.ensures.updates.0 (side_of b)) in
+    let to = rw c.side-then-resets.ensures at (c.swap_remove-then-resets.ensures.updates.0 (side_of b)) in
+    to ∙ (rw from (forgotten b h c.args.begun (answer_in c.args.answers.now b) (told ∙ c.if-resets.true)))
 
 pub returns-in_ok-insert : goal.returns-in_ok-insert
 returns-in_ok-insert c =
@@ -26,8 +26,8 @@ returns-in_ok-insert c =
       | else-begun w ↦ rw w.if-begun.false (sym (w.value-is ∙ w.resets.ensures))
     ] in
     λ b.
-        let from = rw c.side-then-accepts.ensures at (c.in_ok-insert.ensures.updates.0 (side_of b)) in
-        from ∙ answered b h c.args.begun (answer_in c.args.answers.now b) (told ∙ c.if-resets.false) (sym c.if-accepts.ensures)
+    let from = rw c.side-then-accepts.ensures at (c.in_ok-insert.ensures.updates.0 (side_of b)) in
+    from ∙ answered b h c.args.begun (answer_in c.args.answers.now b) (told ∙ c.if-resets.false) (sym c.if-accepts.ensures)
 
 pub returns-else-accepts : goal.returns-else-accepts
 returns-else-accepts c =

@@ -8,22 +8,34 @@ use Rattle.frame_headers.specs.declared.written.Header.{Header}
 abbrev pub ethernet : Header → List ℕ
 ethernet h = (h.mac_to ++ h.mac_from) ++ big_bytes 2 0x0800
 
--- IPv4 (RFC 791 section 3.1) before n bytes, with a number in the place of its checksum: version 4 and 5 words of header,
--- the total length, no identification, "don't fragment" and no offset, 64 hops and TCP's protocol number, the checksum,
--- source and destination
+-- what IPv4 (RFC 791 section 3.1) says of a datagram alone, before n bytes: version 4 and 5 words of header, the total
+-- length, no identification, "don't fragment" and no offset
+abbrev pub ipv4_lengths : ℕ → List ℕ
+ipv4_lengths n = ((big_bytes 2 0x4500 ++ big_bytes 2 (20 + n)) ++ big_bytes 2 0) ++ big_bytes 2 0x4000
+
+-- what it says of the way: 64 hops and TCP's protocol number, the checksum, source and destination
+abbrev pub ipv4_route : ℕ → Header → List ℕ
+ipv4_route sum h = ((big_bytes 2 0x4006 ++ big_bytes 2 sum) ++ big_bytes 4 h.from.addr) ++ big_bytes 4 h.to.addr
+
+-- the IPv4 header before n bytes, with a number in the place of its checksum
 abbrev pub ipv4_with : ℕ → Header → ℕ → List ℕ
-ipv4_with sum h n =
-    ((((((big_bytes 2 0x4500 ++ big_bytes 2 (20 + n)) ++ big_bytes 2 0) ++ big_bytes 2 0x4000) ++ big_bytes 2 0x4006) ++ big_bytes 2 sum) ++ big_bytes 4 h.from.addr) ++ big_bytes 4 h.to.addr
+ipv4_with sum h n = ipv4_lengths n ++ ipv4_route sum h
 
 -- the same with its checksum, which is taken with 0 in its place
 unfoldable pub ipv4 : Header → ℕ → List ℕ
 ipv4 h n = ipv4_with (sum16 (ipv4_with 0 h n)) h n
 
--- TCP (RFC 9293 section 3.1) with a number in the place of its checksum: the two ports, sequence and acknowledgment
--- numbers, 5 words of header and the flags, the widest window, the checksum, and no urgent bytes
+-- the first part of a TCP header (RFC 9293 section 3.1): the two ports, sequence and acknowledgment numbers
+abbrev pub tcp_numbers : Header → List ℕ
+tcp_numbers h = ((big_bytes 2 h.from.port ++ big_bytes 2 h.to.port) ++ big_bytes 4 h.seq) ++ big_bytes 4 h.ack
+
+-- the rest: 5 words of header and the flags, the widest window, the checksum, and no urgent bytes
+abbrev pub tcp_state : ℕ → ℕ → List ℕ
+tcp_state sum flags = ((big_bytes 2 (0x5000 + flags) ++ big_bytes 2 0xffff) ++ big_bytes 2 sum) ++ big_bytes 2 0
+
+-- the TCP header, with a number in the place of its checksum
 abbrev pub tcp_with : ℕ → Header → List ℕ
-tcp_with sum h =
-    ((((((big_bytes 2 h.from.port ++ big_bytes 2 h.to.port) ++ big_bytes 4 h.seq) ++ big_bytes 4 h.ack) ++ big_bytes 2 (0x5000 + h.flags)) ++ big_bytes 2 0xffff) ++ big_bytes 2 sum) ++ big_bytes 2 0
+tcp_with sum h = tcp_numbers h ++ tcp_state sum h.flags
 
 -- the same with its checksum over the payload too, which is taken with 0 in its place
 unfoldable pub tcp : Header → List ℕ → List ℕ

@@ -2,7 +2,7 @@
 
 ghost use Rattle.std.specs.Prelude.{◌≡◌, ℕ, ◌+◌, ◌≤◌, ◌++◌, length, drop};
 ghost use Rattle.frame_headers.specs.HeaderLaws.{IsHeader, IsReadBack, SumsToNothing};
-ghost use Rattle.frame_headers.specs.Headers.{ethernet, headers, ipv4, ipv4_with, tcp, tcp_with};
+ghost use Rattle.frame_headers.specs.Headers.{ethernet, headers, ipv4, ipv4_lengths, ipv4_route, ipv4_with, tcp, tcp_numbers, tcp_state, tcp_with};
 
 use crate::ends::Peer;
 use crate::flag_bits::Flags;
@@ -89,19 +89,31 @@ fn fill_ipv4(head: &mut [u8], header: &Header, carried: u16)
     requires small { carried ≤ 1480 }
     ensures { head.new ≡ ipv4_with 0 header.now carried ++ drop 20 head.old }
 {
-    // version 4 and 5 words of header; the total length
+    fill_lengths(head, carried);
+    fill_route(&mut head[8..], header);
+}
+
+/// Writes what IPv4 says of a datagram alone: version and lengths, no identification, "don't fragment".
+fn fill_lengths(head: &mut [u8], carried: u16)
+    requires room { 8 ≤ length head.old }
+    requires small { carried ≤ 1480 }
+    ensures { head.new ≡ ipv4_lengths carried ++ drop 8 head.old }
+{
     BigEndian::write_u16(head, 0x4500);
     BigEndian::write_u16(&mut head[2..], 20 + carried);
-
-    // no identification; "don't fragment"
     BigEndian::write_u16(&mut head[4..], 0);
     BigEndian::write_u16(&mut head[6..], 0x4000);
+}
 
-    // 64 hops and TCP's protocol number; the checksum's place
-    BigEndian::write_u16(&mut head[8..], 0x4006);
-    BigEndian::write_u16(&mut head[10..], 0);
-    BigEndian::write_u32(&mut head[12..], header.from.addr);
-    BigEndian::write_u32(&mut head[16..], header.to.addr);
+/// Writes what IPv4 says of a datagram's way: 64 hops and TCP's protocol number, the checksum's place, both addresses.
+fn fill_route(head: &mut [u8], header: &Header)
+    requires { 12 ≤ length head.old }
+    ensures { head.new ≡ ipv4_route 0 header.now ++ drop 12 head.old }
+{
+    BigEndian::write_u16(head, 0x4006);
+    BigEndian::write_u16(&mut head[2..], 0);
+    BigEndian::write_u32(&mut head[4..], header.from.addr);
+    BigEndian::write_u32(&mut head[8..], header.to.addr);
 }
 
 /// Writes the TCP header before the payload.
@@ -121,16 +133,28 @@ fn fill_tcp(head: &mut [u8], header: &Header)
     requires { 20 ≤ length head.old }
     ensures { head.new ≡ tcp_with 0 header.now ++ drop 20 head.old }
 {
+    fill_numbers(head, header);
+    fill_state(&mut head[12..], header.flags);
+}
+
+/// Writes the ports and the two numbers of a TCP header.
+fn fill_numbers(head: &mut [u8], header: &Header)
+    requires { 12 ≤ length head.old }
+    ensures { head.new ≡ tcp_numbers header.now ++ drop 12 head.old }
+{
     BigEndian::write_u16(head, header.from.port);
     BigEndian::write_u16(&mut head[2..], header.to.port);
     BigEndian::write_u32(&mut head[4..], header.seq);
     BigEndian::write_u32(&mut head[8..], header.ack);
+}
 
-    // 5 words of header and the flags; the widest window
-    BigEndian::write_u16(&mut head[12..], 0x5000 + u16::from(header.flags.bits()));
-    BigEndian::write_u16(&mut head[14..], 0xffff);
-
-    // the checksum's place; no urgent bytes
-    BigEndian::write_u16(&mut head[16..], 0);
-    BigEndian::write_u16(&mut head[18..], 0);
+/// Writes the rest of a TCP header: 5 words of header and the flags, the widest window, the checksum's place, no urgent bytes.
+fn fill_state(head: &mut [u8], flags: Flags)
+    requires { 8 ≤ length head.old }
+    ensures { head.new ≡ tcp_state 0 flags ++ drop 8 head.old }
+{
+    BigEndian::write_u16(head, 0x5000 + u16::from(flags.bits()));
+    BigEndian::write_u16(&mut head[2..], 0xffff);
+    BigEndian::write_u16(&mut head[4..], 0);
+    BigEndian::write_u16(&mut head[6..], 0);
 }

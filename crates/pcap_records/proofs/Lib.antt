@@ -4,3 +4,4 @@ pub mod Passes
 pub mod Running
 pub mod Answering
 pub mod Splitting
+pub mod ReadingBack

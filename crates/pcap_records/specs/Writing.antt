@@ -1,7 +1,10 @@
 -- Written captures (pcap 2.4): fields with the lowest byte first.
-use Rattle.std.specs.Prelude.{ℕ, ◌/◌, ◌%◌, List, ◌++◌, length}
+use Rattle.std.specs.Prelude.{◌≡◌, ◌<◌, ◌≤◌, ℕ, ◌/◌, ◌%◌, List, ◌++◌, length, Ok}
+use Rattle.std.specs.List.{flat_map, AllByRecursion}
 use Rattle.byteorder.specs.Endian.{little_bytes}
-use Rattle.pcap_records.specs.Reading.{magic}
+use Rattle.pcap_records.specs.declared.order.Order.TheVariants.{Little}
+use Rattle.pcap_records.specs.Instants.{microseconds, horizon}
+use Rattle.pcap_records.specs.Reading.{Packet, magic, capture_limit, packet_limit, reading}
 
 -- magic number, version 2.4, time zone 0, accuracy 0, longest packet 65,535, link type Ethernet
 unfoldable pub file_header : List ℕ
@@ -16,3 +19,18 @@ record_header ticks at len =
 -- a packet's record: its header and the packet
 abbrev pub record_bytes : ℕ → ℕ → List ℕ → List ℕ
 record_bytes ticks at packet = record_header ticks at (length packet) ++ packet
+
+-- a capture of some packets in microseconds
+abbrev pub capture_with : List Packet → List ℕ
+capture_with packets = file_header ++ flat_map (λ p. record_bytes microseconds p.stamp p.bytes) packets
+
+-- a packet for which there is a record: before the horizon, and no longer than the limit
+pub record IsWritable (p : Packet) : Type 0 where
+  pub stamped : p.stamp < horizon microseconds
+  pub limited : length p.bytes ≤ packet_limit
+
+-- what is written is read back: the same packets with the same stamps, and no rest
+abbrev pub WrittenIsRead : Type 0
+WrittenIsRead =
+    (packets : List Packet) → AllByRecursion IsWritable packets → length (capture_with packets) ≤ capture_limit
+    → reading (capture_with packets) ≡ Ok (record { order = Little; contents = record { ticks = microseconds; packets = packets; rest = 0 } })

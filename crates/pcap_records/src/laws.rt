@@ -1,5 +1,6 @@
 //! Theorems about the definitions of this crate. Each function does nothing: its contract is the theorem.
 ghost use Rattle.pcap_records.specs.Instants.{CarriedIsWhole};
+ghost use Rattle.pcap_records.specs.Writing.{WrittenIsRead};
 ghost use Rattle.pcap_records.specs.Grammar.{ReadingsSplit, SplitsAreRead, RefusalsSplit, SplitsAreRefused};
 
 /// What is read has a split by the grammar.
@@ -25,4 +26,9 @@ pub fn splits_are_refused()
 /// Instants that are carried into a range are the instants of the whole file there.
 pub fn carried_is_whole()
     ensures { CarriedIsWhole }
+{}
+
+/// A capture of packets that have a record, written by a header and a record for each, is read back as these packets.
+pub fn written_is_read()
+    ensures { WrittenIsRead }
 {}

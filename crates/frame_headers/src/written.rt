@@ -45,9 +45,7 @@ pub fn put_headers(frame: &mut [u8], header: &Header)
 /// The fields of a header lie in the ranges of their types.
 fn header_fits(header: Header)
     ensures { IsHeader header }
-{
-    let _bits = header.flags.bits();
-}
+{}
 
 /// Writes the headers one after another.
 fn write_headers(frame: &mut [u8], header: &Header)

@@ -1,4 +1,6 @@
 pub mod AnswerSides
+pub mod WrittenFrames
+pub mod OutputsRead
 pub mod DumpTable
 pub mod DumpLemmas
 pub mod Evaluated

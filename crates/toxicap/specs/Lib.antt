@@ -19,6 +19,7 @@ pub mod BareParts
 pub mod Contribution
 pub mod Plans
 pub mod Rehearsal
+pub mod OutputCaptures
 pub mod Prints
 pub mod Bare
 pub mod Overview

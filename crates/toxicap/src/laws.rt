@@ -2,6 +2,7 @@
 ghost use Rattle.toxicap.specs.Connections.{GroupingsAgree};
 ghost use Rattle.toxicap.specs.Dumps.{ReadsBack};
 ghost use Rattle.toxicap.specs.KeyOrder.{PartsAreOrderedFirst, RisingIsInOrder};
+ghost use Rattle.toxicap.specs.OutputCaptures.{OutputsAreRead};
 ghost use Rattle.toxicap.specs.Rehearsal.{ByteOrderDoesNotMatter};
 
 /// For every capture, filtering the list of its segments and reading it in turn give the same beginnings, the same
@@ -30,4 +31,10 @@ pub fn dumps_read_back()
 #[tactic(auto, unfolding(crate::specs::Rehearsal::answer))]
 pub fn byte_order_does_not_matter()
     ensures { ByteOrderDoesNotMatter }
+{}
+
+/// Each capture that a rehearsal gives, where it is no longer than a capture may be, is read back as a whole file without a
+/// rest, its records in order of time: the output of one rehearsal is the input of another.
+pub fn outputs_are_read()
+    ensures { OutputsAreRead }
 {}

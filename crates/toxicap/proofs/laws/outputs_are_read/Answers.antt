@@ -1,0 +1,5 @@
+use Rattle.toxicap.proofs.OutputsRead.{outputs_are_read}
+use Rattle.toxicap.proofs.laws.outputs_are_read.Goals as goal
+
+pub returns : goal.returns
+returns c = outputs_are_read

@@ -1,0 +1,27 @@
+-- What a rehearsal writes can be read: each output capture is a whole file of the format, its records in order of time.
+use Rattle.std.specs.Prelude.{◌≡◌, ◌≤◌, ℕ, List, [], ◌∷◌, length, Ok}
+use Rattle.std.specs.List.{AllByRecursion}
+use Rattle.pcap_records.specs.declared.order.Order.TheVariants.{Little}
+use Rattle.pcap_records.specs.Instants.{microseconds}
+use Rattle.pcap_records.specs.Reading.{Packet, capture_limit, reading}
+use Rattle.toxicap.specs.declared.outputs.Output.{Output}
+use Rattle.toxicap.specs.declared.scenario.Scenario.{Scenario}
+use Rattle.toxicap.specs.Rehearsal.{answer}
+
+-- behind an instant, each stamp is the one before it or later
+abbrev pub NeverFall : ℕ → List Packet → Type 0
+NeverFall at [] = Unit {0}
+NeverFall at (p ∷ ps) = (at ≤ p.stamp) × NeverFall p.stamp ps
+
+-- a file in microseconds without a rest, in order of time
+abbrev pub IsReadWhole : List ℕ → Type 0
+IsReadWhole bytes =
+    (packets : List Packet)
+    × (reading bytes ≡ Ok (record { order = Little; contents = record { ticks = microseconds; packets = packets; rest = 0 } }))
+    × NeverFall 0 packets
+
+-- every output of a rehearsal that is no longer than a capture may be
+abbrev pub OutputsAreRead : Type 0
+OutputsAreRead =
+    (bytes : List ℕ) (scenarios : List Scenario) (seed : ℕ) (outputs : List Output) → answer bytes scenarios seed ≡ Ok outputs
+    → AllByRecursion (λ o. length o.capture ≤ capture_limit → IsReadWhole o.capture) outputs

@@ -7,7 +7,7 @@ use Rattle.indexmap.specs.IndexMap.{IndexMap, get}
 use Rattle.toxicap.specs.declared.heads.Head.{Head}
 use Rattle.toxicap.specs.declared.opened.Opened.{Opened}
 use Rattle.toxicap.specs.declared.pair.Pair.{Pair}
-use Rattle.toxicap.specs.declared.side.Side.{Side}
+use Rattle.toxicap.specs.declared.server_side.ServerSide.{ServerSide}
 use Rattle.toxicap.specs.Segments.{Seg, same_peer, same_pair, pair_of}
 use Rattle.toxicap.specs.Connections.{Conn, last_of, conns_after, unopened_after}
 use Rattle.toxicap.specs.Positions.{client_of, server_of, client_base, server_base}
@@ -104,18 +104,18 @@ unopened_heads earlier (h ∷ hs) = (if is_unopened_head earlier h then 1 else 0
 
 -- ---- answers by side
 
-abbrev pub same_side : Side → Side → Bool
+abbrev pub same_side : ServerSide → ServerSide → Bool
 same_side a b = same_pair a.pair b.pair && same_peer a.server b.server
 
-abbrev pub side_with : Head → Peer → Side
+abbrev pub side_with : Head → Peer → ServerSide
 side_with h server = record { pair = pair_of h.from h.to; server = server }
 
 -- the side that answers an opening
-abbrev pub side_of : Head → Side
+abbrev pub side_of : Head → ServerSide
 side_of b = side_with b b.to
 
 -- the answer to an opening that a map by sides holds
-abbrev pub answer_in : {S : Type 0} → IndexMap Side ℕ S → Head → Option ℕ
+abbrev pub answer_in : {S : Type 0} → IndexMap ServerSide ℕ S → Head → Option ℕ
 answer_in answers b = get same_side answers (side_of b)
 
 -- heads are grouped as their segments are

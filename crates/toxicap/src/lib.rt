@@ -35,7 +35,7 @@ mod rehearsal;
 mod report_printing;
 mod rows;
 mod scenario;
-mod side;
+mod server_side;
 mod statuses;
 #[cfg(test)]
 mod tests;

@@ -8,7 +8,7 @@ ghost use Rattle.toxicap.specs.Heads.{opens, accepts, resets, side_with, begun_a
 use crate::heads::Head;
 use crate::opened::Opened;
 use crate::pair::{Pair, peer_le, same_peer};
-use crate::side::Side;
+use crate::server_side::ServerSide;
 use frame_headers::{Flags, Peer};
 use indexmap::IndexMap;
 use std::alloc::{AllocError, Global};
@@ -91,16 +91,16 @@ fn begins(last: Option<Head>, head: &Head) -> bool
 }
 
 /// The side of a segment's pair that has an end of it as the server.
-fn side(head: &Head, server: Peer) -> Side
+fn side(head: &Head, server: Peer) -> ServerSide
     ensures { result ≡ side_with head.now server }
 {
     let pair = pair_of(head.from, head.to);
-    Side { pair, server }
+    ServerSide { pair, server }
 }
 
 /// Notes what a segment says to the openings that stand before it: a beginning or a reset takes back what stands behind it,
 /// and an answer hides what stands behind it.
-fn note(answers: &mut IndexMap<Side, u32>, begun: bool, head: &Head) -> Result<(), AllocError>
+fn note(answers: &mut IndexMap<ServerSide, u32>, begun: bool, head: &Head) -> Result<(), AllocError>
     ensures { OnOk result ((b : Head) → answer_in answers.new b ≡ answer_at begun b head.now (answer_in answers.old b)) }
 {
     if begun || resets(head) {

@@ -1,3 +1,4 @@
 pub mod PartWrites
 pub mod FilledSums
 pub mod ReadBack
+pub mod FieldRanges

@@ -1,5 +1,6 @@
 pub mod AnswerSides
 pub mod WrittenFrames
+pub mod SoundConnections
 pub mod OutputsRead
 pub mod DumpTable
 pub mod DumpLemmas

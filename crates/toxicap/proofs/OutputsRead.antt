@@ -1,6 +1,6 @@
 -- Output captures are read back whole.
-use Rattle.std.proofs.Common.{◌≡◌, ◌≤◌, ℕ, ◌+◌, Bool, true, false, ◌||◌, not, nat_lt, ◌==◌, List, [], ◌∷◌, ◌++◌, length, map, filter, drop, Some, None, Result, Ok, Err, refl, sym, ap, ◌∙◌, subst, arith, length-take, if◌then◌else◌}
-use Rattle.std.specs.List.{AllByRecursion, enumerate_from, flat_map, filter_map, cons_option}
+use Rattle.std.proofs.Common.{◌≡◌, ◌≤◌, ℕ, ◌+◌, Bool, true, false, ◌||◌, not, nat_lt, ◌==◌, List, [], ◌∷◌, ◌++◌, length, map, drop, Some, None, Result, Ok, Err, refl, sym, ap, ◌∙◌, subst, arith, if◌then◌else◌}
+use Rattle.std.specs.List.{AllByRecursion, enumerate_from, flat_map}
 use Rattle.std.proofs.lemmas.Bool.{ltb-false}
 use Rattle.pcap_records.specs.declared.fault.CaptureFault.{CaptureFault}
 use Rattle.pcap_records.specs.declared.fault.CaptureFault.TheVariants.{CaptureTooLong, ShortHeader, BadVersion, BadLink}
@@ -10,20 +10,23 @@ use Rattle.pcap_records.specs.Reading.{Heading, Packet, Contents, Reading, captu
 use Rattle.pcap_records.specs.Writing.{file_header, record_bytes, capture_with, IsWritable}
 use Rattle.pcap_records.proofs.ReadingBack.{written_is_read}
 use Rattle.pcap_records.proofs.Splitting.{readings_split}
-use Rattle.frame_headers.specs.Frame.{kind, fields}
 use Rattle.toxicap.specs.declared.faults.RunFault.TheVariants.{TooManyScenarios}
 use Rattle.toxicap.specs.declared.framed.Framed.{Framed}
 use Rattle.toxicap.specs.declared.scenario.Scenario.{Scenario}
-use Rattle.toxicap.specs.Segments.{Seg, is_segment, seg_of, segs_of, timed_packets}
-use Rattle.toxicap.specs.Connections.{Conn, begins, beginnings, conn_of, conns}
+use Rattle.toxicap.specs.Segments.{segs_of}
+use Rattle.toxicap.specs.Connections.{Conn, conns}
 use Rattle.toxicap.specs.Written.{in_order}
 use Rattle.toxicap.specs.Merged.{capture_of}
-use Rattle.toxicap.specs.Contribution.{part}
-use Rattle.toxicap.specs.Rehearsal.{part_of, parts, output, out, outcome, scenario_limit, answer}
-use Rattle.toxicap.specs.OutputCaptures.{NeverFall, IsReadWhole, OutputsAreRead}
+use Rattle.toxicap.specs.Positions.{server_of}
+use Rattle.toxicap.specs.Recorded.{recorded}
+use Rattle.toxicap.specs.Delivered.{Delivered, delivered}
+use Rattle.toxicap.specs.Contribution.{talk, part}
+use Rattle.toxicap.specs.Rehearsal.{met_of, part_of, parts, output, out, outcome, scenario_limit, answer}
+use Rattle.toxicap.specs.OutputCaptures.{NeverFall, IsSoundFrame, IsReadWhole, OutputsAreRead}
 use Rattle.toxicap.proofs.Sorting.{NoneBelow, Ordered}
 use Rattle.toxicap.proofs.InOrder.{below, ordered-in_order}
-use Rattle.toxicap.proofs.WrittenFrames.{all-append, IsWritten, all-in_order, segments_are}
+use Rattle.toxicap.proofs.WrittenFrames.{all-append, IsTalk, IsWritten, all-in_order, segments_are}
+use Rattle.toxicap.proofs.SoundConnections.{HasBytes, IsSoundConn, packets_have, conns_are, server_base_fits}
 
 -- ---- packets of written segments
 
@@ -62,67 +65,43 @@ unfolding packets_of packet_with
 in_time_order [] all ordered = tt
 in_time_order (x ∷ xs) all ordered = (omega arith, never_fall x xs all.1 ordered.0 ordered.1)
 
+sound : (xs : List Framed) (all : AllByRecursion IsWritten xs) → AllByRecursion (λ p. IsSoundFrame p.bytes) (packets_of xs all)
+unfolding packets_of packet_with
+sound [] all = tt
+sound (x ∷ xs) all = (all.0.is.sound, sound xs all.1)
+
 capture_read : (xs : List Framed) → AllByRecursion IsWritten xs → length (capture_of xs) ≤ capture_limit → IsReadWhole (capture_of xs)
 unfolding capture_of
 capture_read xs written within =
     let all = all-in_order xs written in
     let packets : List Packet = packets_of (in_order xs) all in
     let bytes : file_header ++ flat_map (λ x. x.bytes) (in_order xs) ≡ capture_with packets = ap (λ bs. file_header ++ bs) (bytes_are (in_order xs) all) in
-    (packets, rw bytes (written_is_read packets (writable (in_order xs) all) (rw bytes at within)), in_time_order (in_order xs) all (ordered-in_order xs))
-
--- ---- Ethernet addresses of connections
-
-abbrev IsShortSeg : Seg → Type 0
-IsShortSeg s = (length s.timed.fields.mac_from ≤ 6) × (length s.timed.fields.mac_to ≤ 6)
-
-abbrev IsShortConn : Conn → Type 0
-IsShortConn c = (length c.opening.fields.mac_from ≤ 6) × (length c.opening.fields.mac_to ≤ 6)
-
-fields_short : (frame : List ℕ) → (length (fields frame).mac_from ≤ 6) × (length (fields frame).mac_to ≤ 6)
-unfolding fields
-fields_short frame = (omega (arith, length-take 6 (drop 6 frame)), omega (arith, length-take 6 frame))
-
-segs_short : (ps : List (ℕ × (ℕ × Packet))) → AllByRecursion IsShortSeg (filter_map seg_of ps)
-segs_short [] = tt
-segs_short ((i, (at, p)) ∷ ps) = by (is_segment (kind p.bytes)) (segs_short ps)
-  where
-    by : (b : Bool) → AllByRecursion IsShortSeg (filter_map seg_of ps)
-        → AllByRecursion IsShortSeg (cons_option (if b then Some (record { index = i; timed = record { at = at; fields = fields p.bytes } }) else None) (filter_map seg_of ps))
-    by true rest = (fields_short p.bytes, rest)
-    by false rest = rest
-
-kept_short : (q : Seg → Bool) (segs : List Seg) → AllByRecursion IsShortSeg segs → AllByRecursion IsShortSeg (filter q segs)
-kept_short q [] all = tt
-kept_short q (s ∷ segs) all = by (q s) (kept_short q segs all.1)
-  where
-    by : (b : Bool) → AllByRecursion IsShortSeg (filter q segs) → AllByRecursion IsShortSeg (if b then s ∷ filter q segs else filter q segs)
-    by true rest = (all.0, rest)
-    by false rest = rest
-
-numbered_short : (segs : List Seg) (n : ℕ) (bs : List Seg) → AllByRecursion IsShortSeg bs → AllByRecursion IsShortConn (map (conn_of segs) (enumerate_from n bs))
-numbered_short segs n [] all = tt
-numbered_short segs n (b ∷ bs) all = (all.0, numbered_short segs (n + 1) bs all.1)
-
-conns_short : (c : Contents) → AllByRecursion IsShortConn (conns (segs_of c))
-unfolding conns beginnings segs_of
-conns_short c =
-    let segs : List Seg = segs_of c in
-    numbered_short segs 0 (beginnings segs) (kept_short (begins segs) segs (segs_short (enumerate_from 0 (timed_packets c))))
+    (packets, rw bytes (written_is_read packets (writable (in_order xs) all) (rw bytes at within)), in_time_order (in_order xs) all (ordered-in_order xs), sound (in_order xs) all)
 
 -- ---- outputs
 
-parts_are : (seed : ℕ) (scenario : ℕ × Scenario) (cs : List Conn) → AllByRecursion IsShortConn cs → AllByRecursion IsWritten (flat_map (λ p. p.segments) (map (part_of microseconds seed scenario) cs))
+talk_is : (c : Conn) → IsSoundConn c → (d : Delivered) → IsTalk (talk c (recorded c) d)
+talk_is c is d = record {
+  client = record { mac = is.opening.mac_from; addr = is.opening.from_addr; port = is.opening.from_port };
+  server = record { mac = is.opening.mac_to; addr = is.opening.to_addr; port = is.opening.to_port };
+  differ = is.opening.differ;
+  client_base = is.opening.seq;
+  server_base = server_base_fits c is;
+}
+
+parts_are : (seed : ℕ) (scenario : ℕ × Scenario) (cs : List Conn) → AllByRecursion IsSoundConn cs → AllByRecursion IsWritten (flat_map (λ p. p.segments) (map (part_of microseconds seed scenario) cs))
 unfolding part
 parts_are seed scenario [] all = tt
-parts_are seed (number, scenario) (c ∷ cs) all = all-append IsWritten _ _ (segments_are _ all.0.0 all.0.1) (parts_are seed (number, scenario) cs all.1)
+parts_are seed (number, scenario) (c ∷ cs) all = all-append IsWritten _ _ (segments_are _ (talk_is c all.0 (delivered microseconds (met_of (server_of c) scenario) (recorded c)))) (parts_are seed (number, scenario) cs all.1)
 
-outputs_read : (c : Contents) → c.ticks ≡ microseconds → (seed n : ℕ) (scenarios : List Scenario) → AllByRecursion (λ o. length o.capture ≤ capture_limit → IsReadWhole o.capture) (map (output c seed) (enumerate_from n scenarios))
+outputs_read : (c : Contents) → c.ticks ≡ microseconds → AllByRecursion HasBytes c.packets → (seed n : ℕ) (scenarios : List Scenario)
+    → AllByRecursion (λ o. length o.capture ≤ capture_limit → IsReadWhole o.capture) (map (output c seed) (enumerate_from n scenarios))
 unfolding output
-outputs_read c counted seed n [] = tt
-outputs_read c counted seed n (s ∷ scenarios) =
+outputs_read c counted have seed n [] = tt
+outputs_read c counted have seed n (s ∷ scenarios) =
     let all : AllByRecursion IsWritten (flat_map (λ p. p.segments) (parts c seed (n, s))) =
-    subst (λ ticks. AllByRecursion IsWritten (flat_map (λ p. p.segments) (map (part_of ticks seed (n, s)) (conns (segs_of c))))) (sym counted) (parts_are seed (n, s) (conns (segs_of c)) (conns_short c)) in
-    (capture_read _ all, outputs_read c counted seed (n + 1) scenarios)
+    subst (λ ticks. AllByRecursion IsWritten (flat_map (λ p. p.segments) (map (part_of ticks seed (n, s)) (conns (segs_of c))))) (sym counted) (parts_are seed (n, s) (conns (segs_of c)) (conns_are c have)) in
+    (capture_read _ all, outputs_read c counted have seed (n + 1) scenarios)
 
 -- ---- a file that is read counts microseconds
 
@@ -154,7 +133,7 @@ reading_ticks bytes r is =
 
 pub outputs_are_read : OutputsAreRead
 unfolding answer out
-outputs_are_read bytes scenarios seed outputs is = by (nat_lt scenario_limit (length scenarios)) (reading bytes) refl is
+outputs_are_read bytes scenarios seed outputs are is = by (nat_lt scenario_limit (length scenarios)) (reading bytes) refl is
   where
     by : (over : Bool) (read : Result Reading CaptureFault) → reading bytes ≡ read
         → (if over then Err TooManyScenarios else outcome read scenarios seed) ≡ Ok outputs
@@ -163,4 +142,4 @@ outputs_are_read bytes scenarios seed outputs is = by (nat_lt scenario_limit (le
     by false (Err f) is answered = absurd cc
     by false (Ok r) is answered =
         let same : out r.contents scenarios seed ≡ outputs = cc in
-        subst (λ os. AllByRecursion (λ o. length o.capture ≤ capture_limit → IsReadWhole o.capture) os) same (outputs_read r.contents (reading_ticks bytes r is) seed 0 scenarios)
+        subst (λ os. AllByRecursion (λ o. length o.capture ≤ capture_limit → IsReadWhole o.capture) os) same (outputs_read r.contents (reading_ticks bytes r is) (packets_have bytes r is are) seed 0 scenarios)

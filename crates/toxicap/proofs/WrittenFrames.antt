@@ -1,15 +1,19 @@
--- Each written segment is a record with a frame of some 1514 bytes at most, before the horizon.
-use Rattle.std.proofs.Common.{◌≡◌, ◌<◌, ◌≤◌, ℕ, zero, suc, ◌+◌, ◌-◌, ◌==◌, Bool, true, false, ◌||◌, nat_lt, List, [], ◌∷◌, ◌++◌, length, map, refl, ◌∙◌, arith, length-append, if◌then◌else◌}
+-- Each written segment is a record before the horizon whose frame is a TCP segment with both checksums right.
+use Rattle.std.proofs.Common.{◌≡◌, ◌≢◌, ◌<◌, ◌≤◌, ℕ, zero, suc, ◌+◌, ◌-◌, ◌^◌, ◌==◌, Bool, true, false, ◌||◌, nat_lt, List, [], ◌∷◌, ◌++◌, length, map, refl, sym, arith, length-append, if◌then◌else◌}
 use Rattle.std.specs.List.{AllByRecursion, enumerate_from}
 use Rattle.std.proofs.lemmas.Bool.{ltb-true, or_parts}
 use Rattle.pcap_records.specs.Instants.{microseconds, horizon}
 use Rattle.pcap_records.specs.Reading.{packet_limit}
 use Rattle.pcap_records.specs.Writing.{record_bytes}
-use Rattle.frame_headers.specs.Headers.{ethernet, headers, ipv4, tcp}
+use Rattle.frame_headers.specs.Flags
+use Rattle.frame_headers.specs.HeaderLaws.{IsHeader}
+use Rattle.frame_headers.specs.Headers.{headers}
+use Rattle.frame_headers.proofs.ReadBack.{read_back, sums_filled, length-headers}
 use Rattle.frame_headers.specs.declared.written.Header.{Header}
 use Rattle.toxicap.specs.declared.framed.Framed.{Framed}
 use Rattle.toxicap.specs.Recorded.{Cell, End, live, fin, close, reset}
-use Rattle.toxicap.specs.Written.{Host, Side, Talk, Said, Piece, payload_limit, is_between, led_by, pieces, said_last, said_from, said_by, frame, framed, header_of, opening_by, up_turn, down_turn, placed, lower, in_order, in_time, segments}
+use Rattle.toxicap.specs.Written.{Host, Side, Talk, Said, Piece, payload_limit, is_between, led_by, pieces, said_last, said_from, said_by, frame, framed, header_of, syn_said, answer_said, third_said, refusal_said, by_client, by_server, opening_by, up_turn, down_turn, placed, lower, in_order, in_time, segments}
+use Rattle.toxicap.specs.OutputCaptures.{IsSoundFrame}
 
 -- ---- lists
 
@@ -20,43 +24,53 @@ module _ {X : Type 0} (P : X → Type 0) where
 
 -- ---- the record of a segment
 
--- a record with a frame that a file can hold
+-- a record with a sound frame that a file can hold
 pub record IsRecord (x : Framed) : Type 0 where
   pub frame : List ℕ
   pub limited : length frame ≤ packet_limit
+  pub sound : IsSoundFrame frame
   pub bytes : x.bytes ≡ record_bytes microseconds x.key.moment frame
 
-abbrev pub IsShortHost : Host → Type 0
-IsShortHost h = length h.mac ≤ 6
+-- what a host and what is said have to be for headers to hold them
+pub record IsHost (h : Host) : Type 0 where
+  pub mac : length h.mac ≡ 6
+  pub addr : h.peer.addr < 2 ^ 32
+  pub port : h.peer.port < 2 ^ 16
 
-abbrev pub IsShort : Said → Type 0
-IsShort s = length s.payload ≤ payload_limit
+pub record IsSaid (s : Said) : Type 0 where
+  pub short : length s.payload ≤ payload_limit
+  pub seq : s.seq < 2 ^ 32
+  pub ack : s.ack < 2 ^ 32
+  pub flags : s.flags < 2 ^ 8
 
-headers_len : (h : Header) (payload : List ℕ) → length (headers h payload) ≡ length h.mac_to + length h.mac_from + 42
-unfolding headers ipv4 tcp
-headers_len h payload =
-    let all = length-append (ethernet h ++ ipv4 h (20 + length payload)) (tcp h payload) in
-    let link_and_ip = length-append (ethernet h) (ipv4 h (20 + length payload)) in
-    let link = length-append (h.mac_to ++ h.mac_from) (8 ∷ 0 ∷ []) in
-    let macs = length-append h.mac_to h.mac_from in
-    let ip : length (ipv4 h (20 + length payload)) ≡ 20 = refl in
-    let last : length (tcp h payload) ≡ 20 = refl in
-    all ∙ omega (arith, link_and_ip, link, macs, ip, last)
+module _ (from to : Host) (is_from : IsHost from) (is_to : IsHost to) (differ : from.peer ≢ to.peer) where
+  framed_is : (conn turn place : ℕ) (s : Said) → IsSaid s → IsRecord (framed microseconds conn turn from to (place, s))
+  unfolding frame
+  framed_is conn turn place s said =
+      let h : Header = header_of from to s in
+      let is : IsHeader h = record {
+        mac_from = is_from.mac;
+        mac_to = is_to.mac;
+        from_addr = is_from.addr;
+        from_port = is_from.port;
+        to_addr = is_to.addr;
+        to_port = is_to.port;
+        seq = said.seq;
+        ack = said.ack;
+        flags = said.flags;
+      } in
+      let read = read_back h s.payload is said.short in
+      let sums = sums_filled h s.payload is said.short in
+      record {
+        frame = frame from to s;
+        limited = omega (arith, length-append (headers h s.payload) s.payload, length-headers h s.payload is said.short, said.short);
+        sound = (read.class differ, sums.ipv4, rw read.fields sums.tcp);
+        bytes = refl;
+      }
 
-frame_len : (from to : Host) (s : Said) → IsShortHost from → IsShortHost to → IsShort s → length (frame from to s) ≤ packet_limit
-unfolding frame
-frame_len from to s short_from short_to short =
-    let h : Header = header_of from to s in
-    omega (arith, length-append (headers h s.payload) s.payload, headers_len h s.payload, short_from, short_to, short)
-
-framed_is : (conn turn place : ℕ) (from to : Host) (s : Said) → IsShortHost from → IsShortHost to → IsShort s → IsRecord (framed microseconds conn turn from to (place, s))
-framed_is conn turn place from to s short_from short_to short =
-    record { frame = frame from to s; limited = frame_len from to s short_from short_to short; bytes = refl }
-
-turn_is : (conn turn n : ℕ) (from to : Host) (said : List Said) → IsShortHost from → IsShortHost to → AllByRecursion IsShort said
-    → AllByRecursion IsRecord (map (framed microseconds conn turn from to) (enumerate_from n said))
-turn_is conn turn n from to [] short_from short_to short = tt
-turn_is conn turn n from to (s ∷ said) short_from short_to short = (framed_is conn turn n from to s short_from short_to short.0, turn_is conn turn (n + 1) from to said short_from short_to short.1)
+  turn_is : (conn turn n : ℕ) (said : List Said) → AllByRecursion IsSaid said → AllByRecursion IsRecord (map (framed microseconds conn turn from to) (enumerate_from n said))
+  turn_is conn turn n [] are = tt
+  turn_is conn turn n (s ∷ said) are = (framed_is conn turn n s are.0, turn_is conn turn (n + 1) said are.1)
 
 -- ---- pieces
 
@@ -96,36 +110,54 @@ pieces_fit limit room (c ∷ cs) some within =
 
 -- ---- what is said
 
-last_short : (own peer : Side) (n : ℕ) (e : End) → AllByRecursion IsShort (said_last own peer n e)
-last_short own peer n live = tt
-last_short own peer n (fin at) = (omega arith, tt)
-last_short own peer n (close at) = (omega arith, tt)
-last_short own peer n (reset at) = (omega arith, tt)
+last_is : (own peer : Side) (n : ℕ) (e : End) → AllByRecursion IsSaid (said_last own peer n e)
+last_is own peer n live = tt
+last_is own peer n (fin at) = (record { short = omega arith; seq = omega arith; ack = omega arith; flags = omega arith }, tt)
+last_is own peer n (close at) = (record { short = omega arith; seq = omega arith; ack = omega arith; flags = omega arith }, tt)
+last_is own peer n (reset at) = (record { short = omega arith; seq = omega arith; ack = omega arith; flags = omega arith }, tt)
 
-from_short : (own peer : Side) (n : ℕ) (ps : List Piece) → AllByRecursion (IsWithin payload_limit) ps → AllByRecursion IsShort (said_from own peer n ps)
+piece_flags : (ends : Bool) → (if ends then Flags.psh + Flags.ack else Flags.ack) < 2 ^ 8
+piece_flags true = omega arith
+piece_flags false = omega arith
+
+from_is : (own peer : Side) (n : ℕ) (ps : List Piece) → AllByRecursion (IsWithin payload_limit) ps → AllByRecursion IsSaid (said_from own peer n ps)
 unfolding said_from
-from_short own peer n [] fit = last_short own peer n own.flow.end
-from_short own peer n (p ∷ ps) fit = (fit.0, from_short own peer (n + length p.bytes) ps fit.1)
+from_is own peer n [] fit = last_is own peer n own.flow.end
+from_is own peer n (p ∷ ps) fit = (record { short = fit.0; seq = omega arith; ack = omega arith; flags = piece_flags p.ends }, from_is own peer (n + length p.bytes) ps fit.1)
 
-said_short : (own peer : Side) → AllByRecursion IsShort (said_by own peer)
-said_short own peer =
+said_is : (own peer : Side) → AllByRecursion IsSaid (said_by own peer)
+said_is own peer =
     let ps : List Piece = pieces payload_limit payload_limit own.flow.cells in
-    from_short own peer 0 ps (within-all payload_limit ps (pieces_fit payload_limit payload_limit own.flow.cells (omega arith) (omega arith)))
+    from_is own peer 0 ps (within-all payload_limit ps (pieces_fit payload_limit payload_limit own.flow.cells (omega arith) (omega arith)))
 
 -- ---- a connection
 
-opening_is : (t : Talk) (refused : Bool) → IsShortHost t.client.host → IsShortHost t.server.host → AllByRecursion IsRecord (opening_by refused microseconds t)
-opening_is t false client server = (
-  framed_is t.number 0 0 t.client.host t.server.host _ client server (omega arith),
-  (
-    framed_is t.number 0 1 t.server.host t.client.host _ server client (omega arith),
-    (framed_is t.number 0 2 t.client.host t.server.host _ client server (omega arith), tt),
-  ),
-)
-opening_is t true client server = (
-  framed_is t.number 0 0 t.client.host t.server.host _ client server (omega arith),
-  (framed_is t.number 0 1 t.server.host t.client.host _ server client (omega arith), tt),
-)
+pub record IsTalk (t : Talk) : Type 0 where
+  pub client : IsHost t.client.host
+  pub server : IsHost t.server.host
+  pub differ : t.client.host.peer ≢ t.server.host.peer
+  pub client_base : t.client.base < 2 ^ 32
+  pub server_base : t.server.base < 2 ^ 32
+
+module _ (t : Talk) (is : IsTalk t) where
+  by_client_is : (turn place : ℕ) (s : Said) → IsSaid s → IsRecord (by_client microseconds t turn (place, s))
+  by_client_is turn place s said = framed_is t.client.host t.server.host is.client is.server is.differ t.number turn place s said
+
+  by_server_is : (turn place : ℕ) (s : Said) → IsSaid s → IsRecord (by_server microseconds t turn (place, s))
+  by_server_is turn place s said = framed_is t.server.host t.client.host is.server is.client (λ same. is.differ (sym same)) t.number turn place s said
+
+  opening_is : (refused : Bool) → AllByRecursion IsRecord (opening_by refused microseconds t)
+  opening_is false = (
+    by_client_is 0 0 (syn_said t) (record { short = omega arith; seq = is.client_base; ack = omega arith; flags = omega arith }),
+    (
+      by_server_is 0 1 (answer_said t) (record { short = omega arith; seq = is.server_base; ack = omega arith; flags = omega arith }),
+      (by_client_is 0 2 (third_said t) (record { short = omega arith; seq = omega arith; ack = omega arith; flags = omega arith }), tt),
+    ),
+  )
+  opening_is true = (
+    by_client_is 0 0 (syn_said t) (record { short = omega arith; seq = is.client_base; ack = omega arith; flags = omega arith }),
+    (by_server_is 0 1 (refusal_said t) (record { short = omega arith; seq = omega arith; ack = omega arith; flags = omega arith }), tt),
+  )
 
 -- a record before the horizon
 pub record IsWritten (x : Framed) : Type 0 where
@@ -154,12 +186,11 @@ unfolding in_order
 all-in_order [] all = tt
 all-in_order (x ∷ xs) all = all-placed x (in_order xs) all.0 (all-in_order xs all.1)
 
-pub segments_are : (t : Talk) → IsShortHost t.client.host → IsShortHost t.server.host → AllByRecursion IsWritten (segments microseconds t)
+pub segments_are : (t : Talk) → IsTalk t → AllByRecursion IsWritten (segments microseconds t)
 unfolding segments
-segments_are t client server =
-    let opening = opening_is t t.refused client server in
-    let up = turn_is t.number 1 0 t.client.host t.server.host (said_by t.client t.server) client server (said_short t.client t.server) in
-    let down = turn_is t.number 2 0 t.server.host t.client.host (said_by t.server t.client) server client (said_short t.server t.client) in
+segments_are t is =
+    let up = turn_is t.client.host t.server.host is.client is.server is.differ t.number 1 0 (said_by t.client t.server) (said_is t.client t.server) in
+    let down = turn_is t.server.host t.client.host is.server is.client (λ same. is.differ (sym same)) t.number 2 0 (said_by t.server t.client) (said_is t.server t.client) in
     let lines = all-append IsRecord (opening_by t.refused microseconds t ++ up_turn microseconds t) (down_turn microseconds t)
-    (all-append IsRecord (opening_by t.refused microseconds t) (up_turn microseconds t) opening up) down in
+    (all-append IsRecord (opening_by t.refused microseconds t) (up_turn microseconds t) (opening_is t is t.refused) up) down in
     all-in_order _ (kept_in_time _ lines)

@@ -1,9 +1,11 @@
 -- What a rehearsal writes can be read: each output capture is a whole file of the format, its records in order of time.
-use Rattle.std.specs.Prelude.{◌≡◌, ◌≤◌, ℕ, List, [], ◌∷◌, length, Ok}
+use Rattle.std.specs.Prelude.{◌≡◌, ◌<◌, ◌≤◌, ℕ, List, [], ◌∷◌, length, drop, slice_range, Ok}
 use Rattle.std.specs.List.{AllByRecursion}
 use Rattle.pcap_records.specs.declared.order.Order.TheVariants.{Little}
 use Rattle.pcap_records.specs.Instants.{microseconds}
 use Rattle.pcap_records.specs.Reading.{Packet, capture_limit, reading}
+use Rattle.frame_headers.specs.Frame.{kind, segment, fields}
+use Rattle.frame_headers.specs.Sum.{sum16, tcp_sum}
 use Rattle.toxicap.specs.declared.outputs.Output.{Output}
 use Rattle.toxicap.specs.declared.scenario.Scenario.{Scenario}
 use Rattle.toxicap.specs.Rehearsal.{answer}
@@ -13,15 +15,24 @@ abbrev pub NeverFall : ℕ → List Packet → Type 0
 NeverFall at [] = Unit {0}
 NeverFall at (p ∷ ps) = (at ≤ p.stamp) × NeverFall p.stamp ps
 
--- a file in microseconds without a rest, in order of time
+-- a TCP segment, with both checksums right: each sum over what it covers, itself among it, is all ones
+abbrev pub IsSoundFrame : List ℕ → Type 0
+IsSoundFrame frame =
+    (kind frame ≡ segment) × (sum16 (slice_range frame 14 34) ≡ 0) × (tcp_sum (fields frame).from.addr (fields frame).to.addr (drop 34 frame) ≡ 0)
+
+-- a file in microseconds without a rest, in order of time, of such frames alone
 abbrev pub IsReadWhole : List ℕ → Type 0
 IsReadWhole bytes =
     (packets : List Packet)
     × (reading bytes ≡ Ok (record { order = Little; contents = record { ticks = microseconds; packets = packets; rest = 0 } }))
     × NeverFall 0 packets
+    × AllByRecursion (λ p. IsSoundFrame p.bytes) packets
+
+abbrev pub AreBytes : List ℕ → Type 0
+AreBytes xs = AllByRecursion (λ x. x < 256) xs
 
 -- every output of a rehearsal that is no longer than a capture may be
 abbrev pub OutputsAreRead : Type 0
 OutputsAreRead =
-    (bytes : List ℕ) (scenarios : List Scenario) (seed : ℕ) (outputs : List Output) → answer bytes scenarios seed ≡ Ok outputs
+    (bytes : List ℕ) (scenarios : List Scenario) (seed : ℕ) (outputs : List Output) → AreBytes bytes → answer bytes scenarios seed ≡ Ok outputs
     → AllByRecursion (λ o. length o.capture ≤ capture_limit → IsReadWhole o.capture) outputs

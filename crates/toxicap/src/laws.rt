@@ -34,7 +34,8 @@ pub fn byte_order_does_not_matter()
 {}
 
 /// Each capture that a rehearsal gives, where it is no longer than a capture may be, is read back as a whole file without a
-/// rest, its records in order of time: the output of one rehearsal is the input of another.
+/// rest: its records are in order of time, and each holds a TCP segment with both checksums right. So the output of one
+/// rehearsal can be the input of another.
 pub fn outputs_are_read()
     ensures { OutputsAreRead }
 {}

@@ -1,0 +1,129 @@
+-- The connections of a file of bytes: their numbers fit their fields, and their ends differ.
+use Rattle.std.proofs.Common.{◌≡◌, ◌<◌, ℕ, ◌+◌, ◌^◌, Bool, true, false, not, List, [], ◌∷◌, ◌++◌, map, filter, drop, find, Some, None, option_map, unwrap_or, Ok, refl, sym, ap, subst, arith, if◌then◌else◌}
+use Rattle.std.specs.List.{AllByRecursion, enumerate_from, zip, flat_map, filter_map, cons_option, take_while}
+use Rattle.std.proofs.lemmas.List.Sums.{take_while-cons}
+use Rattle.pcap_records.specs.Instants.{instants}
+use Rattle.pcap_records.specs.Reading.{Heading, Packet, Contents, Reading, reading}
+use Rattle.pcap_records.specs.Grammar.{Piece, Splits, spelling, packet_of_piece}
+use Rattle.pcap_records.proofs.Splitting.{readings_split}
+use Rattle.frame_headers.specs.Frame.{Kind, short, not_ipv4, bad_ipv4, fragment, not_tcp, cut, bad_tcp, same_ends, segment, kind, fields}
+use Rattle.frame_headers.proofs.FieldRanges.{FieldsFit, fields_fit, all-drop}
+use Rattle.toxicap.specs.Segments.{Timed, Seg, is_segment, seg_of, segs_of}
+use Rattle.toxicap.specs.Connections.{Conn, begins, beginnings, later_members, conn_of, conns}
+use Rattle.toxicap.specs.Positions.{server_base, effective, is_answer, is_reset, members_of, server_of}
+use Rattle.toxicap.specs.OutputCaptures.{AreBytes}
+
+-- ---- lists
+
+module _ {X : Type 0} (P : X → Type 0) where
+  all-filter : (q : X → Bool) (xs : List X) → AllByRecursion P xs → AllByRecursion P (filter q xs)
+  all-filter q [] all = tt
+  all-filter q (x ∷ xs) all = by (q x) (all-filter q xs all.1)
+    where
+      by : (b : Bool) → AllByRecursion P (filter q xs) → AllByRecursion P (if b then x ∷ filter q xs else filter q xs)
+      by true rest = (all.0, rest)
+      by false rest = rest
+
+  all-left : (xs ys : List X) → AllByRecursion P (xs ++ ys) → AllByRecursion P xs
+  all-left [] ys all = tt
+  all-left (x ∷ xs) ys all = (all.0, all-left xs ys all.1)
+
+  all-right : (xs ys : List X) → AllByRecursion P (xs ++ ys) → AllByRecursion P ys
+  all-right [] ys all = all
+  all-right (x ∷ xs) ys all = all-right xs ys all.1
+
+  all-take_while : (q : X → Bool) (xs : List X) → AllByRecursion P xs → AllByRecursion P (take_while q xs)
+  all-take_while q [] all = tt
+  all-take_while q (x ∷ xs) all = rw (take_while-cons q x xs) (by (q x) (all-take_while q xs all.1))
+    where
+      by : (b : Bool) → AllByRecursion P (take_while q xs) → AllByRecursion P (if b then x ∷ take_while q xs else [])
+      by true rest = (all.0, rest)
+      by false rest = tt
+
+-- ---- segments
+
+segment_is : (k : Kind) → is_segment k ≡ true → k ≡ segment
+segment_is short is = absurd cc
+segment_is not_ipv4 is = absurd cc
+segment_is bad_ipv4 is = absurd cc
+segment_is fragment is = absurd cc
+segment_is not_tcp is = absurd cc
+segment_is cut is = absurd cc
+segment_is bad_tcp is = absurd cc
+segment_is same_ends is = absurd cc
+segment_is segment is = refl
+
+-- ---- packets of a file of bytes
+
+abbrev pub HasBytes : Packet → Type 0
+HasBytes p = AreBytes p.bytes
+
+pieces_have : (h : Heading) (pieces : List Piece) → AreBytes (flat_map spelling pieces) → AllByRecursion HasBytes (map (packet_of_piece h) pieces)
+pieces_have h [] are = tt
+pieces_have h (p ∷ pieces) are =
+    let first : AreBytes (spelling p) = all-left (λ x. x < 256) (spelling p) (flat_map spelling pieces) are in
+    (all-right (λ x. x < 256) p.header p.packet first, pieces_have h pieces (all-right (λ x. x < 256) (spelling p) (flat_map spelling pieces) are))
+
+pub packets_have : (bytes : List ℕ) (r : Reading) → reading bytes ≡ Ok r → AreBytes bytes → AllByRecursion HasBytes r.contents.packets
+packets_have bytes r is are =
+    let split = readings_split bytes r is in
+    let pieces : List Piece = split.1 in
+    let whole : Splits split.0 (drop 24 bytes) pieces split.2 = split.3.1 in
+    let records : AreBytes (flat_map spelling pieces ++ split.2) = rw whole.whole at (all-drop (λ x. x < 256) 24 bytes are) in
+    subst (λ ps. AllByRecursion HasBytes ps) (sym (ap (λ (x : Reading). x.contents.packets) split.3.3))
+    (pieces_have split.0 pieces (all-left (λ x. x < 256) (flat_map spelling pieces) split.2 records))
+
+-- ---- segments and connections
+
+abbrev IsSoundSeg : Seg → Type 0
+IsSoundSeg s = FieldsFit s.timed.fields
+
+abbrev pub IsSoundTimed : Timed → Type 0
+IsSoundTimed t = FieldsFit t.fields
+
+segs_are : (n : ℕ) (ts : List ℕ) (ps : List Packet) → AllByRecursion HasBytes ps → AllByRecursion IsSoundSeg (filter_map seg_of (enumerate_from n (zip ts ps)))
+segs_are n [] ps have = tt
+segs_are n (t ∷ ts) [] have = tt
+segs_are n (t ∷ ts) (p ∷ ps) have = by (is_segment (kind p.bytes)) refl (segs_are (n + 1) ts ps have.1)
+  where
+    rest : List Seg
+    rest = filter_map seg_of (enumerate_from (n + 1) (zip ts ps))
+
+    by : (b : Bool) → is_segment (kind p.bytes) ≡ b → AllByRecursion IsSoundSeg rest
+        → AllByRecursion IsSoundSeg (cons_option (if b then Some (record { index = n; timed = record { at = t; fields = fields p.bytes } }) else None) rest)
+    by true is all = (fields_fit p.bytes have.0 (segment_is (kind p.bytes) is), all)
+    by false is all = all
+
+pub record IsSoundConn (c : Conn) : Type 0 where
+  pub opening : FieldsFit c.opening.fields
+  pub later : AllByRecursion IsSoundTimed c.later
+
+timed_are : (segs : List Seg) → AllByRecursion IsSoundSeg segs → AllByRecursion IsSoundTimed (map (λ s. s.timed) segs)
+timed_are [] all = tt
+timed_are (s ∷ segs) all = (all.0, timed_are segs all.1)
+
+numbered_are : (segs : List Seg) (n : ℕ) (bs : List Seg) → AllByRecursion IsSoundSeg segs → AllByRecursion IsSoundSeg bs → AllByRecursion IsSoundConn (map (conn_of segs) (enumerate_from n bs))
+numbered_are segs n [] sound all = tt
+numbered_are segs n (b ∷ bs) sound all =
+    (record { opening = all.0; later = timed_are (later_members segs b) (all-filter IsSoundSeg _ segs sound) }, numbered_are segs (n + 1) bs sound all.1)
+
+pub conns_are : (c : Contents) → AllByRecursion HasBytes c.packets → AllByRecursion IsSoundConn (conns (segs_of c))
+unfolding conns beginnings segs_of
+conns_are c have =
+    let segs : List Seg = segs_of c in
+    let sound : AllByRecursion IsSoundSeg segs = segs_are 0 (instants 0 (map (λ p. p.stamp) c.packets)) c.packets have in
+    numbered_are segs 0 (beginnings segs) sound (all-filter IsSoundSeg (begins segs) segs sound)
+
+-- the server's number, or 0
+found_fits : (q : Timed → Bool) (ms : List Timed) → AllByRecursion IsSoundTimed ms → unwrap_or (option_map (λ m. m.fields.seq) (find q ms)) 0 < 2 ^ 32
+found_fits q [] all = omega arith
+found_fits q (m ∷ ms) all = by (q m) (found_fits q ms all.1)
+  where
+    by : (b : Bool) → unwrap_or (option_map (λ m. m.fields.seq) (find q ms)) 0 < 2 ^ 32 → unwrap_or (option_map (λ m. m.fields.seq) (if b then Some m else find q ms)) 0 < 2 ^ 32
+    by true rest = all.0.seq
+    by false rest = rest
+
+pub server_base_fits : (c : Conn) → IsSoundConn c → unwrap_or (server_base c) 0 < 2 ^ 32
+unfolding server_base
+server_base_fits c is =
+    found_fits (is_answer (server_of c)) (effective (members_of c)) (all-take_while IsSoundTimed (λ m. not (is_reset m)) (members_of c) (is.opening, is.later))

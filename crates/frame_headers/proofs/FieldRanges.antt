@@ -3,38 +3,28 @@ use Rattle.std.proofs.Common.{◌≡◌, ◌≢◌, ◌<◌, ◌≤◌, ℕ, zer
 use Rattle.std.specs.List.{AllByRecursion}
 use Rattle.std.proofs.lemmas.Bool.{ltb-false}
 use Rattle.byteorder.specs.Numbers.{big_from-lt}
+use Rattle.frame_headers.specs.HeaderLaws.{SegmentsFit}
 use Rattle.frame_headers.specs.declared.ends.Peer.{Peer}
-use Rattle.frame_headers.specs.Frame.{short, not_ipv4, bad_ipv4, fragment, not_tcp, cut, bad_tcp, same_ends, segment, is_short, is_not_ipv4, is_bad_ipv4, is_fragment, is_not_tcp, is_cut, is_bad_tcp, is_same_ends, number, kind, datagram, carried, sender, receiver, header_len, total_len, SegmentFields, fields}
+use Rattle.frame_headers.specs.Frame.{short, not_ipv4, bad_ipv4, fragment, not_tcp, cut, bad_tcp, same_ends, segment, is_short, is_not_ipv4, is_bad_ipv4, is_fragment, is_not_tcp, is_cut, is_bad_tcp, is_same_ends, number, kind, datagram, carried, sender, receiver, header_len, total_len, fields}
 
 module _ {X : Type 0} (P : X → Type 0) where
-  pub all-take : (n : ℕ) (xs : List X) → AllByRecursion P xs → AllByRecursion P (take n xs)
+  all-take : (n : ℕ) (xs : List X) → AllByRecursion P xs → AllByRecursion P (take n xs)
   all-take zero xs all = tt
   all-take (suc n) [] all = tt
   all-take (suc n) (x ∷ xs) all = (all.0, all-take n xs all.1)
 
-  pub all-drop : (n : ℕ) (xs : List X) → AllByRecursion P xs → AllByRecursion P (drop n xs)
+  all-drop : (n : ℕ) (xs : List X) → AllByRecursion P xs → AllByRecursion P (drop n xs)
   all-drop zero xs all = all
   all-drop (suc n) [] all = tt
   all-drop (suc n) (x ∷ xs) all = all-drop n xs all.1
 
-abbrev pub IsByte : ℕ → Type 0
+abbrev IsByte : ℕ → Type 0
 IsByte x = x < 256
 
 byte_at : (xs : List ℕ) → AllByRecursion IsByte xs → (k : ℕ) → slice_index xs k < 256
 byte_at [] are k = omega arith
 byte_at (x ∷ xs) are zero = are.0
 byte_at (x ∷ xs) are (suc k) = byte_at xs are.1 k
-
--- what a segment's fields have to be for headers to hold them
-pub record FieldsFit (f : SegmentFields) : Type 0 where
-  pub mac_from : length f.mac_from ≡ 6
-  pub mac_to : length f.mac_to ≡ 6
-  pub from_addr : f.from.addr < 2 ^ 32
-  pub from_port : f.from.port < 2 ^ 16
-  pub to_addr : f.to.addr < 2 ^ 32
-  pub to_port : f.to.port < 2 ^ 16
-  pub seq : f.seq < 2 ^ 32
-  pub differ : f.from ≢ f.to
 
 -- of a segment neither the first test holds nor the last
 tests : (a b c d e f g h : Bool)
@@ -56,9 +46,9 @@ differs a b test same = true≢false (sym (itself b) ∙ rw same at test)
     itself : (p : Peer) → (p.addr == p.addr && p.port == p.port) ≡ true
     itself p = search rules
 
-pub fields_fit : (frame : List ℕ) → AllByRecursion IsByte frame → kind frame ≡ segment → FieldsFit (fields frame)
+pub segments_fit : SegmentsFit
 unfolding fields kind
-fields_fit frame are is =
+segments_fit frame are is =
     let told = tests (is_short frame) (is_not_ipv4 frame) (is_bad_ipv4 (datagram frame)) (is_fragment (datagram frame)) (is_not_tcp (datagram frame)) (is_cut (datagram frame)) (is_bad_tcp (carried (datagram frame))) (is_same_ends (datagram frame)) is in
     let long : 14 ≤ length frame = ltb-false (length frame) 14 told.0 in
     let ip : List ℕ = datagram frame in

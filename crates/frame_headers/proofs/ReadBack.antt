@@ -5,7 +5,7 @@ use Rattle.byteorder.specs.Endian.{big_bytes}
 use Rattle.byteorder.specs.Numbers.{big_number-reads_back}
 use Rattle.frame_headers.specs.Frame.{number, datagram, carried, kind, fields, segment, is_short, is_not_ipv4, is_bad_ipv4, is_fragment, is_not_tcp, is_cut, is_bad_tcp, is_same_ends}
 use Rattle.frame_headers.specs.Headers.{headers, ipv4, tcp}
-use Rattle.frame_headers.specs.HeaderLaws.{IsHeader, IsReadBack, SumsToNothing, fields_with}
+use Rattle.frame_headers.specs.HeaderLaws.{IsHeader, IsReadBack, SumsToNothing, fields_with, HeadersAreSound}
 use Rattle.frame_headers.specs.declared.ends.Peer.{Peer}
 use Rattle.frame_headers.specs.declared.written.Header.{Header}
 use Rattle.frame_headers.proofs.FilledSums.{sum16-ipv4, tcp_sum-tcp}
@@ -144,3 +144,6 @@ pub length-headers : (h : Header) (bytes : List ℕ) → IsHeader h → length b
 length-headers h bytes r small =
     let at = reads h bytes r small in
     omega (arith, at.len, length-append (headers h bytes) bytes)
+
+pub headers_are_sound : HeadersAreSound
+headers_are_sound h bytes is small = (length-headers h bytes is small, sums_filled h bytes is small, read_back h bytes is small)

@@ -1,6 +1,8 @@
 -- What holds of written headers: their checksums are filled, and their fields are read back.
-use Rattle.std.specs.Prelude.{◌≡◌, ◌≢◌, ℕ, ◌<◌, ◌^◌, List, length, drop, slice_range}
+use Rattle.std.specs.Prelude.{◌≡◌, ◌≢◌, ℕ, ◌<◌, ◌≤◌, ◌^◌, List, ◌++◌, length, drop, slice_range}
+use Rattle.std.specs.List.{AllByRecursion}
 use Rattle.frame_headers.specs.Frame.{SegmentFields, kind, fields, segment}
+use Rattle.frame_headers.specs.Headers.{headers}
 use Rattle.frame_headers.specs.Sum.{sum16, tcp_sum}
 use Rattle.frame_headers.specs.declared.written.Header.{Header}
 
@@ -39,3 +41,25 @@ pub record SumsToNothing (h : Header) (frame : List ℕ) : Type 0 where
 pub record IsReadBack (h : Header) (bytes frame : List ℕ) : Type 0 where
   pub fields : fields frame ≡ fields_with h bytes
   pub class : h.from ≢ h.to → kind frame ≡ segment
+
+-- ---- laws
+
+-- headers that are written before a payload: 54 bytes, whose checksums are filled and whose fields are read back
+abbrev pub HeadersAreSound : Type 0
+HeadersAreSound =
+    (h : Header) (bytes : List ℕ) → IsHeader h → length bytes ≤ 1460
+    → (length (headers h bytes) ≡ 54) × SumsToNothing h (headers h bytes ++ bytes) × IsReadBack h bytes (headers h bytes ++ bytes)
+
+-- the fields of a captured segment fit their places in written headers, and its ends differ
+pub record FieldsFit (f : SegmentFields) : Type 0 where
+  pub mac_from : length f.mac_from ≡ 6
+  pub mac_to : length f.mac_to ≡ 6
+  pub from_addr : f.from.addr < 2 ^ 32
+  pub from_port : f.from.port < 2 ^ 16
+  pub to_addr : f.to.addr < 2 ^ 32
+  pub to_port : f.to.port < 2 ^ 16
+  pub seq : f.seq < 2 ^ 32
+  pub differ : f.from ≢ f.to
+
+abbrev pub SegmentsFit : Type 0
+SegmentsFit = (frame : List ℕ) → AllByRecursion (λ b. b < 256) frame → kind frame ≡ segment → FieldsFit (fields frame)

@@ -1,5 +1,4 @@
-// Which class a captured frame has, and the fields of the TCP segment in it.
-
+//! Which class a captured frame has, and the fields of the TCP segment in it.
 ghost use Rattle.std.specs.Prelude.{◌≡◌, ◌+◌, ◌≤◌, length, slice_range};
 ghost use Rattle.frame_headers.specs.Class.{kind_of, SegmentIs, fields_of};
 ghost use Rattle.frame_headers.specs.Frame.{kind, fields, datagram, header_len, total_len, is_not_ipv4, is_bad_ipv4, is_fragment, is_bad_tcp, carried, data_offset};

@@ -1,4 +1,4 @@
-// The two ends of a TCP connection.
+//! The two ends of a TCP connection.
 
 /// One end of a TCP connection: an IPv4 address and a TCP port. `10.0.0.1` is the address `0x0a00_0001`.
 #[derive(Clone, Copy, Debug, PartialEq, Eq, PartialOrd, Ord, Hash)]

@@ -1,5 +1,4 @@
-// The flags byte of a TCP header.
-
+//! The flags byte of a TCP header.
 ghost use Rattle.std.specs.Prelude.{◌≡◌, ℕ, bit_or};
 ghost use Rattle.frame_headers.specs.Flags.{has_flag};
 

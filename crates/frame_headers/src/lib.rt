@@ -1,10 +1,11 @@
-// The headers of captured Ethernet frames: what class a frame has, the fields of the TCP segment in it, Internet
-// checksums, and the headers of frames that are written.
+//! The headers of captured Ethernet frames: what class a frame has, the fields of the TCP segment in it, Internet
+//! checksums, and the headers of frames that are written.
 #![tactic(auto)]
 
 mod classes;
 mod ends;
 mod flag_bits;
+pub mod laws;
 mod sums;
 mod written;
 

@@ -1,5 +1,4 @@
-// Internet checksums.
-
+//! Internet checksums.
 ghost use Rattle.std.specs.Prelude.{◌≡◌, ◌+◌, ◌≤◌, length};
 ghost use Rattle.frame_headers.specs.Sum.{folded, words_sum, sum16, tcp_sum};
 

@@ -1,6 +1,5 @@
-// Frames and sums from outside: frames of a session that were made, and their sums computed, apart from this crate, RFC
-// 1071's own example, and values worked by hand.
-
+//! Frames and sums from outside: frames of a session that were made, and their sums computed, apart from this crate, RFC
+//! 1071's own example, and values worked by hand.
 ghost use Rattle.std.specs.Prelude.{◌≤◌, length};
 
 use super::*;

@@ -1,5 +1,4 @@
-// The headers of frames that are written.
-
+//! The headers of frames that are written.
 ghost use Rattle.std.specs.Prelude.{◌≡◌, ℕ, ◌+◌, ◌≤◌, ◌++◌, length, drop};
 ghost use Rattle.frame_headers.specs.HeaderLaws.{IsHeader, IsReadBack, SumsToNothing};
 ghost use Rattle.frame_headers.specs.Headers.{ethernet, headers, ipv4, ipv4_lengths, ipv4_route, ipv4_with, tcp, tcp_numbers, tcp_state, tcp_with};

@@ -1,16 +1,15 @@
 -- The segments of a capture, one packet at a time.
 use Rattle.std.proofs.Common.{◌≡◌, ◌<◌, ◌≤◌, ℕ, ◌+◌, ◌-◌, List, [], ◌∷◌, ◌++◌, length, map, drop, get_or, Some, None, option_map, Bool, true, false, refl, ◌∙◌, arith, if◌then◌else◌}
-use Rattle.std.specs.List.{filter_map, enumerate_from}
+use Rattle.std.specs.List.{filter_map, enumerate_from, range_with_len}
 use Rattle.std.specs.Prelude.{slice_get}
 use Rattle.std.specs.List.{cons_option}
 use Rattle.std.proofs.lemmas.List.{append-nil, append_assoc, drop_more, drop_all, take_all, length-map, get_or_read}
-use Rattle.std.proofs.lemmas.List.FromFn.{length-enumerate_from, get_or-enumerate_from}
+use Rattle.std.proofs.lemmas.List.FromFn.{length-range_with_len, length-enumerate_from, get_or-enumerate_from}
 use Rattle.std.proofs.lemmas.Slice.Zip.{length-zip, get_or-zip}
 use Rattle.std.proofs.lemmas.Option.{slice_get-get_or}
-use Rattle.pcap_records.specs.Instants.{instants}
+use Rattle.pcap_records.specs.Instants.{greatest_so_far, instants}
 use Rattle.pcap_records.specs.Reading.{Packet, Contents}
 use Rattle.pcap_records.specs.Captured.{Captured, contents_of, packet_of, stamps_between}
-use Rattle.pcap_records.proofs.Running.{length-instants}
 use Rattle.frame_headers.specs.Frame.{kind, segment, fields, SegmentFields}
 use Rattle.frame_headers.specs.Class.{kind_of}
 use Rattle.frame_headers.specs.declared.classes.Class.{Class}
@@ -19,6 +18,10 @@ use Rattle.frame_headers.specs.declared.classes.Segment.{Segment}
 use Rattle.toxicap.specs.declared.heads.Head.{Head}
 use Rattle.toxicap.specs.Segments.{is_segment, seg_of, segs_of, timed_packets}
 use Rattle.toxicap.specs.Heads.{head_of, head_with}
+
+length-instants : (carry : ℕ) (stamps : List ℕ) → length (instants carry stamps) ≡ length stamps
+unfolding instants
+length-instants carry stamps = length-map (range_with_len 0 (length stamps)) (greatest_so_far carry stamps) ∙ length-range_with_len 0 (length stamps)
 
 abbrev pub all_packets : Contents → List (ℕ × (ℕ × Packet))
 all_packets c = enumerate_from 0 (timed_packets c)

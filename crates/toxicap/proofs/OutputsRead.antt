@@ -7,9 +7,9 @@ use Rattle.pcap_records.specs.declared.fault.CaptureFault.TheVariants.{CaptureTo
 use Rattle.pcap_records.specs.declared.order.Order.TheVariants.{Big, Little}
 use Rattle.pcap_records.specs.Instants.{microseconds}
 use Rattle.pcap_records.specs.Reading.{Heading, Packet, Contents, Reading, capture_limit, in_microseconds, number, magic, checked, header, reading}
-use Rattle.pcap_records.specs.Writing.{file_header, record_bytes, capture_with, IsWritable}
-use Rattle.pcap_records.proofs.ReadingBack.{written_is_read}
-use Rattle.pcap_records.proofs.Splitting.{readings_split}
+use Rattle.pcap_records.specs.Writing.{file_header, record_bytes, capture_with, IsWritable, WrittenIsRead}
+use Rattle.pcap_records.specs.Grammar.{ReadingsSplit}
+use Rattle.frame_headers.specs.HeaderLaws.{HeadersAreSound, SegmentsFit}
 use Rattle.toxicap.specs.declared.faults.RunFault.TheVariants.{TooManyScenarios}
 use Rattle.toxicap.specs.declared.framed.Framed.{Framed}
 use Rattle.toxicap.specs.declared.scenario.Scenario.{Scenario}
@@ -70,9 +70,9 @@ unfolding packets_of packet_with
 sound [] all = tt
 sound (x ∷ xs) all = (all.0.is.sound, sound xs all.1)
 
-capture_read : (xs : List Framed) → AllByRecursion IsWritten xs → length (capture_of xs) ≤ capture_limit → IsReadWhole (capture_of xs)
+capture_read : WrittenIsRead → (xs : List Framed) → AllByRecursion IsWritten xs → length (capture_of xs) ≤ capture_limit → IsReadWhole (capture_of xs)
 unfolding capture_of
-capture_read xs written within =
+capture_read written_is_read xs written within =
     let all = all-in_order xs written in
     let packets : List Packet = packets_of (in_order xs) all in
     let bytes : file_header ++ flat_map (λ x. x.bytes) (in_order xs) ≡ capture_with packets = ap (λ bs. file_header ++ bs) (bytes_are (in_order xs) all) in
@@ -89,19 +89,19 @@ talk_is c is d = record {
   server_base = server_base_fits c is;
 }
 
-parts_are : (seed : ℕ) (scenario : ℕ × Scenario) (cs : List Conn) → AllByRecursion IsSoundConn cs → AllByRecursion IsWritten (flat_map (λ p. p.segments) (map (part_of microseconds seed scenario) cs))
+parts_are : HeadersAreSound → (seed : ℕ) (scenario : ℕ × Scenario) (cs : List Conn) → AllByRecursion IsSoundConn cs → AllByRecursion IsWritten (flat_map (λ p. p.segments) (map (part_of microseconds seed scenario) cs))
 unfolding part
-parts_are seed scenario [] all = tt
-parts_are seed (number, scenario) (c ∷ cs) all = all-append IsWritten _ _ (segments_are _ (talk_is c all.0 (delivered microseconds (met_of (server_of c) scenario) (recorded c)))) (parts_are seed (number, scenario) cs all.1)
+parts_are sound_headers seed scenario [] all = tt
+parts_are sound_headers seed (number, scenario) (c ∷ cs) all = all-append IsWritten _ _ (segments_are sound_headers _ (talk_is c all.0 (delivered microseconds (met_of (server_of c) scenario) (recorded c)))) (parts_are sound_headers seed (number, scenario) cs all.1)
 
-outputs_read : (c : Contents) → c.ticks ≡ microseconds → AllByRecursion HasBytes c.packets → (seed n : ℕ) (scenarios : List Scenario)
+outputs_read : WrittenIsRead → HeadersAreSound → SegmentsFit → (c : Contents) → c.ticks ≡ microseconds → AllByRecursion HasBytes c.packets → (seed n : ℕ) (scenarios : List Scenario)
     → AllByRecursion (λ o. length o.capture ≤ capture_limit → IsReadWhole o.capture) (map (output c seed) (enumerate_from n scenarios))
 unfolding output
-outputs_read c counted have seed n [] = tt
-outputs_read c counted have seed n (s ∷ scenarios) =
+outputs_read written_is_read sound_headers fit c counted have seed n [] = tt
+outputs_read written_is_read sound_headers fit c counted have seed n (s ∷ scenarios) =
     let all : AllByRecursion IsWritten (flat_map (λ p. p.segments) (parts c seed (n, s))) =
-    subst (λ ticks. AllByRecursion IsWritten (flat_map (λ p. p.segments) (map (part_of ticks seed (n, s)) (conns (segs_of c))))) (sym counted) (parts_are seed (n, s) (conns (segs_of c)) (conns_are c have)) in
-    (capture_read _ all, outputs_read c counted have seed (n + 1) scenarios)
+    subst (λ ticks. AllByRecursion IsWritten (flat_map (λ p. p.segments) (map (part_of ticks seed (n, s)) (conns (segs_of c))))) (sym counted) (parts_are sound_headers seed (n, s) (conns (segs_of c)) (conns_are fit c have)) in
+    (capture_read written_is_read _ all, outputs_read written_is_read sound_headers fit c counted have seed (n + 1) scenarios)
 
 -- ---- a file that is read counts microseconds
 
@@ -126,14 +126,14 @@ header_ticks bytes h is = by (nat_lt capture_limit (length bytes)) (nat_lt (leng
     by false false false true is = checked_ticks (in_microseconds Little) h bytes refl is
     by false false false false is = absurd cc
 
-reading_ticks : (bytes : List ℕ) (r : Reading) → reading bytes ≡ Ok r → r.contents.ticks ≡ microseconds
-reading_ticks bytes r is =
+reading_ticks : ReadingsSplit → (bytes : List ℕ) (r : Reading) → reading bytes ≡ Ok r → r.contents.ticks ≡ microseconds
+reading_ticks readings_split bytes r is =
     let split = readings_split bytes r is in
     ap (λ (x : Reading). x.contents.ticks) split.3.3 ∙ header_ticks bytes split.0 split.3.0
 
-pub outputs_are_read : OutputsAreRead
+pub outputs_are_read : ReadingsSplit → WrittenIsRead → HeadersAreSound → SegmentsFit → OutputsAreRead
 unfolding answer out
-outputs_are_read bytes scenarios seed outputs are is = by (nat_lt scenario_limit (length scenarios)) (reading bytes) refl is
+outputs_are_read readings_split written_is_read sound_headers fit bytes scenarios seed outputs are is = by (nat_lt scenario_limit (length scenarios)) (reading bytes) refl is
   where
     by : (over : Bool) (read : Result Reading CaptureFault) → reading bytes ≡ read
         → (if over then Err TooManyScenarios else outcome read scenarios seed) ≡ Ok outputs
@@ -142,4 +142,4 @@ outputs_are_read bytes scenarios seed outputs are is = by (nat_lt scenario_limit
     by false (Err f) is answered = absurd cc
     by false (Ok r) is answered =
         let same : out r.contents scenarios seed ≡ outputs = cc in
-        subst (λ os. AllByRecursion (λ o. length o.capture ≤ capture_limit → IsReadWhole o.capture) os) same (outputs_read r.contents (reading_ticks bytes r is) (packets_have bytes r is are) seed 0 scenarios)
+        subst (λ os. AllByRecursion (λ o. length o.capture ≤ capture_limit → IsReadWhole o.capture) os) same (outputs_read written_is_read sound_headers fit r.contents (reading_ticks readings_split bytes r is) (packets_have readings_split bytes r is are) seed 0 scenarios)

@@ -1,13 +1,12 @@
 -- The connections of a file of bytes: their numbers fit their fields, and their ends differ.
-use Rattle.std.proofs.Common.{◌≡◌, ◌<◌, ℕ, ◌+◌, ◌^◌, Bool, true, false, not, List, [], ◌∷◌, ◌++◌, map, filter, drop, find, Some, None, option_map, unwrap_or, Ok, refl, sym, ap, subst, arith, if◌then◌else◌}
+use Rattle.std.proofs.Common.{◌≡◌, ◌<◌, ℕ, zero, suc, ◌+◌, ◌^◌, Bool, true, false, not, List, [], ◌∷◌, ◌++◌, map, filter, drop, find, Some, None, option_map, unwrap_or, Ok, refl, sym, ap, subst, arith, if◌then◌else◌}
 use Rattle.std.specs.List.{AllByRecursion, enumerate_from, zip, flat_map, filter_map, cons_option, take_while}
 use Rattle.std.proofs.lemmas.List.Sums.{take_while-cons}
 use Rattle.pcap_records.specs.Instants.{instants}
 use Rattle.pcap_records.specs.Reading.{Heading, Packet, Contents, Reading, reading}
-use Rattle.pcap_records.specs.Grammar.{Piece, Splits, spelling, packet_of_piece}
-use Rattle.pcap_records.proofs.Splitting.{readings_split}
+use Rattle.pcap_records.specs.Grammar.{Piece, Splits, spelling, packet_of_piece, ReadingsSplit}
 use Rattle.frame_headers.specs.Frame.{Kind, short, not_ipv4, bad_ipv4, fragment, not_tcp, cut, bad_tcp, same_ends, segment, kind, fields}
-use Rattle.frame_headers.proofs.FieldRanges.{FieldsFit, fields_fit, all-drop}
+use Rattle.frame_headers.specs.HeaderLaws.{FieldsFit, SegmentsFit}
 use Rattle.toxicap.specs.Segments.{Timed, Seg, is_segment, seg_of, segs_of}
 use Rattle.toxicap.specs.Connections.{Conn, begins, beginnings, later_members, conn_of, conns}
 use Rattle.toxicap.specs.Positions.{server_base, effective, is_answer, is_reset, members_of, server_of}
@@ -23,6 +22,11 @@ module _ {X : Type 0} (P : X → Type 0) where
       by : (b : Bool) → AllByRecursion P (filter q xs) → AllByRecursion P (if b then x ∷ filter q xs else filter q xs)
       by true rest = (all.0, rest)
       by false rest = rest
+
+  all-drop : (n : ℕ) (xs : List X) → AllByRecursion P xs → AllByRecursion P (drop n xs)
+  all-drop zero xs all = all
+  all-drop (suc n) [] all = tt
+  all-drop (suc n) (x ∷ xs) all = all-drop n xs all.1
 
   all-left : (xs ys : List X) → AllByRecursion P (xs ++ ys) → AllByRecursion P xs
   all-left [] ys all = tt
@@ -64,8 +68,8 @@ pieces_have h (p ∷ pieces) are =
     let first : AreBytes (spelling p) = all-left (λ x. x < 256) (spelling p) (flat_map spelling pieces) are in
     (all-right (λ x. x < 256) p.header p.packet first, pieces_have h pieces (all-right (λ x. x < 256) (spelling p) (flat_map spelling pieces) are))
 
-pub packets_have : (bytes : List ℕ) (r : Reading) → reading bytes ≡ Ok r → AreBytes bytes → AllByRecursion HasBytes r.contents.packets
-packets_have bytes r is are =
+pub packets_have : ReadingsSplit → (bytes : List ℕ) (r : Reading) → reading bytes ≡ Ok r → AreBytes bytes → AllByRecursion HasBytes r.contents.packets
+packets_have readings_split bytes r is are =
     let split = readings_split bytes r is in
     let pieces : List Piece = split.1 in
     let whole : Splits split.0 (drop 24 bytes) pieces split.2 = split.3.1 in
@@ -81,17 +85,17 @@ IsSoundSeg s = FieldsFit s.timed.fields
 abbrev pub IsSoundTimed : Timed → Type 0
 IsSoundTimed t = FieldsFit t.fields
 
-segs_are : (n : ℕ) (ts : List ℕ) (ps : List Packet) → AllByRecursion HasBytes ps → AllByRecursion IsSoundSeg (filter_map seg_of (enumerate_from n (zip ts ps)))
-segs_are n [] ps have = tt
-segs_are n (t ∷ ts) [] have = tt
-segs_are n (t ∷ ts) (p ∷ ps) have = by (is_segment (kind p.bytes)) refl (segs_are (n + 1) ts ps have.1)
+segs_are : SegmentsFit → (n : ℕ) (ts : List ℕ) (ps : List Packet) → AllByRecursion HasBytes ps → AllByRecursion IsSoundSeg (filter_map seg_of (enumerate_from n (zip ts ps)))
+segs_are fit n [] ps have = tt
+segs_are fit n (t ∷ ts) [] have = tt
+segs_are fit n (t ∷ ts) (p ∷ ps) have = by (is_segment (kind p.bytes)) refl (segs_are fit (n + 1) ts ps have.1)
   where
     rest : List Seg
     rest = filter_map seg_of (enumerate_from (n + 1) (zip ts ps))
 
     by : (b : Bool) → is_segment (kind p.bytes) ≡ b → AllByRecursion IsSoundSeg rest
         → AllByRecursion IsSoundSeg (cons_option (if b then Some (record { index = n; timed = record { at = t; fields = fields p.bytes } }) else None) rest)
-    by true is all = (fields_fit p.bytes have.0 (segment_is (kind p.bytes) is), all)
+    by true is all = (fit p.bytes have.0 (segment_is (kind p.bytes) is), all)
     by false is all = all
 
 pub record IsSoundConn (c : Conn) : Type 0 where
@@ -107,11 +111,11 @@ numbered_are segs n [] sound all = tt
 numbered_are segs n (b ∷ bs) sound all =
     (record { opening = all.0; later = timed_are (later_members segs b) (all-filter IsSoundSeg _ segs sound) }, numbered_are segs (n + 1) bs sound all.1)
 
-pub conns_are : (c : Contents) → AllByRecursion HasBytes c.packets → AllByRecursion IsSoundConn (conns (segs_of c))
+pub conns_are : SegmentsFit → (c : Contents) → AllByRecursion HasBytes c.packets → AllByRecursion IsSoundConn (conns (segs_of c))
 unfolding conns beginnings segs_of
-conns_are c have =
+conns_are fit c have =
     let segs : List Seg = segs_of c in
-    let sound : AllByRecursion IsSoundSeg segs = segs_are 0 (instants 0 (map (λ p. p.stamp) c.packets)) c.packets have in
+    let sound : AllByRecursion IsSoundSeg segs = segs_are fit 0 (instants 0 (map (λ p. p.stamp) c.packets)) c.packets have in
     numbered_are segs 0 (beginnings segs) sound (all-filter IsSoundSeg (begins segs) segs sound)
 
 -- the server's number, or 0

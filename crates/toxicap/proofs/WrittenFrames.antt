@@ -6,9 +6,8 @@ use Rattle.pcap_records.specs.Instants.{microseconds, horizon}
 use Rattle.pcap_records.specs.Reading.{packet_limit}
 use Rattle.pcap_records.specs.Writing.{record_bytes}
 use Rattle.frame_headers.specs.Flags
-use Rattle.frame_headers.specs.HeaderLaws.{IsHeader}
+use Rattle.frame_headers.specs.HeaderLaws.{IsHeader, HeadersAreSound}
 use Rattle.frame_headers.specs.Headers.{headers}
-use Rattle.frame_headers.proofs.ReadBack.{read_back, sums_filled, length-headers}
 use Rattle.frame_headers.specs.declared.written.Header.{Header}
 use Rattle.toxicap.specs.declared.framed.Framed.{Framed}
 use Rattle.toxicap.specs.Recorded.{Cell, End, live, fin, close, reset}
@@ -43,7 +42,7 @@ pub record IsSaid (s : Said) : Type 0 where
   pub ack : s.ack < 2 ^ 32
   pub flags : s.flags < 2 ^ 8
 
-module _ (from to : Host) (is_from : IsHost from) (is_to : IsHost to) (differ : from.peer ≢ to.peer) where
+module _ (sound : HeadersAreSound) (from to : Host) (is_from : IsHost from) (is_to : IsHost to) (differ : from.peer ≢ to.peer) where
   framed_is : (conn turn place : ℕ) (s : Said) → IsSaid s → IsRecord (framed microseconds conn turn from to (place, s))
   unfolding frame
   framed_is conn turn place s said =
@@ -59,11 +58,12 @@ module _ (from to : Host) (is_from : IsHost from) (is_to : IsHost to) (differ : 
         ack = said.ack;
         flags = said.flags;
       } in
-      let read = read_back h s.payload is said.short in
-      let sums = sums_filled h s.payload is said.short in
+      let written = sound h s.payload is said.short in
+      let sums = written.1 in
+      let read = written.2 in
       record {
         frame = frame from to s;
-        limited = omega (arith, length-append (headers h s.payload) s.payload, length-headers h s.payload is said.short, said.short);
+        limited = omega (arith, length-append (headers h s.payload) s.payload, written.0, said.short);
         sound = (read.class differ, sums.ipv4, rw read.fields sums.tcp);
         bytes = refl;
       }
@@ -139,12 +139,12 @@ pub record IsTalk (t : Talk) : Type 0 where
   pub client_base : t.client.base < 2 ^ 32
   pub server_base : t.server.base < 2 ^ 32
 
-module _ (t : Talk) (is : IsTalk t) where
+module _ (sound : HeadersAreSound) (t : Talk) (is : IsTalk t) where
   by_client_is : (turn place : ℕ) (s : Said) → IsSaid s → IsRecord (by_client microseconds t turn (place, s))
-  by_client_is turn place s said = framed_is t.client.host t.server.host is.client is.server is.differ t.number turn place s said
+  by_client_is turn place s said = framed_is sound t.client.host t.server.host is.client is.server is.differ t.number turn place s said
 
   by_server_is : (turn place : ℕ) (s : Said) → IsSaid s → IsRecord (by_server microseconds t turn (place, s))
-  by_server_is turn place s said = framed_is t.server.host t.client.host is.server is.client (λ same. is.differ (sym same)) t.number turn place s said
+  by_server_is turn place s said = framed_is sound t.server.host t.client.host is.server is.client (λ same. is.differ (sym same)) t.number turn place s said
 
   opening_is : (refused : Bool) → AllByRecursion IsRecord (opening_by refused microseconds t)
   opening_is false = (
@@ -186,11 +186,11 @@ unfolding in_order
 all-in_order [] all = tt
 all-in_order (x ∷ xs) all = all-placed x (in_order xs) all.0 (all-in_order xs all.1)
 
-pub segments_are : (t : Talk) → IsTalk t → AllByRecursion IsWritten (segments microseconds t)
+pub segments_are : HeadersAreSound → (t : Talk) → IsTalk t → AllByRecursion IsWritten (segments microseconds t)
 unfolding segments
-segments_are t is =
-    let up = turn_is t.client.host t.server.host is.client is.server is.differ t.number 1 0 (said_by t.client t.server) (said_is t.client t.server) in
-    let down = turn_is t.server.host t.client.host is.server is.client (λ same. is.differ (sym same)) t.number 2 0 (said_by t.server t.client) (said_is t.server t.client) in
+segments_are sound t is =
+    let up = turn_is sound t.client.host t.server.host is.client is.server is.differ t.number 1 0 (said_by t.client t.server) (said_is t.client t.server) in
+    let down = turn_is sound t.server.host t.client.host is.server is.client (λ same. is.differ (sym same)) t.number 2 0 (said_by t.server t.client) (said_is t.server t.client) in
     let lines = all-append IsRecord (opening_by t.refused microseconds t ++ up_turn microseconds t) (down_turn microseconds t)
-    (all-append IsRecord (opening_by t.refused microseconds t) (up_turn microseconds t) (opening_is t is t.refused) up) down in
+    (all-append IsRecord (opening_by t.refused microseconds t) (up_turn microseconds t) (opening_is sound t is t.refused) up) down in
     all-in_order _ (kept_in_time _ lines)

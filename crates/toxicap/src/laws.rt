@@ -1,9 +1,13 @@
-//! Theorems about the definitions of this crate. Each function does nothing: its contract is the theorem.
+//! Theorems about the definitions of this crate. Each function does nothing, or names the theorems that it stands on: its
+//! contract is the theorem.
 ghost use Rattle.toxicap.specs.Connections.{GroupingsAgree};
 ghost use Rattle.toxicap.specs.Dumps.{ReadsBack};
 ghost use Rattle.toxicap.specs.KeyOrder.{PartsAreOrderedFirst, RisingIsInOrder};
 ghost use Rattle.toxicap.specs.OutputCaptures.{OutputsAreRead};
 ghost use Rattle.toxicap.specs.Rehearsal.{ByteOrderDoesNotMatter};
+
+use frame_headers::laws::{headers_are_sound, segments_fit};
+use pcap_records::laws::{readings_split, written_is_read};
 
 /// For every capture, filtering the list of its segments and reading it in turn give the same beginnings, the same
 /// connections with the same segments, and the same number of unopened segments.
@@ -38,4 +42,9 @@ pub fn byte_order_does_not_matter()
 /// rehearsal can be the input of another.
 pub fn outputs_are_read()
     ensures { OutputsAreRead }
-{}
+{
+    readings_split();
+    written_is_read();
+    headers_are_sound();
+    segments_fit();
+}

@@ -4,11 +4,13 @@ ghost use Rattle.std.specs.List.{flat_map};
 ghost use Rattle.pcap_records.specs.Captured.{contents_of};
 ghost use Rattle.toxicap.specs.OpeningWritten.{opening_segments};
 ghost use Rattle.toxicap.specs.Merged.{capture_of};
-ghost use Rattle.toxicap.specs.Texts.{report_of};
+ghost use Rattle.toxicap.specs.Texts.{counts_of, report_of};
 ghost use Rattle.toxicap.specs.BareParts.{bare_line, bare_output};
 ghost use Rattle.toxicap.specs.Rehearsal.{out};
 
 use crate::bare_lines::{bare_line, connections_line};
+use crate::class_counts::ClassCounts;
+use crate::counting::count_classes;
 use crate::counts_text::counts_line;
 use crate::framed::Framed;
 use crate::head_list::list_heads;
@@ -52,15 +54,17 @@ fn capture_bytes(alloc: Global, segments: Vec<Framed>) -> Result<Vec<u8>, AllocE
 fn report_bytes(
     alloc: Global,
     capture: &Capture<'_>,
+    counts: ClassCounts,
     number: u32,
     opened: &[Opened],
     unopened: usize,
 ) -> Result<Vec<u8>, AllocError>
+    requires { counts ≡ counts_of (contents_of capture.now).packets }
     ensures { IfOk result (λ bytes. bytes.items ≡ report_of number (contents_of capture.now) unopened (map bare_line opened.now)) }
 {
     let mut bytes = Vec::new(alloc);
-    let counts = counts_line(alloc, number, capture)?;
-    bytes.extend_from_slice(counts.as_bytes())?;
+    let first = counts_line(alloc, number, capture, counts)?;
+    bytes.extend_from_slice(first.as_bytes())?;
     let connections = connections_line(alloc, opened.len(), unopened)?;
     bytes.extend_from_slice(connections.as_bytes())?;
     for connection in opened {
@@ -75,13 +79,15 @@ fn report_bytes(
 fn bare_output(
     alloc: Global,
     capture: &Capture<'_>,
+    counts: ClassCounts,
     number: u32,
     opened: &[Opened],
     unopened: usize,
 ) -> Result<Output, AllocError>
+    requires { counts ≡ counts_of (contents_of capture.now).packets }
     ensures { IfOk result (λ output. output ≡ bare_output (contents_of capture.now) opened.now unopened number) }
 {
-    let report = report_bytes(alloc, capture, number, opened, unopened)?;
+    let report = report_bytes(alloc, capture, counts, number, opened, unopened)?;
     let capture = capture_bytes(alloc, segments(alloc, opened)?)?;
     Ok(Output {
         capture: Values::of(capture),
@@ -101,9 +107,11 @@ pub(crate) fn bare_outputs(
     let heads = list_heads(alloc, capture)?;
     let found = find_beginnings(alloc, &heads)?;
     let opened = list_opened(alloc, &heads, &found.begun)?;
+    let counts = count_classes(capture);
     let mut outputs = Vec::new(alloc);
     for number in 0..scenarios.len() {
-        outputs.push(bare_output(alloc, capture, number as u32, &opened, found.unopened)?)?;
+        let number = number as u32;
+        outputs.push(bare_output(alloc, capture, counts, number, &opened, found.unopened)?)?;
     }
     Ok(outputs)
 }

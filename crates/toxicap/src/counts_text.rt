@@ -3,31 +3,26 @@ ghost use Rattle.std.specs.Prelude.{◌≡◌, ◌++◌, IfOk, OnOk};
 ghost use Rattle.std.specs.String.{string_bytes};
 ghost use Rattle.std.specs.Fmt.{decimal};
 ghost use Rattle.pcap_records.specs.Captured.{contents_of};
-ghost use Rattle.toxicap.specs.Texts.{counts_line, counts_text, first_classes_text, other_classes_text};
+ghost use Rattle.toxicap.specs.Texts.{counts_line, counts_of, counts_text, first_classes_text, other_classes_text};
 
 use crate::class_counts::ClassCounts;
-use crate::counting::count_classes;
 use pcap_records::Capture;
 use std::alloc::{AllocError, Global};
 
 /// The first line of a report, with its line feed: the scenario's number, how many whole records the
 /// capture has and how many bytes follow them, and how many packets are of each class.
 #[tactic(auto, unfolding(crate::specs::Texts::counts_line))]
-pub fn counts_line(
+pub(crate) fn counts_line(
     alloc: Global,
     scenario: u32,
     capture: &Capture<'_>,
+    counts: ClassCounts,
 ) -> Result<String, AllocError>
+    requires { counts ≡ counts_of (contents_of capture.now).packets }
     ensures { IfOk result (λ line. string_bytes line ≡ counts_line scenario (contents_of capture.now)) }
 {
-    let counts = count_classes(capture);
-    line_of_counts(
-        alloc,
-        scenario,
-        capture.records().len(),
-        capture.rest(),
-        counts,
-    )
+    let records = capture.records().len();
+    line_of_counts(alloc, scenario, records, capture.rest(), counts)
 }
 
 fn line_of_counts(

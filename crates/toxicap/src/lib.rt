@@ -42,7 +42,6 @@ mod tests;
 mod values;
 
 pub use counted::Counted;
-pub use counts_text::counts_line;
 pub use dumps::{is_dump, undump};
 pub use fault_lines::fault_line;
 pub use faults::RunFault;

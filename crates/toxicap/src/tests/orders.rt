@@ -1,4 +1,4 @@
-//! Each call that allocates, run once with ample memory.
+//! Written segments in order of key, and what a sort of them keeps.
 use crate::ordering::ordered;
 use crate::{Framed, SegKey, Values};
 use pcap_records::Moment;

@@ -4,8 +4,8 @@ use Rattle.std.specs.List.{AllByRecursion}
 use Rattle.std.proofs.lemmas.Bool.{ltb-false}
 use Rattle.byteorder.specs.Numbers.{big_from-lt}
 use Rattle.frame_headers.specs.HeaderLaws.{SegmentsFit}
-use Rattle.frame_headers.specs.declared.ends.Peer.{Peer}
-use Rattle.frame_headers.specs.Frame.{short, not_ipv4, bad_ipv4, fragment, not_tcp, cut, bad_tcp, same_ends, segment, is_short, is_not_ipv4, is_bad_ipv4, is_fragment, is_not_tcp, is_cut, is_bad_tcp, is_same_ends, number, kind, datagram, carried, sender, receiver, header_len, total_len, fields}
+use Rattle.frame_headers.specs.declared.peers.Peer.{Peer}
+use Rattle.frame_headers.specs.Frame.{short, not_ipv4, bad_ipv4, fragment, not_tcp, cut, bad_tcp, same_ends, segment, is_short, is_not_ipv4, is_bad_ipv4, is_fragment, is_not_tcp, is_cut, is_bad_tcp, is_same_ends, number_at, frame_class, datagram, ip_payload, sender, receiver, header_len, total_len, segment_fields}
 
 module _ {X : Type 0} (P : X → Type 0) where
   all-take : (n : ℕ) (xs : List X) → AllByRecursion P xs → AllByRecursion P (take n xs)
@@ -47,16 +47,16 @@ differs a b test same = true≢false (sym (itself b) ∙ rw same at test)
     itself p = search rules
 
 pub segments_fit : SegmentsFit
-unfolding fields kind
+unfolding segment_fields frame_class
 segments_fit frame are is =
-    let told = tests (is_short frame) (is_not_ipv4 frame) (is_bad_ipv4 (datagram frame)) (is_fragment (datagram frame)) (is_not_tcp (datagram frame)) (is_cut (datagram frame)) (is_bad_tcp (carried (datagram frame))) (is_same_ends (datagram frame)) is in
+    let told = tests (is_short frame) (is_not_ipv4 frame) (is_bad_ipv4 (datagram frame)) (is_fragment (datagram frame)) (is_not_tcp (datagram frame)) (is_cut (datagram frame)) (is_bad_tcp (ip_payload (datagram frame))) (is_same_ends (datagram frame)) is in
     let long : 14 ≤ length frame = ltb-false (length frame) 14 told.0 in
     let ip : List ℕ = datagram frame in
     let ip_bytes : AllByRecursion IsByte ip = all-drop IsByte 14 frame are in
-    let tcp : List ℕ = carried ip in
+    let tcp : List ℕ = ip_payload ip in
     let tcp_bytes : AllByRecursion IsByte tcp =
     all-take IsByte (total_len ip - header_len ip) (drop (header_len ip) ip) (all-drop IsByte (header_len ip) ip ip_bytes) in
-    let fits : (n place : ℕ) (xs : List ℕ) → AllByRecursion IsByte xs → number n place xs < 256 ^ n = λ n place xs bytes. big_from-lt 0 n (drop place xs) (byte_at (drop place xs) (all-drop IsByte place xs bytes)) in
+    let fits : (n place : ℕ) (xs : List ℕ) → AllByRecursion IsByte xs → number_at n place xs < 256 ^ n = λ n place xs bytes. big_from-lt 0 n (drop place xs) (byte_at (drop place xs) (all-drop IsByte place xs bytes)) in
     record {
       mac_from = omega (arith, length-take 6 (drop 6 frame), length-drop 6 frame, long);
       mac_to = omega (arith, length-take 6 frame, long);

@@ -1,4 +1,4 @@
-pub mod PartWrites
-pub mod FilledSums
-pub mod ReadBack
-pub mod FieldRanges
+mod PartWrites
+mod FilledSums
+mod ReadBack
+mod FieldRanges

@@ -57,5 +57,5 @@ headers_put h n xs link ip frame segment room same count e i f s =
     let frame_is : frame ≡ head ++ drop 34 xs =
     f ∙ rw (ip_is, e, put_mid-append (ethernet h) (drop 14 xs) (ipv4 h n ++ drop 34 xs) 14 len) (sym (append_assoc (ethernet h) (ipv4 h n) (drop 34 xs))) in
     let segment_is : segment ≡ tcp h (drop 54 xs) ++ drop 54 xs = s ∙ rw (frame_is, behind-append head (drop 34 xs) 34 head_len, drop-drop 20 34 xs) refl in
-    let number : n ≡ 20 + length (drop 54 xs) = omega (arith, length-drop 54 xs) in
-    rw (segment_is, frame_is, put_mid-append head (drop 34 xs) (tcp h (drop 54 xs) ++ drop 54 xs) 34 head_len, number) (sym (append_assoc _ (tcp h (drop 54 xs)) (drop 54 xs)))
+    let number_at : n ≡ 20 + length (drop 54 xs) = omega (arith, length-drop 54 xs) in
+    rw (segment_is, frame_is, put_mid-append head (drop 34 xs) (tcp h (drop 54 xs) ++ drop 54 xs) 34 head_len, number_at) (sym (append_assoc _ (tcp h (drop 54 xs)) (drop 54 xs)))

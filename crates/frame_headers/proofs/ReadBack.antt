@@ -3,10 +3,10 @@ use Rattle.std.proofs.Common.{◌≡◌, ◌≢◌, ℕ, ◌+◌, ◌-◌, ◌�
 use Rattle.std.proofs.lemmas.Bool.{le-ltb, eqb-true}
 use Rattle.byteorder.specs.Endian.{big_bytes}
 use Rattle.byteorder.specs.Numbers.{big_number-reads_back}
-use Rattle.frame_headers.specs.Frame.{number, datagram, carried, kind, fields, segment, is_short, is_not_ipv4, is_bad_ipv4, is_fragment, is_not_tcp, is_cut, is_bad_tcp, is_same_ends}
+use Rattle.frame_headers.specs.Frame.{number_at, datagram, ip_payload, frame_class, segment_fields, segment, is_short, is_not_ipv4, is_bad_ipv4, is_fragment, is_not_tcp, is_cut, is_bad_tcp, is_same_ends}
 use Rattle.frame_headers.specs.Headers.{headers, ipv4, tcp}
 use Rattle.frame_headers.specs.HeaderLaws.{IsHeader, IsReadBack, SumsToNothing, fields_with, HeadersAreSound}
-use Rattle.frame_headers.specs.declared.ends.Peer.{Peer}
+use Rattle.frame_headers.specs.declared.peers.Peer.{Peer}
 use Rattle.frame_headers.specs.declared.written.Header.{Header}
 use Rattle.frame_headers.proofs.FilledSums.{sum16-ipv4, tcp_sum-tcp}
 
@@ -15,23 +15,23 @@ record Reads (to from : List ℕ) (h : Header) (bytes frame : List ℕ) : Type 0
   len : length frame ≡ 54 + length bytes
   mac_to : slice_range frame 0 6 ≡ to
   mac_from : slice_range frame 6 12 ≡ from
-  link_type : number 2 12 frame ≡ 2048
+  link_type : number_at 2 12 frame ≡ 2048
   first : slice_index (drop 14 frame) 0 ≡ 69
-  total : number 2 2 (drop 14 frame) ≡ 40 + length bytes
-  fragment : number 2 6 (drop 14 frame) ≡ 16384
+  total : number_at 2 2 (drop 14 frame) ≡ 40 + length bytes
+  fragment : number_at 2 6 (drop 14 frame) ≡ 16384
   protocol : slice_index (drop 14 frame) 9 ≡ 6
-  source : number 4 12 (drop 14 frame) ≡ h.from.addr
-  destination : number 4 16 (drop 14 frame) ≡ h.to.addr
-  ip : slice_range frame 14 34 ≡ ipv4 h (20 + length bytes)
+  source : number_at 4 12 (drop 14 frame) ≡ h.from.addr
+  destination : number_at 4 16 (drop 14 frame) ≡ h.to.addr
+  ip : slice_range (drop 14 frame) 0 20 ≡ ipv4 h (20 + length bytes)
   behind_ip : drop 20 (drop 14 frame) ≡ drop 34 frame
   segment : drop 34 frame ≡ tcp h bytes ++ bytes
-  from_port : number 2 0 (drop 34 frame) ≡ h.from.port
-  to_port : number 2 2 (drop 34 frame) ≡ h.to.port
-  seq : number 4 4 (drop 34 frame) ≡ h.seq
-  ack : number 4 8 (drop 34 frame) ≡ h.ack
+  from_port : number_at 2 0 (drop 34 frame) ≡ h.from.port
+  to_port : number_at 2 2 (drop 34 frame) ≡ h.to.port
+  seq : number_at 4 4 (drop 34 frame) ≡ h.seq
+  ack : number_at 4 8 (drop 34 frame) ≡ h.ack
   offset : slice_index (drop 34 frame) 12 ≡ 80
   flags : slice_index (drop 34 frame) 13 ≡ h.flags
-  payload : drop 54 frame ≡ bytes
+  payload : drop 20 (drop 34 frame) ≡ bytes
 
 -- a frame between two Ethernet addresses
 abbrev frame_between : List ℕ → List ℕ → Header → List ℕ → List ℕ
@@ -84,23 +84,23 @@ reads h bytes r small =
     reads_bytes h bytes r small a b c d e f i j k l m n) h.mac_from r.mac_from) h.mac_to r.mac_to
 
 -- the TCP segment reaches to the frame's end
-carried_is : (to from : List ℕ) (h : Header) (bytes frame : List ℕ) → Reads to from h bytes frame → carried (datagram frame) ≡ drop 34 frame
+carried_is : (to from : List ℕ) (h : Header) (bytes frame : List ℕ) → Reads to from h bytes frame → ip_payload (datagram frame) ≡ drop 34 frame
 carried_is to from h bytes frame r =
     let all : take (40 + length bytes - 20) (drop 34 frame) ≡ drop 34 frame = take_all (40 + length bytes - 20) (drop 34 frame) (omega (arith, length-drop 34 frame, r.len)) in
     rw (r.first, r.total, r.behind_ip, all) refl
 
-fields_read : (h : Header) (bytes frame : List ℕ) → Reads h.mac_to h.mac_from h bytes frame → fields frame ≡ fields_with h bytes
-unfolding fields
+fields_read : (h : Header) (bytes frame : List ℕ) → Reads h.mac_to h.mac_from h bytes frame → segment_fields frame ≡ fields_with h bytes
+unfolding segment_fields
 fields_read h bytes frame r =
     let tcp_bytes = carried_is h.mac_to h.mac_from h bytes frame r in
-    let all : take (14 + (40 + length bytes) - 54) bytes ≡ bytes = take_all (14 + (40 + length bytes) - 54) bytes (omega arith) in
-    rw (tcp_bytes, r.first, r.total, r.mac_to, r.mac_from, r.source, r.destination, r.from_port, r.to_port, r.seq, r.ack, r.flags, r.offset, r.payload, all) refl
+    let all : take (length (drop 34 frame) - 20) bytes ≡ bytes = take_all (length (drop 34 frame) - 20) bytes (omega (arith, length-drop 34 frame, r.len)) in
+    rw (tcp_bytes, r.mac_to, r.mac_from, r.source, r.destination, r.from_port, r.to_port, r.seq, r.ack, r.flags, r.offset, r.payload, all) refl
 
 -- both sums of written headers
 pub sums_filled : (h : Header) (bytes : List ℕ) → IsHeader h → length bytes ≤ 1460 → SumsToNothing h (headers h bytes ++ bytes)
 sums_filled h bytes r small =
     let at = reads h bytes r small in
-    record { ipv4 = rw at.ip (sum16-ipv4 h (20 + length bytes)); tcp = rw at.segment (tcp_sum-tcp h bytes) }
+    record { ipv4 = rw at.ip (sum16-ipv4 h (20 + length bytes)); tcp = rw (at.behind_ip, at.segment) (tcp_sum-tcp h bytes) }
 
 -- equal ends, as the test of the class compares them
 same_peer : (x y : Peer) → x.addr ≡ y.addr → x.port ≡ y.port → x ≡ y
@@ -116,20 +116,20 @@ differ x y n = by_tests (eqb x.addr y.addr) (eqb x.port y.port) refl refl
     by_tests false p a q = refl
 
 -- the class where no test holds
-no_test : (frame : List ℕ) → is_short frame ≡ false → is_not_ipv4 frame ≡ false → is_bad_ipv4 (datagram frame) ≡ false → is_fragment (datagram frame) ≡ false → is_not_tcp (datagram frame) ≡ false → is_cut (datagram frame) ≡ false → is_bad_tcp (carried (datagram frame)) ≡ false → is_same_ends (datagram frame) ≡ false → kind frame ≡ segment
-unfolding kind
+no_test : (frame : List ℕ) → is_short frame ≡ false → is_not_ipv4 frame ≡ false → is_bad_ipv4 (datagram frame) ≡ false → is_fragment (datagram frame) ≡ false → is_not_tcp (datagram frame) ≡ false → is_cut (datagram frame) ≡ false → is_bad_tcp (ip_payload (datagram frame)) ≡ false → is_same_ends (datagram frame) ≡ false → frame_class frame ≡ segment
+unfolding frame_class
 no_test frame a b c d e f g h = rw (a, b, c, d, e, f, g, h) refl
 
-kind_read : (h : Header) (bytes frame : List ℕ) → Reads h.mac_to h.mac_from h bytes frame → h.from ≢ h.to → kind frame ≡ segment
-kind_read h bytes frame r n =
+frame_class_read : (h : Header) (bytes frame : List ℕ) → Reads h.mac_to h.mac_from h bytes frame → h.from ≢ h.to → frame_class frame ≡ segment
+frame_class_read h bytes frame r n =
     let tcp_bytes = carried_is h.mac_to h.mac_from h bytes frame r in
     let rest = length-drop 14 frame in
     let tcp_len = length-drop 34 frame in
     no_test frame (le-ltb (length frame) 14 (omega (arith, r.len))) (rw r.link_type refl)
-    (rw (le-ltb (length (drop 14 frame)) 20 (omega (arith, r.len)), r.first, le-ltb (number 2 2 (drop 14 frame)) 20 (omega (arith, r.total))) refl)
+    (rw (le-ltb (length (drop 14 frame)) 20 (omega (arith, r.len)), r.first, le-ltb (number_at 2 2 (drop 14 frame)) 20 (omega (arith, r.total))) refl)
     (rw r.fragment refl)
     (rw r.protocol refl)
-    (le-ltb (length (drop 14 frame)) (number 2 2 (drop 14 frame)) (omega (arith, r.len, r.total)))
+    (le-ltb (length (drop 14 frame)) (number_at 2 2 (drop 14 frame)) (omega (arith, r.len, r.total)))
     (rw (tcp_bytes, r.offset, le-ltb (length (drop 34 frame)) 20 (omega (arith, r.len))) refl)
     (rw (tcp_bytes, r.source, r.destination, r.from_port, r.to_port) (differ h.from h.to n))
 
@@ -137,7 +137,7 @@ kind_read h bytes frame r n =
 pub read_back : (h : Header) (bytes : List ℕ) → IsHeader h → length bytes ≤ 1460 → IsReadBack h bytes (headers h bytes ++ bytes)
 read_back h bytes r small =
     let at = reads h bytes r small in
-    record { fields = fields_read h bytes (headers h bytes ++ bytes) at; class = kind_read h bytes (headers h bytes ++ bytes) at }
+    record { fields = fields_read h bytes (headers h bytes ++ bytes) at; class = frame_class_read h bytes (headers h bytes ++ bytes) at }
 
 -- there are 54 bytes of headers
 pub length-headers : (h : Header) (bytes : List ℕ) → IsHeader h → length bytes ≤ 1460 → length (headers h bytes) ≡ 54

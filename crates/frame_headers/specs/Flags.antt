@@ -2,24 +2,24 @@
 use Rattle.std.specs.Prelude.{ℕ, Bool, bit_and, ◌==◌}
 
 -- the sender has no more bytes
-abbrev pub fin : ℕ
-fin = 1
+abbrev pub fin_flag : ℕ
+fin_flag = 1
 
 -- a sequence number that opens a connection
-abbrev pub syn : ℕ
-syn = 2
+abbrev pub syn_flag : ℕ
+syn_flag = 2
 
 -- the connection is reset
-abbrev pub rst : ℕ
-rst = 4
+abbrev pub rst_flag : ℕ
+rst_flag = 4
 
 -- the receiver is to be given the bytes so far
-abbrev pub psh : ℕ
-psh = 8
+abbrev pub psh_flag : ℕ
+psh_flag = 8
 
 -- the acknowledgment number counts
-abbrev pub ack : ℕ
-ack = 16
+abbrev pub ack_flag : ℕ
+ack_flag = 16
 
 -- each bit of the flag is set among the flags
 abbrev pub has_flag : ℕ → ℕ → Bool

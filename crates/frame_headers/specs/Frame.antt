@@ -1,12 +1,12 @@
 -- What a captured Ethernet frame is, and the fields of the TCP segment in it. A frame is the list of its bytes, and each
 -- field is the number at the place where its standard puts it.
-use Rattle.std.specs.Prelude.{ℕ, ◌+◌, ◌-◌, ◌*◌, ◌/◌, ◌%◌, List, length, drop, slice_index, slice_range, Bool, ◌||◌, ◌&&◌, not, nat_lt, ◌==◌, if◌then◌else◌}
+use Rattle.std.specs.Prelude.{ℕ, ◌-◌, ◌*◌, ◌/◌, ◌%◌, List, length, drop, slice_index, slice_range, Bool, ◌||◌, ◌&&◌, not, nat_lt, ◌==◌, if◌then◌else◌}
 use Rattle.byteorder.specs.Endian.{big_number}
-use Rattle.frame_headers.specs.declared.ends.Peer.{Peer}
+use Rattle.frame_headers.specs.declared.peers.Peer.{Peer}
 
 -- the number in the n bytes from a place on, the highest byte first
-abbrev pub number : ℕ → ℕ → List ℕ → ℕ
-number n place bytes = big_number n (drop place bytes)
+abbrev pub number_at : ℕ → ℕ → List ℕ → ℕ
+number_at n place bytes = big_number n (drop place bytes)
 
 -- Ethernet II: the receiver's address and the sender's, 6 bytes each, and the type of what follows.
 
@@ -16,7 +16,7 @@ link_len = 14
 
 -- the type of what follows
 abbrev pub link_type : List ℕ → ℕ
-link_type frame = number 2 (link_len - 2) frame
+link_type frame = number_at 2 (link_len - 2) frame
 
 -- what follows: an IPv4 datagram, where the type says so, and whatever stands behind it
 abbrev pub datagram : List ℕ → List ℕ
@@ -41,25 +41,25 @@ header_len ip = 4 * (slice_index ip 0 % 16)
 
 -- the bytes of the whole datagram
 abbrev pub total_len : List ℕ → ℕ
-total_len ip = number 2 2 ip
+total_len ip = number_at 2 2 ip
 
 -- the flag that more fragments follow, and the fragment's offset: all but the two highest bits of their 16, which are
 -- reserved and "don't fragment"
 abbrev pub fragment_bits : List ℕ → ℕ
-fragment_bits ip = number 2 6 ip % 16384
+fragment_bits ip = number_at 2 6 ip % 16384
 
 abbrev pub protocol : List ℕ → ℕ
 protocol ip = slice_index ip 9
 
 abbrev pub source : List ℕ → ℕ
-source ip = number 4 12 ip
+source ip = number_at 4 12 ip
 
 abbrev pub destination : List ℕ → ℕ
-destination ip = number 4 16 ip
+destination ip = number_at 4 16 ip
 
 -- what the datagram carries: from the end of its header to its total length. What stands behind is padding.
-abbrev pub carried : List ℕ → List ℕ
-carried ip = slice_range ip (header_len ip) (total_len ip)
+abbrev pub ip_payload : List ℕ → List ℕ
+ip_payload ip = slice_range ip (header_len ip) (total_len ip)
 
 -- no whole IPv4 header, or one that contradicts itself
 abbrev pub is_bad_ipv4 : List ℕ → Bool
@@ -88,51 +88,48 @@ data_offset tcp = 4 * (slice_index tcp 12 / 16)
 abbrev pub is_bad_tcp : List ℕ → Bool
 is_bad_tcp tcp = nat_lt (length tcp) 20 || nat_lt (data_offset tcp) 20 || nat_lt (length tcp) (data_offset tcp)
 
--- the ends of a segment: each an IPv4 address and a TCP port
+-- the peers of a segment: each an IPv4 address and a TCP port
 
 abbrev pub sender : List ℕ → Peer
-sender ip = record { addr = source ip; port = number 2 0 (carried ip) }
+sender ip = record { addr = source ip; port = number_at 2 0 (ip_payload ip) }
 
 abbrev pub receiver : List ℕ → Peer
-receiver ip = record { addr = destination ip; port = number 2 2 (carried ip) }
+receiver ip = record { addr = destination ip; port = number_at 2 2 (ip_payload ip) }
 
--- a segment from an end to itself
+-- a segment from a peer to itself
 abbrev pub is_same_ends : List ℕ → Bool
 is_same_ends ip = (sender ip).addr == (receiver ip).addr && (sender ip).port == (receiver ip).port
 
--- where the payload begins in the frame, and where it ends
-abbrev pub payload_start : List ℕ → ℕ
-payload_start frame = link_len + header_len (datagram frame) + data_offset (carried (datagram frame))
-
-abbrev pub payload_end : List ℕ → ℕ
-payload_end frame = link_len + total_len (datagram frame)
+-- what the TCP header leaves of the TCP bytes
+abbrev pub payload_of : List ℕ → List ℕ
+payload_of tcp = slice_range tcp (data_offset tcp) (length tcp)
 
 -- the classes of frames
-pub data Kind : Type 0 where
-  short : Kind
-  not_ipv4 : Kind
-  bad_ipv4 : Kind
-  fragment : Kind
-  not_tcp : Kind
-  cut : Kind
-  bad_tcp : Kind
-  same_ends : Kind
-  segment : Kind
+pub data FrameClass : Type 0 where
+  short : FrameClass
+  not_ipv4 : FrameClass
+  bad_ipv4 : FrameClass
+  fragment : FrameClass
+  not_tcp : FrameClass
+  cut : FrameClass
+  bad_tcp : FrameClass
+  same_ends : FrameClass
+  segment : FrameClass
 
 -- the class of a frame: the first whose test holds, and a segment where none does
-unfoldable pub kind : List ℕ → Kind
-kind frame =
+unfoldable pub frame_class : List ℕ → FrameClass
+frame_class frame =
     if is_short frame then short
     else if is_not_ipv4 frame then not_ipv4
     else if is_bad_ipv4 (datagram frame) then bad_ipv4
     else if is_fragment (datagram frame) then fragment
     else if is_not_tcp (datagram frame) then not_tcp
     else if is_cut (datagram frame) then cut
-    else if is_bad_tcp (carried (datagram frame)) then bad_tcp
+    else if is_bad_tcp (ip_payload (datagram frame)) then bad_tcp
     else if is_same_ends (datagram frame) then same_ends
     else segment
 
--- The fields of a TCP segment and of the headers that carry it: the Ethernet addresses, the two ends, the sequence and
+-- The fields of a TCP segment and of the headers that carry it: the Ethernet addresses, the two peers, the sequence and
 -- acknowledgment numbers, the flags byte and the payload. Checksums are none of them: a capture of outgoing packets
 -- commonly holds unfilled ones.
 pub record SegmentFields : Type 0 where
@@ -146,14 +143,22 @@ pub record SegmentFields : Type 0 where
   pub payload : List ℕ
 
 -- the fields of the segment in a frame of that class
-unfoldable pub fields : List ℕ → SegmentFields
-fields frame = record {
+unfoldable pub segment_fields : List ℕ → SegmentFields
+segment_fields frame = record {
   mac_from = slice_range frame 6 12;
   mac_to = slice_range frame 0 6;
   from = sender (datagram frame);
   to = receiver (datagram frame);
-  seq = number 4 4 (carried (datagram frame));
-  ack = number 4 8 (carried (datagram frame));
-  flags = slice_index (carried (datagram frame)) 13;
-  payload = slice_range frame (payload_start frame) (payload_end frame);
+  seq = number_at 4 4 (ip_payload (datagram frame));
+  ack = number_at 4 8 (ip_payload (datagram frame));
+  flags = slice_index (ip_payload (datagram frame)) 13;
+  payload = payload_of (ip_payload (datagram frame));
 }
+
+-- a captured frame as everything above sees it: its class, and the fields that it has where it is a segment
+pub record SeenFrame : Type 0 where
+  pub class : FrameClass
+  pub fields : SegmentFields
+
+abbrev pub seen_frame : List ℕ → SeenFrame
+seen_frame frame = record { class = frame_class frame; fields = segment_fields frame }

@@ -1,8 +1,8 @@
 -- What holds of written headers: their checksums are filled, and their fields are read back.
 use Rattle.std.specs.Prelude.{◌≡◌, ◌≢◌, ℕ, ◌<◌, ◌≤◌, ◌^◌, List, ◌++◌, length, drop, slice_range}
 use Rattle.std.specs.List.{AllByRecursion}
-use Rattle.frame_headers.specs.Frame.{SegmentFields, kind, fields, segment}
-use Rattle.frame_headers.specs.Headers.{headers}
+use Rattle.frame_headers.specs.Frame.{SegmentFields, datagram, frame_class, segment_fields, segment}
+use Rattle.frame_headers.specs.Headers.{headers, headers_len, payload_limit}
 use Rattle.frame_headers.specs.Sum.{sum16, tcp_sum}
 use Rattle.frame_headers.specs.declared.written.Header.{Header}
 
@@ -34,23 +34,23 @@ fields_with h bytes = record {
 -- the checksums of the IPv4 header and of TCP in a frame with this header are right: each sum over what it covers, itself
 -- among it, is all ones, so its complement is 0
 pub record SumsToNothing (h : Header) (frame : List ℕ) : Type 0 where
-  pub ipv4 : sum16 (slice_range frame 14 34) ≡ 0
-  pub tcp : tcp_sum h.from.addr h.to.addr (drop 34 frame) ≡ 0
+  pub ipv4 : sum16 (slice_range (datagram frame) 0 20) ≡ 0
+  pub tcp : tcp_sum h.from.addr h.to.addr (drop 20 (datagram frame)) ≡ 0
 
--- a frame is read as a segment with this header and payload; the class needs ends that differ
+-- a frame is read as a segment with this header and payload; the class needs peers that differ
 pub record IsReadBack (h : Header) (bytes frame : List ℕ) : Type 0 where
-  pub fields : fields frame ≡ fields_with h bytes
-  pub class : h.from ≢ h.to → kind frame ≡ segment
+  pub fields : segment_fields frame ≡ fields_with h bytes
+  pub class : h.from ≢ h.to → frame_class frame ≡ segment
 
 -- ---- laws
 
--- headers that are written before a payload: 54 bytes, whose checksums are filled and whose fields are read back
+-- headers that are written before a payload: so many bytes, whose checksums are filled and whose fields are read back
 abbrev pub HeadersAreSound : Type 0
 HeadersAreSound =
-    (h : Header) (bytes : List ℕ) → IsHeader h → length bytes ≤ 1460
-    → (length (headers h bytes) ≡ 54) × SumsToNothing h (headers h bytes ++ bytes) × IsReadBack h bytes (headers h bytes ++ bytes)
+    (h : Header) (bytes : List ℕ) → IsHeader h → length bytes ≤ payload_limit
+    → (length (headers h bytes) ≡ headers_len) × SumsToNothing h (headers h bytes ++ bytes) × IsReadBack h bytes (headers h bytes ++ bytes)
 
--- the fields of a captured segment fit their places in written headers, and its ends differ
+-- the fields of a captured segment fit their places in written headers, and its peers differ
 pub record FieldsFit (f : SegmentFields) : Type 0 where
   pub mac_from : length f.mac_from ≡ 6
   pub mac_to : length f.mac_to ≡ 6
@@ -62,4 +62,4 @@ pub record FieldsFit (f : SegmentFields) : Type 0 where
   pub differ : f.from ≢ f.to
 
 abbrev pub SegmentsFit : Type 0
-SegmentsFit = (frame : List ℕ) → AllByRecursion (λ b. b < 256) frame → kind frame ≡ segment → FieldsFit (fields frame)
+SegmentsFit = (frame : List ℕ) → AllByRecursion (λ b. b < 256) frame → frame_class frame ≡ segment → FieldsFit (segment_fields frame)

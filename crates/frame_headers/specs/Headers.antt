@@ -4,6 +4,14 @@ use Rattle.byteorder.specs.Endian.{big_bytes}
 use Rattle.frame_headers.specs.Sum.{sum16, tcp_sum}
 use Rattle.frame_headers.specs.declared.written.Header.{Header}
 
+-- the bytes of these headers
+abbrev pub headers_len : ℕ
+headers_len = 54
+
+-- the most bytes of payload behind them, so that the datagram fits an Ethernet frame of 1,500 bytes
+abbrev pub payload_limit : ℕ
+payload_limit = 1460
+
 -- Ethernet II: the receiver's address, the sender's, and the type IPv4
 abbrev pub ethernet : Header → List ℕ
 ethernet h = (h.mac_to ++ h.mac_from) ++ big_bytes 2 0x0800

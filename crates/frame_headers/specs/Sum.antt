@@ -10,17 +10,17 @@ words_sum (b ∷ []) = 256 * b
 words_sum (high ∷ low ∷ bytes) = (256 * high + low) + words_sum bytes
 
 -- a sum in one's complement of 16 bits: 0 for 0, and else the number from 1 to 65535 that it is modulo 65535
-abbrev pub folded : ℕ → ℕ
-folded sum = if sum == 0 then 0 else (sum - 1) % 65535 + 1
+abbrev pub folded_sum : ℕ → ℕ
+folded_sum sum = if sum == 0 then 0 else (sum - 1) % 65535 + 1
 
 -- the checksum of the bytes as they stand
 abbrev pub sum16 : List ℕ → ℕ
-sum16 bytes = 65535 - folded (words_sum bytes)
+sum16 bytes = 65535 - folded_sum (words_sum bytes)
 
 -- the pseudo header before n bytes of TCP: the two addresses, a zero byte, TCP's protocol number and n
-abbrev pub pseudo : ℕ → ℕ → ℕ → List ℕ
-pseudo from to n = ((big_bytes 4 from ++ big_bytes 4 to) ++ big_bytes 2 6) ++ big_bytes 2 n
+abbrev pub pseudo_header : ℕ → ℕ → ℕ → List ℕ
+pseudo_header from to n = ((big_bytes 4 from ++ big_bytes 4 to) ++ big_bytes 2 6) ++ big_bytes 2 n
 
 -- the checksum of a TCP header and payload as they stand, between two addresses
 unfoldable pub tcp_sum : ℕ → ℕ → List ℕ → ℕ
-tcp_sum from to tcp = sum16 (pseudo from to (length tcp) ++ tcp)
+tcp_sum from to tcp = sum16 (pseudo_header from to (length tcp) ++ tcp)

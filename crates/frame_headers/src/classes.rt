@@ -1,22 +1,22 @@
 //! Which class a captured frame has, and the fields of the TCP segment in it.
 ghost use Rattle.std.specs.Prelude.{◌≡◌, ◌+◌, ◌≤◌, length, slice_range};
-ghost use Rattle.frame_headers.specs.Class.{kind_of, SegmentIs, fields_of};
-ghost use Rattle.frame_headers.specs.Frame.{kind, fields, datagram, header_len, total_len, is_not_ipv4, is_bad_ipv4, is_fragment, is_bad_tcp, carried, data_offset};
+ghost use Rattle.frame_headers.specs.Class.{frame_class_of, HasFields, fields_of_segment};
+ghost use Rattle.frame_headers.specs.Frame.{frame_class, segment_fields, datagram, header_len, total_len, is_not_ipv4, is_bad_ipv4, is_fragment, is_bad_tcp, ip_payload, data_offset};
 
-use crate::ends::Peer;
 use crate::flag_bits::Flags;
+use crate::peers::Peer;
 use byteorder::{BigEndian, ByteOrder};
 
-/// The bytes of an Ethernet II header: two addresses and the type of what follows.
+// The bytes of an Ethernet II header: two addresses and the type of what follows.
 const LINK_LEN: usize = 14;
 
-/// The type of a frame that carries an IPv4 datagram.
+// The type of a frame that carries an IPv4 datagram.
 const IPV4: u16 = 0x0800;
 
-/// The protocol number of TCP in an IPv4 header.
+// The protocol number of TCP in an IPv4 header.
 const TCP: u8 = 6;
 
-/// The least bytes of an IPv4 header, and of a TCP header.
+// The least bytes of an IPv4 header, and of a TCP header.
 const LEAST_HEADER: usize = 20;
 
 /// What a captured Ethernet frame is: the first of these that holds of it. Checksums play no part, because a capture of
@@ -66,10 +66,10 @@ pub struct Segment<'a> {
 }
 
 /// The class of a captured frame, and a segment's fields. It takes no memory, and every list of bytes has a class.
-#[tactic(auto, unfolding(crate::specs::Frame::kind, crate::specs::Frame::fields))]
+#[tactic(auto, unfolding(crate::specs::Frame::frame_class, crate::specs::Frame::segment_fields))]
 pub fn classify(packet: &[u8]) -> Class<'_>
-    ensures class { kind_of result ≡ kind packet.now }
-    ensures segment { SegmentIs result (fields packet.now) }
+    ensures class { frame_class_of result ≡ frame_class packet.now }
+    ensures segment { HasFields result (segment_fields packet.now) }
 {
     if packet.len() < LINK_LEN {
         return Class::Short;
@@ -101,7 +101,7 @@ pub fn classify(packet: &[u8]) -> Class<'_>
     Class::Segment(segment)
 }
 
-/// Whether the frame carries something else than an IPv4 datagram.
+// Whether the frame carries something else than an IPv4 datagram.
 fn is_not_ipv4(packet: &[u8]) -> bool
     requires { LINK_LEN ≤ length packet.now }
     ensures { result ≡ is_not_ipv4 packet.now }
@@ -109,7 +109,7 @@ fn is_not_ipv4(packet: &[u8]) -> bool
     BigEndian::read_u16(&packet[LINK_LEN - 2..]) != IPV4
 }
 
-/// What follows the Ethernet header.
+// What follows the Ethernet header.
 fn behind_link(packet: &[u8]) -> &[u8]
     requires { LINK_LEN ≤ length packet.now }
     ensures { result.now ≡ datagram packet.now }
@@ -117,7 +117,7 @@ fn behind_link(packet: &[u8]) -> &[u8]
     &packet[LINK_LEN..]
 }
 
-/// The bytes of an IPv4 header.
+// The bytes of an IPv4 header.
 fn header_len(ip: &[u8]) -> usize
     requires { LEAST_HEADER ≤ length ip.now }
     ensures { result ≡ header_len ip.now }
@@ -125,7 +125,7 @@ fn header_len(ip: &[u8]) -> usize
     4 * usize::from(ip[0] % 16)
 }
 
-/// The bytes of a whole IPv4 datagram.
+// The bytes of a whole IPv4 datagram.
 fn total_len(ip: &[u8]) -> usize
     requires { LEAST_HEADER ≤ length ip.now }
     ensures { result ≡ total_len ip.now }
@@ -133,7 +133,7 @@ fn total_len(ip: &[u8]) -> usize
     usize::from(BigEndian::read_u16(&ip[2..]))
 }
 
-/// Whether there is no whole IPv4 header, or one that contradicts itself.
+// Whether there is no whole IPv4 header, or one that contradicts itself.
 fn is_bad_ipv4(ip: &[u8]) -> bool
     ensures { result ≡ is_bad_ipv4 ip.now }
 {
@@ -143,7 +143,7 @@ fn is_bad_ipv4(ip: &[u8]) -> bool
         || total_len(ip) < header_len(ip)
 }
 
-/// Whether a datagram is a fragment: more of them follow, or its offset is not 0.
+// Whether a datagram is a fragment: more of them follow, or its offset is not 0.
 fn is_fragment(ip: &[u8]) -> bool
     requires { LEAST_HEADER ≤ length ip.now }
     ensures { result ≡ is_fragment ip.now }
@@ -151,7 +151,7 @@ fn is_fragment(ip: &[u8]) -> bool
     BigEndian::read_u16(&ip[6..]) % 0x4000 != 0
 }
 
-/// The bytes of a TCP header.
+// The bytes of a TCP header.
 fn data_offset(tcp: &[u8]) -> usize
     requires { LEAST_HEADER ≤ length tcp.now }
     ensures { result ≡ data_offset tcp.now }
@@ -159,23 +159,23 @@ fn data_offset(tcp: &[u8]) -> usize
     4 * usize::from(tcp[12] / 16)
 }
 
-/// Whether there is no whole TCP header, or one that contradicts itself.
+// Whether there is no whole TCP header, or one that contradicts itself.
 fn is_bad_tcp(tcp: &[u8]) -> bool
     ensures { result ≡ is_bad_tcp tcp.now }
 {
     tcp.len() < LEAST_HEADER || data_offset(tcp) < LEAST_HEADER || tcp.len() < data_offset(tcp)
 }
 
-/// The fields of the segment in a frame, whose datagram is `ip` and whose TCP bytes are `tcp`.
-#[tactic(auto, unfolding(crate::specs::Frame::fields))]
-fn segment_in<'a>(packet: &'a [u8], ip: &[u8], tcp: &[u8]) -> Segment<'a>
+// The fields of the segment in a frame, whose datagram is `ip` and whose TCP bytes are `tcp`.
+#[tactic(auto, unfolding(crate::specs::Frame::segment_fields))]
+fn segment_in<'a>(packet: &[u8], ip: &[u8], tcp: &'a [u8]) -> Segment<'a>
     requires datagram { ip.now ≡ datagram packet.now }
     requires ipv4 { LEAST_HEADER ≤ length ip.now }
     requires whole { total_len ip.now ≤ length ip.now }
-    requires carried { tcp.now ≡ carried ip.now }
+    requires carried { tcp.now ≡ ip_payload ip.now }
     requires tcp { LEAST_HEADER ≤ length tcp.now }
     requires offset { data_offset tcp.now ≤ length tcp.now }
-    ensures { fields_of result ≡ fields packet.now }
+    ensures { fields_of_segment result ≡ segment_fields packet.now }
 {
     Segment {
         mac_from: mac_at(packet, 6),
@@ -191,11 +191,11 @@ fn segment_in<'a>(packet: &'a [u8], ip: &[u8], tcp: &[u8]) -> Segment<'a>
         seq: BigEndian::read_u32(&tcp[4..]),
         ack: BigEndian::read_u32(&tcp[8..]),
         flags: Flags::of(tcp[13]),
-        payload: &packet[LINK_LEN + header_len(ip) + data_offset(tcp)..LINK_LEN + total_len(ip)],
+        payload: &tcp[data_offset(tcp)..],
     }
 }
 
-/// The Ethernet address at a place of a frame.
+// The Ethernet address at a place of a frame.
 fn mac_at(packet: &[u8], at: usize) -> [u8; 6]
     requires { at + 6 ≤ length packet.now }
     ensures { result ≡ slice_range packet.now at (at + 6) }

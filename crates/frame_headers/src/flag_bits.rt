@@ -1,6 +1,6 @@
 //! The flags byte of a TCP header.
-ghost use Rattle.std.specs.Prelude.{◌≡◌, ℕ, bit_or};
-ghost use Rattle.frame_headers.specs.Flags.{has_flag};
+ghost use Rattle.std.specs.Prelude.{◌≡◌, ℕ, bit_or, [], ◌∷◌};
+ghost use Rattle.frame_headers.specs.Flags.{fin_flag, syn_flag, rst_flag, psh_flag, ack_flag, has_flag};
 
 use std::marker::Model;
 
@@ -30,6 +30,13 @@ impl Flags {
     pub const PSH: Flags = Flags { bits: 0x08 };
     /// The acknowledgment number counts.
     pub const ACK: Flags = Flags { bits: 0x10 };
+
+    /// The flags that have a name here, from the lowest bit on: FIN, SYN, RST, PSH, ACK.
+    pub fn named() -> [Flags; 5]
+        ensures { result ≡ fin_flag ∷ syn_flag ∷ rst_flag ∷ psh_flag ∷ ack_flag ∷ [] }
+    {
+        [Self::FIN, Self::SYN, Self::RST, Self::PSH, Self::ACK]
+    }
 
     /// The flags of a flags byte. Every byte is one, and none of its bits is lost.
     pub fn of(byte: u8) -> Self

@@ -2,12 +2,12 @@
 ghost use Rattle.frame_headers.specs.HeaderLaws.{HeadersAreSound, SegmentsFit};
 
 /// The headers of a segment with at most 1,460 bytes of payload are 54 bytes. Both checksums are filled, the fields are read
-/// back, and the frame is a segment where the two ends differ.
+/// back, and the frame is a segment where the two peers differ.
 pub fn headers_are_sound()
     ensures { HeadersAreSound }
 {}
 
-/// The fields of a captured segment fit their places in the headers of a written one, and its two ends differ.
+/// The fields of a captured segment fit their places in the headers of a written one, and its two peers differ.
 pub fn segments_fit()
     ensures { SegmentsFit }
 {}

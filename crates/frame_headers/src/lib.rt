@@ -3,17 +3,14 @@
 #![tactic(auto)]
 
 mod classes;
-mod ends;
 mod flag_bits;
 pub mod laws;
+mod peers;
 mod sums;
 mod written;
 
 pub use classes::{Class, Segment, classify};
-pub use ends::Peer;
 pub use flag_bits::Flags;
+pub use peers::Peer;
 pub use sums::{checksum, tcp_checksum};
-pub use written::{Header, put_headers};
-
-#[cfg(test)]
-mod tests;
+pub use written::{HEADERS_LEN, Header, PAYLOAD_LIMIT, put_headers};

@@ -1,10 +1,10 @@
 //! Internet checksums.
 ghost use Rattle.std.specs.Prelude.{◌≡◌, ◌+◌, ◌≤◌, length};
-ghost use Rattle.frame_headers.specs.Sum.{folded, words_sum, sum16, tcp_sum};
+ghost use Rattle.frame_headers.specs.Sum.{folded_sum, words_sum, sum16, tcp_sum};
 
 use byteorder::{BigEndian, ByteOrder};
 
-/// TCP's protocol number in an IPv4 header.
+// TCP's protocol number in an IPv4 header.
 const TCP: u64 = 6;
 
 /// The Internet checksum of the bytes as they stand (RFC 1071): the complement of the one's complement sum of their
@@ -28,12 +28,12 @@ pub fn tcp_checksum(from: u32, to: u32, tcp: &[u8]) -> u16
     !add_words(pseudo, tcp)
 }
 
-/// A number and the 16-bit words of the bytes, added in one's complement of 16 bits.
-///
-/// Wider words may be added in their place, because 2^16, 2^32 and 2^48 are 1 modulo 65535. So 8 bytes are added a turn,
-/// and the sum is folded once.
+// A number and the 16-bit words of the bytes, added in one's complement of 16 bits.
+//
+// Wider words may be added in their place, because 2^16, 2^32 and 2^48 are 1 modulo 65535. So 8 bytes are added a turn,
+// and the sum is folded once.
 fn add_words(start: u64, bytes: &[u8]) -> u16
-    ensures { result ≡ folded (start + words_sum bytes.now) }
+    ensures { result ≡ folded_sum (start + words_sum bytes.now) }
 {
     let mut sum = u128::from(start);
     let mut rest = bytes;
@@ -51,17 +51,17 @@ fn add_words(start: u64, bytes: &[u8]) -> u16
     fold(fold_wide(sum))
 }
 
-/// A sum of 128 bits as one of 34 bits.
+// A sum of 128 bits as one of 34 bits.
 fn fold_wide(sum: u128) -> u64
-    ensures same { folded result ≡ folded sum }
+    ensures same { folded_sum result ≡ folded_sum sum }
 {
     let sum = (sum >> 64) + (sum & 0xffff_ffff_ffff_ffff);
     ((sum >> 32) + (sum & 0xffff_ffff)) as u64
 }
 
-/// A sum as one of 16 bits.
+// A sum as one of 16 bits.
 fn fold(sum: u64) -> u16
-    ensures { result ≡ folded sum }
+    ensures { result ≡ folded_sum sum }
 {
     let sum = (sum >> 32) + (sum & 0xffff_ffff);
     let sum = (sum >> 16) + (sum & 0xffff);

@@ -1,7 +1,7 @@
-pub mod Steps
-pub mod Places
-pub mod Passes
-pub mod Running
-pub mod Answering
-pub mod Splitting
-pub mod ReadingBack
+mod Steps
+mod Places
+mod Passes
+mod Running
+mod Answering
+mod Splitting
+mod ReadingBack

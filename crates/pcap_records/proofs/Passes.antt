@@ -3,7 +3,7 @@ use Rattle.std.proofs.Common.{◌≡◌, ℕ, suc, ◌+◌, List, [], ◌∷◌,
 use Rattle.std.proofs.lemmas.List.{append-nil, append_assoc}
 use Rattle.pcap_records.specs.declared.fault.CaptureFault.{CaptureFault}
 use Rattle.pcap_records.specs.declared.fault.CaptureFault.TheVariants.{RecordTooLong}
-use Rattle.pcap_records.specs.Reading.{Heading, Packet, Contents, whole, torn, too_long, front, with_packet, first_packet, packet_len, records_after}
+use Rattle.pcap_records.specs.Reading.{Heading, Packet, Contents, whole, torn, too_long, front, contents_with_packet, first_packet, packet_len, records_after}
 use Rattle.pcap_records.specs.declared.front.Found.{Found}
 use Rattle.pcap_records.specs.declared.front.Found.TheVariants.{Torn, TooLong, Whole}
 use Rattle.pcap_records.specs.Front.{IsFoundAt}
@@ -12,7 +12,7 @@ use Rattle.pcap_records.proofs.Steps.{records_after-front}
 
 -- ---- counting
 
-survey_past : (k : ℕ) (p : Packet) (after : Result Contents CaptureFault) → survey_from k (with_packet p after) ≡ survey_from (k + 1) after
+survey_past : (k : ℕ) (p : Packet) (after : Result Contents CaptureFault) → survey_from k (contents_with_packet p after) ≡ survey_from (k + 1) after
 survey_past k p (Ok c) =
     let counts : k + suc (length c.packets) ≡ k + 1 + length c.packets = omega arith in
     rw counts refl
@@ -38,7 +38,7 @@ abbrev pub with_front : List Packet → Result Contents CaptureFault → Result 
 with_front ps (Ok c) = Ok (record { ticks = c.ticks; packets = ps ++ c.packets; rest = c.rest })
 with_front ps (Err e) = Err e
 
-with_front_past : (ps : List Packet) (p : Packet) (after : Result Contents CaptureFault) → with_front ps (with_packet p after) ≡ with_front (ps ++ p ∷ []) after
+with_front_past : (ps : List Packet) (p : Packet) (after : Result Contents CaptureFault) → with_front ps (contents_with_packet p after) ≡ with_front (ps ++ p ∷ []) after
 with_front_past ps p (Ok c) = rw (append_assoc ps (p ∷ []) c.packets) refl
 with_front_past ps p (Err e) = refl
 

@@ -4,7 +4,7 @@ use Rattle.std.specs.List.{range_with_len, slice_range}
 use Rattle.std.proofs.lemmas.List.FromFn.{length-map-range_with_len}
 use Rattle.std.proofs.lemmas.List.{append-nil, append_assoc, take-map, drop-map, drop_more, drop_all}
 use Rattle.pcap_records.specs.declared.record_place.Record.{Record}
-use Rattle.pcap_records.specs.Captured.{packet_of}
+use Rattle.pcap_records.specs.CaptureView.{packet_of}
 use Rattle.pcap_records.specs.Instants.{greatest, greatest_so_far, instants, CarriedIsWhole}
 
 -- a function of the place after, at places from a on

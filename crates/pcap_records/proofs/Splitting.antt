@@ -9,21 +9,21 @@ use Rattle.pcap_records.specs.declared.order.Order.{Order}
 use Rattle.pcap_records.specs.declared.order.Order.TheVariants.{Big, Little}
 use Rattle.pcap_records.specs.declared.fault.CaptureFault.{CaptureFault}
 use Rattle.pcap_records.specs.declared.fault.CaptureFault.TheVariants.{RecordTooLong}
-use Rattle.pcap_records.specs.Reading.{Heading, Packet, Contents, Reading, Front, whole, torn, too_long, number, front, first_packet, packet_len, packet_limit, header, records_after, reading}
-use Rattle.pcap_records.specs.Grammar.{Piece, IsPiece, IsRest, AnnouncesTooMuch, Splits, spelling, packet_of_piece, ReadingsSplit, SplitsAreRead, RefusalsSplit, SplitsAreRefused}
+use Rattle.pcap_records.specs.Reading.{Heading, Packet, Contents, Reading, Front, whole, torn, too_long, number_in, front, first_packet, packet_len, packet_limit, file_heading, records_after, reading}
+use Rattle.pcap_records.specs.Grammar.{RawRecord, IsRawRecord, IsRest, AnnouncesTooMuch, Splits, raw_bytes, packet_of_raw, ReadingsSplit, SplitsAreRead, RefusalsSplit, SplitsAreRefused}
 use Rattle.pcap_records.proofs.Steps.{records_after-front}
 use Rattle.pcap_records.proofs.Passes.{with_front, listed-whole, with_front-none}
-use Rattle.pcap_records.proofs.Answering.{reading-header, reading-bad_header}
+use Rattle.pcap_records.proofs.Answering.{reading-file_heading, reading-bad_header}
 
 -- ---- numbers in a front of the bytes
 
-number-take : (o : Order) (n m : ℕ) (bytes : List ℕ) → n ≤ m → number o n (take m bytes) ≡ number o n bytes
-number-take Big n m bytes fits = big_from-take 0 n m bytes (omega arith)
-number-take Little n m bytes fits = little_from-take 0 n m bytes (omega arith)
+number_in-take : (o : Order) (n m : ℕ) (bytes : List ℕ) → n ≤ m → number_in o n (take m bytes) ≡ number_in o n bytes
+number_in-take Big n m bytes fits = big_from-take 0 n m bytes (omega arith)
+number_in-take Little n m bytes fits = little_from-take 0 n m bytes (omega arith)
 
-number-append : (o : Order) (n : ℕ) (xs ys : List ℕ) → n ≤ length xs → number o n (xs ++ ys) ≡ number o n xs
-number-append Big n xs ys fits = big_from-append n xs ys fits
-number-append Little n xs ys fits = little_from-append n xs ys fits
+number_in-append : (o : Order) (n : ℕ) (xs ys : List ℕ) → n ≤ length xs → number_in o n (xs ++ ys) ≡ number_in o n xs
+number_in-append Big n xs ys fits = big_from-append n xs ys fits
+number_in-append Little n xs ys fits = little_from-append n xs ys fits
 
 -- ---- what each front says
 
@@ -54,20 +54,20 @@ says_front h bytes whole says = grind (arith, nat_tests)
 
 -- a split, with what ends it
 pub record Split (h : Heading) (bytes : List ℕ) : Type 0 where
-  pub pieces : List Piece
+  pub raws : List RawRecord
   pub rest : List ℕ
-  pub splits : Splits h bytes pieces rest
+  pub splits : Splits h bytes raws rest
   pub ends : IsRest h rest ⊎ AnnouncesTooMuch h rest
 
 -- the record at the front, as a piece
-first_piece : Heading → List ℕ → Piece
-first_piece h bytes = record { header = take 16 bytes; packet = take (packet_len h bytes) (drop 16 bytes) }
+first_raw : Heading → List ℕ → RawRecord
+first_raw h bytes = record { header = take 16 bytes; packet = take (packet_len h bytes) (drop 16 bytes) }
 
-first_piece-is : (h : Heading) (bytes : List ℕ) → FrontSays h bytes whole → IsPiece h (first_piece h bytes)
-unfolding first_piece
-first_piece-is h bytes says =
+first_raw-is : (h : Heading) (bytes : List ℕ) → FrontSays h bytes whole → IsRawRecord h (first_raw h bytes)
+unfolding first_raw
+first_raw-is h bytes says =
     let len : ℕ = packet_len h bytes in
-    let announced : packet_len h (take 16 bytes) ≡ len = rw (drop-take 8 8 bytes) (number-take h.order 4 8 (drop 8 bytes) (omega arith)) in
+    let announced : packet_len h (take 16 bytes) ≡ len = rw (drop-take 8 8 bytes) (number_in-take h.order 4 8 (drop 8 bytes) (omega arith)) in
     let held : length (take len (drop 16 bytes)) ≡ len = omega (arith, length-take len (drop 16 bytes), length-drop 16 bytes, says.2) in
     record {
       sixteen = omega (arith, length-take 16 bytes, says.0);
@@ -77,9 +77,9 @@ first_piece-is h bytes says =
 
 -- a split of what stands behind a whole record
 split_more : (h : Heading) (bytes : List ℕ) → FrontSays h bytes whole → Split h (drop (16 + packet_len h bytes) bytes) → Split h bytes
-unfolding first_piece
+unfolding first_raw
 split_more h bytes says behind = record {
-  pieces = first_piece h bytes ∷ behind.pieces;
+  raws = first_raw h bytes ∷ behind.raws;
   rest = behind.rest;
   splits = record {
     whole =
@@ -87,20 +87,20 @@ split_more h bytes says behind = record {
         let apart : (take 16 bytes ++ take len (drop 16 bytes)) ++ drop (16 + len) bytes ≡ bytes =
         rw (← drop-drop len 16 bytes, append_assoc (take 16 bytes) (take len (drop 16 bytes)) (drop len (drop 16 bytes)), take-append-drop len (drop 16 bytes)) (take-append-drop 16 bytes) in
         let more = behind.splits.whole in
-        sym apart ∙ rw (more, append_assoc (take 16 bytes ++ take len (drop 16 bytes)) (flat_map spelling behind.pieces) behind.rest) refl;
-    each = (first_piece-is h bytes says, behind.splits.each);
+        sym apart ∙ rw (more, append_assoc (take 16 bytes ++ take len (drop 16 bytes)) (flat_map raw_bytes behind.raws) behind.rest) refl;
+    each = (first_raw-is h bytes says, behind.splits.each);
   };
   ends = behind.ends;
 }
 
 split_by : (f : Front) (n : ℕ) (h : Heading) (bytes : List ℕ) → front h bytes ≡ f → FrontSays h bytes f → length bytes ≤ suc n → ((rest : List ℕ) → length rest ≤ n → Split h rest) → Split h bytes
-split_by torn n h bytes is says fits more = record { pieces = []; rest = bytes; splits = record { whole = refl; each = tt }; ends = inl says }
-split_by too_long n h bytes is says fits more = record { pieces = []; rest = bytes; splits = record { whole = refl; each = tt }; ends = inr says }
+split_by torn n h bytes is says fits more = record { raws = []; rest = bytes; splits = record { whole = refl; each = tt }; ends = inl says }
+split_by too_long n h bytes is says fits more = record { raws = []; rest = bytes; splits = record { whole = refl; each = tt }; ends = inr says }
 split_by whole n h bytes is says fits more =
     split_more h bytes says (more (drop (16 + packet_len h bytes) bytes) (omega (arith, length-drop (16 + packet_len h bytes) bytes, says.0)))
 
 split_within : (n : ℕ) (h : Heading) (bytes : List ℕ) → length bytes ≤ n → Split h bytes
-split_within zero h bytes fits = record { pieces = []; rest = bytes; splits = record { whole = refl; each = tt }; ends = inl (inl (omega arith)) }
+split_within zero h bytes fits = record { raws = []; rest = bytes; splits = record { whole = refl; each = tt }; ends = inl (inl (omega arith)) }
 split_within (suc n) h bytes fits = split_by (front h bytes) n h bytes refl (front_says h bytes) fits (λ rest less. split_within n h rest less)
 
 pub split_of : (h : Heading) (bytes : List ℕ) → Split h bytes
@@ -109,29 +109,29 @@ split_of h bytes = split_within (length bytes) h bytes (omega arith)
 -- ---- a split is read
 
 -- a piece's bytes, with others behind them
-abbrev before : Piece → List ℕ → List ℕ
+abbrev before : RawRecord → List ℕ → List ℕ
 before p behind = (p.header ++ p.packet) ++ behind
 
-number_of_piece : (h : Heading) (p : Piece) (behind : List ℕ) (n at : ℕ) → IsPiece h p → n + at ≤ 16 → number h.order n (drop at (before p behind)) ≡ number h.order n (drop at p.header)
-number_of_piece h p behind n at is within =
+number_of_raw : (h : Heading) (p : RawRecord) (behind : List ℕ) (n at : ℕ) → IsRawRecord h p → n + at ≤ 16 → number_in h.order n (drop at (before p behind)) ≡ number_in h.order n (drop at p.header)
+number_of_raw h p behind n at is within =
     let fits : at ≤ length p.header = omega (arith, is.sixteen) in
     rw (append_assoc p.header p.packet behind, drop-append-le at p.header (p.packet ++ behind) fits)
-    (number-append h.order n (drop at p.header) (p.packet ++ behind) (omega (arith, length-drop at p.header, is.sixteen)))
+    (number_in-append h.order n (drop at p.header) (p.packet ++ behind) (omega (arith, length-drop at p.header, is.sixteen)))
 
-len_of_piece : (h : Heading) (p : Piece) (behind : List ℕ) → IsPiece h p → packet_len h (before p behind) ≡ length p.packet
-len_of_piece h p behind is = number_of_piece h p behind 4 8 is (omega arith) ∙ is.announced
+len_of_raw : (h : Heading) (p : RawRecord) (behind : List ℕ) → IsRawRecord h p → packet_len h (before p behind) ≡ length p.packet
+len_of_raw h p behind is = number_of_raw h p behind 4 8 is (omega arith) ∙ is.announced
 
-packet_of_front : (h : Heading) (p : Piece) (behind : List ℕ) → IsPiece h p → first_packet h (before p behind) ≡ packet_of_piece h p
+packet_of_front : (h : Heading) (p : RawRecord) (behind : List ℕ) → IsRawRecord h p → first_packet h (before p behind) ≡ packet_of_raw h p
 packet_of_front h p behind is =
-    rw (number_of_piece h p behind 4 0 is (omega arith), number_of_piece h p behind 4 4 is (omega arith), len_of_piece h p behind is, append_assoc p.header p.packet behind, drop_at p.header (p.packet ++ behind) 16 is.sixteen, take_at p.packet behind (length p.packet) refl) refl
+    rw (number_of_raw h p behind 4 0 is (omega arith), number_of_raw h p behind 4 4 is (omega arith), len_of_raw h p behind is, append_assoc p.header p.packet behind, drop_at p.header (p.packet ++ behind) 16 is.sixteen, take_at p.packet behind (length p.packet) refl) refl
 
-behind_piece : (h : Heading) (p : Piece) (behind : List ℕ) → IsPiece h p → drop (16 + packet_len h (before p behind)) (before p behind) ≡ behind
-behind_piece h p behind is =
-    drop_at (p.header ++ p.packet) behind (16 + packet_len h (before p behind)) (omega (arith, length-append p.header p.packet, is.sixteen, len_of_piece h p behind is))
+behind_raw : (h : Heading) (p : RawRecord) (behind : List ℕ) → IsRawRecord h p → drop (16 + packet_len h (before p behind)) (before p behind) ≡ behind
+behind_raw h p behind is =
+    drop_at (p.header ++ p.packet) behind (16 + packet_len h (before p behind)) (omega (arith, length-append p.header p.packet, is.sixteen, len_of_raw h p behind is))
 
-front_of_piece : (h : Heading) (p : Piece) (behind : List ℕ) → IsPiece h p → front h (before p behind) ≡ whole
-front_of_piece h p behind is =
-    let len = len_of_piece h p behind is in
+front_of_raw : (h : Heading) (p : RawRecord) (behind : List ℕ) → IsRawRecord h p → front h (before p behind) ≡ whole
+front_of_raw h p behind is =
+    let len = len_of_raw h p behind is in
     let all : length (before p behind) ≡ 16 + length p.packet + length behind = omega (arith, length-append (p.header ++ p.packet) behind, length-append p.header p.packet, is.sixteen) in
     says_front h (before p behind) whole (omega arith, omega (arith, is.limited), omega arith)
 
@@ -139,20 +139,20 @@ with_front-twice : (p : Packet) (ps : List Packet) (read : Result Contents Captu
 with_front-twice p ps (Ok c) = refl
 with_front-twice p ps (Err e) = refl
 
-read_piece : (h : Heading) (p : Piece) (behind : List ℕ) (k : ℕ) → IsPiece h p → records_after 0 h k (before p behind) ≡ with_front (packet_of_piece h p ∷ []) (records_after 0 h (k + 1) behind)
-read_piece h p behind k is =
-    let one = listed-whole h [] k (before p behind) (front_of_piece h p behind is) in
-    sym (with_front-none (records_after 0 h k (before p behind))) ∙ (rw (packet_of_front h p behind is, behind_piece h p behind is) at one)
+read_raw : (h : Heading) (p : RawRecord) (behind : List ℕ) (k : ℕ) → IsRawRecord h p → records_after 0 h k (before p behind) ≡ with_front (packet_of_raw h p ∷ []) (records_after 0 h (k + 1) behind)
+read_raw h p behind k is =
+    let one = listed-whole h [] k (before p behind) (front_of_raw h p behind is) in
+    sym (with_front-none (records_after 0 h k (before p behind))) ∙ (rw (packet_of_front h p behind is, behind_raw h p behind is) at one)
 
-pub read_splits : (h : Heading) (pieces : List Piece) (rest : List ℕ) (k : ℕ) → AllByRecursion (IsPiece h) pieces
-    → records_after 0 h k (flat_map spelling pieces ++ rest) ≡ with_front (map (packet_of_piece h) pieces) (records_after 0 h (k + length pieces) rest)
+pub read_splits : (h : Heading) (raws : List RawRecord) (rest : List ℕ) (k : ℕ) → AllByRecursion (IsRawRecord h) raws
+    → records_after 0 h k (flat_map raw_bytes raws ++ rest) ≡ with_front (map (packet_of_raw h) raws) (records_after 0 h (k + length raws) rest)
 read_splits h [] rest k each =
     let none : k + 0 ≡ k = omega arith in
     rw none (sym (with_front-none (records_after 0 h k rest)))
-read_splits h (p ∷ pieces) rest k each =
-    let counts : k + suc (length pieces) ≡ k + 1 + length pieces = omega arith in
-    rw (append_assoc (spelling p) (flat_map spelling pieces) rest, read_piece h p (flat_map spelling pieces ++ rest) k each.0, read_splits h pieces rest (k + 1) each.1, counts)
-    (with_front-twice (packet_of_piece h p) (map (packet_of_piece h) pieces) (records_after 0 h (k + 1 + length pieces) rest))
+read_splits h (p ∷ raws) rest k each =
+    let counts : k + suc (length raws) ≡ k + 1 + length raws = omega arith in
+    rw (append_assoc (raw_bytes p) (flat_map raw_bytes raws) rest, read_raw h p (flat_map raw_bytes raws ++ rest) k each.0, read_splits h raws rest (k + 1) each.1, counts)
+    (with_front-twice (packet_of_raw h p) (map (packet_of_raw h) raws) (records_after 0 h (k + 1 + length raws) rest))
 
 -- ---- the laws
 
@@ -163,32 +163,32 @@ read_too_long : (h : Heading) (k : ℕ) (rest : List ℕ) → AnnouncesTooMuch h
 read_too_long h k rest ends = rw (records_after-front h k rest, says_front h rest too_long ends) refl
 
 pub splits_are_read : SplitsAreRead
-splits_are_read bytes h pieces rest is splits ends =
-    rw (reading-header bytes h is, splits.whole, read_splits h pieces rest 0 splits.each, read_rest h (0 + length pieces) rest ends, append-nil (map (packet_of_piece h) pieces)) refl
+splits_are_read bytes h raws rest is splits ends =
+    rw (reading-file_heading bytes h is, splits.whole, read_splits h raws rest 0 splits.each, read_rest h (0 + length raws) rest ends, append-nil (map (packet_of_raw h) raws)) refl
 
 pub splits_are_refused : SplitsAreRefused
-splits_are_refused bytes h pieces rest is splits ends =
-    let all : 0 + length pieces ≡ length pieces = omega arith in
-    rw (reading-header bytes h is, splits.whole, read_splits h pieces rest 0 splits.each, all, read_too_long h (length pieces) rest ends) refl
+splits_are_refused bytes h raws rest is splits ends =
+    let all : 0 + length raws ≡ length raws = omega arith in
+    rw (reading-file_heading bytes h is, splits.whole, read_splits h raws rest 0 splits.each, all, read_too_long h (length raws) rest ends) refl
 
 -- a file that is read has a header
-headed : (bytes : List ℕ) (r : Reading) (read : Result Heading CaptureFault) → header bytes ≡ read → reading bytes ≡ Ok r → (h : Heading) × (header bytes ≡ Ok h)
+headed : (bytes : List ℕ) (r : Reading) (read : Result Heading CaptureFault) → file_heading bytes ≡ read → reading bytes ≡ Ok r → (h : Heading) × (file_heading bytes ≡ Ok h)
 headed bytes r (Ok h) is is_read = (h, is)
 headed bytes r (Err e) is is_read = absurd (let no = reading-bad_header bytes e is in cc)
 
 pub readings_split : ReadingsSplit
 readings_split bytes r is_read =
-    let head = headed bytes r (header bytes) refl is_read in
+    let head = headed bytes r (file_heading bytes) refl is_read in
     let split = split_of head.0 (drop 24 bytes) in
     ⊎_elim
-    (λ ends. (head.0, split.pieces, split.rest, (head.1, split.splits, ends, (let same = splits_are_read bytes head.0 split.pieces split.rest head.1 split.splits ends in cc))))
-    (λ ends. absurd (let no = splits_are_refused bytes head.0 split.pieces split.rest head.1 split.splits ends in cc))
+    (λ ends. (head.0, split.raws, split.rest, (head.1, split.splits, ends, (let same = splits_are_read bytes head.0 split.raws split.rest head.1 split.splits ends in cc))))
+    (λ ends. absurd (let no = splits_are_refused bytes head.0 split.raws split.rest head.1 split.splits ends in cc))
     split.ends
 
 pub refusals_split : RefusalsSplit
 refusals_split bytes h k is refused =
     let split = split_of h (drop 24 bytes) in
     ⊎_elim
-    (λ ends. absurd (let no = splits_are_read bytes h split.pieces split.rest is split.splits ends in cc))
-    (λ ends. (split.pieces, split.rest, ((let same = splits_are_refused bytes h split.pieces split.rest is split.splits ends in cc), split.splits, ends)))
+    (λ ends. absurd (let no = splits_are_read bytes h split.raws split.rest is split.splits ends in cc))
+    (λ ends. (split.raws, split.rest, ((let same = splits_are_refused bytes h split.raws split.rest is split.splits ends in cc), split.splits, ends)))
     split.ends

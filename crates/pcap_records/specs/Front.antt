@@ -4,7 +4,7 @@ use Rattle.pcap_records.specs.declared.front.Found.{Found}
 use Rattle.pcap_records.specs.declared.front.Found.TheVariants.{Torn, TooLong, Whole}
 use Rattle.pcap_records.specs.declared.record_place.Record.{Record}
 use Rattle.pcap_records.specs.Reading.{Heading, front, whole, torn, too_long, first_packet, packet_len}
-use Rattle.pcap_records.specs.Captured.{IsWithin, packet_of}
+use Rattle.pcap_records.specs.CaptureView.{IsWithinFile, packet_of}
 
 -- the record r is the whole one that begins at `at`
 pub record IsRecordAt (h : Heading) (bytes : List ℕ) (at : ℕ) (r : Record) : Type 0 where
@@ -12,7 +12,7 @@ pub record IsRecordAt (h : Heading) (bytes : List ℕ) (at : ℕ) (r : Record) :
   pub start : r.start ≡ at + 16
   pub len : r.len ≡ packet_len h (drop at bytes)
   pub packet : packet_of bytes r ≡ first_packet h (drop at bytes)
-  pub within : IsWithin bytes r
+  pub within : IsWithinFile h.ticks bytes r
 
 abbrev pub IsFoundAt : Heading → List ℕ → ℕ → Found → Type 0
 IsFoundAt h bytes at Torn = front h (drop at bytes) ≡ torn

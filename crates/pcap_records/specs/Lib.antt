@@ -1,7 +1,8 @@
 pub mod Instants
 pub mod Reading
 pub mod Grammar
-pub mod Captured
+pub mod Agreement
+pub mod CaptureView
 pub mod Front
 pub mod Survey
 pub mod Writing

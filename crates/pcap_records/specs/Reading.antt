@@ -31,7 +31,7 @@ pub record Reading : Type 0 where
   pub order : Order
   pub contents : Contents
 
--- ---- limits of this project
+-- ---- lengths and limits
 
 -- a file is at most this long
 abbrev pub capture_limit : ℕ
@@ -41,52 +41,60 @@ capture_limit = 2 ^ 30
 abbrev pub packet_limit : ℕ
 packet_limit = 262144
 
+-- the bytes of a file's header
+abbrev pub file_header_len : ℕ
+file_header_len = 24
+
+-- the bytes of a record's header
+abbrev pub record_header_len : ℕ
+record_header_len = 16
+
 -- ---- numbers
 
 -- the number in the first n bytes
-abbrev pub number : Order → ℕ → List ℕ → ℕ
-number Big n bytes = big_number n bytes
-number Little n bytes = little_number n bytes
+abbrev pub number_in : Order → ℕ → List ℕ → ℕ
+number_in Big n bytes = big_number n bytes
+number_in Little n bytes = little_number n bytes
 
 -- ---- the file header
 
-abbrev pub in_microseconds : Order → Heading
-in_microseconds o = record { order = o; ticks = microseconds }
+abbrev pub microsecond_heading : Order → Heading
+microsecond_heading o = record { order = o; ticks = microseconds }
 
 abbrev pub magic : ℕ
 magic = 0xa1b2c3d4
 
 -- the heading in whose order the first four bytes are the magic number
-abbrev pub heading : List ℕ → Option Heading
-heading bytes =
-    if number Big 4 bytes == magic then Some (in_microseconds Big) else
-    (if number Little 4 bytes == magic then Some (in_microseconds Little) else None)
+abbrev pub magic_heading : List ℕ → Option Heading
+magic_heading bytes =
+    if number_in Big 4 bytes == magic then Some (microsecond_heading Big) else
+    (if number_in Little 4 bytes == magic then Some (microsecond_heading Little) else None)
 
 -- version 2.4, and link type 1, which is Ethernet with no bits of a frame check sequence
-abbrev pub checked : Option Heading → List ℕ → Result Heading CaptureFault
-checked None bytes = Err BadMagic
-checked (Some h) bytes =
-    if not (number h.order 2 (drop 4 bytes) == 2) || not (number h.order 2 (drop 6 bytes) == 4) then Err BadVersion else
-    (if not (number h.order 4 (drop 20 bytes) == 1) then Err BadLink else Ok h)
+abbrev pub checked_heading : Option Heading → List ℕ → Result Heading CaptureFault
+checked_heading None bytes = Err BadMagic
+checked_heading (Some h) bytes =
+    if not (number_in h.order 2 (drop 4 bytes) == 2) || not (number_in h.order 2 (drop 6 bytes) == 4) then Err BadVersion else
+    (if not (number_in h.order 4 (drop 20 bytes) == 1) then Err BadLink else Ok h)
 
 -- the heading, or the first fault of the file header
-unfoldable pub header : List ℕ → Result Heading CaptureFault
-header bytes =
+unfoldable pub file_heading : List ℕ → Result Heading CaptureFault
+file_heading bytes =
     if nat_lt capture_limit (length bytes) then Err CaptureTooLong else
-    (if nat_lt (length bytes) 24 then Err ShortHeader else checked (heading bytes) bytes)
+    (if nat_lt (length bytes) 24 then Err ShortHeader else checked_heading (magic_heading bytes) bytes)
 
 -- ---- the record at the front of some bytes
 
 -- its header's third field: how long its packet is
 abbrev pub packet_len : Heading → List ℕ → ℕ
-packet_len h bytes = number h.order 4 (drop 8 bytes)
+packet_len h bytes = number_in h.order 4 (drop 8 bytes)
 
 -- its first two fields: seconds, and ticks however many
-abbrev pub stamp : Heading → List ℕ → ℕ
-stamp h bytes = instant h.ticks (number h.order 4 bytes * h.ticks + number h.order 4 (drop 4 bytes))
+abbrev pub stamp_of : Heading → List ℕ → ℕ
+stamp_of h bytes = instant h.ticks (number_in h.order 4 bytes * h.ticks + number_in h.order 4 (drop 4 bytes))
 
 abbrev pub first_packet : Heading → List ℕ → Packet
-first_packet h bytes = record { stamp = stamp h bytes; bytes = take (packet_len h bytes) (drop 16 bytes) }
+first_packet h bytes = record { stamp = stamp_of h bytes; bytes = take (packet_len h bytes) (drop 16 bytes) }
 
 -- bytes begin with a whole record, with a part of one at most, or with a header that announces too
 -- long a packet, whether or not the file holds it
@@ -103,34 +111,34 @@ front h bytes =
 
 -- ---- all records
 
-abbrev pub with_packet : Packet → Result Contents CaptureFault → Result Contents CaptureFault
-with_packet p (Ok c) = Ok (record { ticks = c.ticks; packets = p ∷ c.packets; rest = c.rest })
-with_packet p (Err e) = Err e
+abbrev pub contents_with_packet : Packet → Result Contents CaptureFault → Result Contents CaptureFault
+contents_with_packet p (Ok c) = Ok (record { ticks = c.ticks; packets = p ∷ c.packets; rest = c.rest })
+contents_with_packet p (Err e) = Err e
 
 -- what bytes hold of which the k-th record would stand at the front, by what the front is and by what
 -- is read after that record
-abbrev pub placed : Front → Heading → ℕ → List ℕ → Result Contents CaptureFault → Result Contents CaptureFault
-placed torn h k bytes after = Ok (record { ticks = h.ticks; packets = []; rest = length bytes })
-placed too_long h k bytes after = Err (RecordTooLong k)
-placed whole h k bytes after = with_packet (first_packet h bytes) after
+abbrev pub contents_at : Front → Heading → ℕ → List ℕ → Result Contents CaptureFault → Result Contents CaptureFault
+contents_at torn h k bytes after = Ok (record { ticks = h.ticks; packets = []; rest = length bytes })
+contents_at too_long h k bytes after = Err (RecordTooLong k)
+contents_at whole h k bytes after = contents_with_packet (first_packet h bytes) after
 
 -- the records from number k on in bytes of which the first n still belong to the record before
 unfoldable pub records_after : ℕ → Heading → ℕ → List ℕ → Result Contents CaptureFault
 records_after n h k [] = Ok (record { ticks = h.ticks; packets = []; rest = 0 })
 records_after zero h k (b ∷ bytes) =
-    placed (front h (b ∷ bytes)) h k (b ∷ bytes) (records_after (15 + packet_len h (b ∷ bytes)) h (suc k) bytes)
+    contents_at (front h (b ∷ bytes)) h k (b ∷ bytes) (records_after (15 + packet_len h (b ∷ bytes)) h (suc k) bytes)
 records_after (suc n) h k (b ∷ bytes) = records_after n h k bytes
 
 -- ---- a file
 
-abbrev pub in_order : Order → Result Contents CaptureFault → Result Reading CaptureFault
-in_order o (Ok c) = Ok (record { order = o; contents = c })
-in_order o (Err e) = Err e
+abbrev pub reading_in : Order → Result Contents CaptureFault → Result Reading CaptureFault
+reading_in o (Ok c) = Ok (record { order = o; contents = c })
+reading_in o (Err e) = Err e
 
-abbrev pub read_with : Result Heading CaptureFault → List ℕ → Result Reading CaptureFault
-read_with (Ok h) bytes = in_order h.order (records_after 0 h 0 (drop 24 bytes))
-read_with (Err e) bytes = Err e
+abbrev pub reading_with : Result Heading CaptureFault → List ℕ → Result Reading CaptureFault
+reading_with (Ok h) bytes = reading_in h.order (records_after 0 h 0 (drop 24 bytes))
+reading_with (Err e) bytes = Err e
 
 -- what the file holds, or its first fault
 unfoldable pub reading : List ℕ → Result Reading CaptureFault
-reading bytes = read_with (header bytes) bytes
+reading bytes = reading_with (file_heading bytes) bytes

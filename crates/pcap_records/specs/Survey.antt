@@ -4,7 +4,7 @@ use Rattle.pcap_records.specs.declared.reader.Survey.{Survey}
 use Rattle.pcap_records.specs.declared.fault.CaptureFault.{CaptureFault}
 use Rattle.pcap_records.specs.declared.record_place.Record.{Record}
 use Rattle.pcap_records.specs.Reading.{Heading, Contents, records_after}
-use Rattle.pcap_records.specs.Captured.{IsSound, packet_of}
+use Rattle.pcap_records.specs.CaptureView.{IsSoundCapture, packet_of}
 
 -- how many records there are, k of them passed already, and how many bytes follow them
 abbrev pub survey_from : ℕ → Result Contents CaptureFault → Result Survey CaptureFault
@@ -13,5 +13,5 @@ survey_from k (Err e) = Err e
 
 -- the list is that of the file's records, where no record announces too much
 pub record IsListed (h : Heading) (bytes : List ℕ) (records : List Record) : Type 0 where
-  pub sound : IsSound bytes records
+  pub sound : IsSoundCapture h.ticks bytes records
   pub same : IfOk (records_after 0 h 0 (drop 24 bytes)) (λ c. record { ticks = h.ticks; packets = map (packet_of bytes) records; rest = c.rest } ≡ c)

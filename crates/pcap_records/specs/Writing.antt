@@ -6,10 +6,14 @@ use Rattle.pcap_records.specs.declared.order.Order.TheVariants.{Little}
 use Rattle.pcap_records.specs.Instants.{microseconds, horizon}
 use Rattle.pcap_records.specs.Reading.{Packet, magic, capture_limit, packet_limit, reading}
 
+-- the magic number of files in so many ticks a second: there is one so far, that of microseconds
+abbrev pub magic_of : ℕ → ℕ
+magic_of ticks = magic
+
 -- magic number, version 2.4, time zone 0, accuracy 0, longest packet 65,535, link type Ethernet
-unfoldable pub file_header : List ℕ
-file_header =
-    (((((little_bytes 4 magic ++ little_bytes 2 2) ++ little_bytes 2 4) ++ little_bytes 4 0) ++ little_bytes 4 0) ++ little_bytes 4 65535) ++ little_bytes 4 1
+unfoldable pub file_header : ℕ → List ℕ
+file_header ticks =
+    (((((little_bytes 4 (magic_of ticks) ++ little_bytes 2 2) ++ little_bytes 2 4) ++ little_bytes 4 0) ++ little_bytes 4 0) ++ little_bytes 4 65535) ++ little_bytes 4 1
 
 -- seconds, ticks, captured length, original length
 unfoldable pub record_header : ℕ → ℕ → ℕ → List ℕ
@@ -20,17 +24,17 @@ record_header ticks at len =
 abbrev pub record_bytes : ℕ → ℕ → List ℕ → List ℕ
 record_bytes ticks at packet = record_header ticks at (length packet) ++ packet
 
--- a capture of some packets in microseconds
-abbrev pub capture_with : List Packet → List ℕ
-capture_with packets = file_header ++ flat_map (λ p. record_bytes microseconds p.stamp p.bytes) packets
+-- a capture of some packets
+abbrev pub written_capture : ℕ → List Packet → List ℕ
+written_capture ticks packets = file_header ticks ++ flat_map (λ p. record_bytes ticks p.stamp p.bytes) packets
 
 -- a packet for which there is a record: before the horizon, and no longer than the limit
-pub record IsWritable (p : Packet) : Type 0 where
-  pub stamped : p.stamp < horizon microseconds
+pub record IsWritable (ticks : ℕ) (p : Packet) : Type 0 where
+  pub stamped : p.stamp < horizon ticks
   pub limited : length p.bytes ≤ packet_limit
 
 -- what is written is read back: the same packets with the same stamps, and no rest
 abbrev pub WrittenIsRead : Type 0
 WrittenIsRead =
-    (packets : List Packet) → AllByRecursion IsWritable packets → length (capture_with packets) ≤ capture_limit
-    → reading (capture_with packets) ≡ Ok (record { order = Little; contents = record { ticks = microseconds; packets = packets; rest = 0 } })
+    (packets : List Packet) → AllByRecursion (IsWritable microseconds) packets → length (written_capture microseconds packets) ≤ capture_limit
+    → reading (written_capture microseconds packets) ≡ Ok (record { order = Little; contents = record { ticks = microseconds; packets = packets; rest = 0 } })

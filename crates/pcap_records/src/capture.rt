@@ -15,24 +15,26 @@ pub struct Capture<'a> {
 }
 
 impl<'a> Model for Capture<'a> {
-    ghost use Rattle.pcap_records.specs.Captured.{Captured, IsSound};
+    ghost use Rattle.pcap_records.specs.CaptureView.{CaptureView, IsSoundCapture};
+    ghost use Rattle.pcap_records.specs.Instants.{microseconds};
 
-    ghost Value = { Captured };
+    ghost Value = { CaptureView };
 
     ghost view = { λ c. record {
       bytes = c.bytes.now;
+      ticks = microseconds;
       order = c.order;
       records = c.records.items;
       rest = c.rest;
     } };
 
-    ghost invariant = { λ c. IsSound c.bytes.now c.records.items };
+    ghost invariant = { λ c. IsSoundCapture microseconds c.bytes.now c.records.items };
 }
 
 impl<'a> Capture<'a> {
     ghost use Rattle.std.specs.Prelude.{◌≡◌, ◌≤◌, ◌<◌, ◌-◌, length, Some, IfOk};
-    ghost use Rattle.pcap_records.specs.Captured.{IsSound, packet_at, stamps_between};
-    ghost use Rattle.pcap_records.specs.Instants.{instants};
+    ghost use Rattle.pcap_records.specs.CaptureView.{IsSoundCapture, packet_at, stamps_between};
+    ghost use Rattle.pcap_records.specs.Instants.{instants, microseconds};
 
     // The capture of a file whose records were found.
     pub(crate) fn of_records(
@@ -41,8 +43,9 @@ impl<'a> Capture<'a> {
         records: Vec<Record>,
         rest: u32,
     ) -> Capture<'a>
-        requires { IsSound bytes.now records.items }
+        requires { IsSoundCapture microseconds bytes.now records.items }
         ensures bytes { result.bytes ≡ bytes.entry.now }
+        ensures ticks { result.ticks ≡ microseconds }
         ensures order { result.order ≡ order }
         ensures records { result.records ≡ records.items }
         ensures rest { result.rest ≡ rest }
@@ -65,7 +68,7 @@ impl<'a> Capture<'a> {
     /// The whole records, in the file's order. Their number is below 2^26.
     pub fn records(&self) -> &[Record]
         ensures records { result.now ≡ self.now.records }
-        ensures sound { IsSound self.now.bytes result.now }
+        ensures sound { IsSoundCapture self.now.ticks self.now.bytes result.now }
     {
         &self.records
     }

@@ -1,6 +1,6 @@
 //! What stands at one place of a file where a record may begin.
-ghost use Rattle.std.specs.Prelude.{◌≡◌, ◌≤◌, ◌<◌, ◌^◌, length};
-ghost use Rattle.pcap_records.specs.Reading.{in_microseconds};
+ghost use Rattle.std.specs.Prelude.{◌≡◌, ◌≤◌, ◌<◌, length};
+ghost use Rattle.pcap_records.specs.Reading.{microsecond_heading, capture_limit};
 ghost use Rattle.pcap_records.specs.Front.{IsFoundAt};
 
 use crate::moment::Moment;
@@ -8,10 +8,10 @@ use crate::order::Order;
 use crate::record_place::Record;
 
 /// The bytes of a record's header.
-pub(crate) const RECORD_HEADER_LEN: usize = 16;
+pub const RECORD_HEADER_LEN: usize = 16;
 
 /// The most bytes that a packet may have, which is libpcap's own limit.
-pub(crate) const PACKET_LIMIT: u32 = 262_144;
+pub const PACKET_LIMIT: u32 = 262_144;
 
 /// What is found where a record may begin.
 #[derive(Clone, Copy)]
@@ -28,8 +28,8 @@ pub(crate) enum Found {
 #[tactic(auto, unfolding(crate::specs::Reading::front))]
 pub(crate) fn found_at(order: Order, bytes: &[u8], at: usize) -> Found
     requires place { at ≤ length bytes.now }
-    requires limited { length bytes.now ≤ 2 ^ 30 }
-    ensures { IsFoundAt (in_microseconds order) bytes.now at result }
+    requires limited { length bytes.now ≤ capture_limit }
+    ensures { IsFoundAt (microsecond_heading order) bytes.now at result }
 {
     let rest = &bytes[at..];
     if rest.len() < RECORD_HEADER_LEN {

@@ -1,16 +1,17 @@
 //! The file header.
-ghost use Rattle.std.specs.Prelude.{◌≡◌, ◌≤◌, ◌^◌, length, option_map, OnOk};
-ghost use Rattle.pcap_records.specs.Reading.{header, heading, in_microseconds};
-ghost use Rattle.pcap_records.specs.Captured.{Is};
+ghost use Rattle.std.specs.Prelude.{◌≡◌, ◌≤◌, length, option_map, OnOk};
+ghost use Rattle.pcap_records.specs.Reading.{capture_limit, file_header_len, file_heading, magic_heading, microsecond_heading};
+ghost use Rattle.pcap_records.specs.CaptureView.{refusal};
+ghost use Rattle.pcap_records.specs.Agreement.{AgreesWithoutMemory};
 
 use crate::fault::CaptureFault;
 use crate::order::Order;
 
 /// The most bytes that a file may have.
-pub(crate) const CAPTURE_LIMIT: usize = 1 << 30;
+pub const CAPTURE_LIMIT: usize = 1 << 30;
 
 /// The bytes of a file header.
-pub(crate) const FILE_HEADER_LEN: usize = 24;
+pub const FILE_HEADER_LEN: usize = 24;
 
 const MAGIC: u32 = 0xa1b2_c3d4;
 
@@ -19,7 +20,7 @@ const ETHERNET: u32 = 1;
 // The byte order that the magic number tells.
 fn order_of(bytes: &[u8]) -> Option<Order>
     requires { 4 ≤ length bytes.now }
-    ensures { option_map in_microseconds result ≡ heading bytes.now }
+    ensures { option_map microsecond_heading result ≡ magic_heading bytes.now }
 {
     if Order::Big.u32_of(bytes) == MAGIC {
         Some(Order::Big)
@@ -31,11 +32,11 @@ fn order_of(bytes: &[u8]) -> Option<Order>
 }
 
 // The byte order of a file's fields, or the first fault of its length and header.
-#[tactic(auto, unfolding(crate::specs::Reading::header))]
+#[tactic(auto, unfolding(crate::specs::Reading::file_heading))]
 pub(crate) fn read_heading(bytes: &[u8]) -> Result<Order, CaptureFault>
-    ensures exact { Is in_microseconds result (header bytes.now) }
-    ensures whole { OnOk result (24 ≤ length bytes.now) }
-    ensures limited { OnOk result (length bytes.now ≤ 2 ^ 30) }
+    ensures exact { AgreesWithoutMemory refusal microsecond_heading result (file_heading bytes.now) }
+    ensures whole { OnOk result (file_header_len ≤ length bytes.now) }
+    ensures limited { OnOk result (length bytes.now ≤ capture_limit) }
 {
     if bytes.len() > CAPTURE_LIMIT {
         return Err(CaptureFault::CaptureTooLong);

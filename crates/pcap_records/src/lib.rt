@@ -13,12 +13,12 @@ mod moment;
 mod order;
 mod reader;
 mod record_place;
-#[cfg(test)]
-mod tests;
 mod writing;
 
 pub use capture::Capture;
 pub use fault::CaptureFault;
+pub use front::{PACKET_LIMIT, RECORD_HEADER_LEN};
+pub use heading::{CAPTURE_LIMIT, FILE_HEADER_LEN};
 pub use moment::Moment;
 pub use order::Order;
 pub use reader::read_capture;

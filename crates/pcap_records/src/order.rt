@@ -12,12 +12,12 @@ pub enum Order {
 
 impl Order {
     ghost use Rattle.std.specs.Prelude.{◌≡◌, ◌≤◌, length};
-    ghost use Rattle.pcap_records.specs.Reading.{number};
+    ghost use Rattle.pcap_records.specs.Reading.{number_in};
 
     // The number in the first two bytes.
     pub(crate) fn u16_of(self, bytes: &[u8]) -> u16
         requires { 2 ≤ length bytes.now }
-        ensures { result ≡ number self 2 bytes.now }
+        ensures { result ≡ number_in self 2 bytes.now }
     {
         match self {
             Order::Big => BigEndian::read_u16(bytes),
@@ -28,7 +28,7 @@ impl Order {
     // The number in the first four bytes.
     pub(crate) fn u32_of(self, bytes: &[u8]) -> u32
         requires { 4 ≤ length bytes.now }
-        ensures { result ≡ number self 4 bytes.now }
+        ensures { result ≡ number_in self 4 bytes.now }
     {
         match self {
             Order::Big => BigEndian::read_u32(bytes),

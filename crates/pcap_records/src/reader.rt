@@ -1,7 +1,9 @@
 //! Reading a whole file: a first pass that takes no memory finds every fault, a second one lists the records.
-ghost use Rattle.std.specs.Prelude.{◌≡◌, ◌≤◌, ◌<◌, ◌^◌, length, drop, IfOk};
-ghost use Rattle.pcap_records.specs.Reading.{reading, in_microseconds, records_after};
-ghost use Rattle.pcap_records.specs.Captured.{Gives, Is, reading_of};
+ghost use Rattle.std.specs.Prelude.{◌≡◌, ◌≤◌, ◌<◌, length, drop, IfOk};
+ghost use Rattle.pcap_records.specs.Reading.{reading, capture_limit, file_header_len, microsecond_heading, records_after};
+ghost use Rattle.pcap_records.specs.Agreement.{Agrees, AgreesWithoutMemory};
+ghost use Rattle.pcap_records.specs.CaptureView.{reading_of, refusal};
+ghost use Rattle.pcap_records.specs.Instants.{microseconds};
 ghost use Rattle.pcap_records.specs.Survey.{survey_from, IsListed};
 
 use crate::capture::Capture;
@@ -25,8 +27,9 @@ pub(crate) struct Survey {
 /// The first fault of the file, in the order of [`CaptureFault`], found in a pass that takes no memory; then
 /// `Memory`, where a growth was refused.
 pub fn read_capture<'a>(alloc: Global, bytes: &'a [u8]) -> Result<Capture<'a>, CaptureFault>
-    ensures exact { Gives reading_of result (reading bytes.now) }
+    ensures exact { Agrees refusal reading_of result (reading bytes.now) }
     ensures of { IfOk result (λ capture. capture.bytes ≡ bytes.now) }
+    ensures ticks { IfOk result (λ capture. capture.ticks ≡ microseconds) }
 {
     let order = read_heading(bytes)?;
     let survey = survey_records(order, bytes)?;
@@ -36,9 +39,9 @@ pub fn read_capture<'a>(alloc: Global, bytes: &'a [u8]) -> Result<Capture<'a>, C
 
 // Goes over the records and keeps nothing but their number.
 fn survey_records(order: Order, bytes: &[u8]) -> Result<Survey, CaptureFault>
-    requires header { 24 ≤ length bytes.now }
-    requires limited { length bytes.now ≤ 2 ^ 30 }
-    ensures { Is (λ survey. survey) result (survey_from 0 (records_after 0 (in_microseconds order) 0 (drop 24 bytes.now))) }
+    requires header { file_header_len ≤ length bytes.now }
+    requires limited { length bytes.now ≤ capture_limit }
+    ensures { AgreesWithoutMemory refusal (λ survey. survey) result (survey_from 0 (records_after 0 (microsecond_heading order) 0 (drop file_header_len bytes.now))) }
 {
     let mut at = FILE_HEADER_LEN;
     let mut count = 0;
@@ -66,9 +69,9 @@ fn list_records(
     bytes: &[u8],
     count: usize,
 ) -> Result<Vec<Record>, AllocError>
-    requires header { 24 ≤ length bytes.now }
-    requires limited { length bytes.now ≤ 2 ^ 30 }
-    ensures { IfOk result (λ records. IsListed (in_microseconds order) bytes.now records.items) }
+    requires header { file_header_len ≤ length bytes.now }
+    requires limited { length bytes.now ≤ capture_limit }
+    ensures { IfOk result (λ records. IsListed (microsecond_heading order) bytes.now records.items) }
 {
     let mut records = Vec::with_capacity(alloc, count)?;
     let mut at = FILE_HEADER_LEN;

@@ -21,7 +21,7 @@ const FILE_HEADER: [u8; FILE_HEADER_LEN] = [
 /// Where a growth is refused; `out` is then unchanged.
 #[tactic(auto, unfolding(crate::specs::Writing::file_header))]
 pub fn write_header(out: &mut Vec<u8>) -> Result<(), AllocError>
-    ensures ok { OnOk result (out.new.items ≡ out.old.items ++ file_header) }
+    ensures ok { OnOk result (out.new.items ≡ out.old.items ++ file_header microseconds) }
     ensures err { OnErr result (out.new.items ≡ out.old.items) }
 {
     out.extend_from_slice(&FILE_HEADER)

@@ -7,7 +7,7 @@ use Rattle.std.proofs.lemmas.List.Sums.{sum_by-cons}
 use Rattle.std.proofs.lemmas.Iterator.Adapters.{position_from-zero}
 use Rattle.hex.specs.Hex.{IsBytes, encode_with, hex_digit_value, is_hex_digit}
 use Rattle.hex.proofs.HexLemmas.{IsDigits}
-use Rattle.toxicap.specs.Dumps.{is_blank, is_foreign, joined_pairs, dumped_bytes, undumped, without_blanks}
+use Rattle.toxicap.specs.Dumps.{is_blank, is_foreign, joined_pairs, dumped_bytes, dump_reading, without_blanks}
 
 -- a blank is no digit
 blank_value : (b : ℕ) → is_blank b ≡ true → hex_digit_value b ≡ None
@@ -91,9 +91,9 @@ pairs_back table (b ∷ rest) digits h =
 
 -- ---- the law
 
-pub undumped-encoded : (table bytes text : List ℕ) → IsDigits table → IsBytes bytes → without_blanks text ≡ encode_with table bytes → undumped text ≡ Ok bytes
-unfolding undumped
-undumped-encoded table bytes text digits h same =
+pub dump_reading-encoded : (table bytes text : List ℕ) → IsDigits table → IsBytes bytes → without_blanks text ≡ encode_with table bytes → dump_reading text ≡ Ok bytes
+unfolding dump_reading
+dump_reading-encoded table bytes text digits h same =
     let values : filter_map hex_digit_value text ≡ filter_map hex_digit_value (encode_with table bytes) =
     sym (values-kept is_blank hex_digit_value blank_value text) ∙ ap (filter_map hex_digit_value) same in
     let none : position is_foreign text ≡ None =

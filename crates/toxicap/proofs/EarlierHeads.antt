@@ -3,10 +3,10 @@ use Rattle.std.proofs.Common.{◌≡◌, ◌<◌, ◌≤◌, ℕ, zero, suc, ◌
 use Rattle.std.specs.List.{count_by}
 use Rattle.std.proofs.lemmas.List.Sums.{count_by_more_yes, count_by_more_no}
 use Rattle.std.proofs.lemmas.List.{append-nil, append_assoc, reverse-append, drop_more, take_more, drop_all}
-use Rattle.toxicap.specs.declared.heads.Head.{Head}
-use Rattle.toxicap.specs.declared.opened.Opened.{Opened}
+use Rattle.toxicap.specs.declared.plain.heads.Head.{Head}
+use Rattle.toxicap.specs.declared.plain.openings.Opened.{Opened}
 use Rattle.toxicap.specs.declared.pair.Pair.{Pair}
-use Rattle.toxicap.specs.Segments.{pair_of, same_pair}
+use Rattle.toxicap.specs.IndexedSegments.{pair_of, same_pair}
 use Rattle.toxicap.proofs.GroupingFilters.{last_or-push}
 use Rattle.toxicap.specs.Heads.{opens, repeats_head, answer_at, is_unopened_head, begins_head, begun_after, answer_after, opened_by, opened_after, unopened_heads, last_opening}
 
@@ -98,12 +98,12 @@ module _ (heads : List Head) (begun : List Bool) (all : begun ≡ begun_after []
   pub answer_back : (b : Head) → answer_at (get_or begun k false) b h (answer_after (take i heads) b (drop i heads)) ≡ answer_after (take k heads) b (drop k heads)
   answer_back b = rw (follows, begun_here) (sym (answer_next heads k h within is b))
 
-  module _ (opened : List Opened) (n : ℕ) (so_far : reverse opened ≡ opened_after n (take i heads) (drop i heads)) (counted : n ≡ count_by (λ b. b) (take i begun)) where
+  module _ (opened : List Opened) (n : ℕ) (so_far : reverse opened ≡ opened_after n (take i heads) (drop i heads)) (counts_with : n ≡ count_by (λ b. b) (take i begun)) where
     pub number_back : get_or begun k false ≡ true → n ≡ count_by (λ b. b) (take k begun) + 1
-    number_back begins = counted ∙ rw follows (count_by_more_yes (λ b. b) begun k false (begun_within heads begun all k within) begins)
+    number_back begins = counts_with ∙ rw follows (count_by_more_yes (λ b. b) begun k false (begun_within heads begun all k within) begins)
 
     pub number_stays : get_or begun k false ≡ false → n ≡ count_by (λ b. b) (take k begun)
-    number_stays other = counted ∙ rw follows (count_by_more_no (λ b. b) begun k false (begun_within heads begun all k within) other)
+    number_stays other = counts_with ∙ rw follows (count_by_more_no (λ b. b) begun k false (begun_within heads begun all k within) other)
 
     pub opened_back : (m : ℕ) → n ≡ m + 1 → get_or begun k false ≡ true → (o : Opened) → o ≡ opened_by m h (answer_after (take i heads) h (drop i heads))
         → reverse (opened ++ o ∷ []) ≡ opened_after m (take k heads) (drop k heads)

@@ -7,12 +7,12 @@ use Rattle.std.specs.Fn.{Called}
 use Rattle.std.specs.List.Sorted.{ties, IsSortedBy, IsStableBy, IsSortedByKeyClosure, IsStableByKeyClosure}
 use Rattle.std.proofs.lemmas.List.Sorted.{ranks_by, answers_always}
 use Rattle.std.proofs.lemmas.List.Elements.{filter-append}
-use Rattle.toxicap.specs.declared.keys.SegKey.{SegKey}
+use Rattle.toxicap.specs.declared.framed.SegKey.{SegKey}
 use Rattle.toxicap.specs.declared.framed.Framed.{Framed}
-use Rattle.toxicap.specs.contracts.keys.SegKeyOrd.TheImpl.{ghosts}
-use Rattle.toxicap.specs.contracts.keys.SegKeyOrd.TheImpl.Laws.{total-law}
-use Rattle.toxicap.specs.Written.{lower, placed, in_order}
-use Rattle.toxicap.specs.KeyOrder.{Rise, RisingIsInOrder, PartsAreOrderedFirst}
+use Rattle.toxicap.specs.contracts.framed.SegKeyOrd.TheImpl.{ghosts}
+use Rattle.toxicap.specs.contracts.framed.SegKeyOrd.TheImpl.Laws.{total-law}
+use Rattle.toxicap.specs.WrittenSegments.{is_key_below, insert_by_key, sorted_by_key}
+use Rattle.toxicap.specs.KeyOrder.{RisesFrom, RisingIsSorted, PartsAreSortedFirst}
 use Rattle.toxicap.proofs.Sorting.{NoneBelow, Ordered, ordered-from_sorted, only_one, none_below-chain, not_below-ties}
 
 -- ---- the derived order of keys is that of the definition
@@ -30,12 +30,12 @@ next_test false false o = refl
 then_test : (m n : ℕ) (o : Ordering) (t : Bool) → is_lt o ≡ t → is_lt (ordering_then (nat_cmp m n) o) ≡ (nat_lt m n || (m == n && t))
 then_test m n o t h = next_test (nat_lt m n) (m == n) o ∙ ap (λ u. nat_lt m n || (m == n && u)) h
 
-derived_is_lower : (a b : SegKey) → is_lt (ghosts.cmp a b) ≡ lower a b
+derived_is_lower : (a b : SegKey) → is_lt (ghosts.cmp a b) ≡ is_key_below a b
 derived_is_lower a b = then_test a.moment b.moment _ _ (then_test a.conn b.conn _ _ (then_test a.turn b.turn _ _ (last_test (nat_lt a.place b.place) (a.place == b.place))))
 
 -- whether a segment's key is lower
 abbrev pub below : Framed → Framed → Bool
-below x y = lower x.key y.key
+below x y = is_key_below x.key y.key
 
 derived_is_below : (λ (x y : Framed). is_lt (ghosts.cmp x.key y.key)) ≡ below
 derived_is_below = λ i x y. derived_is_lower x.key y.key i
@@ -45,26 +45,26 @@ below_order = subst IsStrictWeakOrder derived_is_below (ranks_by total-law (λ (
 
 -- ---- `in_order` sorts, and keeps what ties in its order
 
-none_below-placed : (z x : Framed) (ys : List Framed) → below x z ≡ false → NoneBelow below z ys → NoneBelow below z (placed x ys)
-none_below-placed z x [] h none = (h, tt)
-none_below-placed z x (y ∷ ys) h none = by (below y x) (none_below-placed z x ys h none.1)
+none_below-insert_by_key : (z x : Framed) (ys : List Framed) → below x z ≡ false → NoneBelow below z ys → NoneBelow below z (insert_by_key x ys)
+none_below-insert_by_key z x [] h none = (h, tt)
+none_below-insert_by_key z x (y ∷ ys) h none = by (below y x) (none_below-insert_by_key z x ys h none.1)
   where
-    by : (b : Bool) → NoneBelow below z (placed x ys) → NoneBelow below z (if b then y ∷ placed x ys else x ∷ y ∷ ys)
+    by : (b : Bool) → NoneBelow below z (insert_by_key x ys) → NoneBelow below z (if b then y ∷ insert_by_key x ys else x ∷ y ∷ ys)
     by true later = (none.0, later)
     by false later = (h, none)
 
-ordered-placed : (x : Framed) (ys : List Framed) → Ordered below ys → Ordered below (placed x ys)
-ordered-placed x [] h = (tt, tt)
-ordered-placed x (y ∷ ys) h = by (below y x) refl (ordered-placed x ys h.1)
+ordered-insert_by_key : (x : Framed) (ys : List Framed) → Ordered below ys → Ordered below (insert_by_key x ys)
+ordered-insert_by_key x [] h = (tt, tt)
+ordered-insert_by_key x (y ∷ ys) h = by (below y x) refl (ordered-insert_by_key x ys h.1)
   where
-    by : (b : Bool) → below y x ≡ b → Ordered below (placed x ys) → Ordered below (if b then y ∷ placed x ys else x ∷ y ∷ ys)
-    by true lower later = (none_below-placed y x ys (below_order.one_way y x lower) h.0, later)
+    by : (b : Bool) → below y x ≡ b → Ordered below (insert_by_key x ys) → Ordered below (if b then y ∷ insert_by_key x ys else x ∷ y ∷ ys)
+    by true is_key_below later = (none_below-insert_by_key y x ys (below_order.one_way y x is_key_below) h.0, later)
     by false higher later = ((higher, none_below-chain below below_order x y ys higher h.0), h)
 
-pub ordered-in_order : (xs : List Framed) → Ordered below (in_order xs)
-unfolding in_order
-ordered-in_order [] = tt
-ordered-in_order (x ∷ xs) = ordered-placed x (in_order xs) (ordered-in_order xs)
+pub ordered-sorted_by_key : (xs : List Framed) → Ordered below (sorted_by_key xs)
+unfolding sorted_by_key
+ordered-sorted_by_key [] = tt
+ordered-sorted_by_key (x ∷ xs) = ordered-insert_by_key x (sorted_by_key xs) (ordered-sorted_by_key xs)
 
 -- of two elements that do not both pass, either may come first
 filter-swapped : (u v : Bool) (x y : Framed) (zs : List Framed) → (u ≡ true → v ≡ true → ⊥) → cond v (y ∷ cond u (x ∷ zs) zs) (cond u (x ∷ zs) zs) ≡ cond u (x ∷ cond v (y ∷ zs) zs) (cond v (y ∷ zs) zs)
@@ -72,51 +72,51 @@ filter-swapped true true x y zs h = absurd (h refl refl)
 filter-swapped true false x y zs h = refl
 filter-swapped false v x y zs h = refl
 
-filter-placed : (z x : Framed) (ys : List Framed) → filter (ties below z) (placed x ys) ≡ filter (ties below z) (x ∷ ys)
-filter-placed z x [] = refl
-filter-placed z x (y ∷ ys) = by (below y x) refl (filter-placed z x ys)
+filter-insert_by_key : (z x : Framed) (ys : List Framed) → filter (ties below z) (insert_by_key x ys) ≡ filter (ties below z) (x ∷ ys)
+filter-insert_by_key z x [] = refl
+filter-insert_by_key z x (y ∷ ys) = by (below y x) refl (filter-insert_by_key z x ys)
   where
     apart : below y x ≡ true → ties below z x ≡ true → ties below z y ≡ true → ⊥
-    apart lower a b = cc (not_below-ties below below_order z x y a b)
+    apart is_key_below a b = cc (not_below-ties below below_order z x y a b)
 
-    by : (b : Bool) → below y x ≡ b → filter (ties below z) (placed x ys) ≡ filter (ties below z) (x ∷ ys) → filter (ties below z) (if b then y ∷ placed x ys else x ∷ y ∷ ys) ≡ filter (ties below z) (x ∷ y ∷ ys)
-    by true lower later = ap (λ l. cond (ties below z y) (y ∷ l) l) later ∙ filter-swapped (ties below z x) (ties below z y) x y (filter (ties below z) ys) (apart lower)
+    by : (b : Bool) → below y x ≡ b → filter (ties below z) (insert_by_key x ys) ≡ filter (ties below z) (x ∷ ys) → filter (ties below z) (if b then y ∷ insert_by_key x ys else x ∷ y ∷ ys) ≡ filter (ties below z) (x ∷ y ∷ ys)
+    by true is_key_below later = ap (λ l. cond (ties below z y) (y ∷ l) l) later ∙ filter-swapped (ties below z x) (ties below z y) x y (filter (ties below z) ys) (apart is_key_below)
     by false higher later = refl
 
-pub filter-in_order : (z : Framed) (xs : List Framed) → filter (ties below z) (in_order xs) ≡ filter (ties below z) xs
-unfolding in_order
-filter-in_order z [] = refl
-filter-in_order z (x ∷ xs) = filter-placed z x (in_order xs) ∙ ap (λ l. cond (ties below z x) (x ∷ l) l) (filter-in_order z xs)
+pub filter-sorted_by_key : (z : Framed) (xs : List Framed) → filter (ties below z) (sorted_by_key xs) ≡ filter (ties below z) xs
+unfolding sorted_by_key
+filter-sorted_by_key z [] = refl
+filter-sorted_by_key z (x ∷ xs) = filter-insert_by_key z x (sorted_by_key xs) ∙ ap (λ l. cond (ties below z x) (x ∷ l) l) (filter-sorted_by_key z xs)
 
 -- no other list is so
-pub in_order-only : (xs ys : List Framed) → Ordered below ys → IsStableBy below xs ys → ys ≡ in_order xs
-in_order-only xs ys ordered stable = only_one below below_order ys (in_order xs) ordered (ordered-in_order xs) (λ z. stable z ∙ sym (filter-in_order z xs))
+pub sorted_by_key-only : (xs ys : List Framed) → Ordered below ys → IsStableBy below xs ys → ys ≡ sorted_by_key xs
+sorted_by_key-only xs ys ordered stable = only_one below below_order ys (sorted_by_key xs) ordered (ordered-sorted_by_key xs) (λ z. stable z ∙ sym (filter-sorted_by_key z xs))
 
 -- what a stable sort by key ensures
 pub in_order_by_key : {F : Type 0} {g : Mut F (Bor Framed × Unit {0}) SegKey} {f : F} (xs ys : List Framed) → IsSortedByKeyClosure g ghosts.cmp f ys → IsStableByKeyClosure g ghosts.cmp f xs ys
-    → ((f : F) (a : Bor Framed × Unit {0}) (r : SegKey) (f' : F) → Called g f a r f' → r ≡ a.0.now.key) → ys ≡ in_order xs
+    → ((f : F) (a : Bor Framed × Unit {0}) (r : SegKey) (f' : F) → Called g f a r f' → r ≡ a.0.now.key) → ys ≡ sorted_by_key xs
 in_order_by_key {g = g} {f = f} xs ys sorted stable gives =
     let key = λ (x : Framed). x.key in
     let computes = answers_always g (λ a r. r ≡ key a.0.now) f gives in
-    in_order-only xs ys (ordered-from_sorted below below_order ys (subst (λ lt. IsSortedBy lt ys) derived_is_below (sorted key computes)))
+    sorted_by_key-only xs ys (ordered-from_sorted below below_order ys (subst (λ lt. IsSortedBy lt ys) derived_is_below (sorted key computes)))
     (subst (λ lt. IsStableBy lt xs ys) derived_is_below (stable key computes))
 
 -- ---- laws
 
-ordered-rising : (x : Framed) (ys : List Framed) → Rise x.key ys → NoneBelow below x ys × Ordered below ys
+ordered-rising : (x : Framed) (ys : List Framed) → RisesFrom x.key ys → NoneBelow below x ys × Ordered below ys
 ordered-rising x [] rise = (tt, tt)
 ordered-rising x (y ∷ ys) rise =
     let rest : NoneBelow below y ys × Ordered below ys = ordered-rising y ys rise.1 in
     let higher : below y x ≡ false = below_order.one_way x y rise.0 in
     ((higher, none_below-chain below below_order x y ys higher rest.0), rest)
 
-pub rising_is_in_order : RisingIsInOrder
-unfolding in_order
-rising_is_in_order [] rise = refl
-rising_is_in_order (x ∷ xs) rise = sym (in_order-only (x ∷ xs) (x ∷ xs) (ordered-rising x xs rise) (λ z. refl))
+pub rising_is_sorted : RisingIsSorted
+unfolding sorted_by_key
+rising_is_sorted [] rise = refl
+rising_is_sorted (x ∷ xs) rise = sym (sorted_by_key-only (x ∷ xs) (x ∷ xs) (ordered-rising x xs rise) (λ z. refl))
 
-pub parts_are_ordered_first : PartsAreOrderedFirst
-parts_are_ordered_first xs ys =
-    in_order-only (xs ++ ys) (in_order (in_order xs ++ in_order ys)) (ordered-in_order (in_order xs ++ in_order ys))
+pub parts_are_sorted_first : PartsAreSortedFirst
+parts_are_sorted_first xs ys =
+    sorted_by_key-only (xs ++ ys) (sorted_by_key (sorted_by_key xs ++ sorted_by_key ys)) (ordered-sorted_by_key (sorted_by_key xs ++ sorted_by_key ys))
     (λ z. let kept = ties below z in
-    filter-in_order z (in_order xs ++ in_order ys) ∙ filter-append kept (in_order xs) (in_order ys) ∙ ap₂ (λ us vs. us ++ vs) (filter-in_order z xs) (filter-in_order z ys) ∙ sym (filter-append kept xs ys))
+    filter-sorted_by_key z (sorted_by_key xs ++ sorted_by_key ys) ∙ filter-append kept (sorted_by_key xs) (sorted_by_key ys) ∙ ap₂ (λ us vs. us ++ vs) (filter-sorted_by_key z xs) (filter-sorted_by_key z ys) ∙ sym (filter-append kept xs ys))

@@ -1,25 +1,25 @@
-pub mod AnswerSides
-pub mod WrittenFrames
-pub mod SoundConnections
-pub mod OutputsRead
-pub mod DumpTable
-pub mod DumpLemmas
-pub mod Evaluated
-pub mod GroupingFilters
-pub mod GroupingOrder
-pub mod GroupingPairs
-pub mod GroupingBeginnings
-pub mod GroupingMembers
-pub mod GroupingUnopened
-pub mod GroupingForms
-pub mod Listing
-pub mod EarlierHeads
-pub mod HeadsAgree
-pub mod InOrder
-pub mod Sorting
-pub mod OpeningSegments
-pub mod BareShapes
-pub mod PrintedPart
-pub mod CountingSteps
-pub mod OverviewSteps
-pub mod WrittenLines
+mod AnswerSides
+mod WrittenFrames
+mod SoundConnections
+mod OutputsRead
+mod DumpTable
+mod DumpLemmas
+mod Evaluated
+mod GroupingFilters
+mod GroupingOrder
+mod GroupingPairs
+mod GroupingBeginnings
+mod GroupingMembers
+mod GroupingUnopened
+mod GroupingForms
+mod Listing
+mod EarlierHeads
+mod HeadsAgree
+mod InOrder
+mod Sorting
+mod OpeningSegments
+mod BareShapes
+mod PrintedPart
+mod CountingSteps
+mod OverviewSteps
+mod WrittenLines

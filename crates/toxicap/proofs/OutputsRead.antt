@@ -1,32 +1,32 @@
 -- Output captures are read back whole.
-use Rattle.std.proofs.Common.{◌≡◌, ◌≤◌, ℕ, ◌+◌, Bool, true, false, ◌||◌, not, nat_lt, ◌==◌, List, [], ◌∷◌, ◌++◌, length, map, drop, Some, None, Result, Ok, Err, refl, sym, ap, ◌∙◌, subst, arith, if◌then◌else◌}
+use Rattle.std.proofs.Common.{◌≡◌, ◌≤◌, ℕ, ◌+◌, Bool, true, false, ◌||◌, not, nat_lt, ◌==◌, List, [], ◌∷◌, ◌++◌, length, map, drop, Some, None, Ok, Err, refl, sym, ap, ◌∙◌, subst, arith, if◌then◌else◌}
 use Rattle.std.specs.List.{AllByRecursion, enumerate_from, flat_map}
 use Rattle.std.proofs.lemmas.Bool.{ltb-false}
-use Rattle.pcap_records.specs.declared.fault.CaptureFault.{CaptureFault}
 use Rattle.pcap_records.specs.declared.fault.CaptureFault.TheVariants.{CaptureTooLong, ShortHeader, BadVersion, BadLink}
 use Rattle.pcap_records.specs.declared.order.Order.TheVariants.{Big, Little}
 use Rattle.pcap_records.specs.Instants.{microseconds}
-use Rattle.pcap_records.specs.Reading.{Heading, Packet, Contents, Reading, capture_limit, in_microseconds, number, magic, checked, header, reading}
-use Rattle.pcap_records.specs.Writing.{file_header, record_bytes, capture_with, IsWritable, WrittenIsRead}
+use Rattle.pcap_records.specs.Reading.{Heading, Packet, Contents, Reading, capture_limit, microsecond_heading, number_in, magic, checked_heading, file_heading, reading}
+use Rattle.pcap_records.specs.Writing.{file_header, record_bytes, written_capture, IsWritable, WrittenIsRead}
 use Rattle.pcap_records.specs.Grammar.{ReadingsSplit}
 use Rattle.frame_headers.specs.HeaderLaws.{HeadersAreSound, SegmentsFit}
 use Rattle.toxicap.specs.declared.faults.RunFault.TheVariants.{TooManyScenarios}
 use Rattle.toxicap.specs.declared.framed.Framed.{Framed}
 use Rattle.toxicap.specs.declared.scenario.Scenario.{Scenario}
-use Rattle.toxicap.specs.Segments.{segs_of}
-use Rattle.toxicap.specs.Connections.{Conn, conns}
-use Rattle.toxicap.specs.Written.{in_order}
-use Rattle.toxicap.specs.Merged.{capture_of}
+use Rattle.toxicap.specs.IndexedSegments.{indexed_segments}
+use Rattle.toxicap.specs.Connections.{Connection, connections}
+use Rattle.toxicap.specs.WrittenSegments.{sorted_by_key}
+use Rattle.toxicap.specs.OutputCapture.{capture_of}
 use Rattle.toxicap.specs.Positions.{server_of}
-use Rattle.toxicap.specs.Recorded.{recorded}
-use Rattle.toxicap.specs.Delivered.{Delivered, delivered}
-use Rattle.toxicap.specs.Contribution.{talk, part}
-use Rattle.toxicap.specs.Rehearsal.{met_of, part_of, parts, output, out, outcome, scenario_limit, answer}
-use Rattle.toxicap.specs.OutputCaptures.{NeverFall, IsSoundFrame, IsReadWhole, OutputsAreRead}
+use Rattle.toxicap.specs.RecordedLines.{recorded_connection}
+use Rattle.toxicap.specs.DeliveredLines.{DeliveredConnection, delivered_connection}
+use Rattle.toxicap.specs.Contribution.{written_connection, part}
+use Rattle.toxicap.specs.SeenCapture.{SeenCapture, seen_packets, seen_capture}
+use Rattle.toxicap.specs.Rehearsal.{met_proxy, part_of, output, outputs_of, scenario_limit, answer}
+use Rattle.toxicap.specs.SoundOutputs.{NeverFall, IsSoundFrame, IsReadWhole, OutputsAreRead}
 use Rattle.toxicap.proofs.Sorting.{NoneBelow, Ordered}
-use Rattle.toxicap.proofs.InOrder.{below, ordered-in_order}
-use Rattle.toxicap.proofs.WrittenFrames.{all-append, IsTalk, IsWritten, all-in_order, segments_are}
-use Rattle.toxicap.proofs.SoundConnections.{HasBytes, IsSoundConn, packets_have, conns_are, server_base_fits}
+use Rattle.toxicap.proofs.InOrder.{below, ordered-sorted_by_key}
+use Rattle.toxicap.proofs.WrittenFrames.{all-append, IsSoundWritten, IsWritten, all-sorted_by_key, segments_are}
+use Rattle.toxicap.proofs.SoundConnections.{HasBytes, IsSoundConnection, packets_have, connections_are, server_base_fits}
 
 -- ---- packets of written segments
 
@@ -42,7 +42,7 @@ unfolding packets_of packet_with
 bytes_are [] all = refl
 bytes_are (x ∷ xs) all = rw (all.0.is.bytes, bytes_are xs all.1) refl
 
-writable : (xs : List Framed) (all : AllByRecursion IsWritten xs) → AllByRecursion IsWritable (packets_of xs all)
+writable : (xs : List Framed) (all : AllByRecursion IsWritten xs) → AllByRecursion (IsWritable microseconds) (packets_of xs all)
 unfolding packets_of packet_with
 writable [] all = tt
 writable (x ∷ xs) all = (record { stamped = all.0.in_time; limited = all.0.is.limited }, writable xs all.1)
@@ -70,17 +70,17 @@ unfolding packets_of packet_with
 sound [] all = tt
 sound (x ∷ xs) all = (all.0.is.sound, sound xs all.1)
 
-capture_read : WrittenIsRead → (xs : List Framed) → AllByRecursion IsWritten xs → length (capture_of xs) ≤ capture_limit → IsReadWhole (capture_of xs)
+capture_read : WrittenIsRead → (xs : List Framed) → AllByRecursion IsWritten xs → length (capture_of microseconds xs) ≤ capture_limit → IsReadWhole microseconds (capture_of microseconds xs)
 unfolding capture_of
 capture_read written_is_read xs written within =
-    let all = all-in_order xs written in
-    let packets : List Packet = packets_of (in_order xs) all in
-    let bytes : file_header ++ flat_map (λ x. x.bytes) (in_order xs) ≡ capture_with packets = ap (λ bs. file_header ++ bs) (bytes_are (in_order xs) all) in
-    (packets, rw bytes (written_is_read packets (writable (in_order xs) all) (rw bytes at within)), in_time_order (in_order xs) all (ordered-in_order xs), sound (in_order xs) all)
+    let all = all-sorted_by_key xs written in
+    let packets : List Packet = packets_of (sorted_by_key xs) all in
+    let bytes : file_header microseconds ++ flat_map (λ x. x.bytes) (sorted_by_key xs) ≡ written_capture microseconds packets = ap (λ bs. file_header microseconds ++ bs) (bytes_are (sorted_by_key xs) all) in
+    (packets, rw bytes (written_is_read packets (writable (sorted_by_key xs) all) (rw bytes at within)), in_time_order (sorted_by_key xs) all (ordered-sorted_by_key xs), sound (sorted_by_key xs) all)
 
 -- ---- outputs
 
-talk_is : (c : Conn) → IsSoundConn c → (d : Delivered) → IsTalk (talk c (recorded c) d)
+talk_is : (c : Connection) → IsSoundConnection c → (d : DeliveredConnection) → IsSoundWritten (written_connection c (recorded_connection c) d)
 talk_is c is d = record {
   client = record { mac = is.opening.mac_from; addr = is.opening.from_addr; port = is.opening.from_port };
   server = record { mac = is.opening.mac_to; addr = is.opening.to_addr; port = is.opening.to_port };
@@ -89,41 +89,41 @@ talk_is c is d = record {
   server_base = server_base_fits c is;
 }
 
-parts_are : HeadersAreSound → (seed : ℕ) (scenario : ℕ × Scenario) (cs : List Conn) → AllByRecursion IsSoundConn cs → AllByRecursion IsWritten (flat_map (λ p. p.segments) (map (part_of microseconds seed scenario) cs))
+parts_are : HeadersAreSound → (seed : ℕ) (scenario : ℕ × Scenario) (cs : List Connection) → AllByRecursion IsSoundConnection cs → AllByRecursion IsWritten (flat_map (λ p. p.segments) (map (part_of microseconds seed scenario) cs))
 unfolding part
 parts_are sound_headers seed scenario [] all = tt
-parts_are sound_headers seed (number, scenario) (c ∷ cs) all = all-append IsWritten _ _ (segments_are sound_headers _ (talk_is c all.0 (delivered microseconds (met_of (server_of c) scenario) (recorded c)))) (parts_are sound_headers seed (number, scenario) cs all.1)
+parts_are sound_headers seed (number_in, scenario) (c ∷ cs) all = all-append IsWritten _ _ (segments_are sound_headers _ (talk_is c all.0 (delivered_connection microseconds (met_proxy (server_of c) scenario) (recorded_connection c)))) (parts_are sound_headers seed (number_in, scenario) cs all.1)
 
-outputs_read : WrittenIsRead → HeadersAreSound → SegmentsFit → (c : Contents) → c.ticks ≡ microseconds → AllByRecursion HasBytes c.packets → (seed n : ℕ) (scenarios : List Scenario)
-    → AllByRecursion (λ o. length o.capture ≤ capture_limit → IsReadWhole o.capture) (map (output c seed) (enumerate_from n scenarios))
+outputs_read : WrittenIsRead → HeadersAreSound → SegmentsFit → (packets : List Packet) (rest : ℕ) → AllByRecursion HasBytes packets → (seed n : ℕ) (scenarios : List Scenario)
+    → let c : SeenCapture = seen_capture (record { ticks = microseconds; packets = packets; rest = rest }) in
+    AllByRecursion (λ o. length o.capture ≤ capture_limit → IsReadWhole microseconds o.capture) (map (output c seed) (enumerate_from n scenarios))
 unfolding output
-outputs_read written_is_read sound_headers fit c counted have seed n [] = tt
-outputs_read written_is_read sound_headers fit c counted have seed n (s ∷ scenarios) =
-    let all : AllByRecursion IsWritten (flat_map (λ p. p.segments) (parts c seed (n, s))) =
-    subst (λ ticks. AllByRecursion IsWritten (flat_map (λ p. p.segments) (map (part_of ticks seed (n, s)) (conns (segs_of c))))) (sym counted) (parts_are sound_headers seed (n, s) (conns (segs_of c)) (conns_are fit c have)) in
-    (capture_read written_is_read _ all, outputs_read written_is_read sound_headers fit c counted have seed (n + 1) scenarios)
+outputs_read written_is_read sound_headers fit packets rest have seed n [] = tt
+outputs_read written_is_read sound_headers fit packets rest have seed n (s ∷ scenarios) =
+    let all = parts_are sound_headers seed (n, s) (connections (indexed_segments 0 (seen_packets 0 packets))) (connections_are fit packets have) in
+    (capture_read written_is_read _ all, outputs_read written_is_read sound_headers fit packets rest have seed (n + 1) scenarios)
 
 -- ---- a file that is read counts microseconds
 
-checked_ticks : (h read : Heading) (bytes : List ℕ) → h.ticks ≡ microseconds → checked (Some h) bytes ≡ Ok read → read.ticks ≡ microseconds
-checked_ticks h read bytes counted is = by (not (number h.order 2 (drop 4 bytes) == 2) || not (number h.order 2 (drop 6 bytes) == 4)) (not (number h.order 4 (drop 20 bytes) == 1)) is
+checked_ticks : (h read : Heading) (bytes : List ℕ) → h.ticks ≡ microseconds → checked_heading (Some h) bytes ≡ Ok read → read.ticks ≡ microseconds
+checked_ticks h read bytes counts_with is = by (not (number_in h.order 2 (drop 4 bytes) == 2) || not (number_in h.order 2 (drop 6 bytes) == 4)) (not (number_in h.order 4 (drop 20 bytes) == 1)) is
   where
     by : (v l : Bool) → (if v then Err BadVersion else (if l then Err BadLink else Ok h)) ≡ Ok read → read.ticks ≡ microseconds
     by true l is = absurd cc
     by false true is = absurd cc
-    by false false is = let same : h ≡ read = cc in sym (ap (λ (x : Heading). x.ticks) same) ∙ counted
+    by false false is = let same : h ≡ read = cc in sym (ap (λ (x : Heading). x.ticks) same) ∙ counts_with
 
-header_ticks : (bytes : List ℕ) (h : Heading) → header bytes ≡ Ok h → h.ticks ≡ microseconds
-unfolding header
-header_ticks bytes h is = by (nat_lt capture_limit (length bytes)) (nat_lt (length bytes) 24) (number Big 4 bytes == magic) (number Little 4 bytes == magic) is
+header_ticks : (bytes : List ℕ) (h : Heading) → file_heading bytes ≡ Ok h → h.ticks ≡ microseconds
+unfolding file_heading
+header_ticks bytes h is = by (nat_lt capture_limit (length bytes)) (nat_lt (length bytes) 24) (number_in Big 4 bytes == magic) (number_in Little 4 bytes == magic) is
   where
     by : (over short big little : Bool)
-        → (if over then Err CaptureTooLong else (if short then Err ShortHeader else checked (if big then Some (in_microseconds Big) else (if little then Some (in_microseconds Little) else None)) bytes)) ≡ Ok h
+        → (if over then Err CaptureTooLong else (if short then Err ShortHeader else checked_heading (if big then Some (microsecond_heading Big) else (if little then Some (microsecond_heading Little) else None)) bytes)) ≡ Ok h
         → h.ticks ≡ microseconds
     by true short big little is = absurd cc
     by false true big little is = absurd cc
-    by false false true little is = checked_ticks (in_microseconds Big) h bytes refl is
-    by false false false true is = checked_ticks (in_microseconds Little) h bytes refl is
+    by false false true little is = checked_ticks (microsecond_heading Big) h bytes refl is
+    by false false false true is = checked_ticks (microsecond_heading Little) h bytes refl is
     by false false false false is = absurd cc
 
 reading_ticks : ReadingsSplit → (bytes : List ℕ) (r : Reading) → reading bytes ≡ Ok r → r.contents.ticks ≡ microseconds
@@ -131,15 +131,27 @@ reading_ticks readings_split bytes r is =
     let split = readings_split bytes r is in
     ap (λ (x : Reading). x.contents.ticks) split.3.3 ∙ header_ticks bytes split.0 split.3.0
 
+-- what was read in microseconds
+in_microseconds : (c : Contents) → c.ticks ≡ microseconds → c ≡ record { ticks = microseconds; packets = c.packets; rest = c.rest }
+in_microseconds c counted = ap (λ (ticks : ℕ). let d : Contents = record { ticks = ticks; packets = c.packets; rest = c.rest } in d) counted
+
 pub outputs_are_read : ReadingsSplit → WrittenIsRead → HeadersAreSound → SegmentsFit → OutputsAreRead
-unfolding answer out
-outputs_are_read readings_split written_is_read sound_headers fit bytes scenarios seed outputs are is = by (nat_lt scenario_limit (length scenarios)) (reading bytes) refl is
+unfolding answer outputs_of
+outputs_are_read readings_split written_is_read sound_headers fit bytes read scenarios seed outputs are is answered =
+    by (nat_lt scenario_limit (length scenarios)) (rw is at answered)
   where
-    by : (over : Bool) (read : Result Reading CaptureFault) → reading bytes ≡ read
-        → (if over then Err TooManyScenarios else outcome read scenarios seed) ≡ Ok outputs
-        → AllByRecursion (λ o. length o.capture ≤ capture_limit → IsReadWhole o.capture) outputs
-    by true read is answered = absurd cc
-    by false (Err f) is answered = absurd cc
-    by false (Ok r) is answered =
-        let same : out r.contents scenarios seed ≡ outputs = cc in
-        subst (λ os. AllByRecursion (λ o. length o.capture ≤ capture_limit → IsReadWhole o.capture) os) same (outputs_read written_is_read sound_headers fit r.contents (reading_ticks readings_split bytes r is) (packets_have readings_split bytes r is are) seed 0 scenarios)
+    counted : read.contents.ticks ≡ microseconds
+    counted = reading_ticks readings_split bytes read is
+
+    each : AllByRecursion (λ o. length o.capture ≤ capture_limit → IsReadWhole microseconds o.capture)
+        (outputs_of (seen_capture (record { ticks = microseconds; packets = read.contents.packets; rest = read.contents.rest })) scenarios seed)
+    each = outputs_read written_is_read sound_headers fit read.contents.packets read.contents.rest (packets_have readings_split bytes read is are) seed 0 scenarios
+
+    by : (over : Bool) → (if over then Err TooManyScenarios else Ok (outputs_of (seen_capture read.contents) scenarios seed)) ≡ Ok outputs
+        → AllByRecursion (λ o. length o.capture ≤ capture_limit → IsReadWhole read.contents.ticks o.capture) outputs
+    by true answered = absurd cc
+    by false answered =
+        let same : outputs_of (seen_capture read.contents) scenarios seed ≡ outputs = cc in
+        let alike : outputs_of (seen_capture (record { ticks = microseconds; packets = read.contents.packets; rest = read.contents.rest })) scenarios seed ≡ outputs =
+        sym (ap (λ (c : Contents). outputs_of (seen_capture c) scenarios seed) (in_microseconds read.contents counted)) ∙ same in
+        rw counted (subst (λ os. AllByRecursion (λ o. length o.capture ≤ capture_limit → IsReadWhole microseconds o.capture) os) alike each)

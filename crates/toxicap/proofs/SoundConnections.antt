@@ -3,14 +3,15 @@ use Rattle.std.proofs.Common.{◌≡◌, ◌<◌, ℕ, zero, suc, ◌+◌, ◌^�
 use Rattle.std.specs.List.{AllByRecursion, enumerate_from, zip, flat_map, filter_map, cons_option, take_while}
 use Rattle.std.proofs.lemmas.List.Sums.{take_while-cons}
 use Rattle.pcap_records.specs.Instants.{instants}
-use Rattle.pcap_records.specs.Reading.{Heading, Packet, Contents, Reading, reading}
-use Rattle.pcap_records.specs.Grammar.{Piece, Splits, spelling, packet_of_piece, ReadingsSplit}
-use Rattle.frame_headers.specs.Frame.{Kind, short, not_ipv4, bad_ipv4, fragment, not_tcp, cut, bad_tcp, same_ends, segment, kind, fields}
+use Rattle.pcap_records.specs.Reading.{Heading, Packet, Reading, reading}
+use Rattle.pcap_records.specs.Grammar.{RawRecord, Splits, raw_bytes, packet_of_raw, ReadingsSplit}
+use Rattle.frame_headers.specs.Frame.{FrameClass, short, not_ipv4, bad_ipv4, fragment, not_tcp, cut, bad_tcp, same_ends, segment, frame_class, segment_fields}
 use Rattle.frame_headers.specs.HeaderLaws.{FieldsFit, SegmentsFit}
-use Rattle.toxicap.specs.Segments.{Timed, Seg, is_segment, seg_of, segs_of}
-use Rattle.toxicap.specs.Connections.{Conn, begins, beginnings, later_members, conn_of, conns}
-use Rattle.toxicap.specs.Positions.{server_base, effective, is_answer, is_reset, members_of, server_of}
-use Rattle.toxicap.specs.OutputCaptures.{AreBytes}
+use Rattle.toxicap.specs.IndexedSegments.{TimedSegment, IndexedSegment, is_segment, indexed_segment, indexed_segments}
+use Rattle.toxicap.specs.SeenCapture.{seen_packet, seen_packets}
+use Rattle.toxicap.specs.Connections.{Connection, begins, beginnings, later_members, connection_of, connections}
+use Rattle.toxicap.specs.Positions.{server_base, effective_members, is_answer, is_reset, members_of, server_of}
+use Rattle.toxicap.specs.SoundOutputs.{AreBytes}
 
 -- ---- lists
 
@@ -46,7 +47,7 @@ module _ {X : Type 0} (P : X → Type 0) where
 
 -- ---- segments
 
-segment_is : (k : Kind) → is_segment k ≡ true → k ≡ segment
+segment_is : (k : FrameClass) → is_segment k ≡ true → k ≡ segment
 segment_is short is = absurd cc
 segment_is not_ipv4 is = absurd cc
 segment_is bad_ipv4 is = absurd cc
@@ -62,64 +63,65 @@ segment_is segment is = refl
 abbrev pub HasBytes : Packet → Type 0
 HasBytes p = AreBytes p.bytes
 
-pieces_have : (h : Heading) (pieces : List Piece) → AreBytes (flat_map spelling pieces) → AllByRecursion HasBytes (map (packet_of_piece h) pieces)
-pieces_have h [] are = tt
-pieces_have h (p ∷ pieces) are =
-    let first : AreBytes (spelling p) = all-left (λ x. x < 256) (spelling p) (flat_map spelling pieces) are in
-    (all-right (λ x. x < 256) p.header p.packet first, pieces_have h pieces (all-right (λ x. x < 256) (spelling p) (flat_map spelling pieces) are))
+raws_have : (h : Heading) (raws : List RawRecord) → AreBytes (flat_map raw_bytes raws) → AllByRecursion HasBytes (map (packet_of_raw h) raws)
+raws_have h [] are = tt
+raws_have h (p ∷ raws) are =
+    let first : AreBytes (raw_bytes p) = all-left (λ x. x < 256) (raw_bytes p) (flat_map raw_bytes raws) are in
+    (all-right (λ x. x < 256) p.header p.packet first, raws_have h raws (all-right (λ x. x < 256) (raw_bytes p) (flat_map raw_bytes raws) are))
 
 pub packets_have : ReadingsSplit → (bytes : List ℕ) (r : Reading) → reading bytes ≡ Ok r → AreBytes bytes → AllByRecursion HasBytes r.contents.packets
 packets_have readings_split bytes r is are =
     let split = readings_split bytes r is in
-    let pieces : List Piece = split.1 in
-    let whole : Splits split.0 (drop 24 bytes) pieces split.2 = split.3.1 in
-    let records : AreBytes (flat_map spelling pieces ++ split.2) = rw whole.whole at (all-drop (λ x. x < 256) 24 bytes are) in
+    let raws : List RawRecord = split.1 in
+    let whole : Splits split.0 (drop 24 bytes) raws split.2 = split.3.1 in
+    let records : AreBytes (flat_map raw_bytes raws ++ split.2) = rw whole.whole at (all-drop (λ x. x < 256) 24 bytes are) in
     subst (λ ps. AllByRecursion HasBytes ps) (sym (ap (λ (x : Reading). x.contents.packets) split.3.3))
-    (pieces_have split.0 pieces (all-left (λ x. x < 256) (flat_map spelling pieces) split.2 records))
+    (raws_have split.0 raws (all-left (λ x. x < 256) (flat_map raw_bytes raws) split.2 records))
 
 -- ---- segments and connections
 
-abbrev IsSoundSeg : Seg → Type 0
-IsSoundSeg s = FieldsFit s.timed.fields
+abbrev HasSoundFields : IndexedSegment → Type 0
+HasSoundFields s = FieldsFit s.timed.fields
 
-abbrev pub IsSoundTimed : Timed → Type 0
+abbrev pub IsSoundTimed : TimedSegment → Type 0
 IsSoundTimed t = FieldsFit t.fields
 
-segs_are : SegmentsFit → (n : ℕ) (ts : List ℕ) (ps : List Packet) → AllByRecursion HasBytes ps → AllByRecursion IsSoundSeg (filter_map seg_of (enumerate_from n (zip ts ps)))
-segs_are fit n [] ps have = tt
-segs_are fit n (t ∷ ts) [] have = tt
-segs_are fit n (t ∷ ts) (p ∷ ps) have = by (is_segment (kind p.bytes)) refl (segs_are fit (n + 1) ts ps have.1)
+segments_are_sound : SegmentsFit → (n : ℕ) (ts : List ℕ) (ps : List Packet) → AllByRecursion HasBytes ps
+    → AllByRecursion HasSoundFields (filter_map indexed_segment (enumerate_from n (map seen_packet (zip ts ps))))
+segments_are_sound fit n [] ps have = tt
+segments_are_sound fit n (t ∷ ts) [] have = tt
+segments_are_sound fit n (t ∷ ts) (p ∷ ps) have = by (is_segment (frame_class p.bytes)) refl (segments_are_sound fit (n + 1) ts ps have.1)
   where
-    rest : List Seg
-    rest = filter_map seg_of (enumerate_from (n + 1) (zip ts ps))
+    rest : List IndexedSegment
+    rest = filter_map indexed_segment (enumerate_from (n + 1) (map seen_packet (zip ts ps)))
 
-    by : (b : Bool) → is_segment (kind p.bytes) ≡ b → AllByRecursion IsSoundSeg rest
-        → AllByRecursion IsSoundSeg (cons_option (if b then Some (record { index = n; timed = record { at = t; fields = fields p.bytes } }) else None) rest)
-    by true is all = (fit p.bytes have.0 (segment_is (kind p.bytes) is), all)
+    by : (b : Bool) → is_segment (frame_class p.bytes) ≡ b → AllByRecursion HasSoundFields rest
+        → AllByRecursion HasSoundFields (cons_option (if b then Some (record { index = n; timed = record { at = t; fields = segment_fields p.bytes } }) else None) rest)
+    by true is all = (fit p.bytes have.0 (segment_is (frame_class p.bytes) is), all)
     by false is all = all
 
-pub record IsSoundConn (c : Conn) : Type 0 where
+pub record IsSoundConnection (c : Connection) : Type 0 where
   pub opening : FieldsFit c.opening.fields
   pub later : AllByRecursion IsSoundTimed c.later
 
-timed_are : (segs : List Seg) → AllByRecursion IsSoundSeg segs → AllByRecursion IsSoundTimed (map (λ s. s.timed) segs)
+timed_are : (segs : List IndexedSegment) → AllByRecursion HasSoundFields segs → AllByRecursion IsSoundTimed (map (λ s. s.timed) segs)
 timed_are [] all = tt
 timed_are (s ∷ segs) all = (all.0, timed_are segs all.1)
 
-numbered_are : (segs : List Seg) (n : ℕ) (bs : List Seg) → AllByRecursion IsSoundSeg segs → AllByRecursion IsSoundSeg bs → AllByRecursion IsSoundConn (map (conn_of segs) (enumerate_from n bs))
+numbered_are : (segs : List IndexedSegment) (n : ℕ) (bs : List IndexedSegment) → AllByRecursion HasSoundFields segs → AllByRecursion HasSoundFields bs → AllByRecursion IsSoundConnection (map (connection_of segs) (enumerate_from n bs))
 numbered_are segs n [] sound all = tt
 numbered_are segs n (b ∷ bs) sound all =
-    (record { opening = all.0; later = timed_are (later_members segs b) (all-filter IsSoundSeg _ segs sound) }, numbered_are segs (n + 1) bs sound all.1)
+    (record { opening = all.0; later = timed_are (later_members segs b) (all-filter HasSoundFields _ segs sound) }, numbered_are segs (n + 1) bs sound all.1)
 
-pub conns_are : SegmentsFit → (c : Contents) → AllByRecursion HasBytes c.packets → AllByRecursion IsSoundConn (conns (segs_of c))
-unfolding conns beginnings segs_of
-conns_are fit c have =
-    let segs : List Seg = segs_of c in
-    let sound : AllByRecursion IsSoundSeg segs = segs_are fit 0 (instants 0 (map (λ p. p.stamp) c.packets)) c.packets have in
-    numbered_are segs 0 (beginnings segs) sound (all-filter IsSoundSeg (begins segs) segs sound)
+pub connections_are : SegmentsFit → (packets : List Packet) → AllByRecursion HasBytes packets → AllByRecursion IsSoundConnection (connections (indexed_segments 0 (seen_packets 0 packets)))
+unfolding connections beginnings indexed_segments seen_packets
+connections_are fit packets have =
+    let segs : List IndexedSegment = indexed_segments 0 (seen_packets 0 packets) in
+    let sound : AllByRecursion HasSoundFields segs = segments_are_sound fit 0 (instants 0 (map (λ p. p.stamp) packets)) packets have in
+    numbered_are segs 0 (beginnings segs) sound (all-filter HasSoundFields (begins segs) segs sound)
 
 -- the server's number, or 0
-found_fits : (q : Timed → Bool) (ms : List Timed) → AllByRecursion IsSoundTimed ms → unwrap_or (option_map (λ m. m.fields.seq) (find q ms)) 0 < 2 ^ 32
+found_fits : (q : TimedSegment → Bool) (ms : List TimedSegment) → AllByRecursion IsSoundTimed ms → unwrap_or (option_map (λ m. m.fields.seq) (find q ms)) 0 < 2 ^ 32
 found_fits q [] all = omega arith
 found_fits q (m ∷ ms) all = by (q m) (found_fits q ms all.1)
   where
@@ -127,7 +129,7 @@ found_fits q (m ∷ ms) all = by (q m) (found_fits q ms all.1)
     by true rest = all.0.seq
     by false rest = rest
 
-pub server_base_fits : (c : Conn) → IsSoundConn c → unwrap_or (server_base c) 0 < 2 ^ 32
+pub server_base_fits : (c : Connection) → IsSoundConnection c → unwrap_or (server_base c) 0 < 2 ^ 32
 unfolding server_base
 server_base_fits c is =
-    found_fits (is_answer (server_of c)) (effective (members_of c)) (all-take_while IsSoundTimed (λ m. not (is_reset m)) (members_of c) (is.opening, is.later))
+    found_fits (is_answer (server_of c)) (effective_members (members_of c)) (all-take_while IsSoundTimed (λ m. not (is_reset m)) (members_of c) (is.opening, is.later))

@@ -6,12 +6,12 @@ use Rattle.std.specs.Io.KnownBytes.{Appends}
 use Rattle.std.proofs.KnownBytes.{Appends-trans}
 use Rattle.std.proofs.lemmas.List.{take_at, take-append-le}
 use Rattle.toxicap.specs.declared.faults.RunFault.{RunFault}
-use Rattle.toxicap.specs.Statuses.{ended, WrittenSoFar}
+use Rattle.toxicap.specs.Runs.{text_with_line_feed, WrittenSoFar}
 
 -- a first part of the line, not all of it, was written
 pub line_stopped : (old new : Option (List ℕ)) (line : List ℕ) (before after : ℕ)
     → ((written : ℕ) × (written < length line) × Appends old new (take written line)) → after ≡ before + 1
-    → WrittenSoFar (ended line) (Appends old new) before after
+    → WrittenSoFar (text_with_line_feed line) (Appends old new) before after
 line_stopped old new line before after part failed =
     let short : part.0 ≤ length line = omega (arith, part.1) in
     inr (
@@ -26,7 +26,7 @@ pub line_written : (second : Result (Unit {0}) RunFault) (old mid new : Option (
     → Appends old mid line → between ≡ before
     → OnOk second (Appends mid new (codes "\n")) → OnOk second (after ≡ between)
     → OnErr second ((written : ℕ) × (written < 1) × Appends mid new (take written (codes "\n"))) → OnErr second (after ≡ between + 1)
-    → WrittenSoFar (ended line) (Appends old new) before after
+    → WrittenSoFar (text_with_line_feed line) (Appends old new) before after
 line_written (Ok done) old mid new line before between after first same whole none part failed =
     inl (Appends-trans old mid new line (codes "\n") first whole, omega arith)
 line_written (Err fault) old mid new line before between after first same whole none part failed =

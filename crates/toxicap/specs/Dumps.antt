@@ -1,11 +1,10 @@
 -- Dumps: bytes written as pairs of hexadecimal digits in either case, the higher digit first, with
 -- blanks before, after and between any two digits.
-use Rattle.std.specs.Prelude.{◌≡◌, ℕ, ◌+◌, ◌*◌, ◌%◌, ◌==◌, ◌||◌, ◌⊎◌, not, Bool, false, List, [], ◌∷◌, length, position, count_by, filter, if◌then◌else◌, Option, Some, None, unwrap_or, Result, Ok, Err, IsOk}
+use Rattle.std.specs.Prelude.{◌≡◌, ℕ, ◌+◌, ◌*◌, ◌%◌, ◌==◌, ◌||◌, ◌⊎◌, not, Bool, false, List, [], ◌∷◌, length, position, count_by, filter, if◌then◌else◌, Option, Some, None, unwrap_or, Result, Ok, Err}
 use Rattle.std.specs.List.{filter_map}
-use Rattle.std.specs.declared.vec.Vec.{Vec}
 use Rattle.hex.specs.Hex.{IsBytes, encode_lower, encode_upper, hex_digit_value, is_hex_digit}
 use Rattle.toxicap.specs.declared.faults.RunFault.{RunFault}
-use Rattle.toxicap.specs.declared.faults.RunFault.TheVariants.{BadDump, Memory}
+use Rattle.toxicap.specs.declared.faults.RunFault.TheVariants.{BadDump}
 
 -- a tab, a line feed, a carriage return or a space
 abbrev pub is_blank : ℕ → Bool
@@ -16,8 +15,8 @@ abbrev pub is_foreign : ℕ → Bool
 is_foreign b = not (is_blank b || is_hex_digit b)
 
 -- a digit's value, 16 for a blank and 17 for a foreign byte
-abbrev pub meaning : ℕ → ℕ
-meaning b = unwrap_or (hex_digit_value b) (if is_blank b then 16 else 17)
+abbrev pub digit_meaning : ℕ → ℕ
+digit_meaning b = unwrap_or (hex_digit_value b) (if is_blank b then 16 else 17)
 
 -- each two values, the higher one first, make a byte
 abbrev pub joined_pairs : List ℕ → List ℕ
@@ -31,26 +30,13 @@ dumped_bytes text = joined_pairs (filter_map hex_digit_value text)
 
 -- given the place of the first foreign byte, if there is one: that place; else the text's length, where the
 -- digits are odd in number; else the bytes
-abbrev pub undumped_from : Option ℕ → List ℕ → Result (List ℕ) ℕ
-undumped_from (Some at) text = Err at
-undumped_from None text = if count_by is_hex_digit text % 2 == 1 then Err (length text) else Ok (dumped_bytes text)
+abbrev pub dump_reading_from : Option ℕ → List ℕ → Result (List ℕ) RunFault
+dump_reading_from (Some at) text = Err (BadDump at)
+dump_reading_from None text = if count_by is_hex_digit text % 2 == 1 then Err (BadDump (length text)) else Ok (dumped_bytes text)
 
--- the bytes of a dump, or the place of its fault
-unfoldable pub undumped : List ℕ → Result (List ℕ) ℕ
-undumped text = undumped_from (position is_foreign text) text
-
--- an answer agrees with the dump: its bytes, the place of its fault, or want of memory where it has no fault
-abbrev pub Undumps : {Z : Type 0} → Result (Vec ℕ Z) RunFault → Result (List ℕ) ℕ → Type 0
-Undumps (Ok bytes) dump = dump ≡ Ok bytes.items
-Undumps (Err (BadDump at)) dump = dump ≡ Err at
-Undumps (Err Memory) dump = IsOk dump
-Undumps (Err _) dump = ⊥
-
--- a check that takes no memory agrees with the dump
-abbrev pub ChecksDump : Result ℕ RunFault → Result (List ℕ) ℕ → Type 0
-ChecksDump (Ok digits) dump = IsOk dump
-ChecksDump (Err (BadDump at)) dump = dump ≡ Err at
-ChecksDump (Err _) dump = ⊥
+-- the bytes of a dump, or its fault
+unfoldable pub dump_reading : List ℕ → Result (List ℕ) RunFault
+dump_reading text = dump_reading_from (position is_foreign text) text
 
 -- a text without its blanks
 abbrev pub without_blanks : List ℕ → List ℕ
@@ -61,7 +47,7 @@ without_blanks text = filter (λ b. not (is_blank b)) text
 abbrev pub ReadsBack : Type 0
 ReadsBack = (bytes text : List ℕ) → IsBytes bytes
     → (without_blanks text ≡ encode_lower bytes) ⊎ (without_blanks text ≡ encode_upper bytes)
-    → undumped text ≡ Ok bytes
+    → dump_reading text ≡ Ok bytes
 
 -- whether a text is taken for a dump: its first byte is a hexadecimal digit
 abbrev pub is_dump : List ℕ → Bool

@@ -1,16 +1,16 @@
 -- Worked rows of grouping: segments with their senders, flags and numbers, and the connections that they make.
 use Rattle.std.specs.Prelude.{◌≡◌, ℕ, ◌+◌, List, [], ◌∷◌, map, length, Option, Some, None}
-use Rattle.frame_headers.specs.declared.ends.Peer.{Peer}
-use Rattle.toxicap.specs.Segments.{Seg}
-use Rattle.toxicap.specs.Connections.{Conn, conns, unopened}
+use Rattle.frame_headers.specs.declared.peers.Peer.{Peer}
+use Rattle.toxicap.specs.IndexedSegments.{IndexedSegment}
+use Rattle.toxicap.specs.Connections.{Connection, connections, unopened_count}
 use Rattle.toxicap.specs.Positions.{client_of, server_base}
 use Rattle.toxicap.specs.WrittenRows.{client, server}
 
 abbrev pub second_client : Peer
 second_client = record { addr = 0x0a000003; port = 40001 }
 
-abbrev pub at_row : ℕ → Peer → Peer → ℕ → ℕ → Seg
-at_row index from to flags seq = record {
+abbrev pub row_segment : ℕ → Peer → Peer → ℕ → ℕ → IndexedSegment
+row_segment index from to flags seq = record {
   index = index;
   timed = record {
     at = 1000000 + index;
@@ -19,58 +19,58 @@ at_row index from to flags seq = record {
 }
 
 -- what a row looks at: each connection's number, client, first sequence number, number of members and server's number
-pub record Told : Type 0 where
+pub record ConnectionSummary : Type 0 where
   pub number : ℕ
   pub client : Peer
   pub first : ℕ
   pub members : ℕ
   pub server_base : Option ℕ
 
-abbrev pub told : Conn → Told
-told c = record { number = c.number; client = client_of c; first = c.opening.fields.seq; members = length c.later + 1; server_base = server_base c }
+abbrev pub summary_of : Connection → ConnectionSummary
+summary_of c = record { number = c.number; client = client_of c; first = c.opening.fields.seq; members = length c.later + 1; server_base = server_base c }
 
 -- an opening that is sent again begins nothing; one with another number begins a second session
-abbrev pub repeated : List Seg
+abbrev pub repeated : List IndexedSegment
 repeated =
-    at_row 0 client server 2 1000 ∷ at_row 1 client server 2 1000 ∷ at_row 2 server client 18 5000 ∷ at_row 3 client server 24 1001 ∷ at_row 4 client server 2 9000 ∷ at_row 5 client server 24 9001 ∷ []
+    row_segment 0 client server 2 1000 ∷ row_segment 1 client server 2 1000 ∷ row_segment 2 server client 18 5000 ∷ row_segment 3 client server 24 1001 ∷ row_segment 4 client server 2 9000 ∷ row_segment 5 client server 24 9001 ∷ []
 
 abbrev pub RepeatedGrouped : Type 0
 RepeatedGrouped =
-    (map told (conns repeated)
+    (map summary_of (connections repeated)
     ≡ record { number = 0; client = client; first = 1000; members = 4; server_base = Some 5000 } ∷ record { number = 1; client = client; first = 9000; members = 2; server_base = None } ∷ [])
-    × (unopened repeated ≡ 0)
+    × (unopened_count repeated ≡ 0)
 
 -- client, second client, client
 abbrev pub InTurnGrouped : Type 0
 InTurnGrouped =
-    map told (conns (at_row 0 client server 2 1000 ∷ at_row 1 second_client server 2 2000 ∷ at_row 2 client server 2 9000 ∷ []))
+    map summary_of (connections (row_segment 0 client server 2 1000 ∷ row_segment 1 second_client server 2 2000 ∷ row_segment 2 client server 2 9000 ∷ []))
     ≡ record { number = 0; client = client; first = 1000; members = 1; server_base = None }
     ∷ record { number = 1; client = second_client; first = 2000; members = 1; server_base = None }
     ∷ record { number = 2; client = client; first = 9000; members = 1; server_base = None }
     ∷ []
 
 -- the pair that is seen first opens last
-abbrev pub unopened_first : List Seg
-unopened_first = at_row 0 server client 16 7000 ∷ at_row 1 second_client server 2 2000 ∷ at_row 2 client server 2 1000 ∷ []
+abbrev pub unopened_first : List IndexedSegment
+unopened_first = row_segment 0 server client 16 7000 ∷ row_segment 1 second_client server 2 2000 ∷ row_segment 2 client server 2 1000 ∷ []
 
 abbrev pub UnopenedFirstGrouped : Type 0
 UnopenedFirstGrouped =
-    (map told (conns unopened_first)
+    (map summary_of (connections unopened_first)
     ≡ record { number = 0; client = second_client; first = 2000; members = 1; server_base = None } ∷ record { number = 1; client = client; first = 1000; members = 1; server_base = None } ∷ [])
-    × (unopened unopened_first ≡ 1)
+    × (unopened_count unopened_first ≡ 1)
 
 -- openings of both sides are two connections
 abbrev pub BothSidesGrouped : Type 0
 BothSidesGrouped =
-    map told (conns (at_row 0 client server 2 1000 ∷ at_row 1 server client 2 1000 ∷ []))
+    map summary_of (connections (row_segment 0 client server 2 1000 ∷ row_segment 1 server client 2 1000 ∷ []))
     ≡ record { number = 0; client = client; first = 1000; members = 1; server_base = None } ∷ record { number = 1; client = server; first = 1000; members = 1; server_base = None } ∷ []
 
 -- an answer behind the first reset, one that is itself the reset, and one of the client's give no number
 abbrev pub LateAnswersGrouped : Type 0
 LateAnswersGrouped =
-    (map told (conns (at_row 0 client server 2 1000 ∷ at_row 1 client server 4 1001 ∷ at_row 2 server client 18 5000 ∷ []))
+    (map summary_of (connections (row_segment 0 client server 2 1000 ∷ row_segment 1 client server 4 1001 ∷ row_segment 2 server client 18 5000 ∷ []))
     ≡ record { number = 0; client = client; first = 1000; members = 3; server_base = None } ∷ [])
-    × (map told (conns (at_row 0 client server 2 1000 ∷ at_row 1 server client 22 5000 ∷ []))
+    × (map summary_of (connections (row_segment 0 client server 2 1000 ∷ row_segment 1 server client 22 5000 ∷ []))
     ≡ record { number = 0; client = client; first = 1000; members = 2; server_base = None } ∷ [])
-    × (map told (conns (at_row 0 client server 2 1000 ∷ at_row 1 client server 18 5000 ∷ at_row 2 server client 18 6000 ∷ []))
+    × (map summary_of (connections (row_segment 0 client server 2 1000 ∷ row_segment 1 client server 18 5000 ∷ row_segment 2 server client 18 6000 ∷ []))
     ≡ record { number = 0; client = client; first = 1000; members = 3; server_base = Some 6000 } ∷ [])

@@ -1,22 +1,22 @@
 -- What ordering by key keeps.
 use Rattle.std.specs.Prelude.{◌≡◌, true, List, [], ◌∷◌, ◌++◌}
-use Rattle.toxicap.specs.declared.keys.SegKey.{SegKey}
+use Rattle.toxicap.specs.declared.framed.SegKey.{SegKey}
 use Rattle.toxicap.specs.declared.framed.Framed.{Framed}
-use Rattle.toxicap.specs.Written.{lower, in_order}
+use Rattle.toxicap.specs.WrittenSegments.{is_key_below, sorted_by_key}
 
 -- behind a key, each is above the one before it
-abbrev pub Rise : SegKey → List Framed → Type 0
-Rise k [] = Unit {0}
-Rise k (x ∷ xs) = (lower k x.key ≡ true) × Rise x.key xs
+abbrev pub RisesFrom : SegKey → List Framed → Type 0
+RisesFrom k [] = Unit {0}
+RisesFrom k (x ∷ xs) = (is_key_below k x.key ≡ true) × RisesFrom x.key xs
 
 abbrev pub AreRising : List Framed → Type 0
 AreRising [] = Unit {0}
-AreRising (x ∷ xs) = Rise x.key xs
+AreRising (x ∷ xs) = RisesFrom x.key xs
 
 -- segments whose keys rise are in order as they stand
-abbrev pub RisingIsInOrder : Type 0
-RisingIsInOrder = (xs : List Framed) → AreRising xs → in_order xs ≡ xs
+abbrev pub RisingIsSorted : Type 0
+RisingIsSorted = (xs : List Framed) → AreRising xs → sorted_by_key xs ≡ xs
 
 -- segments may be ordered in parts before they are ordered together
-abbrev pub PartsAreOrderedFirst : Type 0
-PartsAreOrderedFirst = (xs ys : List Framed) → in_order (in_order xs ++ in_order ys) ≡ in_order (xs ++ ys)
+abbrev pub PartsAreSortedFirst : Type 0
+PartsAreSortedFirst = (xs ys : List Framed) → sorted_by_key (sorted_by_key xs ++ sorted_by_key ys) ≡ sorted_by_key (xs ++ ys)

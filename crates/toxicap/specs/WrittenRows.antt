@@ -1,11 +1,13 @@
 -- Worked rows: what the definitions give, beside values from outside.
 use Rattle.std.specs.Prelude.{◌≡◌, ℕ, List, [], ◌∷◌, map, codes, Option, Some, None, true, false}
-use Rattle.frame_headers.specs.declared.ends.Peer.{Peer}
-use Rattle.toxicap.specs.Recorded.{Cell, Flow, live, fin, Recorded}
-use Rattle.toxicap.specs.Delivered.{delivered, Met}
-use Rattle.toxicap.specs.Written.{Talk, segments, said_by, pieces}
-use Rattle.toxicap.specs.Merged.{capture_of}
-use Rattle.toxicap.specs.Texts.{connection_line}
+use Rattle.frame_headers.specs.declared.peers.Peer.{Peer}
+use Rattle.toxicap.specs.Connections.{Connection}
+use Rattle.toxicap.specs.RecordedLines.{LineByte, Line, live, fin, RecordedConnection}
+use Rattle.toxicap.specs.DeliveredLines.{delivered_connection, MetProxy}
+use Rattle.toxicap.specs.Contribution.{written_connection}
+use Rattle.toxicap.specs.WrittenSegments.{WrittenConnection, written_segments, segments_sent_by, pieces}
+use Rattle.toxicap.specs.OutputCapture.{capture_of}
+use Rattle.toxicap.specs.ReportText.{connection_text}
 
 abbrev pub client : Peer
 client = record { addr = 0x0a000001; port = 40000 }
@@ -14,16 +16,16 @@ abbrev pub server : Peer
 server = record { addr = 0x0a000002; port = 80 }
 
 -- the lines that the plain session records, written out by hand
-abbrev pub session : Recorded
+abbrev pub session : RecordedConnection
 session = record {
   up = record {
-    flow = record {
-      cells = record { value = 104; at = 1001000; starts = true } ∷ record { value = 101; at = 1001000; starts = false } ∷ record { value = 108; at = 1001000; starts = false } ∷ record { value = 108; at = 1001000; starts = false } ∷ record { value = 111; at = 1001000; starts = false } ∷ [];
+    line = record {
+      bytes = record { value = 104; at = 1001000; starts = true } ∷ record { value = 101; at = 1001000; starts = false } ∷ record { value = 108; at = 1001000; starts = false } ∷ record { value = 108; at = 1001000; starts = false } ∷ record { value = 111; at = 1001000; starts = false } ∷ [];
       end = fin 1002000;
     };
     lost = 0;
   };
-  down = record { flow = record { cells = []; end = fin 1003000 }; lost = 0 };
+  down = record { line = record { bytes = []; end = fin 1003000 }; lost = 0 };
   client_base = 1000;
   server_base = Some 5000;
   opened = 1000000;
@@ -31,14 +33,19 @@ session = record {
   mac_server = 2 ∷ 0 ∷ 0 ∷ 0 ∷ 0 ∷ 2 ∷ [];
 }
 
-abbrev pub session_talk : Option Met → Talk
-session_talk met = record {
-  number = 0;
-  opened = 1000000;
-  refused = (delivered 1000000 met session).refused;
-  client = record { host = record { mac = session.mac_client; peer = client }; base = 1000; flow = (delivered 1000000 met session).up };
-  server = record { host = record { mac = session.mac_server; peer = server }; base = 5000; flow = (delivered 1000000 met session).down };
+-- the connection that the plain session opens, as it is written under a proxy
+abbrev pub session_connection : ℕ → Connection
+session_connection number = record {
+  number = number;
+  opening = record {
+    at = 1000000;
+    fields = record { mac_from = session.mac_client; mac_to = session.mac_server; from = client; to = server; seq = 1000; ack = 0; flags = 2; payload = [] };
+  };
+  later = [];
 }
+
+abbrev pub session_under : Option MetProxy → WrittenConnection
+session_under met = written_connection (session_connection 0) session (delivered_connection 1000000 met session)
 
 -- the capture of the plain session, 449 bytes
 abbrev pub session_bytes : List ℕ
@@ -75,47 +82,47 @@ refused_bytes =
     0 ∷ 80 ∷ 156 ∷ 64 ∷ 0 ∷ 0 ∷ 0 ∷ 0 ∷ 0 ∷ 0 ∷ 3 ∷ 233 ∷ 80 ∷ 20 ∷ 255 ∷ 255 ∷ 251 ∷ 84 ∷ 0 ∷ 0 ∷ []
 
 abbrev pub SessionWritten : Type 0
-SessionWritten = capture_of (segments 1000000 (session_talk None)) ≡ session_bytes
+SessionWritten = capture_of 1000000 (written_segments 1000000 (session_under None)) ≡ session_bytes
 
 abbrev pub SessionTold : Type 0
 SessionTold =
-    connection_line 0 client server session (delivered 1000000 None session)
+    connection_text (session_connection 0) session (delivered_connection 1000000 None session)
     ≡ codes "0 10.0.0.1:40000 > 10.0.0.2:80 proxy - up 5/5/0 fin+2000 max 0 down 0/0/0 fin+3000 max 0\n"
 
-abbrev pub disabled : Option Met
+abbrev pub disabled : Option MetProxy
 disabled = Some (record { number = 0; enabled = false })
 
 abbrev pub RefusedWritten : Type 0
-RefusedWritten = capture_of (segments 1000000 (session_talk disabled)) ≡ refused_bytes
+RefusedWritten = capture_of 1000000 (written_segments 1000000 (session_under disabled)) ≡ refused_bytes
 
 abbrev pub RefusedTold : Type 0
 RefusedTold =
-    connection_line 0 client server session (delivered 1000000 disabled session)
+    connection_text (session_connection 0) session (delivered_connection 1000000 disabled session)
     ≡ codes "0 10.0.0.1:40000 > 10.0.0.2:80 proxy 0 up 0/5/0 refused max 0 down 0/0/0 refused max 0\n"
 
 -- ---- bytes of both directions at one instant: each acknowledges what was delivered strictly before
 
-abbrev pub one_byte : ℕ → ℕ → Flow
-one_byte value at = record { cells = record { value = value; at = at; starts = true } ∷ []; end = live }
+abbrev pub one_byte : ℕ → ℕ → Line
+one_byte value at = record { bytes = record { value = value; at = at; starts = true } ∷ []; end = live }
 
-abbrev pub crossing_talk : Talk
-crossing_talk = record {
+abbrev pub crossing : WrittenConnection
+crossing = record {
   number = 0;
   opened = 1000000;
   refused = false;
-  client = record { host = record { mac = session.mac_client; peer = client }; base = 1000; flow = one_byte 97 1001000 };
-  server = record { host = record { mac = session.mac_server; peer = server }; base = 5000; flow = one_byte 98 1001000 };
+  client = record { host = record { mac = session.mac_client; peer = client }; base = 1000; line = one_byte 97 1001000 };
+  server = record { host = record { mac = session.mac_server; peer = server }; base = 5000; line = one_byte 98 1001000 };
 }
 
 -- both segments of data acknowledge the other's SYN and nothing more
-abbrev pub CrossingSaid : Type 0
-CrossingSaid =
-    (map (λ s. s.ack) (said_by crossing_talk.client crossing_talk.server) ≡ 5001 ∷ [])
-    × (map (λ s. s.ack) (said_by crossing_talk.server crossing_talk.client) ≡ 1001 ∷ [])
+abbrev pub CrossingSent : Type 0
+CrossingSent =
+    (map (λ s. s.ack) (segments_sent_by crossing.client crossing.server) ≡ 5001 ∷ [])
+    × (map (λ s. s.ack) (segments_sent_by crossing.server crossing.client) ≡ 1001 ∷ [])
 
 -- ---- a chunk in pieces: PSH stands on its last one alone
 
-abbrev pub three_bytes : List Cell
+abbrev pub three_bytes : List LineByte
 three_bytes =
     record { value = 1; at = 5; starts = true } ∷ record { value = 2; at = 5; starts = false } ∷ record { value = 3; at = 5; starts = false } ∷ record { value = 4; at = 6; starts = true } ∷ []
 

@@ -1,63 +1,31 @@
-//! A number of packets for each class of frames.
-use frame_headers::{Class, classify};
-use std::marker::Model;
+//! How many packets of a capture are of each class.
+use frame_headers::Class;
 
 /// How many packets are of each class.
-#[derive(Clone, Copy)]
-pub(crate) struct ClassCounts {
-    pub(crate) segment: u32,
-    pub(crate) short: u32,
-    pub(crate) not_ipv4: u32,
-    pub(crate) bad_ipv4: u32,
-    pub(crate) fragment: u32,
-    pub(crate) not_tcp: u32,
-    pub(crate) cut: u32,
-    pub(crate) bad_tcp: u32,
-    pub(crate) same_ends: u32,
+#[derive(Clone, Copy, Debug, PartialEq, Eq)]
+pub(crate) struct Counts {
+    pub segment: u32,
+    pub short: u32,
+    pub not_ipv4: u32,
+    pub bad_ipv4: u32,
+    pub fragment: u32,
+    pub not_tcp: u32,
+    pub cut: u32,
+    pub bad_tcp: u32,
+    pub same_ends: u32,
 }
 
-impl Model for ClassCounts {
-    ghost use Rattle.toxicap.specs.Texts.{Counts};
-
-    ghost Value = { Counts };
-
-    ghost view = { λ n. record {
-      segment = n.segment;
-      short = n.short;
-      not_ipv4 = n.not_ipv4;
-      bad_ipv4 = n.bad_ipv4;
-      fragment = n.fragment;
-      not_tcp = n.not_tcp;
-      cut = n.cut;
-      bad_tcp = n.bad_tcp;
-      same_ends = n.same_ends;
-    } };
-
-    ghost inverse = { λ n. record {
-      segment = n.segment;
-      short = n.short;
-      not_ipv4 = n.not_ipv4;
-      bad_ipv4 = n.bad_ipv4;
-      fragment = n.fragment;
-      not_tcp = n.not_tcp;
-      cut = n.cut;
-      bad_tcp = n.bad_tcp;
-      same_ends = n.same_ends;
-    } };
-}
-
-impl ClassCounts {
+impl Counts {
     ghost use Rattle.std.specs.Prelude.{◌≡◌, ◌+◌, ◌<◌, ◌^◌, []};
-    ghost use Rattle.frame_headers.specs.Frame.{kind};
-    ghost use Rattle.toxicap.specs.Texts.{counts_of};
-    ghost use Rattle.toxicap.specs.Counting.{counted, count_at};
+    ghost use Rattle.frame_headers.specs.Class.{frame_class_of};
+    ghost use Rattle.toxicap.specs.ClassCounts.{counts_of, counts_with, count_at};
 
     /// The counts of no packets.
-    #[tactic(auto, unfolding(crate::specs::Texts::counts_of))]
+    #[tactic(auto, unfolding(crate::specs::ClassCounts::counts_of))]
     pub(crate) fn none() -> Self
         ensures { result ≡ counts_of [] }
     {
-        ClassCounts {
+        Counts {
             segment: 0,
             short: 0,
             not_ipv4: 0,
@@ -70,12 +38,12 @@ impl ClassCounts {
         }
     }
 
-    /// Counts one packet more.
-    pub(crate) fn add(&mut self, packet: &[u8])
-        requires { count_at (kind packet.now) self.old + 1 < 2 ^ 32 }
-        ensures { self.new ≡ counted (kind packet.now) self.old }
+    /// Counts one packet of a class more.
+    pub(crate) fn add(&mut self, class: &Class<'_>)
+        requires { count_at (frame_class_of class.now) self.old + 1 < 2 ^ 32 }
+        ensures { self.new ≡ counts_with (frame_class_of class.now) self.old }
     {
-        match classify(packet) {
+        match class {
             Class::Segment(_) => self.segment += 1,
             Class::Short => self.short += 1,
             Class::NotIpv4 => self.not_ipv4 += 1,

@@ -18,9 +18,9 @@ pub struct Counted<T> {
 }
 
 impl<T> Model for Counted<T> {
-    ghost use Rattle.toxicap.specs.Edges.{Calls};
+    ghost use Rattle.toxicap.specs.CountedView.{CountedView};
 
-    ghost Value = { Calls T };
+    ghost Value = { CountedView T };
 
     ghost view = { λ c. record { inner = c.inner; failed = c.failed } };
 }

@@ -1,25 +1,27 @@
-//! The line of frame counts.
+//! The line of a report that tells how many packets are of each class.
 ghost use Rattle.std.specs.Prelude.{◌≡◌, ◌++◌, IfOk, OnOk};
 ghost use Rattle.std.specs.String.{string_bytes};
 ghost use Rattle.std.specs.Fmt.{decimal};
-ghost use Rattle.pcap_records.specs.Captured.{contents_of};
-ghost use Rattle.toxicap.specs.Texts.{counts_line, counts_of, counts_text, first_classes_text, other_classes_text};
+ghost use Rattle.pcap_records.specs.CaptureView.{contents_of};
+ghost use Rattle.toxicap.specs.SeenCapture.{seen_capture};
+ghost use Rattle.toxicap.specs.ClassCounts.{counts_of};
+ghost use Rattle.toxicap.specs.ReportText.{counts_text, counts_text_of, first_classes_text, other_classes_text};
 
-use crate::class_counts::ClassCounts;
+use crate::class_counts::Counts;
 use pcap_records::Capture;
 use std::alloc::{AllocError, Global};
 
 /// The first line of a report, with its line feed: the scenario's number, how many whole records the
 /// capture has and how many bytes follow them, and how many packets are of each class.
-#[tactic(auto, unfolding(crate::specs::Texts::counts_line))]
+#[tactic(auto, unfolding(crate::specs::ReportText::counts_text))]
 pub(crate) fn counts_line(
     alloc: Global,
     scenario: u32,
     capture: &Capture<'_>,
-    counts: ClassCounts,
+    counts: Counts,
 ) -> Result<String, AllocError>
-    requires { counts ≡ counts_of (contents_of capture.now).packets }
-    ensures { IfOk result (λ line. string_bytes line ≡ counts_line scenario (contents_of capture.now)) }
+    requires { counts ≡ counts_of (seen_capture (contents_of capture.now)).packets }
+    ensures { IfOk result (λ line. string_bytes line ≡ counts_text scenario (seen_capture (contents_of capture.now))) }
 {
     let records = capture.records().len();
     line_of_counts(alloc, scenario, records, capture.rest(), counts)
@@ -30,9 +32,9 @@ fn line_of_counts(
     scenario: u32,
     records: usize,
     rest: u32,
-    counts: ClassCounts,
+    counts: Counts,
 ) -> Result<String, AllocError>
-    ensures { IfOk result (λ line. string_bytes line ≡ counts_text scenario records rest counts) }
+    ensures { IfOk result (λ line. string_bytes line ≡ counts_text_of scenario records rest counts) }
 {
     let mut line = format!(in alloc; "scenario {scenario} records {records} rest {rest}")?;
     push_first_classes(&mut line, counts)?;
@@ -40,7 +42,7 @@ fn line_of_counts(
     Ok(line)
 }
 
-fn push_first_classes(line: &mut String, counts: ClassCounts) -> Result<(), AllocError>
+fn push_first_classes(line: &mut String, counts: Counts) -> Result<(), AllocError>
     ensures { OnOk result (string_bytes line.new ≡ string_bytes line.old ++ first_classes_text counts) }
 {
     write!(
@@ -50,7 +52,7 @@ fn push_first_classes(line: &mut String, counts: ClassCounts) -> Result<(), Allo
     )
 }
 
-fn push_other_classes(line: &mut String, counts: ClassCounts) -> Result<(), AllocError>
+fn push_other_classes(line: &mut String, counts: Counts) -> Result<(), AllocError>
     ensures { OnOk result (string_bytes line.new ≡ string_bytes line.old ++ other_classes_text counts) }
 {
     write!(

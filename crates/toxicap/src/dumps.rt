@@ -1,7 +1,10 @@
-//! Bytes from their hexadecimal digits.
-ghost use Rattle.std.specs.Prelude.{◌≡◌, ◌<◌, ◌%◌, ◌==◌, IfSome, count_by, position};
+//! Bytes from their hexadecimal digits, and the bytes of a capture that is raw or a dump.
+ghost use Rattle.std.specs.Prelude.{◌≡◌, ◌<◌, ◌%◌, ◌==◌, Some, IfSome, IsOk, OnOk, IfErr, count_by, position};
 ghost use Rattle.hex.specs.Hex.{hex_digit_value, is_hex_digit};
-ghost use Rattle.toxicap.specs.Dumps.{is_foreign, meaning, is_dump, undumped, ChecksDump, Undumps};
+ghost use Rattle.pcap_records.specs.Agreement.{Agrees};
+ghost use Rattle.toxicap.specs.RunFault.{run_refusal};
+ghost use Rattle.toxicap.specs.Dumps.{is_foreign, digit_meaning, is_dump, dump_reading};
+ghost use Rattle.toxicap.specs.Overview.{capture_bytes_of};
 
 use crate::faults::RunFault;
 use std::alloc::Global;
@@ -19,12 +22,13 @@ pub fn is_dump(text: &[u8]) -> bool
 /// The bytes of a dump: pairs of hexadecimal digits in either case, the higher digit first, with
 /// blanks (space, tab, carriage return, line feed) anywhere, also between the digits of a pair.
 ///
-/// Errors: [`RunFault::BadDump`] with the place of the first byte that is neither a digit nor a
+/// # Errors
+/// [`RunFault::BadDump`] with the place of the first byte that is neither a digit nor a
 /// blank, or, where there is none and the digits are odd in number, with the text's length;
 /// [`RunFault::Memory`] only where the text has no such fault.
-#[tactic(auto, unfolding(crate::specs::Dumps::undumped))]
+#[tactic(auto, unfolding(crate::specs::Dumps::dump_reading))]
 pub fn undump(alloc: Global, text: &[u8]) -> Result<Vec<u8>, RunFault>
-    ensures { Undumps result (undumped text.now) }
+    ensures { Agrees run_refusal (λ bytes. bytes.items) result (dump_reading text.now) }
 {
     let digits = check_dump(text)?;
     let mut bytes = Vec::with_capacity(alloc, digits / 2)?;
@@ -43,10 +47,26 @@ pub fn undump(alloc: Global, text: &[u8]) -> Result<Vec<u8>, RunFault>
     Ok(bytes)
 }
 
+/// The bytes of the capture that a text holds: those of the dump where the text is taken for one,
+/// and else the text as it is, which is not copied.
+///
+/// # Errors
+/// Those of [`undump`].
+pub(crate) fn capture_bytes(alloc: Global, text: Vec<u8>) -> Result<Vec<u8>, RunFault>
+    ensures { Agrees run_refusal (λ bytes. bytes.items) result (capture_bytes_of text.items) }
+{
+    if is_dump(&text) {
+        return undump(alloc, &text);
+    }
+    Ok(text)
+}
+
 // How many digits a dump has, or its fault.
-#[tactic(auto, unfolding(crate::specs::Dumps::undumped))]
+#[tactic(auto, unfolding(crate::specs::Dumps::dump_reading))]
 fn check_dump(text: &[u8]) -> Result<usize, RunFault>
-    ensures { ChecksDump result (undumped text.now) }
+    ensures whole { OnOk result (IsOk (dump_reading text.now)) }
+    ensures broken { IfErr result (λ fault. dump_reading text.now ≡ Err fault) }
+    ensures refused { IfErr result (λ fault. run_refusal fault ≡ Some fault) }
 {
     if let Some(at) = first_foreign(text) {
         return Err(RunFault::BadDump { at });
@@ -89,7 +109,7 @@ fn digit_value(b: u8) -> Option<u8>
 
 // A look-up costs the same whatever the byte is. Tests of ranges are mispredicted at every other digit.
 fn meaning(b: u8) -> u8
-    ensures { result ≡ meaning b }
+    ensures { result ≡ digit_meaning b }
 {
     MEANINGS[usize::from(b)]
 }

@@ -44,7 +44,7 @@ pub enum RunFault {
 }
 
 impl From<CaptureFault> for RunFault {
-    ghost use Rattle.toxicap.specs.RunFaults.{run_fault};
+    ghost use Rattle.toxicap.specs.RunFault.{run_fault};
 
     ghost from_gives = { λ fault r. r ≡ run_fault fault };
 

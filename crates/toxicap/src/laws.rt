@@ -2,8 +2,8 @@
 //! contract is the theorem.
 ghost use Rattle.toxicap.specs.Connections.{GroupingsAgree};
 ghost use Rattle.toxicap.specs.Dumps.{ReadsBack};
-ghost use Rattle.toxicap.specs.KeyOrder.{PartsAreOrderedFirst, RisingIsInOrder};
-ghost use Rattle.toxicap.specs.OutputCaptures.{OutputsAreRead};
+ghost use Rattle.toxicap.specs.KeyOrder.{PartsAreSortedFirst, RisingIsSorted};
+ghost use Rattle.toxicap.specs.SoundOutputs.{OutputsAreRead};
 ghost use Rattle.toxicap.specs.Rehearsal.{ByteOrderDoesNotMatter};
 
 use frame_headers::laws::{headers_are_sound, segments_fit};
@@ -16,13 +16,13 @@ pub fn groupings_agree()
 {}
 
 /// Segments whose keys rise are in order already.
-pub fn rising_is_in_order()
-    ensures { RisingIsInOrder }
+pub fn rising_is_sorted()
+    ensures { RisingIsSorted }
 {}
 
 /// Two lists of segments may be put in order before they are joined and put in order.
-pub fn parts_are_ordered_first()
-    ensures { PartsAreOrderedFirst }
+pub fn parts_are_sorted_first()
+    ensures { PartsAreSortedFirst }
 {}
 
 /// The hexadecimal digits of some bytes, all in lower or all in upper case, are a dump of these bytes, whatever blanks stand

@@ -1,22 +1,22 @@
 //! All bytes of a reader.
 ghost use Rattle.std.specs.Prelude.{◌≡◌, ℕ, ◌-◌, ◌^◌, ◌<◌, ◌≤◌, List, length, OnOk, IfOk, IfErr, IfSome};
 ghost use Rattle.std.specs.Io.KnownBytes.{Consumes, IsAtEnd};
-ghost use Rattle.toxicap.specs.Edges.{capture_limit, StopsLoading};
+ghost use Rattle.pcap_records.specs.Reading.{capture_limit};
+ghost use Rattle.toxicap.specs.Loading.{StopsLoading};
 
 use crate::counted::Counted;
 use crate::faults::RunFault;
+use pcap_records::CAPTURE_LIMIT;
 use std::alloc::{AllocError, Global};
 use std::io::Read;
 
-/// The longest capture that is loaded, in bytes.
-const CAPTURE_LIMIT: usize = 1 << 30;
-
-/// How many bytes are asked for at once.
+// How many bytes are asked for at once.
 const READ_LEN: usize = 1 << 18;
 
 /// Reads all that the reader has, up to 2^30 bytes, by at most 2^30 + 1 reads.
 ///
-/// Errors: [`RunFault::CaptureTooLong`] as soon as more bytes came, [`RunFault::ReadFailed`] at the
+/// # Errors
+/// [`RunFault::CaptureTooLong`] as soon as more bytes came, [`RunFault::ReadFailed`] at the
 /// first read that fails, and [`RunFault::Memory`]. The bytes that came until then are dropped, and
 /// no further read was made.
 pub fn load<R: Read>(alloc: Global, reader: &mut Counted<R>) -> Result<Vec<u8>, RunFault>

@@ -1,18 +1,21 @@
 //! From the bytes of a capture to its report.
 ghost use Rattle.std.specs.Prelude.{◌≡◌, ◌≢◌, ℕ, ◌+◌, ◌-◌, ◌^◌, ◌<◌, ◌≤◌, List, length, IfErr};
 ghost use Rattle.std.specs.Io.KnownBytes.{Appends, Consumes, IsAtEnd};
-ghost use Rattle.toxicap.specs.Edges.{capture_limit};
-ghost use Rattle.toxicap.specs.Overview.{overview_of, Overviews, Reports, failed_reads, failed_writes};
+ghost use Rattle.pcap_records.specs.Agreement.{AgreesUnlessMemory};
+ghost use Rattle.pcap_records.specs.Reading.{capture_limit};
+ghost use Rattle.toxicap.specs.Overview.{overview_text, EndsBy, IsOfText, failed_reads, failed_writes};
+ghost use Rattle.toxicap.specs.Prints.{reports_of};
+ghost use Rattle.toxicap.specs.RunFault.{run_refusal};
 
-use crate::captures::capture_bytes;
 use crate::counted::Counted;
+use crate::dumps::capture_bytes;
 use crate::faults::RunFault;
 use crate::gates::Through;
 use crate::loading::load;
 use crate::outputs::Outputs;
 use crate::plans::Plan;
+use crate::printing::print_reports;
 use crate::rehearsal::rehearse;
-use crate::report_printing::print_reports;
 use crate::scenario::Scenario;
 use std::alloc::Global;
 use std::io::{Read, Write};
@@ -22,7 +25,8 @@ use std::thread::Threads;
 /// Reads a capture to its end, rehearses it under one bare scenario and writes the report. Where the first byte is a
 /// hexadecimal digit, the bytes are a dump of the capture.
 ///
-/// Errors, in this order: [`RunFault::ReadFailed`] or [`RunFault::CaptureTooLong`] while the capture
+/// # Errors
+/// In this order: [`RunFault::ReadFailed`] or [`RunFault::CaptureTooLong`] while the capture
 /// is read, [`RunFault::BadDump`], the faults of the capture itself, [`RunFault::WriteFailed`];
 /// [`RunFault::Memory`] at the growth that was refused. Nothing is written before the report is whole,
 /// so every refusal but [`RunFault::WriteFailed`] leaves the writer as it was. That one leaves a
@@ -39,7 +43,7 @@ pub fn overview<H: Threads + Wait, R: Read, W: Write>(
     // What is answered and what is written follow from the text that was read.
     ensures answer { (text : List ℕ)
         × Consumes (R.remaining reader.old.inner) (R.remaining reader.new.inner) text
-        × Overviews result text (IsAtEnd (R.remaining reader.new.inner))
+        × EndsBy result text (IsAtEnd (R.remaining reader.new.inner))
         (Appends (W.contents writer.old.inner) (W.contents writer.new.inner)) }
 
     // A call has failed exactly where the answer says so, and one alone.
@@ -55,14 +59,15 @@ pub fn overview<H: Threads + Wait, R: Read, W: Write>(
 }
 
 // Rehearses a text's capture.
-#[tactic(auto, unfolding(crate::specs::Overview::overview_of))]
+#[tactic(auto, unfolding(crate::specs::Overview::overview_text))]
 fn overview_outputs<H: Threads + Wait>(
     rt: &H,
     alloc: Global,
     text: Vec<u8>,
 ) -> Result<Outputs, RunFault>
     requires { length text.items ≤ capture_limit }
-    ensures { Reports result (overview_of text.items) }
+    ensures exact { AgreesUnlessMemory run_refusal reports_of result (overview_text text.items) }
+    ensures of_text { IfErr result IsOfText }
 {
     let bytes = capture_bytes(alloc, text)?;
     let plan = Plan::new(1, 4096).unwrap();

@@ -4,10 +4,10 @@ ghost use Rattle.toxicap.specs.Plans.{plan_of};
 
 use std::marker::Model;
 
-/// The most workers.
+// The most workers.
 const WORKER_LIMIT: u32 = 16;
 
-/// The most records of a range.
+// The most records of a range.
 const CUT_LIMIT: u32 = 1 << 20;
 
 /// How many workers there are, and how many records a range has that one of them reads.
@@ -18,9 +18,9 @@ pub struct Plan {
 }
 
 impl Model for Plan {
-    ghost use Rattle.toxicap.specs.Plans.{Planned};
+    ghost use Rattle.toxicap.specs.Plans.{PlanView};
 
-    ghost Value = { Planned };
+    ghost Value = { PlanView };
 
     ghost view = { λ p. record { workers = p.workers; cut = p.cut } };
 

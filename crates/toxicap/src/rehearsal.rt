@@ -1,10 +1,12 @@
 //! Rehearsing a capture.
-ghost use Rattle.toxicap.specs.Rehearsal.{Answers, answer};
+ghost use Rattle.pcap_records.specs.Agreement.{Agrees};
+ghost use Rattle.toxicap.specs.Rehearsal.{answer};
+ghost use Rattle.toxicap.specs.RunFault.{run_refusal};
 
-use crate::bare_outputs::bare_outputs;
 use crate::faults::RunFault;
 use crate::gates::Gate;
 use crate::outputs::Outputs;
+use crate::plain::bare_outputs::bare_outputs;
 use crate::plans::Plan;
 use crate::scenario::Scenario;
 use crate::values::Values;
@@ -13,7 +15,7 @@ use std::alloc::Global;
 use std::sync::Wait;
 use std::thread::Threads;
 
-/// The most scenarios of a rehearsal.
+// The most scenarios of a rehearsal.
 const SCENARIO_LIMIT: usize = 256;
 
 /// Rehearses a capture under each of the scenarios: for each, in order, a capture of what each side would have received and a
@@ -32,7 +34,7 @@ pub fn rehearse<R: Threads + Wait, G: Gate>(
     plan: Plan,
     gate: &G,
 ) -> Result<Outputs, RunFault>
-    ensures { Answers result (answer capture.now scenarios.now seed) }
+    ensures { Agrees run_refusal (λ outputs. outputs) result (answer capture.now scenarios.now seed) }
 {
     if scenarios.len() > SCENARIO_LIMIT {
         return Err(RunFault::TooManyScenarios);

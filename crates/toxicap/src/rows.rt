@@ -1,47 +1,40 @@
 //! Worked rows of the definitions: each function does nothing, and its contract is evaluated.
-ghost use Rattle.toxicap.specs.WrittenRows.{SessionWritten, SessionTold, RefusedWritten, RefusedTold, CrossingSaid, PiecesCut};
+ghost use Rattle.toxicap.specs.WrittenRows.{SessionWritten, SessionTold, RefusedWritten, RefusedTold, CrossingSent, PiecesCut};
+ghost use Rattle.toxicap.specs.CutRows.{LimitedText, ResetText, StoppedText, ResetAtOnceText, LaterText, TieText, FinStaysText, AtHorizonText, BeforeHorizonText, LaterSent, KeysRise, ResetSent, RefusedPart};
 ghost use Rattle.toxicap.specs.GroupingRows.{RepeatedGrouped, InTurnGrouped, UnopenedFirstGrouped, BothSidesGrouped, LateAnswersGrouped};
 
-fn session_written()
-    ensures { SessionWritten }
+fn written_rows()
+    ensures session_written { SessionWritten }
+    ensures session_told { SessionTold }
+    ensures refused_written { RefusedWritten }
+    ensures refused_told { RefusedTold }
+    ensures crossing { CrossingSent }
+    ensures pieces { PiecesCut }
 {}
 
-fn session_told()
-    ensures { SessionTold }
+fn cut_texts()
+    ensures limited { LimitedText }
+    ensures reset { ResetText }
+    ensures stopped { StoppedText }
+    ensures reset_at_once { ResetAtOnceText }
+    ensures later { LaterText }
+    ensures tie { TieText }
+    ensures fin_stays { FinStaysText }
+    ensures at_horizon { AtHorizonText }
+    ensures before_horizon { BeforeHorizonText }
 {}
 
-fn refused_written()
-    ensures { RefusedWritten }
+fn cut_segments()
+    ensures later { LaterSent }
+    ensures keys { KeysRise }
+    ensures reset { ResetSent }
+    ensures refused { RefusedPart }
 {}
 
-fn refused_told()
-    ensures { RefusedTold }
-{}
-
-fn crossing_said()
-    ensures { CrossingSaid }
-{}
-
-fn pieces_cut()
-    ensures { PiecesCut }
-{}
-
-fn repeated_grouped()
-    ensures { RepeatedGrouped }
-{}
-
-fn in_turn_grouped()
-    ensures { InTurnGrouped }
-{}
-
-fn unopened_first_grouped()
-    ensures { UnopenedFirstGrouped }
-{}
-
-fn both_sides_grouped()
-    ensures { BothSidesGrouped }
-{}
-
-fn late_answers_grouped()
-    ensures { LateAnswersGrouped }
+fn grouping_rows()
+    ensures repeated { RepeatedGrouped }
+    ensures in_turn { InTurnGrouped }
+    ensures unopened_first { UnopenedFirstGrouped }
+    ensures both_sides { BothSidesGrouped }
+    ensures late_answers { LateAnswersGrouped }
 {}

@@ -1,27 +1,20 @@
 //! The program `toxicap`: it reads a capture, or a dump of one, from standard input and writes the report of its
-//! rehearsal under one bare scenario to standard output.
-//!
-//! Exit status 0; 1 for a refusal, whose line stands on standard error; 2 where words stand on the
-//! command line.
+//! rehearsal under one bare scenario to standard output. All of it is the library's `run`.
 #![tactic(auto)]
 
 use std::env::{Env, FillError};
 use std::process::ExitCode;
-use toxicap::{Counted, overview, refuse_words, report_outcome};
+use toxicap::{Counted, run};
 
 fn main(rt: HostRuntime) -> ExitCode {
-    let mut faults = Counted::new(rt.stderr());
-    let status = if has_words(&rt) {
-        refuse_words(&mut faults)
-    } else {
-        let outcome = overview(
-            &rt,
-            rt.alloc(),
-            &mut Counted::new(rt.stdin()),
-            &mut Counted::new(rt.stdout()),
-        );
-        report_outcome(rt.alloc(), outcome, &mut faults)
-    };
+    let status = run(
+        &rt,
+        rt.alloc(),
+        has_words(&rt),
+        &mut Counted::new(rt.stdin()),
+        &mut Counted::new(rt.stdout()),
+        &mut Counted::new(rt.stderr()),
+    );
     ExitCode::from(status)
 }
 

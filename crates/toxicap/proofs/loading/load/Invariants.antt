@@ -1,6 +1,6 @@
 use Rattle.std.proofs.Common.{◌≡◌, ◌-◌, ◌≤◌, length}
 use Rattle.std.specs.Io.KnownBytes.{Consumes}
-use Rattle.toxicap.specs.Edges.{capture_limit}
+use Rattle.pcap_records.specs.Reading.{capture_limit}
 use Rattle.toxicap.proofs.loading.load.Given as goal
 
 -- the reader lost what came until now, within the limit, and no call has failed

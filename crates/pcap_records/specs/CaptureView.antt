@@ -1,0 +1,57 @@
+-- What contracts see of a `Capture`, and what its faults refuse.
+use Rattle.std.specs.Prelude.{◌≤◌, ◌<◌, ℕ, ◌+◌, ◌^◌, List, map, length, take, drop, Option, Some, None, option_map, slice_get, All}
+use Rattle.std.specs.List.{slice_range}
+use Rattle.pcap_records.specs.declared.order.Order.{Order}
+use Rattle.pcap_records.specs.declared.fault.CaptureFault.{CaptureFault}
+use Rattle.pcap_records.specs.declared.fault.CaptureFault.TheVariants.{CaptureTooLong, ShortHeader, BadMagic, BadVersion, BadLink, RecordTooLong, Memory}
+use Rattle.pcap_records.specs.declared.record_place.Record.{Record}
+use Rattle.pcap_records.specs.Instants.{horizon}
+use Rattle.pcap_records.specs.Reading.{Packet, Contents, Reading, packet_limit}
+
+-- the file's bytes, the ticks of a second, the order of its fields, where its records lie, and how many bytes follow them
+pub record CaptureView : Type 0 where
+  pub bytes : List ℕ
+  pub ticks : ℕ
+  pub order : Order
+  pub records : List Record
+  pub rest : ℕ
+
+-- the packet that a record tells of
+abbrev pub packet_of : List ℕ → Record → Packet
+packet_of bytes r = record { stamp = r.stamp; bytes = take r.len (drop r.start bytes) }
+
+-- what a capture holds
+abbrev pub contents_of : CaptureView → Contents
+contents_of c = record { ticks = c.ticks; packets = map (packet_of c.bytes) c.records; rest = c.rest }
+
+abbrev pub reading_of : CaptureView → Reading
+reading_of c = record { order = c.order; contents = contents_of c }
+
+-- the bytes of packet i
+abbrev pub packet_at : CaptureView → ℕ → Option (List ℕ)
+packet_at c i = option_map (λ p. p.bytes) (slice_get (contents_of c).packets i)
+
+-- the stamps of the records from `from` to below `to`
+abbrev pub stamps_between : CaptureView → ℕ → ℕ → List ℕ
+stamps_between c from to = map (λ p. p.stamp) (slice_range (contents_of c).packets from to)
+
+-- a record's packet lies within the bytes and is not too long, and its stamp is no later than the horizon
+pub record IsWithinFile (ticks : ℕ) (bytes : List ℕ) (r : Record) : Type 0 where
+  pub ends : r.start + r.len ≤ length bytes
+  pub limited : r.len ≤ packet_limit
+  pub stamped : r.stamp ≤ horizon ticks
+
+-- what holds of every capture: its records lie within the bytes, and are too few for their numbers to pass 26 bits
+pub record IsSoundCapture (ticks : ℕ) (bytes : List ℕ) (records : List Record) : Type 0 where
+  pub within : All (IsWithinFile ticks bytes) records
+  pub few : length records < 2 ^ 26
+
+-- what a fault of reading refuses
+abbrev pub refusal : CaptureFault → Option CaptureFault
+refusal (Memory e) = None
+refusal CaptureTooLong = Some CaptureTooLong
+refusal ShortHeader = Some ShortHeader
+refusal BadMagic = Some BadMagic
+refusal BadVersion = Some BadVersion
+refusal BadLink = Some BadLink
+refusal (RecordTooLong k) = Some (RecordTooLong k)

@@ -1,0 +1,31 @@
+//! A program over the library, as a user would write one: it reads a capture from standard input, rehearses it under one
+//! bare scenario, and writes the output capture to standard output. Beside it stand the tests over the public calls of all
+//! crates, with values from outside.
+#![tactic(auto)]
+
+#[cfg(test)]
+mod tests;
+
+use anyhow::{Context, Result};
+use std::io::{Read, Write};
+use toxicap::{Plan, Scenario, Through, rehearse};
+
+fn main(rt: HostRuntime) -> Result<()> {
+    let mut capture = Vec::new(rt.alloc());
+    let _ = rt.stdin().read_to_end(&mut capture)?;
+    let plan = Plan::new(1, 4096).context("no such plan")?;
+    let outputs = rehearse(
+        &rt,
+        rt.alloc(),
+        &capture,
+        &[Scenario::bare()],
+        0,
+        plan,
+        &Through,
+    )?;
+    for output in outputs.as_slice() {
+        // output.report is the text of the same scenario
+        rt.stdout().write_all(output.capture.as_slice())?;
+    }
+    Ok(())
+}

@@ -1,0 +1,9 @@
+//! Tests over the public calls of all crates, with values from outside.
+mod captures;
+mod dumps;
+mod edges;
+mod frames;
+mod rehearsals;
+mod runs;
+mod sessions;
+mod written_frames;

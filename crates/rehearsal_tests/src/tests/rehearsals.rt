@@ -1,0 +1,298 @@
+//! Rehearsals of worked captures.
+use super::sessions::{
+    ACK, CLIENT, FIN, Host, PSH, RST, SECOND_CLIENT, SERVER, SYN, file, header, put, segment,
+    session,
+};
+use super::written_frames::{ACKNOWLEDGED, OPENING, OPENING_ANSWERED};
+use std::alloc::{AllocError, Global};
+use std::sync::Wait;
+use std::test::Fail;
+use std::thread::Threads;
+use toxicap::{Plan, RunFault, Scenario, Through, rehearse};
+
+// The one output of a file under one bare scenario: its capture and its report.
+fn rehearsed<R: Threads + Wait>(
+    rt: &R,
+    alloc: Global,
+    bytes: &[u8],
+) -> Result<(Vec<u8>, Vec<u8>), RunFault> {
+    let plan = Plan::new(1, 4096).ok_or(RunFault::Memory)?;
+    let outputs = rehearse(rt, alloc, bytes, &[Scenario::bare()], 0, plan, &Through)?;
+    let mut outputs = outputs.into_vec();
+    match outputs.pop() {
+        Some(output) => Ok((output.capture.into_vec(), output.report.into_vec())),
+        None => Err(RunFault::Memory),
+    }
+}
+
+// Appends what is written of one frame: its record, stamped with whole seconds.
+fn put_written(out: &mut Vec<u8>, seconds: u32, frame: &[u8]) -> Result<(), AllocError> {
+    let len = frame.len().min(1514) as u32;
+    for number in [seconds, 0, len, len] {
+        out.extend_from_slice(&number.to_le_bytes())?;
+    }
+    out.extend_from_slice(frame)
+}
+
+// The output capture of the plain session while nothing but its opening is delivered.
+fn opening_written(alloc: Global) -> Result<Vec<u8>, AllocError> {
+    let mut out = header(alloc, true)?;
+    put_written(&mut out, 1, &OPENING)?;
+    put_written(&mut out, 1, &OPENING_ANSWERED)?;
+    put_written(&mut out, 1, &ACKNOWLEDGED)?;
+    Ok(out)
+}
+
+#[test]
+fn the_plain_session(rt: HostRuntime) -> Result<(), Fail> {
+    for little in [true, false] {
+        let bytes = file(rt.alloc(), little, &session())?;
+        assert_eq!(rt; bytes.len(), 519);
+        let (capture, report) = rehearsed(&rt, rt.alloc(), &bytes)?;
+        assert_eq!(rt; capture.as_slice(), opening_written(rt.alloc())?.as_slice());
+        let want =
+            b"scenario 0 records 7 rest 0 segment 7 short 0 notipv4 0 badipv4 0 fragment 0 nottcp 0 cut 0 badtcp 0 sameends 0\nconnections 1 unopened 0\n0 10.0.0.1:40000 > 10.0.0.2:80 proxy - up 0/0/0 open max 0 down 0/0/0 open max 0\n";
+        assert_eq!(rt; report.as_slice(), want.as_slice());
+    }
+    Ok(())
+}
+
+#[test]
+fn an_empty_capture(rt: HostRuntime) -> Result<(), Fail> {
+    for little in [true, false] {
+        let bytes = header(rt.alloc(), little)?;
+        let (capture, report) = rehearsed(&rt, rt.alloc(), &bytes)?;
+        assert_eq!(rt; capture.as_slice(), header(rt.alloc(), true)?.as_slice());
+        let want =
+            b"scenario 0 records 0 rest 0 segment 0 short 0 notipv4 0 badipv4 0 fragment 0 nottcp 0 cut 0 badtcp 0 sameends 0\nconnections 0 unopened 0\n";
+        assert_eq!(rt; report.as_slice(), want.as_slice());
+    }
+    Ok(())
+}
+
+// The report of some segments ends with this text.
+fn ends_with(report: &[u8], text: &str) -> bool {
+    report.ends_with(text.as_bytes())
+}
+
+#[test]
+fn repeated_opening_and_second_session(rt: HostRuntime) -> Result<(), Fail> {
+    let segments = [
+        segment((1, 0), CLIENT, SERVER, SYN, (1000, 0), 0),
+        segment((1, 500_000), CLIENT, SERVER, SYN, (1000, 0), 0),
+        segment((1, 600_000), SERVER, CLIENT, SYN + ACK, (5000, 1001), 0),
+        segment((1, 700_000), CLIENT, SERVER, PSH + ACK, (1001, 5001), 1),
+        segment((2, 0), CLIENT, SERVER, SYN, (9000, 0), 0),
+        segment((2, 100_000), CLIENT, SERVER, PSH + ACK, (9001, 0), 1),
+    ];
+    let bytes = file(rt.alloc(), true, &segments)?;
+    let (capture, report) = rehearsed(&rt, rt.alloc(), &bytes)?;
+    assert_eq!(rt; capture.len(), 444);
+    // The second SYN ACK: its sequence number is 0, its acknowledgment number 9001.
+    assert!(rt;
+        capture.get(24 + 4 * 70 + 54..24 + 4 * 70 + 62) == Some(&[0, 0, 0, 0, 0, 0, 0x23, 0x29])
+    );
+    let text =
+        "connections 2 unopened 0\n0 10.0.0.1:40000 > 10.0.0.2:80 proxy - up 0/0/0 open max 0 down 0/0/0 open max 0\n1 10.0.0.1:40000 > 10.0.0.2:80 proxy - up 0/0/0 open max 0 down 0/0/0 open max 0\n";
+    assert!(rt; ends_with(&report, text));
+    Ok(())
+}
+
+#[test]
+fn clients_in_turn(rt: HostRuntime) -> Result<(), Fail> {
+    let segments = [
+        segment((1, 0), CLIENT, SERVER, SYN, (1000, 0), 0),
+        segment((2, 0), SECOND_CLIENT, SERVER, SYN, (2000, 0), 0),
+        segment((3, 0), CLIENT, SERVER, SYN, (9000, 0), 0),
+    ];
+    let bytes = file(rt.alloc(), true, &segments)?;
+    let (capture, report) = rehearsed(&rt, rt.alloc(), &bytes)?;
+    assert_eq!(rt; capture.len(), 654);
+    let text =
+        "connections 3 unopened 0\n0 10.0.0.1:40000 > 10.0.0.2:80 proxy - up 0/0/0 open max 0 down 0/0/0 open max 0\n1 10.0.0.3:40001 > 10.0.0.2:80 proxy - up 0/0/0 open max 0 down 0/0/0 open max 0\n2 10.0.0.1:40000 > 10.0.0.2:80 proxy - up 0/0/0 open max 0 down 0/0/0 open max 0\n";
+    assert!(rt; ends_with(&report, text));
+    Ok(())
+}
+
+#[test]
+fn an_unopened_pair_first(rt: HostRuntime) -> Result<(), Fail> {
+    let segments = [
+        segment((1, 0), SERVER, CLIENT, ACK, (7000, 1), 0),
+        segment((2, 0), SECOND_CLIENT, SERVER, SYN, (2000, 0), 0),
+        segment((3, 0), CLIENT, SERVER, SYN, (1000, 0), 0),
+    ];
+    let bytes = file(rt.alloc(), false, &segments)?;
+    let (_, report) = rehearsed(&rt, rt.alloc(), &bytes)?;
+    let text =
+        "connections 2 unopened 1\n0 10.0.0.3:40001 > 10.0.0.2:80 proxy - up 0/0/0 open max 0 down 0/0/0 open max 0\n1 10.0.0.1:40000 > 10.0.0.2:80 proxy - up 0/0/0 open max 0 down 0/0/0 open max 0\n";
+    assert!(rt; ends_with(&report, text));
+    Ok(())
+}
+
+#[test]
+fn openings_from_both_sides(rt: HostRuntime) -> Result<(), Fail> {
+    let segments = [
+        segment((1, 0), CLIENT, SERVER, SYN, (1000, 0), 0),
+        segment((1, 100_000), SERVER, CLIENT, SYN, (1000, 0), 0),
+    ];
+    let bytes = file(rt.alloc(), true, &segments)?;
+    let (_, report) = rehearsed(&rt, rt.alloc(), &bytes)?;
+    let text =
+        "connections 2 unopened 0\n0 10.0.0.1:40000 > 10.0.0.2:80 proxy - up 0/0/0 open max 0 down 0/0/0 open max 0\n1 10.0.0.2:80 > 10.0.0.1:40000 proxy - up 0/0/0 open max 0 down 0/0/0 open max 0\n";
+    assert!(rt; ends_with(&report, text));
+    Ok(())
+}
+
+#[test]
+fn unopened_segments_and_same_ends(rt: HostRuntime) -> Result<(), Fail> {
+    let segments = [
+        segment((1, 0), SERVER, CLIENT, PSH + ACK, (7000, 1), 1),
+        segment((1, 100_000), CLIENT, SERVER, SYN, (1000, 0), 0),
+        segment((1, 200_000), SERVER, CLIENT, PSH + ACK, (7001, 1001), 2),
+        segment((1, 300_000), CLIENT, CLIENT, ACK, (1, 1), 0),
+    ];
+    let bytes = file(rt.alloc(), true, &segments)?;
+    let (capture, report) = rehearsed(&rt, rt.alloc(), &bytes)?;
+    assert_eq!(rt; capture.len(), 234);
+    let want =
+        b"scenario 0 records 4 rest 0 segment 3 short 0 notipv4 0 badipv4 0 fragment 0 nottcp 0 cut 0 badtcp 0 sameends 1\nconnections 1 unopened 1\n0 10.0.0.1:40000 > 10.0.0.2:80 proxy - up 0/0/0 open max 0 down 0/0/0 open max 0\n";
+    assert_eq!(rt; report.as_slice(), want.as_slice());
+    Ok(())
+}
+
+#[test]
+fn stamps_that_fall_back(rt: HostRuntime) -> Result<(), Fail> {
+    let segments = [
+        segment((5, 0), CLIENT, SERVER, SYN, (1000, 0), 0),
+        segment((4, 0), SECOND_CLIENT, SERVER, SYN, (2000, 0), 0),
+        segment((4, 500_000), SECOND_CLIENT, SERVER, PSH + ACK, (2001, 1), 1),
+    ];
+    let bytes = file(rt.alloc(), true, &segments)?;
+    let (capture, _) = rehearsed(&rt, rt.alloc(), &bytes)?;
+    assert_eq!(rt; capture.len(), 444);
+    // Each of the six is stamped 5.000000; the first three are of the first client, the last byte of whose address is 1.
+    for (place, sender) in [1, 2, 1, 3, 2, 3].into_iter().enumerate() {
+        let at = 24 + 70 * place;
+        assert!(rt;
+            capture.get(at..at + 8) == Some(&[5, 0, 0, 0, 0, 0, 0, 0]),
+            "segment {place}"
+        );
+        assert!(rt;
+            capture.get(at + 16 + 29) == Some(&sender),
+            "segment {place}"
+        );
+    }
+    Ok(())
+}
+
+#[test]
+fn an_opening_at_the_horizon(rt: HostRuntime) -> Result<(), Fail> {
+    let opening = segment((u32::MAX, u32::MAX), CLIENT, SERVER, SYN, (1000, 0), 0);
+    let bytes = file(rt.alloc(), true, &[opening])?;
+    let (capture, report) = rehearsed(&rt, rt.alloc(), &bytes)?;
+    assert_eq!(rt; capture.len(), 24);
+    let text =
+        "connections 1 unopened 0\n0 10.0.0.1:40000 > 10.0.0.2:80 proxy - up 0/0/0 open max 0 down 0/0/0 open max 0\n";
+    assert!(rt; ends_with(&report, text));
+    Ok(())
+}
+
+#[test]
+fn sequence_numbers_wrap(rt: HostRuntime) -> Result<(), Fail> {
+    let segments = [
+        segment((1, 0), CLIENT, SERVER, SYN, (u32::MAX, 0), 0),
+        segment((1, 100), SERVER, CLIENT, SYN + ACK, (5000, 0), 0),
+    ];
+    let bytes = file(rt.alloc(), true, &segments)?;
+    let (capture, _) = rehearsed(&rt, rt.alloc(), &bytes)?;
+    assert_eq!(rt; capture.len(), 234);
+    // The SYN ACK's acknowledgment number and the ACK's sequence number are 0.
+    assert!(rt; capture.get(94 + 16 + 42..94 + 16 + 46) == Some(&[0, 0, 0, 0]));
+    assert!(rt; capture.get(164 + 16 + 38..164 + 16 + 42) == Some(&[0, 0, 0, 0]));
+    Ok(())
+}
+
+#[test]
+fn answers_that_give_no_number(rt: HostRuntime) -> Result<(), Fail> {
+    let opening = segment((1, 0), CLIENT, SERVER, SYN, (1000, 0), 0);
+    for answers in [
+        // Behind a reset, a reset itself, and from the client's side.
+        [
+            segment((1, 1), CLIENT, SERVER, RST, (1001, 0), 0),
+            segment((1, 2), SERVER, CLIENT, SYN + ACK, (5000, 1001), 0),
+        ],
+        [
+            segment((1, 1), SERVER, CLIENT, SYN + ACK + RST, (5000, 1001), 0),
+            segment((1, 2), SERVER, CLIENT, SYN + ACK, (6000, 1001), 0),
+        ],
+        [
+            segment((1, 1), CLIENT, SERVER, SYN + ACK, (5000, 1001), 0),
+            segment((1, 2), CLIENT, SERVER, ACK, (1001, 1), 0),
+        ],
+    ] {
+        let bytes = file(rt.alloc(), true, &[opening, answers[0], answers[1]])?;
+        let (capture, _) = rehearsed(&rt, rt.alloc(), &bytes)?;
+        assert!(rt; capture.get(94 + 16 + 38..94 + 16 + 42) == Some(&[0, 0, 0, 0]));
+    }
+    Ok(())
+}
+
+#[test]
+fn too_many_scenarios_and_none(rt: HostRuntime) -> Result<(), Fail> {
+    let plan = Plan::new(16, 1).ok_or("a plan")?;
+    let many = [Scenario::bare(); 257];
+    let refused = rehearse(&rt, rt.alloc(), &[], &many, 0, plan, &Through);
+    assert!(rt; matches!(refused, Err(RunFault::TooManyScenarios)));
+    let refused = rehearse(&rt, rt.alloc(), &[], &many[..256], 0, plan, &Through);
+    assert!(rt; matches!(refused, Err(RunFault::ShortHeader)));
+    let bytes = file(rt.alloc(), true, &session())?;
+    let none = rehearse(&rt, rt.alloc(), &bytes, &[], 7, plan, &Through)?;
+    assert!(rt; none.as_slice().is_empty());
+    let most = rehearse(&rt, rt.alloc(), &bytes, &many[..256], 7, plan, &Through)?;
+    assert_eq!(rt; most.as_slice().len(), 256);
+    let opening = opening_written(rt.alloc())?;
+    for output in most.as_slice() {
+        assert_eq!(rt; output.capture.as_slice(), opening.as_slice());
+    }
+    Ok(())
+}
+
+#[test]
+fn limits_of_plans(rt: HostRuntime) {
+    for (workers, cut) in [(0, 1), (17, 1), (1, 0), (1, 1_048_577)] {
+        assert!(rt; Plan::new(workers, cut).is_none(), "{workers} {cut}");
+    }
+    for (workers, cut) in [(1, 1), (16, 1_048_576)] {
+        match Plan::new(workers, cut) {
+            Some(plan) => {
+                assert_eq!(rt; plan.workers(), workers);
+                assert_eq!(rt; plan.cut(), cut);
+            }
+            None => assert!(rt; false, "{workers} {cut}"),
+        }
+    }
+}
+
+// A report of some thousand records and connections: no part of it is given up for their number.
+#[test]
+fn thousands_of_connections(rt: HostRuntime) -> Result<(), Fail> {
+    let mut bytes = header(rt.alloc(), true)?;
+    for turn in 0..2500u16 {
+        let host = Host {
+            mac: 1,
+            addr: 1,
+            port: 10_000 + turn,
+        };
+        let opening = segment((1, u32::from(turn)), host, SERVER, SYN, (1000, 0), 0);
+        let answer = segment((2, 0), SERVER, host, SYN + ACK, (5000, 1001), 0);
+        put(&mut bytes, true, &opening)?;
+        put(&mut bytes, true, &answer)?;
+    }
+    let (capture, report) = rehearsed(&rt, rt.alloc(), &bytes)?;
+    assert_eq!(rt; capture.len(), 24 + 2500 * 210);
+    assert!(rt; report.starts_with(b"scenario 0 records 5000 rest 0 segment 5000 short 0 "));
+    let text =
+        "2499 10.0.0.1:12499 > 10.0.0.2:80 proxy - up 0/0/0 open max 0 down 0/0/0 open max 0\n";
+    assert!(rt; ends_with(&report, text));
+    Ok(())
+}

@@ -1,5 +1,0 @@
-use Rattle.toxicap.proofs.Evaluated.{session_told}
-use Rattle.toxicap.proofs.rows.session_told.Goals as goal
-
-pub returns : goal.returns
-returns c = session_told

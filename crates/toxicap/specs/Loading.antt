@@ -1,0 +1,13 @@
+-- What is left of a reader after a refusal to load all of it.
+use Rattle.std.specs.Prelude.{◌≡◌, ℕ, ◌+◌, ◌<◌, ◌≤◌}
+use Rattle.pcap_records.specs.Reading.{capture_limit}
+use Rattle.toxicap.specs.declared.faults.RunFault.{RunFault}
+use Rattle.toxicap.specs.declared.faults.RunFault.TheVariants.{CaptureTooLong, ReadFailed, Memory}
+
+-- Loading stopped after some bytes for one of three causes: they are more than the limit, a read failed,
+-- or memory was refused. A failed read, and nothing else, raises the count of failed calls by one.
+abbrev pub StopsLoading : RunFault → ℕ → ℕ → ℕ → Type 0
+StopsLoading CaptureTooLong given old_failed new_failed = (capture_limit < given) × (new_failed ≡ old_failed)
+StopsLoading ReadFailed given old_failed new_failed = (given ≤ capture_limit) × (new_failed ≡ old_failed + 1)
+StopsLoading Memory given old_failed new_failed = (given ≤ capture_limit) × (new_failed ≡ old_failed)
+StopsLoading _ given old_failed new_failed = ⊥

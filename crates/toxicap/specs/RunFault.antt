@@ -1,0 +1,60 @@
+-- The faults of a run: which of them a fault of a capture is, what each refuses, and how each is told.
+use Rattle.std.specs.Prelude.{ℕ, List, [], ◌++◌, codes, Option, Some, None}
+use Rattle.std.specs.Fmt.{decimal}
+use Rattle.pcap_records.specs.declared.fault.CaptureFault.{CaptureFault}
+use Rattle.pcap_records.specs.declared.fault.CaptureFault.TheVariants as of_capture
+use Rattle.toxicap.specs.declared.faults.RunFault.{RunFault}
+use Rattle.toxicap.specs.declared.faults.RunFault.TheVariants as of_run
+use Rattle.toxicap.specs.declared.fault_lines.FaultPlace.{FaultPlace}
+use Rattle.toxicap.specs.declared.fault_lines.FaultPlace.TheVariants.{Nowhere, At}
+
+-- a fault of a capture as a fault of a run
+abbrev pub run_fault : CaptureFault → RunFault
+run_fault of_capture.ShortHeader = of_run.ShortHeader
+run_fault of_capture.BadMagic = of_run.BadMagic
+run_fault of_capture.BadVersion = of_run.BadVersion
+run_fault of_capture.BadLink = of_run.BadLink
+run_fault (of_capture.RecordTooLong at) = of_run.RecordTooLong at
+run_fault of_capture.CaptureTooLong = of_run.CaptureTooLong
+run_fault (of_capture.Memory e) = of_run.Memory
+
+-- each fault but want of memory refuses something
+abbrev pub run_refusal : RunFault → Option RunFault
+run_refusal of_run.Memory = None
+run_refusal fault = Some fault
+
+-- ---- how a fault is told
+
+-- its number, its name, and its place where it knows one
+pub record FaultEntry : Type 0 where
+  pub number : ℕ
+  pub name : List ℕ
+  pub place : FaultPlace
+
+abbrev pub entry : ℕ → List ℕ → FaultPlace → FaultEntry
+entry number name place = record { number = number; name = name; place = place }
+
+-- the table of faults
+abbrev pub fault_entry : RunFault → FaultEntry
+fault_entry of_run.ShortHeader = entry 1 (codes "ShortHeader") Nowhere
+fault_entry of_run.BadMagic = entry 2 (codes "BadMagic") Nowhere
+fault_entry of_run.BadVersion = entry 3 (codes "BadVersion") Nowhere
+fault_entry of_run.BadLink = entry 4 (codes "BadLink") Nowhere
+fault_entry (of_run.RecordTooLong at) = entry 5 (codes "RecordTooLong") (At at)
+fault_entry of_run.CaptureTooLong = entry 6 (codes "CaptureTooLong") Nowhere
+fault_entry of_run.TooManyScenarios = entry 22 (codes "TooManyScenarios") Nowhere
+fault_entry of_run.Memory = entry 40 (codes "Memory") Nowhere
+fault_entry (of_run.BadDump at) = entry 55 (codes "BadDump") (At at)
+fault_entry of_run.ReadFailed = entry 61 (codes "ReadFailed") Nowhere
+fault_entry of_run.WriteFailed = entry 62 (codes "WriteFailed") Nowhere
+
+abbrev pub place_text : FaultPlace → List ℕ
+place_text Nowhere = []
+place_text (At n) = codes " at " ++ decimal n
+
+-- refused NUMBER NAME, and its place
+abbrev pub entry_text : FaultEntry → List ℕ
+entry_text e = (codes "refused " ++ (decimal e.number ++ (codes " " ++ e.name))) ++ place_text e.place
+
+unfoldable pub fault_text : RunFault → List ℕ
+fault_text fault = entry_text (fault_entry fault)

@@ -2,3 +2,4 @@ mod PartWrites
 mod FilledSums
 mod ReadBack
 mod FieldRanges
+mod PayloadPlaces

@@ -1,6 +1,6 @@
 -- What a captured Ethernet frame is, and the fields of the TCP segment in it. A frame is the list of its bytes, and each
 -- field is the number at the place where its standard puts it.
-use Rattle.std.specs.Prelude.{ℕ, ◌-◌, ◌*◌, ◌/◌, ◌%◌, List, length, drop, slice_index, slice_range, Bool, ◌||◌, ◌&&◌, not, nat_lt, ◌==◌, if◌then◌else◌}
+use Rattle.std.specs.Prelude.{ℕ, ◌+◌, ◌-◌, ◌*◌, ◌/◌, ◌%◌, List, length, drop, slice_index, slice_range, Bool, ◌||◌, ◌&&◌, not, nat_lt, ◌==◌, if◌then◌else◌}
 use Rattle.byteorder.specs.Endian.{big_number}
 use Rattle.frame_headers.specs.declared.peers.Peer.{Peer}
 
@@ -103,6 +103,10 @@ is_same_ends ip = (sender ip).addr == (receiver ip).addr && (sender ip).port == 
 -- what the TCP header leaves of the TCP bytes
 abbrev pub payload_of : List ℕ → List ℕ
 payload_of tcp = slice_range tcp (data_offset tcp) (length tcp)
+
+-- where the payload lies in a segment's frame: behind the headers of Ethernet, IPv4 and TCP
+abbrev pub payload_offset : List ℕ → ℕ
+payload_offset frame = link_len + header_len (datagram frame) + data_offset (ip_payload (datagram frame))
 
 -- the classes of frames
 pub data FrameClass : Type 0 where

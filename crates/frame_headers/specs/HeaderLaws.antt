@@ -1,7 +1,7 @@
 -- What holds of written headers: their checksums are filled, and their fields are read back.
-use Rattle.std.specs.Prelude.{◌≡◌, ◌≢◌, ℕ, ◌<◌, ◌≤◌, ◌^◌, List, ◌++◌, length, drop, slice_range}
+use Rattle.std.specs.Prelude.{◌≡◌, ◌≢◌, ℕ, ◌+◌, ◌<◌, ◌≤◌, ◌^◌, List, ◌++◌, length, drop, slice_range}
 use Rattle.std.specs.List.{AllByRecursion}
-use Rattle.frame_headers.specs.Frame.{SegmentFields, datagram, frame_class, segment_fields, segment}
+use Rattle.frame_headers.specs.Frame.{SegmentFields, datagram, frame_class, segment_fields, segment, payload_offset}
 use Rattle.frame_headers.specs.Headers.{headers, headers_len, payload_limit}
 use Rattle.frame_headers.specs.Sum.{sum16, tcp_sum}
 use Rattle.frame_headers.specs.declared.written.Header.{Header}
@@ -63,3 +63,11 @@ pub record FieldsFit (f : SegmentFields) : Type 0 where
 
 abbrev pub SegmentsFit : Type 0
 SegmentsFit = (frame : List ℕ) → AllByRecursion (λ b. b < 256) frame → frame_class frame ≡ segment → FieldsFit (segment_fields frame)
+
+-- a segment's payload lies in its frame, behind the three headers
+pub record IsPayloadInPlace (frame : List ℕ) : Type 0 where
+  pub within : payload_offset frame + length (segment_fields frame).payload ≤ length frame
+  pub bytes : slice_range frame (payload_offset frame) (payload_offset frame + length (segment_fields frame).payload) ≡ (segment_fields frame).payload
+
+abbrev pub PayloadsAreInPlace : Type 0
+PayloadsAreInPlace = (frame : List ℕ) → frame_class frame ≡ segment → IsPayloadInPlace frame

@@ -66,6 +66,7 @@ pub struct Segment<'a> {
 }
 
 /// The class of a captured frame, and a segment's fields. It takes no memory, and every list of bytes has a class.
+#[inline(always)]
 #[tactic(auto, unfolding(crate::specs::Frame::frame_class, crate::specs::Frame::segment_fields))]
 pub fn classify(packet: &[u8]) -> Class<'_>
     ensures class { frame_class_of result ≡ frame_class packet.now }
@@ -110,7 +111,7 @@ fn is_not_ipv4(packet: &[u8]) -> bool
 }
 
 // What follows the Ethernet header.
-fn behind_link(packet: &[u8]) -> &[u8]
+pub(crate) fn behind_link(packet: &[u8]) -> &[u8]
     requires { LINK_LEN ≤ length packet.now }
     ensures { result.now ≡ datagram packet.now }
 {
@@ -167,6 +168,7 @@ fn is_bad_tcp(tcp: &[u8]) -> bool
 }
 
 // The fields of the segment in a frame, whose datagram is `ip` and whose TCP bytes are `tcp`.
+#[inline(always)]
 #[tactic(auto, unfolding(crate::specs::Frame::segment_fields))]
 fn segment_in<'a>(packet: &[u8], ip: &[u8], tcp: &'a [u8]) -> Segment<'a>
     requires datagram { ip.now ≡ datagram packet.now }

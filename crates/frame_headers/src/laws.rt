@@ -1,5 +1,5 @@
 //! Theorems about the definitions of this crate. Each function does nothing: its contract is the theorem.
-ghost use Rattle.frame_headers.specs.HeaderLaws.{HeadersAreSound, SegmentsFit};
+ghost use Rattle.frame_headers.specs.HeaderLaws.{HeadersAreSound, SegmentsFit, PayloadsAreInPlace};
 
 /// The headers of a segment with at most 1,460 bytes of payload are 54 bytes. Both checksums are filled, the fields are read
 /// back, and the frame is a segment where the two peers differ.
@@ -10,4 +10,9 @@ pub fn headers_are_sound()
 /// The fields of a captured segment fit their places in the headers of a written one, and its two peers differ.
 pub fn segments_fit()
     ensures { SegmentsFit }
+{}
+
+/// The payload of a captured segment lies in its frame, behind the three headers.
+pub fn payloads_are_in_place()
+    ensures { PayloadsAreInPlace }
 {}

@@ -6,11 +6,13 @@ mod classes;
 mod flag_bits;
 pub mod laws;
 mod peers;
+mod places;
 mod sums;
 mod written;
 
 pub use classes::{Class, Segment, classify};
 pub use flag_bits::Flags;
 pub use peers::Peer;
+pub use places::{PayloadPlace, payload_place};
 pub use sums::{checksum, tcp_checksum};
 pub use written::{HEADERS_LEN, Header, PAYLOAD_LIMIT, put_headers};

@@ -1,12 +1,8 @@
--- From the two passes to the reading of the file.
-use Rattle.std.proofs.Common.{◌≡◌, ℕ, List, map, drop, refl, ◌∙◌, Result, Ok, Err, IsOk, IfOk}
-use Rattle.pcap_records.specs.declared.order.Order.{Order}
+-- From a file's header and its records to its reading.
+use Rattle.std.proofs.Common.{◌≡◌, ℕ, List, drop, refl, ◌∙◌, Option, Some, None, Result, Ok, Err}
 use Rattle.pcap_records.specs.declared.fault.CaptureFault.{CaptureFault}
-use Rattle.pcap_records.specs.declared.reader.Survey.{Survey}
-use Rattle.pcap_records.specs.declared.record_place.Record.{Record}
-use Rattle.pcap_records.specs.Reading.{Heading, Contents, file_heading, reading, reading_in, microsecond_heading, records_after}
-use Rattle.pcap_records.specs.CaptureView.{reading_of, packet_of}
-use Rattle.pcap_records.specs.Survey.{survey_from, IsListed}
+use Rattle.pcap_records.specs.Agreement.{Refuses}
+use Rattle.pcap_records.specs.Reading.{Heading, Contents, file_heading, reading, reading_in, records_after}
 
 -- a file's reading once its header is read
 pub reading-file_heading : (bytes : List ℕ) (h : Heading) → file_heading bytes ≡ Ok h → reading bytes ≡ reading_in h.order (records_after 0 h 0 (drop 24 bytes))
@@ -17,33 +13,16 @@ pub reading-bad_header : (bytes : List ℕ) (e : CaptureFault) → file_heading 
 unfolding reading
 reading-bad_header bytes e is = rw is refl
 
--- what the survey tells of the records, it tells of the file
-bad_survey : (o : Order) (e : CaptureFault) (read : Result Contents CaptureFault) → survey_from 0 read ≡ Err e → reading_in o read ≡ Err e
-bad_survey o e (Ok c) is = absurd cc
-bad_survey o e (Err f) is = cc
+-- what refuses the records refuses the file
+pub reading-refused : (o : Option CaptureFault) (bytes : List ℕ) (h : Heading) → file_heading bytes ≡ Ok h → Refuses o (records_after 0 h 0 (drop 24 bytes)) → Refuses o (reading bytes)
+reading-refused o bytes h is refused = rw (reading-file_heading bytes h is) (by o (records_after 0 h 0 (drop 24 bytes)) refused)
+  where
+    by : (o : Option CaptureFault) (read : Result Contents CaptureFault) → Refuses o read → Refuses o (reading_in h.order read)
+    by (Some e) (Ok c) is = absurd cc
+    by (Some e) (Err f) is = cc
+    by None (Ok c) is = refl
+    by None (Err f) is = is
 
-pub reading-bad_record : (bytes : List ℕ) (h : Heading) (e : CaptureFault) → file_heading bytes ≡ Ok h → survey_from 0 (records_after 0 h 0 (drop 24 bytes)) ≡ Err e → reading bytes ≡ Err e
-reading-bad_record bytes h e is surveyed = reading-file_heading bytes h is ∙ bad_survey h.order e _ surveyed
-
-whole_survey : (o : Order) (s : Survey) (read : Result Contents CaptureFault) → survey_from 0 read ≡ Ok s → IsOk (reading_in o read)
-whole_survey o s (Ok c) is = refl
-whole_survey o s (Err f) is = absurd cc
-
-pub reading-no_fault : (bytes : List ℕ) (h : Heading) (s : Survey) → file_heading bytes ≡ Ok h → survey_from 0 (records_after 0 h 0 (drop 24 bytes)) ≡ Ok s → IsOk (reading bytes)
-reading-no_fault bytes h s is surveyed = rw (reading-file_heading bytes h is) (whole_survey h.order s _ surveyed)
-
--- the listed records, with the rest that the survey told
-listed : (o : Order) (bytes : List ℕ) (records : List Record) (s : Survey) (read : Result Contents CaptureFault)
-    → survey_from 0 read ≡ Ok s
-    → IfOk read (λ c. record { ticks = (microsecond_heading o).ticks; packets = map (packet_of bytes) records; rest = c.rest } ≡ c)
-    → reading_in o read ≡ Ok (reading_of (record { bytes = bytes; ticks = (microsecond_heading o).ticks; order = o; records = records; rest = s.rest }))
-listed o bytes records s (Ok c) surveyed same =
-    let rest : c.rest ≡ s.rest = cc in
-    rw (← same, rest) refl
-listed o bytes records s (Err e) surveyed same = absurd cc
-
-pub reading-listed : (bytes : List ℕ) (o : Order) (records : List Record) (s : Survey)
-    → file_heading bytes ≡ Ok (microsecond_heading o) → survey_from 0 (records_after 0 (microsecond_heading o) 0 (drop 24 bytes)) ≡ Ok s → IsListed (microsecond_heading o) bytes records
-    → reading bytes ≡ Ok (reading_of (record { bytes = bytes; ticks = (microsecond_heading o).ticks; order = o; records = records; rest = s.rest }))
-reading-listed bytes o records s is surveyed is_listed =
-    reading-file_heading bytes (microsecond_heading o) is ∙ listed o bytes records s _ surveyed is_listed.same
+-- the file of records that were read
+pub reading-listed : (bytes : List ℕ) (h : Heading) (c : Contents) → file_heading bytes ≡ Ok h → records_after 0 h 0 (drop 24 bytes) ≡ Ok c → reading bytes ≡ Ok (record { order = h.order; contents = c })
+reading-listed bytes h c is read = reading-file_heading bytes h is ∙ rw read refl

@@ -1,35 +1,32 @@
--- The two passes over a file's records, one record at a time.
-use Rattle.std.proofs.Common.{◌≡◌, ℕ, suc, ◌+◌, List, [], ◌∷◌, ◌++◌, length, drop, refl, arith, Result, Ok, Err, IfOk, ◌⊎◌, ⊎_elim}
+-- The pass over a file's records, one record at a time.
+use Rattle.std.proofs.Common.{◌≡◌, ℕ, suc, ◌+◌, List, [], ◌∷◌, ◌++◌, length, drop, refl, arith, Option, Some, None, Result, Ok, Err, IsOk}
 use Rattle.std.proofs.lemmas.List.{append-nil, append_assoc}
 use Rattle.pcap_records.specs.declared.fault.CaptureFault.{CaptureFault}
 use Rattle.pcap_records.specs.declared.fault.CaptureFault.TheVariants.{RecordTooLong}
 use Rattle.pcap_records.specs.Reading.{Heading, Packet, Contents, whole, torn, too_long, front, contents_with_packet, first_packet, packet_len, records_after}
-use Rattle.pcap_records.specs.declared.front.Found.{Found}
-use Rattle.pcap_records.specs.declared.front.Found.TheVariants.{Torn, TooLong, Whole}
-use Rattle.pcap_records.specs.Front.{IsFoundAt}
-use Rattle.pcap_records.specs.Survey.{survey_from}
+use Rattle.pcap_records.specs.Agreement.{Refuses}
 use Rattle.pcap_records.proofs.Steps.{records_after-front}
 
--- ---- counting
+-- ---- what a record leaves to those behind it
 
-survey_past : (k : ℕ) (p : Packet) (after : Result Contents CaptureFault) → survey_from k (contents_with_packet p after) ≡ survey_from (k + 1) after
-survey_past k p (Ok c) =
-    let counts : k + suc (length c.packets) ≡ k + 1 + length c.packets = omega arith in
-    rw counts refl
-survey_past k p (Err e) = refl
-
-pub survey-whole : (h : Heading) (k : ℕ) (bytes : List ℕ) → front h bytes ≡ whole → survey_from k (records_after 0 h k bytes) ≡ survey_from (k + 1) (records_after 0 h (k + 1) (drop (16 + packet_len h bytes) bytes))
-survey-whole h k bytes is_whole =
+-- behind a whole record the file is refused as before
+pub refuses-whole : (h : Heading) (k : ℕ) (bytes : List ℕ) (o : Option CaptureFault) → front h bytes ≡ whole
+    → Refuses o (records_after 0 h (k + 1) (drop (16 + packet_len h bytes) bytes)) → Refuses o (records_after 0 h k bytes)
+refuses-whole h k bytes o is_whole refused =
     let next : suc k ≡ k + 1 = omega arith in
-    rw (records_after-front h k bytes, is_whole, next) (survey_past k (first_packet h bytes) _)
+    rw (records_after-front h k bytes, is_whole, next) (past o (first_packet h bytes) _ refused)
+  where
+    past : (o : Option CaptureFault) (p : Packet) (after : Result Contents CaptureFault) → Refuses o after → Refuses o (contents_with_packet p after)
+    past (Some e) p (Ok c) is = absurd cc
+    past (Some e) p (Err f) is = is
+    past None p (Ok c) is = refl
+    past None p (Err f) is = is
 
-pub survey-torn : (h : Heading) (k : ℕ) (bytes : List ℕ) → front h bytes ≡ torn → survey_from k (records_after 0 h k bytes) ≡ Ok (record { count = k; rest = length bytes })
-survey-torn h k bytes is_torn =
-    let all : k + 0 ≡ k = omega arith in
-    rw (records_after-front h k bytes, is_torn, all) refl
+pub refuses-torn : (h : Heading) (k : ℕ) (bytes : List ℕ) → front h bytes ≡ torn → IsOk (records_after 0 h k bytes)
+refuses-torn h k bytes is_torn = rw (records_after-front h k bytes, is_torn) refl
 
-pub survey-too_long : (h : Heading) (k : ℕ) (bytes : List ℕ) → front h bytes ≡ too_long → survey_from k (records_after 0 h k bytes) ≡ Err (RecordTooLong k)
-survey-too_long h k bytes is_too_long = rw (records_after-front h k bytes, is_too_long) refl
+pub refuses-too_long : (h : Heading) (k : ℕ) (bytes : List ℕ) → front h bytes ≡ too_long → records_after 0 h k bytes ≡ Err (RecordTooLong k)
+refuses-too_long h k bytes is_too_long = rw (records_after-front h k bytes, is_too_long) refl
 
 -- ---- listing
 
@@ -52,18 +49,15 @@ listed-whole h ps k bytes is_whole =
     let next : suc k ≡ k + 1 = omega arith in
     rw (records_after-front h k bytes, is_whole, next) (with_front_past ps (first_packet h bytes) _)
 
--- the list is whole once no record begins whole
-abbrev pub IsWholeList : Heading → List Packet → Result Contents CaptureFault → Type 0
-IsWholeList h ps read = IfOk read (λ c. record { ticks = h.ticks; packets = ps; rest = c.rest } ≡ c)
-
-pub listed-torn : (h : Heading) (ps : List Packet) (k : ℕ) (bytes : List ℕ) → front h bytes ≡ torn → IsWholeList h ps (with_front ps (records_after 0 h k bytes))
+pub listed-torn : (h : Heading) (ps : List Packet) (k : ℕ) (bytes : List ℕ) → front h bytes ≡ torn → with_front ps (records_after 0 h k bytes) ≡ Ok (record { ticks = h.ticks; packets = ps; rest = length bytes })
 listed-torn h ps k bytes is_torn = rw (records_after-front h k bytes, is_torn, append-nil ps) refl
 
-pub listed-too_long : (h : Heading) (ps : List Packet) (k : ℕ) (bytes : List ℕ) → front h bytes ≡ too_long → IsWholeList h ps (with_front ps (records_after 0 h k bytes))
-listed-too_long h ps k bytes is_too_long = rw (records_after-front h k bytes, is_too_long) tt
+pub listed-too_long : (h : Heading) (ps : List Packet) (k : ℕ) (bytes : List ℕ) → front h bytes ≡ too_long → with_front ps (records_after 0 h k bytes) ≡ Err (RecordTooLong k)
+listed-too_long h ps k bytes is_too_long = rw (records_after-front h k bytes, is_too_long) refl
 
-pub listed-end : (h : Heading) (ps : List Packet) (k : ℕ) (bytes : List ℕ) (at : ℕ) (found : Found) → (found ≡ Torn) ⊎ (found ≡ TooLong) → IsFoundAt h bytes at found
-    → IsWholeList h ps (with_front ps (records_after 0 h k (drop at bytes)))
-listed-end h ps k bytes at Torn ends is_torn = listed-torn h ps k (drop at bytes) is_torn
-listed-end h ps k bytes at TooLong ends is_too_long = listed-too_long h ps k (drop at bytes) is_too_long
-listed-end h ps k bytes at (Whole r) ends is_whole = ⊎_elim (λ e. absurd cc) (λ e. absurd cc) ends
+-- what refuses behind listed packets refuses the whole
+pub refuses-listed : (o : Option CaptureFault) (ps : List Packet) (after : Result Contents CaptureFault) → Refuses o after → Refuses o (with_front ps after)
+refuses-listed (Some e) ps (Ok c) is = absurd cc
+refuses-listed (Some e) ps (Err f) is = is
+refuses-listed None ps (Ok c) is = refl
+refuses-listed None ps (Err f) is = is

@@ -44,6 +44,19 @@ running_all times last records i all done so_far =
     let whole = rw (drop_all i records done, instants-nil last, append-nil times) at so_far in
     whole
 
+-- the greatest stamp of all, one stamp at a time
+pub peak_more : (peak : ℕ) (records : List Record) (i : ℕ) (r : Record) (all : ℕ) → i < length records → r ≡ get_or records i r
+    → max peak (greatest (map (λ x. x.stamp) (drop i records))) ≡ all → max (max peak r.stamp) (greatest (map (λ x. x.stamp) (drop (i + 1) records))) ≡ all
+peak_more peak records i r all within is so_far =
+    let rest : drop i records ≡ r ∷ drop (i + 1) records = drop_more records i r within ∙ ap (λ x. x ∷ drop (i + 1) records) (sym is) in
+    let whole = rw rest at so_far in
+    omega (arith, whole)
+
+pub peak_all : (peak : ℕ) (records : List Record) (i : ℕ) (all : ℕ) → length records ≤ i → max peak (greatest (map (λ x. x.stamp) (drop i records))) ≡ all → peak ≡ all
+peak_all peak records i all done so_far =
+    let whole = rw (drop_all i records done) at so_far in
+    omega (arith, whole)
+
 -- the stamps of some records are those of their packets
 pub stamps_of_packets : (bytes : List ℕ) (records : List Record) (from to : ℕ)
     → map (λ x. x.stamp) (slice_range records from to) ≡ map (λ p. p.stamp) (slice_range (map (packet_of bytes) records) from to)

@@ -34,7 +34,7 @@ impl<'a> Model for Capture<'a> {
 impl<'a> Capture<'a> {
     ghost use Rattle.std.specs.Prelude.{◌≡◌, ◌≤◌, ◌<◌, ◌-◌, length, Some, IfOk};
     ghost use Rattle.pcap_records.specs.CaptureView.{IsSoundCapture, packet_at, stamps_between};
-    ghost use Rattle.pcap_records.specs.Instants.{instants, microseconds};
+    ghost use Rattle.pcap_records.specs.Instants.{greatest, instants, microseconds};
 
     // The capture of a file whose records were found.
     pub(crate) fn of_records(
@@ -112,5 +112,18 @@ impl<'a> Capture<'a> {
             times.push(greatest)?;
         }
         Ok(times)
+    }
+
+    /// The greatest stamp of the records from `from` to below `to`, 0 of none. It takes no memory.
+    pub fn peak(&self, from: usize, to: usize) -> Moment
+        requires ordered { from ≤ to }
+        requires within { to ≤ length self.now.records }
+        ensures { result ≡ greatest (stamps_between self.now from to) }
+    {
+        let mut peak = Moment::of(0);
+        for record in &self.records[from..to] {
+            peak = peak.greater(record.stamp);
+        }
+        peak
     }
 }

@@ -1,10 +1,10 @@
-//! Reading a whole file: a first pass that takes no memory finds every fault, a second one lists the records.
-ghost use Rattle.std.specs.Prelude.{◌≡◌, ◌≤◌, ◌<◌, length, drop, IfOk};
+//! Reading a whole file in one pass.
+ghost use Rattle.std.specs.Prelude.{◌≡◌, ◌≤◌, ◌<◌, ◌*◌, length, drop, IfOk};
 ghost use Rattle.pcap_records.specs.Reading.{reading, capture_limit, file_header_len, microsecond_heading, records_after};
-ghost use Rattle.pcap_records.specs.Agreement.{Agrees, AgreesWithoutMemory};
-ghost use Rattle.pcap_records.specs.CaptureView.{reading_of, refusal};
+ghost use Rattle.pcap_records.specs.Agreement.{Agrees, Refuses};
+ghost use Rattle.pcap_records.specs.CaptureView.{reading_of, refusal, IsSoundCapture};
 ghost use Rattle.pcap_records.specs.Instants.{microseconds};
-ghost use Rattle.pcap_records.specs.Survey.{survey_from, IsListed};
+ghost use Rattle.pcap_records.specs.Survey.{listed_contents};
 
 use crate::capture::Capture;
 use crate::fault::CaptureFault;
@@ -14,74 +14,76 @@ use crate::order::Order;
 use crate::record_place::Record;
 use std::alloc::{AllocError, Global};
 
-/// How many whole records a file has, and how many bytes follow them.
-#[derive(Clone, Copy)]
-pub(crate) struct Survey {
-    count: u32,
-    rest: u32,
+/// The whole records of a file, and how many bytes follow them.
+#[derive(Drop)]
+pub(crate) struct Listing {
+    pub records: Vec<Record>,
+    pub rest: u32,
 }
 
-/// Reads a classic pcap file (format 2.4) of at most 2^30 bytes. Each packet of the capture is a slice of `bytes`.
+/// Reads a classic pcap file (format 2.4) of at most 2^30 bytes, in one pass. Each packet of the capture is a slice of `bytes`.
 ///
 /// # Errors
-/// The first fault of the file, in the order of [`CaptureFault`], found in a pass that takes no memory; then
-/// `Memory`, where a growth was refused.
+/// The first fault of the file, in the order of [`CaptureFault`]; else `Memory`, where a growth was refused. So a fault of
+/// the file is told even where memory is scarce.
 pub fn read_capture<'a>(alloc: Global, bytes: &'a [u8]) -> Result<Capture<'a>, CaptureFault>
     ensures exact { Agrees refusal reading_of result (reading bytes.now) }
     ensures of { IfOk result (λ capture. capture.bytes ≡ bytes.now) }
     ensures ticks { IfOk result (λ capture. capture.ticks ≡ microseconds) }
 {
     let order = read_heading(bytes)?;
-    let survey = survey_records(order, bytes)?;
-    let records = list_records(alloc, order, bytes, survey.count as usize)?;
-    Ok(Capture::of_records(bytes, order, records, survey.rest))
+    let list = list_records(alloc, order, bytes)?;
+    Ok(Capture::of_records(bytes, order, list.records, list.rest))
 }
 
-// Goes over the records and keeps nothing but their number.
-fn survey_records(order: Order, bytes: &[u8]) -> Result<Survey, CaptureFault>
+// Lists the records behind the file header.
+fn list_records(alloc: Global, order: Order, bytes: &[u8]) -> Result<Listing, CaptureFault>
     requires header { file_header_len ≤ length bytes.now }
     requires limited { length bytes.now ≤ capture_limit }
-    ensures { AgreesWithoutMemory refusal (λ survey. survey) result (survey_from 0 (records_after 0 (microsecond_heading order) 0 (drop file_header_len bytes.now))) }
+    ensures exact { Agrees refusal (listed_contents microseconds bytes.now) result
+        (records_after 0 (microsecond_heading order) 0 (drop file_header_len bytes.now)) }
+    ensures sound { IfOk result (λ list. IsSoundCapture microseconds bytes.now list.records.items) }
 {
+    let mut records = Vec::new(alloc);
     let mut at = FILE_HEADER_LEN;
-    let mut count = 0;
     'records: loop {
         match found_at(order, bytes, at) {
             Found::Torn => {
-                return Ok(Survey {
-                    count,
-                    rest: (bytes.len() - at) as u32,
-                });
+                let rest = (bytes.len() - at) as u32;
+                return Ok(Listing { records, rest });
             }
-            Found::TooLong => return Err(CaptureFault::RecordTooLong { at: count }),
+            Found::TooLong => {
+                let at = records.len() as u32;
+                return Err(CaptureFault::RecordTooLong { at });
+            }
             Found::Whole(record) => {
                 at += RECORD_HEADER_LEN + record.len as usize;
-                count += 1;
+                let count = records.len() as u32 + 1;
+                let Ok(()) = records.push(record) else {
+                    return Err(fault_behind(order, bytes, at, count));
+                };
             }
         }
     }
 }
 
-// Lists the records, of which the file has `count`.
-fn list_records(
-    alloc: Global,
-    order: Order,
-    bytes: &[u8],
-    count: usize,
-) -> Result<Vec<Record>, AllocError>
-    requires header { file_header_len ≤ length bytes.now }
+// Why a file is refused of which a record found no memory, where `count` records stand before `at`: the fault of a later
+// record, if one has any, and else want of memory.
+fn fault_behind(order: Order, bytes: &[u8], at: usize, count: u32) -> CaptureFault
+    requires place { at ≤ length bytes.now }
     requires limited { length bytes.now ≤ capture_limit }
-    ensures { IfOk result (λ records. IsListed (microsecond_heading order) bytes.now records.items) }
+    requires sixteen_each { 16 * count ≤ at }
+    ensures { Refuses (refusal result) (records_after 0 (microsecond_heading order) count (drop at bytes.now)) }
 {
-    let mut records = Vec::with_capacity(alloc, count)?;
-    let mut at = FILE_HEADER_LEN;
+    let mut at = at;
+    let mut count = count;
     'records: loop {
         match found_at(order, bytes, at) {
-            Found::Torn | Found::TooLong => return Ok(records),
+            Found::Torn => return CaptureFault::Memory(AllocError),
+            Found::TooLong => return CaptureFault::RecordTooLong { at: count },
             Found::Whole(record) => {
-                let len = record.len as usize;
-                records.push(record)?;
-                at += RECORD_HEADER_LEN + len;
+                at += RECORD_HEADER_LEN + record.len as usize;
+                count += 1;
             }
         }
     }

@@ -6,4 +6,5 @@ mod frames;
 mod rehearsals;
 mod runs;
 mod sessions;
+mod tables;
 mod written_frames;

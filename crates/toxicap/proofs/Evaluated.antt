@@ -4,7 +4,7 @@ use Rattle.std.specs.Fmt.{digits}
 use Rattle.pcap_records.specs.Writing.{file_header, record_header}
 use Rattle.frame_headers.specs.Headers.{headers, ipv4, tcp}
 use Rattle.frame_headers.specs.Sum.{tcp_sum}
-use Rattle.toxicap.specs.Connections.{beginnings, connections, unopened_count}
+use Rattle.conn_table.specs.Connections.{beginnings, connections, unopened_count}
 use Rattle.toxicap.specs.Positions.{server_base}
 use Rattle.toxicap.specs.RecordedLines.{recorded_side}
 use Rattle.toxicap.specs.SessionCut.{cut_line}

@@ -1,11 +1,9 @@
 -- Segments in order of key.
-use Rattle.std.proofs.Common.{◌≡◌, ℕ, Bool, true, false, cond, ◌||◌, ◌&&◌, ◌==◌, nat_lt, nat_cmp, is_lt, List, [], ◌∷◌, ◌++◌, filter, if◌then◌else◌, refl, sym, ap, ap₂, ◌∙◌, subst, Bor, Ordering, Less, Equal, Greater}
-use denote.Param.Members.{Mut}
+use Rattle.std.proofs.Common.{◌≡◌, ℕ, Bool, true, false, cond, ◌||◌, ◌&&◌, ◌==◌, nat_lt, nat_cmp, is_lt, List, [], ◌∷◌, ◌++◌, filter, if◌then◌else◌, refl, sym, ap, ap₂, ◌∙◌, subst, Ordering, Less, Equal, Greater}
 use Rattle.std.specs.Cmp.{IsStrictWeakOrder}
 use Rattle.std.specs.Ordering.{ordering_then}
-use Rattle.std.specs.Fn.{Called}
-use Rattle.std.specs.List.Sorted.{ties, IsSortedBy, IsStableBy, IsSortedByKeyClosure, IsStableByKeyClosure}
-use Rattle.std.proofs.lemmas.List.Sorted.{ranks_by, answers_always}
+use Rattle.std.specs.List.Sorted.{ties, IsStableBy}
+use Rattle.std.proofs.lemmas.List.Sorted.{ranks_by}
 use Rattle.std.proofs.lemmas.List.Elements.{filter-append}
 use Rattle.toxicap.specs.declared.framed.SegKey.{SegKey}
 use Rattle.toxicap.specs.declared.framed.Framed.{Framed}
@@ -13,7 +11,7 @@ use Rattle.toxicap.specs.contracts.framed.SegKeyOrd.TheImpl.{ghosts}
 use Rattle.toxicap.specs.contracts.framed.SegKeyOrd.TheImpl.Laws.{total-law}
 use Rattle.toxicap.specs.WrittenSegments.{is_key_below, insert_by_key, sorted_by_key}
 use Rattle.toxicap.specs.KeyOrder.{RisesFrom, RisingIsSorted, PartsAreSortedFirst}
-use Rattle.toxicap.proofs.Sorting.{NoneBelow, Ordered, ordered-from_sorted, only_one, none_below-chain, not_below-ties}
+use Rattle.toxicap.proofs.Sorting.{NoneBelow, Ordered, only_one, none_below-chain, not_below-ties}
 
 -- ---- the derived order of keys is that of the definition
 
@@ -91,15 +89,6 @@ filter-sorted_by_key z (x ∷ xs) = filter-insert_by_key z x (sorted_by_key xs) 
 -- no other list is so
 pub sorted_by_key-only : (xs ys : List Framed) → Ordered below ys → IsStableBy below xs ys → ys ≡ sorted_by_key xs
 sorted_by_key-only xs ys ordered stable = only_one below below_order ys (sorted_by_key xs) ordered (ordered-sorted_by_key xs) (λ z. stable z ∙ sym (filter-sorted_by_key z xs))
-
--- what a stable sort by key ensures
-pub in_order_by_key : {F : Type 0} {g : Mut F (Bor Framed × Unit {0}) SegKey} {f : F} (xs ys : List Framed) → IsSortedByKeyClosure g ghosts.cmp f ys → IsStableByKeyClosure g ghosts.cmp f xs ys
-    → ((f : F) (a : Bor Framed × Unit {0}) (r : SegKey) (f' : F) → Called g f a r f' → r ≡ a.0.now.key) → ys ≡ sorted_by_key xs
-in_order_by_key {g = g} {f = f} xs ys sorted stable gives =
-    let key = λ (x : Framed). x.key in
-    let computes = answers_always g (λ a r. r ≡ key a.0.now) f gives in
-    sorted_by_key-only xs ys (ordered-from_sorted below below_order ys (subst (λ lt. IsSortedBy lt ys) derived_is_below (sorted key computes)))
-    (subst (λ lt. IsStableBy lt xs ys) derived_is_below (stable key computes))
 
 -- ---- laws
 

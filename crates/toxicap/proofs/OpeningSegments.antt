@@ -4,11 +4,23 @@ use Rattle.std.proofs.Common.{eq-eqb}
 use Rattle.std.proofs.lemmas.Bool.{lt-ltb, le-ltb}
 use Rattle.std.proofs.lemmas.List.{append-nil}
 use Rattle.pcap_records.specs.Instants.{horizon, microseconds}
+use Rattle.pcap_records.specs.Writing.{record_bytes}
 use Rattle.frame_headers.specs.Flags
+use Rattle.frame_headers.specs.Headers.{headers}
+use Rattle.frame_headers.specs.declared.written.Header.{Header}
+use Rattle.toxicap.specs.declared.framed.SegKey.{SegKey}
 use Rattle.toxicap.specs.declared.framed.Framed.{Framed}
 use Rattle.toxicap.specs.declared.plain.openings.Opened.{Opened}
 use Rattle.toxicap.specs.WrittenSegments.{pieces, segments_sent_from, frame_bytes, sequence_space, header_of, opening_segment, is_key_below, sorted_by_key, segments_before_horizon, written_segments}
-use Rattle.toxicap.specs.OpeningWritten.{bare_connection, key_at, client_host, server_host, opening_segments, framed_bare}
+use Rattle.toxicap.specs.OpeningWritten.{bare_connection, client_host, server_host, opening_segments}
+
+-- the key of a connection's opening segment at a place
+abbrev pub key_at : Opened → ℕ → SegKey
+key_at o place = record { moment = o.at; conn = o.number; turn = 0; place = place }
+
+-- a segment without payload
+abbrev framed_bare : SegKey → Header → Framed
+framed_bare key h = record { key = key; bytes = record_bytes microseconds key.moment (headers h []) }
 
 abbrev pub syn_of : Opened → Framed
 syn_of o = framed_bare (key_at o 0) (header_of (bare_connection o) (client_host o) (server_host o) (opening_segment o.at o.client_base 0 Flags.syn_flag))
@@ -20,7 +32,7 @@ abbrev pub third_of : Opened → Framed
 third_of o = framed_bare (key_at o 2) (header_of (bare_connection o) (client_host o) (server_host o) (opening_segment o.at ((o.client_base + 1) % sequence_space) ((unwrap_or o.server_base 0 + 1) % sequence_space) Flags.ack_flag))
 
 -- keys of one turn go by place
-lower_place : (m n p q : ℕ) → is_key_below (record { moment = m; conn = n; turn = 0; place = p }) (record { moment = m; conn = n; turn = 0; place = q }) ≡ nat_lt p q
+pub lower_place : (m n p q : ℕ) → is_key_below (record { moment = m; conn = n; turn = 0; place = p }) (record { moment = m; conn = n; turn = 0; place = q }) ≡ nat_lt p q
 lower_place m n p q = rw (le-ltb m m (omega arith), eq-eqb m m refl, le-ltb n n (omega arith), eq-eqb n n refl) refl
 
 -- three segments that stand in order

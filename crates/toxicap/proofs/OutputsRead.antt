@@ -12,15 +12,15 @@ use Rattle.frame_headers.specs.HeaderLaws.{HeadersAreSound, SegmentsFit}
 use Rattle.toxicap.specs.declared.faults.RunFault.TheVariants.{TooManyScenarios}
 use Rattle.toxicap.specs.declared.framed.Framed.{Framed}
 use Rattle.toxicap.specs.declared.scenario.Scenario.{Scenario}
-use Rattle.toxicap.specs.IndexedSegments.{indexed_segments}
-use Rattle.toxicap.specs.Connections.{Connection, connections}
+use Rattle.conn_table.specs.IndexedSegments.{indexed_segments}
+use Rattle.conn_table.specs.Connections.{Connection, connections}
 use Rattle.toxicap.specs.WrittenSegments.{sorted_by_key}
 use Rattle.toxicap.specs.OutputCapture.{capture_of}
 use Rattle.toxicap.specs.Positions.{server_of}
 use Rattle.toxicap.specs.RecordedLines.{recorded_connection}
 use Rattle.toxicap.specs.DeliveredLines.{DeliveredConnection, delivered_connection}
 use Rattle.toxicap.specs.Contribution.{written_connection, part}
-use Rattle.toxicap.specs.SeenCapture.{SeenCapture, seen_packets, seen_capture}
+use Rattle.conn_table.specs.SeenCapture.{SeenCapture, seen_packets, seen_capture}
 use Rattle.toxicap.specs.Rehearsal.{met_proxy, part_of, output, outputs_of, scenario_limit, answer}
 use Rattle.toxicap.specs.SoundOutputs.{NeverFall, IsSoundFrame, IsReadWhole, OutputsAreRead}
 use Rattle.toxicap.proofs.Sorting.{NoneBelow, Ordered}

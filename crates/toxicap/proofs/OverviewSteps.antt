@@ -11,7 +11,7 @@ use Rattle.toxicap.specs.declared.scenario.Scenario.{Scenario}
 use Rattle.toxicap.specs.declared.faults.RunFault.{RunFault}
 use Rattle.toxicap.specs.declared.faults.RunFault.TheVariants.{CaptureTooLong, TooManyScenarios, Memory, BadDump, ReadFailed, WriteFailed}
 use Rattle.toxicap.specs.Bare.{bare}
-use Rattle.toxicap.specs.SeenCapture.{SeenCapture}
+use Rattle.conn_table.specs.SeenCapture.{SeenCapture}
 use Rattle.toxicap.specs.Dumps.{is_dump, is_foreign, dumped_bytes, dump_reading, dump_reading_from}
 use Rattle.toxicap.specs.Loading.{StopsLoading}
 use Rattle.toxicap.specs.Prints.{reports_of}

@@ -1,8 +1,7 @@
 -- Lists in order by a test: of two that agree on what ties with each element, there is one alone.
-use Rattle.std.proofs.Common.{◌≡◌, ℕ, suc, ◌<◌, ◌≤◌, Bool, true, false, cond, not, ◌&&◌, List, [], ◌∷◌, length, get_or, filter, refl, sym, ap, ◌∙◌, arith}
+use Rattle.std.proofs.Common.{◌≡◌, Bool, true, false, cond, not, ◌&&◌, List, [], ◌∷◌, filter, refl, sym, ap, ◌∙◌}
 use Rattle.std.specs.Cmp.{IsStrictWeakOrder}
-use Rattle.std.specs.List.Sorted.{ties, IsSortedBy}
-use Rattle.std.proofs.lemmas.List.Sorted.{sorted_far}
+use Rattle.std.specs.List.Sorted.{ties}
 
 module _ {X : Type 0} (lt : X → X → Bool) where
   -- none of these is below x
@@ -15,20 +14,7 @@ module _ {X : Type 0} (lt : X → X → Bool) where
   Ordered [] = Unit {0}
   Ordered (x ∷ xs) = NoneBelow x xs × Ordered xs
 
-  none_below : (x : X) (ys : List X) → ((j : ℕ) (d : X) → j < length ys → lt (get_or ys j d) x ≡ false) → NoneBelow x ys
-  none_below x [] h = tt
-  none_below x (y ∷ ys) h = (h 0 x (omega arith), none_below x ys (λ j d within. h (suc j) d (omega arith)))
-
-  ordered_far : (xs : List X) → ((i j : ℕ) (d : X) → i ≤ j → j < length xs → lt (get_or xs j d) (get_or xs i d) ≡ false) → Ordered xs
-  ordered_far [] h = tt
-  ordered_far (x ∷ xs) h =
-      (none_below x xs (λ j d within. h 0 (suc j) d (omega arith) (omega arith)), ordered_far xs (λ i j d le within. h (suc i) (suc j) d (omega arith) (omega arith)))
-
   module _ (o : IsStrictWeakOrder lt) where
-    -- what a sort ensures
-    pub ordered-from_sorted : (xs : List X) → IsSortedBy lt xs → Ordered xs
-    ordered-from_sorted xs sorted = ordered_far xs (sorted_far lt o xs sorted)
-
     below_itself : (b : Bool) → (b ≡ true → b ≡ false) → b ≡ false
     below_itself true h = h refl
     below_itself false h = refl

@@ -7,16 +7,16 @@ use Rattle.pcap_records.specs.Reading.{Heading, Packet, Reading, reading}
 use Rattle.pcap_records.specs.Grammar.{RawRecord, Splits, raw_bytes, packet_of_raw, ReadingsSplit}
 use Rattle.frame_headers.specs.Frame.{FrameClass, short, not_ipv4, bad_ipv4, fragment, not_tcp, cut, bad_tcp, same_ends, segment, frame_class, segment_fields}
 use Rattle.frame_headers.specs.HeaderLaws.{FieldsFit, SegmentsFit}
-use Rattle.toxicap.specs.IndexedSegments.{TimedSegment, IndexedSegment, is_segment, indexed_segment, indexed_segments}
-use Rattle.toxicap.specs.SeenCapture.{seen_packet, seen_packets}
-use Rattle.toxicap.specs.Connections.{Connection, begins, beginnings, later_members, connection_of, connections}
+use Rattle.conn_table.specs.IndexedSegments.{TimedSegment, IndexedSegment, is_segment, indexed_segment, indexed_segments}
+use Rattle.conn_table.specs.SeenCapture.{seen_packet, seen_packets}
+use Rattle.conn_table.specs.Connections.{Connection, begins, beginnings, later_members, connection_of, connections}
 use Rattle.toxicap.specs.Positions.{server_base, effective_members, is_answer, is_reset, members_of, server_of}
 use Rattle.toxicap.specs.SoundOutputs.{AreBytes}
 
 -- ---- lists
 
 module _ {X : Type 0} (P : X → Type 0) where
-  all-filter : (q : X → Bool) (xs : List X) → AllByRecursion P xs → AllByRecursion P (filter q xs)
+  pub all-filter : (q : X → Bool) (xs : List X) → AllByRecursion P xs → AllByRecursion P (filter q xs)
   all-filter q [] all = tt
   all-filter q (x ∷ xs) all = by (q x) (all-filter q xs all.1)
     where
@@ -47,7 +47,7 @@ module _ {X : Type 0} (P : X → Type 0) where
 
 -- ---- segments
 
-segment_is : (k : FrameClass) → is_segment k ≡ true → k ≡ segment
+pub segment_is : (k : FrameClass) → is_segment k ≡ true → k ≡ segment
 segment_is short is = absurd cc
 segment_is not_ipv4 is = absurd cc
 segment_is bad_ipv4 is = absurd cc

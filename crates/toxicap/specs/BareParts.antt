@@ -3,7 +3,7 @@ use Rattle.std.specs.Prelude.{ℕ, List, ◌++◌, map, codes}
 use Rattle.std.specs.List.{flat_map}
 use Rattle.std.specs.Fmt.{decimal}
 use Rattle.pcap_records.specs.Instants.{microseconds}
-use Rattle.toxicap.specs.SeenCapture.{SeenCapture}
+use Rattle.conn_table.specs.SeenCapture.{SeenCapture}
 use Rattle.toxicap.specs.declared.plain.openings.Opened.{Opened}
 use Rattle.toxicap.specs.declared.outputs.Output.{Output}
 use Rattle.toxicap.specs.OpeningWritten.{opening_segments}

@@ -1,7 +1,7 @@
 -- What one connection contributes to a scenario: its written segments and its line of the report.
 use Rattle.std.specs.Prelude.{ℕ, List, Option, unwrap_or}
 use Rattle.toxicap.specs.declared.framed.Framed.{Framed}
-use Rattle.toxicap.specs.Connections.{Connection}
+use Rattle.conn_table.specs.Connections.{Connection}
 use Rattle.toxicap.specs.Positions.{client_of, server_of}
 use Rattle.toxicap.specs.RecordedLines.{RecordedConnection, recorded_connection}
 use Rattle.toxicap.specs.DeliveredLines.{MetProxy, DeliveredConnection, delivered_connection}

@@ -1,8 +1,8 @@
 -- Worked rows of grouping: segments with their senders, flags and numbers, and the connections that they make.
 use Rattle.std.specs.Prelude.{◌≡◌, ℕ, ◌+◌, List, [], ◌∷◌, map, length, Option, Some, None}
 use Rattle.frame_headers.specs.declared.peers.Peer.{Peer}
-use Rattle.toxicap.specs.IndexedSegments.{IndexedSegment}
-use Rattle.toxicap.specs.Connections.{Connection, connections, unopened_count}
+use Rattle.conn_table.specs.IndexedSegments.{IndexedSegment}
+use Rattle.conn_table.specs.Connections.{Connection, connections, unopened_count}
 use Rattle.toxicap.specs.Positions.{client_of, server_base}
 use Rattle.toxicap.specs.WrittenRows.{client, server}
 

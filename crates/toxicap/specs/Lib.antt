@@ -2,11 +2,8 @@ pub mod Dumps
 pub mod CountedView
 pub mod Loading
 pub mod RunFault
-pub mod SeenCapture
-pub mod IndexedSegments
-pub mod Connections
 pub mod Positions
-pub mod Heads
+pub mod OpenedConnections
 pub mod RecordedLines
 pub mod SessionCut
 pub mod DeliveredLines
@@ -15,7 +12,6 @@ pub mod OpeningWritten
 pub mod KeyOrder
 pub mod OutputCapture
 pub mod ReportText
-pub mod ClassCounts
 pub mod BareParts
 pub mod Contribution
 pub mod Plans

@@ -1,11 +1,8 @@
 -- The written segments of a connection of which nothing but its opening is delivered.
-use Rattle.std.specs.Prelude.{ℕ, List, [], unwrap_or, false}
+use Rattle.std.specs.Prelude.{◌<◌, ◌≤◌, ℕ, List, [], ◌∷◌, unwrap_or, false}
+use Rattle.std.specs.List.{flat_map}
 use Rattle.pcap_records.specs.Instants.{microseconds}
-use Rattle.pcap_records.specs.Writing.{record_bytes}
-use Rattle.frame_headers.specs.Headers.{headers}
-use Rattle.frame_headers.specs.declared.written.Header.{Header}
 use Rattle.toxicap.specs.declared.framed.Framed.{Framed}
-use Rattle.toxicap.specs.declared.framed.SegKey.{SegKey}
 use Rattle.toxicap.specs.declared.plain.openings.Opened.{Opened}
 use Rattle.toxicap.specs.RecordedLines.{empty_line}
 use Rattle.toxicap.specs.WrittenSegments.{WrittenConnection, Host, written_segments}
@@ -28,10 +25,17 @@ bare_connection o = record {
 unfoldable pub opening_segments : Opened → List Framed
 opening_segments o = written_segments microseconds (bare_connection o)
 
--- the key of a connection's opening segment at a place
-abbrev pub key_at : Opened → ℕ → SegKey
-key_at o place = record { moment = o.at; conn = o.number; turn = 0; place = place }
+-- their bytes
+abbrev pub opening_bytes : Opened → List ℕ
+opening_bytes o = flat_map (λ x. x.bytes) (opening_segments o)
 
--- a segment without payload
-abbrev pub framed_bare : SegKey → Header → Framed
-framed_bare key h = record { key = key; bytes = record_bytes microseconds key.moment (headers h []) }
+-- ---- order
+
+-- behind an opening, each is no earlier than the one before it, and has a higher number
+abbrev pub OpeningsRiseFrom : Opened → List Opened → Type 0
+OpeningsRiseFrom o [] = Unit {0}
+OpeningsRiseFrom o (x ∷ xs) = (o.at ≤ x.at) × (o.number < x.number) × OpeningsRiseFrom x xs
+
+abbrev pub OpeningsRise : List Opened → Type 0
+OpeningsRise [] = Unit {0}
+OpeningsRise (x ∷ xs) = OpeningsRiseFrom x xs

@@ -3,8 +3,8 @@ use Rattle.std.specs.Prelude.{ℕ, List, ◌∷◌, find, Option, option_map, Bo
 use Rattle.std.specs.List.{take_while}
 use Rattle.frame_headers.specs.declared.peers.Peer.{Peer}
 use Rattle.frame_headers.specs.Flags.{has_flag, syn_flag, ack_flag, rst_flag}
-use Rattle.toxicap.specs.IndexedSegments.{TimedSegment, same_peer}
-use Rattle.toxicap.specs.Connections.{Connection}
+use Rattle.conn_table.specs.IndexedSegments.{TimedSegment, same_peer}
+use Rattle.conn_table.specs.Connections.{Connection}
 
 -- a connection's members, in the order of the file
 abbrev pub members_of : Connection → List TimedSegment

@@ -1,7 +1,7 @@
 -- The recorded line of each side of a connection.
 use Rattle.std.specs.Prelude.{ℕ, Bool, List, [], Option, Some}
-use Rattle.toxicap.specs.IndexedSegments.{TimedSegment}
-use Rattle.toxicap.specs.Connections.{Connection}
+use Rattle.conn_table.specs.IndexedSegments.{TimedSegment}
+use Rattle.conn_table.specs.Connections.{Connection}
 use Rattle.toxicap.specs.Positions.{members_of, client_base, server_base, client_of, server_of}
 use Rattle.frame_headers.specs.declared.peers.Peer.{Peer}
 

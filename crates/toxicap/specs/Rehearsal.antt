@@ -10,9 +10,9 @@ use Rattle.toxicap.specs.declared.faults.RunFault.TheVariants.{TooManyScenarios}
 use Rattle.toxicap.specs.declared.outputs.Output.{Output}
 use Rattle.toxicap.specs.declared.scenario.Scenario.{Scenario}
 use Rattle.toxicap.specs.RunFault.{run_fault}
-use Rattle.toxicap.specs.SeenCapture.{SeenCapture, seen_capture}
-use Rattle.toxicap.specs.IndexedSegments.{indexed_segments}
-use Rattle.toxicap.specs.Connections.{Connection, connections, unopened_count}
+use Rattle.conn_table.specs.SeenCapture.{SeenCapture, seen_capture}
+use Rattle.conn_table.specs.IndexedSegments.{indexed_segments}
+use Rattle.conn_table.specs.Connections.{Connection, connections, unopened_count}
 use Rattle.toxicap.specs.Positions.{server_of}
 use Rattle.toxicap.specs.DeliveredLines.{MetProxy}
 use Rattle.toxicap.specs.Contribution.{Part, part}

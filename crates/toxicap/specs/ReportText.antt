@@ -4,10 +4,10 @@ use Rattle.std.specs.List.{zip, flat_map}
 use Rattle.std.specs.Fmt.{decimal}
 use Rattle.pcap_records.specs.Instants.{greatest}
 use Rattle.frame_headers.specs.declared.peers.Peer.{Peer}
-use Rattle.toxicap.specs.SeenCapture.{SeenCapture}
-use Rattle.toxicap.specs.ClassCounts.{counts_of}
-use Rattle.toxicap.specs.declared.class_counts.Counts.{Counts}
-use Rattle.toxicap.specs.Connections.{Connection}
+use Rattle.conn_table.specs.SeenCapture.{SeenCapture}
+use Rattle.conn_table.specs.ClassCounts.{counts_of}
+use Rattle.conn_table.specs.declared.class_counts.Counts.{Counts}
+use Rattle.conn_table.specs.Connections.{Connection}
 use Rattle.toxicap.specs.Positions.{client_of, server_of}
 use Rattle.toxicap.specs.RecordedLines.{LineByte, Line, End, live, fin, close, reset, RecordedSide, RecordedConnection}
 use Rattle.toxicap.specs.DeliveredLines.{DeliveredConnection}

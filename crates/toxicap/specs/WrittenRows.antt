@@ -1,7 +1,7 @@
 -- Worked rows: what the definitions give, beside values from outside.
 use Rattle.std.specs.Prelude.{◌≡◌, ℕ, List, [], ◌∷◌, map, codes, Option, Some, None, true, false}
 use Rattle.frame_headers.specs.declared.peers.Peer.{Peer}
-use Rattle.toxicap.specs.Connections.{Connection}
+use Rattle.conn_table.specs.Connections.{Connection}
 use Rattle.toxicap.specs.RecordedLines.{LineByte, Line, live, fin, RecordedConnection}
 use Rattle.toxicap.specs.DeliveredLines.{delivered_connection, MetProxy}
 use Rattle.toxicap.specs.Contribution.{written_connection}

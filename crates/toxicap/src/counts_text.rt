@@ -3,11 +3,11 @@ ghost use Rattle.std.specs.Prelude.{◌≡◌, ◌++◌, IfOk, OnOk};
 ghost use Rattle.std.specs.String.{string_bytes};
 ghost use Rattle.std.specs.Fmt.{decimal};
 ghost use Rattle.pcap_records.specs.CaptureView.{contents_of};
-ghost use Rattle.toxicap.specs.SeenCapture.{seen_capture};
-ghost use Rattle.toxicap.specs.ClassCounts.{counts_of};
+ghost use Rattle.conn_table.specs.SeenCapture.{seen_capture};
+ghost use Rattle.conn_table.specs.ClassCounts.{counts_of};
 ghost use Rattle.toxicap.specs.ReportText.{counts_text, counts_text_of, first_classes_text, other_classes_text};
 
-use crate::class_counts::Counts;
+use conn_table::Counts;
 use pcap_records::Capture;
 use std::alloc::{AllocError, Global};
 

@@ -1,10 +1,6 @@
 //! Written segments, and their order in a capture.
-ghost use Rattle.std.specs.Prelude.{◌≡◌, IfOk};
-ghost use Rattle.toxicap.specs.WrittenSegments.{sorted_by_key};
-
 use crate::values::Values;
 use pcap_records::Moment;
-use std::alloc::AllocError;
 
 /// The place of a written segment in an output capture. Segments are ordered by moment, then by connection, turn and place.
 #[derive(Clone, Copy, Debug, PartialEq, Eq, PartialOrd, Ord)]
@@ -26,16 +22,4 @@ pub struct Framed {
     pub key: SegKey,
     /// The record that is written of it, header and frame.
     pub bytes: Values<u8>,
-}
-
-/// The segments in order of key, those of one key as they stood. Fails where the sort's buffer finds no memory.
-pub(crate) fn sort_by_key(mut segments: Vec<Framed>) -> Result<Vec<Framed>, AllocError>
-    ensures { IfOk result (λ sorted. sorted.items ≡ sorted_by_key segments.items) }
-{
-    segments.sort_by_key(
-        |segment|
-            ensures { result ≡ segment.now.key }
-        { segment.key },
-    )?;
-    Ok(segments)
 }

@@ -1,6 +1,5 @@
 //! Theorems about the definitions of this crate. Each function does nothing, or names the theorems that it stands on: its
 //! contract is the theorem.
-ghost use Rattle.toxicap.specs.Connections.{GroupingsAgree};
 ghost use Rattle.toxicap.specs.Dumps.{ReadsBack};
 ghost use Rattle.toxicap.specs.KeyOrder.{PartsAreSortedFirst, RisingIsSorted};
 ghost use Rattle.toxicap.specs.SoundOutputs.{OutputsAreRead};
@@ -8,12 +7,6 @@ ghost use Rattle.toxicap.specs.Rehearsal.{ByteOrderDoesNotMatter};
 
 use frame_headers::laws::{headers_are_sound, segments_fit};
 use pcap_records::laws::{readings_split, written_is_read};
-
-/// For every capture, filtering the list of its segments and reading it in turn give the same beginnings, the same
-/// connections with the same segments, and the same number of unopened segments.
-pub fn groupings_agree()
-    ensures { GroupingsAgree }
-{}
 
 /// Segments whose keys rise are in order already.
 pub fn rising_is_sorted()

@@ -5,7 +5,6 @@
 //! the line that tells a refusal.
 #![tactic(auto)]
 
-mod class_counts;
 mod counted;
 mod counts_text;
 mod dumps;
@@ -17,7 +16,6 @@ pub mod laws;
 mod loading;
 mod outputs;
 mod overviews;
-mod pair;
 mod plain;
 mod plans;
 mod printing;
@@ -36,7 +34,6 @@ pub use gates::{Gate, Phase, Through};
 pub use loading::load;
 pub use outputs::{Output, Outputs};
 pub use overviews::overview;
-pub use pair::Pair;
 pub use plans::Plan;
 pub use printing::{print_reports, write_bytes};
 pub use rehearsal::rehearse;

@@ -269,6 +269,16 @@ fn stamps_that_fall_back(rt: HostRuntime) -> Result<(), Fail> {
             assert_eq!(rt; time.count(), *want);
         }
     }
+    for (from, to, micros) in [
+        (0, 3, 5_000_000),
+        (1, 2, 4_000_000),
+        (1, 3, 4_500_000),
+        (1, 4, 4_500_000),
+        (0, 5, 4_294_967_296_000_000),
+        (2, 2, 0),
+    ] {
+        assert_eq!(rt; capture.peak(from, to).count(), micros);
+    }
     assert_eq!(rt; zero.greater(Moment::of(3)).count(), 3);
     assert_eq!(rt; Moment::of(3).greater(zero).count(), 3);
     Ok(())

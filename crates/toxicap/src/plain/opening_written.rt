@@ -1,29 +1,27 @@
 //! The written segments of a connection's opening.
-ghost use Rattle.std.specs.Prelude.{◌≡◌, ◌<◌, ◌++◌, ◌∷◌, [], ℕ, IfOk, OnOk};
+ghost use Rattle.std.specs.Prelude.{◌≡◌, ◌<◌, ◌++◌, [], ℕ, OnOk};
 ghost use Rattle.pcap_records.specs.Instants.{horizon, microseconds};
+ghost use Rattle.pcap_records.specs.Writing.{record_bytes};
+ghost use Rattle.frame_headers.specs.Headers.{headers};
 ghost use Rattle.toxicap.specs.WrittenSegments.{header_of, opening_segment};
-ghost use Rattle.toxicap.specs.OpeningWritten.{bare_connection, client_host, server_host, opening_segments, framed_bare, key_at};
+ghost use Rattle.toxicap.specs.OpeningWritten.{bare_connection, client_host, server_host, opening_bytes};
 
-use crate::framed::{Framed, SegKey};
 use crate::plain::openings::Opened;
-use crate::values::Values;
 use frame_headers::{Flags, HEADERS_LEN, Header, put_headers};
 use pcap_records::{Moment, RECORD_HEADER_LEN, write_record};
-use std::alloc::{AllocError, Global};
+use std::alloc::AllocError;
 
-// A segment without payload, with its key.
-fn framed(alloc: Global, key: SegKey, header: &Header) -> Result<Framed, AllocError>
-    requires { key.moment < horizon microseconds }
-    ensures { IfOk result (λ framed. framed ≡ framed_bare key header.now) }
+/// How long the records of an opening's three segments are.
+pub(crate) const OPENING_LEN: usize = 3 * (RECORD_HEADER_LEN + HEADERS_LEN);
+
+// Appends the record of a segment without payload.
+fn put_segment(out: &mut Vec<u8>, at: Moment, header: &Header) -> Result<(), AllocError>
+    requires { at < horizon microseconds }
+    ensures { OnOk result (out.new.items ≡ out.old.items ++ record_bytes microseconds at (headers header.now [])) }
 {
     let mut frame = [0; HEADERS_LEN];
     put_headers(&mut frame, header);
-    let mut bytes = Vec::with_capacity(alloc, RECORD_HEADER_LEN + HEADERS_LEN)?;
-    write_record(&mut bytes, key.moment, &frame)?;
-    Ok(Framed {
-        key,
-        bytes: Values::of(bytes),
-    })
+    write_record(out, at, &frame)
 }
 
 // The headers of a segment that the client sends.
@@ -60,28 +58,13 @@ fn by_server(opened: &Opened, seq: u32, ack: u32, flags: Flags) -> Header
     }
 }
 
-// The key of a connection's opening segment at a place.
-fn opening_key(opened: &Opened, place: u32) -> SegKey
-    ensures { result ≡ key_at opened.now place }
+/// Appends the records of the three segments that open a connection, SYN, SYN ACK and ACK (RFC 9293 section 3.5). At the
+/// horizon there are none.
+pub(crate) fn put_opening(out: &mut Vec<u8>, opened: &Opened) -> Result<(), AllocError>
+    ensures { OnOk result (out.new.items ≡ out.old.items ++ opening_bytes opened.now) }
 {
-    SegKey {
-        moment: opened.at,
-        conn: opened.number,
-        turn: 0,
-        place,
-    }
-}
-
-/// Appends the three segments that open a connection, SYN, SYN ACK and ACK (RFC 9293 section 3.5). At the horizon there are
-/// none.
-pub(crate) fn put_opening(
-    alloc: Global,
-    out: &mut Vec<Framed>,
-    opened: &Opened,
-) -> Result<(), AllocError>
-    ensures { OnOk result (out.new.items ≡ out.old.items ++ opening_segments opened.now) }
-{
-    if opened.at.count() >= Moment::HORIZON {
+    let at = opened.at;
+    if at.count() >= Moment::HORIZON {
         return Ok(());
     }
     let client = opened.client_base;
@@ -91,8 +74,7 @@ pub(crate) fn put_opening(
     let syn = by_client(opened, client, 0, Flags::SYN);
     let answer = by_server(opened, server, client_next, Flags::SYN.with(Flags::ACK));
     let third = by_client(opened, client_next, server_next, Flags::ACK);
-    out.push(framed(alloc, opening_key(opened, 0), &syn)?)?;
-    out.push(framed(alloc, opening_key(opened, 1), &answer)?)?;
-    out.push(framed(alloc, opening_key(opened, 2), &third)?)?;
-    Ok(())
+    put_segment(out, at, &syn)?;
+    put_segment(out, at, &answer)?;
+    put_segment(out, at, &third)
 }

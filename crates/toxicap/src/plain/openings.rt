@@ -1,14 +1,10 @@
-//! Connections by what stands earlier: forwards for the beginnings, backwards for the answers to them.
-ghost use Rattle.std.specs.Prelude.{◌≡◌, ◌<◌, ◌^◌, ◌&&◌, not, [], IfOk, OnOk, length};
-ghost use Rattle.std.specs.List.{count_by};
-ghost use Rattle.toxicap.specs.declared.plain.heads.Head.{Head};
-ghost use Rattle.toxicap.specs.Heads.{pair_of_head, opens, accepts, resets, side_with, begun_after, repeats_head, answer_at, answer_in, opened_by, opened_after, unopened_heads};
+//! What is written of a connection today: its opening.
+ghost use Rattle.std.specs.Prelude.{◌≡◌, All, IfOk, map};
+ghost use Rattle.toxicap.specs.OpenedConnections.{resets, answers, answer_among, opened_in, HasBeginning};
 
-use crate::pair::{Pair, peer_le, same_peer};
-use crate::plain::heads::Head;
-use frame_headers::{Flags, Peer};
-use indexmap::IndexMap;
-use pcap_records::Moment;
+use conn_table::{Conn, Member};
+use frame_headers::{Class, Flags, Peer, classify};
+use pcap_records::{Capture, Moment};
 use std::alloc::{AllocError, Global};
 
 /// A connection: its number, when it was opened, its two hosts, and the sequence numbers from which their bytes count.
@@ -24,164 +20,66 @@ pub(crate) struct Opened {
     pub server_base: Option<u32>,
 }
 
-/// One peer of a pair, as the server of the pair's connections.
-#[derive(Clone, Copy, Debug, PartialEq, Eq, Hash)]
-pub(crate) struct ServerSide {
-    pub pair: Pair,
-    pub server: Peer,
-}
-
-// The pair of a segment's peers.
-fn pair_of(head: &Head) -> Pair
-    ensures { result ≡ pair_of_head head.now }
+fn resets(member: &Member) -> bool
+    ensures { result ≡ resets member.now }
 {
-    if peer_le(head.from, head.to) {
-        Pair {
-            low: head.from,
-            high: head.to,
-        }
-    } else {
-        Pair {
-            low: head.to,
-            high: head.from,
-        }
-    }
+    member.flags.has(Flags::RST)
 }
 
-// An opening segment (RFC 9293 section 3.5): SYN, and neither ACK nor RST.
-fn opens(head: &Head) -> bool
-    ensures { result ≡ opens head.now }
+// The server's answer to an opening (RFC 9293 section 3.5): SYN and ACK.
+fn answers(member: &Member) -> bool
+    ensures { result ≡ answers member.now }
 {
-    let flags = head.flags;
-    flags.has(Flags::SYN) && !flags.has(Flags::ACK) && !flags.has(Flags::RST)
+    !member.from_client && member.flags.has(Flags::SYN) && member.flags.has(Flags::ACK)
 }
 
-fn resets(head: &Head) -> bool
-    ensures { result ≡ resets head.now }
+// The sequence number of the first answer before each reset.
+#[tactic(auto, unfolding(crate::specs::OpenedConnections::answer_among))]
+fn answer_among(members: &[Member]) -> Option<u32>
+    ensures { result ≡ answer_among members.now }
 {
-    head.flags.has(Flags::RST)
+    let first = members
+        .iter()
+        .take_while(|member| !resets(member))
+        .find(|member| answers(member))?;
+    Some(first.seq)
 }
 
-// An answer to an opening: SYN and ACK.
-fn accepts(head: &Head) -> bool
-    ensures { result ≡ accepts head.now }
+// What is written of a connection of a capture.
+fn opened_in(capture: &Capture<'_>, conn: &Conn) -> Opened
+    requires { HasBeginning capture.now conn.now }
+    ensures { result ≡ opened_in capture.now conn.now }
 {
-    head.flags.has(Flags::SYN) && head.flags.has(Flags::ACK)
-}
-
-// Sent again: the last opening has the same sender and sequence number.
-fn repeats(last: Option<Head>, head: &Head) -> bool
-    ensures { result ≡ repeats_head last head.now }
-{
-    match last {
-        None => false,
-        Some(last) => same_peer(last.from, head.from) && last.seq == head.seq,
-    }
-}
-
-/// Of each segment whether it begins a connection, and how many stand before their pair's first opening.
-#[derive(Drop)]
-pub(crate) struct Beginnings {
-    pub begun: Vec<bool>,
-    pub unopened: usize,
-}
-
-/// The beginnings among segments: an opening that is not sent again begins a connection.
-pub(crate) fn find_beginnings(alloc: Global, heads: &[Head]) -> Result<Beginnings, AllocError>
-    ensures begun { IfOk result (λ found. found.begun.items ≡ begun_after [] heads.now) }
-    ensures unopened { IfOk result (λ found. found.unopened ≡ unopened_heads [] heads.now) }
-{
-    let mut openings = IndexMap::new(alloc);
-    let mut begun = Vec::with_capacity(alloc, heads.len())?;
-    let mut unopened = 0;
-    for head in heads {
-        let pair = pair_of(head);
-        let last = openings.get(&pair).copied();
-        begun.push(begins(last, head))?;
-        if opens(head) {
-            openings.insert(pair, *head)?;
-        } else if last.is_none() {
-            unopened += 1;
-        }
-    }
-    Ok(Beginnings { begun, unopened })
-}
-
-// Whether a segment begins a connection, where `last` is its pair's last opening.
-fn begins(last: Option<Head>, head: &Head) -> bool
-    ensures { result ≡ (opens head.now && not (repeats_head last head.now)) }
-{
-    opens(head) && !repeats(last, head)
-}
-
-// The side of a segment's pair that has a peer of it as the server.
-fn side(head: &Head, server: Peer) -> ServerSide
-    ensures { result ≡ side_with head.now server }
-{
-    let pair = pair_of(head);
-    ServerSide { pair, server }
-}
-
-// Notes what a segment says to the openings that stand before it: a beginning or a reset takes back what stands behind it,
-// and an answer hides what stands behind it.
-fn note(answers: &mut IndexMap<ServerSide, u32>, begun: bool, head: &Head) -> Result<(), AllocError>
-    ensures { OnOk result ((b : Head) → answer_in answers.new b ≡ answer_at begun b head.now (answer_in answers.old b)) }
-{
-    if begun || resets(head) {
-        answers.swap_remove(&side(head, head.from));
-        answers.swap_remove(&side(head, head.to));
-    } else if accepts(head) {
-        answers.insert(side(head, head.from), head.seq)?;
-    }
-    Ok(())
-}
-
-// The connection that a segment begins.
-fn opened_by(number: u32, head: Head, server_base: Option<u32>) -> Opened
-    ensures { result ≡ opened_by number head server_base }
-{
-    let mac_client = head.mac_from;
-    let mac_server = head.mac_to;
+    let Class::Segment(first) = classify(capture.packet(conn.opening as usize)) else {
+        unreachable!()
+    };
+    let mac_client = first.mac_from;
+    let mac_server = first.mac_to;
+    let server_base = answer_among(conn.members.as_slice());
     Opened {
-        number,
-        at: head.at,
+        number: conn.number,
+        at: conn.opened,
         mac_client,
         mac_server,
-        client: head.from,
-        server: head.to,
-        client_base: head.seq,
+        client: conn.client,
+        server: conn.server,
+        client_base: first.seq,
         server_base,
     }
 }
 
-fn count_begun(begun: &[bool]) -> usize
-    ensures { result ≡ count_by (λ begins. begins) begun.now }
-{
-    begun.iter().filter(|begins| **begins).count()
-}
-
-/// The connections that segments begin, numbered in the order of the file.
+/// What is written of a capture's connections.
 pub(crate) fn list_opened(
     alloc: Global,
-    heads: &[Head],
-    begun: &[bool],
+    capture: &Capture<'_>,
+    conns: &[Conn],
 ) -> Result<Vec<Opened>, AllocError>
-    requires all { begun.now ≡ begun_after [] heads.now }
-    requires numbered { length heads.now < 2 ^ 32 }
-    ensures opened { IfOk result (λ opened. opened.items ≡ opened_after 0 [] heads.now) }
+    requires { All (HasBeginning capture.now) conns.now }
+    ensures { IfOk result (λ opened. opened.items ≡ map (opened_in capture.now) conns.now) }
 {
-    let mut number = count_begun(begun);
-    let mut opened = Vec::with_capacity(alloc, number)?;
-    let mut answers = IndexMap::new(alloc);
-    for i in (0..heads.len()).rev() {
-        let head = heads[i];
-        if begun[i] {
-            number -= 1;
-            let answer = answers.get(&side(&head, head.to)).copied();
-            opened.push(opened_by(number as u32, head, answer))?;
-        }
-        note(&mut answers, begun[i], &head)?;
+    let mut opened = Vec::with_capacity(alloc, conns.len())?;
+    for conn in conns {
+        opened.push(opened_in(capture, conn))?;
     }
-    opened.reverse();
     Ok(opened)
 }

@@ -1,29 +1,34 @@
-use Rattle.std.proofs.Common.{length, map, drop, ◌+◌, sym, ◌∙◌, subst, arith}
+use Rattle.std.proofs.Common.{◌≡◌, length, map, drop, ◌+◌, sym, subst, ◌∙◌, arith, length-drop}
 use Rattle.std.proofs.lemmas.List.{drop-drop, map_push, length_push}
 use Rattle.std.proofs.lemmas.List.Elements.{All-push, All-nil}
 use Rattle.pcap_records.specs.Instants.{microseconds}
+use Rattle.pcap_records.specs.Agreement.{Refuses}
 use Rattle.pcap_records.specs.Reading.{microsecond_heading}
-use Rattle.pcap_records.specs.CaptureView.{IsWithinFile, packet_of}
-use Rattle.pcap_records.proofs.Passes.{with_front-none, listed-whole, listed-end, IsWholeList}
+use Rattle.pcap_records.specs.CaptureView.{IsWithinFile, packet_of, refusal}
+use Rattle.pcap_records.proofs.Passes.{with_front-none, listed-whole, listed-torn, listed-too_long, refuses-listed}
 use Rattle.pcap_records.proofs.reader.list_records.Goals as goal
 
 pub records-init : goal.records-init
 records-init c = record {
   place = omega arith;
-  sixteen_each = rw c.in_ok-records.ensures.items (omega arith);
-  within = rw c.in_ok-records.ensures.items (All-nil (IsWithinFile microseconds c.args.bytes.now));
-  same = rw c.in_ok-records.ensures.items (with_front-none _);
+  sixteen_each = rw c.new-records.ensures.items (omega arith);
+  within = rw c.new-records.ensures.items (All-nil (IsWithinFile microseconds c.args.bytes.now));
+  same = rw c.new-records.ensures.items (with_front-none _);
 }
 
-pub returns-in-Torn : goal.returns-in-Torn
-returns-in-Torn c =
+pub returns-in-Torn-clause-exact : goal.returns-in-Torn-clause-exact
+returns-in-Torn-clause-exact c =
     let bytes = c.args.bytes.now in
     let h = microsecond_heading c.args.order in
-    let packets = map (packet_of bytes) c.records.records.items in
-    record {
-      sound = record { within = c.records.invariant.within; few = omega arith };
-      same = subst (IsWholeList h packets) c.records.invariant.same (listed-end h packets (length c.records.records.items) bytes c.records.at c.found_at.result c.in-Torn.is c.found_at.ensures);
-    }
+    sym c.records.invariant.same
+    ∙ (rw (← length-drop c.records.at bytes) (listed-torn h (map (packet_of bytes) c.records.records.items) (length c.records.records.items) (drop c.records.at bytes) c.in-Torn.ensures))
+
+pub returns-in-TooLong-clause-exact : goal.returns-in-TooLong-clause-exact
+returns-in-TooLong-clause-exact c =
+    let bytes = c.args.bytes.now in
+    let count : c.len-at.result ≡ length c.records.records.items = omega (arith, c.len-at.ensures, c.records.records.ok.0) in
+    sym c.records.invariant.same
+    ∙ (rw count (listed-too_long (microsecond_heading c.args.order) (map (packet_of bytes) c.records.records.items) (length c.records.records.items) (drop c.records.at bytes) c.in-TooLong.ensures))
 
 pub records-preserved : goal.records-preserved
 records-preserved c =
@@ -33,9 +38,22 @@ records-preserved c =
     let before = c.records.records.items in
     record {
       place = omega (arith, found.within.ends, found.start);
-      sixteen_each = rw (c.in_ok-push-in-Whole.ensures.items, length_push before c.in-Whole.record) (omega arith);
-      within = rw c.in_ok-push-in-Whole.ensures.items (All-push (IsWithinFile microseconds bytes) before c.in-Whole.record c.records.invariant.within found.within);
+      sixteen_each = rw (c.in-Ok.ensures.items, length_push before c.in-Whole.record) (omega (arith, c.records.invariant.sixteen_each));
+      within = rw c.in-Ok.ensures.items (All-push (IsWithinFile microseconds bytes) before c.in-Whole.record c.records.invariant.within found.within);
       same =
-          rw (c.in_ok-push-in-Whole.ensures.items, map_push (packet_of bytes) before c.in-Whole.record, length_push before c.in-Whole.record, found.packet, ← drop-drop (16 + c.in-Whole.record.len) c.records.at bytes, found.len)
+          rw (c.in-Ok.ensures.items, map_push (packet_of bytes) before c.in-Whole.record, length_push before c.in-Whole.record, found.packet, ← drop-drop (16 + c.in-Whole.record.len) c.records.at bytes, found.len)
           (sym (listed-whole h (map (packet_of bytes) before) (length before) (drop c.records.at bytes) found.is_whole) ∙ c.records.invariant.same);
     }
+
+-- the record found no memory: what refuses the records behind it refuses the file
+pub returns-in_default-clause-exact : goal.returns-in_default-clause-exact
+returns-in_default-clause-exact c =
+    let bytes = c.args.bytes.now in
+    let h = microsecond_heading c.args.order in
+    let found = c.in-Whole.ensures in
+    let before = c.records.records.items in
+    let count : c.len.result + 1 ≡ length before + 1 = omega (arith, c.len.ensures, c.records.records.ok.0) in
+    let o = refusal c.fault_behind.result in
+    let behind = rw (count, ← drop-drop (16 + c.in-Whole.record.len) c.records.at bytes, found.len) at c.fault_behind.ensures in
+    subst (λ read. Refuses o read) (sym (listed-whole h (map (packet_of bytes) before) (length before) (drop c.records.at bytes) found.is_whole) ∙ c.records.invariant.same)
+    (refuses-listed o _ _ behind)

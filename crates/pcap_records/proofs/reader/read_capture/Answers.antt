@@ -1,6 +1,7 @@
 use Rattle.std.proofs.lemmas.Result.{err_from_is_err_and}
 use Rattle.pcap_records.specs.Reading.{microsecond_heading}
-use Rattle.pcap_records.proofs.Answering.{reading-bad_header, reading-bad_record, reading-no_fault, reading-listed}
+use Rattle.pcap_records.specs.CaptureView.{refusal}
+use Rattle.pcap_records.proofs.Answering.{reading-bad_header, reading-refused, reading-listed}
 use Rattle.pcap_records.proofs.reader.read_capture.Goals as goal
 
 pub returns-in_err-order-clause-exact : goal.returns-in_err-order-clause-exact
@@ -10,20 +11,14 @@ returns-in_err-order-clause-exact c =
     let told = c.in_err-order.ensures.exact in
     rw (p.1, p.2) (rw told.0 (reading-bad_header c.args.bytes.now fault told.1))
 
-pub returns-in_err-survey-clause-exact : goal.returns-in_err-survey-clause-exact
-returns-in_err-survey-clause-exact c =
-    let p = err_from_is_err_and c.from_residual-in_err-survey.result c.from_residual-in_err-survey.ensures.1 in
-    let fault = c.in_err-survey.field-0.0 in
-    let told = c.in_err-survey.ensures in
-    rw (p.1, p.2) (rw told.0 (reading-bad_record c.args.bytes.now (microsecond_heading c.in_ok-order.order) fault c.in_ok-order.ensures.exact told.1))
-
-pub returns-in_err-records-clause-exact : goal.returns-in_err-records-clause-exact
-returns-in_err-records-clause-exact c =
-    let p = err_from_is_err_and c.from_residual-in_err-records.result c.from_residual-in_err-records.ensures.1 in
-    rw (p.1, p.2) (reading-no_fault c.args.bytes.now (microsecond_heading c.in_ok-order.order) c.in_ok-survey.survey c.in_ok-order.ensures.exact c.in_ok-survey.ensures)
+pub returns-in_err-list-clause-exact : goal.returns-in_err-list-clause-exact
+returns-in_err-list-clause-exact c =
+    let p = err_from_is_err_and c.from_residual-in_err-list.result c.from_residual-in_err-list.ensures.1 in
+    let fault = c.in_err-list.field-0.0 in
+    rw (p.1, p.2) (reading-refused (refusal fault) c.args.bytes.now (microsecond_heading c.in_ok-order.order) c.in_ok-order.ensures.exact c.in_err-list.ensures.exact)
 
 pub returns-clause-exact : goal.returns-clause-exact
 returns-clause-exact c =
     let made = c.of_records.ensures in
     rw (made.bytes, made.ticks, made.order, made.records, made.rest)
-    (reading-listed c.args.bytes.now c.in_ok-order.order c.in_ok-records.records.items c.in_ok-survey.survey c.in_ok-order.ensures.exact c.in_ok-survey.ensures c.in_ok-records.ensures)
+    (reading-listed c.args.bytes.now (microsecond_heading c.in_ok-order.order) _ c.in_ok-order.ensures.exact c.in_ok-list.ensures.exact)

@@ -1,7 +1,7 @@
 use Rattle.std.proofs.lemmas.List.{length-map}
 use Rattle.pcap_records.specs.CaptureView.{contents_of, packet_of}
 use Rattle.toxicap.specs.ReportText.{counts_text}
-use Rattle.toxicap.proofs.Listing.{length-seen_packets}
+use Rattle.toxicap.proofs.SeenPackets.{length-seen_packets}
 use Rattle.toxicap.proofs.counts_text.counts_line.Goals as goal
 
 pub returns : goal.returns

@@ -1,24 +1,32 @@
-use Rattle.std.proofs.Common.{◌≡◌, length, refl, ◌∙◌, arith}
-use Rattle.std.proofs.lemmas.List.FromFn.{map-range_with_len_more}
+use Rattle.std.proofs.Common.{◌∙◌, ap}
 use Rattle.pcap_records.specs.CaptureView.{contents_of}
-use Rattle.toxicap.specs.SeenCapture.{seen_capture}
-use Rattle.toxicap.specs.BareParts.{bare_output}
-use Rattle.toxicap.proofs.BareShapes.{outputs_are}
+use Rattle.conn_table.specs.SeenCapture.{seen_capture}
+use Rattle.toxicap.proofs.BareShapes.{outputs_are, if_ok_then}
+use Rattle.toxicap.proofs.OpeningsRise.{openings_rise}
+use Rattle.toxicap.proofs.TableConnections.{conns_have_beginnings, opened_are, unopened_is, counts_are}
 use Rattle.toxicap.proofs.plain.bare_outputs.bare_outputs.Goals as goal
 
-pub loop-number-preserved : goal.loop-number-preserved
-loop-number-preserved c =
-    let contents = seen_capture (contents_of c.args.capture.now) in
-    let made = rw c.deref-in-loop-number.ensures.value at c.in_ok-bare_output.ensures in
-    let more = map-range_with_len_more (bare_output contents c.in_ok-opened.opened.items c.in_ok-found.found.unopened) 0 c.loop-number.number c.loop-number.number (omega arith) in
-    rw (c.in_ok-push.ensures.items, made, more, c.loop-number.invariant) refl
+pub list_opened-requires : goal.list_opened-requires
+list_opened-requires c =
+    let conns = c.conns.ensures ∙ ap (λ t. t.conns) c.in_ok-table.ensures in
+    rw conns (conns_have_beginnings c.args.capture.now)
+
+pub each_output-requires-clause-counts : goal.each_output-requires-clause-counts
+each_output-requires-clause-counts c = c.counts-counts.ensures ∙ ap (λ t. t.counts) c.in_ok-table.ensures ∙ counts_are c.args.capture.now
+
+pub each_output-requires-clause-rise : goal.each_output-requires-clause-rise
+each_output-requires-clause-rise c =
+    let capture = c.args.capture.now in
+    let conns = c.conns.ensures ∙ ap (λ t. t.conns) c.in_ok-table.ensures in
+    let opened = c.deref.ensures.value ∙ rw conns at c.in_ok-opened.ensures
+    ∙ opened_are c.indexed_connections_agree.ensures c.members_have_sides.ensures capture in
+    rw opened (openings_rise (contents_of capture).packets)
 
 pub returns : goal.returns
-returns c = λ seed.
-    let scenarios = c.args.scenarios.now in
-    let all : c.loop-number.number ≡ length scenarios = omega arith in
-    let contents = seen_capture (contents_of c.args.capture.now) in
-    let opened = rw c.deref-2.ensures.value at c.in_ok-opened.ensures.opened in
-    let unopened = rw c.deref.ensures.value at c.in_ok-found.ensures.unopened in
-    (rw all at c.loop-number.invariant)
-    ∙ outputs_are contents c.in_ok-list.list.heads.items c.in_ok-opened.opened.items c.in_ok-found.found.unopened c.requires.ticks c.in_ok-list.ensures.segments opened unopened scenarios seed
+returns c =
+    let capture = c.args.capture.now in
+    let conns = c.conns.ensures ∙ ap (λ t. t.conns) c.in_ok-table.ensures in
+    let opened = c.deref.ensures.value ∙ rw conns at c.in_ok-opened.ensures
+    ∙ opened_are c.indexed_connections_agree.ensures c.members_have_sides.ensures capture in
+    let unopened = c.unopened-unopened.ensures ∙ ap (λ t. t.unopened) c.in_ok-table.ensures ∙ unopened_is capture in
+    if_ok_then c.each_output.result _ _ (λ outputs is. λ seed. is ∙ outputs_are (seen_capture (contents_of capture)) c.deref.result.now c.unopened-unopened.result c.requires.ticks opened unopened c.args.scenarios.now seed) c.each_output.ensures

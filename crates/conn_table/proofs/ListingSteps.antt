@@ -1,0 +1,184 @@
+-- A listing with one more pair, and with one more segment.
+use Rattle.std.proofs.Common.{◌≡◌, ◌≢◌, ◌<◌, ◌≤◌, ℕ, zero, suc, Bool, true, false, ◌&&◌, not, cond, List, [], ◌∷◌, ◌++◌, length, map, filter, set, slice_get, Option, Some, None, All, refl, sym, ap, ◌∙◌, arith, inl, inr, ◌⊎◌, rules}
+use Rattle.std.specs.List.{list_any, IsDistinct}
+use Rattle.std.specs.Option.{option_map}
+use Rattle.std.proofs.lemmas.Bool.{false_from_ne_true, false≢true, cases_eq, or_parts}
+use Rattle.std.proofs.lemmas.List.{get_or_append_left, get_or_at, length_push, length-set}
+use Rattle.std.proofs.lemmas.List.Elements.{All-head, All-tail}
+use Rattle.std.proofs.lemmas.Map.Keys.{apart_from_distinct}
+use Rattle.conn_table.specs.declared.pair.Pair.{Pair}
+use Rattle.conn_table.specs.declared.entries.Opening.{Opening}
+use Rattle.conn_table.specs.declared.entries.Entry.{Entry}
+use Rattle.conn_table.specs.IndexedSegments.{same_pair}
+use Rattle.conn_table.specs.Connections.{last_of}
+use Rattle.conn_table.specs.KeptSegments.{KeptSegment, opens, opening_of, last_opening, lasts_after}
+use Rattle.conn_table.specs.Partials.{kept_of}
+use Rattle.indexmap.specs.IndexSet.{IsUnique}
+use Rattle.conn_table.specs.declared.listing.Listing.{Listing}
+use Rattle.conn_table.specs.Listings.{nowhere, pair_at, segment_of, mark_of, marks_of, IsListing}
+use Rattle.conn_table.proofs.GroupingFilters.{last_or-push}
+use Rattle.conn_table.proofs.GroupingPairs.{same_pair-is, same_pair-itself}
+
+-- ---- places of lists
+
+pub slice_get-append : {X : Type 0} (xs ys : List X) (i : ℕ) (x : X) → slice_get xs i ≡ Some x → slice_get (xs ++ ys) i ≡ Some x
+slice_get-append [] ys i x is = absurd cc
+slice_get-append (y ∷ xs) ys zero x is = is
+slice_get-append (y ∷ xs) ys (suc i) x is = slice_get-append xs ys i x is
+
+slice_get-end : {X : Type 0} (xs : List X) (x : X) → slice_get (xs ++ x ∷ []) (length xs) ≡ Some x
+slice_get-end [] x = refl
+slice_get-end (y ∷ xs) x = slice_get-end xs x
+
+pub slice_get-set_same : {X : Type 0} (xs : List X) (i : ℕ) (x : X) → i < length xs → slice_get (set xs i x) i ≡ Some x
+slice_get-set_same [] i x within = absurd (omega arith)
+slice_get-set_same (y ∷ xs) zero x within = refl
+slice_get-set_same (y ∷ xs) (suc i) x within = slice_get-set_same xs i x (omega arith)
+
+pub slice_get-set_other : {X : Type 0} (xs : List X) (i j : ℕ) (x : X) → j ≢ i → slice_get (set xs i x) j ≡ slice_get xs j
+slice_get-set_other [] i j x other = refl
+slice_get-set_other (y ∷ xs) zero zero x other = absurd (other refl)
+slice_get-set_other (y ∷ xs) zero (suc j) x other = refl
+slice_get-set_other (y ∷ xs) (suc i) zero x other = refl
+slice_get-set_other (y ∷ xs) (suc i) (suc j) x other = slice_get-set_other xs i j x (λ same. other (ap (λ n. suc n) same))
+
+-- ---- pairs
+
+pub same_pair-sym : (p q : Pair) → same_pair p q ≡ false → same_pair q p ≡ false
+same_pair-sym p q other =
+    false_from_ne_true (same_pair q p) (λ same. let e : q ≡ p = same_pair-is q p same in false≢true (sym other ∙ (ap (λ x. same_pair p x) e ∙ same_pair-itself p)))
+
+-- in a list without a pair no place has it
+pub other_pair_at : (pairs : List Pair) (p : Pair) (g : ℕ) → g < length pairs → list_any (same_pair p) pairs ≡ false → same_pair (pair_at pairs g) p ≡ false
+other_pair_at [] p g within none = absurd (omega arith)
+other_pair_at (q ∷ pairs) p zero within none = same_pair-sym p q (or_parts (same_pair p q) (list_any (same_pair p) pairs) none).0
+other_pair_at (q ∷ pairs) p (suc g) within none = other_pair_at pairs p g (omega arith) (or_parts (same_pair p q) (list_any (same_pair p) pairs) none).1
+
+-- two places of a list in which pairs lie apart
+pub pairs_apart : (pairs : List Pair) (g h : ℕ) → IsDistinct same_pair pairs → g < length pairs → h < length pairs → g ≢ h → same_pair (pair_at pairs g) (pair_at pairs h) ≡ false
+pairs_apart pairs g h apart g_in h_in other = by_order (order g h)
+  where
+    order : (a b : ℕ) → (a < b) ⊎ (b ≤ a)
+    order a b = search rules
+
+    by_order : (g < h) ⊎ (h ≤ g) → same_pair (pair_at pairs g) (pair_at pairs h) ≡ false
+    by_order (inl below) = apart_from_distinct same_pair pairs g h nowhere apart below h_in
+    by_order (inr above) = same_pair-sym (pair_at pairs h) (pair_at pairs g) (apart_from_distinct same_pair pairs h g nowhere apart (omega (arith, other)) g_in)
+
+-- ---- one pair more
+
+abbrev pub GroupsAreIn : List Pair → List Entry → Type 0
+GroupsAreIn pairs es = All (λ (e : Entry). e.group < length pairs) es
+
+-- for each pair its last opening
+abbrev pub LastsAre : List Pair → List (Option Opening) → List Entry → Type 0
+LastsAre pairs lasts es =
+    (g : ℕ) → g < length pairs → slice_get lasts g ≡ Some (last_opening (kept_of (map (mark_of pairs) es)) (pair_at pairs g))
+
+pub marks-more_pairs : (pairs : List Pair) (p : Pair) (es : List Entry) → GroupsAreIn pairs es → map (mark_of (pairs ++ p ∷ [])) es ≡ map (mark_of pairs) es
+marks-more_pairs pairs p [] are = refl
+marks-more_pairs pairs p (e ∷ es) are =
+    let first : e.group < length pairs = All-head (λ (e : Entry). e.group < length pairs) e es are in
+    rw (get_or_append_left pairs (p ∷ []) nowhere e.group first, marks-more_pairs pairs p es (All-tail (λ (e : Entry). e.group < length pairs) e es are)) refl
+
+-- a pair that is not there has no opening
+none_opens : (pairs : List Pair) (p : Pair) (es : List Entry) → GroupsAreIn pairs es → list_any (same_pair p) pairs ≡ false
+    → filter (λ x. opens x && same_pair x.pair p) (kept_of (map (mark_of pairs) es)) ≡ []
+none_opens pairs p [] are none = refl
+none_opens pairs p (e ∷ es) are none =
+    let first : e.group < length pairs = All-head (λ (e : Entry). e.group < length pairs) e es are in
+    rw (other_pair_at pairs p e.group first none) (by_test (opens (segment_of pairs e)) (none_opens pairs p es (All-tail (λ (e : Entry). e.group < length pairs) e es are) none))
+  where
+    by_test : (b : Bool) → filter (λ x. opens x && same_pair x.pair p) (kept_of (map (mark_of pairs) es)) ≡ []
+        → cond (b && false) (segment_of pairs e ∷ filter (λ x. opens x && same_pair x.pair p) (kept_of (map (mark_of pairs) es))) (filter (λ x. opens x && same_pair x.pair p) (kept_of (map (mark_of pairs) es))) ≡ []
+    by_test true rest = rest
+    by_test false rest = rest
+
+pub LastsAre-more_pairs : (pairs : List Pair) (p : Pair) (lasts : List (Option Opening)) (es : List Entry) → GroupsAreIn pairs es → length lasts ≡ length pairs
+    → list_any (same_pair p) pairs ≡ false → LastsAre pairs lasts es → LastsAre (pairs ++ p ∷ []) (lasts ++ None ∷ []) es
+LastsAre-more_pairs pairs p lasts es are each none are_last g within = rw (marks-more_pairs pairs p es are) (by_place (cases_eq g (length pairs)))
+  where
+    by_place : (g ≡ length pairs) ⊎ (g ≡ length pairs → ⊥) → slice_get (lasts ++ None ∷ []) g ≡ Some (last_opening (kept_of (map (mark_of pairs) es)) (pair_at (pairs ++ p ∷ []) g))
+    by_place (inl at_end) =
+        let last : length lasts ≡ g = omega arith in
+        let new : pair_at (pairs ++ p ∷ []) g ≡ p = get_or_at pairs p [] nowhere g (sym at_end) in
+        rw (new, none_opens pairs p es are none, ← last) (slice_get-end lasts None)
+    by_place (inr before) =
+        let old : g < length pairs = omega (arith, length_push pairs p, before) in
+        rw (get_or_append_left pairs (p ∷ []) nowhere g old) (slice_get-append lasts (None ∷ []) g _ (are_last g old))
+
+pub GroupsAreIn-more_pairs : (pairs : List Pair) (p : Pair) (es : List Entry) → GroupsAreIn pairs es → GroupsAreIn (pairs ++ p ∷ []) es
+GroupsAreIn-more_pairs pairs p es are k d within = omega (arith, are k d within, length_push pairs p)
+
+-- ---- one segment more
+
+pub last_opening-push : (ks : List KeptSegment) (k : KeptSegment) (p : Pair) → last_opening (ks ++ k ∷ []) p ≡ cond (opens k && same_pair k.pair p) (Some (opening_of k)) (last_opening ks p)
+last_opening-push ks k p = ap (λ o. option_map opening_of o) (last_or-push None (λ x. opens x && same_pair x.pair p) ks k) ∙ by_test (opens k && same_pair k.pair p)
+  where
+    by_test : (b : Bool) → option_map opening_of (cond b (Some k) (last_of (filter (λ x. opens x && same_pair x.pair p) ks))) ≡ cond b (Some (opening_of k)) (last_opening ks p)
+    by_test true = refl
+    by_test false = refl
+
+pub kept_of-push : (pairs : List Pair) (es : List Entry) (e : Entry) → kept_of (map (mark_of pairs) (es ++ e ∷ [])) ≡ kept_of (map (mark_of pairs) es) ++ segment_of pairs e ∷ []
+kept_of-push pairs [] e = refl
+kept_of-push pairs (x ∷ es) e = ap (λ (ks : List KeptSegment). segment_of pairs x ∷ ks) (kept_of-push pairs es e)
+
+pub LastsAre-push : (pairs : List Pair) (lasts : List (Option Opening)) (es : List Entry) (e : Entry) → IsDistinct same_pair pairs → length lasts ≡ length pairs → e.group < length pairs
+    → LastsAre pairs lasts es → LastsAre pairs (lasts_after lasts (segment_of pairs e) e.group) (es ++ e ∷ [])
+LastsAre-push pairs lasts es e apart each here are g within =
+    rw (kept_of-push pairs es e, last_opening-push (kept_of (map (mark_of pairs) es)) (segment_of pairs e) (pair_at pairs g)) (by_test (opens (segment_of pairs e)) (cases_eq g e.group))
+  where
+    by_test : (b : Bool) → (g ≡ e.group) ⊎ (g ≡ e.group → ⊥)
+        → slice_get (cond b (set lasts e.group (Some (opening_of (segment_of pairs e)))) lasts) g
+        ≡ Some (cond (b && same_pair (pair_at pairs e.group) (pair_at pairs g)) (Some (opening_of (segment_of pairs e))) (last_opening (kept_of (map (mark_of pairs) es)) (pair_at pairs g)))
+    by_test false place = are g within
+    by_test true (inl same) = rw (same, same_pair-itself (pair_at pairs e.group)) (slice_get-set_same lasts e.group _ (omega arith))
+    by_test true (inr other) =
+        rw (pairs_apart pairs e.group g apart here within (λ same. other (sym same)), slice_get-set_other lasts e.group g (Some (opening_of (segment_of pairs e))) other) (are g within)
+
+pub length-lasts_after : (lasts : List (Option Opening)) (k : KeptSegment) (g : ℕ) → length (lasts_after lasts k g) ≡ length lasts
+length-lasts_after lasts k g = by_test (opens k)
+  where
+    by_test : (b : Bool) → length (cond b (set lasts g (Some (opening_of k))) lasts) ≡ length lasts
+    by_test true = length-set lasts g (Some (opening_of k))
+    by_test false = refl
+
+-- ---- listings
+
+pub record IsGrown (old new : Listing) : Type 0 where
+  pub listing : IsListing new
+  pub marks : marks_of new ≡ marks_of old
+  pub kept : (g : ℕ) (p : Pair) → slice_get old.pairs.keys g ≡ Some p → slice_get new.pairs.keys g ≡ Some p
+
+-- the groups are those of the same entries, where the pair is there already or goes last
+pub IsGrown-pair : (old new : Listing) (p : Pair) (there : Bool) → IsListing old → IsUnique same_pair new.pairs → list_any (same_pair p) old.pairs.keys ≡ there
+    → new.pairs.keys ≡ cond there old.pairs.keys (old.pairs.keys ++ p ∷ []) → new.lasts.items ≡ cond there old.lasts.items (old.lasts.items ++ None ∷ [])
+    → new.entries.items ≡ old.entries.items → IsGrown old new
+IsGrown-pair old new p true is apart found pairs lasts entries = record {
+  listing = record {
+    groups = rw (pairs, entries) is.groups;
+    apart = apart;
+    each = rw (pairs, lasts) is.each;
+    last = rw (pairs, lasts, entries) is.last;
+  };
+  marks = rw (pairs, entries) refl;
+  kept = λ g q at. rw pairs at;
+}
+IsGrown-pair old new p false is apart found pairs lasts entries = record {
+  listing = record {
+    groups = rw (pairs, entries) (GroupsAreIn-more_pairs old.pairs.keys p old.entries.items is.groups);
+    apart = apart;
+    each = rw (pairs, lasts) (omega (arith, length_push old.lasts.items None, length_push old.pairs.keys p, is.each));
+    last = rw (pairs, lasts, entries) (LastsAre-more_pairs old.pairs.keys p old.lasts.items old.entries.items is.groups is.each found is.last);
+  };
+  marks = rw (pairs, entries) (marks-more_pairs old.pairs.keys p old.entries.items is.groups);
+  kept = λ g q at. rw pairs (slice_get-append old.pairs.keys (p ∷ []) g q at);
+}
+
+pub there_from_new : (is_new there : Bool) → is_new ≡ not there → is_new ≡ true → there ≡ false
+there_from_new is_new true told new = absurd cc
+there_from_new is_new false told new = refl
+
+pub there_from_old : (is_new there : Bool) → is_new ≡ not there → is_new ≡ false → there ≡ true
+there_from_old is_new true told new = refl
+there_from_old is_new false told new = absurd cc

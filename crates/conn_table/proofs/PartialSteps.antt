@@ -1,0 +1,175 @@
+-- The partial of a range, one record after another.
+use Rattle.std.proofs.Common.{◌≡◌, ◌<◌, ◌≤◌, ℕ, ◌+◌, ◌-◌, max, ◌^◌, Bool, true, false, cond, List, [], ◌∷◌, ◌++◌, length, map, take, drop, get_or, slice_get, Option, Some, None, refl, sym, ap, subst, ◌∙◌, arith, length-take}
+use Rattle.std.specs.Prelude.{unwrap_or}
+use Rattle.std.specs.List.{cons_option}
+use Rattle.std.proofs.lemmas.List.{length-map, get_or-map, map-append, append-nil}
+use Rattle.std.proofs.lemmas.Option.{slice_get-map, slice_get_read}
+use Rattle.pcap_records.specs.Instants.{instants}
+use Rattle.pcap_records.specs.declared.record_place.Record.{Record}
+use Rattle.pcap_records.specs.Reading.{Packet}
+use Rattle.pcap_records.specs.CaptureView.{CaptureView, contents_of, packet_of, packet_at, IsSoundCapture, IsWithinFile}
+use Rattle.frame_headers.specs.Frame.{FrameClass, frame_class, segment, payload_offset}
+use Rattle.frame_headers.specs.Class.{frame_class_of}
+use Rattle.frame_headers.specs.declared.classes.Class.{Class}
+use Rattle.frame_headers.specs.declared.classes.Class.TheVariants as classes
+use Rattle.frame_headers.specs.declared.classes.Segment.{Segment}
+use Rattle.conn_table.specs.SeenCapture.{SeenPacket, seen_packet, seen_packets}
+use Rattle.conn_table.specs.IndexedSegments.{IndexedSegment, is_segment, indexed_segments}
+use Rattle.conn_table.specs.Connections.{begins_after}
+use Rattle.conn_table.specs.ClassCounts.{counts_of, counts_with, count_at}
+use Rattle.conn_table.specs.KeptSegments.{KeptSegment, kept_in, kept_at, segment_read, frame_at, payload_start}
+use Rattle.conn_table.specs.Partials.{MarkedKept, MarkedSegment, marked_in, marked_after, kept_of, mark_behind, packets_between, segments_between, carried}
+use Rattle.conn_table.proofs.CountingSteps.{counts_of-push, count_at-le-length}
+use Rattle.conn_table.proofs.MarkSteps.{marked_after-append, kept_of-marked, begins_behind-kept}
+use Rattle.conn_table.proofs.RangeSteps.{packets_between-more, length-packets_between, indexed_segments-append, carried-more}
+
+-- ---- record i of a capture, whose packet has these bytes
+
+pub record IsRecordOf (c : CaptureView) (i : ℕ) (r : Record) (bytes : List ℕ) : Type 0 where
+  pub within : i < length c.records
+  pub is : r ≡ get_or c.records i r
+  pub packet : packet_at c i ≡ Some bytes
+
+length-packets : (c : CaptureView) → length (contents_of c).packets ≡ length c.records
+length-packets c = length-map c.records (packet_of c.bytes)
+
+-- its packet in the capture's contents
+packet_is : (c : CaptureView) (i : ℕ) (r : Record) (bytes : List ℕ) (d : Packet) → IsRecordOf c i r bytes → get_or (contents_of c).packets i d ≡ record { stamp = r.stamp; bytes = bytes }
+packet_is c i r bytes d here =
+    let at : slice_get c.records i ≡ Some r = slice_get_read c.records (length c.records) i r refl here.within here.is in
+    let told : packet_at c i ≡ Some (packet_of c.bytes r).bytes = rw (slice_get-map (packet_of c.bytes) c.records i, at) refl in
+    let same : (packet_of c.bytes r).bytes ≡ bytes = some_is _ _ (sym told ∙ here.packet) in
+    get_or-map (packet_of c.bytes) c.records i r d here.within ∙ (ap (λ (x : Record). packet_of c.bytes x) (sym here.is) ∙ ap (λ (bs : List ℕ). record { stamp = r.stamp; bytes = bs }) same)
+  where
+    some_is : (xs ys : List ℕ) → Some xs ≡ Some ys → xs ≡ ys
+    some_is xs ys e = cc
+
+pub start_is : (c : CaptureView) (i : ℕ) (r : Record) (bytes : List ℕ) → IsRecordOf c i r bytes → payload_start c i ≡ r.start + payload_offset bytes
+start_is c i r bytes here =
+    let at : slice_get c.records i ≡ Some r = slice_get_read c.records (length c.records) i r refl here.within here.is in
+    let frame : frame_at c i ≡ bytes = ap (λ (o : Option (List ℕ)). unwrap_or o []) here.packet in
+    rw (frame, at) refl
+
+-- a packet ends before 2^30
+pub ends_within : (c : CaptureView) (i : ℕ) (r : Record) (bytes : List ℕ) → IsSoundCapture c.ticks c.bytes c.records → IsRecordOf c i r bytes → r.start + length bytes < 2 ^ 32
+ends_within c i r bytes sound here =
+    let at : slice_get c.records i ≡ Some r = slice_get_read c.records (length c.records) i r refl here.within here.is in
+    let told : packet_at c i ≡ Some (packet_of c.bytes r).bytes = rw (slice_get-map (packet_of c.bytes) c.records i, at) refl in
+    let same : Some (packet_of c.bytes r).bytes ≡ Some bytes = sym told ∙ here.packet in
+    let len : length bytes ≡ length (take r.len (drop r.start c.bytes)) = ap (λ (o : Option (List ℕ)). length (unwrap_or o [])) (sym same) in
+    let in_file : IsWithinFile c.ticks c.bytes r = subst (IsWithinFile c.ticks c.bytes) (sym here.is) (sound.within i r here.within) in
+    omega (arith, len, length-take r.len (drop r.start c.bytes), in_file.ends, sound.limited)
+
+-- ---- no record
+
+no_packets : (c : CaptureView) (from carry : ℕ) → packets_between c from from carry ≡ []
+unfolding seen_packets instants
+no_packets c from carry = let none : from - from ≡ 0 = omega arith in rw none refl
+
+pub at-none : (c : CaptureView) (from carry : ℕ) → carry ≡ carried c from from carry
+at-none c from carry = let none : from - from ≡ 0 = omega arith in rw none (omega arith)
+
+pub counts-none : (c : CaptureView) (from carry : ℕ) → counts_of [] ≡ counts_of (packets_between c from from carry)
+counts-none c from carry = ap (λ (ps : List SeenPacket). counts_of ps) (sym (no_packets c from carry))
+
+pub segments-none : (c : CaptureView) (from carry : ℕ) → segments_between c from from carry ≡ []
+unfolding indexed_segments
+segments-none c from carry = rw (no_packets c from carry) refl
+
+pub marks-none : (c : CaptureView) (from carry : ℕ) → [] ≡ map (marked_in c) (marked_after [] (segments_between c from from carry))
+unfolding indexed_segments marked_after
+marks-none c from carry = rw (no_packets c from carry) refl
+
+-- ---- one record more
+
+abbrev next_packet : CaptureView → ℕ → ℕ → ℕ → Record → List ℕ → SeenPacket
+next_packet c from i carry r bytes = seen_packet (max (carried c from i carry) r.stamp, record { stamp = r.stamp; bytes = bytes })
+
+packets_more : (c : CaptureView) (from i carry : ℕ) (r : Record) (bytes : List ℕ) → from ≤ i → IsRecordOf c i r bytes
+    → packets_between c from (i + 1) carry ≡ packets_between c from i carry ++ next_packet c from i carry r bytes ∷ []
+packets_more c from i carry r bytes ordered here =
+    let p : Packet = record { stamp = r.stamp; bytes = bytes } in
+    let len = length-packets c in
+    packets_between-more c from i carry p ordered (omega (arith, here.within, len))
+    ∙ ap (λ (x : Packet). packets_between c from i carry ++ seen_packet (max (carried c from i carry) x.stamp, x) ∷ []) (packet_is c i r bytes p here)
+
+pub at-more : (c : CaptureView) (from i carry : ℕ) (r : Record) (bytes : List ℕ) → from ≤ i → IsRecordOf c i r bytes → max (carried c from i carry) r.stamp ≡ carried c from (i + 1) carry
+at-more c from i carry r bytes ordered here =
+    let p : Packet = record { stamp = r.stamp; bytes = bytes } in
+    let len = length-packets c in
+    sym (carried-more c from i carry p ordered (omega (arith, here.within, len)) ∙ ap (λ (x : Packet). max (carried c from i carry) x.stamp) (packet_is c i r bytes p here))
+
+pub counts-more : (c : CaptureView) (from i carry : ℕ) (r : Record) (bytes : List ℕ) → from ≤ i → IsRecordOf c i r bytes
+    → counts_with (frame_class bytes) (counts_of (packets_between c from i carry)) ≡ counts_of (packets_between c from (i + 1) carry)
+counts-more c from i carry r bytes ordered here =
+    sym (ap (λ (ps : List SeenPacket). counts_of ps) (packets_more c from i carry r bytes ordered here) ∙ counts_of-push (packets_between c from i carry) (next_packet c from i carry r bytes))
+
+pub counts-few : (c : CaptureView) (from to carry : ℕ) (k : FrameClass) → from ≤ to → to ≤ length c.records → count_at k (counts_of (packets_between c from to carry)) ≤ to - from
+counts-few c from to carry k ordered within =
+    let len = length-packets_between c from to carry ordered (omega (arith, length-packets c)) in
+    omega (arith, count_at-le-length k (packets_between c from to carry), len)
+
+-- the segments behind one record more: there is one more where the packet is a segment
+abbrev pub segment_list : Bool → IndexedSegment → List IndexedSegment
+segment_list is s = cond is (s ∷ []) []
+
+pub segments_more : (c : CaptureView) (from i carry : ℕ) (r : Record) (bytes : List ℕ) → from ≤ i → IsRecordOf c i r bytes
+    → segments_between c from (i + 1) carry ≡ segments_between c from i carry ++ segment_list (is_segment (frame_class bytes)) (segment_read i (max (carried c from i carry) r.stamp) bytes)
+unfolding indexed_segments
+segments_more c from i carry r bytes ordered here =
+    let len : length (packets_between c from i carry) ≡ i - from = length-packets_between c from i carry ordered (omega (arith, length-packets c, here.within)) in
+    let place : from + length (packets_between c from i carry) ≡ i = omega arith in
+    let q : SeenPacket = next_packet c from i carry r bytes in
+    let both = indexed_segments-append from (packets_between c from i carry) (q ∷ []) in
+    let both' = rw place at both in
+    ap (λ (ps : List SeenPacket). indexed_segments from ps) (packets_more c from i carry r bytes ordered here) ∙ (both' ∙ ap (λ (xs : List IndexedSegment). indexed_segments from (packets_between c from i carry) ++ xs) (by_test (is_segment (frame_class bytes))))
+  where
+    by_test : (b : Bool) → cons_option (cond b (Some (segment_read i (max (carried c from i carry) r.stamp) bytes)) None) [] ≡ segment_list b (segment_read i (max (carried c from i carry) r.stamp) bytes)
+    by_test true = refl
+    by_test false = refl
+
+abbrev pub marks_between : CaptureView → ℕ → ℕ → ℕ → List MarkedKept
+marks_between c from to carry = map (marked_in c) (marked_after [] (segments_between c from to carry))
+
+marks_push : (c : CaptureView) (segs : List IndexedSegment) (s : IndexedSegment)
+    → map (marked_in c) (marked_after [] (segs ++ s ∷ [])) ≡ map (marked_in c) (marked_after [] segs) ++ mark_behind (kept_of (map (marked_in c) (marked_after [] segs))) (kept_in c s) ∷ []
+unfolding marked_after
+marks_push c segs s =
+    let parts = marked_after-append [] segs (s ∷ []) in
+    ap (λ (ms : List MarkedSegment). map (marked_in c) ms) parts
+    ∙ (map-append (marked_in c) (marked_after [] segs) (record { begins = begins_after segs s; segment = s } ∷ [])
+    ∙ rw (kept_of-marked c [] segs, begins_behind-kept c segs s) refl)
+
+pub marks-segment : (c : CaptureView) (from i carry : ℕ) (r : Record) (bytes : List ℕ) (done more : List MarkedKept) → from ≤ i → IsRecordOf c i r bytes → frame_class bytes ≡ segment
+    → done ≡ marks_between c from i carry
+    → more ≡ done ++ mark_behind (kept_of done) (kept_at (r.start + payload_offset bytes) (segment_read i (max (carried c from i carry) r.stamp) bytes)) ∷ []
+    → more ≡ marks_between c from (i + 1) carry
+marks-segment c from i carry r bytes done more ordered here is so_far grown =
+    let s : IndexedSegment = segment_read i (max (carried c from i carry) r.stamp) bytes in
+    let segs : List IndexedSegment = segments_between c from i carry in
+    let all : segments_between c from (i + 1) carry ≡ segs ++ s ∷ [] = segments_more c from i carry r bytes ordered here ∙ ap (λ (k : FrameClass). segs ++ segment_list (is_segment k) s) is in
+    let kept : kept_at (r.start + payload_offset bytes) s ≡ kept_in c s = ap (λ (n : ℕ). kept_at n s) (sym (start_is c i r bytes here)) in
+    grown
+    ∙ (ap (λ (k : KeptSegment). done ++ mark_behind (kept_of done) k ∷ []) kept
+    ∙ (ap (λ (ms : List MarkedKept). ms ++ mark_behind (kept_of ms) (kept_in c s) ∷ []) so_far
+    ∙ (sym (marks_push c segs s) ∙ ap (λ (xs : List IndexedSegment). map (marked_in c) (marked_after [] xs)) (sym all))))
+
+pub marks-other : (c : CaptureView) (from i carry : ℕ) (r : Record) (bytes : List ℕ) → from ≤ i → IsRecordOf c i r bytes → is_segment (frame_class bytes) ≡ false
+    → marks_between c from i carry ≡ marks_between c from (i + 1) carry
+marks-other c from i carry r bytes ordered here other =
+    let s : IndexedSegment = segment_read i (max (carried c from i carry) r.stamp) bytes in
+    let segs : List IndexedSegment = segments_between c from i carry in
+    let all : segments_between c from (i + 1) carry ≡ segs ++ [] = segments_more c from i carry r bytes ordered here ∙ ap (λ (b : Bool). segs ++ segment_list b s) other in
+    ap (λ (xs : List IndexedSegment). map (marked_in c) (marked_after [] xs)) (sym (all ∙ append-nil segs))
+
+-- the class of what is no segment
+pub is_segment-other : (k : Class) → ((s : Segment) → k ≡ classes.Segment s → ⊥) → is_segment (frame_class_of k) ≡ false
+is_segment-other classes.Short other = refl
+is_segment-other classes.NotIpv4 other = refl
+is_segment-other classes.BadIpv4 other = refl
+is_segment-other classes.Fragment other = refl
+is_segment-other classes.NotTcp other = refl
+is_segment-other classes.Cut other = refl
+is_segment-other classes.BadTcp other = refl
+is_segment-other classes.SameEnds other = refl
+is_segment-other (classes.Segment s) other = absurd (other s refl)

@@ -1,0 +1,5 @@
+use Rattle.conn_table.proofs.Joins.{joins_agree}
+use Rattle.conn_table.proofs.laws.joins_agree.Goals as goal
+
+pub returns : goal.returns
+returns c = joins_agree

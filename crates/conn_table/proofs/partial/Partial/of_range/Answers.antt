@@ -1,0 +1,114 @@
+use Rattle.std.proofs.Common.{ℕ, List, ◌≡◌, ◌≤◌, ◌<◌, ◌^◌, length, sym, ◌∙◌, ap, arith, false}
+use Rattle.frame_headers.specs.Frame.{frame_class, segment}
+use Rattle.frame_headers.specs.Class.{frame_class_of}
+use Rattle.conn_table.specs.IndexedSegments.{is_segment}
+use Rattle.conn_table.specs.ClassCounts.{counts_of}
+use Rattle.conn_table.specs.Partials.{MarkedKept, PartialView, partial_in, packets_between}
+use Rattle.conn_table.specs.declared.class_counts.Counts.{Counts}
+use Rattle.conn_table.specs.Listings.{marks_of}
+use Rattle.conn_table.proofs.PartialSteps.{IsRecordOf, ends_within, at-none, counts-none, marks-none, at-more, counts-more, counts-few, marks-segment, marks-other, marks_between, is_segment-other}
+use Rattle.conn_table.proofs.partial.Partial.of_range.Goals.{in-Segment+in_ok-list_segment, in_default}
+use Rattle.conn_table.proofs.partial.Partial.of_range.Goals as goal
+
+pub loop-index-init : goal.loop-index-init
+loop-index-init c =
+    let empty = c.in_ok-listing.ensures.empty in
+    let no_pairs = c.in_ok-listing.ensures.pairs in
+    record {
+      listing = c.in_ok-listing.ensures.listing;
+      segments = rw empty (omega arith);
+      pairs = rw no_pairs (omega arith);
+      at = at-none c.args.capture.now c.args.from c.args.carry;
+      counts = c.none-counts.ensures ∙ counts-none c.args.capture.now c.args.from c.args.carry;
+      marks = rw empty (marks-none c.args.capture.now c.args.from c.args.carry);
+    }
+
+pub add-requires : goal.add-requires
+add-requires c =
+    let capture = c.args.capture.now in
+    let few = c.records-records.ensures.sound.few in
+    let count = c.records-records.ensures.records in
+    let total : length capture.records < 2 ^ 26 = rw count at few in
+    rw c.loop-index.invariant.counts
+    (omega (arith, total, counts-few capture c.args.from c.loop-index.index c.args.carry (frame_class_of c.classify-class.result) c.loop-index.auto.index (omega arith)))
+
+pub list_segment-requires-clause-within : goal.list_segment-requires-clause-within
+list_segment-requires-clause-within c =
+    let capture = c.args.capture.now in
+    let r = c.index-records-index.result in
+    let sound = rw c.records-records.ensures.records at c.records-records.ensures.sound in
+    let here : IsRecordOf capture c.loop-index.index r c.packet-packet.result.now = record {
+      within = omega arith;
+      is = rw c.records-records.ensures.records at c.index-records-index.is;
+      packet = c.packet-packet.ensures;
+    } in
+    ends_within capture c.loop-index.index r c.packet-packet.result.now sound here
+
+pub loop-index-preserved : goal.loop-index-preserved
+loop-index-preserved c =
+    let capture = c.args.capture.now in
+    let i = c.loop-index.index in
+    let from = c.args.from in
+    let carry = c.args.carry in
+    let r = c.index-records-index.result in
+    let bytes = c.packet-packet.result.now in
+    let was = c.loop-index.invariant in
+    let ordered : from ≤ i = c.loop-index.auto.index in
+    let here : IsRecordOf capture i r bytes = record {
+      within = omega arith;
+      is = rw c.records-records.ensures.records at c.index-records-index.is;
+      packet = c.packet-packet.ensures;
+    } in
+    let now = rw was.at at c.greater-at.ensures in
+    let at = now ∙ at-more capture from i carry r bytes ordered here in
+    let counts = rw (c.classify-class.ensures.class, was.counts) at c.add.ensures in
+    let counted = counts ∙ counts-more capture from i carry r bytes ordered here in
+    elim c.match-class.branch [
+      | in-Segment+in_ok-list_segment w ↦
+          let told = w.in_ok-list_segment.ensures in
+          let is : frame_class bytes ≡ segment = sym c.classify-class.ensures.class ∙ ap frame_class_of w.in-Segment.is in
+          record {
+            listing = rw w.listing-is told.listing;
+            segments = rw w.listing-is (omega (arith, told.len, was.segments, ordered));
+            pairs = rw w.listing-is (omega (arith, told.grown, was.pairs, ordered));
+            at = at;
+            counts = counted;
+            marks = rw w.listing-is (marks-segment capture from i carry r bytes (marks_of c.loop-index.listing) _ ordered here is was.marks (rw now at told.marks));
+          }
+      | in_default w ↦
+          let other : is_segment (frame_class bytes) ≡ false = ap is_segment (sym c.classify-class.ensures.class) ∙ is_segment-other c.classify-class.result (λ s e. w.in_default.not-Segment s e) in
+          record {
+            listing = rw w.listing-is was.listing;
+            segments = rw w.listing-is (omega (arith, was.segments));
+            pairs = rw w.listing-is (omega (arith, was.pairs));
+            at = at;
+            counts = counted;
+            marks = rw w.listing-is (was.marks ∙ marks-other capture from i carry r bytes ordered here other);
+          }
+    ]
+
+pub invariant_of-result : goal.invariant_of-result
+invariant_of-result c =
+    let capture = c.args.capture.now in
+    let total : length capture.records < 2 ^ 26 = rw c.records-records.ensures.records at c.records-records.ensures.sound.few in
+    let was = c.loop-index.invariant in
+    let over : c.loop-index.index ≡ c.args.to = omega arith in
+    record {
+      listing = was.listing;
+      ordered = c.requires.ordered;
+      few = omega arith;
+      segments = omega (arith, was.segments);
+      pairs = omega (arith, was.pairs);
+      counted = λ k. rw was.counts (omega (arith, over, counts-few capture c.args.from c.loop-index.index c.args.carry k (omega arith) (omega arith)));
+    }
+
+pub returns-clause-exact : goal.returns-clause-exact
+unfolding partial_in
+returns-clause-exact c =
+    let capture = c.args.capture.now in
+    let was = c.loop-index.invariant in
+    let over : c.loop-index.index ≡ c.args.to = omega arith in
+    let view : Counts → List MarkedKept → PartialView = λ counts marked. record { from = c.args.from; to = c.args.to; counts = counts; marked = marked } in
+    let of_index : ℕ → PartialView = λ i. view (counts_of (packets_between capture c.args.from i c.args.carry)) (marks_between capture c.args.from i c.args.carry) in
+    ap (λ n. view n (marks_of c.loop-index.listing)) was.counts
+    ∙ (ap (λ ms. view (counts_of (packets_between capture c.args.from c.loop-index.index c.args.carry)) ms) was.marks ∙ ap of_index over)

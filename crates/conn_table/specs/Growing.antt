@@ -1,0 +1,36 @@
+-- A table that grows segment by segment.
+use Rattle.std.specs.Prelude.{◌≡◌, ◌<◌, ℕ, zero, suc, List, [], ◌∷◌, ◌++◌, length, map, take, Option, Some, None, Bool, ◌&&◌, if◌then◌else◌, slice_get}
+use Rattle.conn_table.specs.declared.pair.Pair.{Pair}
+use Rattle.conn_table.specs.declared.members.Member.{Member}
+use Rattle.conn_table.specs.declared.conns.Conn.{Conn}
+use Rattle.conn_table.specs.declared.growth.Current.{Current}
+use Rattle.conn_table.specs.declared.growth.Growth.{Growth}
+use Rattle.conn_table.specs.declared.listing.Listing.{Listing}
+use Rattle.conn_table.specs.IndexedSegments.{same_pair}
+use Rattle.conn_table.specs.Partials.{MarkedKept}
+use Rattle.conn_table.specs.Tables.{conns_from, unopened_after}
+use Rattle.conn_table.specs.Listings.{pair_at, mark_of}
+
+-- one member more in the connection at a place
+abbrev pub grown_at : ℕ → Member → List Conn → List Conn
+grown_at n x [] = []
+grown_at zero x (c ∷ cs) = record c { members = c.members ++ x ∷ [] } ∷ cs
+grown_at (suc n) x (c ∷ cs) = c ∷ grown_at n x cs
+
+-- a place further on where one more connection stands before it, or this place where there is none
+abbrev pub further : Option Current → Bool → Option Current → Option Current
+further None begins here = here
+further (Some c) begins here = Some (record { number = if begins then suc c.number else c.number; from_low = c.from_low })
+
+-- the last connection of a pair among those that some marked segments begin
+abbrev pub current_of : Pair → List MarkedKept → Option Current
+current_of p [] = None
+current_of p (m ∷ ms) =
+    further (current_of p ms) m.begins (if m.begins && same_pair m.kept.pair p then Some (record { number = 0; from_low = m.kept.from_low }) else None)
+
+-- what has grown of a listing's first segments: the connections, for each group its last one, and how many segments are unopened
+pub record HasGrown (listing : Listing) (n : ℕ) (g : Growth) : Type 0 where
+  pub conns : g.conns.items ≡ conns_from 0 (map (mark_of listing.pairs.keys) (take n listing.entries.items))
+  pub unopened : g.unopened ≡ unopened_after [] (map (mark_of listing.pairs.keys) (take n listing.entries.items))
+  pub each : length g.current.items ≡ length listing.pairs.keys
+  pub current : (q : ℕ) → q < length listing.pairs.keys → slice_get g.current.items q ≡ Some (current_of (pair_at listing.pairs.keys q) (map (mark_of listing.pairs.keys) (take n listing.entries.items)))

@@ -1,0 +1,83 @@
+-- What a table keeps of a segment, and how kept segments are read in turn.
+use Rattle.std.specs.Prelude.{ℕ, ◌+◌, List, length, filter, Option, Some, None, Bool, false, ◌&&◌, ◌==◌, not, slice_get, unwrap_or, [], set, if◌then◌else◌}
+use Rattle.std.specs.Bool.{beq}
+use Rattle.std.specs.Option.{option_map, option_map_or}
+use Rattle.pcap_records.specs.CaptureView.{CaptureView, packet_at}
+use Rattle.frame_headers.specs.Flags.{has_flag, syn_flag, ack_flag, rst_flag}
+use Rattle.frame_headers.specs.Frame.{payload_offset, segment_fields}
+use Rattle.conn_table.specs.declared.pair.Pair.{Pair}
+use Rattle.conn_table.specs.declared.entries.Opening.{Opening}
+use Rattle.conn_table.specs.IndexedSegments.{IndexedSegment, peer_le, same_pair, pair_of_segment}
+use Rattle.conn_table.specs.Connections.{last_of}
+
+-- the number of its record and its instant, its pair and whether the lower peer of it sent it, the sequence number and the
+-- flags of its TCP header, and where its payload lies in the file
+pub record KeptSegment : Type 0 where
+  pub index : ℕ
+  pub at : ℕ
+  pub pair : Pair
+  pub from_low : Bool
+  pub seq : ℕ
+  pub flags : ℕ
+  pub start : ℕ
+  pub len : ℕ
+
+-- ---- in a capture
+
+-- the place of the packet of record i, and its bytes
+abbrev pub packet_start : CaptureView → ℕ → ℕ
+packet_start c i = option_map_or (λ r. r.start) (slice_get c.records i) 0
+
+abbrev pub frame_at : CaptureView → ℕ → List ℕ
+frame_at c i = unwrap_or (packet_at c i) []
+
+-- the place in the file of the payload of record i's segment
+abbrev pub payload_start : CaptureView → ℕ → ℕ
+payload_start c i = packet_start c i + payload_offset (frame_at c i)
+
+-- what is kept of a segment whose payload begins at a place of the file
+abbrev pub kept_at : ℕ → IndexedSegment → KeptSegment
+kept_at start s = record {
+  index = s.index;
+  at = s.timed.at;
+  pair = pair_of_segment s;
+  from_low = peer_le s.timed.fields.from s.timed.fields.to;
+  seq = s.timed.fields.seq;
+  flags = s.timed.fields.flags;
+  start = start;
+  len = length s.timed.fields.payload;
+}
+
+-- the segment in a packet, which is recorded at an instant in the record of that number
+abbrev pub segment_read : ℕ → ℕ → List ℕ → IndexedSegment
+segment_read index at packet = record { index = index; timed = record { at = at; fields = segment_fields packet } }
+
+-- what is kept of a capture's segment
+abbrev pub kept_in : CaptureView → IndexedSegment → KeptSegment
+kept_in c s = kept_at (payload_start c s.index) s
+
+-- ---- openings and beginnings
+
+-- SYN, and neither ACK nor RST
+abbrev pub opens : KeptSegment → Bool
+opens k = has_flag k.flags syn_flag && not (has_flag k.flags ack_flag) && not (has_flag k.flags rst_flag)
+
+-- what a repeated opening has in common with the one before: its sender and its sequence number
+abbrev pub opening_of : KeptSegment → Opening
+opening_of k = record { from_low = k.from_low; seq = k.seq }
+
+abbrev pub is_again : Option Opening → Opening → Bool
+is_again None o = false
+is_again (Some last) o = beq last.from_low o.from_low && (last.seq == o.seq)
+
+-- the last opening of a pair
+abbrev pub last_opening : List KeptSegment → Pair → Option Opening
+last_opening earlier p = option_map opening_of (last_of (filter (λ x. opens x && same_pair x.pair p) earlier))
+
+-- an opening that does not repeat the last one of its pair
+abbrev pub begins_behind : List KeptSegment → KeptSegment → Bool
+begins_behind earlier k = opens k && not (is_again (last_opening earlier k.pair) (opening_of k))
+
+-- the last opening of each group, once a segment of group g was read
+abbrev pub lasts_after : List (Option Opening) → KeptSegment → ℕ → List (Option Opening)
+lasts_after lasts k g = if opens k then set lasts g (Some (opening_of k)) else lasts

@@ -1,0 +1,17 @@
+pub mod SeenCapture
+pub mod IndexedSegments
+pub mod Connections
+pub mod IndexedConnections
+pub mod ClassCounts
+pub mod KeptSegments
+pub mod Partials
+pub mod Tables
+pub mod Listings
+pub mod Growing
+pub mod TableFacts
+pub mod MemberSides
+pub use Rattle.pcap_records.specs.Instants
+pub use Rattle.pcap_records.specs.Reading
+pub use Rattle.pcap_records.specs.CaptureView
+pub use Rattle.frame_headers.specs.Flags
+pub use Rattle.frame_headers.specs.Frame

@@ -1,0 +1,35 @@
+-- What holds of every table of a capture.
+use Rattle.std.specs.Prelude.{◌≡◌, ◌≤◌, ℕ, ◌+◌, List, [], ◌∷◌, length, slice_range}
+use Rattle.std.specs.List.{AllByRecursion}
+use Rattle.pcap_records.specs.CaptureView.{CaptureView, IsSoundCapture}
+use Rattle.conn_table.specs.IndexedSegments.{IndexedSegment}
+use Rattle.conn_table.specs.KeptSegments.{payload_start}
+use Rattle.conn_table.specs.Partials.{segments_between}
+use Rattle.conn_table.specs.Tables.{table_in}
+use Rattle.conn_table.specs.declared.members.Member.{Member}
+use Rattle.conn_table.specs.declared.conns.Conn.{Conn}
+
+-- a segment's payload lies in the file, at its place
+pub record IsPlaced (c : CaptureView) (s : IndexedSegment) : Type 0 where
+  pub within : payload_start c s.index + length s.timed.fields.payload ≤ length c.bytes
+  pub bytes : slice_range c.bytes (payload_start c s.index) (payload_start c s.index + length s.timed.fields.payload) ≡ s.timed.fields.payload
+
+abbrev pub PayloadsArePlaced : Type 0
+PayloadsArePlaced =
+    (c : CaptureView) (from to carry : ℕ) → IsSoundCapture c.ticks c.bytes c.records → from ≤ to → to ≤ length c.records
+    → AllByRecursion (IsPlaced c) (segments_between c from to carry)
+
+-- the numbers of members' records rise, from n on
+abbrev pub AreRising : ℕ → List Member → Type 0
+AreRising n [] = Unit {0}
+AreRising n (m ∷ ms) = (n ≤ m.index) × AreRising (m.index + 1) ms
+
+-- the members of a connection stand in the order of the file, its beginning first, and their payloads lie in the file
+pub record IsSoundConn (bytes : List ℕ) (x : Conn) : Type 0 where
+  pub rising : AreRising x.opening x.members
+  pub placed : AllByRecursion (λ (m : Member). m.start + m.len ≤ length bytes) x.members
+
+abbrev pub ConnsAreSound : Type 0
+ConnsAreSound =
+    (c : CaptureView) (from to carry : ℕ) → IsSoundCapture c.ticks c.bytes c.records → from ≤ to → to ≤ length c.records
+    → AllByRecursion (IsSoundConn c.bytes) (table_in c from to carry).conns

@@ -1,0 +1,55 @@
+//! Theorems about the definitions of this crate. Each function does nothing, or names the theorem that it stands on: its
+//! contract is the theorem.
+ghost use Rattle.conn_table.specs.Connections.{GroupingsAgree};
+ghost use Rattle.conn_table.specs.IndexedConnections.{IndexedConnectionsAgree};
+ghost use Rattle.conn_table.specs.Partials.{JoinsAgree};
+ghost use Rattle.conn_table.specs.Tables.{TablesAgree};
+ghost use Rattle.conn_table.specs.TableFacts.{PayloadsArePlaced, ConnsAreSound};
+ghost use Rattle.conn_table.specs.MemberSides.{MembersHaveSides};
+
+use frame_headers::laws::payloads_are_in_place;
+
+/// For every list of packets, filtering the list of its segments and reading it in turn give the same beginnings, the same
+/// connections with the same segments, and the same number of unopened segments.
+pub fn groupings_agree()
+    ensures { GroupingsAgree }
+{}
+
+/// The connections whose segments have the numbers of their records are, without these, the connections.
+pub fn indexed_connections_agree()
+    ensures { IndexedConnectionsAgree }
+{}
+
+/// The join of the partials of two adjacent ranges of a capture's records is the partial of both together. So every cut of the
+/// records, joined in whatever grouping of adjacent ranges, gives the partial of one range: empty ranges, openings that are sent
+/// again across a border and openings that are cut off from their segments included. The right one carries the greatest stamp
+/// before it.
+pub fn joins_agree()
+    ensures { JoinsAgree }
+{}
+
+/// The table of a range's partial has the connections that filtering the range's segments gives, as many unopened segments and
+/// the same counts.
+pub fn tables_agree()
+    ensures { TablesAgree }
+{}
+
+/// The payload of each segment lies in the file at the place that is kept of it, and the bytes there are its payload.
+pub fn payloads_are_placed()
+    ensures { PayloadsArePlaced }
+{
+    payloads_are_in_place();
+}
+
+/// In every table of a capture the members of each connection stand in the order of the file, its beginning first, and their
+/// payloads lie in the file.
+pub fn conns_are_sound()
+    ensures { ConnsAreSound }
+{
+    payloads_are_in_place();
+}
+
+/// Each segment of a connection comes from its client or from its server, and never from both.
+pub fn members_have_sides()
+    ensures { MembersHaveSides }
+{}

@@ -1,0 +1,23 @@
+//! Connections of a capture: its segments grouped by pairs of peers, range by range.
+//!
+//! `specs/Connections.antt` says what the connections of a list of segments are, by filtering the whole list; `laws` has the
+//! theorems that tie partials and tables to it.
+#![tactic(auto)]
+
+mod class_counts;
+mod conns;
+mod entries;
+mod growth;
+pub mod laws;
+mod listing;
+mod members;
+mod pair;
+mod partial;
+mod table;
+
+pub use class_counts::Counts;
+pub use conns::Conn;
+pub use members::{Member, Members};
+pub use pair::Pair;
+pub use partial::Partial;
+pub use table::{Table, finish};

@@ -1,0 +1,166 @@
+//! The segments of a range in the order of the file, and the pairs that they belong to.
+use crate::entries::{Entry, Opening};
+use crate::pair::{Pair, is_lower_or_same, pair_of};
+use frame_headers::{Segment, payload_place};
+use indexmap::IndexSet;
+use pcap_records::Moment;
+use std::alloc::{AllocError, Global};
+
+/// Segments in the order of the file, and for each pair, in the order of its first segment, its last opening.
+#[derive(Drop)]
+pub(crate) struct Listing {
+    pub(crate) pairs: IndexSet<Pair>,
+    pub(crate) lasts: Vec<Option<Opening>>,
+    pub(crate) entries: Vec<Entry>,
+}
+
+impl Listing {
+    ghost use Rattle.std.specs.Prelude.{◌≡◌, ◌+◌, ◌<◌, ◌≤◌, ◌^◌, ℕ, [], ◌∷◌, ◌++◌, length, slice_get, Some, OnOk, IfOk};
+    ghost use Rattle.frame_headers.specs.Frame.{frame_class, segment, segment_fields, payload_offset};
+    ghost use Rattle.frame_headers.specs.Class.{fields_of_segment};
+    ghost use Rattle.conn_table.specs.declared.pair.Pair.{Pair};
+    ghost use Rattle.conn_table.specs.KeptSegments.{begins_behind, lasts_after, kept_at, segment_read};
+    ghost use Rattle.conn_table.specs.Partials.{kept_of, mark_behind, marked_behind};
+    ghost use Rattle.conn_table.specs.Listings.{IsListing, AreGroupsOf, marks_of, segment_of};
+
+    // No segments, with room for so many.
+    pub(crate) fn with_room(alloc: Global, room: usize) -> Result<Listing, AllocError>
+        ensures listing { IfOk result IsListing }
+        ensures empty { IfOk result (λ l. l.entries.items ≡ []) }
+        ensures pairs { IfOk result (λ l. l.pairs.keys ≡ []) }
+    {
+        let entries = Vec::with_capacity(alloc, room)?;
+        Ok(Listing {
+            pairs: IndexSet::new(alloc),
+            lasts: Vec::new(alloc),
+            entries,
+        })
+    }
+
+    // The number of a pair's group, which is made where there is none.
+    pub(crate) fn group_of(&mut self, pair: Pair) -> Result<u32, AllocError>
+        requires listing { IsListing self.old }
+        requires few { length self.old.pairs.keys < 2 ^ 31 }
+        ensures listing { OnOk result (IsListing self.new) }
+        ensures marks { OnOk result (marks_of self.new ≡ marks_of self.old) }
+        ensures entries { OnOk result (self.new.entries.items ≡ self.old.entries.items) }
+        ensures pair { IfOk result (λ g. slice_get self.new.pairs.keys g ≡ Some pair) }
+        ensures grown { OnOk result (length self.new.pairs.keys ≤ length self.old.pairs.keys + 1) }
+
+        // The groups that there were keep their numbers.
+        ensures kept { OnOk result ((g : ℕ) (p : Pair)
+            → slice_get self.old.pairs.keys g ≡ Some p → slice_get self.new.pairs.keys g ≡ Some p) }
+    {
+        let (place, is_new) = self.pairs.insert_full(pair)?;
+        if is_new {
+            self.lasts.push(None)?;
+        }
+        Ok(place as u32)
+    }
+
+    // Lists one segment more, with the mark whether it begins a connection.
+    pub(crate) fn add(&mut self, entry: Entry) -> Result<(), AllocError>
+        requires listing { IsListing self.old }
+        requires group { entry.group < length self.old.pairs.keys }
+        ensures listing { OnOk result (IsListing self.new) }
+        ensures pairs { OnOk result (self.new.pairs ≡ self.old.pairs) }
+        ensures len { OnOk result (length self.new.entries.items ≡ length self.old.entries.items + 1) }
+        ensures marks { OnOk result (marks_of self.new
+            ≡ marks_of self.old ++ mark_behind (kept_of (marks_of self.old)) (segment_of self.old.pairs.keys entry) ∷ []) }
+    {
+        let begins = self.takes_opening(&entry);
+        self.entries.push(Entry { begins, ..entry })?;
+        Ok(())
+    }
+
+    // Whether an entry begins a connection. Its opening becomes the last one of its pair.
+    fn takes_opening(&mut self, entry: &Entry) -> bool
+        requires listing { IsListing self.old }
+        requires group { entry.now.group < length self.old.pairs.keys }
+        ensures begins { result ≡ begins_behind (kept_of (marks_of self.old)) (segment_of self.old.pairs.keys entry.now) }
+        ensures pairs { self.new.pairs ≡ self.old.pairs }
+        ensures entries { self.new.entries.items ≡ self.old.entries.items }
+        ensures lasts { self.new.lasts.items
+            ≡ lasts_after self.old.lasts.items (segment_of self.old.pairs.keys entry.now) entry.now.group }
+    {
+        if !entry.opens() {
+            return false;
+        }
+        let opening = entry.opening();
+        let last = self.lasts[entry.group as usize].replace(opening);
+        !last.is_some_and(|last| last.is_same(opening))
+    }
+
+    // Lists the segment in a packet, which begins at `start` in the file.
+    pub(crate) fn list_segment(
+        &mut self,
+        index: u32,
+        at: Moment,
+        start: u32,
+        packet: &[u8],
+        fields: &Segment<'_>,
+    ) -> Result<(), AllocError>
+        requires listing { IsListing self.old }
+        requires few { length self.old.pairs.keys < 2 ^ 31 }
+        requires class { frame_class packet.now ≡ segment }
+        requires fields { fields_of_segment fields.now ≡ segment_fields packet.now }
+        requires within { start + length packet.now < 2 ^ 32 }
+        ensures listing { OnOk result (IsListing self.new) }
+        ensures len { OnOk result (length self.new.entries.items ≡ length self.old.entries.items + 1) }
+        ensures grown { OnOk result (length self.new.pairs.keys ≤ length self.old.pairs.keys + 1) }
+        ensures marks { OnOk result (marks_of self.new
+            ≡ marks_of self.old ++ mark_behind (kept_of (marks_of self.old))
+            (kept_at (start + payload_offset packet.now) (segment_read index at packet.now)) ∷ []) }
+    {
+        let place = payload_place(packet);
+        let group = self.group_of(pair_of(fields.from, fields.to))?;
+        self.add(Entry {
+            at,
+            index,
+            group,
+            seq: fields.seq,
+            start: start + u32::from(place.offset),
+            len: place.len,
+            flags: fields.flags,
+            from_low: is_lower_or_same(fields.from, fields.to),
+            begins: false,
+        })
+    }
+
+    // Lists another listing's segments behind these, marked as they begin connections there.
+    pub(crate) fn append(&mut self, next: &Listing) -> Result<(), AllocError>
+        requires listing { IsListing self.old }
+        requires next { IsListing next.now }
+        requires few { length self.old.pairs.keys + length next.now.pairs.keys < 2 ^ 31 }
+        ensures listing { OnOk result (IsListing self.new) }
+        ensures len { OnOk result (length self.new.entries.items ≡ length self.old.entries.items + length next.now.entries.items) }
+        ensures grown { OnOk result (length self.new.pairs.keys ≤ length self.old.pairs.keys + length next.now.pairs.keys) }
+        ensures marks { OnOk result (marks_of self.new
+            ≡ marks_of self.old ++ marked_behind (kept_of (marks_of self.old)) (kept_of (marks_of next.now))) }
+    {
+        let groups = self.groups_of(next.pairs.as_slice())?;
+        for entry in &next.entries {
+            let group = groups[entry.group as usize];
+            self.add(Entry { group, ..*entry })?;
+        }
+        Ok(())
+    }
+
+    // For each of some pairs the number of its group here.
+    fn groups_of(&mut self, pairs: &[Pair]) -> Result<Vec<u32>, AllocError>
+        requires listing { IsListing self.old }
+        requires few { length self.old.pairs.keys + length pairs.now < 2 ^ 31 }
+        ensures listing { OnOk result (IsListing self.new) }
+        ensures marks { OnOk result (marks_of self.new ≡ marks_of self.old) }
+        ensures entries { OnOk result (self.new.entries.items ≡ self.old.entries.items) }
+        ensures grown { OnOk result (length self.new.pairs.keys ≤ length self.old.pairs.keys + length pairs.now) }
+        ensures groups { IfOk result (λ groups. AreGroupsOf self.new.pairs.keys groups.items pairs.now) }
+    {
+        let alloc = *self.entries.allocator();
+        let mut groups = Vec::with_capacity(alloc, pairs.len())?;
+        for pair in pairs {
+            groups.push(self.group_of(*pair)?)?;
+        }
+        Ok(groups)
+    }
+}

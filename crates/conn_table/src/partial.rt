@@ -1,0 +1,101 @@
+//! The part of a table that a range of records gives.
+use crate::class_counts::Counts;
+use crate::listing::Listing;
+use frame_headers::{Class, classify};
+use pcap_records::{Capture, Moment};
+use std::alloc::{AllocError, Global};
+use std::marker::Model;
+
+/// What is known of a range of records: how many of its packets are of each class, and its segments, each with the mark whether
+/// it begins a connection as read on the range alone. The partials of adjacent ranges are joined by [`Partial::join`].
+#[derive(Drop)]
+pub struct Partial {
+    pub(crate) from: usize,
+    pub(crate) to: usize,
+    pub(crate) counts: Counts,
+    pub(crate) listing: Listing,
+}
+
+impl Model for Partial {
+    ghost use Rattle.conn_table.specs.Partials.{PartialView};
+
+    ghost Value = { PartialView };
+
+    ghost use Rattle.conn_table.specs.Listings.{IsPartial, marks_of};
+
+    ghost view = { λ p. record { from = p.from; to = p.to; counts = p.counts; marked = marks_of p.listing } };
+
+    ghost invariant = { λ p. IsPartial p.from p.to p.counts p.listing };
+}
+
+impl Partial {
+    ghost use Rattle.std.specs.Prelude.{◌≡◌, ◌≤◌, length, IfOk};
+    ghost use Rattle.conn_table.specs.Partials.{partial_in, joined};
+
+    /// The partial of the records from `from` to below `to`, each packet of which is classified once. `carry` is the greatest
+    /// stamp before `from`, or the least instant where there is none.
+    ///
+    /// # Errors
+    /// A growth was refused.
+    pub fn of_range(
+        alloc: Global,
+        capture: &Capture<'_>,
+        from: usize,
+        to: usize,
+        carry: Moment,
+    ) -> Result<Partial, AllocError>
+        requires ordered { from ≤ to }
+        requires within { to ≤ length capture.now.records }
+        ensures exact { IfOk result (λ partial. partial ≡ partial_in capture.now from to carry) }
+        ensures from { IfOk result (λ partial. partial.from ≡ from) }
+        ensures to { IfOk result (λ partial. partial.to ≡ to) }
+    {
+        let records = capture.records();
+        let mut counts = Counts::none();
+        let mut listing = Listing::with_room(alloc, to - from)?;
+        let mut at = carry;
+        for index in from..to {
+            let record = records[index];
+            let packet = capture.packet(index);
+            let class = classify(packet);
+            at = at.greater(record.stamp);
+            counts.add(&class);
+            if let Class::Segment(fields) = class {
+                listing.list_segment(index as u32, at, record.start, packet, &fields)?;
+            }
+        }
+        Ok(Partial {
+            from,
+            to,
+            counts,
+            listing,
+        })
+    }
+
+    /// The partial of two adjacent ranges: the right one begins where the left one ends, and is of the same capture. It takes
+    /// time by the size of the right one.
+    ///
+    /// # Errors
+    /// A growth was refused.
+    pub fn join(left: Partial, right: Partial) -> Result<Partial, AllocError>
+        requires { left.to ≡ right.from }
+        ensures exact { IfOk result (λ partial. partial ≡ joined left right) }
+        ensures from { IfOk result (λ partial. partial.from ≡ left.from) }
+        ensures to { IfOk result (λ partial. partial.to ≡ right.to) }
+    {
+        let Partial {
+            from,
+            to: _,
+            counts,
+            mut listing,
+        } = left;
+        let counts = counts.plus(right.counts);
+        listing.append(&right.listing)?;
+        Ok(Partial {
+            from,
+            to: right.to,
+            counts,
+            listing,
+        })
+    }
+}

@@ -1,0 +1,77 @@
+//! The table of a capture's connections.
+use crate::class_counts::Counts;
+use crate::conns::Conn;
+use crate::growth::{Growth, rooms_of};
+use crate::partial::Partial;
+use std::alloc::{AllocError, Global};
+use std::marker::Model;
+
+/// The connections of a capture's records, in the order of their beginnings.
+#[derive(Drop)]
+pub struct Table {
+    conns: Vec<Conn>,
+    unopened: u64,
+    counts: Counts,
+}
+
+impl Model for Table {
+    ghost use Rattle.conn_table.specs.Tables.{TableView};
+
+    ghost Value = { TableView };
+
+    ghost view = { λ t. record { conns = t.conns.items; unopened = t.unopened; counts = t.counts } };
+}
+
+impl Table {
+    ghost use Rattle.std.specs.Prelude.{◌≡◌};
+
+    /// The connections, in the order of their numbers: that of number n is at place n.
+    pub fn conns(&self) -> &[Conn]
+        ensures { result.now ≡ self.now.conns }
+    {
+        &self.conns
+    }
+
+    /// How many segments stand before each beginning of their pair, and so belong to no connection.
+    pub fn unopened(&self) -> u64
+        ensures { result ≡ self.now.unopened }
+    {
+        self.unopened
+    }
+
+    /// How many packets are of each class.
+    pub fn counts(&self) -> Counts
+        ensures { result ≡ self.now.counts }
+    {
+        self.counts
+    }
+}
+
+ghost use Rattle.std.specs.Prelude.{◌≡◌, IfOk};
+ghost use Rattle.conn_table.specs.Tables.{finished};
+
+/// The table of a partial, which covers all records of the capture: each segment that is marked begins a connection, and the
+/// others belong to the last one of their pair, or to none.
+///
+/// # Errors
+/// A growth was refused.
+pub fn finish(alloc: Global, partial: Partial) -> Result<Table, AllocError>
+    ensures { IfOk result (λ table. table ≡ finished partial) }
+{
+    let listing = &partial.listing;
+    let rooms = rooms_of(alloc, listing)?;
+    let mut growth = Growth::of_groups(alloc, listing)?;
+    for at in 0..listing.entries.len() {
+        growth.take(alloc, listing, at, &rooms)?;
+    }
+    let Growth {
+        conns,
+        current: _,
+        unopened,
+    } = growth;
+    Ok(Table {
+        conns,
+        unopened,
+        counts: partial.counts,
+    })
+}

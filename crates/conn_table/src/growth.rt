@@ -27,13 +27,17 @@ impl Growth {
     ghost use Rattle.conn_table.specs.Listings.{IsListing, segment_with};
     ghost use Rattle.conn_table.specs.Growing.{HasGrown, grown_at};
 
-    // No connections yet, where there are so many groups.
-    pub(crate) fn of_groups(alloc: Global, listing: &Listing) -> Result<Growth, AllocError>
+    // No connections yet, and room for so many.
+    pub(crate) fn with_room(
+        alloc: Global,
+        listing: &Listing,
+        room: usize,
+    ) -> Result<Growth, AllocError>
         ensures { IfOk result (HasGrown listing.now 0) }
     {
         let current = vec![in alloc; None; listing.pairs.len()]?;
         Ok(Growth {
-            conns: Vec::new(alloc),
+            conns: Vec::with_capacity(alloc, room)?,
             current,
             unopened: 0,
         })

@@ -60,7 +60,7 @@ pub fn finish(alloc: Global, partial: Partial) -> Result<Table, AllocError>
 {
     let listing = &partial.listing;
     let rooms = rooms_of(alloc, listing)?;
-    let mut growth = Growth::of_groups(alloc, listing)?;
+    let mut growth = Growth::with_room(alloc, listing, rooms.len())?;
     for at in 0..listing.entries.len() {
         growth.take(alloc, listing, at, &rooms)?;
     }

@@ -91,6 +91,15 @@ impl<'a> Capture<'a> {
         &bytes[start..start + record.len as usize]
     }
 
+    /// The bytes of the file.
+    pub fn bytes(&self) -> &'a [u8]
+        ensures bytes { result.now ≡ self.now.bytes }
+        ensures sound { IsSoundCapture self.now.ticks self.now.bytes self.now.records }
+        ensures ticks { self.now.ticks ≡ microseconds }
+    {
+        self.bytes
+    }
+
     /// For each record from `from` to below `to`, the greatest of `carry` and the stamps from record `from` to
     /// that one: where `carry` is the greatest stamp before `from`, the greatest stamp of the file so far.
     pub fn times(

@@ -1,0 +1,15 @@
+pub mod SpanBytes
+pub mod Merging
+pub mod Turns
+pub mod Walks
+pub mod Halves
+pub mod Taking
+pub mod Counting
+pub mod Joining
+pub mod SideMaking
+pub mod MappedLists
+pub mod RecordedSegments
+pub mod ConnectionJoin
+pub mod Chunks
+pub mod OfCapture
+pub mod LinesMade

@@ -1,0 +1,118 @@
+-- The recorded line of each side of a connection.
+use Rattle.std.specs.Prelude.{ℕ, ◌+◌, ◌-◌, ◌==◌, min, max, Bool, ◌&&◌, ◌||◌, not, nat_le, if◌then◌else◌, List, [], map, filter, find, Option, Some, None}
+use Rattle.std.specs.List.{range_with_len}
+use Rattle.frame_headers.specs.declared.peers.Peer.{Peer}
+use Rattle.frame_headers.specs.Flags.{has_flag, fin_flag}
+use Rattle.conn_table.specs.IndexedSegments.{TimedSegment, same_peer}
+use Rattle.conn_table.specs.Connections.{Connection}
+use Rattle.reassembly.specs.Positions.{members_of, effective_members, is_reset, client_base, server_base, client_of, server_of}
+use Rattle.reassembly.specs.RecordedBytes.{origin, end_place, first_gap, value_at, available_at, covered_count}
+
+-- ---- lines
+
+-- a byte, its instant, and whether a chunk starts with it
+pub record LineByte : Type 0 where
+  pub value : ℕ
+  pub at : ℕ
+  pub starts : Bool
+
+-- how a direction ends: not at all, or by a FIN that was recorded, by a close or by a reset, at an instant
+pub data End : Type 0 where
+  live : End
+  fin : ℕ → End
+  close : ℕ → End
+  reset : ℕ → End
+
+-- the bytes of one direction, and its end
+pub record Line : Type 0 where
+  pub bytes : List LineByte
+  pub end : End
+
+abbrev pub empty_line : Line
+empty_line = record { bytes = []; end = live }
+
+-- ---- what was recorded
+
+-- what a side sent, as far as it can be told, and how many of its bytes lie behind the first gap
+pub record RecordedSide : Type 0 where
+  pub line : Line
+  pub lost : ℕ
+
+-- a FIN stands behind its segment's payload, and counts where that is position 0 or later
+abbrev pub is_counted_fin : ℕ → TimedSegment → Bool
+is_counted_fin base m = has_flag m.fields.flags fin_flag && nat_le origin (end_place base m)
+
+-- the first of them in the file ends the line
+abbrev pub closing_segment : ℕ → List TimedSegment → Option TimedSegment
+closing_segment base members = find (is_counted_fin base) members
+
+abbrev pub fin_position : ℕ → TimedSegment → ℕ
+fin_position base m = end_place base m - origin
+
+-- the bytes before the first gap, and before the FIN
+abbrev pub length_before : ℕ → Option TimedSegment → ℕ → ℕ
+length_before base None gap = gap
+length_before base (Some m) gap = min (fin_position base m) gap
+
+abbrev pub line_length : ℕ → List TimedSegment → ℕ
+line_length base members = length_before base (closing_segment base members) (first_gap base members)
+
+-- a byte is available when it and all before it have come; a chunk starts where that instant changes
+abbrev pub byte_at : ℕ → List TimedSegment → ℕ → LineByte
+byte_at base members x = record {
+  value = value_at base members x;
+  at = available_at base members (x + 1);
+  starts = x == 0 || not (available_at base members (x + 1) == available_at base members x);
+}
+
+-- by the FIN where no byte before it is missing, when it and these had come; else as the connection ends
+abbrev pub end_at : ℕ → ℕ → ℕ → End → Option TimedSegment → End
+end_at base n latest other None = other
+end_at base n latest other (Some m) = if n == fin_position base m then fin (max m.at latest) else other
+
+abbrev pub reset_or_live : Option TimedSegment → End
+reset_or_live None = live
+reset_or_live (Some m) = reset m.at
+
+abbrev pub sent_by : Peer → List TimedSegment → List TimedSegment
+sent_by sender members = filter (λ m. same_peer m.fields.from sender) members
+
+-- the side that a sender's segments make, of a connection that else ends so
+abbrev pub side_of : ℕ → List TimedSegment → End → RecordedSide
+side_of base members other =
+    let n = line_length base members in
+    record {
+      line = record {
+        bytes = map (byte_at base members) (range_with_len 0 n);
+        end = end_at base n (available_at base members n) other (closing_segment base members);
+      };
+      lost = covered_count base members n;
+    }
+
+-- What a sender's effective members make, counted from a base. Without a base no byte has a position. A reset of either side
+-- ends the line, unless it is whole.
+unfoldable pub recorded_side : List TimedSegment → Peer → Option ℕ → RecordedSide
+recorded_side members sender None = record { line = record { bytes = []; end = reset_or_live (find is_reset members) }; lost = 0 }
+recorded_side members sender (Some base) = side_of base (sent_by sender (effective_members members)) (reset_or_live (find is_reset members))
+
+pub record RecordedConnection : Type 0 where
+  pub up : RecordedSide
+  pub down : RecordedSide
+  pub client_base : ℕ
+  pub server_base : Option ℕ
+  pub opened : ℕ
+  pub mac_client : List ℕ
+  pub mac_server : List ℕ
+
+-- the client's line goes up, the server's down; the connection is opened at the instant of its beginning, whose
+-- Ethernet addresses are those of the two hosts
+abbrev pub recorded_connection : Connection → RecordedConnection
+recorded_connection c = record {
+  up = recorded_side (members_of c) (client_of c) (Some (client_base c));
+  down = recorded_side (members_of c) (server_of c) (server_base c);
+  client_base = client_base c;
+  server_base = server_base c;
+  opened = c.opening.at;
+  mac_client = c.opening.fields.mac_from;
+  mac_server = c.opening.fields.mac_to;
+}

@@ -1,0 +1,74 @@
+-- Spans: bytes from a position on, with the instant at which they were captured; and what a list of spans has for each position.
+use Rattle.std.specs.Prelude.{◌≤◌, ◌<◌, ℕ, ◌+◌, ◌-◌, List, [], ◌∷◌, map, length, take, drop, Option, None, option_map, slice_get, nat_le, if◌then◌else◌}
+use Rattle.std.specs.Option.{option_or}
+use Rattle.reassembly.specs.declared.patches.Patch.{Patch}
+
+pub record Span : Type 0 where
+  pub from : ℕ
+  pub at : ℕ
+  pub bytes : List ℕ
+
+-- a byte and its instant
+pub record TimedByte : Type 0 where
+  pub value : ℕ
+  pub at : ℕ
+
+-- no position of a connection's bytes reaches it: 2^33
+abbrev pub limit : ℕ
+limit = 8589934592
+
+-- where a span ends
+abbrev pub end_of : Span → ℕ
+end_of p = p.from + length p.bytes
+
+-- what a span has for position x
+abbrev pub byte_in : Span → ℕ → Option TimedByte
+byte_in p x =
+    if nat_le p.from x then option_map (λ b. record { value = b; at = p.at }) (slice_get p.bytes (x - p.from)) else None
+
+-- what the first span that covers position x has for it
+abbrev pub first_byte : List Span → ℕ → Option TimedByte
+first_byte [] x = None
+first_byte (p ∷ ps) x = option_or (byte_in p x) (first_byte ps x)
+
+-- what two lists have for position x, the first one before the second
+abbrev pub layered_byte : List Span → List Span → ℕ → Option TimedByte
+layered_byte upper lower x = option_or (first_byte upper x) (first_byte lower x)
+
+-- the positions of a span below n, and those from n on
+abbrev pub front_of : ℕ → Span → Span
+front_of n p = record { from = p.from; at = p.at; bytes = take (n - p.from) p.bytes }
+
+abbrev pub back_of : ℕ → Span → Span
+back_of n p = record { from = p.from + (n - p.from); at = p.at; bytes = drop (n - p.from) p.bytes }
+
+-- no span, where it has no bytes
+abbrev pub with_bytes : Span → List ℕ → List Span
+with_bytes p [] = []
+with_bytes p (b ∷ bytes) = p ∷ []
+
+abbrev pub unless_empty : Span → List Span
+unless_empty p = with_bytes p p.bytes
+
+-- the positions of a list's first span from `floor` on, and its other spans
+abbrev pub spans_from : ℕ → List Span → List Span
+spans_from floor [] = []
+spans_from floor (r ∷ rs) = back_of floor r ∷ rs
+
+-- none is empty, the first begins at `low` or behind, each other at the end of the one before or behind, the last ends by `high`
+abbrev pub AreOrdered : ℕ → List Span → ℕ → Type 0
+AreOrdered low [] high = low ≤ high
+AreOrdered low (p ∷ ps) high = (low ≤ p.from) × (0 < length p.bytes) × AreOrdered (end_of p) ps high
+
+-- none is empty, and all end by the limit
+abbrev pub AreNear : List Span → Type 0
+AreNear [] = Unit {0}
+AreNear (p ∷ ps) = (0 < length p.bytes) × (end_of p ≤ limit) × AreNear ps
+
+-- ---- of the code
+
+abbrev pub span_of : Patch → Span
+span_of p = record { from = p.from; at = p.at; bytes = p.bytes.now }
+
+abbrev pub spans : List Patch → List Span
+spans ps = map span_of ps

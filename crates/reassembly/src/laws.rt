@@ -1,0 +1,21 @@
+//! Theorems about the definitions of this crate. Each function does nothing: its contract is the theorem.
+ghost use Rattle.reassembly.specs.LineLaws.{RecordedSidesAreLines};
+ghost use Rattle.reassembly.specs.CaptureConnections.{ConnectionsAreOfCapture, ConnsAreOfCapture};
+
+/// The connections of the segments in a range of a capture's records, as the table lists them, are those of which `lines` tells
+/// what was sent: their segments are recorded in the capture, go between two peers, and have instants that do not fall.
+pub fn connections_are_of_capture()
+    ensures { ConnectionsAreOfCapture }
+{}
+
+/// So `lines` may be called with each connection that the table of a range shows.
+pub fn conns_are_of_capture()
+    ensures { ConnsAreOfCapture }
+{}
+
+/// In a recorded line a chunk starts with the first byte, instants never fall, the bytes of a chunk have one instant, an end is
+/// not before the last byte, and there are fewer than 2^32 bytes. The instants of the connection's segments do not fall in the
+/// order of the file, and no payload is longer than a capture.
+pub fn recorded_sides_are_lines()
+    ensures { RecordedSidesAreLines }
+{}

@@ -1,0 +1,101 @@
+//! Lines: the bytes of one direction of a connection with their instants, as slices, and how the direction ends.
+ghost use Rattle.std.specs.Prelude.{◌≡◌, ◌++◌, [], ◌∷◌, IfOk, OnOk};
+ghost use Rattle.reassembly.specs.LineView.{bytes_of_parts, bytes_with_mark};
+
+use pcap_records::Moment;
+use std::alloc::{AllocError, Global};
+use std::marker::Model;
+use std::slice;
+
+/// Bytes of a line that became available at one instant.
+#[derive(Clone, Copy, Debug, PartialEq, Eq)]
+pub struct LinePart<'a> {
+    /// When they became available.
+    pub at: Moment,
+    /// Whether a chunk starts with the first of them.
+    pub starts: bool,
+    /// The bytes.
+    pub bytes: &'a [u8],
+}
+
+/// How a direction ends.
+#[derive(Clone, Copy, Debug, PartialEq, Eq)]
+pub enum End {
+    /// Not at all.
+    Live,
+    /// By a FIN of its peer.
+    Fin(Moment),
+    /// By a close of a proxy.
+    Close(Moment),
+    /// By a reset.
+    Reset(Moment),
+}
+
+/// A line: the bytes of its parts in turn, each at its part's instant, and its end. Contracts see the bytes one by one.
+#[derive(Debug, Drop)]
+pub struct Line<'a> {
+    parts: Vec<LinePart<'a>>,
+    end: End,
+}
+
+impl<'a> Model for Line<'a> {
+    ghost use Rattle.reassembly.specs.LineView.{LineView, line_view};
+
+    ghost Value = { LineView };
+
+    ghost view = { λ l. line_view l.parts.items l.end };
+}
+
+impl<'a> Line<'a> {
+    ghost use Rattle.reassembly.specs.LineView.{line_view, bytes_of_parts, end_view};
+
+    /// The line of these parts and this end.
+    pub fn of_parts(parts: Vec<LinePart<'a>>, end: End) -> Line<'a>
+        ensures { result ≡ line_view parts.entry.items end }
+    {
+        Line { parts, end }
+    }
+
+    /// Its parts.
+    pub fn parts(&self) -> &[LinePart<'a>]
+        ensures { bytes_of_parts result.now ≡ self.now.line.bytes }
+    {
+        &self.parts
+    }
+
+    /// Its parts as a `Vec`.
+    pub fn into_parts(self) -> Vec<LinePart<'a>>
+        ensures { bytes_of_parts result.items ≡ self.entry.line.bytes }
+    {
+        self.parts
+    }
+
+    /// Its end.
+    pub fn end(&self) -> End
+        ensures { end_view result ≡ self.now.line.end }
+    {
+        self.end
+    }
+
+    /// The same line; its parts share the slices.
+    pub fn copy(&self, alloc: Global) -> Result<Line<'a>, AllocError>
+        ensures { IfOk result (λ line. line ≡ self.now) }
+    {
+        let parts = Vec::from_slice(alloc, &self.parts)?;
+        Ok(Line {
+            parts,
+            end: self.end,
+        })
+    }
+}
+
+// Adds a part.
+pub(crate) fn add_part<'a>(
+    parts: &mut Vec<LinePart<'a>>,
+    part: &LinePart<'a>,
+) -> Result<(), AllocError>
+    ensures { OnOk result (bytes_of_parts parts.new.items ≡ bytes_of_parts parts.old.items ++ bytes_with_mark part.now.at part.now.starts part.now.bytes.now) }
+{
+    parts.extend_from_slice(slice::from_ref(part))?;
+    Ok(())
+}

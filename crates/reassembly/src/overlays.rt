@@ -1,0 +1,102 @@
+//! Ordered lists of patches, of which no two overlap: one laid over another, and one made of patches in any order.
+ghost use Rattle.std.specs.Prelude.{◌≡◌, ◌≤◌, ◌<◌, ◌++◌, true, false, ℕ, length, drop, IfOk, OnOk};
+ghost use Rattle.reassembly.specs.Spans.{spans, limit, first_byte, layered_byte, AreOrdered, AreNear, spans_from};
+
+use crate::patches::{Patch, add, back, end, front, keep, patch_at};
+use std::alloc::{AllocError, Global};
+
+/// Lays ordered patches over others: where both cover a position, the left ones count.
+pub(crate) fn overlay<'a>(
+    alloc: Global,
+    left: &[Patch<'a>],
+    right: &[Patch<'a>],
+) -> Result<Vec<Patch<'a>>, AllocError>
+    requires left_ordered { AreOrdered 0 (spans left.now) limit }
+    requires right_ordered { AreOrdered 0 (spans right.now) limit }
+    ensures same { IfOk result (λ merged. (x : ℕ) → first_byte (spans merged.items) x ≡ layered_byte (spans left.now) (spans right.now) x) }
+    ensures ordered { IfOk result (λ merged. AreOrdered 0 (spans merged.items) limit) }
+{
+    let mut merged = Vec::new(alloc);
+    let mut i = 0;
+    let mut j = 0;
+    let mut floor = 0;
+    'merge: while i < left.len() && j < right.len() {
+        let upper = patch_at(left, i);
+        let lower = back(&patch_at(right, j), floor);
+        let upper_end = end(&upper);
+        let lower_end = end(&lower);
+        let before = front(&lower, upper.from);
+        keep(&mut merged, &before)?;
+        if lower_end <= upper_end {
+            j += 1;
+        } else {
+            add(&mut merged, &upper)?;
+            i += 1;
+            floor = upper_end;
+        }
+    }
+    add_all(&mut merged, left, i)?;
+    add_rest(&mut merged, right, j, floor)?;
+    Ok(merged)
+}
+
+// Adds the patches from number `i` on.
+fn add_all<'a>(patches: &mut Vec<Patch<'a>>, more: &[Patch<'a>], i: usize) -> Result<(), AllocError>
+    requires { i ≤ length more.now }
+    ensures { OnOk result (spans patches.new.items ≡ spans patches.old.items ++ spans (drop i more.now)) }
+{
+    patches.extend_from_slice(&more[i..])?;
+    Ok(())
+}
+
+// Adds the patches from number `j` on, of the first one the positions from `floor` on.
+fn add_rest<'a>(
+    patches: &mut Vec<Patch<'a>>,
+    more: &[Patch<'a>],
+    j: usize,
+    floor: usize,
+) -> Result<(), AllocError>
+    requires { j ≤ length more.now }
+    ensures { OnOk result (spans patches.new.items ≡ spans patches.old.items ++ spans_from floor (spans (drop j more.now))) }
+{
+    if j < more.len() {
+        let first = back(&patch_at(more, j), floor);
+        add(patches, &first)?;
+        add_all(patches, more, j + 1)?;
+    }
+    Ok(())
+}
+
+/// Orders patches: where several cover a position, the first in the list counts.
+pub(crate) fn gather<'a>(alloc: Global, patches: &[Patch<'a>]) -> Result<Vec<Patch<'a>>, AllocError>
+    requires { AreNear (spans patches.now) }
+    ensures same { IfOk result (λ gathered. (x : ℕ) → first_byte (spans gathered.items) x ≡ first_byte (spans patches.now) x) }
+    ensures ordered { IfOk result (λ gathered. AreOrdered 0 (spans gathered.items) limit) }
+{
+    if is_in_order(patches) {
+        return Vec::from_slice(alloc, patches);
+    }
+    let (earlier, later) = patches.split_at(patches.len() / 2);
+    let left = gather(alloc, earlier)?;
+    let right = gather(alloc, later)?;
+    overlay(alloc, &left, &right)
+}
+
+// Whether each patch begins at or behind the end of the one before. One patch alone does.
+fn is_in_order(patches: &[Patch]) -> bool
+    requires { AreNear (spans patches.now) }
+    ensures ordered { result ≡ true → AreOrdered 0 (spans patches.now) limit }
+    ensures several { result ≡ false → 1 < length patches.now }
+{
+    let mut i = 0;
+    let mut past = 0;
+    'order: while i < patches.len() {
+        let patch = patch_at(patches, i);
+        if patch.from < past {
+            return false;
+        }
+        past = end(&patch);
+        i += 1;
+    }
+    true
+}

@@ -1,0 +1,103 @@
+//! The patches of a side, in one pass over the connection's members.
+ghost use Rattle.std.specs.Prelude.{◌≡◌, ◌≤◌, ℕ, IfOk, All, max, nat_lt, if◌then◌else◌};
+ghost use Rattle.std.specs.Option.{option_or};
+ghost use Rattle.reassembly.specs.Spans.{span_of, spans, end_of, limit, byte_in, first_byte, layered_byte, AreOrdered};
+ghost use Rattle.reassembly.specs.Passes.{Taken};
+ghost use Rattle.reassembly.specs.MemberSpans.{IsInFile, member_spans, own_members};
+
+use crate::overlays::{gather, overlay};
+use crate::patches::{Patch, back, end, front, keep};
+use crate::positions::patch_of;
+use conn_table::Member;
+use std::alloc::{AllocError, Global};
+
+/// From `since` to `high`, the end of all patches so far, no position is missing.
+#[derive(Clone, Copy)]
+struct Run {
+    since: usize,
+    high: usize,
+}
+
+/// The patches of one side's members, in order: where several cover a position, the first in the file counts.
+pub(crate) fn side_patches<'a>(
+    alloc: Global,
+    base: u32,
+    client: bool,
+    members: &[Member],
+    file: &'a [u8],
+) -> Result<Vec<Patch<'a>>, AllocError>
+    requires { All (IsInFile file.now) members.now }
+    ensures same { IfOk result (λ patches. (x : ℕ) → first_byte (spans patches.items) x ≡ first_byte (member_spans base file.entry.now (own_members client members.now)) x) }
+    ensures ordered { IfOk result (λ patches. AreOrdered 0 (spans patches.items) limit) }
+{
+    let mut whole = Vec::new(alloc);
+    let mut late = Vec::new(alloc);
+    let mut run = Run { since: 0, high: 0 };
+    'pass: for member in members {
+        if member.from_client == client {
+            let patch = patch_of(base, member, file);
+            run = take(&mut whole, &mut late, run, &patch)?;
+        }
+    }
+    settle(alloc, whole, &late, run)
+}
+
+// Takes a patch in: behind the others where it goes on or leaves a gap, among the late ones as far as it may fill one.
+fn take<'a>(
+    whole: &mut Vec<Patch<'a>>,
+    late: &mut Vec<Patch<'a>>,
+    run: Run,
+    patch: &Patch<'a>,
+) -> Result<Run, AllocError>
+    requires near { end_of (span_of patch.now) ≤ limit }
+    requires state { Taken (spans whole.old.items) (spans late.old.items) run.since run.high }
+    ensures state { IfOk result (λ run. Taken (spans whole.new.items) (spans late.new.items) run.since run.high) }
+    ensures same { IfOk result (λ run. (x : ℕ) → layered_byte (spans whole.new.items) (spans late.new.items) x ≡ option_or (layered_byte (spans whole.old.items) (spans late.old.items) x) (byte_in (span_of patch.now) x)) }
+{
+    if patch.bytes.is_empty() {
+        return Ok(run);
+    }
+    if patch.from < run.since {
+        let aside = front(patch, run.high);
+        keep(late, &aside)?;
+    }
+    let rest = back(patch, run.high);
+    keep(whole, &rest)?;
+    let since = run_since(patch.from, run);
+    Ok(Run {
+        since,
+        high: greater(run.high, end(patch)),
+    })
+}
+
+// The beginning of the run behind a patch that begins at a position.
+fn run_since(from: usize, run: Run) -> usize
+    ensures { result ≡ (if nat_lt run.high from then from else run.since) }
+{
+    if from > run.high { from } else { run.since }
+}
+
+// The greater of two positions.
+fn greater(a: usize, b: usize) -> usize
+    ensures { result ≡ max a b }
+{
+    if a < b { b } else { a }
+}
+
+// The ordered patches with the late ones under them.
+fn settle<'a>(
+    alloc: Global,
+    whole: Vec<Patch<'a>>,
+    late: &[Patch<'a>],
+    run: Run,
+) -> Result<Vec<Patch<'a>>, AllocError>
+    requires { Taken (spans whole.items) (spans late.now) run.since run.high }
+    ensures same { IfOk result (λ patches. (x : ℕ) → first_byte (spans patches.items) x ≡ layered_byte (spans whole.entry.items) (spans late.now) x) }
+    ensures ordered { IfOk result (λ patches. AreOrdered 0 (spans patches.items) limit) }
+{
+    if late.is_empty() {
+        return Ok(whole);
+    }
+    let lower = gather(alloc, late)?;
+    overlay(alloc, &whole, &lower)
+}

@@ -1,0 +1,98 @@
+//! The positions of members' payloads and FINs (RFC 9293 section 3.4).
+ghost use Rattle.std.specs.Prelude.{◌≡◌, ◌≤◌, ◌<◌, ◌+◌, ◌-◌, length, find, position, option_map, IfSome, not};
+ghost use Rattle.reassembly.specs.RecordedBytes.{place, origin};
+ghost use Rattle.reassembly.specs.Spans.{span_of, end_of, limit};
+ghost use Rattle.reassembly.specs.MemberSpans.{IsInFile, member_place, member_span, members_before_reset, is_reset_member, is_server_answer};
+
+use crate::patches::Patch;
+use conn_table::Member;
+use frame_headers::Flags;
+use pcap_records::Moment;
+
+/// The place of position 0.
+pub(crate) const ORIGIN: usize = 1 << 31;
+
+/// The place at which a member's payload begins. Places count from 2^31 before position 0.
+pub(crate) fn place_of(base: u32, member: &Member) -> usize
+    ensures exact { result ≡ member_place base member.now }
+    ensures near { result < 4294967296 }
+{
+    let opens = u32::from(member.flags.has(Flags::SYN));
+    member
+        .seq
+        .wrapping_add(opens)
+        .wrapping_sub(base)
+        .wrapping_sub(1)
+        .wrapping_add(1 << 31) as usize
+}
+
+/// The place at which it ends, and a FIN of the member stands.
+pub(crate) fn end_place_of(base: u32, member: &Member) -> usize
+    ensures { result ≡ member_place base member.now + member.now.len }
+{
+    place_of(base, member) + len_of(member)
+}
+
+// How many bytes a member's payload has.
+fn len_of(member: &Member) -> usize
+    ensures exact { result ≡ member.now.len }
+    ensures short { result < 65536 }
+{
+    let len = member.len;
+    usize::from(len)
+}
+
+/// The patch of a member's payload, without what stands before position 0.
+pub(crate) fn patch_of<'a>(base: u32, member: &Member, file: &'a [u8]) -> Patch<'a>
+    requires { IsInFile file.now member.now }
+    ensures exact { span_of result ≡ member_span base file.now member.now }
+    ensures near { end_of (span_of result) ≤ limit }
+{
+    let place = place_of(base, member);
+    let start = member.start as usize;
+    let payload = &file[start..start + len_of(member)];
+    let hidden = ORIGIN.saturating_sub(place).min(payload.len());
+    Patch {
+        from: place.saturating_sub(ORIGIN),
+        at: member.at,
+        bytes: &payload[hidden..],
+    }
+}
+
+/// The members before the first reset.
+pub(crate) fn effective_members(members: &[Member]) -> &[Member]
+    ensures { result.now ≡ members_before_reset members.entry.now }
+{
+    match first_reset(members) {
+        Some(count) => &members[..count],
+        None => members,
+    }
+}
+
+// The number of the first reset.
+fn first_reset(members: &[Member]) -> Option<usize>
+    ensures exact { result ≡ position is_reset_member members.now }
+    ensures within { IfSome result (λ count. count < length members.now) }
+{
+    members.iter().position(|m| m.flags.has(Flags::RST))
+}
+
+/// When the first reset was captured.
+pub(crate) fn reset_at(members: &[Member]) -> Option<Moment>
+    ensures { result ≡ option_map (λ m. m.at) (find is_reset_member members.now) }
+{
+    members
+        .iter()
+        .find(|m| m.flags.has(Flags::RST))
+        .map(|m| m.at)
+}
+
+/// The server's number in its first answer.
+pub(crate) fn server_base(members: &[Member]) -> Option<u32>
+    ensures { result ≡ option_map (λ m. m.seq) (find is_server_answer members.now) }
+{
+    members
+        .iter()
+        .find(|m| !m.from_client && m.flags.has(Flags::SYN) && m.flags.has(Flags::ACK))
+        .map(|m| m.seq)
+}

@@ -6,5 +6,6 @@ mod frames;
 mod rehearsals;
 mod runs;
 mod sessions;
+mod streams;
 mod tables;
 mod written_frames;

@@ -4,14 +4,9 @@ mod OutputsRead
 mod DumpTable
 mod DumpLemmas
 mod Evaluated
-mod SeenPackets
-mod TableConnections
-mod InOrder
-mod Sorting
-mod OpeningSegments
-mod OpeningsRise
-mod OpeningOrder
-mod BareShapes
 mod PrintedPart
 mod OverviewSteps
 mod WrittenLines
+mod PlacesInLists
+mod WholeTables
+mod PartSteps

@@ -10,21 +10,21 @@ use Rattle.pcap_records.specs.Writing.{file_header, record_bytes, written_captur
 use Rattle.pcap_records.specs.Grammar.{ReadingsSplit}
 use Rattle.frame_headers.specs.HeaderLaws.{HeadersAreSound, SegmentsFit}
 use Rattle.toxicap.specs.declared.faults.RunFault.TheVariants.{TooManyScenarios}
-use Rattle.toxicap.specs.declared.framed.Framed.{Framed}
+use Rattle.segment_writer.specs.declared.framed.Framed.{Framed}
 use Rattle.toxicap.specs.declared.scenario.Scenario.{Scenario}
 use Rattle.conn_table.specs.IndexedSegments.{indexed_segments}
 use Rattle.conn_table.specs.Connections.{Connection, connections}
-use Rattle.toxicap.specs.WrittenSegments.{sorted_by_key}
+use Rattle.segment_writer.specs.WrittenSegments.{sorted_by_key}
 use Rattle.toxicap.specs.OutputCapture.{capture_of}
-use Rattle.toxicap.specs.Positions.{server_of}
-use Rattle.toxicap.specs.RecordedLines.{recorded_connection}
-use Rattle.toxicap.specs.DeliveredLines.{DeliveredConnection, delivered_connection}
-use Rattle.toxicap.specs.Contribution.{written_connection, part}
+use Rattle.reassembly.specs.Positions.{client_of, server_of}
+use Rattle.reassembly.specs.RecordedLines.{recorded_connection}
+use Rattle.toxic_defs.specs.DeliveredLines.{DeliveredConnection, delivered_connection}
+use Rattle.segment_writer.specs.WrittenConnections.{written_connection}
+use Rattle.segment_writer.specs.KeyLaws.{NoneLower, NeverFalls, SortedNeverFalls}
+use Rattle.toxicap.specs.Contribution.{part}
 use Rattle.conn_table.specs.SeenCapture.{SeenCapture, seen_packets, seen_capture}
 use Rattle.toxicap.specs.Rehearsal.{met_proxy, part_of, output, outputs_of, scenario_limit, answer}
 use Rattle.toxicap.specs.SoundOutputs.{NeverFall, IsSoundFrame, IsReadWhole, OutputsAreRead}
-use Rattle.toxicap.proofs.Sorting.{NoneBelow, Ordered}
-use Rattle.toxicap.proofs.InOrder.{below, ordered-sorted_by_key}
 use Rattle.toxicap.proofs.WrittenFrames.{all-append, IsSoundWritten, IsWritten, all-sorted_by_key, segments_are}
 use Rattle.toxicap.proofs.SoundConnections.{HasBytes, IsSoundConnection, packets_have, connections_are, server_base_fits}
 
@@ -55,12 +55,12 @@ not_earlier a b later test = by (nat_lt a b) refl test
     by true is test = absurd cc
     by false is test = ltb-false a b is
 
-never_fall : (x : Framed) (xs : List Framed) (all : AllByRecursion IsWritten xs) → NoneBelow below x xs → Ordered below xs → NeverFall x.key.moment (packets_of xs all)
+never_fall : (x : Framed) (xs : List Framed) (all : AllByRecursion IsWritten xs) → NoneLower x.key xs → NeverFalls xs → NeverFall x.key.moment (packets_of xs all)
 unfolding packets_of packet_with
 never_fall x [] all none ordered = tt
 never_fall x (y ∷ ys) all none ordered = (not_earlier y.key.moment x.key.moment _ none.0, never_fall y ys all.1 ordered.0 ordered.1)
 
-in_time_order : (xs : List Framed) (all : AllByRecursion IsWritten xs) → Ordered below xs → NeverFall 0 (packets_of xs all)
+in_time_order : (xs : List Framed) (all : AllByRecursion IsWritten xs) → NeverFalls xs → NeverFall 0 (packets_of xs all)
 unfolding packets_of packet_with
 in_time_order [] all ordered = tt
 in_time_order (x ∷ xs) all ordered = (omega arith, never_fall x xs all.1 ordered.0 ordered.1)
@@ -70,17 +70,17 @@ unfolding packets_of packet_with
 sound [] all = tt
 sound (x ∷ xs) all = (all.0.is.sound, sound xs all.1)
 
-capture_read : WrittenIsRead → (xs : List Framed) → AllByRecursion IsWritten xs → length (capture_of microseconds xs) ≤ capture_limit → IsReadWhole microseconds (capture_of microseconds xs)
+capture_read : SortedNeverFalls → WrittenIsRead → (xs : List Framed) → AllByRecursion IsWritten xs → length (capture_of microseconds xs) ≤ capture_limit → IsReadWhole microseconds (capture_of microseconds xs)
 unfolding capture_of
-capture_read written_is_read xs written within =
+capture_read never_falls written_is_read xs written within =
     let all = all-sorted_by_key xs written in
     let packets : List Packet = packets_of (sorted_by_key xs) all in
     let bytes : file_header microseconds ++ flat_map (λ x. x.bytes) (sorted_by_key xs) ≡ written_capture microseconds packets = ap (λ bs. file_header microseconds ++ bs) (bytes_are (sorted_by_key xs) all) in
-    (packets, rw bytes (written_is_read packets (writable (sorted_by_key xs) all) (rw bytes at within)), in_time_order (sorted_by_key xs) all (ordered-sorted_by_key xs), sound (sorted_by_key xs) all)
+    (packets, rw bytes (written_is_read packets (writable (sorted_by_key xs) all) (rw bytes at within)), in_time_order (sorted_by_key xs) all (never_falls xs), sound (sorted_by_key xs) all)
 
 -- ---- outputs
 
-talk_is : (c : Connection) → IsSoundConnection c → (d : DeliveredConnection) → IsSoundWritten (written_connection c (recorded_connection c) d)
+talk_is : (c : Connection) → IsSoundConnection c → (d : DeliveredConnection) → IsSoundWritten (written_connection c.number (client_of c) (server_of c) (recorded_connection c) d)
 talk_is c is d = record {
   client = record { mac = is.opening.mac_from; addr = is.opening.from_addr; port = is.opening.from_port };
   server = record { mac = is.opening.mac_to; addr = is.opening.to_addr; port = is.opening.to_port };
@@ -94,14 +94,14 @@ unfolding part
 parts_are sound_headers seed scenario [] all = tt
 parts_are sound_headers seed (number_in, scenario) (c ∷ cs) all = all-append IsWritten _ _ (segments_are sound_headers _ (talk_is c all.0 (delivered_connection microseconds (met_proxy (server_of c) scenario) (recorded_connection c)))) (parts_are sound_headers seed (number_in, scenario) cs all.1)
 
-outputs_read : WrittenIsRead → HeadersAreSound → SegmentsFit → (packets : List Packet) (rest : ℕ) → AllByRecursion HasBytes packets → (seed n : ℕ) (scenarios : List Scenario)
+outputs_read : SortedNeverFalls → WrittenIsRead → HeadersAreSound → SegmentsFit → (packets : List Packet) (rest : ℕ) → AllByRecursion HasBytes packets → (seed n : ℕ) (scenarios : List Scenario)
     → let c : SeenCapture = seen_capture (record { ticks = microseconds; packets = packets; rest = rest }) in
     AllByRecursion (λ o. length o.capture ≤ capture_limit → IsReadWhole microseconds o.capture) (map (output c seed) (enumerate_from n scenarios))
 unfolding output
-outputs_read written_is_read sound_headers fit packets rest have seed n [] = tt
-outputs_read written_is_read sound_headers fit packets rest have seed n (s ∷ scenarios) =
+outputs_read never_falls written_is_read sound_headers fit packets rest have seed n [] = tt
+outputs_read never_falls written_is_read sound_headers fit packets rest have seed n (s ∷ scenarios) =
     let all = parts_are sound_headers seed (n, s) (connections (indexed_segments 0 (seen_packets 0 packets))) (connections_are fit packets have) in
-    (capture_read written_is_read _ all, outputs_read written_is_read sound_headers fit packets rest have seed (n + 1) scenarios)
+    (capture_read never_falls written_is_read _ all, outputs_read never_falls written_is_read sound_headers fit packets rest have seed (n + 1) scenarios)
 
 -- ---- a file that is read counts microseconds
 
@@ -135,9 +135,9 @@ reading_ticks readings_split bytes r is =
 in_microseconds : (c : Contents) → c.ticks ≡ microseconds → c ≡ record { ticks = microseconds; packets = c.packets; rest = c.rest }
 in_microseconds c counted = ap (λ (ticks : ℕ). let d : Contents = record { ticks = ticks; packets = c.packets; rest = c.rest } in d) counted
 
-pub outputs_are_read : ReadingsSplit → WrittenIsRead → HeadersAreSound → SegmentsFit → OutputsAreRead
+pub outputs_are_read : SortedNeverFalls → ReadingsSplit → WrittenIsRead → HeadersAreSound → SegmentsFit → OutputsAreRead
 unfolding answer outputs_of
-outputs_are_read readings_split written_is_read sound_headers fit bytes read scenarios seed outputs are is answered =
+outputs_are_read never_falls readings_split written_is_read sound_headers fit bytes read scenarios seed outputs are is answered =
     by (nat_lt scenario_limit (length scenarios)) (rw is at answered)
   where
     counted : read.contents.ticks ≡ microseconds
@@ -145,7 +145,7 @@ outputs_are_read readings_split written_is_read sound_headers fit bytes read sce
 
     each : AllByRecursion (λ o. length o.capture ≤ capture_limit → IsReadWhole microseconds o.capture)
         (outputs_of (seen_capture (record { ticks = microseconds; packets = read.contents.packets; rest = read.contents.rest })) scenarios seed)
-    each = outputs_read written_is_read sound_headers fit read.contents.packets read.contents.rest (packets_have readings_split bytes read is are) seed 0 scenarios
+    each = outputs_read never_falls written_is_read sound_headers fit read.contents.packets read.contents.rest (packets_have readings_split bytes read is are) seed 0 scenarios
 
     by : (over : Bool) → (if over then Err TooManyScenarios else Ok (outputs_of (seen_capture read.contents) scenarios seed)) ≡ Ok outputs
         → AllByRecursion (λ o. length o.capture ≤ capture_limit → IsReadWhole read.contents.ticks o.capture) outputs

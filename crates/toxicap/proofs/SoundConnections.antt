@@ -10,7 +10,7 @@ use Rattle.frame_headers.specs.HeaderLaws.{FieldsFit, SegmentsFit}
 use Rattle.conn_table.specs.IndexedSegments.{TimedSegment, IndexedSegment, is_segment, indexed_segment, indexed_segments}
 use Rattle.conn_table.specs.SeenCapture.{seen_packet, seen_packets}
 use Rattle.conn_table.specs.Connections.{Connection, begins, beginnings, later_members, connection_of, connections}
-use Rattle.toxicap.specs.Positions.{server_base, effective_members, is_answer, is_reset, members_of, server_of}
+use Rattle.reassembly.specs.Positions.{server_base, effective_members, is_answer, is_reset, members_of, server_of}
 use Rattle.toxicap.specs.SoundOutputs.{AreBytes}
 
 -- ---- lists

@@ -9,9 +9,9 @@ use Rattle.frame_headers.specs.Flags
 use Rattle.frame_headers.specs.HeaderLaws.{IsHeader, HeadersAreSound}
 use Rattle.frame_headers.specs.Headers.{headers, payload_limit}
 use Rattle.frame_headers.specs.declared.written.Header.{Header}
-use Rattle.toxicap.specs.declared.framed.Framed.{Framed}
-use Rattle.toxicap.specs.RecordedLines.{LineByte, End, live, fin, close, reset}
-use Rattle.toxicap.specs.WrittenSegments.{Host, WrittenSide, WrittenConnection, SentSegment, Piece, is_chunk_border, pieces_led_by, pieces, end_segments, segments_sent_from, segments_sent_by, frame_bytes, framed_segment, header_of, syn_segment, syn_ack_segment, ack_segment, refusal_segment, framed_by_client, framed_by_server, opening_turn, up_turn, down_turn, insert_by_key, is_key_below, sorted_by_key, segments_before_horizon, written_segments}
+use Rattle.segment_writer.specs.declared.framed.Framed.{Framed}
+use Rattle.reassembly.specs.RecordedLines.{LineByte, End, live, fin, close, reset}
+use Rattle.segment_writer.specs.WrittenSegments.{Host, WrittenSide, WrittenConnection, SentSegment, Piece, is_chunk_border, pieces_led_by, pieces, end_segments, segments_sent_from, segments_sent_by, frame_bytes, framed_segment, header_of, syn_segment, syn_ack_segment, ack_segment, refusal_segment, framed_by_client, framed_by_server, opening_turn, up_turn, down_turn, insert_by_key, is_key_below, sorted_by_key, segments_before_horizon, written_segments}
 use Rattle.toxicap.specs.SoundOutputs.{IsSoundFrame}
 
 -- ---- lists

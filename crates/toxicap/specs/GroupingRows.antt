@@ -3,7 +3,7 @@ use Rattle.std.specs.Prelude.{◌≡◌, ℕ, ◌+◌, List, [], ◌∷◌, map,
 use Rattle.frame_headers.specs.declared.peers.Peer.{Peer}
 use Rattle.conn_table.specs.IndexedSegments.{IndexedSegment}
 use Rattle.conn_table.specs.Connections.{Connection, connections, unopened_count}
-use Rattle.toxicap.specs.Positions.{client_of, server_base}
+use Rattle.reassembly.specs.Positions.{client_of, server_base}
 use Rattle.toxicap.specs.WrittenRows.{client, server}
 
 abbrev pub second_client : Peer

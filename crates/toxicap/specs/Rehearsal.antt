@@ -13,11 +13,11 @@ use Rattle.toxicap.specs.RunFault.{run_fault}
 use Rattle.conn_table.specs.SeenCapture.{SeenCapture, seen_capture}
 use Rattle.conn_table.specs.IndexedSegments.{indexed_segments}
 use Rattle.conn_table.specs.Connections.{Connection, connections, unopened_count}
-use Rattle.toxicap.specs.Positions.{server_of}
-use Rattle.toxicap.specs.DeliveredLines.{MetProxy}
+use Rattle.reassembly.specs.Positions.{server_of}
+use Rattle.toxic_defs.specs.DeliveredLines.{MetProxy}
 use Rattle.toxicap.specs.Contribution.{Part, part}
 use Rattle.toxicap.specs.OutputCapture.{capture_of}
-use Rattle.toxicap.specs.ReportText.{report_text}
+use Rattle.report.specs.ReportText.{report_text}
 
 -- the proxy of a scenario that a connection to this server meets: today scenarios have no proxies
 abbrev pub met_proxy : Peer → Scenario → Option MetProxy

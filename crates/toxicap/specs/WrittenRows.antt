@@ -2,12 +2,14 @@
 use Rattle.std.specs.Prelude.{◌≡◌, ℕ, List, [], ◌∷◌, map, codes, Option, Some, None, true, false}
 use Rattle.frame_headers.specs.declared.peers.Peer.{Peer}
 use Rattle.conn_table.specs.Connections.{Connection}
-use Rattle.toxicap.specs.RecordedLines.{LineByte, Line, live, fin, RecordedConnection}
-use Rattle.toxicap.specs.DeliveredLines.{delivered_connection, MetProxy}
-use Rattle.toxicap.specs.Contribution.{written_connection}
-use Rattle.toxicap.specs.WrittenSegments.{WrittenConnection, written_segments, segments_sent_by, pieces}
+use Rattle.reassembly.specs.RecordedLines.{LineByte, Line, live, fin, RecordedConnection}
+use Rattle.toxic_defs.specs.DeliveredLines.{delivered_connection, MetProxy}
+use Rattle.segment_writer.specs.WrittenConnections.{written_connection}
+use Rattle.segment_writer.specs.WrittenSegments.{WrittenConnection, written_segments, segments_sent_by, pieces}
+use Rattle.segment_writer.specs.declared.framed.Framed.{Framed}
+use Rattle.toxicap.specs.Contribution.{part}
 use Rattle.toxicap.specs.OutputCapture.{capture_of}
-use Rattle.toxicap.specs.ReportText.{connection_text}
+use Rattle.report.specs.ReportText.{connection_text}
 
 abbrev pub client : Peer
 client = record { addr = 0x0a000001; port = 40000 }
@@ -45,7 +47,7 @@ session_connection number = record {
 }
 
 abbrev pub session_under : Option MetProxy → WrittenConnection
-session_under met = written_connection (session_connection 0) session (delivered_connection 1000000 met session)
+session_under met = written_connection 0 client server session (delivered_connection 1000000 met session)
 
 -- the capture of the plain session, 449 bytes
 abbrev pub session_bytes : List ℕ
@@ -84,49 +86,18 @@ refused_bytes =
 abbrev pub SessionWritten : Type 0
 SessionWritten = capture_of 1000000 (written_segments 1000000 (session_under None)) ≡ session_bytes
 
-abbrev pub SessionTold : Type 0
-SessionTold =
-    connection_text (session_connection 0) session (delivered_connection 1000000 None session)
-    ≡ codes "0 10.0.0.1:40000 > 10.0.0.2:80 proxy - up 5/5/0 fin+2000 max 0 down 0/0/0 fin+3000 max 0\n"
-
 abbrev pub disabled : Option MetProxy
 disabled = Some (record { number = 0; enabled = false })
 
 abbrev pub RefusedWritten : Type 0
 RefusedWritten = capture_of 1000000 (written_segments 1000000 (session_under disabled)) ≡ refused_bytes
 
-abbrev pub RefusedTold : Type 0
-RefusedTold =
-    connection_text (session_connection 0) session (delivered_connection 1000000 disabled session)
-    ≡ codes "0 10.0.0.1:40000 > 10.0.0.2:80 proxy 0 up 0/5/0 refused max 0 down 0/0/0 refused max 0\n"
+-- when each segment is written, by which connection, and in which turn and place
+abbrev pub keys_of : List Framed → List (ℕ × ℕ × ℕ × ℕ)
+keys_of framed = map (λ x. (x.key.moment, x.key.conn, x.key.turn, x.key.place)) framed
 
--- ---- bytes of both directions at one instant: each acknowledges what was delivered strictly before
-
-abbrev pub one_byte : ℕ → ℕ → Line
-one_byte value at = record { bytes = record { value = value; at = at; starts = true } ∷ []; end = live }
-
-abbrev pub crossing : WrittenConnection
-crossing = record {
-  number = 0;
-  opened = 1000000;
-  refused = false;
-  client = record { host = record { mac = session.mac_client; peer = client }; base = 1000; line = one_byte 97 1001000 };
-  server = record { host = record { mac = session.mac_server; peer = server }; base = 5000; line = one_byte 98 1001000 };
-}
-
--- both segments of data acknowledge the other's SYN and nothing more
-abbrev pub CrossingSent : Type 0
-CrossingSent =
-    (map (λ s. s.ack) (segments_sent_by crossing.client crossing.server) ≡ 5001 ∷ [])
-    × (map (λ s. s.ack) (segments_sent_by crossing.server crossing.client) ≡ 1001 ∷ [])
-
--- ---- a chunk in pieces: PSH stands on its last one alone
-
-abbrev pub three_bytes : List LineByte
-three_bytes =
-    record { value = 1; at = 5; starts = true } ∷ record { value = 2; at = 5; starts = false } ∷ record { value = 3; at = 5; starts = false } ∷ record { value = 4; at = 6; starts = true } ∷ []
-
-abbrev pub PiecesCut : Type 0
-PiecesCut =
-    pieces 2 2 three_bytes
-    ≡ record { at = 5; bytes = 1 ∷ 2 ∷ []; ends = false } ∷ record { at = 5; bytes = 3 ∷ []; ends = true } ∷ record { at = 6; bytes = 4 ∷ []; ends = true } ∷ []
+-- a disabled proxy: two segments of the opening, and a line that says so
+abbrev pub RefusedPart : Type 0
+RefusedPart =
+    ((part 1000000 (session_connection 7) 3 42 disabled).line ≡ codes "7 10.0.0.1:40000 > 10.0.0.2:80 proxy 0 up 0/0/0 refused max 0 down 0/0/0 refused max 0\n")
+    × (keys_of (part 1000000 (session_connection 7) 3 42 disabled).segments ≡ (1000000, 7, 0, 0) ∷ (1000000, 7, 0, 1) ∷ [])

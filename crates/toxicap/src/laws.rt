@@ -1,22 +1,12 @@
 //! Theorems about the definitions of this crate. Each function does nothing, or names the theorems that it stands on: its
 //! contract is the theorem.
 ghost use Rattle.toxicap.specs.Dumps.{ReadsBack};
-ghost use Rattle.toxicap.specs.KeyOrder.{PartsAreSortedFirst, RisingIsSorted};
 ghost use Rattle.toxicap.specs.SoundOutputs.{OutputsAreRead};
 ghost use Rattle.toxicap.specs.Rehearsal.{ByteOrderDoesNotMatter};
 
 use frame_headers::laws::{headers_are_sound, segments_fit};
 use pcap_records::laws::{readings_split, written_is_read};
-
-/// Segments whose keys rise are in order already.
-pub fn rising_is_sorted()
-    ensures { RisingIsSorted }
-{}
-
-/// Two lists of segments may be put in order before they are joined and put in order.
-pub fn parts_are_sorted_first()
-    ensures { PartsAreSortedFirst }
-{}
+use segment_writer::laws::sorted_never_falls;
 
 /// The hexadecimal digits of some bytes, all in lower or all in upper case, are a dump of these bytes, whatever blanks stand
 /// before, between and after them.
@@ -40,4 +30,5 @@ pub fn outputs_are_read()
     written_is_read();
     headers_are_sound();
     segments_fit();
+    sorted_never_falls();
 }

@@ -5,31 +5,29 @@
 //! the line that tells a refusal.
 #![tactic(auto)]
 
+mod capture_table;
 mod counted;
-mod counts_text;
 mod dumps;
 mod fault_lines;
 mod faults;
-mod framed;
 mod gates;
 pub mod laws;
 mod loading;
 mod outputs;
 mod overviews;
-mod plain;
 mod plans;
 mod printing;
 mod rehearsal;
 mod rows;
 mod runs;
 mod scenario;
+mod scenario_outputs;
 mod values;
 
 pub use counted::Counted;
 pub use dumps::{is_dump, undump};
 pub use fault_lines::fault_line;
 pub use faults::RunFault;
-pub use framed::{Framed, SegKey};
 pub use gates::{Gate, Phase, Through};
 pub use loading::load;
 pub use outputs::{Output, Outputs};

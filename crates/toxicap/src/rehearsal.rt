@@ -6,9 +6,9 @@ ghost use Rattle.toxicap.specs.RunFault.{run_refusal};
 use crate::faults::RunFault;
 use crate::gates::Gate;
 use crate::outputs::Outputs;
-use crate::plain::bare_outputs::bare_outputs;
 use crate::plans::Plan;
 use crate::scenario::Scenario;
+use crate::scenario_outputs::list_outputs;
 use crate::values::Values;
 use pcap_records::read_capture;
 use std::alloc::Global;
@@ -40,6 +40,6 @@ pub fn rehearse<R: Threads + Wait, G: Gate>(
         return Err(RunFault::TooManyScenarios);
     }
     let capture = read_capture(alloc, capture)?;
-    let outputs = bare_outputs(alloc, &capture, scenarios)?;
+    let outputs = list_outputs(alloc, &capture, scenarios)?;
     Ok(Values::of(outputs))
 }

@@ -3,7 +3,9 @@ use super::sessions::{
     ACK, CLIENT, FIN, Host, PSH, RST, SECOND_CLIENT, SERVER, SYN, file, header, put, segment,
     session,
 };
-use super::written_frames::{ACKNOWLEDGED, OPENING, OPENING_ANSWERED};
+use super::written_frames::{
+    ACKNOWLEDGED, CLIENT_ENDS, DATA, OPENING, OPENING_ANSWERED, SERVER_ENDS,
+};
 use std::alloc::{AllocError, Global};
 use std::sync::Wait;
 use std::test::Fail;
@@ -11,7 +13,7 @@ use std::thread::Threads;
 use toxicap::{Plan, RunFault, Scenario, Through, rehearse};
 
 // The one output of a file under one bare scenario: its capture and its report.
-fn rehearsed<R: Threads + Wait>(
+pub fn rehearsed<R: Threads + Wait>(
     rt: &R,
     alloc: Global,
     bytes: &[u8],
@@ -25,21 +27,24 @@ fn rehearsed<R: Threads + Wait>(
     }
 }
 
-// Appends what is written of one frame: its record, stamped with whole seconds.
-fn put_written(out: &mut Vec<u8>, seconds: u32, frame: &[u8]) -> Result<(), AllocError> {
+// Appends what is written of one frame: its record, stamped so many microseconds behind the first second.
+fn put_written(out: &mut Vec<u8>, micros: u32, frame: &[u8]) -> Result<(), AllocError> {
     let len = frame.len().min(1514) as u32;
-    for number in [seconds, 0, len, len] {
+    for number in [1, micros, len, len] {
         out.extend_from_slice(&number.to_le_bytes())?;
     }
     out.extend_from_slice(frame)
 }
 
-// The output capture of the plain session while nothing but its opening is delivered.
-fn opening_written(alloc: Global) -> Result<Vec<u8>, AllocError> {
+// The output capture of the plain session: 449 bytes.
+fn session_written(alloc: Global) -> Result<Vec<u8>, AllocError> {
     let mut out = header(alloc, true)?;
-    put_written(&mut out, 1, &OPENING)?;
-    put_written(&mut out, 1, &OPENING_ANSWERED)?;
-    put_written(&mut out, 1, &ACKNOWLEDGED)?;
+    put_written(&mut out, 0, &OPENING)?;
+    put_written(&mut out, 0, &OPENING_ANSWERED)?;
+    put_written(&mut out, 0, &ACKNOWLEDGED)?;
+    put_written(&mut out, 1000, &DATA)?;
+    put_written(&mut out, 2000, &CLIENT_ENDS)?;
+    put_written(&mut out, 3000, &SERVER_ENDS)?;
     Ok(out)
 }
 
@@ -49,9 +54,10 @@ fn the_plain_session(rt: HostRuntime) -> Result<(), Fail> {
         let bytes = file(rt.alloc(), little, &session())?;
         assert_eq!(rt; bytes.len(), 519);
         let (capture, report) = rehearsed(&rt, rt.alloc(), &bytes)?;
-        assert_eq!(rt; capture.as_slice(), opening_written(rt.alloc())?.as_slice());
+        assert_eq!(rt; capture.len(), 449);
+        assert_eq!(rt; capture.as_slice(), session_written(rt.alloc())?.as_slice());
         let want =
-            b"scenario 0 records 7 rest 0 segment 7 short 0 notipv4 0 badipv4 0 fragment 0 nottcp 0 cut 0 badtcp 0 sameends 0\nconnections 1 unopened 0\n0 10.0.0.1:40000 > 10.0.0.2:80 proxy - up 0/0/0 open max 0 down 0/0/0 open max 0\n";
+            b"scenario 0 records 7 rest 0 segment 7 short 0 notipv4 0 badipv4 0 fragment 0 nottcp 0 cut 0 badtcp 0 sameends 0\nconnections 1 unopened 0\n0 10.0.0.1:40000 > 10.0.0.2:80 proxy - up 5/5/0 fin+2000 max 0 down 0/0/0 fin+3000 max 0\n";
         assert_eq!(rt; report.as_slice(), want.as_slice());
     }
     Ok(())
@@ -71,29 +77,29 @@ fn an_empty_capture(rt: HostRuntime) -> Result<(), Fail> {
 }
 
 // The report of some segments ends with this text.
-fn ends_with(report: &[u8], text: &str) -> bool {
+pub fn ends_with(report: &[u8], text: &str) -> bool {
     report.ends_with(text.as_bytes())
 }
 
 #[test]
 fn repeated_opening_and_second_session(rt: HostRuntime) -> Result<(), Fail> {
     let segments = [
-        segment((1, 0), CLIENT, SERVER, SYN, (1000, 0), 0),
-        segment((1, 500_000), CLIENT, SERVER, SYN, (1000, 0), 0),
-        segment((1, 600_000), SERVER, CLIENT, SYN + ACK, (5000, 1001), 0),
-        segment((1, 700_000), CLIENT, SERVER, PSH + ACK, (1001, 5001), 1),
-        segment((2, 0), CLIENT, SERVER, SYN, (9000, 0), 0),
-        segment((2, 100_000), CLIENT, SERVER, PSH + ACK, (9001, 0), 1),
+        segment((1, 0), CLIENT, SERVER, SYN, (1000, 0), b""),
+        segment((1, 500_000), CLIENT, SERVER, SYN, (1000, 0), b""),
+        segment((1, 600_000), SERVER, CLIENT, SYN + ACK, (5000, 1001), b""),
+        segment((1, 700_000), CLIENT, SERVER, PSH + ACK, (1001, 5001), b"a"),
+        segment((2, 0), CLIENT, SERVER, SYN, (9000, 0), b""),
+        segment((2, 100_000), CLIENT, SERVER, PSH + ACK, (9001, 0), b"b"),
     ];
     let bytes = file(rt.alloc(), true, &segments)?;
     let (capture, report) = rehearsed(&rt, rt.alloc(), &bytes)?;
-    assert_eq!(rt; capture.len(), 444);
+    assert_eq!(rt; capture.len(), 586);
     // The second SYN ACK: its sequence number is 0, its acknowledgment number 9001.
     assert!(rt;
-        capture.get(24 + 4 * 70 + 54..24 + 4 * 70 + 62) == Some(&[0, 0, 0, 0, 0, 0, 0x23, 0x29])
+        capture.get(375 + 54..375 + 62) == Some(&[0, 0, 0, 0, 0, 0, 0x23, 0x29])
     );
     let text =
-        "connections 2 unopened 0\n0 10.0.0.1:40000 > 10.0.0.2:80 proxy - up 0/0/0 open max 0 down 0/0/0 open max 0\n1 10.0.0.1:40000 > 10.0.0.2:80 proxy - up 0/0/0 open max 0 down 0/0/0 open max 0\n";
+        "connections 2 unopened 0\n0 10.0.0.1:40000 > 10.0.0.2:80 proxy - up 1/1/0 open max 0 down 0/0/0 open max 0\n1 10.0.0.1:40000 > 10.0.0.2:80 proxy - up 1/1/0 open max 0 down 0/0/0 open max 0\n";
     assert!(rt; ends_with(&report, text));
     Ok(())
 }
@@ -101,9 +107,9 @@ fn repeated_opening_and_second_session(rt: HostRuntime) -> Result<(), Fail> {
 #[test]
 fn clients_in_turn(rt: HostRuntime) -> Result<(), Fail> {
     let segments = [
-        segment((1, 0), CLIENT, SERVER, SYN, (1000, 0), 0),
-        segment((2, 0), SECOND_CLIENT, SERVER, SYN, (2000, 0), 0),
-        segment((3, 0), CLIENT, SERVER, SYN, (9000, 0), 0),
+        segment((1, 0), CLIENT, SERVER, SYN, (1000, 0), b""),
+        segment((2, 0), SECOND_CLIENT, SERVER, SYN, (2000, 0), b""),
+        segment((3, 0), CLIENT, SERVER, SYN, (9000, 0), b""),
     ];
     let bytes = file(rt.alloc(), true, &segments)?;
     let (capture, report) = rehearsed(&rt, rt.alloc(), &bytes)?;
@@ -117,9 +123,9 @@ fn clients_in_turn(rt: HostRuntime) -> Result<(), Fail> {
 #[test]
 fn an_unopened_pair_first(rt: HostRuntime) -> Result<(), Fail> {
     let segments = [
-        segment((1, 0), SERVER, CLIENT, ACK, (7000, 1), 0),
-        segment((2, 0), SECOND_CLIENT, SERVER, SYN, (2000, 0), 0),
-        segment((3, 0), CLIENT, SERVER, SYN, (1000, 0), 0),
+        segment((1, 0), SERVER, CLIENT, ACK, (7000, 1), b""),
+        segment((2, 0), SECOND_CLIENT, SERVER, SYN, (2000, 0), b""),
+        segment((3, 0), CLIENT, SERVER, SYN, (1000, 0), b""),
     ];
     let bytes = file(rt.alloc(), false, &segments)?;
     let (_, report) = rehearsed(&rt, rt.alloc(), &bytes)?;
@@ -132,8 +138,8 @@ fn an_unopened_pair_first(rt: HostRuntime) -> Result<(), Fail> {
 #[test]
 fn openings_from_both_sides(rt: HostRuntime) -> Result<(), Fail> {
     let segments = [
-        segment((1, 0), CLIENT, SERVER, SYN, (1000, 0), 0),
-        segment((1, 100_000), SERVER, CLIENT, SYN, (1000, 0), 0),
+        segment((1, 0), CLIENT, SERVER, SYN, (1000, 0), b""),
+        segment((1, 100_000), SERVER, CLIENT, SYN, (1000, 0), b""),
     ];
     let bytes = file(rt.alloc(), true, &segments)?;
     let (_, report) = rehearsed(&rt, rt.alloc(), &bytes)?;
@@ -146,10 +152,10 @@ fn openings_from_both_sides(rt: HostRuntime) -> Result<(), Fail> {
 #[test]
 fn unopened_segments_and_same_ends(rt: HostRuntime) -> Result<(), Fail> {
     let segments = [
-        segment((1, 0), SERVER, CLIENT, PSH + ACK, (7000, 1), 1),
-        segment((1, 100_000), CLIENT, SERVER, SYN, (1000, 0), 0),
-        segment((1, 200_000), SERVER, CLIENT, PSH + ACK, (7001, 1001), 2),
-        segment((1, 300_000), CLIENT, CLIENT, ACK, (1, 1), 0),
+        segment((1, 0), SERVER, CLIENT, PSH + ACK, (7000, 1), b"h"),
+        segment((1, 100_000), CLIENT, SERVER, SYN, (1000, 0), b""),
+        segment((1, 200_000), SERVER, CLIENT, PSH + ACK, (7001, 1001), b"he"),
+        segment((1, 300_000), CLIENT, CLIENT, ACK, (1, 1), b""),
     ];
     let bytes = file(rt.alloc(), true, &segments)?;
     let (capture, report) = rehearsed(&rt, rt.alloc(), &bytes)?;
@@ -163,15 +169,15 @@ fn unopened_segments_and_same_ends(rt: HostRuntime) -> Result<(), Fail> {
 #[test]
 fn stamps_that_fall_back(rt: HostRuntime) -> Result<(), Fail> {
     let segments = [
-        segment((5, 0), CLIENT, SERVER, SYN, (1000, 0), 0),
-        segment((4, 0), SECOND_CLIENT, SERVER, SYN, (2000, 0), 0),
-        segment((4, 500_000), SECOND_CLIENT, SERVER, PSH + ACK, (2001, 1), 1),
+        segment((5, 0), CLIENT, SERVER, SYN, (1000, 0), b""),
+        segment((4, 0), SECOND_CLIENT, SERVER, SYN, (2000, 0), b""),
+        segment((4, 500_000), SECOND_CLIENT, SERVER, PSH + ACK, (2001, 1), b"h"),
     ];
     let bytes = file(rt.alloc(), true, &segments)?;
     let (capture, _) = rehearsed(&rt, rt.alloc(), &bytes)?;
-    assert_eq!(rt; capture.len(), 444);
-    // Each of the six is stamped 5.000000; the first three are of the first client, the last byte of whose address is 1.
-    for (place, sender) in [1, 2, 1, 3, 2, 3].into_iter().enumerate() {
+    assert_eq!(rt; capture.len(), 515);
+    // Each of the seven is stamped 5.000000; the first three are of the first client, the last byte of whose address is 1.
+    for (place, sender) in [1, 2, 1, 3, 2, 3, 3].into_iter().enumerate() {
         let at = 24 + 70 * place;
         assert!(rt;
             capture.get(at..at + 8) == Some(&[5, 0, 0, 0, 0, 0, 0, 0]),
@@ -186,48 +192,36 @@ fn stamps_that_fall_back(rt: HostRuntime) -> Result<(), Fail> {
 }
 
 #[test]
-fn an_opening_at_the_horizon(rt: HostRuntime) -> Result<(), Fail> {
-    let opening = segment((u32::MAX, u32::MAX), CLIENT, SERVER, SYN, (1000, 0), 0);
-    let bytes = file(rt.alloc(), true, &[opening])?;
+fn nothing_at_the_horizon(rt: HostRuntime) -> Result<(), Fail> {
+    let segments = [
+        segment((u32::MAX, u32::MAX), CLIENT, SERVER, SYN, (1000, 0), b""),
+        segment((u32::MAX, u32::MAX), CLIENT, SERVER, PSH + ACK, (1001, 0), b"a"),
+    ];
+    let bytes = file(rt.alloc(), true, &segments)?;
     let (capture, report) = rehearsed(&rt, rt.alloc(), &bytes)?;
     assert_eq!(rt; capture.len(), 24);
     let text =
-        "connections 1 unopened 0\n0 10.0.0.1:40000 > 10.0.0.2:80 proxy - up 0/0/0 open max 0 down 0/0/0 open max 0\n";
+        "connections 1 unopened 0\n0 10.0.0.1:40000 > 10.0.0.2:80 proxy - up 0/1/0 open max 0 down 0/0/0 open max 0\n";
     assert!(rt; ends_with(&report, text));
     Ok(())
 }
 
 #[test]
-fn sequence_numbers_wrap(rt: HostRuntime) -> Result<(), Fail> {
-    let segments = [
-        segment((1, 0), CLIENT, SERVER, SYN, (u32::MAX, 0), 0),
-        segment((1, 100), SERVER, CLIENT, SYN + ACK, (5000, 0), 0),
-    ];
-    let bytes = file(rt.alloc(), true, &segments)?;
-    let (capture, _) = rehearsed(&rt, rt.alloc(), &bytes)?;
-    assert_eq!(rt; capture.len(), 234);
-    // The SYN ACK's acknowledgment number and the ACK's sequence number are 0.
-    assert!(rt; capture.get(94 + 16 + 42..94 + 16 + 46) == Some(&[0, 0, 0, 0]));
-    assert!(rt; capture.get(164 + 16 + 38..164 + 16 + 42) == Some(&[0, 0, 0, 0]));
-    Ok(())
-}
-
-#[test]
 fn answers_that_give_no_number(rt: HostRuntime) -> Result<(), Fail> {
-    let opening = segment((1, 0), CLIENT, SERVER, SYN, (1000, 0), 0);
+    let opening = segment((1, 0), CLIENT, SERVER, SYN, (1000, 0), b"");
     for answers in [
         // Behind a reset, a reset itself, and from the client's side.
         [
-            segment((1, 1), CLIENT, SERVER, RST, (1001, 0), 0),
-            segment((1, 2), SERVER, CLIENT, SYN + ACK, (5000, 1001), 0),
+            segment((1, 1), CLIENT, SERVER, RST, (1001, 0), b""),
+            segment((1, 2), SERVER, CLIENT, SYN + ACK, (5000, 1001), b""),
         ],
         [
-            segment((1, 1), SERVER, CLIENT, SYN + ACK + RST, (5000, 1001), 0),
-            segment((1, 2), SERVER, CLIENT, SYN + ACK, (6000, 1001), 0),
+            segment((1, 1), SERVER, CLIENT, SYN + ACK + RST, (5000, 1001), b""),
+            segment((1, 2), SERVER, CLIENT, SYN + ACK, (6000, 1001), b""),
         ],
         [
-            segment((1, 1), CLIENT, SERVER, SYN + ACK, (5000, 1001), 0),
-            segment((1, 2), CLIENT, SERVER, ACK, (1001, 1), 0),
+            segment((1, 1), CLIENT, SERVER, SYN + ACK, (5000, 1001), b""),
+            segment((1, 2), CLIENT, SERVER, ACK, (1001, 1), b""),
         ],
     ] {
         let bytes = file(rt.alloc(), true, &[opening, answers[0], answers[1]])?;
@@ -250,9 +244,9 @@ fn too_many_scenarios_and_none(rt: HostRuntime) -> Result<(), Fail> {
     assert!(rt; none.as_slice().is_empty());
     let most = rehearse(&rt, rt.alloc(), &bytes, &many[..256], 7, plan, &Through)?;
     assert_eq!(rt; most.as_slice().len(), 256);
-    let opening = opening_written(rt.alloc())?;
+    let written = session_written(rt.alloc())?;
     for output in most.as_slice() {
-        assert_eq!(rt; output.capture.as_slice(), opening.as_slice());
+        assert_eq!(rt; output.capture.as_slice(), written.as_slice());
     }
     Ok(())
 }
@@ -283,8 +277,8 @@ fn thousands_of_connections(rt: HostRuntime) -> Result<(), Fail> {
             addr: 1,
             port: 10_000 + turn,
         };
-        let opening = segment((1, u32::from(turn)), host, SERVER, SYN, (1000, 0), 0);
-        let answer = segment((2, 0), SERVER, host, SYN + ACK, (5000, 1001), 0);
+        let opening = segment((1, u32::from(turn)), host, SERVER, SYN, (1000, 0), b"");
+        let answer = segment((2, 0), SERVER, host, SYN + ACK, (5000, 1001), b"");
         put(&mut bytes, true, &opening)?;
         put(&mut bytes, true, &answer)?;
     }

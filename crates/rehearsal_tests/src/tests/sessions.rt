@@ -37,33 +37,33 @@ pub const PSH: u8 = 8;
 
 pub const ACK: u8 = 16;
 
-/// A recorded segment: seconds and microseconds, who sends it to whom, its flags, sequence and acknowledgment number, and how
-/// many payload bytes it has (of "hello", again and again).
+/// A recorded segment: seconds and microseconds, who sends it to whom, its flags, sequence and acknowledgment number, and its
+/// payload, of which at most 1,500 bytes are put.
 #[derive(Clone, Copy)]
-pub struct RecordedSegment {
+pub struct RecordedSegment<'a> {
     stamp: (u32, u32),
     from: Host,
     to: Host,
     flags: u8,
     numbers: (u32, u32),
-    len: u8,
+    payload: &'a [u8],
 }
 
-pub fn segment(
+pub fn segment<'a>(
     stamp: (u32, u32),
     from: Host,
     to: Host,
     flags: u8,
     numbers: (u32, u32),
-    len: u8,
-) -> RecordedSegment {
+    payload: &'a [u8],
+) -> RecordedSegment<'a> {
     RecordedSegment {
         stamp,
         from,
         to,
         flags,
         numbers,
-        len,
+        payload,
     }
 }
 
@@ -88,31 +88,35 @@ pub fn header(alloc: Global, little: bool) -> Result<Vec<u8>, AllocError> {
 }
 
 // Appends a recorded frame whose checksums are unfilled.
-pub fn put(file: &mut Vec<u8>, little: bool, segment: &RecordedSegment) -> Result<(), AllocError> {
-    let len = segment.len.min(100);
+pub fn put(
+    file: &mut Vec<u8>,
+    little: bool,
+    segment: &RecordedSegment<'_>,
+) -> Result<(), AllocError> {
+    let payload = &segment.payload[..segment.payload.len().min(1500)];
+    let len = payload.len() as u16;
     put_field(file, little, segment.stamp.0)?;
     put_field(file, little, segment.stamp.1)?;
     put_field(file, little, 54 + u32::from(len))?;
     put_field(file, little, 54 + u32::from(len))?;
     let (from, to) = (segment.from, segment.to);
     file.extend_from_slice(&[2, 0, 0, 0, 0, to.mac, 2, 0, 0, 0, 0, from.mac, 8, 0])?;
-    file.extend_from_slice(&[0x45, 0, 0, 40 + len, 0, 0, 0x40, 0, 0x40, 6, 0, 0])?;
+    file.extend_from_slice(&[0x45, 0])?;
+    file.extend_from_slice(&(40 + len).to_be_bytes())?;
+    file.extend_from_slice(&[0, 0, 0x40, 0, 0x40, 6, 0, 0])?;
     file.extend_from_slice(&[10, 0, 0, from.addr, 10, 0, 0, to.addr])?;
     file.extend_from_slice(&from.port.to_be_bytes())?;
     file.extend_from_slice(&to.port.to_be_bytes())?;
     file.extend_from_slice(&segment.numbers.0.to_be_bytes())?;
     file.extend_from_slice(&segment.numbers.1.to_be_bytes())?;
     file.extend_from_slice(&[0x50, segment.flags, 0xff, 0xff, 0, 0, 0, 0])?;
-    for place in 0..len {
-        file.push(b"hello"[usize::from(place % 5)])?;
-    }
-    Ok(())
+    file.extend_from_slice(payload)
 }
 
 pub fn file(
     alloc: Global,
     little: bool,
-    segments: &[RecordedSegment],
+    segments: &[RecordedSegment<'_>],
 ) -> Result<Vec<u8>, AllocError> {
     let mut file = header(alloc, little)?;
     for segment in segments {
@@ -121,15 +125,15 @@ pub fn file(
     Ok(file)
 }
 
-pub fn session() -> [RecordedSegment; 7] {
+pub fn session() -> [RecordedSegment<'static>; 7] {
     [
-        segment((1, 0), CLIENT, SERVER, SYN, (1000, 0), 0),
-        segment((1, 100), SERVER, CLIENT, SYN + ACK, (5000, 1001), 0),
-        segment((1, 200), CLIENT, SERVER, ACK, (1001, 5001), 0),
-        segment((1, 1000), CLIENT, SERVER, PSH + ACK, (1001, 5001), 5),
-        segment((1, 2000), CLIENT, SERVER, FIN + ACK, (1006, 5001), 0),
-        segment((1, 3000), SERVER, CLIENT, FIN + ACK, (5001, 1007), 0),
-        segment((1, 3100), CLIENT, SERVER, ACK, (1007, 5002), 0),
+        segment((1, 0), CLIENT, SERVER, SYN, (1000, 0), b""),
+        segment((1, 100), SERVER, CLIENT, SYN + ACK, (5000, 1001), b""),
+        segment((1, 200), CLIENT, SERVER, ACK, (1001, 5001), b""),
+        segment((1, 1000), CLIENT, SERVER, PSH + ACK, (1001, 5001), b"hello"),
+        segment((1, 2000), CLIENT, SERVER, FIN + ACK, (1006, 5001), b""),
+        segment((1, 3000), SERVER, CLIENT, FIN + ACK, (5001, 1007), b""),
+        segment((1, 3100), CLIENT, SERVER, ACK, (1007, 5002), b""),
     ]
 }
 

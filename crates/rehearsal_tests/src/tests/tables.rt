@@ -101,14 +101,14 @@ fn check(
 }
 
 // An opening that is sent again, and a second session of the same pair.
-fn repeated() -> [RecordedSegment; 6] {
+fn repeated() -> [RecordedSegment<'static>; 6] {
     [
-        segment((1, 0), CLIENT, SERVER, SYN, (1000, 0), 0),
-        segment((1, 500_000), CLIENT, SERVER, SYN, (1000, 0), 0),
-        segment((1, 600_000), SERVER, CLIENT, SYN + ACK, (5000, 1001), 0),
-        segment((1, 700_000), CLIENT, SERVER, PSH + ACK, (1001, 5001), 1),
-        segment((2, 0), CLIENT, SERVER, SYN, (9000, 0), 0),
-        segment((2, 100_000), CLIENT, SERVER, PSH + ACK, (9001, 0), 1),
+        segment((1, 0), CLIENT, SERVER, SYN, (1000, 0), b""),
+        segment((1, 500_000), CLIENT, SERVER, SYN, (1000, 0), b""),
+        segment((1, 600_000), SERVER, CLIENT, SYN + ACK, (5000, 1001), b""),
+        segment((1, 700_000), CLIENT, SERVER, PSH + ACK, (1001, 5001), b"h"),
+        segment((2, 0), CLIENT, SERVER, SYN, (9000, 0), b""),
+        segment((2, 100_000), CLIENT, SERVER, PSH + ACK, (9001, 0), b"h"),
     ]
 }
 
@@ -117,9 +117,9 @@ const REPEATED: [Wanted; 2] = [(CLIENT, &[0, 1, 2, 3]), (CLIENT, &[4, 5])];
 #[test]
 fn an_unopened_pair_first(rt: HostRuntime) -> Result<(), Fail> {
     let segments = [
-        segment((1, 0), SERVER, CLIENT, ACK, (7000, 1), 0),
-        segment((2, 0), SECOND_CLIENT, SERVER, SYN, (2000, 0), 0),
-        segment((3, 0), CLIENT, SERVER, SYN, (1000, 0), 0),
+        segment((1, 0), SERVER, CLIENT, ACK, (7000, 1), b""),
+        segment((2, 0), SECOND_CLIENT, SERVER, SYN, (2000, 0), b""),
+        segment((3, 0), CLIENT, SERVER, SYN, (1000, 0), b""),
     ];
     let bytes = file(rt.alloc(), true, &segments)?;
     let capture = read_capture(rt.alloc(), &bytes)?;
@@ -138,8 +138,8 @@ fn an_unopened_pair_first(rt: HostRuntime) -> Result<(), Fail> {
 #[test]
 fn openings_from_both_sides(rt: HostRuntime) -> Result<(), Fail> {
     let segments = [
-        segment((1, 0), CLIENT, SERVER, SYN, (1000, 0), 0),
-        segment((1, 100_000), SERVER, CLIENT, SYN, (1000, 0), 0),
+        segment((1, 0), CLIENT, SERVER, SYN, (1000, 0), b""),
+        segment((1, 100_000), SERVER, CLIENT, SYN, (1000, 0), b""),
     ];
     let bytes = file(rt.alloc(), false, &segments)?;
     let capture = read_capture(rt.alloc(), &bytes)?;
@@ -227,9 +227,9 @@ fn what_a_member_tells(rt: HostRuntime) -> Result<(), Fail> {
 #[test]
 fn instants_where_stamps_fall_back(rt: HostRuntime) -> Result<(), Fail> {
     let segments = [
-        segment((5, 0), CLIENT, SERVER, SYN, (1000, 0), 0),
-        segment((4, 0), SECOND_CLIENT, SERVER, SYN, (2000, 0), 0),
-        segment((4, 500_000), SECOND_CLIENT, SERVER, PSH + ACK, (2001, 0), 1),
+        segment((5, 0), CLIENT, SERVER, SYN, (1000, 0), b""),
+        segment((4, 0), SECOND_CLIENT, SERVER, SYN, (2000, 0), b""),
+        segment((4, 500_000), SECOND_CLIENT, SERVER, PSH + ACK, (2001, 0), b"h"),
     ];
     let bytes = file(rt.alloc(), true, &segments)?;
     let capture = read_capture(rt.alloc(), &bytes)?;
@@ -266,7 +266,7 @@ fn thousands_of_records(rt: HostRuntime) -> Result<(), Fail> {
             put(
                 &mut bytes,
                 true,
-                &segment((round, 0), client, SERVER, flags, (seq, 0), 0),
+                &segment((round, 0), client, SERVER, flags, (seq, 0), b""),
             )?;
         }
     }

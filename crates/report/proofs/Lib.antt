@@ -1,0 +1,4 @@
+pub mod ByteRuns
+pub mod PartBytes
+pub mod SeenPackets
+pub mod Joins

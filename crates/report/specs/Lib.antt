@@ -1,0 +1,3 @@
+pub mod ReportText
+pub mod ShortLines
+pub mod ReportRows

@@ -1,0 +1,129 @@
+-- Worked rows of a connection's line: what is told of lines that became others, and were cut.
+use Rattle.std.specs.Prelude.{◌≡◌, ℕ, List, [], ◌∷◌, codes, Some, None, true, false}
+use Rattle.frame_headers.specs.declared.peers.Peer.{Peer}
+use Rattle.reassembly.specs.RecordedLines.{LineByte, Line, End, live, fin, close, reset, RecordedConnection}
+use Rattle.toxic_defs.specs.DeliveredLines.{DeliveredConnection, delivered_connection}
+use Rattle.toxic_defs.specs.SessionCut.{cut_line}
+use Rattle.report.specs.ReportText.{connection_text}
+
+abbrev pub client : Peer
+client = record { addr = 0x0a000001; port = 40000 }
+
+abbrev pub server : Peer
+server = record { addr = 0x0a000002; port = 80 }
+
+-- a chunk of five bytes, or of four, at an instant
+abbrev pub hello : ℕ → List LineByte
+hello at = record { value = 104; at = at; starts = true } ∷ record { value = 101; at = at; starts = false } ∷ record { value = 108; at = at; starts = false } ∷ record { value = 108; at = at; starts = false } ∷ record { value = 111; at = at; starts = false } ∷ []
+
+abbrev pub hell : ℕ → List LineByte
+hell at = record { value = 104; at = at; starts = true } ∷ record { value = 101; at = at; starts = false } ∷ record { value = 108; at = at; starts = false } ∷ record { value = 108; at = at; starts = false } ∷ []
+
+-- two chunks of a byte
+abbrev pub ho : ℕ → ℕ → List LineByte
+ho first second = record { value = 104; at = first; starts = true } ∷ record { value = 111; at = second; starts = true } ∷ []
+
+abbrev pub line_with : List LineByte → End → Line
+line_with bytes end = record { bytes = bytes; end = end }
+
+-- the lines of a session, written out by hand
+abbrev pub session : RecordedConnection
+session = record {
+  up = record { line = line_with (hello 1001000) (fin 1002000); lost = 0 };
+  down = record { line = line_with [] (fin 1003000); lost = 0 };
+  client_base = 1000;
+  server_base = Some 5000;
+  opened = 1000000;
+  mac_client = 2 ∷ 0 ∷ 0 ∷ 0 ∷ 0 ∷ 1 ∷ [];
+  mac_server = 2 ∷ 0 ∷ 0 ∷ 0 ∷ 0 ∷ 2 ∷ [];
+}
+
+-- two lines behind a proxy, cut
+abbrev pub both_cut : Line → Line → DeliveredConnection
+both_cut up down = record { proxy = Some 0; refused = false; up = cut_line 1000000 up down up; down = cut_line 1000000 up down down }
+
+-- what is told of a session where its lines became these
+abbrev pub text_of : RecordedConnection → Line → Line → List ℕ
+text_of recorded up down = connection_text 0 client server recorded (both_cut up down)
+
+-- ---- as recorded, and refused
+
+abbrev pub SessionTold : Type 0
+SessionTold =
+    connection_text 0 client server session (delivered_connection 1000000 None session)
+    ≡ codes "0 10.0.0.1:40000 > 10.0.0.2:80 proxy - up 5/5/0 fin+2000 max 0 down 0/0/0 fin+3000 max 0\n"
+
+abbrev pub RefusedTold : Type 0
+RefusedTold =
+    connection_text 7 client server session (delivered_connection 1000000 (Some (record { number = 3; enabled = false })) session)
+    ≡ codes "7 10.0.0.1:40000 > 10.0.0.2:80 proxy 3 up 0/5/0 refused max 0 down 0/0/0 refused max 0\n"
+
+-- ---- cut
+
+-- a close after four bytes ends both directions
+abbrev pub LimitedText : Type 0
+LimitedText =
+    text_of session (line_with (hell 1001000) (close 1001000)) (line_with [] (fin 1003000))
+    ≡ codes "0 10.0.0.1:40000 > 10.0.0.2:80 proxy 0 up 4/5/0 close+1000 max 0 down 0/0/0 close+1000 max 0\n"
+
+-- a recorded reset cuts what comes later than it
+abbrev pub session_reset : RecordedConnection
+session_reset = record session {
+  up = record { line = line_with (hello 1001000) (reset 1002000); lost = 0 };
+  down = record { line = line_with [] (reset 1002000); lost = 0 };
+}
+
+abbrev pub ResetText : Type 0
+ResetText =
+    text_of session_reset (line_with (hello 1101000) (reset 1101000)) (line_with [] (reset 1002000))
+    ≡ codes "0 10.0.0.1:40000 > 10.0.0.2:80 proxy 0 up 0/5/0 reset+2000 max 0 down 0/0/0 reset+2000 max 0\n"
+
+-- a line that never ends leaves the other as it is
+abbrev pub StoppedText : Type 0
+StoppedText =
+    text_of session (line_with [] live) (line_with [] (fin 1003000))
+    ≡ codes "0 10.0.0.1:40000 > 10.0.0.2:80 proxy 0 up 0/5/0 open max 0 down 0/0/0 fin+3000 max 0\n"
+
+abbrev pub ResetAtOnceText : Type 0
+ResetAtOnceText =
+    text_of session (line_with [] (reset 1000000)) (line_with [] (fin 1003000))
+    ≡ codes "0 10.0.0.1:40000 > 10.0.0.2:80 proxy 0 up 0/5/0 reset+0 max 0 down 0/0/0 reset+0 max 0\n"
+
+-- a close and a reset at one instant both stay
+abbrev pub TieText : Type 0
+TieText =
+    text_of session (line_with (hello 1001000) (close 1001500)) (line_with [] (reset 1001500))
+    ≡ codes "0 10.0.0.1:40000 > 10.0.0.2:80 proxy 0 up 5/5/0 close+1500 max 0 down 0/0/0 reset+1500 max 0\n"
+
+-- bytes and a FIN at the closing instant stay
+abbrev pub FinStaysText : Type 0
+FinStaysText =
+    text_of session (line_with (hello 1001500) (fin 1001500)) (line_with [] (close 1001500))
+    ≡ codes "0 10.0.0.1:40000 > 10.0.0.2:80 proxy 0 up 5/5/0 fin+1500 max 500 down 0/0/0 close+1500 max 0\n"
+
+-- nothing is delivered at the horizon, and all before it is
+abbrev pub AtHorizonText : Type 0
+AtHorizonText =
+    text_of session (line_with (hello 4294967296000000) (fin 4294967296000000)) (line_with [] (reset 4294967296000000))
+    ≡ codes "0 10.0.0.1:40000 > 10.0.0.2:80 proxy 0 up 0/5/0 open max 0 down 0/0/0 open max 0\n"
+
+abbrev pub BeforeHorizonText : Type 0
+BeforeHorizonText =
+    text_of session (line_with (hello 4294967295999999) live) (line_with [] (reset 4294967296000000))
+    ≡ codes "0 10.0.0.1:40000 > 10.0.0.2:80 proxy 0 up 5/5/0 open max 4294967294998999 down 0/0/0 open max 0\n"
+
+-- ---- delays
+
+abbrev pub LaterText : Type 0
+LaterText =
+    text_of session (line_with (hello 1101000) (fin 1101000)) (line_with [] (fin 1003000))
+    ≡ codes "0 10.0.0.1:40000 > 10.0.0.2:80 proxy 0 up 5/5/0 fin+101000 max 100000 down 0/0/0 fin+3000 max 0\n"
+
+-- the delays of two bytes, of which the first is longer, and bytes that were lost
+abbrev pub session_lossy : RecordedConnection
+session_lossy = record session { down = record { line = line_with (ho 1002000 1004000) live; lost = 12 } }
+
+abbrev pub LongestText : Type 0
+LongestText =
+    text_of session_lossy (line_with [] live) (line_with (ho 1005000 1006000) live)
+    ≡ codes "0 10.0.0.1:40000 > 10.0.0.2:80 proxy 0 up 0/5/0 open max 0 down 2/2/12 open max 3000\n"

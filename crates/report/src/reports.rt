@@ -1,0 +1,138 @@
+//! A report: its first two lines, and then the lines of the connections.
+ghost use Rattle.std.specs.Prelude.{◌≡◌, ◌++◌, length, IfOk, OnOk};
+ghost use Rattle.pcap_records.specs.CaptureView.{contents_of};
+ghost use Rattle.conn_table.specs.SeenCapture.{seen_capture};
+ghost use Rattle.conn_table.specs.ClassCounts.{counts_of};
+ghost use Rattle.report.specs.ReportText.{heading_text, first_classes_text, other_classes_text, counts_text_of, counts_text, connections_text, report_text};
+
+use crate::lines::LINE_ROOM;
+use crate::report_text::ReportText;
+use conn_table::{Counts, Table};
+use pcap_records::Capture;
+use std::alloc::{AllocError, Global};
+
+/// The room of the first two lines, which are seldom longer.
+const HEAD_ROOM: usize = 256;
+
+/// The report of a scenario: the line that tells how many records the capture has and how many packets are of each class, the line
+/// that tells how many connections and unopened segments there are, and the lines of the connections in the order of their numbers.
+///
+/// # Errors
+/// A growth was refused.
+#[tactic(auto, unfolding(crate::specs::ReportText::report_text))]
+pub fn report(
+    alloc: Global,
+    scenario: u32,
+    capture: &Capture<'_>,
+    table: &Table,
+    lines: &[ReportText],
+) -> Result<ReportText, AllocError>
+    requires counts { table.now.counts ≡ counts_of (seen_capture (contents_of capture.now)).packets }
+    requires each { length lines.now ≡ length table.now.conns }
+    ensures { IfOk result (λ text. text ≡ report_text scenario (seen_capture (contents_of capture.now)) table.now.unopened lines.now) }
+{
+    let connections = lines.len();
+    let mut text = open_report(
+        alloc,
+        scenario,
+        capture,
+        table.counts(),
+        connections,
+        table.unopened(),
+    )?;
+    for line in lines {
+        text.push_text(line)?;
+    }
+    Ok(text)
+}
+
+/// The first two lines of a report, with room for the lines of so many connections, which [`crate::push_line`] appends.
+///
+/// # Errors
+/// A growth was refused.
+#[tactic(auto, unfolding(crate::specs::ReportText::counts_text))]
+pub fn open_report(
+    alloc: Global,
+    scenario: u32,
+    capture: &Capture<'_>,
+    counts: Counts,
+    connections: usize,
+    unopened: u64,
+) -> Result<ReportText, AllocError>
+    requires { counts ≡ counts_of (seen_capture (contents_of capture.now)).packets }
+    ensures { IfOk result (λ text. text ≡ counts_text scenario (seen_capture (contents_of capture.now)) ++ connections_text connections unopened) }
+{
+    let room = connections
+        .saturating_mul(LINE_ROOM)
+        .saturating_add(HEAD_ROOM);
+    let mut text = ReportText::with_room(alloc, room)?;
+    let records = capture.records().len();
+    push_counts(&mut text, scenario, records, capture.rest(), counts)?;
+    push_connections(&mut text, connections, unopened)?;
+    Ok(text)
+}
+
+// Appends the line of counts.
+fn push_counts(
+    text: &mut ReportText,
+    scenario: u32,
+    records: usize,
+    rest: u32,
+    counts: Counts,
+) -> Result<(), AllocError>
+    ensures { OnOk result (text.new ≡ text.old ++ counts_text_of scenario records rest counts) }
+{
+    push_heading(text, scenario, records, rest)?;
+    push_first_classes(text, counts)?;
+    push_other_classes(text, counts)
+}
+
+// Appends the scenario's number, and how many records and bytes behind them the capture has.
+fn push_heading(
+    text: &mut ReportText,
+    scenario: u32,
+    records: usize,
+    rest: u32,
+) -> Result<(), AllocError>
+    ensures { OnOk result (text.new ≡ text.old ++ heading_text scenario records rest) }
+{
+    text.push_told("scenario ", u64::from(scenario))?;
+    text.push_told(" records ", records as u64)?;
+    text.push_told(" rest ", u64::from(rest))
+}
+
+// Appends how many packets are of each of the first four classes.
+fn push_first_classes(text: &mut ReportText, counts: Counts) -> Result<(), AllocError>
+    ensures { OnOk result (text.new ≡ text.old ++ first_classes_text counts) }
+{
+    text.push_told(" segment ", u64::from(counts.segment))?;
+    text.push_told(" short ", u64::from(counts.short))?;
+    text.push_told(" notipv4 ", u64::from(counts.not_ipv4))?;
+    text.push_told(" badipv4 ", u64::from(counts.bad_ipv4))
+}
+
+// Appends how many packets are of each of the other five.
+fn push_other_classes(text: &mut ReportText, counts: Counts) -> Result<(), AllocError>
+    ensures { OnOk result (text.new ≡ text.old ++ other_classes_text counts) }
+{
+    text.push_told(" fragment ", u64::from(counts.fragment))?;
+    text.push_told(" nottcp ", u64::from(counts.not_tcp))?;
+    text.push_told(" cut ", u64::from(counts.cut))?;
+    text.push_told(" badtcp ", u64::from(counts.bad_tcp))?;
+    text.push_told(" sameends ", u64::from(counts.same_ends))?;
+    text.push("\n")
+}
+
+// Appends how many connections and unopened segments there are.
+#[tactic(auto, unfolding(crate::specs::ReportText::connections_text))]
+fn push_connections(
+    text: &mut ReportText,
+    connections: usize,
+    unopened: u64,
+) -> Result<(), AllocError>
+    ensures { OnOk result (text.new ≡ text.old ++ connections_text connections unopened) }
+{
+    text.push_told("connections ", connections as u64)?;
+    text.push_told(" unopened ", unopened)?;
+    text.push("\n")
+}

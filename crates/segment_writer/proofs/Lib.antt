@@ -1,0 +1,15 @@
+pub mod PartBytes
+pub mod PieceCuts
+pub mod PlaceSteps
+pub mod Listening
+pub mod RecordSteps
+pub mod SentClimb
+pub mod TurnSteps
+pub mod Sorting
+pub mod InOrder
+pub mod JoinSteps
+pub mod WholeSegments
+pub mod OneOrderLaw
+pub mod KeysApart
+pub mod Evaluated
+mod KeySorts

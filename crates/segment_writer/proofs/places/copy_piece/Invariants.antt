@@ -1,0 +1,15 @@
+use Rattle.std.proofs.Common.{◌≡◌, ◌≤◌, ◌++◌, length, take, drop}
+use Rattle.segment_writer.specs.FirstPieces.{values}
+use Rattle.segment_writer.specs.PiecePlaces.{left_at, IsPlace}
+use Rattle.segment_writer.proofs.places.copy_piece.Given as goal
+
+abbrev pub invariant-loop-left : goal.invariant-loop-left
+invariant-loop-left l = record {
+  place : IsPlace l.parts (record { part = l.part; offset = l.offset });
+  within : l.left ≤ length (left_at l.parts (record { part = l.part; offset = l.offset }));
+  bytes : l.out.items ++ values (take l.left (left_at l.parts (record { part = l.part; offset = l.offset }))) ≡ l.initial.out.items ++ values (take l.len (left_at l.parts l.fn.from));
+  rest : drop l.left (left_at l.parts (record { part = l.part; offset = l.offset })) ≡ drop l.len (left_at l.parts l.fn.from);
+}
+
+abbrev pub decreases-loop-left : goal.decreases-loop-left
+decreases-loop-left l = l.left

@@ -1,0 +1,10 @@
+use Rattle.std.proofs.Common.{length}
+use Rattle.segment_writer.specs.PiecePlaces.{left_at}
+use Rattle.segment_writer.proofs.TurnSteps.{Going}
+use Rattle.segment_writer.proofs.turns.line_segments.Given as goal
+
+abbrev pub invariant-pieces : goal.invariant-pieces
+invariant-pieces l = Going l.sender l.own l.own_end l.peer l.peer_end l.list.items l.from l.heard l.sent l.place
+
+abbrev pub decreases-pieces : goal.decreases-pieces
+decreases-pieces l = length (left_at l.own l.from)

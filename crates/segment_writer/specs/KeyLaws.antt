@@ -1,0 +1,50 @@
+-- Keys stand once: in the segments of a connection, and of connections that are numbered in turn.
+use Rattle.std.specs.Prelude.{◌≡◌, ◌≤◌, ℕ, ◌+◌, Bool, false, ◌&&◌, not, List, [], ◌∷◌, if◌then◌else◌}
+use Rattle.std.specs.List.{flat_map}
+use Rattle.std.specs.List.Sorted.{IsPermutation}
+use Rattle.segment_writer.specs.declared.framed.SegKey.{SegKey}
+use Rattle.segment_writer.specs.declared.framed.Framed.{Framed}
+use Rattle.segment_writer.specs.WrittenSegments.{WrittenConnection, is_key_below, sorted_by_key, written_segments}
+use Rattle.segment_writer.specs.KeyOrder.{AreRising}
+
+-- neither key is below the other
+abbrev pub same_key : SegKey → SegKey → Bool
+same_key a b = not (is_key_below a b) && not (is_key_below b a)
+
+-- how many segments have a key
+abbrev pub times : SegKey → List Framed → ℕ
+times k [] = 0
+times k (x ∷ xs) = if same_key k x.key then 1 + times k xs else times k xs
+
+-- of each key there is one segment at most
+abbrev pub HasNoKeyTwice : List Framed → Type 0
+HasNoKeyTwice xs = (k : SegKey) → times k xs ≤ 1
+
+-- no segment has a key below one before it
+abbrev pub NoneLower : SegKey → List Framed → Type 0
+NoneLower k [] = Unit {0}
+NoneLower k (x ∷ xs) = (is_key_below x.key k ≡ false) × NoneLower k xs
+
+abbrev pub NeverFalls : List Framed → Type 0
+NeverFalls [] = Unit {0}
+NeverFalls (x ∷ xs) = NoneLower x.key xs × NeverFalls xs
+
+-- whatever list has the same segments, each of a key of its own, and never falls is the one in order
+abbrev pub OneOrder : Type 0
+OneOrder = (xs ys : List Framed) → HasNoKeyTwice xs → IsPermutation xs ys → NeverFalls ys → ys ≡ sorted_by_key xs
+
+-- what is in order never falls
+abbrev pub SortedNeverFalls : Type 0
+SortedNeverFalls = (xs : List Framed) → NeverFalls (sorted_by_key xs)
+
+-- the keys of what is written of a connection rise, whatever its lines are
+abbrev pub KeysRise : Type 0
+KeysRise = (ticks : ℕ) (c : WrittenConnection) → AreRising (written_segments ticks c)
+
+-- connections with the numbers from n on, in turn
+abbrev pub AreNumbered : ℕ → List WrittenConnection → Type 0
+AreNumbered n [] = Unit {0}
+AreNumbered n (c ∷ cs) = (c.number ≡ n) × AreNumbered (n + 1) cs
+
+abbrev pub KeysStandOnce : Type 0
+KeysStandOnce = (ticks n : ℕ) (cs : List WrittenConnection) → AreNumbered n cs → HasNoKeyTwice (flat_map (written_segments ticks) cs)

@@ -1,0 +1,10 @@
+pub mod WrittenSegments
+pub mod WrittenConnections
+pub mod KeyOrder
+pub mod TimelyLines
+pub mod FirstPieces
+pub mod PiecePlaces
+pub mod HeardBytes
+pub mod Senders
+pub mod KeyLaws
+pub mod SentRows

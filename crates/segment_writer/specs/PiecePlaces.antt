@@ -1,0 +1,27 @@
+-- Places in the parts of a line.
+use Rattle.std.specs.Prelude.{◌≡◌, ◌≤◌, ◌<◌, ℕ, ◌||◌, not, Bool, true, false, List, [], ◌∷◌, length, drop}
+use Rattle.reassembly.specs.RecordedLines.{LineByte}
+use Rattle.reassembly.specs.LineView.{bytes_of_parts}
+use Rattle.reassembly.specs.declared.line_parts.LinePart.{LinePart}
+use Rattle.segment_writer.specs.declared.places.Cursor.{Cursor}
+
+-- the bytes from a place on
+abbrev pub left_at : List LinePart → Cursor → List LineByte
+left_at parts c = drop c.offset (bytes_of_parts (drop c.part parts))
+
+-- so far into the first part that a byte of it follows, or behind all parts
+abbrev pub IsInside : List LinePart → ℕ → Type 0
+IsInside [] offset = offset ≡ 0
+IsInside (p ∷ ps) offset = offset < length p.bytes.now
+
+pub record IsPlace (parts : List LinePart) (c : Cursor) : Type 0 where
+  pub within : c.part ≤ length parts
+  pub inside : IsInside (drop c.part parts) c.offset
+
+abbrev pub has_none : List ℕ → Bool
+has_none [] = true
+has_none (x ∷ xs) = false
+
+-- no chunk starts with a part's bytes: it is not marked, or there are none
+abbrev pub goes_on : LinePart → Bool
+goes_on p = not p.starts || has_none p.bytes.now

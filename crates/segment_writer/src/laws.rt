@@ -1,0 +1,46 @@
+//! Theorems about the definitions of this crate. Each function does nothing: its contract is the theorem.
+ghost use Rattle.segment_writer.specs.FirstPieces.{FirstPiece};
+ghost use Rattle.segment_writer.specs.KeyLaws.{KeysRise, KeysStandOnce, OneOrder, SortedNeverFalls};
+ghost use Rattle.segment_writer.specs.KeyOrder.{PartsAreSortedFirst, RisingIsSorted};
+ghost use Rattle.segment_writer.specs.TimelyLines.{LinesAreTimely};
+
+/// Segments whose keys rise are in order already.
+pub fn rising_is_sorted()
+    ensures { RisingIsSorted }
+{}
+
+/// Two lists of segments may be put in order before they are joined and put in order.
+pub fn parts_are_sorted_first()
+    ensures { PartsAreSortedFirst }
+{}
+
+/// The first piece of some bytes is what their chunk still has, at most the limit, and what stands behind it is cut in the same
+/// way. A piece ends its chunk where no byte of the chunk follows.
+pub fn first_piece()
+    ensures { FirstPiece }
+{}
+
+/// In a line that follows the rule of lines instants never fall, and its bytes fit the space of sequence numbers.
+pub fn lines_are_timely()
+    ensures { LinesAreTimely }
+{}
+
+/// Where no key stands twice, there is one order: whatever list has the same segments and never falls is the one in order.
+pub fn one_order()
+    ensures { OneOrder }
+{}
+
+/// The keys of what is written of a connection rise, so no key stands twice.
+pub fn keys_rise()
+    ensures { KeysRise }
+{}
+
+/// Nor does one among the segments of connections that are numbered in turn.
+pub fn keys_stand_once()
+    ensures { KeysStandOnce }
+{}
+
+/// Of segments in order of key none has a key below one before it.
+pub fn sorted_never_falls()
+    ensures { SortedNeverFalls }
+{}

@@ -1,0 +1,106 @@
+//! Places in a line's parts, and the pieces that begin there. Parts without bytes count for nothing.
+ghost use Rattle.std.specs.Prelude.{◌≡◌, ◌≤◌, ◌<◌, ◌+◌, ◌++◌, ◌∷◌, length, drop, take, IfOk, OnOk};
+ghost use Rattle.frame_headers.specs.Headers.{payload_limit};
+ghost use Rattle.reassembly.specs.LineView.{bytes_of_parts};
+ghost use Rattle.segment_writer.specs.WrittenSegments.{is_chunk_border};
+ghost use Rattle.segment_writer.specs.FirstPieces.{piece_size, values};
+ghost use Rattle.segment_writer.specs.PiecePlaces.{left_at, goes_on, IsPlace};
+
+use frame_headers::PAYLOAD_LIMIT;
+use reassembly::LinePart;
+use std::alloc::AllocError;
+
+/// A byte of a line: how many parts stand before it, and how many bytes of its own part.
+#[derive(Clone, Copy)]
+pub(crate) struct Cursor {
+    pub part: usize,
+    pub offset: usize,
+}
+
+/// Part `i`.
+pub(crate) fn part_at<'a>(parts: &[LinePart<'a>], i: usize) -> LinePart<'a>
+    requires { i < length parts.now }
+    ensures { drop i parts.now ≡ result ∷ drop (i + 1) parts.now }
+{
+    let part = &parts[i];
+    LinePart {
+        at: part.at,
+        starts: part.starts,
+        bytes: part.bytes,
+    }
+}
+
+/// The number of the first part from `from` on that has bytes, or how many parts there are.
+pub(crate) fn next_filled(parts: &[LinePart<'_>], from: usize) -> usize
+    requires { from ≤ length parts.now }
+    ensures place { IsPlace parts.now (record { part = result; offset = 0 }) }
+    ensures left { bytes_of_parts (drop result parts.now) ≡ bytes_of_parts (drop from parts.now) }
+{
+    let mut next = from;
+    while next < parts.len() && part_at(parts, next).bytes.is_empty() {
+        next += 1;
+    }
+    next
+}
+
+// Whether no chunk starts with a part's bytes.
+fn goes_on(part: &LinePart<'_>) -> bool
+    ensures { result ≡ goes_on part.now }
+{
+    !part.starts || part.bytes.is_empty()
+}
+
+/// How many bytes the piece has that begins at a place.
+pub(crate) fn piece_len(parts: &[LinePart<'_>], place: Cursor) -> usize
+    requires place { IsPlace parts.now place }
+    requires before { place.part < length parts.now }
+    ensures { result ≡ piece_size payload_limit (left_at parts.now place) }
+{
+    let mut len = part_at(parts, place.part).bytes.len() - place.offset;
+    let mut next = place.part + 1;
+    while len < PAYLOAD_LIMIT && next < parts.len() && goes_on(&part_at(parts, next)) {
+        len += part_at(parts, next).bytes.len();
+        next += 1;
+    }
+    len.min(PAYLOAD_LIMIT)
+}
+
+/// Whether a chunk ends before a place.
+pub(crate) fn is_border(parts: &[LinePart<'_>], place: Cursor) -> bool
+    requires { IsPlace parts.now place }
+    ensures { result ≡ is_chunk_border (left_at parts.now place) }
+{
+    place.part == parts.len() || (place.offset == 0 && part_at(parts, place.part).starts)
+}
+
+/// Appends `len` bytes from a place on, and gives the place behind them.
+pub(crate) fn copy_piece(
+    out: &mut Vec<u8>,
+    parts: &[LinePart<'_>],
+    from: Cursor,
+    len: usize,
+) -> Result<Cursor, AllocError>
+    requires place { IsPlace parts.now from }
+    requires within { len ≤ length (left_at parts.now from) }
+    ensures bytes { OnOk result (out.new.items ≡ out.old.items ++ values (take len (left_at parts.now from))) }
+    ensures place { IfOk result (λ after. IsPlace parts.now after) }
+    ensures left { IfOk result (λ after. left_at parts.now after ≡ drop len (left_at parts.now from)) }
+{
+    let mut part = from.part;
+    let mut offset = from.offset;
+    let mut left = len;
+    while left > 0 {
+        let bytes = part_at(parts, part).bytes;
+        let rest = &bytes[offset..];
+        let taken = left.min(rest.len());
+        out.extend_from_slice(&rest[..taken])?;
+        left -= taken;
+        if taken < rest.len() {
+            offset += taken;
+        } else {
+            part = next_filled(parts, part + 1);
+            offset = 0;
+        }
+    }
+    Ok(Cursor { part, offset })
+}

@@ -1,0 +1,118 @@
+//! The records of segments, each made in one exact growth.
+ghost use Rattle.std.specs.Prelude.{◌≡◌, ◌≤◌, ◌<◌, ◌+◌, ◌++◌, length, drop, take, replicate, IfOk, if◌then◌else◌};
+ghost use Rattle.pcap_records.specs.Instants.{horizon, microseconds};
+ghost use Rattle.pcap_records.specs.Writing.{record_header};
+ghost use Rattle.frame_headers.specs.Flags.{psh_flag, ack_flag};
+ghost use Rattle.frame_headers.specs.Headers.{headers, headers_len, payload_limit};
+ghost use Rattle.segment_writer.specs.WrittenSegments.{opening_segment};
+ghost use Rattle.segment_writer.specs.FirstPieces.{first_instant, first_of, piece_size};
+ghost use Rattle.segment_writer.specs.PiecePlaces.{left_at, IsPlace};
+ghost use Rattle.segment_writer.specs.Senders.{framed_by, piece_segment};
+
+use crate::framed::{Framed, RecordBytes};
+use crate::places::{Cursor, copy_piece, is_border, part_at};
+use crate::senders::{Numbers, Sender, header_with, key_at};
+use byteorder::{ByteOrder, LittleEndian};
+use frame_headers::{Flags, HEADERS_LEN, Header, put_headers};
+use pcap_records::{Moment, RECORD_HEADER_LEN};
+use reassembly::LinePart;
+use std::alloc::{AllocError, Global};
+
+// The header of a record: seconds, microseconds, and the frame's length twice.
+#[tactic(auto, unfolding(pcap_records::specs::Writing::record_header))]
+fn record_header_bytes(at: Moment, len: u32) -> [u8; RECORD_HEADER_LEN]
+    requires { at < horizon microseconds }
+    ensures { result ≡ record_header microseconds at len }
+{
+    let mut header = [0; RECORD_HEADER_LEN];
+    let fields: &mut [u8] = &mut header;
+    LittleEndian::write_u32(fields, (at.count() / Moment::SECOND) as u32);
+    LittleEndian::write_u32(&mut fields[4..], (at.count() % Moment::SECOND) as u32);
+    LittleEndian::write_u32(&mut fields[8..], len);
+    LittleEndian::write_u32(&mut fields[12..], len);
+    header
+}
+
+// The header of a record whose frame has `len` bytes of payload, and room for the frame: 0 in place of its headers.
+fn open_record(alloc: Global, at: Moment, len: usize) -> Result<Vec<u8>, AllocError>
+    requires early { at < horizon microseconds }
+    requires small { len ≤ payload_limit }
+    ensures { IfOk result (λ bytes. bytes.items ≡ record_header microseconds at (headers_len + len) ++ replicate headers_len 0) }
+{
+    let mut bytes = Vec::with_capacity(alloc, RECORD_HEADER_LEN + HEADERS_LEN + len)?;
+    let header = record_header_bytes(at, (HEADERS_LEN + len) as u32);
+    bytes.extend_from_slice(&header)?;
+    bytes.extend_from_slice(&[0; HEADERS_LEN])?;
+    Ok(bytes)
+}
+
+// Writes the headers of a record's frame, whose payload is in place.
+fn close_record(bytes: &mut [u8], header: &Header)
+    requires room { 70 ≤ length bytes.old }
+    requires small { length bytes.old ≤ 1530 }
+    ensures len { length (headers header.now (drop 70 bytes.old)) ≡ 54 }
+    ensures bytes { bytes.new ≡ take 16 bytes.old ++ (headers header.now (drop 70 bytes.old) ++ drop 70 bytes.old) }
+{
+    put_headers(&mut bytes[RECORD_HEADER_LEN..], header);
+}
+
+// ACK, and PSH where a chunk ends.
+fn piece_flags(ends: bool) -> Flags
+    ensures { result ≡ if ends then psh_flag + ack_flag else ack_flag }
+{
+    if ends {
+        Flags::PSH.with(Flags::ACK)
+    } else {
+        Flags::ACK
+    }
+}
+
+/// A segment without payload.
+pub(crate) fn bare_framed(
+    alloc: Global,
+    sender: &Sender,
+    at: Moment,
+    numbers: Numbers,
+    flags: Flags,
+) -> Result<Framed, AllocError>
+    requires { at < horizon microseconds }
+    ensures { IfOk result (λ framed. framed ≡ framed_by sender.now (numbers.place, opening_segment at numbers.seq numbers.ack flags)) }
+{
+    let mut bytes = open_record(alloc, at, 0)?;
+    let header = header_with(sender, numbers, flags);
+    close_record(&mut bytes, &header);
+    Ok(Framed {
+        key: key_at(sender, at, numbers.place),
+        bytes: RecordBytes::of(bytes),
+    })
+}
+
+/// The segment of the piece of `len` bytes that begins at a place, and the place behind it.
+pub(crate) fn piece_framed(
+    alloc: Global,
+    sender: &Sender,
+    own: &[LinePart<'_>],
+    from: Cursor,
+    len: usize,
+    numbers: Numbers,
+) -> Result<(Framed, Cursor), AllocError>
+    requires place { IsPlace own.now from }
+    requires before { from.part < length own.now }
+    requires len { len ≡ piece_size payload_limit (left_at own.now from) }
+    requires early { first_instant (left_at own.now from) < horizon microseconds }
+    ensures framed { IfOk result (λ r. r.0 ≡ framed_by sender.now (numbers.place, piece_segment numbers.seq numbers.ack (first_of payload_limit (left_at own.now from)))) }
+    ensures place { IfOk result (λ r. IsPlace own.now r.1) }
+    ensures left { IfOk result (λ r. left_at own.now r.1 ≡ drop len (left_at own.now from)) }
+{
+    let at = part_at(own, from.part).at;
+    let mut bytes = open_record(alloc, at, len)?;
+    let after = copy_piece(&mut bytes, own, from, len)?;
+    let flags = piece_flags(is_border(own, after));
+    let header = header_with(sender, numbers, flags);
+    close_record(&mut bytes, &header);
+    let framed = Framed {
+        key: key_at(sender, at, numbers.place),
+        bytes: RecordBytes::of(bytes),
+    };
+    Ok((framed, after))
+}

@@ -1,0 +1,101 @@
+//! Who sends segments, and what the headers of these say.
+ghost use Rattle.std.specs.Prelude.{◌≡◌};
+ghost use Rattle.reassembly.specs.RecordedView.{recorded_view};
+ghost use Rattle.toxic_defs.specs.DeliveredLines.{DeliveredConnection};
+ghost use Rattle.segment_writer.specs.WrittenConnections.{written_connection};
+ghost use Rattle.segment_writer.specs.Senders.{client_in, server_in, header_with};
+
+use crate::framed::SegKey;
+use conn_table::Conn;
+use frame_headers::{Flags, Header, Peer};
+use pcap_records::Moment;
+use reassembly::Recorded;
+
+/// Who sends the segments of a turn.
+#[derive(Clone, Copy)]
+pub(crate) struct Sender {
+    pub conn: u32,
+    pub turn: u8,
+    pub mac_from: [u8; 6],
+    pub mac_to: [u8; 6],
+    pub from: Peer,
+    pub to: Peer,
+    pub base: u32,
+    pub peer_base: u32,
+}
+
+/// The numbers of a segment, and its place in its turn.
+#[derive(Clone, Copy)]
+pub(crate) struct Numbers {
+    pub seq: u32,
+    pub ack: u32,
+    pub place: u32,
+}
+
+/// The client of a connection, in a turn.
+pub(crate) fn client_in(conn: &Conn, recorded: &Recorded<'_>, turn: u8) -> Sender
+    ensures { (d : DeliveredConnection) → result ≡ client_in (written_connection conn.now.number conn.now.client conn.now.server (recorded_view recorded.now) d) turn }
+{
+    let mac_from = recorded.mac_client;
+    let mac_to = recorded.mac_server;
+    Sender {
+        conn: conn.number,
+        turn,
+        mac_from,
+        mac_to,
+        from: conn.client,
+        to: conn.server,
+        base: recorded.client_base,
+        peer_base: recorded.server_base.unwrap_or(0),
+    }
+}
+
+/// The server of a connection, in a turn.
+pub(crate) fn server_in(conn: &Conn, recorded: &Recorded<'_>, turn: u8) -> Sender
+    ensures { (d : DeliveredConnection) → result ≡ server_in (written_connection conn.now.number conn.now.client conn.now.server (recorded_view recorded.now) d) turn }
+{
+    let mac_from = recorded.mac_server;
+    let mac_to = recorded.mac_client;
+    Sender {
+        conn: conn.number,
+        turn,
+        mac_from,
+        mac_to,
+        from: conn.server,
+        to: conn.client,
+        base: recorded.server_base.unwrap_or(0),
+        peer_base: recorded.client_base,
+    }
+}
+
+/// The headers of a segment with these numbers and flags.
+pub(crate) fn header_with(sender: &Sender, numbers: Numbers, flags: Flags) -> Header
+    ensures { result ≡ header_with sender.now numbers.seq numbers.ack flags }
+{
+    let mac_from = sender.mac_from;
+    let mac_to = sender.mac_to;
+    Header {
+        mac_from,
+        mac_to,
+        from: sender.from,
+        to: sender.to,
+        seq: numbers.seq,
+        ack: numbers.ack,
+        flags,
+    }
+}
+
+/// The key of a segment at a place of a sender's turn.
+pub(crate) fn key_at(sender: &Sender, moment: Moment, place: u32) -> SegKey
+    ensures moment { result.moment ≡ moment }
+    ensures conn { result.conn ≡ sender.now.conn }
+    ensures turn { result.turn ≡ sender.now.turn }
+    ensures place { result.place ≡ place }
+{
+    SegKey {
+        moment,
+        conn: sender.conn,
+        turn: sender.turn,
+        place,
+    }
+}

@@ -1,0 +1,53 @@
+-- The session cut: the first close or reset of either direction ends both, and nothing is delivered at the horizon.
+use Rattle.std.specs.Prelude.{ℕ, filter, Option, Some, None, Bool, true, nat_lt, nat_le, if◌then◌else◌}
+use Rattle.pcap_records.specs.Instants.{horizon}
+use Rattle.reassembly.specs.RecordedLines.{Line, End, live, fin, close, reset}
+
+-- ---- ends
+
+-- a close or a reset, and its instant
+abbrev pub closing_end : End → Option (ℕ × End)
+closing_end live = None
+closing_end (fin at) = None
+closing_end (close at) = Some (at, close at)
+closing_end (reset at) = Some (at, reset at)
+
+-- the earlier of two
+abbrev pub first_closing : Option (ℕ × End) → Option (ℕ × End) → Option (ℕ × End)
+first_closing None d = d
+first_closing (Some u) None = Some u
+first_closing (Some u) (Some d) = if nat_le u.0 d.0 then Some u else Some d
+
+-- whether an end comes after an instant, as one that never comes does
+abbrev pub is_after : ℕ → End → Bool
+is_after c live = true
+is_after c (fin at) = nat_lt c at
+is_after c (close at) = nat_lt c at
+is_after c (reset at) = nat_lt c at
+
+-- ---- the cut
+
+-- the bytes up to the instant stay, and an end after it becomes the closing one
+abbrev pub line_up_to : Option (ℕ × End) → Line → Line
+line_up_to None f = f
+line_up_to (Some c) f = record {
+  bytes = filter (λ b. nat_le b.at c.0) f.bytes;
+  end = if is_after c.0 f.end then c.1 else f.end;
+}
+
+-- bytes at the horizon are lost, and an end there never comes
+abbrev pub line_before : ℕ → Line → Line
+line_before limit f = record {
+  bytes = filter (λ b. nat_lt b.at limit) f.bytes;
+  end = end_before limit f.end;
+}
+  where
+    end_before : ℕ → End → End
+    end_before limit live = live
+    end_before limit (fin at) = if nat_lt at limit then fin at else live
+    end_before limit (close at) = if nat_lt at limit then close at else live
+    end_before limit (reset at) = if nat_lt at limit then reset at else live
+
+-- one direction, cut where either ends; where both close at one instant, neither end changes
+unfoldable pub cut_line : ℕ → Line → Line → Line → Line
+cut_line ticks up down f = line_before (horizon ticks) (line_up_to (first_closing (closing_end up.end) (closing_end down.end)) f)

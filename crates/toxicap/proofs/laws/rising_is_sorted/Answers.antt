@@ -1,5 +1,0 @@
-use Rattle.toxicap.proofs.InOrder.{rising_is_sorted}
-use Rattle.toxicap.proofs.laws.rising_is_sorted.Goals as goal
-
-pub returns : goal.returns
-returns c = rising_is_sorted

@@ -3,6 +3,7 @@ mod captures;
 mod dumps;
 mod edges;
 mod frames;
+mod pieces;
 mod rehearsals;
 mod runs;
 mod sessions;

@@ -1,5 +1,5 @@
 -- Texts that are appended piece by piece.
-use Rattle.std.proofs.Common.{◌≡◌, ℕ, List, [], ◌++◌, length, map, ◌∙◌, sym, ap, append_assoc}
+use Rattle.std.proofs.Common.{◌≡◌, ℕ, List, ◌++◌, length, ◌∙◌, sym, ap, append_assoc}
 use Rattle.std.proofs.lemmas.List.{length-map}
 use Rattle.pcap_records.specs.CaptureView.{CaptureView, contents_of, packet_of}
 use Rattle.conn_table.specs.SeenCapture.{seen_capture}

@@ -10,6 +10,7 @@ pub mod InOrder
 pub mod JoinSteps
 pub mod WholeSegments
 pub mod OneOrderLaw
+pub mod KeyTimes
 pub mod KeysApart
 pub mod Evaluated
 mod KeySorts

@@ -19,8 +19,8 @@ use std::alloc::{AllocError, Global};
 use toxic_defs::Delivered;
 
 /// The segments of a connection as they are written of what it is delivered, in order of key: its opening (RFC 9293 section
-/// 3.5), the pieces of each line with its end (section 3.10), and acknowledgments of what the other side was delivered strictly
-/// before. Nothing is written at the horizon.
+/// 3.5), and the pieces of each line with its end (section 3.6). Each acknowledges what the other side was delivered strictly before
+/// it (section 3.4). Nothing is written at the horizon.
 ///
 /// # Errors
 /// Where a growth is refused.

@@ -1,8 +1,8 @@
 //! The session cut of two lines.
-ghost use Rattle.std.specs.Prelude.{◌≡◌, ◌-◌, ◌&&◌, nat_lt, length, take, filter, option_map};
+ghost use Rattle.std.specs.Prelude.{◌≡◌, ◌&&◌, nat_lt, length, take, filter, option_map};
 ghost use Rattle.pcap_records.specs.Instants.{horizon, microseconds};
 ghost use Rattle.reassembly.specs.LineLaws.{IsLine, IsInChunks};
-ghost use Rattle.reassembly.specs.LineView.{bytes_of_parts, bytes_of_part};
+ghost use Rattle.reassembly.specs.LineView.{bytes_of_parts};
 ghost use Rattle.toxic_defs.specs.SessionCut.{cut_line, line_up_to, line_before};
 ghost use Rattle.toxic_defs.specs.Closings.{closing_view, cut_limit};
 

@@ -23,7 +23,11 @@ pub struct Delivered<'a> {
     pub down: Line<'a>,
 }
 
-/// What is delivered of a connection that meets no proxy: the recorded lines under the session cut.
+/// What is delivered of a connection that meets no proxy: the recorded lines under the session cut. The parts' bytes are the slices
+/// that were recorded.
+///
+/// # Errors
+/// A growth was refused.
 pub fn delivered_without_proxy<'a>(
     alloc: Global,
     recorded: &Recorded<'a>,

@@ -37,7 +37,7 @@ fn put_written(out: &mut Vec<u8>, micros: u32, frame: &[u8]) -> Result<(), Alloc
 }
 
 // The output capture of the plain session: 449 bytes.
-fn session_written(alloc: Global) -> Result<Vec<u8>, AllocError> {
+pub fn session_written(alloc: Global) -> Result<Vec<u8>, AllocError> {
     let mut out = header(alloc, true)?;
     put_written(&mut out, 0, &OPENING)?;
     put_written(&mut out, 0, &OPENING_ANSWERED)?;

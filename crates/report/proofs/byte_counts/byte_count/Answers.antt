@@ -1,5 +1,5 @@
 use Rattle.std.proofs.Common.{arith}
-use Rattle.report.proofs.PartBytes.{count_within, count_on}
+use Rattle.report.proofs.PartBytes.{count_within}
 use Rattle.report.proofs.byte_counts.byte_count.Goals as goal
 
 pub overflow_add-count : goal.overflow_add-count

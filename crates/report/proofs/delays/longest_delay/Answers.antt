@@ -1,6 +1,4 @@
-use Rattle.std.proofs.Common.{sym, subst}
-use Rattle.report.specs.declared.delays.Place.{Place}
-use Rattle.report.proofs.ByteRuns.{Walk, walk_on, recorded_ends, delivered_ends}
+use Rattle.report.proofs.ByteRuns.{walk_on, recorded_ends, delivered_ends}
 use Rattle.report.proofs.delays.longest_delay.Goals as goal
 
 pub runs-preserved : goal.runs-preserved

@@ -1,7 +1,7 @@
 use Rattle.std.proofs.Common.{codes, ◌++◌, ◌∙◌, ap}
 use Rattle.std.specs.Fmt.{decimal}
 use Rattle.std.proofs.lemmas.Result.{on_ok_weaker}
-use Rattle.report.specs.ReportText.{peer_text, proxy_text, front_text, side_text, connection_text}
+use Rattle.report.specs.ReportText.{peer_text, proxy_text, front_text, connection_text}
 use Rattle.report.proofs.Joins.{six_joined, seven_first}
 use Rattle.report.proofs.lines.push_line.Goals as goal
 

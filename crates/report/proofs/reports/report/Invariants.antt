@@ -1,4 +1,4 @@
-use Rattle.std.proofs.Common.{◌≡◌, ◌++◌, take, length}
+use Rattle.std.proofs.Common.{◌≡◌, ◌++◌, take}
 use Rattle.std.specs.List.{flat_map}
 use Rattle.pcap_records.specs.CaptureView.{contents_of}
 use Rattle.conn_table.specs.SeenCapture.{seen_capture}

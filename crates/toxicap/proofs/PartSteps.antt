@@ -1,12 +1,12 @@
 -- An output grows by what one connection contributes.
-use Rattle.std.proofs.Common.{◌≡◌, ◌≤◌, ◌<◌, ℕ, ◌+◌, List, [], ◌∷◌, ◌++◌, map, length, take, refl, sym, ap, ap₂, ◌∙◌, arith, None, Result, Ok, Err, IfOk}
-use Rattle.std.specs.List.{AllByRecursion, flat_map, enumerate_from, range_with_len}
+use Rattle.std.proofs.Common.{◌≡◌, ℕ, ◌+◌, List, [], ◌∷◌, ◌++◌, map, length, take, refl, sym, ap, ap₂, ◌∙◌, None, Result, Ok, Err, IfOk}
+use Rattle.std.specs.List.{flat_map, enumerate_from, range_with_len}
 use Rattle.std.proofs.lemmas.List.{append_assoc, flat_map_more, length-map}
 use Rattle.pcap_records.specs.CaptureView.{CaptureView, contents_of}
 use Rattle.pcap_records.specs.Instants.{microseconds}
 use Rattle.conn_table.specs.SeenCapture.{SeenCapture, seen_capture}
 use Rattle.conn_table.specs.IndexedSegments.{indexed_segments}
-use Rattle.conn_table.specs.Connections.{Connection, connections, unopened_count}
+use Rattle.conn_table.specs.Connections.{connections, unopened_count}
 use Rattle.conn_table.specs.IndexedConnections.{IndexedConnection, without_indices, IndexedConnectionsAgree}
 use Rattle.conn_table.specs.Tables.{conn_in}
 use Rattle.conn_table.specs.declared.conns.Conn.{Conn}
@@ -14,7 +14,6 @@ use Rattle.reassembly.specs.RecordedLines.{RecordedConnection}
 use Rattle.toxic_defs.specs.DeliveredLines.{DeliveredConnection, delivered_connection}
 use Rattle.segment_writer.specs.WrittenSegments.{written_segments}
 use Rattle.segment_writer.specs.WrittenConnections.{written_connection}
-use Rattle.segment_writer.specs.declared.framed.Framed.{Framed}
 use Rattle.report.specs.ReportText.{report_text, counts_text, connections_text, connection_text}
 use Rattle.toxicap.specs.declared.outputs.Output.{Output}
 use Rattle.toxicap.specs.declared.scenario.Scenario.{Scenario}
@@ -86,11 +85,11 @@ output_is agree c ticks seed s =
     let count : length (whole_table c).conns ≡ length xs = ap length (conns_are c) ∙ length-map xs (conn_in c) in
     let same : map (direct_part microseconds) xs ≡ parts seen seed s = parts_in agree c ticks seed s in
     let captures : capture_of microseconds (segments_of_parts microseconds xs) ≡ capture_of c.ticks (flat_map (λ (p : Part). p.segments) (parts seen seed s)) =
-        ap₂ capture_of (sym ticks) (sym (segments_are xs) ∙ ap (flat_map (λ (p : Part). p.segments)) same) in
+    ap₂ capture_of (sym ticks) (sym (segments_are xs) ∙ ap (flat_map (λ (p : Part). p.segments)) same) in
     let reports : (counts_text s.0 seen ++ connections_text (length (whole_table c).conns) (whole_table c).unopened) ++ lines_of_parts microseconds xs
-        ≡ report_text s.0 seen (unopened_count (indexed_segments 0 seen.packets)) (map (λ (p : Part). p.line) (parts seen seed s)) =
-        report_is s.0 seen (whole_table c).unopened xs (length (whole_table c).conns) count
-        ∙ ap₂ (λ u ps. report_text s.0 seen u (map (λ (p : Part). p.line) ps)) (unopened_is c) same in
+    ≡ report_text s.0 seen (unopened_count (indexed_segments 0 seen.packets)) (map (λ (p : Part). p.line) (parts seen seed s)) =
+    report_is s.0 seen (whole_table c).unopened xs (length (whole_table c).conns) count
+    ∙ ap₂ (λ u ps. report_text s.0 seen u (map (λ (p : Part). p.line) ps)) (unopened_is c) same in
     ap₂ (λ (a b : List ℕ). let o : Output = record { capture = a; report = b } in o) captures reports
 
 each_numbered : (f : ℕ → Output) (g : ℕ × Scenario → Output) → ((n : ℕ) (s : Scenario) → f n ≡ g (n, s)) → (a : ℕ) (ss : List Scenario) → map f (range_with_len a (length ss)) ≡ map g (enumerate_from a ss)

@@ -9,7 +9,7 @@ use Rattle.conn_table.specs.SeenCapture.{seen_packets}
 use Rattle.conn_table.specs.IndexedSegments.{indexed_segments}
 use Rattle.conn_table.specs.Connections.{connections, unopened_count}
 use Rattle.conn_table.specs.ClassCounts.{counts_of}
-use Rattle.conn_table.specs.IndexedConnections.{IndexedConnection, indexed_connections, without_indices, IndexedConnectionsAgree}
+use Rattle.conn_table.specs.IndexedConnections.{IndexedConnection, without_indices, IndexedConnectionsAgree}
 use Rattle.conn_table.specs.Partials.{packets_between, segments_between}
 use Rattle.conn_table.specs.Tables.{TableView, table_in, conn_in}
 use Rattle.reassembly.specs.declared.recordings.Recorded.{Recorded}

@@ -6,7 +6,6 @@ use Rattle.conn_table.specs.IndexedConnections.{IndexedConnection, without_indic
 use Rattle.pcap_records.specs.CaptureView.{CaptureView, contents_of}
 use Rattle.pcap_records.specs.Instants.{microseconds}
 use Rattle.conn_table.specs.SeenCapture.{seen_capture}
-use Rattle.conn_table.specs.Tables.{TableView}
 use Rattle.report.specs.ReportText.{counts_text, connections_text}
 use Rattle.toxicap.specs.declared.outputs.Output.{Output}
 use Rattle.toxicap.specs.OutputCapture.{capture_of}
@@ -29,6 +28,6 @@ unfoldable pub direct_output : CaptureView → ℕ → Output
 direct_output c number = record {
   capture = capture_of microseconds (segments_of_parts microseconds (whole_connections c));
   report =
-    (counts_text number (seen_capture (contents_of c)) ++ connections_text (length (whole_table c).conns) (whole_table c).unopened)
-    ++ lines_of_parts microseconds (whole_connections c);
+      (counts_text number (seen_capture (contents_of c)) ++ connections_text (length (whole_table c).conns) (whole_table c).unopened)
+      ++ lines_of_parts microseconds (whole_connections c);
 }

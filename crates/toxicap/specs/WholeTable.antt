@@ -1,5 +1,5 @@
 -- The table of all records of a capture, and what is recorded of its connections.
-use Rattle.std.specs.Prelude.{◌≡◌, ℕ, List, map, length}
+use Rattle.std.specs.Prelude.{◌≡◌, List, map, length}
 use Rattle.std.specs.List.{AllByRecursion}
 use Rattle.pcap_records.specs.CaptureView.{CaptureView}
 use Rattle.conn_table.specs.IndexedConnections.{IndexedConnection, indexed_connections, without_indices}

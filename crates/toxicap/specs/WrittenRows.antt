@@ -2,14 +2,13 @@
 use Rattle.std.specs.Prelude.{◌≡◌, ℕ, List, [], ◌∷◌, map, codes, Option, Some, None, true, false}
 use Rattle.frame_headers.specs.declared.peers.Peer.{Peer}
 use Rattle.conn_table.specs.Connections.{Connection}
-use Rattle.reassembly.specs.RecordedLines.{LineByte, Line, live, fin, RecordedConnection}
+use Rattle.reassembly.specs.RecordedLines.{fin, RecordedConnection}
 use Rattle.toxic_defs.specs.DeliveredLines.{delivered_connection, MetProxy}
 use Rattle.segment_writer.specs.WrittenConnections.{written_connection}
-use Rattle.segment_writer.specs.WrittenSegments.{WrittenConnection, written_segments, segments_sent_by, pieces}
+use Rattle.segment_writer.specs.WrittenSegments.{WrittenConnection, written_segments}
 use Rattle.segment_writer.specs.declared.framed.Framed.{Framed}
 use Rattle.toxicap.specs.Contribution.{part}
 use Rattle.toxicap.specs.OutputCapture.{capture_of}
-use Rattle.report.specs.ReportText.{connection_text}
 
 abbrev pub client : Peer
 client = record { addr = 0x0a000001; port = 40000 }

@@ -3,9 +3,7 @@ ghost use Rattle.std.specs.Prelude.{◌≡◌, length, IfOk};
 ghost use Rattle.conn_table.specs.Tables.{table_in};
 
 use super::rehearsals::session_written;
-use super::sessions::{
-    ACK, CLIENT, PSH, SECOND_CLIENT, SERVER, SYN, file, segment, session,
-};
+use super::sessions::{ACK, CLIENT, PSH, SECOND_CLIENT, SERVER, SYN, file, segment, session};
 use conn_table::laws::tables_agree;
 use conn_table::{Partial, Table, finish};
 use pcap_records::{Capture, Moment, read_capture, write_header};

@@ -95,9 +95,7 @@ fn repeated_opening_and_second_session(rt: HostRuntime) -> Result<(), Fail> {
     let (capture, report) = rehearsed(&rt, rt.alloc(), &bytes)?;
     assert_eq!(rt; capture.len(), 586);
     // The second SYN ACK: its sequence number is 0, its acknowledgment number 9001.
-    assert!(rt;
-        capture.get(375 + 54..375 + 62) == Some(&[0, 0, 0, 0, 0, 0, 0x23, 0x29])
-    );
+    assert!(rt; capture.get(375 + 54..375 + 62) == Some(&[0, 0, 0, 0, 0, 0, 0x23, 0x29]));
     let text =
         "connections 2 unopened 0\n0 10.0.0.1:40000 > 10.0.0.2:80 proxy - up 1/1/0 open max 0 down 0/0/0 open max 0\n1 10.0.0.1:40000 > 10.0.0.2:80 proxy - up 1/1/0 open max 0 down 0/0/0 open max 0\n";
     assert!(rt; ends_with(&report, text));
@@ -171,7 +169,14 @@ fn stamps_that_fall_back(rt: HostRuntime) -> Result<(), Fail> {
     let segments = [
         segment((5, 0), CLIENT, SERVER, SYN, (1000, 0), b""),
         segment((4, 0), SECOND_CLIENT, SERVER, SYN, (2000, 0), b""),
-        segment((4, 500_000), SECOND_CLIENT, SERVER, PSH + ACK, (2001, 1), b"h"),
+        segment(
+            (4, 500_000),
+            SECOND_CLIENT,
+            SERVER,
+            PSH + ACK,
+            (2001, 1),
+            b"h",
+        ),
     ];
     let bytes = file(rt.alloc(), true, &segments)?;
     let (capture, _) = rehearsed(&rt, rt.alloc(), &bytes)?;
@@ -195,7 +200,14 @@ fn stamps_that_fall_back(rt: HostRuntime) -> Result<(), Fail> {
 fn nothing_at_the_horizon(rt: HostRuntime) -> Result<(), Fail> {
     let segments = [
         segment((u32::MAX, u32::MAX), CLIENT, SERVER, SYN, (1000, 0), b""),
-        segment((u32::MAX, u32::MAX), CLIENT, SERVER, PSH + ACK, (1001, 0), b"a"),
+        segment(
+            (u32::MAX, u32::MAX),
+            CLIENT,
+            SERVER,
+            PSH + ACK,
+            (1001, 0),
+            b"a",
+        ),
     ];
     let bytes = file(rt.alloc(), true, &segments)?;
     let (capture, report) = rehearsed(&rt, rt.alloc(), &bytes)?;

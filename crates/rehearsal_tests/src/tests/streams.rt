@@ -147,8 +147,14 @@ fn a_reset_ends_both_lines(rt: HostRuntime) -> Result<(), Fail> {
 fn payloads_far_away(rt: HostRuntime) -> Result<(), Fail> {
     let [first, answer] = opened();
     for (seq, text) in [
-        (1001 + 0x7fff_ffff, "up 0/0/2 open max 0 down 0/0/0 open max 0\n"),
-        (1001 + 0x8000_0000, "up 0/0/0 open max 0 down 0/0/0 open max 0\n"),
+        (
+            1001 + 0x7fff_ffff,
+            "up 0/0/2 open max 0 down 0/0/0 open max 0\n",
+        ),
+        (
+            1001 + 0x8000_0000,
+            "up 0/0/0 open max 0 down 0/0/0 open max 0\n",
+        ),
     ] {
         let data = segment((1, 1000), CLIENT, SERVER, PSH + ACK, (seq, 5001), b"zz");
         let bytes = file(rt.alloc(), true, &[first, answer, data])?;

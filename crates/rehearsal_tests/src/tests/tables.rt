@@ -229,7 +229,14 @@ fn instants_where_stamps_fall_back(rt: HostRuntime) -> Result<(), Fail> {
     let segments = [
         segment((5, 0), CLIENT, SERVER, SYN, (1000, 0), b""),
         segment((4, 0), SECOND_CLIENT, SERVER, SYN, (2000, 0), b""),
-        segment((4, 500_000), SECOND_CLIENT, SERVER, PSH + ACK, (2001, 0), b"h"),
+        segment(
+            (4, 500_000),
+            SECOND_CLIENT,
+            SERVER,
+            PSH + ACK,
+            (2001, 0),
+            b"h",
+        ),
     ];
     let bytes = file(rt.alloc(), true, &segments)?;
     let capture = read_capture(rt.alloc(), &bytes)?;

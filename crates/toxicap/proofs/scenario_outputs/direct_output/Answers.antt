@@ -1,4 +1,4 @@
-use Rattle.std.proofs.Common.{ℕ, List, ◌≡◌, ◌≤◌, ◌<◌, ◌++◌, length, take, sym, ap, ap₂, ◌∙◌, arith}
+use Rattle.std.proofs.Common.{ℕ, List, ◌≤◌, ◌<◌, ◌++◌, length, ap, ap₂, ◌∙◌, arith}
 use Rattle.std.proofs.lemmas.List.{take_all, length-map}
 use Rattle.pcap_records.specs.CaptureView.{contents_of}
 use Rattle.pcap_records.specs.Instants.{microseconds}
@@ -11,7 +11,7 @@ use Rattle.toxicap.specs.WholeTable.{whole_table, whole_connections}
 use Rattle.toxicap.specs.declared.outputs.Output.{Output}
 use Rattle.toxicap.specs.OutputCapture.{capture_of}
 use Rattle.toxicap.specs.DirectParts.{direct_output}
-use Rattle.toxicap.proofs.WholeTables.{conns_are, counts_are, here, conn_here, recorded_here, lines_here, as_many}
+use Rattle.toxicap.proofs.WholeTables.{conns_are, counts_are, here, conn_here, recorded_here, as_many}
 use Rattle.toxicap.proofs.PartSteps.{segments_is, line_is, segments_more, lines_more}
 use Rattle.toxicap.proofs.scenario_outputs.direct_output.Goals as goal
 

@@ -1,24 +1,26 @@
 //! A program over the library, as a user would write one: it reads a capture from standard input, rehearses it under one
-//! bare scenario, and writes the output capture to standard output. Beside it stand the tests over the public calls of all
-//! crates, with values from outside.
+//! scenario without proxies, and writes the output capture to standard output. Beside it stand the tests over the public calls of
+//! all crates, with values from outside.
 #![tactic(auto)]
 
 #[cfg(test)]
 mod tests;
 
 use anyhow::{Context, Result};
+use scenarios::{Hosts, read_scenario};
 use std::io::{Read, Write};
-use toxicap::{Plan, Scenario, Through, rehearse};
+use toxicap::{Plan, Through, rehearse};
 
 fn main(rt: HostRuntime) -> Result<()> {
     let mut capture = Vec::new(rt.alloc());
     let _ = rt.stdin().read_to_end(&mut capture)?;
+    let scenario = read_scenario(rt.alloc(), b"[]", &Hosts::new(rt.alloc()))?;
     let plan = Plan::new(1, 4096).context("no such plan")?;
     let outputs = rehearse(
         &rt,
         rt.alloc(),
         &capture,
-        &[Scenario::bare()],
+        &[scenario],
         0,
         plan,
         &Through,

@@ -8,4 +8,4 @@ pub mod laws;
 mod rows;
 
 pub use cutting::cut_both;
-pub use deliveries::{Delivered, delivered_without_proxy};
+pub use deliveries::{Delivered, MetProxy, delivered_by};

@@ -5,7 +5,9 @@ mod DumpTable
 mod DumpLemmas
 mod Evaluated
 mod PrintedPart
+mod AnswerSteps
 mod OverviewSteps
+mod Meetings
 mod WrittenLines
 mod PlacesInLists
 mod WholeTables

@@ -11,7 +11,7 @@ use Rattle.pcap_records.specs.Grammar.{ReadingsSplit}
 use Rattle.frame_headers.specs.HeaderLaws.{HeadersAreSound, SegmentsFit}
 use Rattle.toxicap.specs.declared.faults.RunFault.TheVariants.{TooManyScenarios}
 use Rattle.segment_writer.specs.declared.framed.Framed.{Framed}
-use Rattle.toxicap.specs.declared.scenario.Scenario.{Scenario}
+use Rattle.scenarios.specs.declared.proxies.Proxy.{Proxy}
 use Rattle.conn_table.specs.IndexedSegments.{indexed_segments}
 use Rattle.conn_table.specs.Connections.{Connection, connections}
 use Rattle.segment_writer.specs.WrittenSegments.{sorted_by_key}
@@ -89,12 +89,12 @@ talk_is c is d = record {
   server_base = server_base_fits c is;
 }
 
-parts_are : HeadersAreSound → (seed : ℕ) (scenario : ℕ × Scenario) (cs : List Connection) → AllByRecursion IsSoundConnection cs → AllByRecursion IsWritten (flat_map (λ p. p.segments) (map (part_of microseconds seed scenario) cs))
+parts_are : HeadersAreSound → (seed : ℕ) (scenario : ℕ × List Proxy) (cs : List Connection) → AllByRecursion IsSoundConnection cs → AllByRecursion IsWritten (flat_map (λ p. p.segments) (map (part_of microseconds seed scenario) cs))
 unfolding part
 parts_are sound_headers seed scenario [] all = tt
 parts_are sound_headers seed (number_in, scenario) (c ∷ cs) all = all-append IsWritten _ _ (segments_are sound_headers _ (talk_is c all.0 (delivered_connection microseconds (met_proxy (server_of c) scenario) (recorded_connection c)))) (parts_are sound_headers seed (number_in, scenario) cs all.1)
 
-outputs_read : SortedNeverFalls → WrittenIsRead → HeadersAreSound → SegmentsFit → (packets : List Packet) (rest : ℕ) → AllByRecursion HasBytes packets → (seed n : ℕ) (scenarios : List Scenario)
+outputs_read : SortedNeverFalls → WrittenIsRead → HeadersAreSound → SegmentsFit → (packets : List Packet) (rest : ℕ) → AllByRecursion HasBytes packets → (seed n : ℕ) (scenarios : List (List Proxy))
     → let c : SeenCapture = seen_capture (record { ticks = microseconds; packets = packets; rest = rest }) in
     AllByRecursion (λ o. length o.capture ≤ capture_limit → IsReadWhole microseconds o.capture) (map (output c seed) (enumerate_from n scenarios))
 unfolding output

@@ -1,7 +1,8 @@
 -- Lists that are read in step: what stands at a place of a list, and of one that is mapped from it.
-use Rattle.std.proofs.Common.{◌≡◌, ◌<◌, ℕ, zero, suc, ◌+◌, List, [], ◌∷◌, ◌++◌, map, length, take, get_or, refl, arith}
-use Rattle.std.specs.List.{AllByRecursion}
+use Rattle.std.proofs.Common.{◌≡◌, ◌<◌, ℕ, zero, suc, ◌+◌, List, [], ◌∷◌, ◌++◌, map, length, take, get_or, refl, sym, ap, ◌∙◌, arith}
+use Rattle.std.specs.List.{AllByRecursion, enumerate_from}
 use Rattle.std.proofs.lemmas.List.{take_more}
+use Rattle.std.proofs.lemmas.List.FromFn.{length-enumerate_from, get_or-enumerate_from}
 
 -- the element at a place
 pub record StandsAt {A : Type 0} (xs : List A) (i : ℕ) : Type 0 where
@@ -39,3 +40,12 @@ all_at P (x ∷ xs) (suc i) d all within = all_at P xs i d all.1 (omega (arith, 
 pub all_push : {A : Type 0} (P : A → Type 0) (xs : List A) (x : A) → AllByRecursion P xs → P x → AllByRecursion P (xs ++ x ∷ [])
 all_push P [] x all is = (is, tt)
 all_push P (y ∷ ys) x all is = (all.0, all_push P ys x all.1 is)
+
+-- one more of a list whose elements are numbered
+pub one_numbered_more : {A : Type 0} (xs : List A) (i : ℕ) (x : A) → i < length xs → x ≡ get_or xs i x
+    → take (i + 1) (enumerate_from 0 xs) ≡ take i (enumerate_from 0 xs) ++ (i, x) ∷ []
+one_numbered_more {A} xs i x within read =
+    let inside : i < length (enumerate_from 0 xs) = omega (arith, within, length-enumerate_from 0 xs) in
+    let zero_on : 0 + i ≡ i = omega arith in
+    let is : get_or (enumerate_from 0 xs) i (i, x) ≡ (i, x) = get_or-enumerate_from 0 xs i (i, x) within ∙ ap (λ k. let p : ℕ × A = (k, get_or xs i x) in p) zero_on ∙ ap (λ (y : A). let p : ℕ × A = (i, y) in p) (sym read) in
+    take_more (enumerate_from 0 xs) i (i, x) inside ∙ ap (λ y. take i (enumerate_from 0 xs) ++ y ∷ []) is

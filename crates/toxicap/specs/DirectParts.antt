@@ -1,5 +1,5 @@
--- What a connection contributes to a scenario in which it meets no proxy.
-use Rattle.std.specs.Prelude.{ℕ, ◌++◌, None, List, length}
+-- What a connection of the table contributes to a scenario, from its recorded lines.
+use Rattle.std.specs.Prelude.{ℕ, ◌++◌, List, length}
 use Rattle.std.specs.List.{flat_map}
 use Rattle.segment_writer.specs.declared.framed.Framed.{Framed}
 use Rattle.conn_table.specs.IndexedConnections.{IndexedConnection, without_indices}
@@ -11,23 +11,27 @@ use Rattle.toxicap.specs.declared.outputs.Output.{Output}
 use Rattle.toxicap.specs.OutputCapture.{capture_of}
 use Rattle.toxicap.specs.WholeTable.{recorded_of, whole_table, whole_connections}
 use Rattle.toxic_defs.specs.DeliveredLines.{delivered_connection}
+use Rattle.reassembly.specs.Positions.{server_of}
+use Rattle.scenarios.specs.declared.proxies.Proxy.{Proxy}
 use Rattle.toxicap.specs.Contribution.{Part, part_by}
+use Rattle.toxicap.specs.Rehearsal.{met_proxy}
 
--- the recorded lines, cut
-unfoldable pub direct_part : ℕ → IndexedConnection → Part
-direct_part ticks x = part_by ticks (without_indices x) (recorded_of x) (delivered_connection ticks None (recorded_of x))
+-- the recorded lines, delivered by the proxy that is met
+unfoldable pub direct_part : ℕ → List Proxy → IndexedConnection → Part
+direct_part ticks proxies x =
+    part_by ticks (without_indices x) (recorded_of x) (delivered_connection ticks (met_proxy (server_of (without_indices x)) proxies) (recorded_of x))
 
-abbrev pub segments_of_parts : ℕ → List IndexedConnection → List Framed
-segments_of_parts ticks xs = flat_map (λ x. (direct_part ticks x).segments) xs
+abbrev pub segments_of_parts : ℕ → List Proxy → List IndexedConnection → List Framed
+segments_of_parts ticks proxies xs = flat_map (λ x. (direct_part ticks proxies x).segments) xs
 
-abbrev pub lines_of_parts : ℕ → List IndexedConnection → List ℕ
-lines_of_parts ticks xs = flat_map (λ x. (direct_part ticks x).line) xs
+abbrev pub lines_of_parts : ℕ → List Proxy → List IndexedConnection → List ℕ
+lines_of_parts ticks proxies xs = flat_map (λ x. (direct_part ticks proxies x).line) xs
 
--- what a scenario of that number answers
-unfoldable pub direct_output : CaptureView → ℕ → Output
-direct_output c number = record {
-  capture = capture_of microseconds (segments_of_parts microseconds (whole_connections c));
+-- what a scenario with its number answers
+unfoldable pub direct_output : CaptureView → ℕ × List Proxy → Output
+direct_output c (number, proxies) = record {
+  capture = capture_of microseconds (segments_of_parts microseconds proxies (whole_connections c));
   report =
       (counts_text number (seen_capture (contents_of c)) ++ connections_text (length (whole_table c).conns) (whole_table c).unopened)
-      ++ lines_of_parts microseconds (whole_connections c);
+      ++ lines_of_parts microseconds proxies (whole_connections c);
 }

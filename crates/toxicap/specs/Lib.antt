@@ -10,7 +10,7 @@ pub mod Plans
 pub mod Rehearsal
 pub mod SoundOutputs
 pub mod Prints
-pub mod Bare
+pub mod Answering
 pub mod Overview
 pub mod Runs
 pub mod WrittenRows

@@ -1,41 +1,24 @@
--- A run from bytes to bytes: a capture, raw or as a dump, is read, and its report under one bare scenario is written.
-use Rattle.std.specs.Prelude.{◌≡◌, ℕ, ◌<◌, ◌≤◌, nat_lt, if◌then◌else◌, List, [], ◌∷◌, length, take, Result, Ok, Err}
+-- How a run of the program ends: a capture, raw or as a dump, is read, and its report under one scenario without proxies is written.
+use Rattle.std.specs.Prelude.{◌≡◌, ℕ, ◌<◌, ◌≤◌, List, [], ◌∷◌, codes, length, take, Result, Ok, Err}
+use Rattle.pcap_records.specs.Reading.{capture_limit}
 use Rattle.toxicap.specs.declared.faults.RunFault.{RunFault}
 use Rattle.toxicap.specs.declared.faults.RunFault.TheVariants.{CaptureTooLong, Memory, ReadFailed, WriteFailed}
-use Rattle.pcap_records.specs.Reading.{capture_limit}
-use Rattle.toxicap.specs.Dumps.{is_dump, dump_reading}
 use Rattle.toxicap.specs.declared.outputs.Output.{Output}
+use Rattle.toxicap.specs.Answering.{called_for}
 use Rattle.toxicap.specs.Prints.{reports_of}
-use Rattle.toxicap.specs.Rehearsal.{answer}
-use Rattle.toxicap.specs.Bare.{bare}
 
--- ---- what a text calls for
+-- the text of a scenario without proxies
+abbrev pub bare_text : List ℕ
+bare_text = codes "[]"
 
--- the bytes of a capture: those of the dump where the text is taken for one, and else the text
-abbrev pub capture_bytes_of : List ℕ → Result (List ℕ) RunFault
-capture_bytes_of text = if is_dump text then dump_reading text else Ok text
+-- the reports of what was called for
+abbrev pub reports_called_for : Result (List Output) RunFault → Result (List ℕ) RunFault
+reports_called_for (Ok outputs) = Ok (reports_of outputs)
+reports_called_for (Err fault) = Err fault
 
--- the report of the one scenario
-abbrev pub report_of_answer : Result (List Output) RunFault → Result (List ℕ) RunFault
-report_of_answer (Ok outputs) = Ok (reports_of outputs)
-report_of_answer (Err fault) = Err fault
-
--- a capture is rehearsed under one bare scenario, with the seed 0
-abbrev pub report_of_capture : Result (List ℕ) RunFault → Result (List ℕ) RunFault
-report_of_capture (Ok bytes) = report_of_answer (answer bytes (bare ∷ []) 0)
-report_of_capture (Err fault) = Err fault
-
--- the report that a text calls for, or its first fault: it is too long, its dump is broken, or its capture has no reading
+-- the report that a text calls for, with no host known and the seed 0, or its first fault
 unfoldable pub overview_text : List ℕ → Result (List ℕ) RunFault
-overview_text text = if nat_lt capture_limit (length text) then Err CaptureTooLong else report_of_capture (capture_bytes_of text)
-
--- ---- how a run ends
-
--- a fault of the text: no call of a reader or of a writer has failed
-abbrev pub IsOfText : RunFault → Type 0
-IsOfText ReadFailed = ⊥
-IsOfText WriteFailed = ⊥
-IsOfText _ = Unit {0}
+overview_text text = reports_called_for (called_for [] (bare_text ∷ []) 0 text)
 
 -- How a run ends by the text that it read, given what it is to be at the reader's end and to have written some bytes.
 -- On Ok the reader is at its end, and the report that the text calls for was written, whole and once.
@@ -52,10 +35,10 @@ EndsBy (Err CaptureTooLong) text AtEnd Wrote = overview_text text ≡ Err Captur
 EndsBy (Err fault) text AtEnd Wrote = AtEnd × (overview_text text ≡ Err fault)
 
 -- how many reads, and how many writes, have failed where a run ends so
-abbrev pub failed_reads : Result (Unit {0}) RunFault → ℕ
+abbrev pub failed_reads : {A : Type 0} → Result A RunFault → ℕ
 failed_reads (Err ReadFailed) = 1
 failed_reads _ = 0
 
-abbrev pub failed_writes : Result (Unit {0}) RunFault → ℕ
+abbrev pub failed_writes : {A : Type 0} → Result A RunFault → ℕ
 failed_writes (Err WriteFailed) = 1
 failed_writes _ = 0

@@ -1,6 +1,6 @@
 -- The outcome of a rehearsal: for each scenario a capture and a report, by filtering the whole list of packets for one
 -- connection after another.
-use Rattle.std.specs.Prelude.{◌≡◌, ℕ, List, length, map, Option, None, nat_lt, if◌then◌else◌, Result, Ok, Err}
+use Rattle.std.specs.Prelude.{◌≡◌, ℕ, List, length, map, find, Option, option_map, nat_lt, if◌then◌else◌, Result, Ok, Err}
 use Rattle.std.specs.List.{enumerate_from, flat_map}
 use Rattle.pcap_records.specs.declared.fault.CaptureFault.{CaptureFault}
 use Rattle.pcap_records.specs.Reading.{Reading, reading}
@@ -8,36 +8,42 @@ use Rattle.frame_headers.specs.declared.peers.Peer.{Peer}
 use Rattle.toxicap.specs.declared.faults.RunFault.{RunFault}
 use Rattle.toxicap.specs.declared.faults.RunFault.TheVariants.{TooManyScenarios}
 use Rattle.toxicap.specs.declared.outputs.Output.{Output}
-use Rattle.toxicap.specs.declared.scenario.Scenario.{Scenario}
 use Rattle.toxicap.specs.RunFault.{run_fault}
 use Rattle.conn_table.specs.SeenCapture.{SeenCapture, seen_capture}
 use Rattle.conn_table.specs.IndexedSegments.{indexed_segments}
 use Rattle.conn_table.specs.Connections.{Connection, connections, unopened_count}
 use Rattle.reassembly.specs.Positions.{server_of}
 use Rattle.toxic_defs.specs.DeliveredLines.{MetProxy}
+use Rattle.scenarios.specs.Populate.{leads_to}
+use Rattle.scenarios.specs.declared.proxies.Proxy.{Proxy}
 use Rattle.toxicap.specs.Contribution.{Part, part}
 use Rattle.toxicap.specs.OutputCapture.{capture_of}
 use Rattle.report.specs.ReportText.{report_text}
 
--- the proxy of a scenario that a connection to this server meets: today scenarios have no proxies
-abbrev pub met_proxy : Peer → Scenario → Option MetProxy
-met_proxy server scenario = None
+-- a scenario is seen as its proxies in order. What a connection meets of a proxy with its number
+abbrev pub met_of : ℕ × Proxy → MetProxy
+met_of (number, proxy) = record { number = number; enabled = proxy.enabled }
 
-abbrev pub part_of : ℕ → ℕ → ℕ × Scenario → Connection → Part
-part_of ticks seed (number, scenario) c = part ticks c number seed (met_proxy (server_of c) scenario)
+-- the first proxy of a scenario that stands before a server, if one does
+abbrev pub met_proxy : Peer → List Proxy → Option MetProxy
+met_proxy server proxies = option_map met_of (find (λ x. leads_to server x.1) (enumerate_from 0 proxies))
+
+-- what a connection contributes to a scenario with its number
+abbrev pub part_of : ℕ → ℕ → ℕ × List Proxy → Connection → Part
+part_of ticks seed (number, proxies) c = part ticks c number seed (met_proxy (server_of c) proxies)
 
 -- the parts of all connections, one after another
-abbrev pub parts : SeenCapture → ℕ → ℕ × Scenario → List Part
+abbrev pub parts : SeenCapture → ℕ → ℕ × List Proxy → List Part
 parts c seed scenario = map (part_of c.ticks seed scenario) (connections (indexed_segments 0 c.packets))
 
-unfoldable pub output : SeenCapture → ℕ → ℕ × Scenario → Output
+unfoldable pub output : SeenCapture → ℕ → ℕ × List Proxy → Output
 output c seed scenario = record {
   capture = capture_of c.ticks (flat_map (λ p. p.segments) (parts c seed scenario));
   report = report_text scenario.0 c (unopened_count (indexed_segments 0 c.packets)) (map (λ p. p.line) (parts c seed scenario));
 }
 
 -- an output for each scenario; the order of the bytes of the capture's fields is no part of what is seen
-unfoldable pub outputs_of : SeenCapture → List Scenario → ℕ → List Output
+unfoldable pub outputs_of : SeenCapture → List (List Proxy) → ℕ → List Output
 outputs_of c scenarios seed = map (output c seed) (enumerate_from 0 scenarios)
 
 -- ---- the answer to a file
@@ -51,12 +57,12 @@ abbrev pub seen_file : Result Reading CaptureFault → Result SeenCapture Captur
 seen_file (Ok r) = Ok (seen_capture r.contents)
 seen_file (Err f) = Err f
 
-abbrev pub answer_to : Result SeenCapture CaptureFault → List Scenario → ℕ → Result (List Output) RunFault
+abbrev pub answer_to : Result SeenCapture CaptureFault → List (List Proxy) → ℕ → Result (List Output) RunFault
 answer_to (Ok c) scenarios seed = Ok (outputs_of c scenarios seed)
 answer_to (Err f) scenarios seed = Err (run_fault f)
 
 -- too many scenarios are refused before the capture is looked at
-unfoldable pub answer : List ℕ → List Scenario → ℕ → Result (List Output) RunFault
+unfoldable pub answer : List ℕ → List (List Proxy) → ℕ → Result (List Output) RunFault
 answer bytes scenarios seed =
     if nat_lt scenario_limit (length scenarios) then Err TooManyScenarios else answer_to (seen_file (reading bytes)) scenarios seed
 
@@ -65,4 +71,4 @@ answer bytes scenarios seed =
 abbrev pub ByteOrderDoesNotMatter : Type 0
 ByteOrderDoesNotMatter =
     (first second : List ℕ) (a b : Reading) → reading first ≡ Ok a → reading second ≡ Ok b → a.contents ≡ b.contents
-    → (scenarios : List Scenario) (seed : ℕ) → answer first scenarios seed ≡ answer second scenarios seed
+    → (scenarios : List (List Proxy)) (seed : ℕ) → answer first scenarios seed ≡ answer second scenarios seed

@@ -3,10 +3,12 @@ use Rattle.std.specs.Prelude.{ℕ, List, [], ◌++◌, codes, Option, Some, None
 use Rattle.std.specs.Fmt.{decimal}
 use Rattle.pcap_records.specs.declared.fault.CaptureFault.{CaptureFault}
 use Rattle.pcap_records.specs.declared.fault.CaptureFault.TheVariants as of_capture
+use Rattle.scenarios.specs.declared.causes.Cause.{Cause}
+use Rattle.scenarios.specs.declared.causes.Cause.TheVariants as causes
 use Rattle.toxicap.specs.declared.faults.RunFault.{RunFault}
 use Rattle.toxicap.specs.declared.faults.RunFault.TheVariants as of_run
 use Rattle.toxicap.specs.declared.fault_lines.FaultPlace.{FaultPlace}
-use Rattle.toxicap.specs.declared.fault_lines.FaultPlace.TheVariants.{Nowhere, At}
+use Rattle.toxicap.specs.declared.fault_lines.FaultPlace.TheVariants.{Nowhere, At, In}
 
 -- a fault of a capture as a fault of a run
 abbrev pub run_fault : CaptureFault → RunFault
@@ -34,6 +36,17 @@ pub record FaultEntry : Type 0 where
 abbrev pub entry : ℕ → List ℕ → FaultPlace → FaultEntry
 entry number name place = record { number = number; name = name; place = place }
 
+-- the table of a scenario's faults
+abbrev pub cause_entry : Cause → ℕ × List ℕ
+cause_entry causes.NotJson = (10, codes "NotJson")
+cause_entry causes.NotArray = (11, codes "NotArray")
+cause_entry causes.BadMember = (12, codes "BadMember")
+cause_entry causes.DuplicateProxy = (13, codes "DuplicateProxy")
+cause_entry causes.BadUpstream = (14, codes "BadUpstream")
+cause_entry causes.UnknownHost = (15, codes "UnknownHost")
+cause_entry causes.UnknownToxic = (16, codes "UnknownToxic")
+cause_entry causes.TooMany = (20, codes "TooMany")
+
 -- the table of faults
 abbrev pub fault_entry : RunFault → FaultEntry
 fault_entry of_run.ShortHeader = entry 1 (codes "ShortHeader") Nowhere
@@ -42,15 +55,24 @@ fault_entry of_run.BadVersion = entry 3 (codes "BadVersion") Nowhere
 fault_entry of_run.BadLink = entry 4 (codes "BadLink") Nowhere
 fault_entry (of_run.RecordTooLong at) = entry 5 (codes "RecordTooLong") (At at)
 fault_entry of_run.CaptureTooLong = entry 6 (codes "CaptureTooLong") Nowhere
+fault_entry (of_run.BadScenario number refusal) =
+    entry (cause_entry refusal.cause).0 (cause_entry refusal.cause).1 (In number refusal.proxy refusal.toxic)
 fault_entry of_run.TooManyScenarios = entry 22 (codes "TooManyScenarios") Nowhere
 fault_entry of_run.Memory = entry 40 (codes "Memory") Nowhere
 fault_entry (of_run.BadDump at) = entry 55 (codes "BadDump") (At at)
 fault_entry of_run.ReadFailed = entry 61 (codes "ReadFailed") Nowhere
 fault_entry of_run.WriteFailed = entry 62 (codes "WriteFailed") Nowhere
 
+-- a number that is known, behind the name of what it counts
+abbrev pub known_text : List ℕ → Option ℕ → List ℕ
+known_text name None = []
+known_text name (Some n) = name ++ decimal n
+
 abbrev pub place_text : FaultPlace → List ℕ
 place_text Nowhere = []
 place_text (At n) = codes " at " ++ decimal n
+place_text (In scenario proxy toxic) =
+    (known_text (codes " scenario ") (Some scenario) ++ known_text (codes " proxy ") proxy) ++ known_text (codes " toxic ") toxic
 
 -- refused NUMBER NAME, and its place
 abbrev pub entry_text : FaultEntry → List ℕ

@@ -6,7 +6,7 @@ use Rattle.pcap_records.specs.Reading.{Packet, Reading, capture_limit, reading}
 use Rattle.frame_headers.specs.Frame.{frame_class, segment, segment_fields, datagram}
 use Rattle.frame_headers.specs.Sum.{sum16, tcp_sum}
 use Rattle.toxicap.specs.declared.outputs.Output.{Output}
-use Rattle.toxicap.specs.declared.scenario.Scenario.{Scenario}
+use Rattle.scenarios.specs.declared.proxies.Proxy.{Proxy}
 use Rattle.toxicap.specs.Rehearsal.{answer}
 
 -- behind an instant, each stamp is the one before it or later
@@ -35,6 +35,6 @@ AreBytes xs = AllByRecursion (λ x. x < 256) xs
 -- every output of a rehearsal that is no longer than a capture may be, in the ticks of what was read
 abbrev pub OutputsAreRead : Type 0
 OutputsAreRead =
-    (bytes : List ℕ) (read : Reading) (scenarios : List Scenario) (seed : ℕ) (outputs : List Output) → AreBytes bytes → reading bytes ≡ Ok read
+    (bytes : List ℕ) (read : Reading) (scenarios : List (List Proxy)) (seed : ℕ) (outputs : List Output) → AreBytes bytes → reading bytes ≡ Ok read
     → answer bytes scenarios seed ≡ Ok outputs
     → AllByRecursion (λ o. length o.capture ≤ capture_limit → IsReadWhole read.contents.ticks o.capture) outputs

@@ -4,7 +4,7 @@ ghost use Rattle.hex.specs.Hex.{hex_digit_value, is_hex_digit};
 ghost use Rattle.pcap_records.specs.Agreement.{Agrees};
 ghost use Rattle.toxicap.specs.RunFault.{run_refusal};
 ghost use Rattle.toxicap.specs.Dumps.{is_foreign, digit_meaning, is_dump, dump_reading};
-ghost use Rattle.toxicap.specs.Overview.{capture_bytes_of};
+ghost use Rattle.toxicap.specs.Answering.{capture_bytes_of};
 
 use crate::faults::RunFault;
 use std::alloc::Global;

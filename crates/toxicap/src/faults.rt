@@ -2,6 +2,7 @@
 ghost use Rattle.std.specs.Prelude.{◌≡◌};
 
 use pcap_records::CaptureFault;
+use scenarios::Refusal;
 use std::alloc::{AllocError, AllocFailed};
 use thiserror::Error;
 
@@ -23,6 +24,9 @@ pub enum RunFault {
     /// The record of this number, from 0, claims more bytes than a record may have.
     #[error("record {at} is too long")]
     RecordTooLong { at: u32 },
+    /// The text of the scenario with this number, from 0, is refused.
+    #[error("scenario {number}: {refusal}")]
+    BadScenario { number: usize, refusal: Refusal },
     /// More than 256 scenarios were given.
     #[error("there are more than 256 scenarios")]
     TooManyScenarios,

@@ -5,6 +5,7 @@
 //! the line that tells a refusal.
 #![tactic(auto)]
 
+mod answering;
 mod capture_table;
 mod counted;
 mod dumps;
@@ -13,28 +14,28 @@ mod faults;
 mod gates;
 pub mod laws;
 mod loading;
+mod meeting;
+mod options;
 mod outputs;
-mod overviews;
 mod plans;
 mod printing;
 mod rehearsal;
 mod rows;
 mod runs;
-mod scenario;
 mod scenario_outputs;
 mod values;
 
+pub use answering::answers;
 pub use counted::Counted;
 pub use dumps::{is_dump, undump};
 pub use fault_lines::fault_line;
 pub use faults::RunFault;
 pub use gates::{Gate, Phase, Through};
 pub use loading::load;
+pub use options::Options;
 pub use outputs::{Output, Outputs};
-pub use overviews::overview;
 pub use plans::Plan;
 pub use printing::{print_reports, write_bytes};
 pub use rehearsal::rehearse;
 pub use runs::run;
-pub use scenario::Scenario;
 pub use values::Values;

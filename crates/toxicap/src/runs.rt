@@ -6,11 +6,14 @@ ghost use Rattle.toxicap.specs.declared.faults.RunFault.{RunFault};
 ghost use Rattle.toxicap.specs.Overview.{EndsBy, failed_reads, failed_writes};
 ghost use Rattle.toxicap.specs.Runs.{status_of, usage_status, usage_text, text_with_line_feed, Tells, WrittenSoFar};
 
+use crate::answering::answers;
 use crate::counted::Counted;
 use crate::fault_lines::fault_line;
 use crate::faults::RunFault;
-use crate::overviews::overview;
-use crate::printing::write_bytes;
+use crate::options::Options;
+use crate::plans::Plan;
+use crate::printing::{print_reports, write_bytes};
+use scenarios::Hosts;
 use std::alloc::Global;
 use std::io::{Read, Write};
 use std::sync::Wait;
@@ -18,6 +21,9 @@ use std::thread::Threads;
 
 // What is told where words stand on the command line.
 const USAGE: &[u8] = b"usage: toxicap < FILE";
+
+// A scenario without proxies.
+const BARE: &[u8] = b"[]";
 
 /// The whole program: it reads a capture from `input`, writes the report of its rehearsal to `output`, tells a refusal on
 /// `faults`, and answers the exit status. `words` says whether words stand on the command line: the program takes none.
@@ -62,6 +68,33 @@ pub fn run<H: Threads + Wait, R: Read, W: Write, E: Write>(
     }
     let outcome = overview(rt, alloc, input, output);
     report_outcome(alloc, outcome, faults)
+}
+
+// Reads a capture to its end, rehearses it under one scenario without proxies and writes the report. Nothing is written before the
+// report is whole, so every refusal but a failed write leaves the writer as it was.
+fn overview<H: Threads + Wait, R: Read, W: Write>(
+    rt: &H,
+    alloc: Global,
+    reader: &mut Counted<R>,
+    writer: &mut Counted<W>,
+) -> Result<(), RunFault>
+    requires reads { reader.old.failed < 2 ^ 64 - 1 }
+    requires writes { writer.old.failed < 2 ^ 64 - 1 }
+    ensures answer { (text : List ℕ)
+        × Consumes (R.remaining reader.old.inner) (R.remaining reader.new.inner) text
+        × EndsBy result text (IsAtEnd (R.remaining reader.new.inner))
+        (Appends (W.contents writer.old.inner) (W.contents writer.new.inner)) }
+    ensures failed_reads { reader.new.failed ≡ reader.old.failed + failed_reads result }
+    ensures failed_writes { writer.new.failed ≡ writer.old.failed + failed_writes result }
+    ensures untouched { IfErr result (λ fault. fault ≢ RunFault.WriteFailed → writer.new ≡ writer.old) }
+{
+    let options = Options {
+        hosts: Hosts::new(alloc),
+        seed: 0,
+        plan: Plan::new(1, 4096).unwrap(),
+    };
+    let outputs = answers(rt, alloc, reader, &[BARE], &options)?;
+    print_reports(&outputs, writer)
 }
 
 // The exit status of an outcome: 0, or 1 for a refusal, whose line is written first, with a line feed.

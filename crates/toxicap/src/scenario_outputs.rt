@@ -10,17 +10,18 @@ ghost use Rattle.toxicap.specs.DirectParts.{direct_output};
 ghost use Rattle.toxicap.specs.Rehearsal.{outputs_of, scenario_limit};
 
 use crate::capture_table::{list_recorded, whole_table};
+use crate::meeting::met_proxy;
 use crate::outputs::Output;
-use crate::scenario::Scenario;
 use crate::values::Values;
 use conn_table::Table;
 use conn_table::laws::indexed_connections_agree;
 use pcap_records::{Capture, write_header};
 use reassembly::Recorded;
 use report::{open_report, push_line};
+use scenarios::Scenario;
 use segment_writer::{Framed, in_order, segments};
 use std::alloc::{AllocError, Global};
-use toxic_defs::delivered_without_proxy;
+use toxic_defs::delivered_by;
 
 // The capture of some segments, in order of key.
 #[tactic(auto, unfolding(crate::specs::OutputCapture::capture_of))]
@@ -36,17 +37,18 @@ fn output_capture(alloc: Global, segments: Vec<Framed>) -> Result<Vec<u8>, Alloc
     Ok(bytes)
 }
 
-// What a scenario without proxies answers.
+// What a scenario with its number answers.
 fn direct_output(
     alloc: Global,
     capture: &Capture<'_>,
     table: &Table,
     recordings: &[Recorded<'_>],
     number: u32,
+    scenario: &Scenario,
 ) -> Result<Output, AllocError>
     requires table { table.now ≡ whole_table capture.now }
     requires recorded { AreRecorded (whole_connections capture.now) recordings.now }
-    ensures { IfOk result (λ output. output ≡ direct_output capture.now number) }
+    ensures { IfOk result (λ output. output ≡ direct_output capture.now (number, scenario.now)) }
 {
     let conns = table.conns();
     let mut report = open_report(
@@ -60,7 +62,7 @@ fn direct_output(
     let mut written = Vec::new(alloc);
     for (place, recorded) in recordings.iter().enumerate() {
         let conn = &conns[place];
-        let delivered = delivered_without_proxy(alloc, recorded)?;
+        let delivered = delivered_by(alloc, recorded, met_proxy(scenario, conn.server))?;
         push_line(&mut report, conn, recorded, &delivered)?;
         let mut own = segments(alloc, conn, recorded, &delivered)?.into_vec();
         written.append(&mut own)?;
@@ -86,8 +88,16 @@ pub(crate) fn list_outputs(
     let table = whole_table(alloc, capture)?;
     let recordings = list_recorded(alloc, capture, &table)?;
     let mut outputs = Vec::with_capacity(alloc, scenarios.len())?;
-    for number in 0..scenarios.len() {
-        outputs.push(direct_output(alloc, capture, &table, &recordings, number as u32)?)?;
+    for (number, scenario) in scenarios.iter().enumerate() {
+        let number = number as u32;
+        outputs.push(direct_output(
+            alloc,
+            capture,
+            &table,
+            &recordings,
+            number,
+            scenario,
+        )?)?;
     }
     Ok(outputs)
 }

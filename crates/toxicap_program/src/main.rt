@@ -1,5 +1,5 @@
 //! The program `toxicap`: it reads a capture, or a dump of one, from standard input and writes the report of its
-//! rehearsal under one bare scenario to standard output. All of it is the library's `run`.
+//! rehearsal under one scenario without proxies to standard output. All of it is the library's `run`.
 #![tactic(auto)]
 
 use std::env::{Env, FillError};

@@ -14,7 +14,7 @@ use segment_writer::laws::{keys_rise, parts_are_sorted_first, rising_is_sorted};
 use segment_writer::{SegList, segments};
 use std::alloc::{AllocError, Global};
 use std::test::Fail;
-use toxic_defs::delivered_without_proxy;
+use toxic_defs::delivered_by;
 
 fn whole(alloc: Global, capture: &Capture<'_>) -> Result<Table, AllocError>
     ensures { IfOk result (λ table. table ≡ table_in capture.now 0 (length capture.now.records) 0) }
@@ -38,7 +38,7 @@ fn told(alloc: Global, capture: &Capture<'_>) -> Result<(ReportText, SegList), A
     let mut all = SegList::empty(alloc);
     'conns: for conn in table.conns() {
         let recorded = lines(alloc, conn, capture)?;
-        let delivered = delivered_without_proxy(alloc, &recorded)?;
+        let delivered = delivered_by(alloc, &recorded, None)?;
         texts.push(line(alloc, conn, &recorded, &delivered)?)?;
         all = SegList::join(alloc, all, segments(alloc, conn, &recorded, &delivered)?)?;
     }

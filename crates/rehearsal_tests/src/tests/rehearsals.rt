@@ -6,25 +6,45 @@ use super::sessions::{
 use super::written_frames::{
     ACKNOWLEDGED, CLIENT_ENDS, DATA, OPENING, OPENING_ANSWERED, SERVER_ENDS,
 };
+use scenarios::{Hosts, Scenario, read_scenario};
 use std::alloc::{AllocError, Global};
 use std::sync::Wait;
 use std::test::Fail;
 use std::thread::Threads;
-use toxicap::{Plan, RunFault, Scenario, Through, rehearse};
+use toxicap::{Plan, RunFault, Through, rehearse};
 
-// The one output of a file under one bare scenario: its capture and its report.
-pub fn rehearsed<R: Threads + Wait>(
+// The scenario of a text, where no host is known.
+pub fn scenario_of(alloc: Global, text: &str) -> Result<Scenario, RunFault> {
+    match read_scenario(alloc, text.as_bytes(), &Hosts::new(alloc)) {
+        Ok(scenario) => Ok(scenario),
+        Err(_) => Err(RunFault::Memory),
+    }
+}
+
+// The one output of a file under a scenario: its capture and its report.
+pub fn rehearsed_under<R: Threads + Wait>(
     rt: &R,
     alloc: Global,
     bytes: &[u8],
+    text: &str,
 ) -> Result<(Vec<u8>, Vec<u8>), RunFault> {
     let plan = Plan::new(1, 4096).ok_or(RunFault::Memory)?;
-    let outputs = rehearse(rt, alloc, bytes, &[Scenario::bare()], 0, plan, &Through)?;
+    let scenario = scenario_of(alloc, text)?;
+    let outputs = rehearse(rt, alloc, bytes, &[scenario], 0, plan, &Through)?;
     let mut outputs = outputs.into_vec();
     match outputs.pop() {
         Some(output) => Ok((output.capture.into_vec(), output.report.into_vec())),
         None => Err(RunFault::Memory),
     }
+}
+
+// The same under a scenario without proxies.
+pub fn rehearsed<R: Threads + Wait>(
+    rt: &R,
+    alloc: Global,
+    bytes: &[u8],
+) -> Result<(Vec<u8>, Vec<u8>), RunFault> {
+    rehearsed_under(rt, alloc, bytes, "[]")
 }
 
 // Appends what is written of one frame: its record, stamped so many microseconds behind the first second.
@@ -246,15 +266,18 @@ fn answers_that_give_no_number(rt: HostRuntime) -> Result<(), Fail> {
 #[test]
 fn too_many_scenarios_and_none(rt: HostRuntime) -> Result<(), Fail> {
     let plan = Plan::new(16, 1).ok_or("a plan")?;
-    let many = [Scenario::bare(); 257];
+    let mut many = Vec::new(rt.alloc());
+    for _ in 0..257 {
+        many.push(scenario_of(rt.alloc(), "[]")?)?;
+    }
     let refused = rehearse(&rt, rt.alloc(), &[], &many, 0, plan, &Through);
     assert!(rt; matches!(refused, Err(RunFault::TooManyScenarios)));
-    let refused = rehearse(&rt, rt.alloc(), &[], &many[..256], 0, plan, &Through);
+    let refused = rehearse(&rt, rt.alloc(), &[], &many[..many.len().min(256)], 0, plan, &Through);
     assert!(rt; matches!(refused, Err(RunFault::ShortHeader)));
     let bytes = file(rt.alloc(), true, &session())?;
     let none = rehearse(&rt, rt.alloc(), &bytes, &[], 7, plan, &Through)?;
     assert!(rt; none.as_slice().is_empty());
-    let most = rehearse(&rt, rt.alloc(), &bytes, &many[..256], 7, plan, &Through)?;
+    let most = rehearse(&rt, rt.alloc(), &bytes, &many[..many.len().min(256)], 7, plan, &Through)?;
     assert_eq!(rt; most.as_slice().len(), 256);
     let written = session_written(rt.alloc())?;
     for output in most.as_slice() {

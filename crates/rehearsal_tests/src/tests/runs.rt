@@ -1,10 +1,14 @@
 //! Whole runs: captures made by hand, and readers and writers that fail on the way.
+ghost use Rattle.std.specs.Prelude.{◌<◌, ◌-◌, ◌^◌};
+
 use super::edges::{Pieces, RefusesOnce, Sips};
 use std::alloc::AllocGlobal;
+use std::io::{Read, Write};
 use std::process::Abort;
 use std::sync::Wait;
 use std::thread::Threads;
-use toxicap::{Counted, RunFault, overview, run, undump};
+use scenarios::Hosts;
+use toxicap::{Counted, Options, Outputs, Plan, RunFault, answers, print_reports, run, undump};
 
 // A file header, its fields lowest byte first.
 const HEADER: &str = "d4c3b2a1 02000400 00000000 00000000 ffff0000 01000000\n";
@@ -22,6 +26,33 @@ const STORED_REPORT: &str =
 const EMPTY_REPORT: &str =
     "scenario 0 records 0 rest 0 segment 0 short 0 notipv4 0 badipv4 0 fragment 0 nottcp 0 cut 0 badtcp 0 sameends 0\nconnections 0 unopened 0\n";
 
+// What a reader's capture answers under one scenario without proxies.
+fn answered<R: Read>(
+    rt: &(impl AllocGlobal + Threads + Wait),
+    reader: &mut Counted<R>,
+) -> Result<Outputs, RunFault>
+    requires { reader.old.failed < 2 ^ 64 - 1 }
+{
+    let options = Options {
+        hosts: Hosts::new(rt.alloc()),
+        seed: 0,
+        plan: Plan::new(1, 4096).ok_or(RunFault::Memory)?,
+    };
+    answers(rt, rt.alloc(), reader, &[b"[]".as_slice()], &options)
+}
+
+// What is printed of that.
+fn overview<R: Read, W: Write>(
+    rt: &(impl AllocGlobal + Threads + Wait),
+    reader: &mut Counted<R>,
+    writer: &mut Counted<W>,
+) -> Result<(), RunFault>
+    requires reads { reader.old.failed < 2 ^ 64 - 1 }
+    requires writes { writer.old.failed < 2 ^ 64 - 1 }
+{
+    print_reports(&answered(rt, reader)?, writer)
+}
+
 // Runs over a text: the report that is written, or the refusal, which writes nothing.
 fn check_run(
     rt: &(impl Abort + AllocGlobal + Threads + Wait),
@@ -30,7 +61,7 @@ fn check_run(
 ) {
     let mut reader = Counted::new(text);
     let mut writer = Counted::new(Vec::new(rt.alloc()));
-    let answer = overview(rt, rt.alloc(), &mut reader, &mut writer);
+    let answer = overview(rt, &mut reader, &mut writer);
     let written = writer.into_inner();
     match wanted {
         Ok(report) => {
@@ -199,7 +230,7 @@ fn runs_over_failing_ends(rt: HostRuntime) {
             most: write_most,
             calls: writes,
         });
-        let answer = overview(&rt, rt.alloc(), &mut reader, &mut writer);
+        let answer = overview(&rt, &mut reader, &mut writer);
         assert_eq!(rt; answer, wanted, "{read_most} {reads} {write_most} {writes}");
         let read_failed = answer == Err(RunFault::ReadFailed);
         let write_failed = answer == Err(RunFault::WriteFailed);

@@ -1,7 +1,7 @@
-use Rattle.std.proofs.Common.{◌≡◌, map}
-use Rattle.std.specs.List.{range_with_len}
+use Rattle.std.proofs.Common.{◌≡◌, map, take}
+use Rattle.std.specs.List.{enumerate_from}
 use Rattle.toxicap.specs.DirectParts.{direct_output}
 use Rattle.toxicap.proofs.scenario_outputs.list_outputs.Given as goal
 
 abbrev pub invariant-loop-number : goal.invariant-loop-number
-invariant-loop-number l = l.outputs.items ≡ map (direct_output l.capture) (range_with_len 0 l.number)
+invariant-loop-number l = l.outputs.items ≡ map (direct_output l.capture) (take l.number (enumerate_from 0 l.scenarios))

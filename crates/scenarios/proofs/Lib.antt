@@ -1,0 +1,8 @@
+mod AddressSteps
+mod LastPlaces
+mod PortSteps
+mod Trees
+mod FirstProxies
+mod SoundScenarios
+mod ReadBacks
+mod WorkedRows

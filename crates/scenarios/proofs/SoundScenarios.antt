@@ -1,0 +1,120 @@
+-- The proxies of a scenario are sound.
+use Rattle.std.proofs.Common.{◌≡◌, ℕ, ◌<◌, ◌≤◌, ◌^◌, ◌&&◌, Bool, true, false, nat_lt, nat_le, List, [], ◌∷◌, ◌++◌, codes, length, Option, Some, None, option_and_then, Result, Ok, Err, if◌then◌else◌, refl, sym, ap, subst, ◌∙◌, arith, append-nil, append_assoc, length-append}
+use Rattle.std.proofs.lemmas.Bool.{leb-false, ltb-true}
+use Rattle.std.proofs.lemmas.Bool.Decides.{nat_tests}
+use Rattle.std.proofs.lemmas.Option.{none-some, same_Some}
+use Rattle.std.specs.List.{AllByRecursion}
+use Rattle.std.specs.Str.{all_ascii_digits}
+use Rattle.std.specs.Str.Parse.{digits_value}
+use Rattle.serde_json.specs.Data.{Data, Items, no_items, item}
+use Rattle.serde_json.specs.Find.{as_array}
+use Rattle.frame_headers.specs.declared.peers.Peer.{Peer}
+use Rattle.scenarios.specs.Refusals.{with, after, unless, at_place, of_proxy}
+use Rattle.scenarios.specs.Members.{required_text, is_text_or_absent, optional_flag, optional_list}
+use Rattle.scenarios.specs.Upstreams.{colon, cut_at_last, port, host_address, upstream}
+use Rattle.scenarios.specs.Toxics.{checked_toxics}
+use Rattle.scenarios.specs.Proxies.{proxy_limit, ProxyMembers, proxy_members, has_name, accepted_proxy, proxy_in, proxies_from}
+use Rattle.scenarios.specs.Populate.{tree}
+use Rattle.scenarios.specs.ProxyLaws.{IsSound, NamesAreFree, ScenariosAreSound}
+use Rattle.scenarios.specs.declared.hosts.KnownHost.{KnownHost}
+use Rattle.scenarios.specs.declared.proxies.Proxy.{Proxy}
+use Rattle.scenarios.specs.declared.causes.Cause.{Cause}
+use Rattle.scenarios.specs.declared.causes.Refusal.{Refusal}
+
+-- ---- what steps went through, if they gave a value
+
+err_is_not_ok : {A E P : Type 0} (e : E) (x : A) → ◌≡◌ {A = Result A E} (Err e) (Ok x) → P
+err_is_not_ok e x is = cc
+
+same_ok : {A E : Type 0} (x y : A) → ◌≡◌ {A = Result A E} (Ok x) (Ok y) → x ≡ y
+same_ok x y is = cc
+
+of_with : {A B E P : Type 0} (o : Option A) (e : E) (next : A → Result B E) (y : B) → with o e next ≡ Ok y → ((x : A) → o ≡ Some x → next x ≡ Ok y → P) → P
+of_with None e next y is k = err_is_not_ok _ _ is
+of_with (Some x) e next y is k = k x refl is
+
+of_after : {A B E P : Type 0} (r : Result A E) (next : A → Result B E) (y : B) → after r next ≡ Ok y → ((x : A) → r ≡ Ok x → next x ≡ Ok y → P) → P
+of_after (Ok x) next y is k = k x refl is
+of_after (Err e) next y is k = err_is_not_ok _ _ is
+
+of_unless : {B E P : Type 0} (b : Bool) (e : E) (next : Result B E) (y : B) → unless b e next ≡ Ok y → (b ≡ false → next ≡ Ok y → P) → P
+of_unless true e next y is k = err_is_not_ok _ _ is
+of_unless false e next y is k = k refl is
+
+of_place : {A : Type 0} (place : Cause → Refusal) (r : Result A Cause) (x : A) → at_place place r ≡ Ok x → r ≡ Ok x
+of_place place (Ok z) x is = ap Ok (same_ok _ _ is)
+of_place place (Err cause) x is = err_is_not_ok _ _ is
+
+of_chain : {A B P : Type 0} (f : A → Option B) (o : Option A) (y : B) → option_and_then f o ≡ Some y → ((x : A) → f x ≡ Some y → P) → P
+of_chain f None y is k = absurd (none-some y is)
+of_chain f (Some x) y is k = k x is
+
+-- ---- members and upstreams
+
+of_test : (len : ℕ) (b : Bool) (m n : ProxyMembers) → (if nat_lt 0 len && b then Some m else None) ≡ Some n → (0 < len) × (m ≡ n)
+of_test len b m n is = of_tests (nat_lt 0 len) b refl is
+  where
+    of_tests : (a c : Bool) → nat_lt 0 len ≡ a → (if a && c then Some m else None) ≡ Some n → (0 < len) × (m ≡ n)
+    of_tests true true e given = (ltb-true 0 len e, same_Some _ _ given)
+    of_tests true false e given = absurd (none-some n given)
+    of_tests false c e given = absurd (none-some n given)
+
+members_have_names : (d : Data) (m : ProxyMembers) → proxy_members d ≡ Some m → 0 < length m.name
+members_have_names d m is =
+    of_chain _ (required_text (codes "name") d) m is λ name is₁.
+    of_chain _ (required_text (codes "upstream") d) m is₁ λ upstream is₂.
+    of_chain _ (optional_flag (codes "enabled") d) m is₂ λ enabled is₃.
+    of_chain _ (optional_list (codes "toxics") d) m is₃ λ toxics is₄.
+    let test = of_test (length name) (is_text_or_absent (codes "listen") d) _ m is₄ in
+    rw (← test.1) test.0
+
+port_test : (len value n : ℕ) (digits : Bool) → (if nat_lt 0 len && nat_le len 5 && digits && (nat_lt 0 value && nat_lt value (2 ^ 16)) then Some value else None) ≡ Some n → (0 < n) × (n < 2 ^ 16)
+port_test len value n digits is = (grind (arith, nat_tests), grind (arith, nat_tests))
+
+upstreams_have_ports : (hosts : List KnownHost) (text : List ℕ) (peer : Peer) → upstream hosts text ≡ Ok peer → (0 < peer.port) × (peer.port < 2 ^ 16)
+upstreams_have_ports hosts text peer is =
+    of_with (cut_at_last colon text) _ _ peer is λ parts _ is₁.
+    of_with (port parts.1) _ _ peer is₁ λ n port_is is₂.
+    of_after (host_address hosts parts.0) _ peer is₂ λ addr _ is₃.
+    rw (← ap (λ (p : Peer). p.port) (same_ok _ _ is₃)) (port_test (length parts.1) (digits_value 10 parts.1) n (all_ascii_digits parts.1) port_is)
+
+-- ---- proxies
+
+-- a proxy that is accepted is sound, and its name is free
+accepted_is_sound : (hosts : List KnownHost) (earlier : List Proxy) (m : ProxyMembers) (p : Proxy) → 0 < length m.name → accepted_proxy hosts earlier m ≡ Ok p → IsSound p × (has_name earlier p.name ≡ false)
+unfolding accepted_proxy
+accepted_is_sound hosts earlier m p named is =
+    of_unless (has_name earlier m.name) _ _ p is λ free is₁.
+    of_after (at_place (of_proxy (length earlier)) (upstream hosts m.upstream)) _ p is₁ λ peer upstream_is is₂.
+    of_after (checked_toxics (length earlier) 0 m.toxics) _ p is₂ λ _ _ is₃.
+    let ports = upstreams_have_ports hosts m.upstream peer (of_place _ (upstream hosts m.upstream) peer upstream_is) in
+    rw (← same_ok _ _ is₃) (record { named = named; port = ports.0; port_fits = ports.1 }, free)
+
+proxy_is_sound : (hosts : List KnownHost) (earlier : List Proxy) (d : Data) (p : Proxy) → proxy_in hosts earlier d ≡ Ok p → IsSound p × (has_name earlier p.name ≡ false) × (length earlier < proxy_limit)
+unfolding proxy_in
+proxy_is_sound hosts earlier d p is =
+    of_unless (nat_le proxy_limit (length earlier)) _ _ p is λ few is₁.
+    of_with (proxy_members d) _ _ p is₁ λ m members_are is₂.
+    let sound = accepted_is_sound hosts earlier m p (members_have_names d m members_are) is₂ in
+    (sound.0, sound.1, leb-false proxy_limit (length earlier) few)
+
+-- what was read behind those that stand earlier
+Behind : List Proxy → List Proxy → Type 0
+Behind earlier proxies = (more : List Proxy) × (proxies ≡ earlier ++ more) × AllByRecursion IsSound more × NamesAreFree earlier more × (length proxies ≤ proxy_limit)
+
+all_are_sound : (hosts : List KnownHost) (earlier : List Proxy) (ds : Items) (proxies : List Proxy) → length earlier ≤ proxy_limit → proxies_from hosts earlier ds ≡ Ok proxies → Behind earlier proxies
+unfolding proxies_from Behind
+all_are_sound hosts earlier no_items proxies few is = ([], sym (same_ok _ _ is) ∙ sym (append-nil earlier), tt, tt, subst (λ ps. length ps ≤ proxy_limit) (same_ok _ _ is) few)
+all_are_sound hosts earlier (item d ds) proxies few is =
+    of_after (proxy_in hosts earlier d) _ proxies is λ p proxy_is is₁.
+    let sound = proxy_is_sound hosts earlier d p proxy_is in
+    let later = all_are_sound hosts (earlier ++ p ∷ []) ds proxies (omega (arith, length-append earlier (p ∷ []), sound.2)) is₁ in
+    (p ∷ later.0, later.1 ∙ append_assoc earlier (p ∷ []) later.0, (sound.0, later.2), (sound.1, later.3), later.4)
+
+pub scenarios_are_sound : ScenariosAreSound
+unfolding Behind
+scenarios_are_sound hosts text proxies is =
+    of_with (tree text) _ _ proxies is λ d _ is₁.
+    of_with (as_array d) _ _ proxies is₁ λ ds _ is₂.
+    let sound = all_are_sound hosts [] ds proxies (omega arith) is₂ in
+    rw sound.1 (sound.2, sound.3, rw (← sound.1) sound.4)

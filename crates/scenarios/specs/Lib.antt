@@ -1,0 +1,11 @@
+pub mod Refusals
+pub mod Addresses
+pub mod HostLists
+pub mod Upstreams
+pub mod Members
+pub mod Toxics
+pub mod Proxies
+pub mod SeenMembers
+pub mod Populate
+pub mod ProxyLaws
+pub mod ScenarioRows

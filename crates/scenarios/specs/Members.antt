@@ -1,0 +1,39 @@
+-- Members of JSON objects. A member that is null is absent, and what is no object has no members.
+use Rattle.std.specs.Prelude.{ℕ, List, Bool, true, Option, Some, None, is_some, option_and_then}
+use Rattle.serde_json.specs.Data.{Data, null, boolean, number, string, array, object, Items, no_items}
+use Rattle.serde_json.specs.Find.{get, as_str, as_bool, as_array, as_object}
+
+abbrev pub unless_null : Data → Option Data
+unless_null null = None
+unless_null (boolean b) = Some (boolean b)
+unless_null (number n) = Some (number n)
+unless_null (string s) = Some (string s)
+unless_null (array ds) = Some (array ds)
+unless_null (object ms) = Some (object ms)
+
+-- the member with a name
+abbrev pub member : List ℕ → Data → Option Data
+member name d = option_and_then unless_null (get name d)
+
+-- what is read of a member, or what stands for one that is absent
+abbrev pub absent_as : {A : Type 0} → A → (Data → A) → Option Data → A
+absent_as absent read None = absent
+absent_as absent read (Some d) = read d
+
+-- a text that has to be there
+abbrev pub required_text : List ℕ → Data → Option (List ℕ)
+required_text name d = option_and_then as_str (member name d)
+
+abbrev pub is_text_or_absent : List ℕ → Data → Bool
+is_text_or_absent name d = absent_as true (λ found. is_some (as_str found)) (member name d)
+
+abbrev pub is_object_or_absent : List ℕ → Data → Bool
+is_object_or_absent name d = absent_as true (λ found. is_some (as_object found)) (member name d)
+
+-- a flag, which is true where it is absent
+abbrev pub optional_flag : List ℕ → Data → Option Bool
+optional_flag name d = absent_as (Some true) as_bool (member name d)
+
+-- the items of an array, which has none where it is absent
+abbrev pub optional_list : List ℕ → Data → Option Items
+optional_list name d = absent_as (Some no_items) as_array (member name d)

@@ -1,0 +1,59 @@
+-- Proxies in a file.
+use Rattle.std.specs.Prelude.{ℕ, ◌&&◌, List, [], ◌∷◌, ◌++◌, codes, length, Bool, bytes_eq, nat_lt, nat_le, if◌then◌else◌, Option, Some, None, option_and_then, Result, Ok}
+use Rattle.std.specs.List.{list_any}
+use Rattle.serde_json.specs.Data.{Data, Items, no_items, item}
+use Rattle.scenarios.specs.Members.{required_text, is_text_or_absent, optional_flag, optional_list}
+use Rattle.scenarios.specs.Refusals.{with, after, unless, of_proxy, at_place}
+use Rattle.scenarios.specs.Toxics.{checked_toxics}
+use Rattle.scenarios.specs.Upstreams.{upstream}
+use Rattle.scenarios.specs.declared.hosts.KnownHost.{KnownHost}
+use Rattle.scenarios.specs.declared.proxies.Proxy.{Proxy}
+use Rattle.scenarios.specs.declared.causes.Cause.TheVariants.{BadMember, DuplicateProxy, TooMany}
+use Rattle.scenarios.specs.declared.causes.Refusal.{Refusal}
+
+-- the greatest number of proxies of a scenario
+abbrev pub proxy_limit : ℕ
+proxy_limit = 64
+
+-- the members of a proxy
+pub record ProxyMembers : Type 0 where
+  pub name : List ℕ
+  pub upstream : List ℕ
+  pub enabled : Bool
+  pub toxics : Items
+
+-- the members of a proxy, if each is of its kind and its name is not empty
+abbrev pub proxy_members : Data → Option ProxyMembers
+proxy_members d =
+    option_and_then (λ name.
+    option_and_then (λ upstream.
+    option_and_then (λ enabled.
+    option_and_then (λ toxics.
+    if nat_lt 0 (length name) && is_text_or_absent (codes "listen") d then Some (record { name = name; upstream = upstream; enabled = enabled; toxics = toxics }) else None)
+    (optional_list (codes "toxics") d))
+    (optional_flag (codes "enabled") d))
+    (required_text (codes "upstream") d))
+    (required_text (codes "name") d)
+
+-- whether a proxy has the name
+abbrev pub has_name : List Proxy → List ℕ → Bool
+has_name proxies name = list_any (λ p. bytes_eq p.name name) proxies
+
+-- the proxy that members say, behind those that stand earlier
+unfoldable pub accepted_proxy : List KnownHost → List Proxy → ProxyMembers → Result Proxy Refusal
+accepted_proxy hosts earlier m =
+    unless (has_name earlier m.name) (of_proxy (length earlier) DuplicateProxy)
+    (after (at_place (of_proxy (length earlier)) (upstream hosts m.upstream)) (λ peer.
+    after (checked_toxics (length earlier) 0 m.toxics) (λ _.
+    Ok (record { name = m.name; upstream = peer; enabled = m.enabled }))))
+
+-- one proxy, behind those that stand earlier
+unfoldable pub proxy_in : List KnownHost → List Proxy → Data → Result Proxy Refusal
+proxy_in hosts earlier d =
+    unless (nat_le proxy_limit (length earlier)) (of_proxy (length earlier) TooMany)
+    (with (proxy_members d) (of_proxy (length earlier) BadMember) (accepted_proxy hosts earlier))
+
+-- the proxies of the items, behind those that stand earlier
+unfoldable pub proxies_from : List KnownHost → List Proxy → Items → Result (List Proxy) Refusal
+proxies_from hosts earlier no_items = Ok earlier
+proxies_from hosts earlier (item d ds) = after (proxy_in hosts earlier d) (λ p. proxies_from hosts (earlier ++ p ∷ []) ds)

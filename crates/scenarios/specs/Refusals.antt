@@ -1,0 +1,41 @@
+-- Where a refusal stands, and how steps that may refuse stand one behind another.
+use Rattle.std.specs.Prelude.{ℕ, Bool, true, false, Option, Some, None, Result, Ok, Err}
+use Rattle.scenarios.specs.declared.causes.Cause.{Cause}
+use Rattle.scenarios.specs.declared.causes.Refusal.{Refusal}
+use Rattle.scenarios.specs.declared.causes.ScenarioFault.{ScenarioFault}
+use Rattle.scenarios.specs.declared.causes.ScenarioFault.TheVariants.{Refused, Memory}
+
+-- a refusal of the whole text, of a proxy, and of one of its toxics
+abbrev pub of_text : Cause → Refusal
+of_text cause = record { cause = cause; proxy = None; toxic = None }
+
+abbrev pub of_proxy : ℕ → Cause → Refusal
+of_proxy proxy cause = record { cause = cause; proxy = Some proxy; toxic = None }
+
+abbrev pub of_toxic : ℕ → ℕ → Cause → Refusal
+of_toxic proxy toxic cause = record { cause = cause; proxy = Some proxy; toxic = Some toxic }
+
+-- what a fault refuses: want of memory refuses nothing
+abbrev pub refusal : ScenarioFault → Option Refusal
+refusal (Refused r) = Some r
+refusal (Memory e) = None
+
+-- the next step with a value, or why there is none
+abbrev pub with : {A B E : Type 0} → Option A → E → (A → Result B E) → Result B E
+with None error next = Err error
+with (Some x) error next = next x
+
+-- the next step with what the last one gave, or its error
+abbrev pub after : {A B E : Type 0} → Result A E → (A → Result B E) → Result B E
+after (Ok x) next = next x
+after (Err error) next = Err error
+
+-- the next step, unless a test passes
+abbrev pub unless : {B E : Type 0} → Bool → E → Result B E → Result B E
+unless true error next = Err error
+unless false error next = next
+
+-- a refusal for the cause that a step told
+abbrev pub at_place : {A : Type 0} → (Cause → Refusal) → Result A Cause → Result A Refusal
+at_place place (Ok x) = Ok x
+at_place place (Err cause) = Err (place cause)

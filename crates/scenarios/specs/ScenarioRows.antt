@@ -1,0 +1,94 @@
+-- Worked rows of scenario files, of the server that a proxy stands before, and of hosts.
+use Rattle.std.specs.Prelude.{◌≡◌, ℕ, List, [], ◌∷◌, ◌++◌, codes, true, false, Some, None, Ok, Err}
+use Rattle.frame_headers.specs.declared.peers.Peer.{Peer}
+use Rattle.scenarios.specs.Refusals.{of_text, of_proxy, of_toxic}
+use Rattle.scenarios.specs.HostLists.{host_for}
+use Rattle.scenarios.specs.Upstreams.{upstream}
+use Rattle.scenarios.specs.Populate.{scenario, met_number}
+use Rattle.scenarios.specs.declared.hosts.KnownHost.{KnownHost}
+use Rattle.scenarios.specs.declared.proxies.Proxy.{Proxy}
+use Rattle.scenarios.specs.declared.causes.Cause.TheVariants.{NotJson, NotArray, BadMember, DuplicateProxy, BadUpstream, UnknownHost, UnknownToxic}
+
+-- ---- texts
+
+-- no proxies; a text that ends too soon; an object; an item that is no object
+pub record TextsRead : Type 0 where
+  pub empty : scenario [] (codes "[]") ≡ Ok []
+  pub torn : scenario [] (codes "[") ≡ Err (of_text NotJson)
+  pub object : scenario [] (codes "{}") ≡ Err (of_text NotArray)
+  pub number : scenario [] (codes "[1]") ≡ Err (of_proxy 0 BadMember)
+
+-- ---- upstreams
+
+abbrev pub localhost : KnownHost
+localhost = record { name = codes "localhost"; addr = 0x7f000001 }
+
+-- an address; a name with a host for it; a port with zeros before it
+pub record UpstreamsRead : Type 0 where
+  pub address : upstream [] (codes "10.0.0.2:80") ≡ Ok (record { addr = 0x0a000002; port = 80 })
+  pub name : upstream (localhost ∷ []) (codes "localhost:6379") ≡ Ok (record { addr = 0x7f000001; port = 6379 })
+  pub zeros : upstream [] (codes "10.0.0.2:00080") ≡ Ok (record { addr = 0x0a000002; port = 80 })
+
+-- no port; no host; port 0; a port past 65535; an address of another kind; a port that is no number; six digits
+pub record UpstreamsRefused : Type 0 where
+  pub portless : upstream [] (codes "10.0.0.2") ≡ Err BadUpstream
+  pub hostless : upstream [] (codes ":80") ≡ Err BadUpstream
+  pub port_zero : upstream [] (codes "10.0.0.2:0") ≡ Err BadUpstream
+  pub port_past : upstream [] (codes "10.0.0.2:65536") ≡ Err BadUpstream
+  pub bracketed : upstream [] (codes "[::1]:80") ≡ Err BadUpstream
+  pub lettered : upstream [] (codes "10.0.0.2:http") ≡ Err BadUpstream
+  pub six_digits : upstream [] (codes "10.0.0.2:000080") ≡ Err BadUpstream
+
+-- names that no host has, one of them near an address
+pub record HostsUnknown : Type 0 where
+  pub name : upstream [] (codes "redis:80") ≡ Err UnknownHost
+  pub near : upstream [] (codes "10.0.0.256:80") ≡ Err UnknownHost
+  pub padded : upstream [] (codes "010.0.0.2:80") ≡ Err UnknownHost
+
+-- ---- files of proxies
+
+-- the JSON of a proxy for 10.0.0.2:80 with a name and further members
+abbrev pub proxy_text : List ℕ → List ℕ → List ℕ
+proxy_text name more = codes "{\"name\":\"" ++ name ++ codes "\",\"upstream\":\"10.0.0.2:80\"" ++ more ++ codes "}"
+
+abbrev pub of_one : List ℕ → List ℕ
+of_one more = codes "[" ++ proxy_text (codes "web") more ++ codes "]"
+
+abbrev pub server : Peer
+server = record { addr = 0x0a000002; port = 80 }
+
+abbrev pub web : Proxy
+web = record { name = codes "web"; upstream = server; enabled = true }
+
+-- members may be absent, or null, or unknown; of a repeated one the last counts
+pub record ProxiesTold : Type 0 where
+  pub plain : scenario [] (of_one []) ≡ Ok (web ∷ [])
+  pub whole : scenario [] (of_one (codes ",\"listen\":\"127.0.0.1:20080\",\"enabled\":true,\"toxics\":[]")) ≡ Ok (web ∷ [])
+  pub null : scenario [] (of_one (codes ",\"listen\":null,\"enabled\":null,\"toxics\":null,\"colour\":[1]")) ≡ Ok (web ∷ [])
+  pub repeated : scenario [] (of_one (codes ",\"enabled\":true,\"enabled\":false")) ≡ Ok (record { name = codes "web"; upstream = server; enabled = false } ∷ [])
+
+-- a flag that is a text; a name that is empty; a proxy twice; a toxic of a type; one without a type
+pub record ProxiesRefused : Type 0 where
+  pub flag : scenario [] (of_one (codes ",\"enabled\":\"yes\"")) ≡ Err (of_proxy 0 BadMember)
+  pub nameless : scenario [] (codes "[" ++ proxy_text [] [] ++ codes "]") ≡ Err (of_proxy 0 BadMember)
+  pub twice : scenario [] (codes "[" ++ proxy_text (codes "web") [] ++ codes "," ++ proxy_text (codes "web") [] ++ codes "]") ≡ Err (of_proxy 1 DuplicateProxy)
+  pub toxic : scenario [] (of_one (codes ",\"toxics\":[{\"type\":\"explode\"}]")) ≡ Err (of_toxic 0 0 UnknownToxic)
+  pub typeless : scenario [] (of_one (codes ",\"toxics\":[{}]")) ≡ Err (of_toxic 0 0 BadMember)
+
+-- a disabled proxy and one behind it, both for one server: the first is met
+pub record FirstMet : Type 0 where
+  pub both : scenario [] (codes "[" ++ proxy_text (codes "a") (codes ",\"enabled\":false") ++ codes "," ++ proxy_text (codes "b") [] ++ codes "]")
+      ≡ Ok (record { name = codes "a"; upstream = server; enabled = false } ∷ record { name = codes "b"; upstream = server; enabled = true } ∷ [])
+  pub first : met_number server (record { name = codes "a"; upstream = server; enabled = false } ∷ record { name = codes "b"; upstream = server; enabled = true } ∷ []) ≡ Some 0
+  pub other_port : met_number (record { addr = 0x0a000002; port = 81 }) (web ∷ []) ≡ None
+
+-- ---- hosts
+
+-- a host is added once, with a name and an address
+pub record HostsAdded : Type 0 where
+  pub new : host_for [] (codes "a") (codes "10.0.0.9") ≡ Some (record { name = codes "a"; addr = 0x0a000009 })
+  pub again : host_for (record { name = codes "a"; addr = 0x0a000009 } ∷ []) (codes "a") (codes "10.0.0.9") ≡ None
+  pub addressless : host_for [] (codes "b") (codes "10.0.0.256") ≡ None
+  pub nameless : host_for [] (codes "x y") (codes "10.0.0.9") ≡ None
+  pub address_as_name : host_for [] (codes "10.0.0.1") (codes "10.0.0.9") ≡ None
+  pub near_address : host_for [] (codes "010.0.0.2") (codes "10.0.0.9") ≡ Some (record { name = codes "010.0.0.2"; addr = 0x0a000009 })

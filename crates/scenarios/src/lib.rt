@@ -1,0 +1,22 @@
+//! Scenarios: the proxies that a capture is rehearsed under, read from files in Toxiproxy's form.
+//!
+//! `specs/Populate.antt` says which proxies a tree of JSON stands for, or why it is refused; `laws` has theorems about it.
+#![tactic(auto)]
+
+mod addresses;
+mod causes;
+mod hosts;
+pub mod laws;
+mod members;
+mod names;
+mod proxies;
+mod rows;
+mod scenario;
+mod toxics;
+mod upstreams;
+
+pub use causes::{Cause, HostFault, Refusal, ScenarioFault};
+pub use hosts::Hosts;
+pub use names::NameText;
+pub use proxies::{PROXY_LIMIT, Proxy};
+pub use scenario::{Scenario, read_scenario};

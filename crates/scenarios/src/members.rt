@@ -1,0 +1,66 @@
+//! Members of JSON objects.
+ghost use Rattle.std.specs.Prelude.{◌≡◌, option_map};
+ghost use Rattle.serde_json.specs.View.{view, items_view};
+ghost use Rattle.scenarios.specs.Members.{member, required_text, is_text_or_absent, is_object_or_absent, optional_flag, optional_list};
+
+use serde_json::Value;
+
+// The member of an object with a name, unless it is null.
+fn member<'a>(value: &'a Value, name: &str) -> Option<&'a Value>
+    ensures { option_map (λ v. view v.now) result ≡ member name.now (view value.now) }
+{
+    match value.get(name) {
+        Some(Value::Null) => None,
+        found => found,
+    }
+}
+
+// A text that has to be there.
+pub(crate) fn required_text<'a>(value: &'a Value, name: &str) -> Option<&'a str>
+    ensures { option_map (λ s. s.now) result ≡ required_text name.now (view value.now) }
+{
+    member(value, name)?.as_str()
+}
+
+// Whether a member is a text or absent.
+pub(crate) fn is_text_or_absent(value: &Value, name: &str) -> bool
+    ensures { result ≡ is_text_or_absent name.now (view value.now) }
+{
+    match member(value, name) {
+        None => true,
+        Some(found) => found.is_string(),
+    }
+}
+
+// Whether a member is an object or absent.
+pub(crate) fn is_object_or_absent(value: &Value, name: &str) -> bool
+    ensures { result ≡ is_object_or_absent name.now (view value.now) }
+{
+    match member(value, name) {
+        None => true,
+        Some(found) => found.is_object(),
+    }
+}
+
+// A flag, which is true where it is absent; nothing where it is no flag.
+pub(crate) fn optional_flag(value: &Value, name: &str) -> Option<bool>
+    ensures { result ≡ optional_flag name.now (view value.now) }
+{
+    match member(value, name) {
+        None => Some(true),
+        Some(found) => found.as_bool(),
+    }
+}
+
+// The items of an array, which has none where it is absent; nothing where it is no array.
+pub(crate) fn optional_list<'a>(value: &'a Value, name: &str) -> Option<&'a [Value]>
+    ensures { option_map (λ s. items_view s.now) result ≡ optional_list name.now (view value.now) }
+{
+    match member(value, name) {
+        None => Some(&[]),
+        Some(found) => {
+            let items = found.as_array()?;
+            Some(items.as_slice())
+        }
+    }
+}

@@ -1,0 +1,163 @@
+//! The proxies of a scenario.
+ghost use Rattle.std.specs.Prelude.{◌≡◌, ◌<◌, ◌≤◌, [], ℕ, length, option_map, IfOk};
+ghost use Rattle.serde_json.specs.View.{view, items_view};
+ghost use Rattle.pcap_records.specs.Agreement.{AgreesUnlessMemory};
+ghost use Rattle.scenarios.specs.Refusals.{refusal};
+ghost use Rattle.scenarios.specs.Proxies.{proxy_limit, proxy_members, has_name, accepted_proxy, proxy_in, proxies_from};
+ghost use Rattle.scenarios.specs.SeenMembers.{seen_members, Accepts};
+
+use crate::causes::{Cause, Refusal, ScenarioFault};
+use crate::hosts::Hosts;
+use crate::members::{is_text_or_absent, optional_flag, optional_list, required_text};
+use crate::names::NameText;
+use crate::toxics::check_toxics;
+use crate::upstreams::upstream;
+use frame_headers::Peer;
+use serde_json::Value;
+use std::alloc::{AllocError, Global};
+
+/// The greatest number of proxies of a scenario.
+pub const PROXY_LIMIT: usize = 64;
+
+/// A proxy: what it is called, whom it stands before, and whether it takes connections.
+#[derive(Debug, Drop)]
+pub struct Proxy {
+    /// Its name: no other proxy of the scenario has it.
+    pub name: NameText,
+    /// The server that it stands before.
+    pub upstream: Peer,
+    /// Whether it takes connections: one that does not refuses each.
+    pub enabled: bool,
+}
+
+// The members of a proxy in its file.
+#[derive(Clone, Copy)]
+pub(crate) struct MembersRead<'a> {
+    pub(crate) name: &'a str,
+    pub(crate) upstream: &'a str,
+    pub(crate) enabled: bool,
+    pub(crate) toxics: &'a [Value],
+}
+
+// A proxy that nothing refuses.
+#[derive(Clone, Copy)]
+pub(crate) struct Accepted<'a> {
+    pub(crate) name: &'a str,
+    pub(crate) upstream: Peer,
+    pub(crate) enabled: bool,
+}
+
+// The members of a proxy, if each is of its kind.
+fn proxy_members(value: &Value) -> Option<MembersRead<'_>>
+    ensures { option_map seen_members result ≡ proxy_members (view value.now) }
+{
+    let name = required_text(value, "name")?;
+    let upstream = required_text(value, "upstream")?;
+    let enabled = optional_flag(value, "enabled")?;
+    let toxics = optional_list(value, "toxics")?;
+    if name.is_empty() || !is_text_or_absent(value, "listen") {
+        return None;
+    }
+    Some(MembersRead {
+        name,
+        upstream,
+        enabled,
+        toxics,
+    })
+}
+
+// Whether one of the proxies has a name.
+fn has_name(proxies: &[Proxy], name: &str) -> bool
+    ensures { result ≡ has_name proxies.now name.now }
+{
+    for proxy in proxies {
+        if proxy.name.as_slice() == name.as_bytes() {
+            return true;
+        }
+    }
+    false
+}
+
+// The proxy that members say, if nothing refuses it.
+#[tactic(auto, unfolding(crate::specs::Proxies::accepted_proxy))]
+fn accept<'a>(
+    members: MembersRead<'a>,
+    hosts: &Hosts,
+    earlier: &[Proxy],
+) -> Result<Accepted<'a>, Refusal>
+    ensures { Accepts result (accepted_proxy hosts.now earlier.now (seen_members members.entry)) }
+{
+    let number = earlier.len();
+    if has_name(earlier, members.name) {
+        return Err(Refusal::of_proxy(number, Cause::DuplicateProxy));
+    }
+    let upstream = match upstream(hosts, members.upstream) {
+        Ok(upstream) => upstream,
+        Err(cause) => return Err(Refusal::of_proxy(number, cause)),
+    };
+    check_toxics(number, members.toxics)?;
+    Ok(Accepted {
+        name: members.name,
+        upstream,
+        enabled: members.enabled,
+    })
+}
+
+// Looks at one proxy.
+#[tactic(auto, unfolding(crate::specs::Proxies::proxy_in))]
+fn check_proxy<'a>(
+    value: &'a Value,
+    hosts: &Hosts,
+    earlier: &[Proxy],
+) -> Result<Accepted<'a>, Refusal>
+    ensures is { Accepts result (proxy_in hosts.now earlier.now (view value.now)) }
+    ensures room { IfOk result (λ _. length earlier.now < proxy_limit) }
+{
+    let number = earlier.len();
+    if number >= PROXY_LIMIT {
+        return Err(Refusal::of_proxy(number, Cause::TooMany));
+    }
+    let Some(members) = proxy_members(value) else {
+        return Err(Refusal::of_proxy(number, Cause::BadMember));
+    };
+    accept(members, hosts, earlier)
+}
+
+// Reads one proxy.
+fn read_proxy(
+    alloc: Global,
+    value: &Value,
+    hosts: &Hosts,
+    earlier: &[Proxy],
+) -> Result<Proxy, ScenarioFault>
+    ensures is { AgreesUnlessMemory refusal (λ p. p) result (proxy_in hosts.now earlier.now (view value.now)) }
+    ensures room { IfOk result (λ _. length earlier.now < proxy_limit) }
+{
+    let accepted = check_proxy(value, hosts, earlier)?;
+    let name = NameText::copy_of(alloc, accepted.name)?;
+    Ok(Proxy {
+        name,
+        upstream: accepted.upstream,
+        enabled: accepted.enabled,
+    })
+}
+
+// Reads proxies, one after another.
+#[tactic(auto, unfolding(crate::specs::Proxies::proxies_from))]
+pub(crate) fn read_proxies(
+    alloc: Global,
+    items: &[Value],
+    hosts: &Hosts,
+) -> Result<Vec<Proxy>, ScenarioFault>
+    ensures is { AgreesUnlessMemory refusal (λ v. v.items) result (proxies_from hosts.now [] (items_view items.now)) }
+    ensures bound { IfOk result (λ v. length v.items ≤ proxy_limit) }
+{
+    let mut proxies = Vec::new(alloc);
+    for value in items {
+        let proxy = read_proxy(alloc, value, hosts, &proxies)?;
+        let Ok(()) = proxies.push(proxy) else {
+            return Err(ScenarioFault::Memory(AllocError));
+        };
+    }
+    Ok(proxies)
+}

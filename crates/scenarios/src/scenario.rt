@@ -1,0 +1,88 @@
+//! Scenarios.
+ghost use Rattle.std.specs.Prelude.{◌≡◌, Some, None, IfSome, MatchResult};
+ghost use Rattle.serde_json.specs.View.{view};
+ghost use Rattle.pcap_records.specs.Agreement.{AgreesUnlessMemory};
+ghost use Rattle.scenarios.specs.Refusals.{refusal, of_text};
+ghost use Rattle.scenarios.specs.declared.causes.Cause.TheVariants.{NotJson};
+ghost use Rattle.scenarios.specs.Populate.{tree, scenario_of_tree, scenario, met_number};
+
+use crate::causes::{Cause, Refusal, ScenarioFault};
+use crate::hosts::Hosts;
+use crate::proxies::{Proxy, read_proxies};
+use frame_headers::Peer;
+use serde_json::Value;
+use std::alloc::{AllocError, Global};
+use std::marker::Model;
+
+/// A scenario: at most 64 proxies, in the order of their file.
+#[derive(Debug, Drop)]
+pub struct Scenario {
+    proxies: Vec<Proxy>,
+}
+
+impl Model for Scenario {
+    ghost use Rattle.std.specs.Prelude.{◌≤◌, List, length};
+    ghost use Rattle.scenarios.specs.Proxies.{proxy_limit};
+    ghost use Rattle.scenarios.specs.declared.proxies.Proxy.{Proxy};
+
+    ghost Value = { List Proxy };
+
+    ghost view = { λ s. s.proxies.items };
+
+    ghost invariant = { λ s. length s.proxies.items ≤ proxy_limit };
+}
+
+impl Scenario {
+    /// The proxies, in the order of their file.
+    pub fn proxies(&self) -> &[Proxy]
+        ensures { result.now ≡ self.now }
+    {
+        &self.proxies
+    }
+
+    /// The number of the first proxy that stands before a server, if one does.
+    pub fn proxy_of(&self, server: Peer) -> Option<u32>
+        ensures { result ≡ met_number server self.now }
+    {
+        for (number, proxy) in self.proxies.iter().enumerate() {
+            if proxy.upstream == server {
+                return Some(number as u32);
+            }
+        }
+        None
+    }
+}
+
+// The tree of a text of JSON.
+fn read_tree(alloc: Global, text: &[u8]) -> Result<Value, ScenarioFault>
+    ensures { MatchResult result (λ v. tree text.now ≡ Some (view v))
+        (λ fault. IfSome (refusal fault) (λ r. (r ≡ of_text NotJson) × (tree text.now ≡ None))) }
+{
+    match Value::from_slice(alloc, text) {
+        Ok(tree) => Ok(tree),
+        Err(error) if error.is_memory() => Err(ScenarioFault::Memory(AllocError)),
+        Err(_) => Err(ScenarioFault::Refused(Refusal::of_text(Cause::NotJson))),
+    }
+}
+
+// The scenario that a tree stands for.
+fn scenario_of_tree(alloc: Global, tree: &Value, hosts: &Hosts) -> Result<Scenario, ScenarioFault>
+    ensures { AgreesUnlessMemory refusal (λ s. s) result (scenario_of_tree hosts.now (view tree.now)) }
+{
+    let Some(items) = tree.as_array() else {
+        return Err(ScenarioFault::Refused(Refusal::of_text(Cause::NotArray)));
+    };
+    let proxies = read_proxies(alloc, items, hosts)?;
+    Ok(Scenario { proxies })
+}
+
+/// Reads a scenario: a JSON array of proxies in Toxiproxy's form. The hosts are those that upstreams may name.
+///
+/// # Errors
+/// The first refusal of the text, with its proxy and its toxic; or a growth was refused.
+pub fn read_scenario(alloc: Global, text: &[u8], hosts: &Hosts) -> Result<Scenario, ScenarioFault>
+    ensures { AgreesUnlessMemory refusal (λ s. s) result (scenario hosts.now text.now) }
+{
+    let tree = read_tree(alloc, text)?;
+    scenario_of_tree(alloc, &tree, hosts)
+}

@@ -1,0 +1,54 @@
+-- From the text of a capture and the texts of scenarios to what each scenario answers.
+use Rattle.std.specs.Prelude.{◌≡◌, ℕ, ◌≤◌, nat_lt, if◌then◌else◌, List, [], ◌∷◌, ◌++◌, length, Result, Ok, Err}
+use Rattle.pcap_records.specs.Reading.{capture_limit}
+use Rattle.scenarios.specs.Refusals.{after}
+use Rattle.scenarios.specs.Populate.{scenario}
+use Rattle.scenarios.specs.declared.causes.Refusal.{Refusal}
+use Rattle.scenarios.specs.declared.hosts.KnownHost.{KnownHost}
+use Rattle.scenarios.specs.declared.proxies.Proxy.{Proxy}
+use Rattle.toxicap.specs.declared.faults.RunFault.{RunFault}
+use Rattle.toxicap.specs.declared.faults.RunFault.TheVariants.{BadScenario, CaptureTooLong, Memory, ReadFailed, WriteFailed}
+use Rattle.toxicap.specs.declared.outputs.Output.{Output}
+use Rattle.toxicap.specs.Dumps.{is_dump, dump_reading}
+use Rattle.toxicap.specs.Rehearsal.{answer}
+
+-- the bytes of a capture: those of the dump where the text is taken for one, and else the text
+abbrev pub capture_bytes_of : List ℕ → Result (List ℕ) RunFault
+capture_bytes_of text = if is_dump text then dump_reading text else Ok text
+
+-- a scenario, or its refusal with the scenario's number
+abbrev pub numbered : ℕ → Result (List Proxy) Refusal → Result (List Proxy) RunFault
+numbered number (Ok proxies) = Ok proxies
+numbered number (Err refusal) = Err (BadScenario number refusal)
+
+-- the scenarios of some texts, behind those read earlier, or the first refusal
+unfoldable pub scenarios_from : List KnownHost → List (List Proxy) → List (List ℕ) → Result (List (List Proxy)) RunFault
+scenarios_from hosts earlier [] = Ok earlier
+scenarios_from hosts earlier (text ∷ texts) =
+    after (numbered (length earlier) (scenario hosts text)) (λ proxies. scenarios_from hosts (earlier ++ proxies ∷ []) texts)
+
+-- the answer to a capture's bytes under scenarios that are still texts
+abbrev pub answer_under : List KnownHost → List (List ℕ) → ℕ → List ℕ → Result (List Output) RunFault
+answer_under hosts texts seed bytes = after (scenarios_from hosts [] texts) (λ scenarios. answer bytes scenarios seed)
+
+-- What a text calls for, or the first refusal: it is too long, its dump is broken, a scenario is refused, or the rehearsal is
+unfoldable pub called_for : List KnownHost → List (List ℕ) → ℕ → List ℕ → Result (List Output) RunFault
+called_for hosts texts seed text =
+    if nat_lt capture_limit (length text) then Err CaptureTooLong else after (capture_bytes_of text) (answer_under hosts texts seed)
+
+-- a fault of the texts: no call of a reader or of a writer has failed
+abbrev pub IsOfText : RunFault → Type 0
+IsOfText ReadFailed = ⊥
+IsOfText WriteFailed = ⊥
+IsOfText _ = Unit {0}
+
+-- How an answer comes of what was called for by the text that was read, given what it is to be at the reader's end. A failed
+-- read and want of memory come within the limit; that the text is too long is told as soon as it is; any other answer comes at the
+-- reader's end.
+abbrev pub AnswersBy : Result (List Output) RunFault → Result (List Output) RunFault → List ℕ → Type 0 → Type 0
+AnswersBy (Ok outputs) wanted text AtEnd = AtEnd × (wanted ≡ Ok outputs)
+AnswersBy (Err ReadFailed) wanted text AtEnd = length text ≤ capture_limit
+AnswersBy (Err Memory) wanted text AtEnd = length text ≤ capture_limit
+AnswersBy (Err CaptureTooLong) wanted text AtEnd = wanted ≡ Err CaptureTooLong
+AnswersBy (Err WriteFailed) wanted text AtEnd = ⊥
+AnswersBy (Err fault) wanted text AtEnd = AtEnd × (wanted ≡ Err fault)

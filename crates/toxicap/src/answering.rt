@@ -1,0 +1,122 @@
+//! From the text of a capture and the texts of scenarios to what each scenario answers.
+ghost use Rattle.std.specs.Prelude.{◌≡◌, ℕ, ◌+◌, ◌-◌, ◌^◌, ◌<◌, ◌≤◌, [], List, length, map, IfErr};
+ghost use Rattle.std.specs.Io.KnownBytes.{Consumes, IsAtEnd};
+ghost use Rattle.pcap_records.specs.Agreement.{AgreesUnlessMemory};
+ghost use Rattle.pcap_records.specs.Reading.{capture_limit};
+ghost use Rattle.scenarios.specs.Populate.{scenario};
+ghost use Rattle.toxicap.specs.Answering.{AnswersBy, IsOfText, answer_under, called_for, numbered, scenarios_from};
+ghost use Rattle.toxicap.specs.Overview.{failed_reads};
+ghost use Rattle.toxicap.specs.RunFault.{run_refusal};
+
+use crate::counted::Counted;
+use crate::dumps::capture_bytes;
+use crate::faults::RunFault;
+use crate::gates::Through;
+use crate::loading::load;
+use crate::options::Options;
+use crate::outputs::Outputs;
+use crate::rehearsal::rehearse;
+use scenarios::{Hosts, Scenario, ScenarioFault, read_scenario};
+use std::alloc::Global;
+use std::io::Read;
+use std::sync::Wait;
+use std::thread::Threads;
+
+/// Reads a capture to its end and rehearses it under scenarios that are still texts, each a JSON array of proxies in
+/// Toxiproxy's form. Where the capture's first byte is a hexadecimal digit, its bytes are a dump of it.
+///
+/// # Errors
+/// In this order: [`RunFault::ReadFailed`] or [`RunFault::CaptureTooLong`] while the capture is read, [`RunFault::BadDump`],
+/// [`RunFault::BadScenario`] for the first scenario that is refused, [`RunFault::TooManyScenarios`], the faults of the capture itself;
+/// [`RunFault::Memory`] at the growth that was refused.
+pub fn answers<H: Threads + Wait, R: Read>(
+    rt: &H,
+    alloc: Global,
+    reader: &mut Counted<R>,
+    texts: &[&[u8]],
+    options: &Options,
+) -> Result<Outputs, RunFault>
+    requires { reader.old.failed < 2 ^ 64 - 1 }
+
+    // What is answered follows from the text that was read.
+    ensures answer { (text : List ℕ)
+        × Consumes (R.remaining reader.old.inner) (R.remaining reader.new.inner) text
+        × AnswersBy result (called_for options.now.hosts (map (λ t. t.now) texts.now) options.now.seed text) text (IsAtEnd (R.remaining reader.new.inner)) }
+
+    // A read has failed exactly where the answer says so, and one alone.
+    ensures failed { reader.new.failed ≡ reader.old.failed + failed_reads result }
+{
+    let text = load(alloc, reader)?;
+    answer_to_text(rt, alloc, text, texts, options)
+}
+
+// What a text calls for.
+#[tactic(auto, unfolding(crate::specs::Answering::called_for))]
+fn answer_to_text<H: Threads + Wait>(
+    rt: &H,
+    alloc: Global,
+    text: Vec<u8>,
+    texts: &[&[u8]],
+    options: &Options,
+) -> Result<Outputs, RunFault>
+    requires { length text.items ≤ capture_limit }
+    ensures exact { AgreesUnlessMemory run_refusal (λ outputs. outputs) result (called_for options.now.hosts (map (λ t. t.now) texts.now) options.now.seed text.items) }
+    ensures of_text { IfErr result IsOfText }
+{
+    let bytes = capture_bytes(alloc, text)?;
+    answer_to_bytes(rt, alloc, &bytes, texts, options)
+}
+
+// The answer to a capture's bytes.
+fn answer_to_bytes<H: Threads + Wait>(
+    rt: &H,
+    alloc: Global,
+    bytes: &[u8],
+    texts: &[&[u8]],
+    options: &Options,
+) -> Result<Outputs, RunFault>
+    ensures exact { AgreesUnlessMemory run_refusal (λ outputs. outputs) result (answer_under options.now.hosts (map (λ t. t.now) texts.now) options.now.seed bytes.now) }
+    ensures of_text { IfErr result IsOfText }
+{
+    let scenarios = read_texts(alloc, texts, &options.hosts)?;
+    rehearse(
+        rt,
+        alloc,
+        bytes,
+        &scenarios,
+        options.seed,
+        options.plan,
+        &Through,
+    )
+}
+
+// The scenarios of some texts.
+#[tactic(auto, unfolding(crate::specs::Answering::scenarios_from))]
+fn read_texts(alloc: Global, texts: &[&[u8]], hosts: &Hosts) -> Result<Vec<Scenario>, RunFault>
+    ensures exact { AgreesUnlessMemory run_refusal (λ v. v.items) result (scenarios_from hosts.now [] (map (λ t. t.now) texts.now)) }
+    ensures of_text { IfErr result IsOfText }
+{
+    let mut scenarios = Vec::with_capacity(alloc, texts.len())?;
+    for (number, text) in texts.iter().enumerate() {
+        let scenario = read_text(alloc, number, text, hosts)?;
+        scenarios.push(scenario)?;
+    }
+    Ok(scenarios)
+}
+
+// The scenario of a text with its number.
+fn read_text(
+    alloc: Global,
+    number: usize,
+    text: &[u8],
+    hosts: &Hosts,
+) -> Result<Scenario, RunFault>
+    ensures exact { AgreesUnlessMemory run_refusal (λ s. s) result (numbered number (scenario hosts.now text.now)) }
+    ensures of_text { IfErr result IsOfText }
+{
+    match read_scenario(alloc, text, hosts) {
+        Ok(scenario) => Ok(scenario),
+        Err(ScenarioFault::Refused(refusal)) => Err(RunFault::BadScenario { number, refusal }),
+        Err(ScenarioFault::Memory(_)) => Err(RunFault::Memory),
+    }
+}

@@ -1,0 +1,22 @@
+//! The proxy that a connection meets.
+ghost use Rattle.std.specs.Prelude.{◌≡◌, option_map};
+ghost use Rattle.toxic_defs.specs.DeliveredLines.{met_view};
+ghost use Rattle.toxicap.specs.Rehearsal.{met_proxy};
+
+use frame_headers::Peer;
+use scenarios::Scenario;
+use scenarios::laws::first_is_met;
+use toxic_defs::MetProxy;
+
+/// The proxy of a scenario that a connection to a server meets: the first that stands before it.
+pub(crate) fn met_proxy(scenario: &Scenario, server: Peer) -> Option<MetProxy>
+    ensures { option_map met_view result ≡ met_proxy server scenario.now }
+{
+    first_is_met();
+    let number = scenario.proxy_of(server)?;
+    let proxy = &scenario.proxies()[number as usize];
+    Some(MetProxy {
+        number,
+        enabled: proxy.enabled,
+    })
+}

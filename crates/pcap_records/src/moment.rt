@@ -1,5 +1,5 @@
 //! Instants.
-ghost use Rattle.std.specs.Prelude.{◌≡◌, max};
+ghost use Rattle.std.specs.Prelude.{◌≡◌, ◌+◌, max};
 ghost use Rattle.pcap_records.specs.Instants.{instant, microseconds};
 
 use std::marker::Model;
@@ -41,6 +41,13 @@ impl Moment {
         ensures { result ≡ self }
     {
         self.micros
+    }
+
+    /// The instant `micros` microseconds after this one, or the horizon where that is earlier.
+    pub fn later(self, micros: u64) -> Moment
+        ensures { result ≡ instant microseconds (self + micros) }
+    {
+        Moment::of(self.micros.saturating_add(micros))
     }
 
     /// The greater of two instants.

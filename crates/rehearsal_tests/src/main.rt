@@ -16,15 +16,7 @@ fn main(rt: HostRuntime) -> Result<()> {
     let _ = rt.stdin().read_to_end(&mut capture)?;
     let scenario = read_scenario(rt.alloc(), b"[]", &Hosts::new(rt.alloc()))?;
     let plan = Plan::new(1, 4096).context("no such plan")?;
-    let outputs = rehearse(
-        &rt,
-        rt.alloc(),
-        &capture,
-        &[scenario],
-        0,
-        plan,
-        &Through,
-    )?;
+    let outputs = rehearse(&rt, rt.alloc(), &capture, &[scenario], 0, plan, &Through)?;
     for output in outputs.as_slice() {
         // output.report is the text of the same scenario
         rt.stdout().write_all(output.capture.as_slice())?;

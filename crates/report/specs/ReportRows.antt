@@ -50,12 +50,12 @@ text_of recorded up down = connection_text 0 client server recorded (both_cut up
 
 abbrev pub SessionTold : Type 0
 SessionTold =
-    connection_text 0 client server session (delivered_connection 1000000 None session)
+    connection_text 0 client server session (delivered_connection 1000000 42 0 0 None session)
     ≡ codes "0 10.0.0.1:40000 > 10.0.0.2:80 proxy - up 5/5/0 fin+2000 max 0 down 0/0/0 fin+3000 max 0\n"
 
 abbrev pub RefusedTold : Type 0
 RefusedTold =
-    connection_text 7 client server session (delivered_connection 1000000 (Some (record { number = 3; enabled = false })) session)
+    connection_text 7 client server session (delivered_connection 1000000 42 0 7 (Some (record { number = 3; enabled = false; up = []; down = [] })) session)
     ≡ codes "7 10.0.0.1:40000 > 10.0.0.2:80 proxy 3 up 0/5/0 refused max 0 down 0/0/0 refused max 0\n"
 
 -- ---- cut

@@ -3,6 +3,9 @@ mod LastPlaces
 mod PortSteps
 mod Trees
 mod FirstProxies
+mod PassedSteps
+mod SoundToxics
 mod SoundScenarios
 mod ReadBacks
 mod WorkedRows
+mod WorkedToxicRows

@@ -1,5 +1,5 @@
 -- The proxies of a scenario are sound.
-use Rattle.std.proofs.Common.{◌≡◌, ℕ, ◌<◌, ◌≤◌, ◌^◌, ◌&&◌, Bool, true, false, nat_lt, nat_le, List, [], ◌∷◌, ◌++◌, codes, length, Option, Some, None, option_and_then, Result, Ok, Err, if◌then◌else◌, refl, sym, ap, subst, ◌∙◌, arith, append-nil, append_assoc, length-append}
+use Rattle.std.proofs.Common.{◌≡◌, ℕ, ◌<◌, ◌≤◌, ◌^◌, ◌&&◌, Bool, true, false, nat_lt, nat_le, List, [], ◌∷◌, ◌++◌, codes, length, Some, None, Ok, if◌then◌else◌, refl, sym, ap, subst, ◌∙◌, arith, append-nil, append_assoc, length-append}
 use Rattle.std.proofs.lemmas.Bool.{leb-false, ltb-true}
 use Rattle.std.proofs.lemmas.Bool.Decides.{nat_tests}
 use Rattle.std.proofs.lemmas.Option.{none-some, same_Some}
@@ -9,45 +9,17 @@ use Rattle.std.specs.Str.Parse.{digits_value}
 use Rattle.serde_json.specs.Data.{Data, Items, no_items, item}
 use Rattle.serde_json.specs.Find.{as_array}
 use Rattle.frame_headers.specs.declared.peers.Peer.{Peer}
-use Rattle.scenarios.specs.Refusals.{with, after, unless, at_place, of_proxy}
+use Rattle.scenarios.specs.Refusals.{at_place, of_proxy}
 use Rattle.scenarios.specs.Members.{required_text, is_text_or_absent, optional_flag, optional_list}
 use Rattle.scenarios.specs.Upstreams.{colon, cut_at_last, port, host_address, upstream}
-use Rattle.scenarios.specs.Toxics.{checked_toxics}
-use Rattle.scenarios.specs.Proxies.{proxy_limit, ProxyMembers, proxy_members, has_name, accepted_proxy, proxy_in, proxies_from}
+use Rattle.scenarios.specs.ToxicsInFiles.{no_toxics, toxics_from}
+use Rattle.scenarios.specs.Proxies.{proxy_limit, ProxyMembers, CheckedProxy, proxy_members, has_name, accepted_proxy, checked_proxy, proxy_in, proxies_from}
 use Rattle.scenarios.specs.Populate.{tree}
 use Rattle.scenarios.specs.ProxyLaws.{IsSound, NamesAreFree, ScenariosAreSound}
 use Rattle.scenarios.specs.declared.hosts.KnownHost.{KnownHost}
 use Rattle.scenarios.specs.declared.proxies.Proxy.{Proxy}
-use Rattle.scenarios.specs.declared.causes.Cause.{Cause}
-use Rattle.scenarios.specs.declared.causes.Refusal.{Refusal}
-
--- ---- what steps went through, if they gave a value
-
-err_is_not_ok : {A E P : Type 0} (e : E) (x : A) → ◌≡◌ {A = Result A E} (Err e) (Ok x) → P
-err_is_not_ok e x is = cc
-
-same_ok : {A E : Type 0} (x y : A) → ◌≡◌ {A = Result A E} (Ok x) (Ok y) → x ≡ y
-same_ok x y is = cc
-
-of_with : {A B E P : Type 0} (o : Option A) (e : E) (next : A → Result B E) (y : B) → with o e next ≡ Ok y → ((x : A) → o ≡ Some x → next x ≡ Ok y → P) → P
-of_with None e next y is k = err_is_not_ok _ _ is
-of_with (Some x) e next y is k = k x refl is
-
-of_after : {A B E P : Type 0} (r : Result A E) (next : A → Result B E) (y : B) → after r next ≡ Ok y → ((x : A) → r ≡ Ok x → next x ≡ Ok y → P) → P
-of_after (Ok x) next y is k = k x refl is
-of_after (Err e) next y is k = err_is_not_ok _ _ is
-
-of_unless : {B E P : Type 0} (b : Bool) (e : E) (next : Result B E) (y : B) → unless b e next ≡ Ok y → (b ≡ false → next ≡ Ok y → P) → P
-of_unless true e next y is k = err_is_not_ok _ _ is
-of_unless false e next y is k = k refl is
-
-of_place : {A : Type 0} (place : Cause → Refusal) (r : Result A Cause) (x : A) → at_place place r ≡ Ok x → r ≡ Ok x
-of_place place (Ok z) x is = ap Ok (same_ok _ _ is)
-of_place place (Err cause) x is = err_is_not_ok _ _ is
-
-of_chain : {A B P : Type 0} (f : A → Option B) (o : Option A) (y : B) → option_and_then f o ≡ Some y → ((x : A) → f x ≡ Some y → P) → P
-of_chain f None y is k = absurd (none-some y is)
-of_chain f (Some x) y is k = k x is
+use Rattle.scenarios.proofs.PassedSteps.{same_ok, of_with, of_after, of_unless, of_place, of_chain}
+use Rattle.scenarios.proofs.SoundToxics.{toxics_are_sound}
 
 -- ---- members and upstreams
 
@@ -80,23 +52,34 @@ upstreams_have_ports hosts text peer is =
 
 -- ---- proxies
 
--- a proxy that is accepted is sound, and its name is free
-accepted_is_sound : (hosts : List KnownHost) (earlier : List Proxy) (m : ProxyMembers) (p : Proxy) → 0 < length m.name → accepted_proxy hosts earlier m ≡ Ok p → IsSound p × (has_name earlier p.name ≡ false)
-unfolding accepted_proxy
-accepted_is_sound hosts earlier m p named is =
-    of_unless (has_name earlier m.name) _ _ p is λ free is₁.
-    of_after (at_place (of_proxy (length earlier)) (upstream hosts m.upstream)) _ p is₁ λ peer upstream_is is₂.
-    of_after (checked_toxics (length earlier) 0 m.toxics) _ p is₂ λ _ _ is₃.
-    let ports = upstreams_have_ports hosts m.upstream peer (of_place _ (upstream hosts m.upstream) peer upstream_is) in
-    rw (← same_ok _ _ is₃) (record { named = named; port = ports.0; port_fits = ports.1 }, free)
+-- a proxy that nothing refuses but its toxics has a name that is free, and a port
+SoundBefore : List Proxy → CheckedProxy → Type 0
+SoundBefore earlier c = (0 < length c.name) × (0 < c.upstream.port) × (c.upstream.port < 2 ^ 16) × (has_name earlier c.name ≡ false)
 
+accepted_is_sound : (hosts : List KnownHost) (earlier : List Proxy) (m : ProxyMembers) (c : CheckedProxy) → 0 < length m.name → accepted_proxy hosts earlier m ≡ Ok c → SoundBefore earlier c
+unfolding accepted_proxy SoundBefore
+accepted_is_sound hosts earlier m c named is =
+    of_unless (has_name earlier m.name) _ _ c is λ free is₁.
+    of_after (at_place (of_proxy (length earlier)) (upstream hosts m.upstream)) _ c is₁ λ peer upstream_is is₂.
+    let ports = upstreams_have_ports hosts m.upstream peer (of_place _ (upstream hosts m.upstream) peer upstream_is) in
+    rw (← same_ok _ _ is₂) (named, ports.0, ports.1, free)
+
+checked_is_sound : (hosts : List KnownHost) (earlier : List Proxy) (d : Data) (c : CheckedProxy) → checked_proxy hosts earlier d ≡ Ok c → SoundBefore earlier c × (length earlier < proxy_limit)
+unfolding checked_proxy
+checked_is_sound hosts earlier d c is =
+    of_unless (nat_le proxy_limit (length earlier)) _ _ c is λ few is₁.
+    of_with (proxy_members d) _ _ c is₁ λ m members_are is₂.
+    (accepted_is_sound hosts earlier m c (members_have_names d m members_are) is₂, leb-false proxy_limit (length earlier) few)
+
+-- a proxy that is accepted is sound, and its name is free
 proxy_is_sound : (hosts : List KnownHost) (earlier : List Proxy) (d : Data) (p : Proxy) → proxy_in hosts earlier d ≡ Ok p → IsSound p × (has_name earlier p.name ≡ false) × (length earlier < proxy_limit)
-unfolding proxy_in
+unfolding proxy_in SoundBefore
 proxy_is_sound hosts earlier d p is =
-    of_unless (nat_le proxy_limit (length earlier)) _ _ p is λ few is₁.
-    of_with (proxy_members d) _ _ p is₁ λ m members_are is₂.
-    let sound = accepted_is_sound hosts earlier m p (members_have_names d m members_are) is₂ in
-    (sound.0, sound.1, leb-false proxy_limit (length earlier) few)
+    of_after (checked_proxy hosts earlier d) _ p is λ c checked_is is₁.
+    of_after (toxics_from (length earlier) no_toxics c.toxics) _ p is₁ λ t toxics_are is₂.
+    let before = checked_is_sound hosts earlier d c checked_is in
+    let toxics = toxics_are_sound (length earlier) c.toxics t toxics_are in
+    rw (← same_ok _ _ is₂) (record { named = before.0.0; port = before.0.1; port_fits = before.0.2; up_toxics = toxics.0; down_toxics = toxics.1 }, before.0.3, before.1)
 
 -- what was read behind those that stand earlier
 Behind : List Proxy → List Proxy → Type 0
@@ -110,6 +93,10 @@ all_are_sound hosts earlier (item d ds) proxies few is =
     let sound = proxy_is_sound hosts earlier d p proxy_is in
     let later = all_are_sound hosts (earlier ++ p ∷ []) ds proxies (omega (arith, length-append earlier (p ∷ []), sound.2)) is₁ in
     (p ∷ later.0, later.1 ∙ append_assoc earlier (p ∷ []) later.0, (sound.0, later.2), (sound.1, later.3), later.4)
+
+pub proxies_are_sound : (hosts : List KnownHost) (ds : Items) (proxies : List Proxy) → proxies_from hosts [] ds ≡ Ok proxies → AllByRecursion IsSound proxies
+unfolding Behind
+proxies_are_sound hosts ds proxies is = let sound = all_are_sound hosts [] ds proxies (omega arith) is in rw sound.1 sound.2
 
 pub scenarios_are_sound : ScenariosAreSound
 unfolding Behind

@@ -3,9 +3,12 @@ pub mod Addresses
 pub mod HostLists
 pub mod Upstreams
 pub mod Members
-pub mod Toxics
+pub mod ToxicTypes
+pub mod ToxicAttributes
+pub mod ToxicsInFiles
 pub mod Proxies
 pub mod SeenMembers
 pub mod Populate
 pub mod ProxyLaws
 pub mod ScenarioRows
+pub mod ToxicFileRows

@@ -1,7 +1,12 @@
 -- Members of JSON objects. A member that is null is absent, and what is no object has no members.
-use Rattle.std.specs.Prelude.{ℕ, List, Bool, true, Option, Some, None, is_some, option_and_then}
+use Rattle.std.specs.Prelude.{ℕ, List, [], Bool, true, Option, Some, None, is_some, option_and_then}
 use Rattle.serde_json.specs.Data.{Data, null, boolean, number, string, array, object, Items, no_items}
-use Rattle.serde_json.specs.Find.{get, as_str, as_bool, as_array, as_object}
+use Rattle.serde_json.specs.Find.{get, as_str, as_bool, as_array, as_object, as_number, as_u64}
+
+-- the next step with a value, if there is one
+infixl 10 ◌>>=◌
+abbrev pub ◌>>=◌ : {A B : Type 0} → Option A → (A → Option B) → Option B
+o >>= next = option_and_then next o
 
 abbrev pub unless_null : Data → Option Data
 unless_null null = None
@@ -29,6 +34,18 @@ is_text_or_absent name d = absent_as true (λ found. is_some (as_str found)) (me
 
 abbrev pub is_object_or_absent : List ℕ → Data → Bool
 is_object_or_absent name d = absent_as true (λ found. is_some (as_object found)) (member name d)
+
+-- a text, which is empty where it is absent
+abbrev pub optional_text : List ℕ → Data → Option (List ℕ)
+optional_text name d = absent_as (Some []) as_str (member name d)
+
+-- a whole number: one that the tree holds as an unsigned integer
+abbrev pub whole : Data → Option ℕ
+whole d = option_and_then as_u64 (as_number d)
+
+-- a whole number, or what it is where it is absent
+abbrev pub optional_whole : ℕ → List ℕ → Data → Option ℕ
+optional_whole absent name d = absent_as (Some absent) whole (member name d)
 
 -- a flag, which is true where it is absent
 abbrev pub optional_flag : List ℕ → Data → Option Bool

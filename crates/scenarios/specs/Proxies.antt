@@ -4,8 +4,9 @@ use Rattle.std.specs.List.{list_any}
 use Rattle.serde_json.specs.Data.{Data, Items, no_items, item}
 use Rattle.scenarios.specs.Members.{required_text, is_text_or_absent, optional_flag, optional_list}
 use Rattle.scenarios.specs.Refusals.{with, after, unless, of_proxy, at_place}
-use Rattle.scenarios.specs.Toxics.{checked_toxics}
+use Rattle.scenarios.specs.ToxicsInFiles.{no_toxics, toxics_from}
 use Rattle.scenarios.specs.Upstreams.{upstream}
+use Rattle.frame_headers.specs.declared.peers.Peer.{Peer}
 use Rattle.scenarios.specs.declared.hosts.KnownHost.{KnownHost}
 use Rattle.scenarios.specs.declared.proxies.Proxy.{Proxy}
 use Rattle.scenarios.specs.declared.causes.Cause.TheVariants.{BadMember, DuplicateProxy, TooMany}
@@ -39,19 +40,32 @@ proxy_members d =
 abbrev pub has_name : List Proxy → List ℕ → Bool
 has_name proxies name = list_any (λ p. bytes_eq p.name name) proxies
 
+-- a proxy that nothing refuses but its toxics, which are still to be read
+pub record CheckedProxy : Type 0 where
+  pub name : List ℕ
+  pub upstream : Peer
+  pub enabled : Bool
+  pub toxics : Items
+
 -- the proxy that members say, behind those that stand earlier
-unfoldable pub accepted_proxy : List KnownHost → List Proxy → ProxyMembers → Result Proxy Refusal
+unfoldable pub accepted_proxy : List KnownHost → List Proxy → ProxyMembers → Result CheckedProxy Refusal
 accepted_proxy hosts earlier m =
     unless (has_name earlier m.name) (of_proxy (length earlier) DuplicateProxy)
     (after (at_place (of_proxy (length earlier)) (upstream hosts m.upstream)) (λ peer.
-    after (checked_toxics (length earlier) 0 m.toxics) (λ _.
-    Ok (record { name = m.name; upstream = peer; enabled = m.enabled }))))
+    Ok (record { name = m.name; upstream = peer; enabled = m.enabled; toxics = m.toxics })))
+
+-- one proxy before its toxics are read, behind those that stand earlier
+unfoldable pub checked_proxy : List KnownHost → List Proxy → Data → Result CheckedProxy Refusal
+checked_proxy hosts earlier d =
+    unless (nat_le proxy_limit (length earlier)) (of_proxy (length earlier) TooMany)
+    (with (proxy_members d) (of_proxy (length earlier) BadMember) (accepted_proxy hosts earlier))
 
 -- one proxy, behind those that stand earlier
 unfoldable pub proxy_in : List KnownHost → List Proxy → Data → Result Proxy Refusal
 proxy_in hosts earlier d =
-    unless (nat_le proxy_limit (length earlier)) (of_proxy (length earlier) TooMany)
-    (with (proxy_members d) (of_proxy (length earlier) BadMember) (accepted_proxy hosts earlier))
+    after (checked_proxy hosts earlier d) (λ c.
+    after (toxics_from (length earlier) no_toxics c.toxics) (λ t.
+    Ok (record { name = c.name; upstream = c.upstream; enabled = c.enabled; up = t.up; down = t.down })))
 
 -- the proxies of the items, behind those that stand earlier
 unfoldable pub proxies_from : List KnownHost → List Proxy → Items → Result (List Proxy) Refusal

@@ -8,8 +8,10 @@ use Rattle.std.specs.Net.Grammar.{IsDotted}
 use Rattle.serde_json.specs.Data.{Data, boolean, string, array, object, member, no_members}
 use Rattle.serde_json.specs.View.{items_of}
 use Rattle.frame_headers.specs.declared.peers.Peer.{Peer}
+use Rattle.toxic_defs.specs.Toxics.{RatedKind, IsInRange}
 use Rattle.scenarios.specs.Addresses.{address}
 use Rattle.scenarios.specs.Upstreams.{colon}
+use Rattle.scenarios.specs.ToxicsInFiles.{toxic_limit}
 use Rattle.scenarios.specs.Proxies.{proxy_limit, has_name}
 use Rattle.scenarios.specs.Populate.{tree, scenario, met_number}
 use Rattle.scenarios.specs.declared.hosts.KnownHost.{KnownHost}
@@ -46,13 +48,20 @@ abbrev pub NamesAreFree : List Proxy → List Proxy → Type 0
 NamesAreFree earlier [] = ⊤
 NamesAreFree earlier (p ∷ proxies) = (has_name earlier p.name ≡ false) × NamesAreFree (earlier ++ p ∷ []) proxies
 
--- a proxy has a name, and its upstream a port
+-- the toxics of a direction are in range, and not too many
+pub record AreSoundToxics (toxics : List RatedKind) : Type 0 where
+  pub few : length toxics ≤ toxic_limit
+  pub in_range : AllByRecursion IsInRange toxics
+
+-- a proxy has a name, its upstream a port, and its toxics are in range and not too many
 pub record IsSound (p : Proxy) : Type 0 where
   pub named : 0 < length p.name
   pub port : 0 < p.upstream.port
   pub port_fits : p.upstream.port < 2 ^ 16
+  pub up_toxics : AreSoundToxics p.up
+  pub down_toxics : AreSoundToxics p.down
 
--- the proxies of a scenario have names and ports, no two of them the same name, and there are not too many
+-- the proxies of a scenario have names, ports and toxics in range, no two of them the same name, and there are not too many
 abbrev pub ScenariosAreSound : Type 0
 ScenariosAreSound =
     (hosts : List KnownHost) (text : List ℕ) (proxies : List Proxy)
@@ -72,12 +81,14 @@ proxy_data p =
 abbrev pub proxies_data : List Proxy → Data
 proxies_data proxies = array (items_of (map proxy_data proxies))
 
--- a sound proxy whose address is one
+-- a sound proxy without toxics whose address is one
 pub record IsProxy (p : Proxy) : Type 0 where
   pub sound : IsSound p
   pub addr : p.upstream.addr < 2 ^ 32
+  pub no_up : p.up ≡ []
+  pub no_down : p.down ≡ []
 
--- a text whose tree is that of proxies, each with a name of its own, is read as these proxies, whatever hosts are known
+-- a text whose tree is that of proxies without toxics, each with a name of its own, is read as these proxies, whatever hosts are known
 abbrev pub ProxiesAreReadBack : Type 0
 ProxiesAreReadBack =
     (hosts : List KnownHost) (text : List ℕ) (proxies : List Proxy)

@@ -58,14 +58,14 @@ abbrev pub server : Peer
 server = record { addr = 0x0a000002; port = 80 }
 
 abbrev pub web : Proxy
-web = record { name = codes "web"; upstream = server; enabled = true }
+web = record { name = codes "web"; upstream = server; enabled = true; up = []; down = [] }
 
 -- members may be absent, or null, or unknown; of a repeated one the last counts
 pub record ProxiesTold : Type 0 where
   pub plain : scenario [] (of_one []) ≡ Ok (web ∷ [])
   pub whole : scenario [] (of_one (codes ",\"listen\":\"127.0.0.1:20080\",\"enabled\":true,\"toxics\":[]")) ≡ Ok (web ∷ [])
   pub null : scenario [] (of_one (codes ",\"listen\":null,\"enabled\":null,\"toxics\":null,\"colour\":[1]")) ≡ Ok (web ∷ [])
-  pub repeated : scenario [] (of_one (codes ",\"enabled\":true,\"enabled\":false")) ≡ Ok (record { name = codes "web"; upstream = server; enabled = false } ∷ [])
+  pub repeated : scenario [] (of_one (codes ",\"enabled\":true,\"enabled\":false")) ≡ Ok (record { name = codes "web"; upstream = server; enabled = false; up = []; down = [] } ∷ [])
 
 -- a flag that is a text; a name that is empty; a proxy twice; a toxic of a type; one without a type
 pub record ProxiesRefused : Type 0 where
@@ -78,8 +78,8 @@ pub record ProxiesRefused : Type 0 where
 -- a disabled proxy and one behind it, both for one server: the first is met
 pub record FirstMet : Type 0 where
   pub both : scenario [] (codes "[" ++ proxy_text (codes "a") (codes ",\"enabled\":false") ++ codes "," ++ proxy_text (codes "b") [] ++ codes "]")
-      ≡ Ok (record { name = codes "a"; upstream = server; enabled = false } ∷ record { name = codes "b"; upstream = server; enabled = true } ∷ [])
-  pub first : met_number server (record { name = codes "a"; upstream = server; enabled = false } ∷ record { name = codes "b"; upstream = server; enabled = true } ∷ []) ≡ Some 0
+      ≡ Ok (record { name = codes "a"; upstream = server; enabled = false; up = []; down = [] } ∷ record { name = codes "b"; upstream = server; enabled = true; up = []; down = [] } ∷ [])
+  pub first : met_number server (record { name = codes "a"; upstream = server; enabled = false; up = []; down = [] } ∷ record { name = codes "b"; upstream = server; enabled = true; up = []; down = [] } ∷ []) ≡ Some 0
   pub other_port : met_number (record { addr = 0x0a000002; port = 81 }) (web ∷ []) ≡ None
 
 -- ---- hosts

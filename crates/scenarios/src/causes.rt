@@ -3,7 +3,7 @@ use std::alloc::AllocError;
 use thiserror::Error;
 
 /// Why a scenario is refused. The causes are tested in the order in which they stand here, proxy by proxy and, in a proxy, toxic
-/// by toxic; but the first test of each proxy is whether it is one too many.
+/// by toxic; but whether it is one too many is the first test of each proxy, and the last of each toxic.
 #[derive(Clone, Copy, Debug, PartialEq, Eq, Error)]
 pub enum Cause {
     /// The text is not JSON, or not UTF-8, or nests deeper than 127 levels, or has a number too large for a float.
@@ -27,9 +27,21 @@ pub enum Cause {
     /// There is no toxic of this type.
     #[error("there is no toxic of this type")]
     UnknownToxic,
-    /// There are more than 64 proxies.
-    #[error("there are more than 64 proxies")]
+    /// The toxic's stream is neither `upstream` nor `downstream`.
+    #[error("the stream is neither upstream nor downstream")]
+    BadStream,
+    /// An earlier toxic of the proxy, of either direction, has the name.
+    #[error("an earlier toxic of the proxy has the name")]
+    DuplicateToxic,
+    /// An attribute of the toxic's type is no whole number, or out of its range.
+    #[error("an attribute is no whole number in its range")]
+    AttributeRange,
+    /// There are more than 64 proxies, or a direction of a proxy has more than 8 toxics.
+    #[error("there are more than 64 proxies, or more than 8 toxics of a direction")]
     TooMany,
+    /// The toxicity is neither 0 nor 1, or its parts of a million are no whole number up to a million.
+    #[error("the toxicity is not 0 or 1, or toxicity_ppm is no whole number up to 1000000")]
+    BadToxicity,
 }
 
 /// A refusal, and where it stands: the numbers of the proxy in its file and of the toxic in its proxy, each from 0, where the

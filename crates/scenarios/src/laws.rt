@@ -11,12 +11,13 @@ pub fn first_is_met()
     ensures { FirstIsMet }
 {}
 
-/// The proxies of a scenario are at most 64, each with a name of its own and a port.
+/// The proxies of a scenario are at most 64, each with a name of its own and a port, and each direction of one has at most 8
+/// toxics, which are in range.
 pub fn scenarios_are_sound()
     ensures { ScenariosAreSound }
 {}
 
-/// A list of at most 64 proxies, each with a name of its own, that is written as JSON is read as these proxies.
+/// A list of at most 64 proxies without toxics, each with a name of its own, that is written as JSON is read as these proxies.
 pub fn proxies_are_read_back()
     ensures { ProxiesAreReadBack }
 {}

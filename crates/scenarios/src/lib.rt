@@ -4,6 +4,7 @@
 #![tactic(auto)]
 
 mod addresses;
+mod attributes;
 mod causes;
 mod hosts;
 pub mod laws;
@@ -12,6 +13,8 @@ mod names;
 mod proxies;
 mod rows;
 mod scenario;
+mod toxic_lists;
+mod toxic_types;
 mod toxics;
 mod upstreams;
 
@@ -20,3 +23,5 @@ pub use hosts::Hosts;
 pub use names::NameText;
 pub use proxies::{PROXY_LIMIT, Proxy};
 pub use scenario::{Scenario, read_scenario};
+pub use toxic_lists::ToxicList;
+pub use toxics::TOXIC_LIMIT;

@@ -1,12 +1,12 @@
 //! Members of JSON objects.
 ghost use Rattle.std.specs.Prelude.{◌≡◌, option_map};
 ghost use Rattle.serde_json.specs.View.{view, items_view};
-ghost use Rattle.scenarios.specs.Members.{member, required_text, is_text_or_absent, is_object_or_absent, optional_flag, optional_list};
+ghost use Rattle.scenarios.specs.Members.{member, required_text, is_text_or_absent, is_object_or_absent, optional_text, optional_whole, optional_flag, optional_list};
 
 use serde_json::Value;
 
 // The member of an object with a name, unless it is null.
-fn member<'a>(value: &'a Value, name: &str) -> Option<&'a Value>
+pub(crate) fn member<'a>(value: &'a Value, name: &str) -> Option<&'a Value>
     ensures { option_map (λ v. view v.now) result ≡ member name.now (view value.now) }
 {
     match value.get(name) {
@@ -39,6 +39,26 @@ pub(crate) fn is_object_or_absent(value: &Value, name: &str) -> bool
     match member(value, name) {
         None => true,
         Some(found) => found.is_object(),
+    }
+}
+
+// A text, which is empty where it is absent; nothing where it is no text.
+pub(crate) fn optional_text<'a>(value: &'a Value, name: &str) -> Option<&'a str>
+    ensures { option_map (λ s. s.now) result ≡ optional_text name.now (view value.now) }
+{
+    match member(value, name) {
+        None => Some(""),
+        Some(found) => found.as_str(),
+    }
+}
+
+// A whole number, or what it is where it is absent; nothing where it is no whole number below 2^64.
+pub(crate) fn optional_whole(value: &Value, name: &str, absent: u64) -> Option<u64>
+    ensures { result ≡ optional_whole absent name.now (view value.now) }
+{
+    match member(value, name) {
+        None => Some(absent),
+        Some(found) => found.as_u64(),
     }
 }
 

@@ -3,14 +3,15 @@ ghost use Rattle.std.specs.Prelude.{◌≡◌, ◌<◌, ◌≤◌, [], ℕ, leng
 ghost use Rattle.serde_json.specs.View.{view, items_view};
 ghost use Rattle.pcap_records.specs.Agreement.{AgreesUnlessMemory};
 ghost use Rattle.scenarios.specs.Refusals.{refusal};
-ghost use Rattle.scenarios.specs.Proxies.{proxy_limit, proxy_members, has_name, accepted_proxy, proxy_in, proxies_from};
+ghost use Rattle.scenarios.specs.Proxies.{proxy_limit, proxy_members, has_name, accepted_proxy, checked_proxy, proxy_in, proxies_from};
 ghost use Rattle.scenarios.specs.SeenMembers.{seen_members, Accepts};
 
 use crate::causes::{Cause, Refusal, ScenarioFault};
 use crate::hosts::Hosts;
 use crate::members::{is_text_or_absent, optional_flag, optional_list, required_text};
 use crate::names::NameText;
-use crate::toxics::check_toxics;
+use crate::toxic_lists::ToxicList;
+use crate::toxics::read_toxics;
 use crate::upstreams::upstream;
 use frame_headers::Peer;
 use serde_json::Value;
@@ -19,7 +20,7 @@ use std::alloc::{AllocError, Global};
 /// The greatest number of proxies of a scenario.
 pub const PROXY_LIMIT: usize = 64;
 
-/// A proxy: what it is called, whom it stands before, and whether it takes connections.
+/// A proxy: what it is called, whom it stands before, whether it takes connections, and what it does to them.
 #[derive(Debug, Drop)]
 pub struct Proxy {
     /// Its name: no other proxy of the scenario has it.
@@ -28,6 +29,10 @@ pub struct Proxy {
     pub upstream: Peer,
     /// Whether it takes connections: one that does not refuses each.
     pub enabled: bool,
+    /// The toxics of what the client sends.
+    pub up: ToxicList,
+    /// The toxics of what the server sends.
+    pub down: ToxicList,
 }
 
 // The members of a proxy in its file.
@@ -39,12 +44,13 @@ pub(crate) struct MembersRead<'a> {
     pub(crate) toxics: &'a [Value],
 }
 
-// A proxy that nothing refuses.
+// A proxy that nothing refuses but its toxics, which are still to be read.
 #[derive(Clone, Copy)]
 pub(crate) struct Accepted<'a> {
     pub(crate) name: &'a str,
     pub(crate) upstream: Peer,
     pub(crate) enabled: bool,
+    pub(crate) toxics: &'a [Value],
 }
 
 // The members of a proxy, if each is of its kind.
@@ -78,7 +84,7 @@ fn has_name(proxies: &[Proxy], name: &str) -> bool
     false
 }
 
-// The proxy that members say, if nothing refuses it.
+// The proxy that members say, if nothing but its toxics refuses it.
 #[tactic(auto, unfolding(crate::specs::Proxies::accepted_proxy))]
 fn accept<'a>(
     members: MembersRead<'a>,
@@ -95,22 +101,22 @@ fn accept<'a>(
         Ok(upstream) => upstream,
         Err(cause) => return Err(Refusal::of_proxy(number, cause)),
     };
-    check_toxics(number, members.toxics)?;
     Ok(Accepted {
         name: members.name,
         upstream,
         enabled: members.enabled,
+        toxics: members.toxics,
     })
 }
 
-// Looks at one proxy.
-#[tactic(auto, unfolding(crate::specs::Proxies::proxy_in))]
+// Looks at one proxy, but not at its toxics.
+#[tactic(auto, unfolding(crate::specs::Proxies::checked_proxy))]
 fn check_proxy<'a>(
     value: &'a Value,
     hosts: &Hosts,
     earlier: &[Proxy],
 ) -> Result<Accepted<'a>, Refusal>
-    ensures is { Accepts result (proxy_in hosts.now earlier.now (view value.now)) }
+    ensures is { Accepts result (checked_proxy hosts.now earlier.now (view value.now)) }
     ensures room { IfOk result (λ _. length earlier.now < proxy_limit) }
 {
     let number = earlier.len();
@@ -124,6 +130,7 @@ fn check_proxy<'a>(
 }
 
 // Reads one proxy.
+#[tactic(auto, unfolding(crate::specs::Proxies::proxy_in))]
 fn read_proxy(
     alloc: Global,
     value: &Value,
@@ -134,11 +141,15 @@ fn read_proxy(
     ensures room { IfOk result (λ _. length earlier.now < proxy_limit) }
 {
     let accepted = check_proxy(value, hosts, earlier)?;
+    let toxics = read_toxics(alloc, earlier.len(), accepted.toxics)?;
+    let (up, down) = toxics.into_lists();
     let name = NameText::copy_of(alloc, accepted.name)?;
     Ok(Proxy {
         name,
         upstream: accepted.upstream,
         enabled: accepted.enabled,
+        up,
+        down,
     })
 }
 

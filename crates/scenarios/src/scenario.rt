@@ -14,7 +14,7 @@ use serde_json::Value;
 use std::alloc::{AllocError, Global};
 use std::marker::Model;
 
-/// A scenario: at most 64 proxies, in the order of their file.
+/// A scenario: at most 64 sound proxies, in the order of their file.
 #[derive(Debug, Drop)]
 pub struct Scenario {
     proxies: Vec<Proxy>,
@@ -22,20 +22,26 @@ pub struct Scenario {
 
 impl Model for Scenario {
     ghost use Rattle.std.specs.Prelude.{◌≤◌, List, length};
+    ghost use Rattle.std.specs.List.{AllByRecursion};
     ghost use Rattle.scenarios.specs.Proxies.{proxy_limit};
+    ghost use Rattle.scenarios.specs.ProxyLaws.{IsSound};
     ghost use Rattle.scenarios.specs.declared.proxies.Proxy.{Proxy};
 
     ghost Value = { List Proxy };
 
     ghost view = { λ s. s.proxies.items };
 
-    ghost invariant = { λ s. length s.proxies.items ≤ proxy_limit };
+    ghost invariant = { λ s. (length s.proxies.items ≤ proxy_limit) × AllByRecursion IsSound s.proxies.items };
 }
 
 impl Scenario {
-    /// The proxies, in the order of their file.
+    ghost use Rattle.std.specs.List.{AllByRecursion};
+    ghost use Rattle.scenarios.specs.ProxyLaws.{IsSound};
+
+    /// The proxies, in the order of their file. Each has a name and a port, and at most eight toxics in each direction, all in range.
     pub fn proxies(&self) -> &[Proxy]
-        ensures { result.now ≡ self.now }
+        ensures list { result.now ≡ self.now }
+        ensures sound { AllByRecursion IsSound self.now }
     {
         &self.proxies
     }

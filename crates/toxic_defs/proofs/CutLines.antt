@@ -14,7 +14,7 @@ use Rattle.toxic_defs.proofs.FirstBytes.{bytes_before, up_to, first_stay, before
 
 -- ---- ends
 
-not_before_weaker : (a b : ℕ) (e : End) → a ≤ b → IsNotBefore b e → IsNotBefore a e
+pub not_before_weaker : (a b : ℕ) (e : End) → a ≤ b → IsNotBefore b e → IsNotBefore a e
 not_before_weaker a b live h g = tt
 not_before_weaker a b (fin at) h g = le_trans h g
 not_before_weaker a b (close at) h g = le_trans h g
@@ -116,7 +116,7 @@ cut_ends_are_not_early ticks opened up down f hu hd hf =
 
 -- ---- lines
 
-before_short : (limit : ℕ) (bytes : List LineByte) → length (bytes_before limit bytes) ≤ length bytes
+pub before_short : (limit : ℕ) (bytes : List LineByte) → length (bytes_before limit bytes) ≤ length bytes
 before_short limit bytes =
     let p : LineByte → Bool = λ b. nat_lt b.at limit in
     let n = length-filter p bytes in

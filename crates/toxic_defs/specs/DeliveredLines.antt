@@ -1,14 +1,17 @@
 -- What each side of a connection is delivered in a scenario.
-use Rattle.std.specs.Prelude.{ℕ, Option, Some, None, Bool, true, false}
+use Rattle.std.specs.Prelude.{ℕ, List, Option, Some, None, Bool, true, false}
 use Rattle.reassembly.specs.RecordedLines.{Line, empty_line, RecordedConnection}
 use Rattle.toxic_defs.specs.SessionCut.{cut_line}
+use Rattle.toxic_defs.specs.Toxics.{RatedKind, chain}
 use Rattle.toxic_defs.specs.declared.deliveries.Delivered.{Delivered}
 use Rattle.toxic_defs.specs.declared.deliveries.MetProxy as code
 
--- the proxy that a connection meets: its number in the scenario, and whether it is enabled
+-- the proxy that a connection meets: its number in the scenario, whether it is enabled, and the toxics of each direction
 pub record MetProxy : Type 0 where
   pub number : ℕ
   pub enabled : Bool
+  pub up : List RatedKind
+  pub down : List RatedKind
 
 -- the proxy that was met, whether it refused, and the lines to the server and to the client
 pub record DeliveredConnection : Type 0 where
@@ -17,27 +20,34 @@ pub record DeliveredConnection : Type 0 where
   pub up : Line
   pub down : Line
 
--- the recorded lines, cut
-abbrev pub connection_by_cut : ℕ → Option ℕ → RecordedConnection → DeliveredConnection
-connection_by_cut ticks proxy r = record {
+-- two lines, cut
+abbrev pub connection_by_cut : ℕ → Option ℕ → Line → Line → DeliveredConnection
+connection_by_cut ticks proxy up down = record {
   proxy = proxy;
   refused = false;
-  up = cut_line ticks r.up.line r.down.line r.up.line;
-  down = cut_line ticks r.up.line r.down.line r.down.line;
+  up = cut_line ticks up down up;
+  down = cut_line ticks up down down;
 }
 
 -- both lines are empty
 abbrev pub refused_connection : ℕ → DeliveredConnection
 refused_connection number = record { proxy = Some number; refused = true; up = empty_line; down = empty_line }
 
--- a disabled proxy refuses the connection
-abbrev pub connection_by_proxy : Bool → ℕ → ℕ → RecordedConnection → DeliveredConnection
-connection_by_proxy true ticks number r = connection_by_cut ticks (Some number) r
-connection_by_proxy false ticks number r = refused_connection number
+-- each line through the toxics of its direction, and then cut. Random words are drawn by the seed and the numbers of the
+-- scenario and of the connection.
+abbrev pub connection_through : ℕ → ℕ → ℕ → ℕ → MetProxy → RecordedConnection → DeliveredConnection
+connection_through ticks seed s c met r =
+    connection_by_cut ticks (Some met.number) (chain ticks met.up r.opened seed s c 0 r.up.line) (chain ticks met.down r.opened seed s c 1 r.down.line)
 
-unfoldable pub delivered_connection : ℕ → Option MetProxy → RecordedConnection → DeliveredConnection
-delivered_connection ticks None r = connection_by_cut ticks None r
-delivered_connection ticks (Some met) r = connection_by_proxy met.enabled ticks met.number r
+-- a disabled proxy refuses the connection
+abbrev pub connection_by_proxy : Bool → ℕ → ℕ → ℕ → ℕ → MetProxy → RecordedConnection → DeliveredConnection
+connection_by_proxy true ticks seed s c met r = connection_through ticks seed s c met r
+connection_by_proxy false ticks seed s c met r = refused_connection met.number
+
+-- where no proxy is met the recorded lines are cut
+unfoldable pub delivered_connection : ℕ → ℕ → ℕ → ℕ → Option MetProxy → RecordedConnection → DeliveredConnection
+delivered_connection ticks seed s c None r = connection_by_cut ticks None r.up.line r.down.line
+delivered_connection ticks seed s c (Some met) r = connection_by_proxy met.enabled ticks seed s c met r
 
 -- what contracts see of a `Delivered`
 abbrev pub delivered_view : Delivered → DeliveredConnection
@@ -45,4 +55,4 @@ delivered_view d = record { proxy = d.proxy; refused = d.refused; up = d.up.line
 
 -- what contracts see of a proxy that is met
 abbrev pub met_view : code.MetProxy → MetProxy
-met_view met = record { number = met.number; enabled = met.enabled }
+met_view met = record { number = met.number; enabled = met.enabled; up = met.up.now; down = met.down.now }

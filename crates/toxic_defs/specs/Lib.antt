@@ -3,3 +3,16 @@ pub mod Closings
 pub mod DeliveredLines
 pub mod CutLaws
 pub mod CutRows
+pub mod RandomWords
+pub mod FilledParts
+pub mod DrawnNumbers
+pub mod CutParts
+pub mod ChargedParts
+pub mod EndRule
+pub mod DelayedBytes
+pub mod SlicedBytes
+pub mod DelayRows
+pub mod EndingToxics
+pub mod Toxics
+pub mod ToxicRows
+pub mod ToxicLaws

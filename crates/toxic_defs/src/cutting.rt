@@ -49,8 +49,8 @@ fn cut_limit(closing: &Option<Closing>) -> u64
     }
 }
 
-// How many parts of a line there are up to the last with a byte before an instant. The parts behind it are passed from the back.
-fn kept_parts(parts: &[LinePart<'_>], limit: u64) -> usize
+/// How many parts of a line there are up to the last with a byte before an instant. The parts behind it are passed from the back.
+pub(crate) fn kept_parts(parts: &[LinePart<'_>], limit: u64) -> usize
     requires { IsInChunks (bytes_of_parts parts.now) }
     ensures { bytes_of_parts (take result parts.now) ≡ filter (λ b. nat_lt b.at limit) (bytes_of_parts parts.now) }
 {

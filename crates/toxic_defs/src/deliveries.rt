@@ -1,12 +1,14 @@
 //! What each side of a connection is delivered.
-ghost use Rattle.std.specs.Prelude.{◌≡◌, IfOk, option_map};
+ghost use Rattle.std.specs.Prelude.{◌≡◌, ◌≤◌, IfOk, IfSome, length, option_map};
 ghost use Rattle.pcap_records.specs.Instants.{microseconds};
 ghost use Rattle.reassembly.specs.LineLaws.{IsLine};
 ghost use Rattle.reassembly.specs.RecordedView.{recorded_view};
-ghost use Rattle.toxic_defs.specs.DeliveredLines.{delivered_view, met_view, delivered_connection, connection_by_cut, refused_connection};
+ghost use Rattle.toxic_defs.specs.DeliveredLines.{delivered_view, met_view, delivered_connection, connection_by_cut, connection_through, refused_connection};
 
+use crate::chaining::chain;
 use crate::cutting::cut_both;
 use crate::laws::cut_lines_are_lines;
+use crate::toxic::Toxic;
 use reassembly::{End, Line, Recorded};
 use std::alloc::{AllocError, Global};
 
@@ -24,16 +26,22 @@ pub struct Delivered<'a> {
 }
 
 /// The proxy that a connection meets in a scenario.
-#[derive(Clone, Copy, Debug, PartialEq, Eq)]
-pub struct MetProxy {
+#[derive(Clone, Copy, Debug)]
+pub struct MetProxy<'p> {
     /// Its number in the scenario.
     pub number: u32,
     /// Whether it takes connections.
     pub enabled: bool,
+    /// The toxics of the up line, in turn.
+    pub up: &'p [Toxic],
+    /// The toxics of the down line, in turn.
+    pub down: &'p [Toxic],
 }
 
-/// What is delivered of a connection by the proxy that it meets: the recorded lines under the session cut, with or without a proxy;
-/// a disabled proxy refuses the connection, and both lines are empty. The parts' bytes are the slices that were recorded.
+/// What is delivered of a connection by the proxy that it meets: each recorded line through the toxics of its direction, and then both
+/// under the session cut; the recorded lines, cut, where none is met. A disabled proxy refuses the connection, and both lines are
+/// empty. Random words are drawn by the seed and the numbers `s` of the scenario and `c` of the connection. The parts' bytes are slices of
+/// those that were recorded.
 ///
 /// # Errors
 /// A growth was refused.
@@ -41,18 +49,27 @@ pub struct MetProxy {
 pub fn delivered_by<'a>(
     alloc: Global,
     recorded: &Recorded<'a>,
-    met: Option<MetProxy>,
+    met: Option<MetProxy<'_>>,
+    seed: u64,
+    s: u32,
+    c: u32,
 ) -> Result<Delivered<'a>, AllocError>
     requires up { IsLine recorded.now.up.line }
     requires down { IsLine recorded.now.down.line }
-    ensures value { IfOk result (λ d. delivered_view d ≡ delivered_connection microseconds (option_map met_view met) (recorded_view recorded.now)) }
+    requires few_up { IfSome met (λ m. length m.up.now ≤ 8) }
+    requires few_down { IfSome met (λ m. length m.down.now ≤ 8) }
+    ensures value { IfOk result (λ d. delivered_view d ≡ delivered_connection microseconds seed s c (option_map met_view met.entry) (recorded_view recorded.now)) }
     ensures up { IfOk result (λ d. IsLine d.up.line) }
     ensures down { IfOk result (λ d. IsLine d.down.line) }
 {
     match met {
+        None => {
+            let up = recorded.up.copy(alloc)?;
+            let down = recorded.down.copy(alloc)?;
+            Ok(cut_lines(None, up, down))
+        }
         Some(met) if !met.enabled => Ok(refused(alloc, met.number)),
-        Some(met) => cut_copies(alloc, recorded, Some(met.number)),
-        None => cut_copies(alloc, recorded, None),
+        Some(met) => lines_through(alloc, recorded, &met, seed, s, c),
     }
 }
 
@@ -70,26 +87,45 @@ fn refused<'a>(alloc: Global, number: u32) -> Delivered<'a>
     }
 }
 
-// Copies of the recorded lines, cut.
-fn cut_copies<'a>(
+// What is delivered of a connection by the toxics of a proxy.
+fn lines_through<'a>(
     alloc: Global,
     recorded: &Recorded<'a>,
-    proxy: Option<u32>,
+    met: &MetProxy<'_>,
+    seed: u64,
+    s: u32,
+    c: u32,
 ) -> Result<Delivered<'a>, AllocError>
     requires up { IsLine recorded.now.up.line }
     requires down { IsLine recorded.now.down.line }
-    ensures value { IfOk result (λ d. delivered_view d ≡ connection_by_cut microseconds proxy (recorded_view recorded.now)) }
+    requires few_up { length met.now.up.now ≤ 8 }
+    requires few_down { length met.now.down.now ≤ 8 }
+    ensures value { IfOk result (λ d. delivered_view d ≡ connection_through microseconds seed s c (met_view met.now) (recorded_view recorded.now)) }
     ensures up { IfOk result (λ d. IsLine d.up.line) }
     ensures down { IfOk result (λ d. IsLine d.down.line) }
 {
-    cut_lines_are_lines();
+    let opened = recorded.opened;
     let up = recorded.up.copy(alloc)?;
     let down = recorded.down.copy(alloc)?;
+    let up = chain(alloc, met.up, up, opened, seed, s, c, 0)?;
+    let down = chain(alloc, met.down, down, opened, seed, s, c, 1)?;
+    Ok(cut_lines(Some(met.number), up, down))
+}
+
+// Two lines, cut.
+fn cut_lines<'a>(proxy: Option<u32>, up: Line<'a>, down: Line<'a>) -> Delivered<'a>
+    requires up { IsLine up.line }
+    requires down { IsLine down.line }
+    ensures value { delivered_view result ≡ connection_by_cut microseconds proxy up.entry.line down.entry.line }
+    ensures up { IsLine result.up.line }
+    ensures down { IsLine result.down.line }
+{
+    cut_lines_are_lines();
     let (up, down) = cut_both(up, down);
-    Ok(Delivered {
+    Delivered {
         proxy,
         refused: false,
         up,
         down,
-    })
+    }
 }

@@ -1,5 +1,6 @@
-//! Theorems about the session cut. Each function does nothing: its contract is the theorem.
+//! Theorems about toxics and the session cut. Each function does nothing: its contract is the theorem.
 ghost use Rattle.toxic_defs.specs.CutLaws.{CutLinesAreLines, FirstBytesStay, CutLinesEndInTime, CutEndsAreNotEarly};
+ghost use Rattle.toxic_defs.specs.ToxicLaws.{ToxicsKeepLines, ChainsKeepLines, IdleChainsChangeNothing, RecordedLinesDelay, ToxicsDelay, ChainsDelay, CutLinesDelay, DelayedBytesAreTheFirst};
 
 /// What the session cut leaves of a line is a line: a chunk starts with the first byte, instants never fall, the bytes of a chunk
 /// have one instant, an end is not before the last byte, and there are fewer than 2^32 bytes.
@@ -21,4 +22,38 @@ pub fn cut_lines_end_in_time()
 /// Where no end is before an instant, as that of the connection's beginning, none is after the session cut.
 pub fn cut_ends_are_not_early()
     ensures { CutEndsAreNotEarly }
+{}
+
+/// What a toxic makes of a line is a line, and so is what a chain of toxics makes of it.
+pub fn toxics_keep_lines()
+    ensures toxic { ToxicsKeepLines }
+    ensures chain { ChainsKeepLines }
+{}
+
+/// A chain of which no toxic applies leaves a line as it is.
+pub fn idle_chains_change_nothing()
+    ensures { IdleChainsChangeNothing }
+{}
+
+/// A recorded line is made of recorded bytes: they are the first ones that were recorded, none is earlier than it was recorded,
+/// and the end is not before the connection's opening.
+pub fn recorded_lines_delay()
+    ensures { RecordedLinesDelay }
+{}
+
+/// What toxics make of a line that is made of recorded bytes is one too: what is delivered is a prefix of what was recorded, no
+/// byte is delivered before it was recorded, and no end is before the opening.
+pub fn toxics_delay()
+    ensures toxic { ToxicsDelay }
+    ensures chain { ChainsDelay }
+{}
+
+/// And so is what the session cut leaves of it.
+pub fn cut_lines_delay()
+    ensures { CutLinesDelay }
+{}
+
+/// The values of such a line are the first ones that were recorded.
+pub fn delayed_bytes_are_the_first()
+    ensures { DelayedBytesAreTheFirst }
 {}

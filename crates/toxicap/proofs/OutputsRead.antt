@@ -92,7 +92,7 @@ talk_is c is d = record {
 parts_are : HeadersAreSound → (seed : ℕ) (scenario : ℕ × List Proxy) (cs : List Connection) → AllByRecursion IsSoundConnection cs → AllByRecursion IsWritten (flat_map (λ p. p.segments) (map (part_of microseconds seed scenario) cs))
 unfolding part
 parts_are sound_headers seed scenario [] all = tt
-parts_are sound_headers seed (number_in, scenario) (c ∷ cs) all = all-append IsWritten _ _ (segments_are sound_headers _ (talk_is c all.0 (delivered_connection microseconds (met_proxy (server_of c) scenario) (recorded_connection c)))) (parts_are sound_headers seed (number_in, scenario) cs all.1)
+parts_are sound_headers seed (number_in, scenario) (c ∷ cs) all = all-append IsWritten _ _ (segments_are sound_headers _ (talk_is c all.0 (delivered_connection microseconds seed number_in c.number (met_proxy (server_of c) scenario) (recorded_connection c)))) (parts_are sound_headers seed (number_in, scenario) cs all.1)
 
 outputs_read : SortedNeverFalls → WrittenIsRead → HeadersAreSound → SegmentsFit → (packets : List Packet) (rest : ℕ) → AllByRecursion HasBytes packets → (seed n : ℕ) (scenarios : List (List Proxy))
     → let c : SeenCapture = seen_capture (record { ticks = microseconds; packets = packets; rest = rest }) in

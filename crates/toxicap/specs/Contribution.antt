@@ -20,7 +20,6 @@ part_by ticks c r d = record {
 }
 
 -- The part of a connection: of the ticks of a second, its members with their instants and its number, the scenario's
--- number, the seed, and the proxy that it meets, and of nothing else. Today no random word is drawn, so that neither the scenario's
--- number nor the seed is looked at.
+-- number, the seed, and the proxy that it meets, and of nothing else.
 unfoldable pub part : ℕ → Connection → ℕ → ℕ → Option MetProxy → Part
-part ticks c scenario seed met = part_by ticks c (recorded_connection c) (delivered_connection ticks met (recorded_connection c))
+part ticks c scenario seed met = part_by ticks c (recorded_connection c) (delivered_connection ticks seed scenario c.number met (recorded_connection c))

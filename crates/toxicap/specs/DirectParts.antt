@@ -17,21 +17,22 @@ use Rattle.toxicap.specs.Contribution.{Part, part_by}
 use Rattle.toxicap.specs.Rehearsal.{met_proxy}
 
 -- the recorded lines, delivered by the proxy that is met
-unfoldable pub direct_part : ℕ → List Proxy → IndexedConnection → Part
-direct_part ticks proxies x =
-    part_by ticks (without_indices x) (recorded_of x) (delivered_connection ticks (met_proxy (server_of (without_indices x)) proxies) (recorded_of x))
+unfoldable pub direct_part : ℕ → ℕ → ℕ × List Proxy → IndexedConnection → Part
+direct_part ticks seed (number, proxies) x =
+    part_by ticks (without_indices x) (recorded_of x)
+    (delivered_connection ticks seed number (without_indices x).number (met_proxy (server_of (without_indices x)) proxies) (recorded_of x))
 
-abbrev pub segments_of_parts : ℕ → List Proxy → List IndexedConnection → List Framed
-segments_of_parts ticks proxies xs = flat_map (λ x. (direct_part ticks proxies x).segments) xs
+abbrev pub segments_of_parts : ℕ → ℕ → ℕ × List Proxy → List IndexedConnection → List Framed
+segments_of_parts ticks seed scenario xs = flat_map (λ x. (direct_part ticks seed scenario x).segments) xs
 
-abbrev pub lines_of_parts : ℕ → List Proxy → List IndexedConnection → List ℕ
-lines_of_parts ticks proxies xs = flat_map (λ x. (direct_part ticks proxies x).line) xs
+abbrev pub lines_of_parts : ℕ → ℕ → ℕ × List Proxy → List IndexedConnection → List ℕ
+lines_of_parts ticks seed scenario xs = flat_map (λ x. (direct_part ticks seed scenario x).line) xs
 
 -- what a scenario with its number answers
-unfoldable pub direct_output : CaptureView → ℕ × List Proxy → Output
-direct_output c (number, proxies) = record {
-  capture = capture_of microseconds (segments_of_parts microseconds proxies (whole_connections c));
+unfoldable pub direct_output : CaptureView → ℕ → ℕ × List Proxy → Output
+direct_output c seed scenario = record {
+  capture = capture_of microseconds (segments_of_parts microseconds seed scenario (whole_connections c));
   report =
-      (counts_text number (seen_capture (contents_of c)) ++ connections_text (length (whole_table c).conns) (whole_table c).unopened)
-      ++ lines_of_parts microseconds proxies (whole_connections c);
+      (counts_text scenario.0 (seen_capture (contents_of c)) ++ connections_text (length (whole_table c).conns) (whole_table c).unopened)
+      ++ lines_of_parts microseconds seed scenario (whole_connections c);
 }

@@ -22,7 +22,7 @@ use Rattle.report.specs.ReportText.{report_text}
 
 -- a scenario is seen as its proxies in order. What a connection meets of a proxy with its number
 abbrev pub met_of : ℕ × Proxy → MetProxy
-met_of (number, proxy) = record { number = number; enabled = proxy.enabled }
+met_of (number, proxy) = record { number = number; enabled = proxy.enabled; up = proxy.up; down = proxy.down }
 
 -- the first proxy of a scenario that stands before a server, if one does
 abbrev pub met_proxy : Peer → List Proxy → Option MetProxy

@@ -45,7 +45,11 @@ cause_entry causes.DuplicateProxy = (13, codes "DuplicateProxy")
 cause_entry causes.BadUpstream = (14, codes "BadUpstream")
 cause_entry causes.UnknownHost = (15, codes "UnknownHost")
 cause_entry causes.UnknownToxic = (16, codes "UnknownToxic")
+cause_entry causes.BadStream = (17, codes "BadStream")
+cause_entry causes.DuplicateToxic = (18, codes "DuplicateToxic")
+cause_entry causes.AttributeRange = (19, codes "AttributeRange")
 cause_entry causes.TooMany = (20, codes "TooMany")
+cause_entry causes.BadToxicity = (21, codes "BadToxicity")
 
 -- the table of faults
 abbrev pub fault_entry : RunFault → FaultEntry

@@ -46,7 +46,7 @@ session_connection number = record {
 }
 
 abbrev pub session_under : Option MetProxy → WrittenConnection
-session_under met = written_connection 0 client server session (delivered_connection 1000000 met session)
+session_under met = written_connection 0 client server session (delivered_connection 1000000 42 0 0 met session)
 
 -- the capture of the plain session, 449 bytes
 abbrev pub session_bytes : List ℕ
@@ -86,7 +86,7 @@ abbrev pub SessionWritten : Type 0
 SessionWritten = capture_of 1000000 (written_segments 1000000 (session_under None)) ≡ session_bytes
 
 abbrev pub disabled : Option MetProxy
-disabled = Some (record { number = 0; enabled = false })
+disabled = Some (record { number = 0; enabled = false; up = []; down = [] })
 
 abbrev pub RefusedWritten : Type 0
 RefusedWritten = capture_of 1000000 (written_segments 1000000 (session_under disabled)) ≡ refused_bytes

@@ -105,12 +105,7 @@ fn read_texts(alloc: Global, texts: &[&[u8]], hosts: &Hosts) -> Result<Vec<Scena
 }
 
 // The scenario of a text with its number.
-fn read_text(
-    alloc: Global,
-    number: usize,
-    text: &[u8],
-    hosts: &Hosts,
-) -> Result<Scenario, RunFault>
+fn read_text(alloc: Global, number: usize, text: &[u8], hosts: &Hosts) -> Result<Scenario, RunFault>
     ensures exact { AgreesUnlessMemory run_refusal (λ s. s) result (numbered number (scenario hosts.now text.now)) }
     ensures of_text { IfErr result IsOfText }
 {

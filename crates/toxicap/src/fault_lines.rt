@@ -44,7 +44,11 @@ fn entry_of_cause(cause: Cause) -> (u32, &'static str)
         Cause::BadUpstream => (14, "BadUpstream"),
         Cause::UnknownHost => (15, "UnknownHost"),
         Cause::UnknownToxic => (16, "UnknownToxic"),
+        Cause::BadStream => (17, "BadStream"),
+        Cause::DuplicateToxic => (18, "DuplicateToxic"),
+        Cause::AttributeRange => (19, "AttributeRange"),
         Cause::TooMany => (20, "TooMany"),
+        Cause::BadToxicity => (21, "BadToxicity"),
     }
 }
 

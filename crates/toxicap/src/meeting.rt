@@ -1,5 +1,5 @@
 //! The proxy that a connection meets.
-ghost use Rattle.std.specs.Prelude.{◌≡◌, option_map};
+ghost use Rattle.std.specs.Prelude.{◌≡◌, ◌≤◌, IfSome, length, option_map};
 ghost use Rattle.toxic_defs.specs.DeliveredLines.{met_view};
 ghost use Rattle.toxicap.specs.Rehearsal.{met_proxy};
 
@@ -9,8 +9,10 @@ use scenarios::laws::first_is_met;
 use toxic_defs::MetProxy;
 
 /// The proxy of a scenario that a connection to a server meets: the first that stands before it.
-pub(crate) fn met_proxy(scenario: &Scenario, server: Peer) -> Option<MetProxy>
-    ensures { option_map met_view result ≡ met_proxy server scenario.now }
+pub(crate) fn met_proxy(scenario: &Scenario, server: Peer) -> Option<MetProxy<'_>>
+    ensures met { option_map met_view result ≡ met_proxy server scenario.now }
+    ensures few_up { IfSome result (λ m. length m.up.now ≤ 8) }
+    ensures few_down { IfSome result (λ m. length m.down.now ≤ 8) }
 {
     first_is_met();
     let number = scenario.proxy_of(server)?;
@@ -18,5 +20,7 @@ pub(crate) fn met_proxy(scenario: &Scenario, server: Peer) -> Option<MetProxy>
     Some(MetProxy {
         number,
         enabled: proxy.enabled,
+        up: proxy.up.as_slice(),
+        down: proxy.down.as_slice(),
     })
 }

@@ -40,6 +40,6 @@ pub fn rehearse<R: Threads + Wait, G: Gate>(
         return Err(RunFault::TooManyScenarios);
     }
     let capture = read_capture(alloc, capture)?;
-    let outputs = list_outputs(alloc, &capture, scenarios)?;
+    let outputs = list_outputs(alloc, &capture, scenarios, seed)?;
     Ok(Values::of(outputs))
 }

@@ -45,10 +45,11 @@ fn direct_output(
     recordings: &[Recorded<'_>],
     number: u32,
     scenario: &Scenario,
+    seed: u64,
 ) -> Result<Output, AllocError>
     requires table { table.now ≡ whole_table capture.now }
     requires recorded { AreRecorded (whole_connections capture.now) recordings.now }
-    ensures { IfOk result (λ output. output ≡ direct_output capture.now (number, scenario.now)) }
+    ensures { IfOk result (λ output. output ≡ direct_output capture.now seed (number, scenario.now)) }
 {
     let conns = table.conns();
     let mut report = open_report(
@@ -62,7 +63,8 @@ fn direct_output(
     let mut written = Vec::new(alloc);
     for (place, recorded) in recordings.iter().enumerate() {
         let conn = &conns[place];
-        let delivered = delivered_by(alloc, recorded, met_proxy(scenario, conn.server))?;
+        let met = met_proxy(scenario, conn.server);
+        let delivered = delivered_by(alloc, recorded, met, seed, number, conn.number)?;
         push_line(&mut report, conn, recorded, &delivered)?;
         let mut own = segments(alloc, conn, recorded, &delivered)?.into_vec();
         written.append(&mut own)?;
@@ -79,10 +81,11 @@ pub(crate) fn list_outputs(
     alloc: Global,
     capture: &Capture<'_>,
     scenarios: &[Scenario],
+    seed: u64,
 ) -> Result<Vec<Output>, AllocError>
     requires few { length scenarios.now ≤ scenario_limit }
     requires ticks { capture.now.ticks ≡ microseconds }
-    ensures { IfOk result (λ outputs. (seed : ℕ) → outputs.items ≡ outputs_of (seen_capture (contents_of capture.now)) scenarios.now seed) }
+    ensures { IfOk result (λ outputs. outputs.items ≡ outputs_of (seen_capture (contents_of capture.now)) scenarios.now seed) }
 {
     indexed_connections_agree();
     let table = whole_table(alloc, capture)?;
@@ -90,14 +93,7 @@ pub(crate) fn list_outputs(
     let mut outputs = Vec::with_capacity(alloc, scenarios.len())?;
     for (number, scenario) in scenarios.iter().enumerate() {
         let number = number as u32;
-        outputs.push(direct_output(
-            alloc,
-            capture,
-            &table,
-            &recordings,
-            number,
-            scenario,
-        )?)?;
+        outputs.push(direct_output(alloc, capture, &table, &recordings, number, scenario, seed)?)?;
     }
     Ok(outputs)
 }

@@ -3,7 +3,6 @@ ghost use Rattle.std.specs.Prelude.{◌≡◌, length, IfOk};
 ghost use Rattle.conn_table.specs.Tables.{table_in};
 
 use super::rehearsals::session_written;
-use super::sessions::{ACK, CLIENT, PSH, SECOND_CLIENT, SERVER, SYN, file, segment, session};
 use conn_table::laws::tables_agree;
 use conn_table::{Partial, Table, finish};
 use pcap_records::{Capture, Moment, read_capture, write_header};
@@ -15,6 +14,9 @@ use segment_writer::{SegList, segments};
 use std::alloc::{AllocError, Global};
 use std::test::Fail;
 use toxic_defs::delivered_by;
+use worked_sessions::sessions::{
+    ACK, CLIENT, PSH, SECOND_CLIENT, SERVER, SYN, file, segment, session,
+};
 
 fn whole(alloc: Global, capture: &Capture<'_>) -> Result<Table, AllocError>
     ensures { IfOk result (λ table. table ≡ table_in capture.now 0 (length capture.now.records) 0) }
@@ -38,7 +40,7 @@ fn told(alloc: Global, capture: &Capture<'_>) -> Result<(ReportText, SegList), A
     let mut all = SegList::empty(alloc);
     'conns: for conn in table.conns() {
         let recorded = lines(alloc, conn, capture)?;
-        let delivered = delivered_by(alloc, &recorded, None)?;
+        let delivered = delivered_by(alloc, &recorded, None, 0, 0, conn.number)?;
         texts.push(line(alloc, conn, &recorded, &delivered)?)?;
         all = SegList::join(alloc, all, segments(alloc, conn, &recorded, &delivered)?)?;
     }

@@ -1,18 +1,20 @@
 //! Sessions under proxies, and whole answers from the texts of scenarios.
 use super::rehearsals::{rehearsed_under, session_written};
-use super::sessions::{file, session};
-use super::written_frames::OPENING;
 use scenarios::{Cause, Hosts, Refusal};
 use std::alloc::{AllocError, Global};
 use std::sync::Wait;
 use std::test::Fail;
 use std::thread::Threads;
 use toxicap::{Counted, Options, Outputs, Plan, RunFault, answers, fault_line, undump};
+use worked_sessions::sessions::{file, session};
+use worked_sessions::written_frames::OPENING;
 
 // A disabled proxy, and an enabled one behind it, for the server of the plain session.
-const BOTH: &str = "[{\"name\":\"a\",\"upstream\":\"10.0.0.2:80\",\"enabled\":false},{\"name\":\"b\",\"upstream\":\"10.0.0.2:80\",\"enabled\":true}]";
+const BOTH: &str =
+    "[{\"name\":\"a\",\"upstream\":\"10.0.0.2:80\",\"enabled\":false},{\"name\":\"b\",\"upstream\":\"10.0.0.2:80\",\"enabled\":true}]";
 
-const REFUSED_LINE: &str = "0 10.0.0.1:40000 > 10.0.0.2:80 proxy 0 up 0/5/0 refused max 0 down 0/0/0 refused max 0\n";
+const REFUSED_LINE: &str =
+    "0 10.0.0.1:40000 > 10.0.0.2:80 proxy 0 up 0/5/0 refused max 0 down 0/0/0 refused max 0\n";
 
 // The server's answer to an opening that its proxy refuses, behind its record header.
 const RESET: &str = "01000000 00000000 36000000 36000000 020000000001 020000000002 0800
@@ -25,7 +27,10 @@ fn a_disabled_proxy_refuses(rt: HostRuntime) -> Result<(), Fail> {
     let (capture, report) = rehearsed_under(&rt, rt.alloc(), &bytes, BOTH)?;
     assert_eq!(rt; capture.len(), 164);
     assert_eq!(rt; &capture[40..94], OPENING.as_slice());
-    assert_eq!(rt; &capture[94..], undump(rt.alloc(), RESET.as_bytes())?.as_slice());
+    assert_eq!(rt;
+        &capture[94..],
+        undump(rt.alloc(), RESET.as_bytes())?.as_slice()
+    );
     assert!(rt; report.ends_with(REFUSED_LINE.as_bytes()));
     Ok(())
 }
@@ -39,10 +44,14 @@ fn enabled_proxies_and_others(rt: HostRuntime) -> Result<(), Fail> {
         ("10.0.0.1:40000", "proxy -"),
     ];
     for (upstream, met) in rows {
-        let text = format!(in rt.alloc(); "[{{\"name\":\"z\",\"upstream\":\"1.2.3.4:80\",\"enabled\":false}},{{\"name\":\"web\",\"upstream\":\"{upstream}\"}}]")?;
+        let text = format!(in rt.alloc();
+            "[{{\"name\":\"z\",\"upstream\":\"1.2.3.4:80\",\"enabled\":false}},{{\"name\":\"web\",\"upstream\":\"{upstream}\"}}]"
+        )?;
         let (capture, report) = rehearsed_under(&rt, rt.alloc(), &bytes, &text)?;
         assert_eq!(rt; capture.as_slice(), session_written(rt.alloc())?.as_slice());
-        let line = format!(in rt.alloc(); "0 10.0.0.1:40000 > 10.0.0.2:80 {met} up 5/5/0 fin+2000 max 0 down 0/0/0 fin+3000 max 0\n")?;
+        let line = format!(in rt.alloc();
+            "0 10.0.0.1:40000 > 10.0.0.2:80 {met} up 5/5/0 fin+2000 max 0 down 0/0/0 fin+3000 max 0\n"
+        )?;
         assert!(rt; report.ends_with(line.as_bytes()), "{upstream}");
     }
     Ok(())
@@ -89,10 +98,18 @@ fn scenarios_of_a_dump_in_order(rt: HostRuntime) -> Result<(), Fail> {
         let outputs = answered(&rt, rt.alloc(), text, &texts)?;
         assert_eq!(rt; outputs.as_slice().len(), 2);
         let bare = &outputs.as_slice()[0];
-        assert_eq!(rt; bare.capture.as_slice(), session_written(rt.alloc())?.as_slice());
+        assert_eq!(rt;
+            bare.capture.as_slice(),
+            session_written(rt.alloc())?.as_slice()
+        );
         let refused = &outputs.as_slice()[1];
         assert_eq!(rt; refused.capture.as_slice().len(), 164);
-        assert!(rt; refused.report.as_slice().starts_with(b"scenario 1 records 7 "));
+        assert!(rt;
+            refused
+                .report
+                .as_slice()
+                .starts_with(b"scenario 1 records 7 ")
+        );
         assert!(rt; refused.report.as_slice().ends_with(REFUSED_LINE.as_bytes()));
     }
     let none = answered(&rt, rt.alloc(), &bytes, &[])?;
@@ -106,14 +123,11 @@ fn the_first_refusal_counts(rt: HostRuntime) -> Result<(), Fail> {
     let broken = b"d4 zz".as_slice();
     let short = b"d4c3".as_slice();
     let unknown = b"[{\"name\":\"a\",\"upstream\":\"redis:80\"}]".as_slice();
-    let toxic = b"[{\"name\":\"a\",\"upstream\":\"web:80\"},{\"name\":\"b\",\"upstream\":\"web:80\",\"toxics\":[{}]}]".as_slice();
+    let toxic =
+        b"[{\"name\":\"a\",\"upstream\":\"web:80\"},{\"name\":\"b\",\"upstream\":\"web:80\",\"toxics\":[{}]}]".as_slice();
     let rows = [
         (broken, unknown, "refused 55 BadDump at 3"),
-        (
-            short,
-            unknown,
-            "refused 15 UnknownHost scenario 1 proxy 0",
-        ),
+        (short, unknown, "refused 15 UnknownHost scenario 1 proxy 0"),
         (
             short,
             toxic,
@@ -149,6 +163,12 @@ fn too_many_texts(rt: HostRuntime) -> Result<(), Fail> {
         proxy: None,
         toxic: None,
     };
-    assert_eq!(rt; fault, RunFault::BadScenario { number: 257, refusal });
+    assert_eq!(rt;
+        fault,
+        RunFault::BadScenario {
+            number: 257,
+            refusal
+        }
+    );
     Ok(())
 }

@@ -1,17 +1,17 @@
 //! Rehearsals of worked captures.
-use super::sessions::{
-    ACK, CLIENT, FIN, Host, PSH, RST, SECOND_CLIENT, SERVER, SYN, file, header, put, segment,
-    session,
-};
-use super::written_frames::{
-    ACKNOWLEDGED, CLIENT_ENDS, DATA, OPENING, OPENING_ANSWERED, SERVER_ENDS,
-};
 use scenarios::{Hosts, Scenario, read_scenario};
 use std::alloc::{AllocError, Global};
 use std::sync::Wait;
 use std::test::Fail;
 use std::thread::Threads;
 use toxicap::{Plan, RunFault, Through, rehearse};
+use worked_sessions::sessions::{
+    ACK, CLIENT, FIN, Host, PSH, RST, SECOND_CLIENT, SERVER, SYN, file, header, put, segment,
+    session,
+};
+use worked_sessions::written_frames::{
+    ACKNOWLEDGED, CLIENT_ENDS, DATA, OPENING, OPENING_ANSWERED, SERVER_ENDS,
+};
 
 // The scenario of a text, where no host is known.
 pub fn scenario_of(alloc: Global, text: &str) -> Result<Scenario, RunFault> {
@@ -272,12 +272,28 @@ fn too_many_scenarios_and_none(rt: HostRuntime) -> Result<(), Fail> {
     }
     let refused = rehearse(&rt, rt.alloc(), &[], &many, 0, plan, &Through);
     assert!(rt; matches!(refused, Err(RunFault::TooManyScenarios)));
-    let refused = rehearse(&rt, rt.alloc(), &[], &many[..many.len().min(256)], 0, plan, &Through);
+    let refused = rehearse(
+        &rt,
+        rt.alloc(),
+        &[],
+        &many[..many.len().min(256)],
+        0,
+        plan,
+        &Through,
+    );
     assert!(rt; matches!(refused, Err(RunFault::ShortHeader)));
     let bytes = file(rt.alloc(), true, &session())?;
     let none = rehearse(&rt, rt.alloc(), &bytes, &[], 7, plan, &Through)?;
     assert!(rt; none.as_slice().is_empty());
-    let most = rehearse(&rt, rt.alloc(), &bytes, &many[..many.len().min(256)], 7, plan, &Through)?;
+    let most = rehearse(
+        &rt,
+        rt.alloc(),
+        &bytes,
+        &many[..many.len().min(256)],
+        7,
+        plan,
+        &Through,
+    )?;
     assert_eq!(rt; most.as_slice().len(), 256);
     let written = session_written(rt.alloc())?;
     for output in most.as_slice() {

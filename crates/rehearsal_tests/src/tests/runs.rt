@@ -2,12 +2,12 @@
 ghost use Rattle.std.specs.Prelude.{◌<◌, ◌-◌, ◌^◌};
 
 use super::edges::{Pieces, RefusesOnce, Sips};
+use scenarios::Hosts;
 use std::alloc::AllocGlobal;
 use std::io::{Read, Write};
 use std::process::Abort;
 use std::sync::Wait;
 use std::thread::Threads;
-use scenarios::Hosts;
 use toxicap::{Counted, Options, Outputs, Plan, RunFault, answers, print_reports, run, undump};
 
 // A file header, its fields lowest byte first.

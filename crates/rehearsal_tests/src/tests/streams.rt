@@ -1,10 +1,10 @@
 //! Rehearsals of recorded streams: where bytes overlap, come early, are lost or out of place, and how lines end.
 use super::rehearsals::{ends_with, rehearsed};
-use super::sessions::{
+use std::test::Fail;
+use worked_sessions::sessions::{
     ACK, CLIENT, FIN, Host, PSH, RST, RecordedSegment, SERVER, SYN, file, header, put, segment,
     session,
 };
-use std::test::Fail;
 
 // The opening of most captures here: the client counts from 1000, the server from 5000.
 fn opened() -> [RecordedSegment<'static>; 2] {

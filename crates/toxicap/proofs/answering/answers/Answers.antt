@@ -15,6 +15,8 @@ returns-in_err-text-clause-answer g c =
 pub returns-clause-answer : goal.returns-clause-answer
 returns-clause-answer g c =
     let loaded = c.in_ok-text.ensures in
-    let options = c.args.options.now in
-    (c.in_ok-text.text.items, loaded.lost,
-    answered options.hosts (map (λ t. t.now) c.args.texts.now) options.seed c.answer_to_text.result c.in_ok-text.text.items _ loaded.within loaded.at_end c.answer_to_text.ensures.exact c.answer_to_text.ensures.of_text)
+    let options = c.args.options.now in (
+      c.in_ok-text.text.items,
+      loaded.lost,
+      answered options.hosts (map (λ t. t.now) c.args.texts.now) options.seed c.answer_to_text.result c.in_ok-text.text.items _ loaded.within loaded.at_end c.answer_to_text.ensures.exact c.answer_to_text.ensures.of_text,
+    )

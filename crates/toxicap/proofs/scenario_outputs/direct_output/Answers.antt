@@ -35,13 +35,13 @@ loop-place-preserved c =
     let at = here capture c.args.table.now c.requires.table c.conns-conns.result.now c.conns-conns.ensures place within in
     let conn = conn_here capture c.args.table.now c.requires.table c.conns-conns.result.now c.conns-conns.ensures place within c.index-conns-place.result c.index-conns-place.is in
     let recorded = recorded_here xs c.args.recordings.now c.requires.recorded place c.loop-place-test.true at c.index-recordings-place.result c.index-recordings-place.is in
-    let delivered = c.in_ok-delivered.ensures.value ∙ ap (λ m. delivered_connection microseconds m (recorded_view c.index-recordings-place.result)) c.met_proxy.ensures in
-    let line = line_is c.args.scenario.now capture at.item c.index-conns-place.result (recorded_view c.index-recordings-place.result) (delivered_view c.in_ok-delivered.delivered) conn recorded delivered in
-    let own = segments_is c.args.scenario.now capture at.item c.index-conns-place.result (recorded_view c.index-recordings-place.result) (delivered_view c.in_ok-delivered.delivered) conn recorded delivered in
+    let delivered = c.in_ok-delivered.ensures.value ∙ ap (λ m. delivered_connection microseconds c.args.seed c.args.number c.index-conns-place.result.number m (recorded_view c.index-recordings-place.result)) c.met_proxy-met.ensures.met in
+    let line = line_is c.args.seed c.args.number c.args.scenario.now capture at.item c.index-conns-place.result (recorded_view c.index-recordings-place.result) (delivered_view c.in_ok-delivered.delivered) conn recorded delivered in
+    let own = segments_is c.args.seed c.args.number c.args.scenario.now capture at.item c.index-conns-place.result (recorded_view c.index-recordings-place.result) (delivered_view c.in_ok-delivered.delivered) conn recorded delivered in
     let before = counts_text c.args.number (seen_capture (contents_of capture)) ++ connections_text (length (whole_table capture).conns) (whole_table capture).unopened in
     record {
-      report = c.in_ok-push_line.ensures ∙ ap₂ (λ a b. a ++ b) c.loop-place.invariant.report line ∙ lines_more c.args.scenario.now before xs place at.item at.taken;
-      written = c.in_ok-append.ensures.items ∙ ap₂ (λ a b. a ++ b) c.loop-place.invariant.written (c.into_vec-own.ensures ∙ c.in_ok-segments.ensures ∙ own) ∙ segments_more c.args.scenario.now xs place at.item at.taken;
+      report = c.in_ok-push_line.ensures ∙ ap₂ (λ a b. a ++ b) c.loop-place.invariant.report line ∙ lines_more c.args.seed c.args.number c.args.scenario.now before xs place at.item at.taken;
+      written = c.in_ok-append.ensures.items ∙ ap₂ (λ a b. a ++ b) c.loop-place.invariant.written (c.into_vec-own.ensures ∙ c.in_ok-segments.ensures ∙ own) ∙ segments_more c.args.seed c.args.number c.args.scenario.now xs place at.item at.taken;
     }
 
 pub returns : goal.returns

@@ -11,6 +11,6 @@ abbrev pub invariant-loop-place : goal.invariant-loop-place
 invariant-loop-place l = record {
   report : l.report
       ≡ (counts_text l.number (seen_capture (contents_of l.capture)) ++ connections_text (length (whole_table l.capture).conns) (whole_table l.capture).unopened)
-      ++ lines_of_parts microseconds l.scenario (take l.place (whole_connections l.capture));
-  written : l.written.items ≡ segments_of_parts microseconds l.scenario (take l.place (whole_connections l.capture));
+      ++ lines_of_parts microseconds l.seed (l.number, l.scenario) (take l.place (whole_connections l.capture));
+  written : l.written.items ≡ segments_of_parts microseconds l.seed (l.number, l.scenario) (take l.place (whole_connections l.capture));
 }

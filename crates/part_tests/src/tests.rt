@@ -1,0 +1,6 @@
+//! Tests over the public calls of the lower crates, with values from outside.
+mod captures;
+mod frames;
+mod scenario_files;
+mod tables;
+mod toxic_files;

@@ -1,0 +1,454 @@
+//! Sessions through toxics, with values from outside.
+use super::rehearsals::scenario_of;
+use pcap_records::read_capture;
+use std::alloc::{AllocError, Global};
+use std::sync::Wait;
+use std::test::Fail;
+use std::thread::Threads;
+use toxic_defs::{Key, Kind, Toxic, applies, word};
+use toxicap::{Output, Plan, RunFault, Through, rehearse};
+use worked_sessions::sessions::{
+    ACK, CLIENT, Host, PSH, RST, SECOND_CLIENT, SERVER, SYN, file, segment, session,
+};
+
+// The seed of the drawn rows.
+const SEED: u64 = 42;
+
+// A toxic on upstream that always applies.
+fn toxic(alloc: Global, kind: &str, attributes: &str) -> Result<String, AllocError> {
+    format!(in alloc;
+        "{{\"type\":\"{kind}\",\"stream\":\"upstream\",\"toxicity\":1,\"attributes\":{{{attributes}}}}}"
+    )
+}
+
+// A file of one proxy for the server of the plain session, with these toxics.
+fn file_of(alloc: Global, toxics: &str) -> Result<String, AllocError> {
+    format!(in alloc;
+        "[{{\"name\":\"web\",\"listen\":\"127.0.0.1:20080\",\"upstream\":\"10.0.0.2:80\",\"enabled\":true,\"toxics\":[{toxics}]}}]"
+    )
+}
+
+// The one output of a capture under a scenario's text.
+fn output_of<R: Threads + Wait>(
+    rt: &R,
+    alloc: Global,
+    bytes: &[u8],
+    text: &str,
+) -> Result<Output, RunFault> {
+    let plan = Plan::new(1, 4096).ok_or(RunFault::Memory)?;
+    let scenario = scenario_of(alloc, text)?;
+    let outputs = rehearse(rt, alloc, bytes, &[scenario], SEED, plan, &Through)?;
+    outputs.into_vec().pop().ok_or(RunFault::Memory)
+}
+
+// The instants, in microseconds, and the payloads' lengths of the records that carry payload.
+fn pieces_of(alloc: Global, capture: &[u8]) -> Result<Vec<(u64, u32)>, Fail> {
+    let capture = read_capture(alloc, capture)?;
+    let mut pieces = Vec::new(alloc);
+    for record in capture.records() {
+        if record.len > 54 {
+            pieces.push((record.stamp.count(), record.len - 54))?;
+        }
+    }
+    Ok(pieces)
+}
+
+// The acknowledgment number of the record that begins at a place of a file.
+fn acknowledged(capture: &[u8], at: usize) -> Option<&[u8]> {
+    capture.get(at + 16 + 42..at + 16 + 46)
+}
+
+#[test]
+fn the_plain_session_through_each(rt: HostRuntime) -> Result<(), Fail> {
+    let bytes = file(rt.alloc(), true, &session())?;
+    let rows = [
+        (
+            "latency",
+            "\"latency\":100,\"jitter\":0",
+            "up 5/5/0 fin+101000 max 100000 down 0/0/0 fin+3000 max 0",
+        ),
+        (
+            "limit_data",
+            "\"bytes\":5",
+            "up 5/5/0 fin+2000 max 0 down 0/0/0 fin+3000 max 0",
+        ),
+        (
+            "limit_data",
+            "\"bytes\":4",
+            "up 4/5/0 close+1000 max 0 down 0/0/0 close+1000 max 0",
+        ),
+        (
+            "limit_data",
+            "\"bytes\":0",
+            "up 0/5/0 close+1000 max 0 down 0/0/0 close+1000 max 0",
+        ),
+        (
+            "timeout",
+            "\"timeout\":0",
+            "up 0/5/0 open max 0 down 0/0/0 fin+3000 max 0",
+        ),
+        (
+            "timeout",
+            "\"timeout\":1",
+            "up 0/5/0 close+1000 max 0 down 0/0/0 close+1000 max 0",
+        ),
+        (
+            "reset_peer",
+            "\"timeout\":0",
+            "up 0/5/0 reset+0 max 0 down 0/0/0 reset+0 max 0",
+        ),
+        (
+            "slow_close",
+            "\"delay\":2",
+            "up 5/5/0 fin+4000 max 0 down 0/0/0 fin+3000 max 0",
+        ),
+    ];
+    for (kind, attributes, line) in rows {
+        let text = file_of(rt.alloc(), &toxic(rt.alloc(), kind, attributes)?)?;
+        let output = output_of(&rt, rt.alloc(), &bytes, &text)?;
+        let wanted = format!(in rt.alloc(); "0 10.0.0.1:40000 > 10.0.0.2:80 proxy 0 {line}\n")?;
+        assert!(rt;
+            output.report.as_slice().ends_with(wanted.as_bytes()),
+            "{wanted}"
+        );
+    }
+    Ok(())
+}
+
+// The server's FIN comes before the client's bytes, which acknowledge it then.
+#[test]
+fn acknowledgments_under_latency(rt: HostRuntime) -> Result<(), Fail> {
+    let bytes = file(rt.alloc(), true, &session())?;
+    let text = file_of(
+        rt.alloc(),
+        &toxic(rt.alloc(), "latency", "\"latency\":100")?,
+    )?;
+    let output = output_of(&rt, rt.alloc(), &bytes, &text)?;
+    let capture = output.capture.as_slice();
+    assert_eq!(rt; capture.len(), 449);
+    assert!(rt; acknowledged(capture, 234) == Some(&1001u32.to_be_bytes()));
+    assert!(rt; acknowledged(capture, 304) == Some(&5002u32.to_be_bytes()));
+    assert!(rt; acknowledged(capture, 379) == Some(&5002u32.to_be_bytes()));
+    Ok(())
+}
+
+// A reset cuts what is still under way.
+#[test]
+fn a_reset_under_latency(rt: HostRuntime) -> Result<(), Fail> {
+    let session = session();
+    let reset = segment((1, 2000), SERVER, CLIENT, RST, (5001, 0), b"");
+    let records = [session[0], session[1], session[2], session[3], reset];
+    let bytes = file(rt.alloc(), true, &records)?;
+    let text = file_of(
+        rt.alloc(),
+        &toxic(rt.alloc(), "latency", "\"latency\":100")?,
+    )?;
+    let output = output_of(&rt, rt.alloc(), &bytes, &text)?;
+    let line = b"proxy 0 up 0/5/0 reset+2000 max 0 down 0/0/0 reset+2000 max 0\n";
+    assert!(rt; output.report.as_slice().ends_with(line));
+    Ok(())
+}
+
+// ---- pieces and their instants
+
+#[test]
+fn pieces_of_bandwidth_and_slicer(rt: HostRuntime) -> Result<(), Fail> {
+    let alloc = rt.alloc();
+    let opening = segment((0, 0), CLIENT, SERVER, SYN, (1000, 0), b"");
+    let long = [b'x'; 250];
+    let first = segment((0, 1000), CLIENT, SERVER, PSH + ACK, (1001, 1), &long);
+    let second = segment(
+        (0, 2000),
+        CLIENT,
+        SERVER,
+        PSH + ACK,
+        (1251, 1),
+        b"0123456789",
+    );
+    let charged = file(alloc, true, &[opening, first, second])?;
+    let text = file_of(alloc, &toxic(alloc, "bandwidth", "\"rate\":1")?)?;
+    let output = output_of(&rt, alloc, &charged, &text)?;
+    let want = [(101_000, 100), (201_000, 100), (251_000, 50), (261_000, 10)];
+    assert_eq!(rt;
+        pieces_of(alloc, output.capture.as_slice())?.as_slice(),
+        want.as_slice()
+    );
+
+    let one = segment((0, 1000), CLIENT, SERVER, PSH + ACK, (1001, 1), b"a");
+    let two = segment((0, 1001), CLIENT, SERVER, PSH + ACK, (1002, 1), b"b");
+    let three = segment((0, 1002), CLIENT, SERVER, PSH + ACK, (1003, 1), b"c");
+    let bytes = file(alloc, true, &[opening, one, two, three])?;
+    let text = file_of(alloc, &toxic(alloc, "bandwidth", "\"rate\":3")?)?;
+    let output = output_of(&rt, alloc, &bytes, &text)?;
+    let want = [(1334, 1), (1667, 1), (2000, 1)];
+    assert_eq!(rt;
+        pieces_of(alloc, output.capture.as_slice())?.as_slice(),
+        want.as_slice()
+    );
+
+    let pair = segment((0, 1000), CLIENT, SERVER, PSH + ACK, (1001, 1), b"ab");
+    let last = segment((0, 1005), CLIENT, SERVER, PSH + ACK, (1003, 1), b"c");
+    let bytes = file(alloc, true, &[opening, pair, last])?;
+    let text = file_of(
+        alloc,
+        &toxic(alloc, "slicer", "\"average_size\":1,\"delay\":10")?,
+    )?;
+    let output = output_of(&rt, alloc, &bytes, &text)?;
+    let want = [(1000, 1), (1010, 1), (1020, 1)];
+    assert_eq!(rt;
+        pieces_of(alloc, output.capture.as_slice())?.as_slice(),
+        want.as_slice()
+    );
+    Ok(())
+}
+
+// The seventh toxic of a direction, on connection 3: six before it never apply.
+#[test]
+fn drawn_delays_and_sizes(rt: HostRuntime) -> Result<(), Fail> {
+    let alloc = rt.alloc();
+    let other = |port| segment(
+        (0, 0),
+        Host {
+            mac: 7,
+            addr: 7,
+            port,
+        },
+        SERVER,
+        SYN,
+        (1, 0),
+        b"",
+    );
+    let opening = segment((0, 0), CLIENT, SERVER, SYN, (1000, 0), b"");
+    let a = segment((0, 1000), CLIENT, SERVER, PSH + ACK, (1001, 1), b"a");
+    let b = segment((0, 5000), CLIENT, SERVER, PSH + ACK, (1002, 1), b"b");
+    let five = segment((0, 1000), CLIENT, SERVER, PSH + ACK, (1001, 1), b"hello");
+    let idle = "{\"type\":\"timeout\",\"stream\":\"upstream\",\"toxicity\":0,\"name\":\"";
+    let before = format!(in alloc;
+        "{idle}0\"}},{idle}1\"}},{idle}2\"}},{idle}3\"}},{idle}4\"}},{idle}5\"}},"
+    )?;
+
+    let late = toxic(alloc, "latency", "\"latency\":100,\"jitter\":50")?;
+    let text = file_of(alloc, &format!(in alloc; "{before}{late}")?)?;
+    let bytes = file(alloc, true, &[other(1), other(2), other(3), opening, a, b])?;
+    let output = output_of(&rt, alloc, &bytes, &text)?;
+    let want = [(101_000, 1), (101_000, 1)];
+    assert_eq!(rt;
+        pieces_of(alloc, output.capture.as_slice())?.as_slice(),
+        want.as_slice()
+    );
+
+    let sliced = toxic(
+        alloc,
+        "slicer",
+        "\"average_size\":3,\"size_variation\":1,\"delay\":10",
+    )?;
+    let text = file_of(alloc, &format!(in alloc; "{before}{sliced}")?)?;
+    let bytes = file(alloc, true, &[other(1), other(2), other(3), opening, five])?;
+    let output = output_of(&rt, alloc, &bytes, &text)?;
+    let want = [(1000, 2), (1010, 3)];
+    assert_eq!(rt;
+        pieces_of(alloc, output.capture.as_slice())?.as_slice(),
+        want.as_slice()
+    );
+    Ok(())
+}
+
+// What would come at the horizon never comes, and nothing is written there.
+#[test]
+fn latency_past_the_horizon(rt: HostRuntime) -> Result<(), Fail> {
+    let last = 0xffff_ffff;
+    let opening = segment((last, 0), CLIENT, SERVER, SYN, (1000, 0), b"");
+    let byte = segment((last, 0), CLIENT, SERVER, PSH + ACK, (1001, 1), b"a");
+    let bytes = file(rt.alloc(), true, &[opening, byte])?;
+    let text = file_of(
+        rt.alloc(),
+        &toxic(rt.alloc(), "latency", "\"latency\":1000000000")?,
+    )?;
+    let output = output_of(&rt, rt.alloc(), &bytes, &text)?;
+    assert_eq!(rt; output.capture.as_slice().len(), 234);
+    assert!(rt;
+        output
+            .report
+            .as_slice()
+            .ends_with(b"proxy 0 up 0/1/0 open max 0 down 0/0/0 open max 0\n")
+    );
+    Ok(())
+}
+
+// ---- one connection beside others
+
+// The last line of a report, with the line feed before it.
+fn last_line(report: &[u8]) -> &[u8] {
+    match report
+        .windows(3)
+        .position(|text| text == b"\n1 ".as_slice())
+    {
+        Some(at) => &report[at..],
+        None => &[],
+    }
+}
+
+// The toxics that another connection meets change nothing of a connection, nor does a packet that is none of its own.
+#[test]
+fn other_connections_do_not_matter(rt: HostRuntime) -> Result<(), Fail> {
+    let alloc = rt.alloc();
+    let other = segment((1, 0), CLIENT, SECOND_CLIENT, SYN, (1000, 0), b"");
+    let opening = segment((1, 100_000), CLIENT, SERVER, SYN, (2000, 0), b"");
+    let data = segment((1, 200_000), CLIENT, SERVER, PSH + ACK, (2001, 0), b"ab");
+    let bytes = file(alloc, true, &[other, opening, data])?;
+    let late = toxic(alloc, "latency", "\"latency\":100,\"jitter\":50")?;
+    let first = file_of(alloc, &late)?;
+    let held = toxic(alloc, "timeout", "\"timeout\":0")?;
+    let second = format!(in alloc;
+        "[{{\"name\":\"web\",\"upstream\":\"10.0.0.2:80\",\"toxics\":[{late}]}},{{\"name\":\"other\",\"upstream\":\"10.0.0.3:40001\",\"toxics\":[{held}]}}]"
+    )?;
+    let a = output_of(&rt, alloc, &bytes, &first)?;
+    let b = output_of(&rt, alloc, &bytes, &second)?;
+    assert_eq!(rt; a.capture.as_slice().len(), 516);
+    // Both connections are written alike, since the other one has no bytes: its segments stand first, and those of connection 1 behind.
+    assert_eq!(rt; a.capture.as_slice(), b.capture.as_slice());
+    let line = last_line(a.report.as_slice());
+    assert!(rt; line.starts_with(b"\n1 10.0.0.1:40000 > 10.0.0.2:80 proxy 0 up 2/2/0 open max "));
+    assert_eq!(rt; line, last_line(b.report.as_slice()));
+    assert!(rt;
+        contains(
+            a.report.as_slice(),
+            b"\n0 10.0.0.1:40000 > 10.0.0.3:40001 proxy - up "
+        )
+    );
+    assert!(rt;
+        contains(
+            b.report.as_slice(),
+            b"\n0 10.0.0.1:40000 > 10.0.0.3:40001 proxy 1 up "
+        )
+    );
+    Ok(())
+}
+
+fn contains(text: &[u8], part: &[u8]) -> bool {
+    text.windows(part.len()).any(|found| found == part)
+}
+
+// ---- calls
+
+#[test]
+fn words_and_what_applies(rt: HostRuntime) -> Result<(), Fail> {
+    let key = Key {
+        seed: SEED,
+        s: 0,
+        c: 3,
+        d: 0,
+        t: 6,
+    };
+    for (k, wanted) in [(0, 0xa15c_02b7), (1, 0x7b47_f409), (2, 0xba1d_3330)] {
+        assert_eq!(rt; word(key, k), wanted);
+    }
+    for (ppm, wanted) in [(161_783, false), (161_784, true)] {
+        let toxic = Toxic::new(Kind::Bandwidth { rate: 1 }, ppm).ok_or("a toxic")?;
+        assert_eq!(rt; applies(&toxic, key), wanted);
+    }
+    Ok(())
+}
+
+#[test]
+fn borders_of_ranges(rt: HostRuntime) {
+    let most = 1_000_000_000;
+    let rows = [
+        (
+            Kind::Latency {
+                latency: most,
+                jitter: most,
+            },
+            true,
+        ),
+        (
+            Kind::Latency {
+                latency: most + 1,
+                jitter: 0,
+            },
+            false,
+        ),
+        (
+            Kind::Latency {
+                latency: 0,
+                jitter: most + 1,
+            },
+            false,
+        ),
+        (Kind::Bandwidth { rate: 0 }, false),
+        (Kind::Bandwidth { rate: 1 }, true),
+        (Kind::Bandwidth { rate: 1_000_000 }, true),
+        (Kind::Bandwidth { rate: 1_000_001 }, false),
+        (Kind::SlowClose { delay: most }, true),
+        (Kind::SlowClose { delay: most + 1 }, false),
+        (Kind::Timeout { timeout: most }, true),
+        (Kind::Timeout { timeout: most + 1 }, false),
+        (Kind::ResetPeer { timeout: most }, true),
+        (Kind::ResetPeer { timeout: most + 1 }, false),
+        (
+            Kind::Slicer {
+                average_size: 1,
+                size_variation: 0,
+                delay: most,
+            },
+            true,
+        ),
+        (
+            Kind::Slicer {
+                average_size: 0,
+                size_variation: 0,
+                delay: 0,
+            },
+            false,
+        ),
+        (
+            Kind::Slicer {
+                average_size: most,
+                size_variation: most - 1,
+                delay: 0,
+            },
+            true,
+        ),
+        (
+            Kind::Slicer {
+                average_size: most + 1,
+                size_variation: 0,
+                delay: 0,
+            },
+            false,
+        ),
+        (
+            Kind::Slicer {
+                average_size: 5,
+                size_variation: 5,
+                delay: 0,
+            },
+            false,
+        ),
+        (
+            Kind::Slicer {
+                average_size: 1,
+                size_variation: 0,
+                delay: most + 1,
+            },
+            false,
+        ),
+        (
+            Kind::LimitData {
+                bytes: 1_000_000_000_000,
+            },
+            true,
+        ),
+        (
+            Kind::LimitData {
+                bytes: 1_000_000_000_001,
+            },
+            false,
+        ),
+    ];
+    for (kind, fits) in rows {
+        assert_eq!(rt; kind.fits(), fits);
+        assert_eq!(rt; Toxic::new(kind, 1_000_000).is_some(), fits);
+        assert!(rt; Toxic::new(kind, 1_000_001).is_none());
+    }
+}

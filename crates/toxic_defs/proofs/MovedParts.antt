@@ -1,0 +1,121 @@
+-- Bytes at other instants, as parts have them.
+use Rattle.std.proofs.Common.{◌≡◌, ◌<◌, ℕ, suc, ◌+◌, Bool, true, false, cond, ◌&&◌, nat_lt, List, [], ◌∷◌, ◌++◌, length, take, drop, get_or, set, refl, sym, ap, ◌∙◌, arith, append_assoc}
+use Rattle.std.proofs.lemmas.List.{append-nil, take_more, take_more_set, drop_more, drop-set-lt, drop-drop, get_or-drop}
+use Rattle.std.proofs.lemmas.Bool.{lt-ltb, false≢true}
+use Rattle.std.proofs.lemmas.List.Concat.{flat_map-append}
+use Rattle.reassembly.specs.RecordedLines.{LineByte}
+use Rattle.reassembly.specs.LineView.{bytes_of_part, bytes_of_parts, bytes_with_mark, bytes_without_mark}
+use Rattle.reassembly.specs.declared.line_parts.LinePart.{LinePart}
+use Rattle.toxic_defs.specs.DelayedBytes.{begins, at_instant, along, moved}
+
+-- ---- where chunks begin
+
+pub begins-append : (xs ys : List LineByte) → begins (xs ++ ys) ≡ begins xs ++ begins ys
+begins-append [] ys = refl
+begins-append (x ∷ xs) ys = by x.starts (begins-append xs ys)
+  where
+    by : (s : Bool) → begins (xs ++ ys) ≡ begins xs ++ begins ys → cond s (x.at ∷ begins (xs ++ ys)) (begins (xs ++ ys)) ≡ cond s (x.at ∷ begins xs) (begins xs) ++ begins ys
+    by true e = ap (λ ats. x.at ∷ ats) e
+    by false e = e
+
+begins_unmarked : (at : ℕ) (bytes : List ℕ) → begins (bytes_without_mark at bytes) ≡ []
+begins_unmarked at [] = refl
+begins_unmarked at (b ∷ bytes) = begins_unmarked at bytes
+
+-- ---- moved
+
+pub along-append : (leaves : List LineByte → ℕ) (before xs ys : List LineByte) → along leaves before (xs ++ ys) ≡ along leaves before xs ++ along leaves (before ++ xs) ys
+along-append leaves before [] ys = ap (λ front. along leaves front ys) (sym (append-nil before))
+along-append leaves before (x ∷ xs) ys =
+    let rest = along-append leaves (before ++ x ∷ []) xs ys in
+    let same : (before ++ x ∷ []) ++ xs ≡ before ++ x ∷ xs = append_assoc before (x ∷ []) xs in
+    ap (λ bs. at_instant (leaves (before ++ x ∷ [])) x ∷ bs) (rest ∙ ap (λ front. along leaves (before ++ x ∷ []) xs ++ along leaves front ys) same)
+
+pub moved-append : (leaves : List LineByte → ℕ) (xs ys : List LineByte) → moved leaves (xs ++ ys) ≡ moved leaves xs ++ along leaves xs ys
+moved-append leaves xs ys = along-append leaves [] xs ys
+
+-- bytes that begin no chunk leave with the chunks before
+along_unmarked : (g : List ℕ → ℕ) (before : List LineByte) (at : ℕ) (bytes : List ℕ)
+    → along (λ bs. g (begins bs)) before (bytes_without_mark at bytes) ≡ bytes_without_mark (g (begins before)) bytes
+along_unmarked g before at [] = refl
+along_unmarked g before at (b ∷ bytes) =
+    let x : LineByte = record { value = b; at = at; starts = false } in
+    let same : begins (before ++ x ∷ []) ≡ begins before = begins-append before (x ∷ []) ∙ append-nil (begins before) in
+    let rest = along_unmarked g (before ++ x ∷ []) at bytes in
+    rw (rest, same) refl
+
+-- so a part moves as one
+pub along_part : (g : List ℕ → ℕ) (before : List LineByte) (at : ℕ) (s : Bool) (bytes : List ℕ)
+    → along (λ bs. g (begins bs)) before (bytes_with_mark at s bytes) ≡ bytes_with_mark (g (begins (before ++ bytes_with_mark at s bytes))) s bytes
+along_part g before at s [] = refl
+along_part g before at s (b ∷ bytes) =
+    let x : LineByte = record { value = b; at = at; starts = s } in
+    let all : begins (before ++ bytes_with_mark at s (b ∷ bytes)) ≡ begins (before ++ x ∷ []) =
+    ap begins (sym (append_assoc before (x ∷ []) (bytes_without_mark at bytes))) ∙ begins-append (before ++ x ∷ []) (bytes_without_mark at bytes)
+    ∙ ap (λ ats. begins (before ++ x ∷ []) ++ ats) (begins_unmarked at bytes) ∙ append-nil (begins (before ++ x ∷ [])) in
+    let rest = along_unmarked g (before ++ x ∷ []) at bytes in
+    rw (rest, all) refl
+
+-- ---- a pass over parts in place
+
+-- the part at a place that is not written yet
+pub read_there : (parts initial : List LinePart) (i : ℕ) (d : LinePart) → i < length parts → drop i parts ≡ drop i initial
+    → drop i initial ≡ get_or parts i d ∷ drop (i + 1) parts
+read_there parts initial i d lt rest = sym rest ∙ drop_more parts i d lt
+
+pub rest_there : (parts initial : List LinePart) (i : ℕ) (q : LinePart) → drop i parts ≡ drop i initial → drop (i + 1) (set parts i q) ≡ drop (i + 1) initial
+rest_there parts initial i q rest = drop-set-lt (i + 1) parts i q (omega arith) ∙ sym (drop-drop 1 i parts) ∙ ap (drop 1) rest ∙ drop-drop 1 i initial
+
+-- the parts in front, with that part
+pub taken_there : (parts initial : List LinePart) (i : ℕ) (d : LinePart) → i < length parts → i < length initial → drop i parts ≡ drop i initial
+    → take (i + 1) initial ≡ take i initial ++ get_or parts i d ∷ []
+taken_there parts initial i d lt lt' rest =
+    let e : i + 0 ≡ i = omega arith in
+    let same : get_or initial i d ≡ get_or parts i d =
+    ap (λ n. get_or initial n d) (sym e) ∙ sym (get_or-drop i initial 0 d) ∙ ap (λ (ps : List LinePart). get_or ps 0 d) (read_there parts initial i d lt rest) in
+    take_more initial i d lt' ∙ ap (λ (q : LinePart). take i initial ++ q ∷ []) same
+
+-- and their bytes
+pub front_there : (parts initial : List LinePart) (i : ℕ) (d : LinePart) → i < length parts → i < length initial → drop i parts ≡ drop i initial
+    → bytes_of_parts (take (i + 1) initial) ≡ bytes_of_parts (take i initial) ++ bytes_of_part (get_or parts i d)
+front_there parts initial i d lt lt' rest =
+    let p : LinePart = get_or parts i d in
+    ap bytes_of_parts (taken_there parts initial i d lt lt' rest) ∙ flat_map-append bytes_of_part (take i initial) (p ∷ [])
+    ∙ ap (λ bs. bytes_of_parts (take i initial) ++ bs) (append-nil (bytes_of_part p))
+
+-- the bytes in front once more than that part was written
+pub written_there : (parts initial : List LinePart) (i : ℕ) (d q : LinePart) (leaves : List LineByte → ℕ) → i < length parts → i < length initial → drop i parts ≡ drop i initial
+    → bytes_of_parts (take i parts) ≡ moved leaves (bytes_of_parts (take i initial)) → bytes_of_part q ≡ along leaves (bytes_of_parts (take i initial)) (bytes_of_part (get_or parts i d))
+    → bytes_of_parts (take (i + 1) (set parts i q)) ≡ moved leaves (bytes_of_parts (take (i + 1) initial))
+written_there parts initial i d q leaves lt lt' rest done step =
+    let front : List LineByte = bytes_of_parts (take i initial) in
+    let p : LinePart = get_or parts i d in
+    ap bytes_of_parts (take_more_set parts i q lt) ∙ flat_map-append bytes_of_part (take i parts) (q ∷ [])
+    ∙ ap (λ bs. bytes_of_parts (take i parts) ++ bs) (append-nil (bytes_of_part q) ∙ step) ∙ ap (λ bs. bs ++ along leaves front (bytes_of_part p)) done
+    ∙ sym (moved-append leaves front (bytes_of_part p)) ∙ ap (moved leaves) (sym (front_there parts initial i d lt lt' rest))
+
+-- ---- chunks in front
+
+-- a part that begins a chunk
+pub begins_one_more : (front : List LineByte) (at : ℕ) (s : Bool) (bytes : List ℕ) → (s && nat_lt 0 (length bytes)) ≡ true
+    → begins (front ++ bytes_with_mark at s bytes) ≡ begins front ++ at ∷ []
+begins_one_more front at s [] h = absurd (no_mark s h)
+  where
+    no_mark : (s : Bool) → (s && false) ≡ true → ⊥
+    no_mark true h = absurd cc
+    no_mark false h = absurd cc
+begins_one_more front at false (b ∷ bytes) h = absurd cc
+begins_one_more front at true (b ∷ bytes) h =
+    begins-append front (bytes_with_mark at true (b ∷ bytes)) ∙ ap (λ ats. begins front ++ at ∷ ats) (begins_unmarked at bytes)
+
+-- and one that begins none
+pub begins_no_more : (front : List LineByte) (at : ℕ) (s : Bool) (bytes : List ℕ) → (s && nat_lt 0 (length bytes)) ≡ false
+    → begins (front ++ bytes_with_mark at s bytes) ≡ begins front
+begins_no_more front at s bytes h = begins-append front (bytes_with_mark at s bytes) ∙ ap (λ ats. begins front ++ ats) (none s bytes h) ∙ append-nil (begins front)
+  where
+    none : (s : Bool) (bytes : List ℕ) → (s && nat_lt 0 (length bytes)) ≡ false → begins (bytes_with_mark at s bytes) ≡ []
+    none s [] h = refl
+    none false (b ∷ bytes) h = begins_unmarked at bytes
+    none true (b ∷ bytes) h =
+        let some : 0 < suc (length bytes) = omega arith in
+        absurd (false≢true (sym h ∙ lt-ltb 0 (suc (length bytes)) some))

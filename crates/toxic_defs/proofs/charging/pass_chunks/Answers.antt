@@ -1,0 +1,12 @@
+use Rattle.std.proofs.Common.{[], sym, ap, ◌∙◌}
+use Rattle.pcap_records.specs.Instants.{horizon, microseconds}
+use Rattle.reassembly.specs.LineView.{bytes_of_parts}
+use Rattle.toxic_defs.specs.DelayedBytes.{bandwidth_leaves}
+use Rattle.toxic_defs.specs.ChargedParts.{settled_parts}
+use Rattle.toxic_defs.proofs.Settling.{settles}
+use Rattle.toxic_defs.proofs.charging.pass_chunks.Goals as goal
+
+pub returns : goal.returns
+returns c =
+    ap bytes_of_parts (c.settle_chunks.ensures ∙ ap settled_parts c.charge_parts.ensures)
+    ∙ sym (settles (bandwidth_leaves (horizon microseconds) 1000 c.args.rate) [] c.args.parts.now c.requires.filled)

@@ -1,0 +1,5 @@
+use Rattle.toxic_defs.proofs.CutDelays.{recorded_lines_delay}
+use Rattle.toxic_defs.proofs.laws.recorded_lines_delay.Goals as goal
+
+pub returns : goal.returns
+returns c = recorded_lines_delay

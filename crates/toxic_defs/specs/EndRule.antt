@@ -1,0 +1,15 @@
+-- The rule of ends: an end that has an instant is not before the last byte.
+use Rattle.std.specs.Prelude.{ℕ, max}
+use Rattle.reassembly.specs.RecordedLines.{Line, End, live, fin, close, reset}
+use Rattle.reassembly.specs.LineLaws.{last_instant}
+
+-- an end before an instant moves to it
+abbrev pub not_before : ℕ → End → End
+not_before at live = live
+not_before at (fin m) = fin (max m at)
+not_before at (close m) = close (max m at)
+not_before at (reset m) = reset (max m at)
+
+-- the line whose end is moved to the last byte's instant where it is before it
+abbrev pub ended : Line → Line
+ended l = record { bytes = l.bytes; end = not_before (last_instant 0 l.bytes) l.end }

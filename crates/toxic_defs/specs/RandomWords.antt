@@ -1,0 +1,38 @@
+-- Random words: the outputs of a generator (PCG XSH RR, of 64 bits of state) that is made from a key.
+use Rattle.std.specs.Prelude.{◌≡◌, ℕ, zero, suc, ◌+◌, ◌*◌, ◌/◌, ◌%◌, ◌^◌, bit_xor}
+use Rattle.std.specs.Int.{w32, rotate_right}
+use Rattle.toxic_defs.specs.declared.keys.Key.{Key}
+use Rattle.toxic_defs.specs.declared.words.Draws.{Draws}
+
+-- ---- the generator
+
+abbrev pub multiplier : ℕ
+multiplier = 6364136223846793005
+
+-- each step multiplies the state and adds the increment, on 64 bits; the first state is one step behind the seed
+unfoldable pub state : ℕ → ℕ → ℕ → ℕ
+state seed increment zero = ((seed + increment) * multiplier + increment) % 2 ^ 64
+state seed increment (suc k) = (state seed increment k * multiplier + increment) % 2 ^ 64
+
+-- the high bits of a state, folded to 32 and rotated by the highest five
+abbrev pub output : ℕ → ℕ
+output x = rotate_right w32 (bit_xor (x / 2 ^ 18) x / 2 ^ 27 % 2 ^ 32) (x / 2 ^ 59)
+
+-- ---- words by a key
+
+-- a scenario, a connection, a direction and a toxic have a stream of their own
+abbrev pub stream_of : Key → ℕ
+stream_of key = key.s * 2 ^ 30 + key.c * 16 + key.d * 8 + key.t
+
+-- the increment of a stream is odd
+abbrev pub increment_of_key : Key → ℕ
+increment_of_key key = 2 * stream_of key + 1
+
+-- word k
+unfoldable pub word_of : Key → ℕ → ℕ
+word_of key k = output (state key.seed (increment_of_key key) k)
+
+-- draws that give word k of the key next
+pub record StandsAt (draws : Draws) (key : Key) (k : ℕ) : Type 0 where
+  pub state : draws.words.state ≡ state key.seed (increment_of_key key) k
+  pub increment : draws.words.increment ≡ increment_of_key key

@@ -1,0 +1,70 @@
+//! Kinds of toxics, with their attributes.
+ghost use Rattle.std.specs.Prelude.{◌≡◌};
+ghost use Rattle.toxic_defs.specs.Toxics.{fits};
+
+/// What a toxic does, and its attributes: numbers of any size, of which [`fits`](Kind::fits) tells whether they are in range.
+#[derive(Clone, Copy, Debug, PartialEq, Eq)]
+pub enum Kind {
+    /// Delays each chunk by `latency` milliseconds, more or less by a random number up to `jitter`.
+    Latency {
+        latency: u64,
+        jitter: u64,
+    },
+    /// Lets `rate` KB a second through, of 1000 bytes each.
+    Bandwidth {
+        rate: u64,
+    },
+    /// Delays a FIN and a close by `delay` milliseconds.
+    SlowClose {
+        delay: u64,
+    },
+    /// Lets nothing through, and closes `timeout` milliseconds after the opening; never where that is 0.
+    Timeout {
+        timeout: u64,
+    },
+    /// Resets `timeout` milliseconds after the opening.
+    ResetPeer {
+        timeout: u64,
+    },
+    /// Cuts chunks into slices of `average_size` bytes, more or less by a random number up to `size_variation`, that leave
+    /// `delay` microseconds apart.
+    Slicer {
+        average_size: u64,
+        size_variation: u64,
+        delay: u64,
+    },
+    /// Closes where more than `bytes` bytes come.
+    LimitData {
+        bytes: u64,
+    },
+}
+
+/// The greatest latency, jitter, delay and timeout, and the greatest size of a slice.
+const GREATEST: u64 = 1_000_000_000;
+
+/// The greatest rate, in KB a second.
+const GREATEST_RATE: u64 = 1_000_000;
+
+/// The greatest limit of bytes.
+const GREATEST_LIMIT: u64 = 1_000_000_000_000;
+
+impl Kind {
+    /// Whether each attribute is in its range: `rate` 1 to 10^6, `average_size` 1 to 10^9 and `size_variation` below it,
+    /// `bytes` 0 to 10^12, and all others 0 to 10^9.
+    pub fn fits(&self) -> bool
+        ensures { result ≡ fits self.now }
+    {
+        match *self {
+            Kind::Latency { latency, jitter } => latency <= GREATEST && jitter <= GREATEST,
+            Kind::Bandwidth { rate } => 0 < rate && rate <= GREATEST_RATE,
+            Kind::SlowClose { delay } => delay <= GREATEST,
+            Kind::Timeout { timeout } | Kind::ResetPeer { timeout } => timeout <= GREATEST,
+            Kind::Slicer {
+                average_size,
+                size_variation,
+                delay,
+            } => size_variation < average_size && average_size <= GREATEST && delay <= GREATEST,
+            Kind::LimitData { bytes } => bytes <= GREATEST_LIMIT,
+        }
+    }
+}

@@ -1,0 +1,56 @@
+//! Toxics: a kind and how often it applies.
+ghost use Rattle.std.specs.Prelude.{◌≡◌, nat_le, ◌&&◌, if◌then◌else◌, Some, None};
+ghost use Rattle.toxic_defs.specs.Toxics.{fits, made_toxic, IsInRange};
+
+use crate::kinds::Kind;
+use std::marker::Model;
+
+/// The greatest `ppm`: of each million connections it applies to all.
+const MILLION: u64 = 1_000_000;
+
+/// A toxic whose attributes are in range, and how many of a million connections it applies to.
+#[derive(Clone, Copy, Debug, PartialEq, Eq)]
+pub struct Toxic {
+    kind: Kind,
+    ppm: u64,
+}
+
+impl Model for Toxic {
+    ghost use Rattle.toxic_defs.specs.Toxics.{RatedKind, IsInRange};
+
+    ghost Value = { RatedKind };
+
+    ghost view = { λ t. record { kind = t.kind; ppm = t.ppm } };
+
+    ghost inverse = { λ t. record { kind = t.kind; ppm = t.ppm } };
+
+    ghost invariant = { λ t. IsInRange (record { kind = t.kind; ppm = t.ppm }) };
+}
+
+impl Toxic {
+    /// The toxic, or `None` exactly where an attribute is out of range or `ppm` is over a million.
+    pub fn new(kind: Kind, ppm: u64) -> Option<Toxic>
+        ensures { result ≡ made_toxic kind ppm }
+    {
+        if kind.fits() && ppm <= MILLION {
+            Some(Toxic { kind, ppm })
+        } else {
+            None
+        }
+    }
+
+    /// Its kind, with its attributes.
+    pub fn kind(&self) -> Kind
+        ensures kind { result ≡ self.now.kind }
+        ensures range { IsInRange self.now }
+    {
+        self.kind
+    }
+
+    /// How many of a million connections it applies to.
+    pub fn ppm(&self) -> u64
+        ensures { result ≡ self.now.ppm }
+    {
+        self.ppm
+    }
+}

@@ -1,0 +1,59 @@
+//! Random words by a key.
+ghost use Rattle.std.specs.Prelude.{◌≡◌, ◌<◌, ℕ, ◌+◌, ◌^◌};
+ghost use Rattle.toxic_defs.specs.RandomWords.{word_of, state, increment_of_key, stream_of, StandsAt};
+ghost use Rattle.toxic_defs.specs.declared.keys.Key.{Key as KeyOf};
+
+use crate::keys::Key;
+use rand_core::utils::NextWord;
+use rand_pcg::Lcg64Xsh32;
+
+/// Word `k` of a key, counted from 0: the same whatever else is drawn, and in whatever order.
+pub fn word(key: Key, k: u32) -> u32
+    ensures { result ≡ word_of key k }
+{
+    let mut words = generator(&key, u64::from(k));
+    words.next_word()
+}
+
+// The generator of a key that gives word `k` next.
+fn generator(key: &Key, k: u64) -> Lcg64Xsh32
+    ensures state { result.state ≡ state key.now.seed (increment_of_key key.now) k }
+    ensures increment { result.increment ≡ increment_of_key key.now }
+{
+    let mut words = Lcg64Xsh32::new(key.seed, stream(key));
+    words.advance(k);
+    words
+}
+
+// The stream of a key: scenario, connection, direction and toxic.
+fn stream(key: &Key) -> u64
+    ensures stream { result ≡ stream_of key.now }
+    ensures small { result < 2 ^ 63 }
+{
+    u64::from(key.s) * (1 << 30) + u64::from(key.c) * 16 + u64::from(key.d) * 8 + u64::from(key.t)
+}
+
+/// The words of a key in turn, from word 1 on: one step of the generator for each.
+#[derive(Drop)]
+pub(crate) struct Draws {
+    words: Lcg64Xsh32,
+}
+
+impl Draws {
+    /// Draws of which the first is word 1.
+    pub(crate) fn of(key: Key) -> Draws
+        ensures { StandsAt result key 1 }
+    {
+        Draws {
+            words: generator(&key, 1),
+        }
+    }
+
+    /// The next word.
+    pub(crate) fn next(&mut self) -> u32
+        ensures word { (key : KeyOf) (k : ℕ) → StandsAt self.old key k → result ≡ word_of key k }
+        ensures next { (key : KeyOf) (k : ℕ) → StandsAt self.old key k → StandsAt self.new key (k + 1) }
+    {
+        self.words.next_word()
+    }
+}

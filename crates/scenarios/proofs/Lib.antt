@@ -6,6 +6,7 @@ mod FirstProxies
 mod PassedSteps
 mod SoundToxics
 mod SoundScenarios
+mod ToxicsReadBack
 mod ReadBacks
 mod WorkedRows
 mod WorkedToxicRows

@@ -31,13 +31,13 @@ Fits read t = (length (direction t.stream read) < toxic_limit) × IsInRange t.to
 
 checked_fits : (read : ToxicsRead) (name : List ℕ) (stream : Stream) (type_is : ToxicType) (d : Data) (t : NamedToxic) → checked_toxic read name stream type_is d ≡ Ok t → Fits read t
 unfolding checked_toxic Fits
-checked_fits read name stream type_is d t is =
+checked_fits read name way type_is d t is =
     of_unless (is_name_taken read.names name) _ _ t is λ _ is₁.
     of_with (kind_in_range type_is d) _ _ t is₁ λ kind _ is₂.
     of_with (option_and_then (made_toxic kind) (ppm_of d)) _ _ t is₂ λ toxic toxic_is is₃.
-    of_unless (nat_le toxic_limit (length (direction stream read))) _ _ t is₃ λ few is₄.
+    of_unless (nat_le toxic_limit (length (direction way read))) _ _ t is₃ λ few is₄.
     let in_range : IsInRange toxic = of_chain (made_toxic kind) (ppm_of d) toxic toxic_is (λ ppm made. made_is_in_range kind ppm toxic made) in
-    rw (← same_ok _ _ is₄) (leb-false toxic_limit (length (direction stream read)) few, in_range)
+    rw (← same_ok _ _ is₄) (leb-false toxic_limit (length (direction way read)) few, in_range)
 
 toxic_fits : (read : ToxicsRead) (d : Data) (t : NamedToxic) → toxic_in read d ≡ Ok t → Fits read t
 unfolding toxic_in

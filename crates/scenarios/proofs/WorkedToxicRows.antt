@@ -29,7 +29,7 @@ names_refused = record { twice = refl; default = refl; across = refl }
 
 pub attributes_refused : AttributesRefused
 unfolding serde_json_on_literals is_utf8 chars accepted_proxy checked_proxy proxy_in proxies_from checked_toxic toxic_in toxics_from read_ipv4 read_octet read_number
-attributes_refused = record { past = refl; below = refl; half = refl; text = refl; minus_zero = refl; past_64_bits = refl; rate = refl; rate_null = refl; variation = refl }
+attributes_refused = record { past = refl; below = refl; half = refl; text = refl; minus_zero = refl; exponent = refl; past_64_bits = refl; rate = refl; rate_null = refl; variation = refl }
 
 pub toxicities_refused : ToxicitiesRefused
 unfolding serde_json_on_literals is_utf8 chars accepted_proxy checked_proxy proxy_in proxies_from checked_toxic toxic_in toxics_from read_ipv4 read_octet read_number

@@ -9,6 +9,7 @@ pub mod ToxicsInFiles
 pub mod Proxies
 pub mod SeenMembers
 pub mod Populate
+pub mod WrittenToxics
 pub mod ProxyLaws
 pub mod ScenarioRows
 pub mod ToxicFileRows

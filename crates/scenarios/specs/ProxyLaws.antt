@@ -12,6 +12,8 @@ use Rattle.toxic_defs.specs.Toxics.{RatedKind, IsInRange}
 use Rattle.scenarios.specs.Addresses.{address}
 use Rattle.scenarios.specs.Upstreams.{colon}
 use Rattle.scenarios.specs.ToxicsInFiles.{toxic_limit}
+use Rattle.scenarios.specs.WrittenToxics.{toxics_data}
+use Rattle.scenarios.specs.declared.toxic_types.Stream.TheVariants.{Upstream, Downstream}
 use Rattle.scenarios.specs.Proxies.{proxy_limit, has_name}
 use Rattle.scenarios.specs.Populate.{tree, scenario, met_number}
 use Rattle.scenarios.specs.declared.hosts.KnownHost.{KnownHost}
@@ -73,22 +75,28 @@ ScenariosAreSound =
 abbrev pub upstream_text : Peer → List ℕ
 upstream_text peer = ipv4_text (to_be_bytes w32 peer.addr) ++ colon ∷ decimal peer.port
 
+-- the toxics of a proxy: those of the way to the server, and then those of the way back, named by their numbers
+abbrev pub proxy_toxics_data : Proxy → List Data
+proxy_toxics_data p = toxics_data Upstream 0 p.up ++ toxics_data Downstream (length p.up) p.down
+
 -- a proxy, and proxies, as JSON
 abbrev pub proxy_data : Proxy → Data
 proxy_data p =
-    object (member (codes "enabled") (boolean p.enabled) (member (codes "name") (string p.name) (member (codes "upstream") (string (upstream_text p.upstream)) no_members)))
+    object
+    (member (codes "enabled") (boolean p.enabled)
+    (member (codes "name") (string p.name)
+    (member (codes "toxics") (array (items_of (proxy_toxics_data p)))
+    (member (codes "upstream") (string (upstream_text p.upstream)) no_members))))
 
 abbrev pub proxies_data : List Proxy → Data
 proxies_data proxies = array (items_of (map proxy_data proxies))
 
--- a sound proxy without toxics whose address is one
+-- a sound proxy whose address is one
 pub record IsProxy (p : Proxy) : Type 0 where
   pub sound : IsSound p
   pub addr : p.upstream.addr < 2 ^ 32
-  pub no_up : p.up ≡ []
-  pub no_down : p.down ≡ []
 
--- a text whose tree is that of proxies without toxics, each with a name of its own, is read as these proxies, whatever hosts are known
+-- a text whose tree is that of proxies, each with a name of its own, is read as these proxies, whatever hosts are known
 abbrev pub ProxiesAreReadBack : Type 0
 ProxiesAreReadBack =
     (hosts : List KnownHost) (text : List ℕ) (proxies : List Proxy)

@@ -88,20 +88,22 @@ pub record NamesRefused : Type 0 where
   pub default : read_toxics (codes "{\"type\":\"timeout\",\"name\":\"latency_downstream\"},{\"type\":\"latency\"}") ≡ Err (of_toxic 0 1 DuplicateToxic)
   pub across : read_toxics (named (codes "latency_downstream") [] ++ codes ",{\"type\":\"latency\"}") ≡ Err (of_toxic 0 1 DuplicateToxic)
 
--- a latency out of range, below 0, no whole number, and a text; no rate, and one that is null; a variation as great as the size
+-- a latency out of range, below 0, no whole number, and a text; numbers that the tree does not hold as whole ones; no rate, and
+-- one that is null; a variation as great as the size
 pub record AttributesRefused : Type 0 where
   pub past : read_toxics (latency (codes "1000000001")) ≡ Err (of_toxic 0 0 AttributeRange)
   pub below : read_toxics (latency (codes "-1")) ≡ Err (of_toxic 0 0 AttributeRange)
   pub half : read_toxics (latency (codes "1.5")) ≡ Err (of_toxic 0 0 AttributeRange)
   pub text : read_toxics (latency (codes "\"1\"")) ≡ Err (of_toxic 0 0 AttributeRange)
   pub minus_zero : read_toxics (latency (codes "-0")) ≡ Err (of_toxic 0 0 AttributeRange)
+  pub exponent : read_toxics (latency (codes "1e3")) ≡ Err (of_toxic 0 0 AttributeRange)
   pub past_64_bits : read_toxics (latency (codes "18446744073709551616")) ≡ Err (of_toxic 0 0 AttributeRange)
   pub rate : read_toxics (toxic_text (codes "bandwidth") [] []) ≡ Err (of_toxic 0 0 AttributeRange)
   pub rate_null : read_toxics (toxic_text (codes "bandwidth") [] (codes "\"rate\":null")) ≡ Err (of_toxic 0 0 AttributeRange)
   pub variation : read_toxics (toxic_text (codes "slicer") [] (codes "\"average_size\":5,\"size_variation\":5")) ≡ Err (of_toxic 0 0 AttributeRange)
 
--- a toxicity of 2, of a half, and of 1.0; parts over a million; a toxicity that is none beside parts that are; with an attribute
--- out of range, the attribute is told
+-- a toxicity of 2, of a half, and of 1.0; parts over a million; a toxicity of 2 beside parts in range; where an attribute is out
+-- of range too, the attribute is told
 pub record ToxicitiesRefused : Type 0 where
   pub two : read_toxics (toxicity (codes ",\"toxicity\":2")) ≡ Err (of_toxic 0 0 BadToxicity)
   pub half : read_toxics (toxicity (codes ",\"toxicity\":0.5")) ≡ Err (of_toxic 0 0 BadToxicity)

@@ -38,8 +38,8 @@ stream_of text =
 
 -- the name of a toxic that has none of its own
 abbrev pub default_name : ToxicType → Stream → List ℕ
-default_name type_is stream = type_name type_is ++ codes "_" ++ stream_name stream
+default_name type_is way = type_name type_is ++ codes "_" ++ stream_name way
 
 -- the name of a toxic: the text that stands in the file, unless it is empty
 abbrev pub name_of : List ℕ → ToxicType → Stream → List ℕ
-name_of text type_is stream = if bytes_eq text [] then default_name type_is stream else text
+name_of text type_is way = if bytes_eq text [] then default_name type_is way else text

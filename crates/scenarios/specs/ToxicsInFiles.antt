@@ -60,12 +60,12 @@ pub record NamedToxic : Type 0 where
 
 -- a toxic of a type, with its name, behind those that were read
 unfoldable pub checked_toxic : ToxicsRead → List ℕ → Stream → ToxicType → Data → Result NamedToxic Cause
-checked_toxic read name stream type_is d =
+checked_toxic read name way type_is d =
     unless (is_name_taken read.names name) DuplicateToxic
     (with (kind_in_range type_is d) AttributeRange (λ kind.
     with (option_and_then (made_toxic kind) (ppm_of d)) BadToxicity (λ toxic.
-    unless (nat_le toxic_limit (length (direction stream read))) TooMany
-    (Ok (record { name = name; stream = stream; toxic = toxic })))))
+    unless (nat_le toxic_limit (length (direction way read))) TooMany
+    (Ok (record { name = name; stream = way; toxic = toxic })))))
 
 -- one toxic, behind those that were read
 unfoldable pub toxic_in : ToxicsRead → Data → Result NamedToxic Cause

@@ -1,6 +1,7 @@
 //! The numbers of a toxic: its attributes, and how often it applies.
 ghost use Rattle.std.specs.Prelude.{◌≡◌};
 ghost use Rattle.serde_json.specs.View.{view};
+ghost use Rattle.scenarios.specs.declared.toxic_types.ToxicType.TheVariants.{Slicer};
 ghost use Rattle.scenarios.specs.ToxicAttributes.{attribute, kind_of, kind_in_range, ppm_of};
 
 use crate::members::{member, optional_whole};
@@ -16,6 +17,20 @@ fn attribute(toxic: &Value, name: &str) -> Option<u64>
         None => Some(0),
         Some(attributes) => optional_whole(attributes, name, 0),
     }
+}
+
+// The kind that the attributes of a slicer make, if each is a whole number.
+fn slicer(toxic: &Value) -> Option<Kind>
+    ensures { result ≡ kind_of Slicer (view toxic.now) }
+{
+    let average_size = attribute(toxic, "average_size")?;
+    let size_variation = attribute(toxic, "size_variation")?;
+    let delay = attribute(toxic, "delay")?;
+    Some(Kind::Slicer {
+        average_size,
+        size_variation,
+        delay,
+    })
 }
 
 // The kind that a type and its own attributes make, if each is a whole number.
@@ -44,16 +59,7 @@ fn kind_of(toxic_type: ToxicType, toxic: &Value) -> Option<Kind>
             let timeout = attribute(toxic, "timeout")?;
             Some(Kind::ResetPeer { timeout })
         }
-        ToxicType::Slicer => {
-            let average_size = attribute(toxic, "average_size")?;
-            let size_variation = attribute(toxic, "size_variation")?;
-            let delay = attribute(toxic, "delay")?;
-            Some(Kind::Slicer {
-                average_size,
-                size_variation,
-                delay,
-            })
-        }
+        ToxicType::Slicer => slicer(toxic),
         ToxicType::LimitData => {
             let bytes = attribute(toxic, "bytes")?;
             Some(Kind::LimitData { bytes })

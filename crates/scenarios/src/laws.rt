@@ -17,7 +17,7 @@ pub fn scenarios_are_sound()
     ensures { ScenariosAreSound }
 {}
 
-/// A list of at most 64 proxies without toxics, each with a name of its own, that is written as JSON is read as these proxies.
+/// A list of at most 64 proxies, each with a name of its own, that is written as JSON is read as these proxies.
 pub fn proxies_are_read_back()
     ensures { ProxiesAreReadBack }
 {}

@@ -68,7 +68,9 @@ fn names_of_both_directions(rt: HostRuntime) -> Result<(), Fail> {
     let across = format!(in alloc; "{named},{{\"type\":\"latency\"}}")?;
     assert!(rt; refuses(alloc, &across, Cause::DuplicateToxic, 1)?);
     let free = format!(in alloc; "{named},{{\"type\":\"latency\",\"name\":\"slow\"}}")?;
-    assert_eq!(rt; accepted(alloc, &free)?.proxies()[0].up.as_slice().len(), 1);
+    let scenario = accepted(alloc, &free)?;
+    let proxy = scenario.proxies().first().ok_or("a proxy")?;
+    assert_eq!(rt; proxy.up.as_slice().len(), 1);
     Ok(())
 }
 
@@ -152,8 +154,9 @@ fn nine_toxics(rt: HostRuntime) -> Result<(), Fail> {
     assert!(rt; refuses(alloc, &nine, Cause::TooMany, 8)?);
     let between = format!(in alloc; "{text},{{\"type\":\"timeout\"}}")?;
     let scenario = accepted(alloc, &between)?;
-    assert_eq!(rt; scenario.proxies()[0].up.as_slice().len(), 8);
-    assert_eq!(rt; scenario.proxies()[0].down.as_slice().len(), 1);
+    let proxy = scenario.proxies().first().ok_or("a proxy")?;
+    assert_eq!(rt; proxy.up.as_slice().len(), 8);
+    assert_eq!(rt; proxy.down.as_slice().len(), 1);
     let tenth = format!(in alloc; "{between},{ninth}")?;
     assert!(rt; refuses(alloc, &tenth, Cause::TooMany, 9)?);
     Ok(())
@@ -177,7 +180,8 @@ fn toxics_are_read(rt: HostRuntime) -> Result<(), Fail> {
             "\"latency\":null,\"jitter\":7,\"rate\":\"x\"",
         )?;
         let scenario = accepted(alloc, &text)?;
-        let toxic = scenario.proxies()[0].up.as_slice()[0];
+        let proxy = scenario.proxies().first().ok_or("a proxy")?;
+        let toxic = proxy.up.as_slice().first().ok_or("a toxic")?;
         assert!(rt;
             matches!(
                 toxic.kind(),
@@ -194,8 +198,9 @@ fn toxics_are_read(rt: HostRuntime) -> Result<(), Fail> {
         alloc,
         "{\"type\":\"limit_data\",\"attributes\":{\"bytes\":5}}",
     )?;
-    let limit = down.proxies()[0].down.as_slice()[0];
+    let proxy = down.proxies().first().ok_or("a proxy")?;
+    let limit = proxy.down.as_slice().first().ok_or("a toxic")?;
     assert!(rt; matches!(limit.kind(), Kind::LimitData { bytes: 5 }));
-    assert!(rt; down.proxies()[0].up.as_slice().is_empty());
+    assert!(rt; proxy.up.as_slice().is_empty());
     Ok(())
 }

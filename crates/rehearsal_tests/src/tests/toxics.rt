@@ -55,7 +55,7 @@ fn pieces_of(alloc: Global, capture: &[u8]) -> Result<Vec<(u64, u32)>, Fail> {
 
 // The acknowledgment number of the record that begins at a place of a file.
 fn acknowledged(capture: &[u8], at: usize) -> Option<&[u8]> {
-    capture.get(at + 16 + 42..at + 16 + 46)
+    capture.get(at..)?.get(58..62)
 }
 
 #[test]
@@ -325,8 +325,9 @@ fn other_connections_do_not_matter(rt: HostRuntime) -> Result<(), Fail> {
     Ok(())
 }
 
+// Whether a text has a part.
 fn contains(text: &[u8], part: &[u8]) -> bool {
-    text.windows(part.len()).any(|found| found == part)
+    text.windows(part.len().max(1)).any(|found| found == part)
 }
 
 // ---- calls

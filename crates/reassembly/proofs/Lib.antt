@@ -11,5 +11,6 @@ pub mod MappedLists
 pub mod RecordedSegments
 pub mod ConnectionJoin
 pub mod Chunks
+pub mod Between
 pub mod OfCapture
 pub mod LinesMade

@@ -47,3 +47,21 @@ abbrev pub RecordedSidesAreLines : Type 0
 RecordedSidesAreLines =
     (members : List TimedSegment) (sender : Peer) (base : Option ℕ) → InstantsRise 0 members → AllByRecursion HasShortPayload members
     → IsLine (recorded_side members sender base).line
+
+-- ---- between two instants
+
+-- a segment that was recorded between them
+abbrev pub IsBetween : ℕ → ℕ → TimedSegment → Type 0
+IsBetween opened limit m = (opened ≤ m.at) × (m.at ≤ limit)
+
+-- a line of which no byte is before the first or past the second, and no end before the first
+pub record LiesBetween (opened limit : ℕ) (l : Line) : Type 0 where
+  pub from : AllByRecursion (λ b. opened ≤ b.at) l.bytes
+  pub to : AllByRecursion (λ b. b.at ≤ limit) l.bytes
+  pub ends : IsNotBefore opened l.end
+
+-- so is the line of a side of segments that were
+abbrev pub RecordedSidesLieBetween : Type 0
+RecordedSidesLieBetween =
+    (members : List TimedSegment) (sender : Peer) (base : Option ℕ) (opened limit : ℕ) → AllByRecursion (IsBetween opened limit) members
+    → LiesBetween opened limit (recorded_side members sender base).line

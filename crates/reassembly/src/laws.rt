@@ -1,5 +1,5 @@
 //! Theorems about the definitions of this crate. Each function does nothing: its contract is the theorem.
-ghost use Rattle.reassembly.specs.LineLaws.{RecordedSidesAreLines};
+ghost use Rattle.reassembly.specs.LineLaws.{RecordedSidesAreLines, RecordedSidesLieBetween};
 ghost use Rattle.reassembly.specs.CaptureConnections.{ConnectionsAreOfCapture, ConnsAreOfCapture};
 
 /// The connections of the segments in a range of a capture's records, as the table lists them, are those of which `lines` tells
@@ -18,4 +18,10 @@ pub fn conns_are_of_capture()
 /// order of the file, and no payload is longer than a capture.
 pub fn recorded_sides_are_lines()
     ensures { RecordedSidesAreLines }
+{}
+
+/// A recorded line lies between two instants between which all of the connection's segments were recorded: no byte is before the
+/// first or past the second, and no end is before the first.
+pub fn recorded_sides_lie_between()
+    ensures { RecordedSidesLieBetween }
 {}

@@ -22,3 +22,4 @@ pub mod SliceLaws
 pub mod DelayingLaws
 pub mod ToxicLines
 pub mod CutDelays
+pub mod DeliveredDelays

@@ -16,3 +16,4 @@ pub mod EndingToxics
 pub mod Toxics
 pub mod ToxicRows
 pub mod ToxicLaws
+pub mod DeliveredLaws

@@ -1,5 +1,6 @@
 //! Theorems about toxics and the session cut. Each function does nothing: its contract is the theorem.
 ghost use Rattle.toxic_defs.specs.CutLaws.{CutLinesAreLines, FirstBytesStay, CutLinesEndInTime, CutEndsAreNotEarly};
+ghost use Rattle.toxic_defs.specs.DeliveredLaws.{DeliveredIsRecorded};
 ghost use Rattle.toxic_defs.specs.ToxicLaws.{ToxicsKeepLines, ChainsKeepLines, IdleChainsChangeNothing, RecordedLinesDelay, ToxicsDelay, ChainsDelay, CutLinesDelay, DelayedBytesAreTheFirst};
 
 /// What the session cut leaves of a line is a line: a chunk starts with the first byte, instants never fall, the bytes of a chunk
@@ -56,4 +57,11 @@ pub fn cut_lines_delay()
 /// The values of such a line are the first ones that were recorded.
 pub fn delayed_bytes_are_the_first()
     ensures { DelayedBytesAreTheFirst }
+{}
+
+/// What is delivered of a connection, in either direction and whatever proxy it meets: the first bytes that were recorded, none
+/// before it was recorded, and no end before the opening. The recorded lines are as those of captures are: no byte is before the opening
+/// or past the horizon.
+pub fn delivered_is_recorded()
+    ensures { DeliveredIsRecorded }
 {}

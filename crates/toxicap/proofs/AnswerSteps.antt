@@ -1,5 +1,5 @@
 -- What a text calls for, by what its parts answer.
-use Rattle.std.proofs.Common.{◌≡◌, ℕ, ◌<◌, ◌≤◌, ◌+◌, Bool, true, false, ◌==◌, nat_lt, [], ◌∷◌, ◌++◌, List, length, drop, map, count_by, Option, Some, None, IfSome, Result, Ok, Err, refl, sym, ap, ◌∙◌, IfErr, position, if◌then◌else◌, ◌%◌}
+use Rattle.std.proofs.Common.{◌≡◌, ℕ, ◌<◌, ◌≤◌, Bool, true, false, ◌==◌, nat_lt, [], List, length, count_by, Option, Some, None, IfSome, Result, Ok, Err, refl, IfErr, position, if◌then◌else◌, ◌%◌}
 use Rattle.std.proofs.lemmas.Bool.{lt-ltb, le-ltb}
 use Rattle.hex.specs.Hex.{is_hex_digit}
 use Rattle.pcap_records.specs.declared.fault.CaptureFault.{CaptureFault}

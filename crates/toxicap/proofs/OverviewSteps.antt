@@ -5,7 +5,7 @@ use Rattle.toxicap.specs.declared.faults.RunFault.{RunFault}
 use Rattle.toxicap.specs.declared.faults.RunFault.TheVariants.{CaptureTooLong, Memory, ReadFailed, WriteFailed}
 use Rattle.toxicap.specs.Answering.{called_for, AnswersBy}
 use Rattle.toxicap.specs.Prints.{reports_of}
-use Rattle.toxicap.specs.Overview.{bare_text, overview_text, EndsBy, failed_reads, failed_writes}
+use Rattle.toxicap.specs.Overview.{bare_text, overview_text, EndsBy, failed_writes}
 
 -- there was no answer
 pub no_report : (fault : RunFault) (text : List ℕ) (AtEnd : Type 0) (Wrote : List ℕ → Type 0) → AnswersBy (Err fault) (called_for [] (bare_text ∷ []) 0 text) text AtEnd

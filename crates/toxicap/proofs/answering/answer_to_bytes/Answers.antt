@@ -1,4 +1,3 @@
-use Rattle.std.proofs.Common.{length}
 use Rattle.toxicap.proofs.AnswerSteps.{rehearsed_of_text}
 use Rattle.toxicap.proofs.answering.answer_to_bytes.Goals as goal
 

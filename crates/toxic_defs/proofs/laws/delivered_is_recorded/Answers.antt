@@ -1,0 +1,5 @@
+use Rattle.toxic_defs.proofs.DeliveredDelays.{delivered_is_recorded}
+use Rattle.toxic_defs.proofs.laws.delivered_is_recorded.Goals as goal
+
+pub returns : goal.returns
+returns c = delivered_is_recorded

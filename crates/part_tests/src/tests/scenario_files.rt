@@ -123,8 +123,9 @@ fn hosts_are_added(rt: HostRuntime) -> Result<(), Fail> {
     assert!(rt; matches!(hosts.add("a", "10.0.0.9"), Err(HostFault::BadHost)));
     assert!(rt; matches!(hosts.add("b", "10.0.0.256"), Err(HostFault::BadHost)));
     assert!(rt; matches!(hosts.add("x y", "10.0.0.9"), Err(HostFault::BadHost)));
-    assert!(rt; hosts.add("localhost", "127.0.0.1").is_ok());
     let text = file(alloc, "localhost:6379", "")?;
+    assert!(rt; refuses(alloc, &text, Cause::UnknownHost, Some(0), None));
+    assert!(rt; hosts.add("localhost", "127.0.0.1").is_ok());
     let Ok(scenario) = read_scenario(alloc, text.as_bytes(), &hosts) else {
         return Err(AllocError.into());
     };
@@ -133,6 +134,11 @@ fn hosts_are_added(rt: HostRuntime) -> Result<(), Fail> {
         port: 6379,
     };
     assert_eq!(rt; scenario.proxy_of(server), Some(0));
+    let other = Peer {
+        port: 6380,
+        ..server
+    };
+    assert_eq!(rt; scenario.proxy_of(other), None);
     Ok(())
 }
 

@@ -8,7 +8,7 @@ use Rattle.scenarios.specs.declared.causes.Cause.TheVariants as causes
 use Rattle.toxicap.specs.declared.faults.RunFault.{RunFault}
 use Rattle.toxicap.specs.declared.faults.RunFault.TheVariants as of_run
 use Rattle.toxicap.specs.declared.fault_lines.FaultPlace.{FaultPlace}
-use Rattle.toxicap.specs.declared.fault_lines.FaultPlace.TheVariants.{Nowhere, At, In}
+use Rattle.toxicap.specs.declared.fault_lines.FaultPlace.TheVariants.{Nowhere, At, Host, After, In}
 
 -- a fault of a capture as a fault of a run
 abbrev pub run_fault : CaptureFault → RunFault
@@ -62,8 +62,10 @@ fault_entry of_run.CaptureTooLong = entry 6 (codes "CaptureTooLong") Nowhere
 fault_entry (of_run.BadScenario number refusal) =
     entry (cause_entry refusal.cause).0 (cause_entry refusal.cause).1 (In number refusal.proxy refusal.toxic)
 fault_entry of_run.TooManyScenarios = entry 22 (codes "TooManyScenarios") Nowhere
+fault_entry (of_run.BadHost at) = entry 23 (codes "BadHost") (Host at)
 fault_entry of_run.Memory = entry 40 (codes "Memory") Nowhere
 fault_entry (of_run.BadDump at) = entry 55 (codes "BadDump") (At at)
+fault_entry (of_run.ShelfFailed after) = entry 60 (codes "ShelfFailed") (After after)
 fault_entry of_run.ReadFailed = entry 61 (codes "ReadFailed") Nowhere
 fault_entry of_run.WriteFailed = entry 62 (codes "WriteFailed") Nowhere
 
@@ -75,6 +77,8 @@ known_text name (Some n) = name ++ decimal n
 abbrev pub place_text : FaultPlace → List ℕ
 place_text Nowhere = []
 place_text (At n) = codes " at " ++ decimal n
+place_text (Host n) = codes " host " ++ decimal n
+place_text (After n) = codes " after " ++ decimal n
 place_text (In scenario proxy toxic) =
     (known_text (codes " scenario ") (Some scenario) ++ known_text (codes " proxy ") proxy) ++ known_text (codes " toxic ") toxic
 

@@ -15,6 +15,10 @@ pub(crate) enum FaultPlace {
     Nowhere,
     /// At the record or the byte of this number, from 0.
     At(u64),
+    /// At the host of this number, from 0.
+    Host(u64),
+    /// After so many files that were stored whole.
+    After(u64),
     /// In the scenario of this number, and in its proxy and the proxy's toxic where it is of one.
     In {
         scenario: usize,
@@ -77,7 +81,7 @@ fn entry_of(fault: &RunFault) -> FaultEntry
     ensures name { result.name.now ≡ (fault_entry fault.now).name }
     ensures place { result.place ≡ (fault_entry fault.now).place }
 {
-    use FaultPlace::{At, Nowhere};
+    use FaultPlace::{After, At, Host, Nowhere};
     let (number, name, place) = match fault {
         RunFault::BadScenario { number, refusal } => return entry_of_refusal(*number, refusal),
         RunFault::ShortHeader => (1, "ShortHeader", Nowhere),
@@ -87,8 +91,10 @@ fn entry_of(fault: &RunFault) -> FaultEntry
         RunFault::RecordTooLong { at } => (5, "RecordTooLong", At(u64::from(*at))),
         RunFault::CaptureTooLong => (6, "CaptureTooLong", Nowhere),
         RunFault::TooManyScenarios => (22, "TooManyScenarios", Nowhere),
+        RunFault::BadHost { at } => (23, "BadHost", Host(*at as u64)),
         RunFault::Memory => (40, "Memory", Nowhere),
         RunFault::BadDump { at } => (55, "BadDump", At(*at as u64)),
+        RunFault::ShelfFailed { after } => (60, "ShelfFailed", After(*after)),
         RunFault::ReadFailed => (61, "ReadFailed", Nowhere),
         RunFault::WriteFailed => (62, "WriteFailed", Nowhere),
     };
@@ -116,6 +122,8 @@ fn push_place(line: &mut String, place: &FaultPlace) -> Result<(), AllocError>
     match place {
         FaultPlace::Nowhere => {}
         FaultPlace::At(at) => write!(line, " at {at}")?,
+        FaultPlace::Host(at) => write!(line, " host {at}")?,
+        FaultPlace::After(files) => write!(line, " after {files}")?,
         FaultPlace::In {
             scenario,
             proxy,

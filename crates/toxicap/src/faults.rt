@@ -27,6 +27,9 @@ pub enum RunFault {
     /// The text of the scenario with this number, from 0, is refused.
     #[error("scenario {number}: {refusal}")]
     BadScenario { number: usize, refusal: Refusal },
+    /// The host with this number among those of the command line, from 0, is refused.
+    #[error("host {at} is refused")]
+    BadHost { at: usize },
     /// More than 256 scenarios were given.
     #[error("there are more than 256 scenarios")]
     TooManyScenarios,
@@ -39,6 +42,9 @@ pub enum RunFault {
     /// The dump is broken at this byte, from 0, or at its end.
     #[error("the dump is broken at byte {at}")]
     BadDump { at: usize },
+    /// The shelf failed after it had taken so many files whole.
+    #[error("a file cannot be stored, after {after} that were")]
+    ShelfFailed { after: u64 },
     /// A read failed.
     #[error("a read failed")]
     ReadFailed,

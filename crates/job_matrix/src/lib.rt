@@ -2,12 +2,16 @@
 //! order, and `work_all`, whose answer is that of one worker.
 #![tactic(auto)]
 
+mod boards;
 mod gates;
 mod plans;
+mod rules;
+mod seat_views;
 mod trays;
 mod values;
 mod works;
 
+pub use boards::{Board, Chief, Pass, SplitFault};
 pub use gates::{Gate, Phase, Through};
 pub use plans::Plan;
 pub use trays::{PutFault, Tray};

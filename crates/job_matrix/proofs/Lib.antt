@@ -1,3 +1,5 @@
 pub mod TrayLemmas
 pub mod Sums
 pub mod RuleKept
+pub mod FilledTrays
+pub mod Claimed

@@ -3,3 +3,4 @@ pub mod TrayPlaces
 pub mod Counting
 pub mod BoardViews
 pub mod BoardRule
+pub mod Filling

@@ -3,3 +3,4 @@ pub mod Sums
 pub mod RuleKept
 pub mod FilledTrays
 pub mod Claimed
+pub mod WorldKept

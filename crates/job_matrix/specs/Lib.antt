@@ -4,3 +4,4 @@ pub mod Counting
 pub mod BoardViews
 pub mod BoardRule
 pub mod Filling
+pub mod BoardWorld

@@ -4,6 +4,7 @@
 
 mod boards;
 mod gates;
+pub mod laws;
 mod plans;
 mod rules;
 mod seat_views;

@@ -4,3 +4,4 @@ pub mod RuleKept
 pub mod FilledTrays
 pub mod Claimed
 pub mod WorldKept
+pub mod Reordered

@@ -1,8 +1,9 @@
 -- The world of a board, without threads: workers who claim numbers below n, do the jobs of these numbers, and leave, in whatever order
 -- these events come.
-use Rattle.std.specs.Prelude.{◌≡◌, ◌≤◌, ◌+◌, ℕ, Bool, true, false, List, [], ◌∷◌, ◌++◌, Option, Some, None, map, replicate, nat_lt, slice_get, slice_set, if◌then◌else◌}
+use Rattle.std.specs.Prelude.{◌≡◌, ◌≤◌, ◌+◌, ℕ, Bool, true, false, List, [], ◌∷◌, ◌++◌, Option, Some, None, map, replicate, nat_lt, IsPermutation, slice_get, slice_set, if◌then◌else◌}
+use Rattle.std.specs.List.{range_with_len}
 use Rattle.job_matrix.specs.Counting.{times, total, CountsBelow}
-use Rattle.job_matrix.specs.Filling.{jobs_in, AreRight}
+use Rattle.job_matrix.specs.Filling.{jobs_in, AreRight, put_each}
 
 -- the number that a worker holds, whether it was told that no number is left, and whether it left
 pub record Worker : Type 0 where
@@ -91,3 +92,11 @@ AllDone V =
     → (let s = run meaning n (start workers) events in
       s.next ≡ n → ((w : ℕ) (it : Worker) → slice_get s.workers w ≡ Some it → it.holds ≡ None) → s.lost ≡ []
         → CountsBelow n (λ x. times x (jobs_in s.done)) × AreRight meaning s.done)
+
+-- then a tray into which the values are put, in whatever order, has them in order of the jobs
+abbrev pub TrayIsFilled : Type 0 → Type 0
+TrayIsFilled V =
+    (meaning : ℕ → V) (n workers : ℕ) (events : List Event) (order : List (ℕ × V))
+    → (let s = run meaning n (start workers) events in
+      s.next ≡ n → ((w : ℕ) (it : Worker) → slice_get s.workers w ≡ Some it → it.holds ≡ None) → s.lost ≡ []
+        → IsPermutation s.done order → put_each (replicate n None) order ≡ map Some (map meaning (range_with_len 0 n)))

@@ -35,14 +35,10 @@ fn merged_keys(alloc: Global, lists: &[SegList]) -> Result<Vec<ListedKey>, Alloc
     ensures sorted { IfOk result (λ keys. IsSorted listed_key_cmp keys.items) }
 {
     sorted_never_falls();
-    lists
-        .iter()
-        .enumerate()
-        .map(|(list, segments)| ListedKeys {
-            segments: segments.as_slice(),
-            list,
-            index: 0,
-        })
-        .kmerge(alloc)?
-        .collect(alloc)
+    let sources = lists.iter().enumerate().map(|(list, segments)| ListedKeys {
+        segments: segments.as_slice(),
+        list,
+        index: 0,
+    });
+    sources.kmerge(alloc)?.collect(alloc)
 }

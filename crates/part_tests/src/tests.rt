@@ -2,6 +2,7 @@
 mod boards;
 mod captures;
 mod frames;
+mod merging;
 mod scenario_files;
 mod tables;
 mod toxic_files;

@@ -14,3 +14,4 @@ pub mod KeyTimes
 pub mod KeysApart
 pub mod Evaluated
 mod KeySorts
+mod AnyOrder

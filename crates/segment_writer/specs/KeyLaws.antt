@@ -37,6 +37,14 @@ OneOrder = (xs ys : List Framed) → HasNoKeyTwice xs → IsPermutation xs ys �
 abbrev pub SortedNeverFalls : Type 0
 SortedNeverFalls = (xs : List Framed) → NeverFalls (sorted_by_key xs)
 
+-- what is put in order is all that there was
+abbrev pub SortedKeepsAll : Type 0
+SortedKeepsAll = (xs : List Framed) → IsPermutation xs (sorted_by_key xs)
+
+-- whether a key stands twice does not hang on the order of the segments
+abbrev pub OnceInAnyOrder : Type 0
+OnceInAnyOrder = (xs ys : List Framed) → IsPermutation xs ys → HasNoKeyTwice xs → HasNoKeyTwice ys
+
 -- the keys of what is written of a connection rise, whatever its lines are
 abbrev pub KeysRise : Type 0
 KeysRise = (ticks : ℕ) (c : WrittenConnection) → AreRising (written_segments ticks c)

@@ -1,6 +1,6 @@
 //! Theorems about the definitions of this crate. Each function does nothing: its contract is the theorem.
 ghost use Rattle.segment_writer.specs.FirstPieces.{FirstPiece};
-ghost use Rattle.segment_writer.specs.KeyLaws.{KeysRise, KeysStandOnce, OneOrder, SortedNeverFalls};
+ghost use Rattle.segment_writer.specs.KeyLaws.{KeysRise, KeysStandOnce, OnceInAnyOrder, OneOrder, SortedKeepsAll, SortedNeverFalls};
 ghost use Rattle.segment_writer.specs.KeyOrder.{PartsAreSortedFirst, RisingIsSorted};
 ghost use Rattle.segment_writer.specs.TimelyLines.{LinesAreTimely};
 
@@ -43,4 +43,14 @@ pub fn keys_stand_once()
 /// Of segments in order of key none has a key below one before it.
 pub fn sorted_never_falls()
     ensures { SortedNeverFalls }
+{}
+
+/// Segments that are put in order are all of those that there were, none twice.
+pub fn sorted_keeps_all()
+    ensures { SortedKeepsAll }
+{}
+
+/// Where no key stands twice, none does in another order of the segments.
+pub fn once_in_any_order()
+    ensures { OnceInAnyOrder }
 {}

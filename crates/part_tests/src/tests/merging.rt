@@ -1,0 +1,231 @@
+//! Merging the lists of a capture's connections: whatever their order, one capture, in order of key.
+ghost use Rattle.std.specs.Prelude.{◌≡◌, All, IfOk, length};
+ghost use Rattle.conn_table.specs.Tables.{table_in};
+ghost use Rattle.segment_writer.specs.KeyLaws.{HasNoKeyTwice};
+ghost use Rattle.segment_writer.specs.WrittenSegments.{sorted_by_key};
+ghost use Rattle.time_merge.specs.MergedCapture.{all_segments};
+
+use conn_table::laws::tables_agree;
+use conn_table::{Partial, Table, finish};
+use pcap_records::{Capture, Moment, read_capture};
+use reassembly::laws::conns_are_of_capture;
+use reassembly::lines;
+use segment_writer::laws::{keys_rise, keys_stand_once, once_in_any_order, rising_is_sorted};
+use segment_writer::{SegList, segments};
+use std::alloc::{AllocError, Global};
+use std::process::Abort;
+use std::test::Fail;
+use time_merge::merge;
+use toxic_defs::delivered_by;
+use worked_sessions::sessions::{
+    ACK, CLIENT, PSH, RecordedSegment, SECOND_CLIENT, SERVER, SYN, file, header, segment, session,
+};
+use worked_sessions::written_frames::{
+    ACKNOWLEDGED, CLIENT_ENDS, DATA, OPENING, OPENING_ANSWERED, SERVER_ENDS,
+};
+
+fn whole(alloc: Global, capture: &Capture<'_>) -> Result<Table, AllocError>
+    ensures { IfOk result (λ table. table ≡ table_in capture.now 0 (length capture.now.records) 0) }
+{
+    tables_agree();
+    let count = capture.records().len();
+    let records = Partial::of_range(alloc, capture, 0, count, Moment::of(0))?;
+    finish(alloc, records)
+}
+
+// What is written of each connection of a capture.
+fn written(
+    rt: &impl Abort,
+    alloc: Global,
+    capture: &Capture<'_>,
+) -> Result<Vec<SegList>, AllocError>
+    ensures sorted { IfOk result (λ lists. All (λ list. sorted_by_key list ≡ list) lists.items) }
+    ensures once { IfOk result (λ lists. HasNoKeyTwice (all_segments lists.items)) }
+{
+    conns_are_of_capture();
+    keys_rise();
+    rising_is_sorted();
+    keys_stand_once();
+    let table = whole(alloc, capture)?;
+    let mut lists = Vec::new(alloc);
+    for (number, conn) in table.conns().iter().enumerate() {
+        assert_eq!(rt; conn.number as usize, number);
+        let recorded = lines(alloc, conn, capture)?;
+        let delivered = delivered_by(alloc, &recorded, None, 0, 0, conn.number)?;
+        lists.push(segments(alloc, conn, &recorded, &delivered)?)?;
+    }
+    Ok(lists)
+}
+
+// The same lists, the last one first.
+fn backwards(mut lists: Vec<SegList>) -> Vec<SegList>
+    requires sorted { All (λ list. sorted_by_key list ≡ list) lists.items }
+    requires once { HasNoKeyTwice (all_segments lists.items) }
+    ensures sorted { All (λ list. sorted_by_key list ≡ list) result.items }
+    ensures once { HasNoKeyTwice (all_segments result.items) }
+{
+    once_in_any_order();
+    lists.reverse();
+    lists
+}
+
+// The same lists, and three empty ones: one before them and two behind.
+#[tactic(auto, unfolding(segment_writer::specs::WrittenSegments::sorted_by_key))]
+fn among_empty_ones(alloc: Global, mut lists: Vec<SegList>) -> Result<Vec<SegList>, AllocError>
+    requires sorted { All (λ list. sorted_by_key list ≡ list) lists.items }
+    requires once { HasNoKeyTwice (all_segments lists.items) }
+    ensures sorted { IfOk result (λ all. All (λ list. sorted_by_key list ≡ list) all.items) }
+    ensures once { IfOk result (λ all. HasNoKeyTwice (all_segments all.items)) }
+{
+    let mut all = Vec::new(alloc);
+    all.push(SegList::empty(alloc))?;
+    all.append(&mut lists)?;
+    all.push(SegList::empty(alloc))?;
+    all.push(SegList::empty(alloc))?;
+    Ok(all)
+}
+
+fn captured(alloc: Global, lists: Vec<SegList>) -> Result<Vec<u8>, AllocError>
+    requires sorted { All (λ list. sorted_by_key list ≡ list) lists.items }
+    requires once { HasNoKeyTwice (all_segments lists.items) }
+{
+    merge(alloc, lists)?.capture(alloc)
+}
+
+// The capture of what is written of these recorded segments: the same whichever list comes first, and among empty lists.
+fn merged(
+    rt: &impl Abort,
+    alloc: Global,
+    segments: &[RecordedSegment<'_>],
+) -> Result<Vec<u8>, Fail> {
+    let bytes = file(alloc, true, segments)?;
+    let capture = read_capture(alloc, &bytes)?;
+    let in_turn = captured(alloc, written(rt, alloc, &capture)?)?;
+    let turned = captured(alloc, backwards(written(rt, alloc, &capture)?))?;
+    assert_eq!(rt; turned.as_slice(), in_turn.as_slice());
+    let spaced = captured(
+        alloc,
+        among_empty_ones(alloc, written(rt, alloc, &capture)?)?,
+    )?;
+    assert_eq!(rt; spaced.as_slice(), in_turn.as_slice());
+    Ok(in_turn)
+}
+
+// Of each frame of a capture: its stamp, the last byte of its sender's address, its flags and the length of its payload.
+fn frames(alloc: Global, bytes: &[u8]) -> Result<Vec<(u64, u8, u8, usize)>, Fail> {
+    let capture = read_capture(alloc, bytes)?;
+    let mut frames = Vec::new(alloc);
+    for (place, record) in capture.records().iter().enumerate() {
+        let packet = capture.packet(place);
+        let sender = packet.get(29).ok_or("no sender")?;
+        let flags = packet.get(47).ok_or("no flags")?;
+        frames.push((
+            record.stamp.count(),
+            *sender,
+            *flags,
+            packet.len().saturating_sub(54),
+        ))?;
+    }
+    Ok(frames)
+}
+
+// Appends the record of a written frame.
+fn put_written(out: &mut Vec<u8>, stamp: (u32, u32), frame: &[u8]) -> Result<(), AllocError> {
+    let len = frame.len().min(1514) as u32;
+    for number in [stamp.0, stamp.1, len, len] {
+        out.extend_from_slice(&number.to_le_bytes())?;
+    }
+    out.extend_from_slice(frame)
+}
+
+#[test]
+fn nothing_to_merge(rt: HostRuntime) -> Result<(), Fail> {
+    let stated = [
+        0xd4, 0xc3, 0xb2, 0xa1, 2, 0, 4, 0, 0, 0, 0, 0, 0, 0, 0, 0, 0xff, 0xff, 0, 0, 1, 0, 0, 0,
+    ];
+    let none = captured(rt.alloc(), Vec::new(rt.alloc()))?;
+    assert_eq!(rt; none.as_slice(), stated.as_slice());
+    let three = among_empty_ones(rt.alloc(), Vec::new(rt.alloc()))?;
+    let of_empty_ones = captured(rt.alloc(), three)?;
+    assert_eq!(rt; of_empty_ones.as_slice(), stated.as_slice());
+    Ok(())
+}
+
+#[test]
+fn the_plain_session(rt: HostRuntime) -> Result<(), Fail> {
+    let mut wanted = header(rt.alloc(), true)?;
+    put_written(&mut wanted, (1, 0), &OPENING)?;
+    put_written(&mut wanted, (1, 0), &OPENING_ANSWERED)?;
+    put_written(&mut wanted, (1, 0), &ACKNOWLEDGED)?;
+    put_written(&mut wanted, (1, 1000), &DATA)?;
+    put_written(&mut wanted, (1, 2000), &CLIENT_ENDS)?;
+    put_written(&mut wanted, (1, 3000), &SERVER_ENDS)?;
+    assert_eq!(rt; wanted.len(), 449);
+    let written = merged(&rt, rt.alloc(), &session())?;
+    assert_eq!(rt; written.as_slice(), wanted.as_slice());
+    Ok(())
+}
+
+// The second connection is recorded earlier than the first, but stands behind it in the file: all is at one instant.
+#[test]
+fn connections_in_order_of_number(rt: HostRuntime) -> Result<(), Fail> {
+    let data = segment(
+        (4, 500_000),
+        SECOND_CLIENT,
+        SERVER,
+        PSH + ACK,
+        (2001, 1),
+        b"q",
+    );
+    let segments = [
+        segment((5, 0), CLIENT, SERVER, SYN, (1000, 0), b""),
+        segment((4, 0), SECOND_CLIENT, SERVER, SYN, (2000, 0), b""),
+        data,
+    ];
+    let bytes = merged(&rt, rt.alloc(), &segments)?;
+    assert_eq!(rt; bytes.len(), 515);
+    let at = 5_000_000;
+    let wanted = [
+        (at, 1, SYN, 0),
+        (at, 2, SYN + ACK, 0),
+        (at, 1, ACK, 0),
+        (at, 3, SYN, 0),
+        (at, 2, SYN + ACK, 0),
+        (at, 3, ACK, 0),
+        (at, 3, PSH + ACK, 1),
+    ];
+    assert_eq!(rt; frames(rt.alloc(), &bytes)?.as_slice(), wanted.as_slice());
+    Ok(())
+}
+
+// At one instant the client's line comes before the server's, and the pieces of a chunk in turn.
+#[test]
+fn turns_and_places_at_one_instant(rt: HostRuntime) -> Result<(), Fail> {
+    let chunk = vec![in rt.alloc(); 7u8; 1461]?;
+    let segments = [
+        segment((1, 0), CLIENT, SERVER, SYN, (1000, 0), b""),
+        segment((1, 0), SERVER, CLIENT, SYN + ACK, (5000, 1001), b""),
+        segment((1, 0), SECOND_CLIENT, SERVER, SYN, (2000, 0), b""),
+        segment((1, 0), SERVER, CLIENT, PSH + ACK, (5001, 1001), b"bc"),
+        segment((1, 0), CLIENT, SERVER, PSH + ACK, (1001, 5001), &chunk),
+        segment((2, 0), SECOND_CLIENT, SERVER, PSH + ACK, (2001, 1), b"d"),
+        segment((2, 0), SERVER, CLIENT, PSH + ACK, (5003, 2462), b"e"),
+    ];
+    let bytes = merged(&rt, rt.alloc(), &segments)?;
+    let (first, second) = (1_000_000, 2_000_000);
+    let wanted = [
+        (first, 1, SYN, 0),
+        (first, 2, SYN + ACK, 0),
+        (first, 1, ACK, 0),
+        (first, 1, ACK, 1460),
+        (first, 1, PSH + ACK, 1),
+        (first, 2, PSH + ACK, 2),
+        (first, 3, SYN, 0),
+        (first, 2, SYN + ACK, 0),
+        (first, 3, ACK, 0),
+        (second, 2, PSH + ACK, 1),
+        (second, 3, PSH + ACK, 1),
+    ];
+    assert_eq!(rt; frames(rt.alloc(), &bytes)?.as_slice(), wanted.as_slice());
+    Ok(())
+}

@@ -1,0 +1,5 @@
+use Rattle.segment_writer.proofs.AnyOrder.{once_in_any_order}
+use Rattle.segment_writer.proofs.laws.once_in_any_order.Goals as goal
+
+pub returns : goal.returns
+returns c = once_in_any_order

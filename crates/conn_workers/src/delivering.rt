@@ -17,11 +17,11 @@ use scenarios::Scenario;
 use std::alloc::{AllocError, Global};
 use std::thread::Threads;
 
-/// What each connection of a capture contributes to each scenario. First the recorded lines of each connection are made, in phase
-/// `Lines` with one job for each, and then, in phase `Jobs`, of C connections, job s * C + c makes the delivery of connection c in scenario s. The
-/// answer is the same whatever the plan and the gate.
+/// What each connection of a capture contributes to each scenario, scenario by scenario. Workers first make the recorded lines, in
+/// phase `Lines` with one job for each connection, and then the deliveries, in phase `Jobs`: of C connections, job s * C + c makes that
+/// of connection c under scenario s. The answer is the same whatever the plan and the gate.
 ///
-/// The table is that of all records of the capture, and there are at most 256 scenarios.
+/// The table is that of all records of the capture, however it was made, and there are at most 256 scenarios.
 ///
 /// # Errors
 /// A growth was refused.
@@ -43,6 +43,7 @@ pub fn deliver<R: Threads + Sync, G: Gate>(
     let workers = plan.workers() as u64;
     let conns = table.conns();
     let records = capture.records();
+    // each connection begins at a record of its own
     prove!(conns.len() <= records.len());
     let count = conns.len() as u64;
     let line_jobs = LineJobs {

@@ -1,4 +1,4 @@
-//! The work whose jobs are connections: what is recorded of each.
+//! The first work of a delivery: what is recorded of each connection.
 ghost use Rattle.std.specs.Prelude.{◌≡◌};
 ghost use Rattle.conn_workers.specs.CaptureTables.{whole_table};
 
@@ -10,10 +10,12 @@ use reassembly::{Recorded, lines};
 use std::alloc::{AllocError, Global};
 use std::marker::Model;
 
-/// A connection of a table, and what is recorded of it.
+/// A connection of a table, with what is recorded of it.
 #[derive(Drop)]
 pub(crate) struct Recording<'w, 'a> {
+    /// What the table shows of the connection.
     pub(crate) conn: &'w Conn,
+    /// What its two sides sent.
     pub(crate) recorded: Recorded<'a>,
 }
 
@@ -28,11 +30,14 @@ impl<'w, 'a> Model for Recording<'w, 'a> {
     ghost invariant = { λ r. HasLines r.recorded };
 }
 
-/// The connections of a capture's table, of which job c is that of number c.
+/// The connections of a capture's table: job c makes the recorded lines of connection c.
 #[derive(Drop)]
 pub(crate) struct LineJobs<'w, 'a> {
+    /// Where lines are kept.
     pub(crate) alloc: Global,
+    /// The capture.
     pub(crate) capture: &'w Capture<'a>,
+    /// The connections of its table.
     pub(crate) conns: &'w [Conn],
     ghost shown: { conns.now ≡ (whole_table capture.now).conns },
 }

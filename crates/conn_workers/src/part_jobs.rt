@@ -1,4 +1,4 @@
-//! The work whose jobs are connections under scenarios: what each contributes.
+//! The second work of a delivery: what each connection contributes to each scenario.
 ghost use Rattle.std.specs.Prelude.{◌≡◌, ◌≤◌, length, IfOk};
 ghost use Rattle.pcap_records.specs.Instants.{microseconds};
 ghost use Rattle.conn_workers.specs.RecordedDeliveries.{recorded_delivery};
@@ -13,12 +13,16 @@ use segment_writer::segments;
 use std::alloc::{AllocError, Global};
 use toxic_defs::delivered_by;
 
-/// Connections with what is recorded of them, under scenarios: of C connections, job s * C + c is that of number c under scenario s.
+/// Recordings of connections, and scenarios: of C connections, job s * C + c makes what connection c contributes to scenario s.
 #[derive(Drop)]
 pub(crate) struct PartJobs<'w, 'v, 'a> {
+    /// Where deliveries are kept.
     pub(crate) alloc: Global,
+    /// The connections with what is recorded of them.
     pub(crate) recordings: &'w [Recording<'v, 'a>],
+    /// The scenarios.
     pub(crate) scenarios: &'w [Scenario],
+    /// The seed of the random words.
     pub(crate) seed: u64,
     ghost few: { length scenarios.now ≤ 256 },
 }

@@ -1,0 +1,102 @@
+-- Ranges that follow one another, and the join of their partials.
+use Rattle.std.proofs.Common.{◌≡◌, ◌<◌, ◌≤◌, ℕ, ◌+◌, ◌-◌, max, List, [], ◌∷◌, ◌++◌, map, length, get_or, take, drop, refl, sym, ap, ◌∙◌, subst, arith}
+use Rattle.std.specs.List.{range_with_len}
+use Rattle.std.proofs.Math.Seq.{take-add}
+use Rattle.std.proofs.lemmas.List.{map-append, append_assoc, length-map}
+use Rattle.std.proofs.lemmas.List.Elements.{All-nil, All-cons}
+use Rattle.std.proofs.lemmas.List.FromFn.{fill_by_all}
+use Rattle.pcap_records.specs.Instants.{greatest}
+use Rattle.pcap_records.specs.Reading.{Packet}
+use Rattle.pcap_records.specs.CaptureView.{CaptureView, contents_of, stamps_between}
+use Rattle.conn_table.specs.Partials.{partial_in, carried, JoinsAgree}
+use Rattle.range_workers.specs.declared.ranges.Range.{Range}
+use Rattle.range_workers.specs.Ranges.{range_in, AreRanges, IsWithin, AreWithin}
+use Rattle.range_workers.specs.RangePartials.{partial_of, partials_of, no_partial, AreAdjacentFrom, AreAdjacent, joined_to, joined_all}
+
+-- the elements at all places are the list
+listed : {V : Type 0} (xs : List V) (n : ℕ) (d : V) → length xs ≡ n → map (λ j. get_or xs j d) (range_with_len 0 n) ≡ xs
+listed xs n d len = sym (fill_by_all (λ j. get_or xs j d) xs n d len (λ k below. refl))
+
+-- the meanings of the jobs are the partials of the ranges
+pub all_partials : (c : CaptureView) (n : ℕ) (lent ranges : List Range) → lent ≡ ranges → length lent ≡ n
+    → map (λ j. get_or (partials_of c lent) j no_partial) (range_with_len 0 n) ≡ partials_of c ranges
+all_partials c n lent ranges is len =
+    listed (partials_of c lent) n no_partial (length-map lent (partial_of c) ∙ len) ∙ ap (partials_of c) is
+
+-- ---- ranges
+
+-- one range more before others
+range_before : (c : CaptureView) (cut from : ℕ) (r : Range) (rs : List Range)
+    → r ≡ range_in c from (from + cut) → from + cut < length c.records → AreRanges c cut (from + cut) rs → AreRanges c cut from (r ∷ rs)
+range_before c cut from r [] is within none = absurd none
+range_before c cut from r (s ∷ rs) is within rest = (is, within, rest)
+
+-- Where ranges stand that any ranges from a record on complete, one more stands and any from the record behind it complete them.
+pub one_more : (c : CaptureView) (cut from to : ℕ) (rs more : List Range) (r : Range)
+    → ((rest : List Range) → AreRanges c cut from rest → AreRanges c cut 0 (rs ++ rest))
+    → r ≡ range_in c from to → to ≡ from + cut → to < length c.records → more ≡ rs ++ r ∷ []
+    → (rest : List Range) → AreRanges c cut to rest → AreRanges c cut 0 (more ++ rest)
+one_more c cut from to rs more r stand is at within all rest behind =
+    let e : more ++ rest ≡ rs ++ r ∷ rest = rw all (append_assoc rs (r ∷ []) rest) in
+    subst (AreRanges c cut 0) (sym e)
+    (stand (r ∷ rest) (range_before c cut from r rest (is ∙ ap (range_in c from) at) (omega (arith, at, within)) (subst (λ n. AreRanges c cut n rest) at behind)))
+
+-- the last of them
+pub last_more : (c : CaptureView) (cut from to : ℕ) (rs more : List Range) (r : Range)
+    → ((rest : List Range) → AreRanges c cut from rest → AreRanges c cut 0 (rs ++ rest))
+    → r ≡ range_in c from to → to ≡ length c.records → from ≤ to → to ≤ from + cut → more ≡ rs ++ r ∷ []
+    → AreRanges c cut 0 more
+last_more c cut from to rs more r stand is at start end all =
+    subst (AreRanges c cut 0) (sym all) (stand (r ∷ []) (is ∙ ap (range_in c from) at, omega (arith, at, start), omega (arith, at, end)))
+
+-- each range is within the records
+pub are_within : (c : CaptureView) (cut from : ℕ) (rs : List Range) → AreRanges c cut from rs → AreWithin c rs
+are_within c cut from [] none = absurd none
+are_within c cut from (r ∷ []) (is, start, end) = All-cons (IsWithin c) r [] (rw is (start, omega arith)) (All-nil (IsWithin c))
+are_within c cut from (r ∷ s ∷ rs) (is, within, rest) =
+    All-cons (IsWithin c) r (s ∷ rs) (rw is (omega arith, omega (arith, within))) (are_within c cut (from + cut) (s ∷ rs) rest)
+
+-- ---- the greatest stamp before a range
+
+greatest-append : (ns ms : List ℕ) → greatest (ns ++ ms) ≡ max (greatest ns) (greatest ms)
+greatest-append [] ms = omega arith
+greatest-append (n ∷ ns) ms = rw (greatest-append ns ms) (omega arith)
+
+-- it is that before an earlier one, or of the stamps between
+pub carried_on : (c : CaptureView) (from n to : ℕ) → to ≡ from + n → carried c 0 to 0 ≡ max (carried c 0 from 0) (greatest (stamps_between c from to))
+carried_on c from n to is =
+    let ps : List Packet = (contents_of c).packets in
+    let all : to - 0 ≡ from + n = omega (arith, is) in
+    let first : from - 0 ≡ from = omega arith in
+    let more : to - from ≡ n = omega (arith, is) in
+    let stamps : stamps_between c 0 to ≡ stamps_between c 0 from ++ stamps_between c from to =
+    rw (all, first, more, take-add from n ps) (map-append (λ (p : Packet). p.stamp) (take from ps) (take n (drop from ps))) in
+    rw (stamps, greatest-append (stamps_between c 0 from) (stamps_between c from to)) (omega arith)
+
+-- ---- partials
+
+-- the partials of ranges that follow one another are adjacent
+adjacent_from : (c : CaptureView) (cut from : ℕ) (rs : List Range) → AreRanges c cut from rs → AreAdjacentFrom from (partials_of c rs)
+unfolding partial_in
+adjacent_from c cut from [] none = absurd none
+adjacent_from c cut from (r ∷ []) (is, start, end) = (ap (λ x. x.from) (sym is), tt)
+adjacent_from c cut from (r ∷ s ∷ rs) (is, within, rest) = rw is (refl, adjacent_from c cut (from + cut) (s ∷ rs) rest)
+
+pub are_adjacent : (c : CaptureView) (cut from : ℕ) (rs : List Range) → AreRanges c cut from rs → AreAdjacent (partials_of c rs)
+are_adjacent c cut from [] none = absurd none
+are_adjacent c cut from (r ∷ rs) all = (adjacent_from c cut from (r ∷ rs) all).1
+
+-- and joined in turn to the partial of all records before them they give that of all records
+all_joined : JoinsAgree → (c : CaptureView) (cut from : ℕ) (rs : List Range) → AreRanges c cut from rs
+    → joined_to (partial_in c 0 from 0) (partials_of c rs) ≡ partial_in c 0 (length c.records) 0
+all_joined joins c cut from [] none = absurd none
+all_joined joins c cut from (r ∷ []) (is, start, end) = rw is (joins c 0 from (length c.records) 0 (omega arith) start (omega arith))
+all_joined joins c cut from (r ∷ s ∷ rs) (is, within, rest) =
+    rw (is, joins c 0 from (from + cut) 0 (omega arith) (omega arith) (omega (arith, within))) (all_joined joins c cut (from + cut) (s ∷ rs) rest)
+
+-- the partials of the ranges of all records give that of all records
+pub whole_joined : JoinsAgree → (c : CaptureView) (cut : ℕ) (rs : List Range) → AreRanges c cut 0 rs
+    → joined_all (partials_of c rs) ≡ partial_in c 0 (length c.records) 0
+whole_joined joins c cut [] none = absurd none
+whole_joined joins c cut (r ∷ []) (is, start, end) = rw is refl
+whole_joined joins c cut (r ∷ s ∷ rs) (is, within, rest) = rw is (all_joined joins c cut (0 + cut) (s ∷ rs) rest)

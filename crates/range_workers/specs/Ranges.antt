@@ -1,0 +1,25 @@
+-- How the records of a capture are cut into ranges.
+use Rattle.std.specs.Prelude.{◌≡◌, ◌≤◌, ◌<◌, ℕ, ◌+◌, List, [], ◌∷◌, length, All}
+use Rattle.pcap_records.specs.CaptureView.{CaptureView}
+use Rattle.conn_table.specs.Partials.{carried}
+use Rattle.range_workers.specs.declared.ranges.Range.{Range}
+
+-- a range of records, with the greatest stamp before it
+abbrev pub range_in : CaptureView → ℕ → ℕ → Range
+range_in c from to = record { from = from; to = to; carry = carried c 0 from 0 }
+
+-- The ranges of the records from one on: each has `cut` records and the next begins where it ends, but the last has all that
+-- are left, at most as many.
+abbrev pub AreRanges : CaptureView → ℕ → ℕ → List Range → Type 0
+AreRanges c cut from [] = ⊥
+AreRanges c cut from (r ∷ []) =
+    (r ≡ range_in c from (length c.records)) × (from ≤ length c.records) × (length c.records ≤ from + cut)
+AreRanges c cut from (r ∷ s ∷ rs) =
+    (r ≡ range_in c from (from + cut)) × (from + cut < length c.records) × AreRanges c cut (from + cut) (s ∷ rs)
+
+-- a range of the records that are there
+abbrev pub IsWithin : CaptureView → Range → Type 0
+IsWithin c r = (r.from ≤ r.to) × (r.to ≤ length c.records)
+
+abbrev pub AreWithin : CaptureView → List Range → Type 0
+AreWithin c rs = All (IsWithin c) rs

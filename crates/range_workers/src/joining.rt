@@ -1,0 +1,25 @@
+//! The join of the partials of ranges that follow one another.
+ghost use Rattle.std.specs.Prelude.{◌≡◌, IfOk};
+ghost use Rattle.range_workers.specs.RangePartials.{AreAdjacent, joined_all};
+
+use conn_table::Partial;
+use std::alloc::AllocError;
+
+/// The partial of all ranges together, of which each begins where the one before it ends. It takes time by the size of all but the
+/// first.
+///
+/// # Errors
+/// A growth was refused.
+pub(crate) fn join_all(partials: Vec<Partial>) -> Result<Partial, AllocError>
+    requires { AreAdjacent partials.items }
+    ensures { IfOk result (λ whole. whole ≡ joined_all partials.items) }
+{
+    let mut partials = partials.into_iter();
+    let Some(mut whole) = partials.next() else {
+        unreachable!()
+    };
+    for partial in partials {
+        whole = Partial::join(whole, partial)?;
+    }
+    Ok(whole)
+}

@@ -1,0 +1,33 @@
+//! The work whose jobs are ranges of records: the partial of each.
+ghost use Rattle.range_workers.specs.Ranges.{AreWithin};
+
+use crate::ranges::Range;
+use conn_table::Partial;
+use job_matrix::Work;
+use pcap_records::Capture;
+use std::alloc::{AllocError, Global};
+
+/// The ranges of a capture's records, of which job j is that at place j.
+#[derive(Drop)]
+pub(crate) struct RangeJobs<'w, 'a> {
+    pub(crate) alloc: Global,
+    pub(crate) capture: &'w Capture<'a>,
+    pub(crate) ranges: &'w [Range],
+    ghost within: { AreWithin capture.now ranges.now },
+}
+
+impl<'w, 'a> Work for RangeJobs<'w, 'a> {
+    type Out = Partial;
+
+    ghost use Rattle.std.specs.Prelude.{◌≡◌, ◌<◌, length, get_or, IfOk};
+    ghost use Rattle.range_workers.specs.RangePartials.{partials_of, no_partial};
+
+    ghost jobs = { λ w. length w.ranges.now };
+
+    ghost meaning = { λ w job. get_or (partials_of w.capture.now w.ranges.now) job no_partial };
+
+    fn value(&self, job: u64) -> Result<Partial, AllocError> {
+        let range = self.ranges[job as usize];
+        Partial::of_range(self.alloc, self.capture, range.from, range.to, range.carry)
+    }
+}

@@ -1,0 +1,43 @@
+//! The ranges that the records of a capture are cut into.
+ghost use Rattle.std.specs.Prelude.{◌≤◌, ◌^◌, length, IfOk};
+ghost use Rattle.range_workers.specs.Ranges.{AreRanges};
+
+use pcap_records::{Capture, Moment};
+use std::alloc::{AllocError, Global};
+
+/// The records from `from` to below `to`, and the greatest stamp before them.
+#[derive(Clone, Copy, Debug)]
+pub(crate) struct Range {
+    pub(crate) from: usize,
+    pub(crate) to: usize,
+    pub(crate) carry: Moment,
+}
+
+/// The ranges of `cut` records, the last with what is left: one without records where the capture has none. Each stamp is looked
+/// at once.
+///
+/// # Errors
+/// A growth was refused.
+pub(crate) fn ranges_of(
+    alloc: Global,
+    capture: &Capture<'_>,
+    cut: usize,
+) -> Result<Vec<Range>, AllocError>
+    requires { 1 ≤ cut }
+    ensures cut { IfOk result (λ ranges. AreRanges capture.now cut 0 ranges.items) }
+    ensures few { IfOk result (λ ranges. length ranges.items ≤ 2 ^ 26) }
+{
+    let count = capture.records().len();
+    let mut ranges = Vec::with_capacity(alloc, count / cut + 1)?;
+    let mut from = 0;
+    let mut carry = Moment::of(0);
+    'cuts: loop {
+        let to = from + cut.min(count - from);
+        ranges.push(Range { from, to, carry })?;
+        if to == count {
+            return Ok(ranges);
+        }
+        carry = carry.greater(capture.peak(from, to));
+        from = to;
+    }
+}

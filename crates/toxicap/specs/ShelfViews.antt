@@ -2,8 +2,9 @@
 use Rattle.std.specs.Prelude.{ℕ, List, ◌++◌, codes}
 use Rattle.toxicap.specs.Shelves.{StoredFile}
 
--- how many calls have failed
+-- its path, and how many calls have failed
 pub record FolderView : Type 0 where
+  pub folder : List ℕ
   pub failed : ℕ
 
 -- the files, the oldest first, and how many calls have failed

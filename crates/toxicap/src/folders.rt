@@ -14,7 +14,7 @@ use std::rt::Files;
 const NAME_LIMIT: usize = 255;
 
 /// A folder that exists, as a shelf: each file that is put is made in it, or replaced. It tells no files, since others may change
-/// them; contracts see the number of its failures.
+/// them; contracts see its path and the number of its failures.
 ///
 /// A file that cannot be made or written whole is a failure, and so is any file in a folder that is not there. A part of the file
 /// may then stay in the folder. A name with a slash, or of more than 255 bytes, is a failure too. No file that is put takes memory.
@@ -34,7 +34,7 @@ impl<'a, F: Files> Model for Folder<'a, F> {
 
     ghost Value = { FolderView };
 
-    ghost view = { λ f. record { failed = f.failed } };
+    ghost view = { λ f. record { folder = f.folder.now; failed = f.failed } };
 
     ghost invariant = { λ f. length f.folder.now + 1 + NAME_LIMIT ≤ string_capacity f.path };
 }
@@ -42,7 +42,7 @@ impl<'a, F: Files> Model for Folder<'a, F> {
 impl<'a, F: Files> Folder<'a, F> {
     /// The folder at a path, of which no call has failed yet. Whether it exists shows at the first file.
     pub fn new(alloc: Global, files: &'a F, folder: &'a str) -> Result<Self, AllocError>
-        ensures { IfOk result (λ f. f ≡ record { failed = 0 }) }
+        ensures { IfOk result (λ f. f ≡ record { folder = folder.now; failed = 0 }) }
     {
         let path = String::with_capacity(alloc, folder.len() + 1 + NAME_LIMIT)?;
         Ok(Folder {

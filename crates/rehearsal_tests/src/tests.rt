@@ -5,5 +5,6 @@ mod pieces;
 mod proxies;
 mod rehearsals;
 mod runs;
+mod shelves;
 mod streams;
 mod toxics;

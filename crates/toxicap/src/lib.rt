@@ -7,11 +7,13 @@
 
 mod answering;
 mod capture_table;
+mod commands;
 mod counted;
 mod dumps;
 mod fault_lines;
 mod faults;
 mod gates;
+mod inputs;
 pub mod laws;
 mod loading;
 mod meeting;
@@ -21,11 +23,12 @@ mod plans;
 mod printing;
 mod rehearsal;
 mod rows;
-mod runs;
+mod running;
 mod scenario_outputs;
 mod values;
 
 pub use answering::answers;
+pub use commands::{command, refuse_words};
 pub use counted::Counted;
 pub use dumps::{is_dump, undump};
 pub use fault_lines::fault_line;
@@ -37,5 +40,4 @@ pub use outputs::{Output, Outputs};
 pub use plans::Plan;
 pub use printing::{print_reports, write_bytes};
 pub use rehearsal::rehearse;
-pub use runs::run;
 pub use values::Values;

@@ -5,6 +5,7 @@ mod DumpTable
 mod DumpLemmas
 mod Evaluated
 mod PrintedPart
+mod StoredFiles
 mod AnswerSteps
 mod OverviewSteps
 mod Meetings

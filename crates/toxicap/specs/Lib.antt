@@ -10,6 +10,9 @@ pub mod Plans
 pub mod Rehearsal
 pub mod SoundOutputs
 pub mod Prints
+pub mod Shelves
+pub mod ShelfViews
+pub mod Stores
 pub mod Answering
 pub mod Overview
 pub mod Runs

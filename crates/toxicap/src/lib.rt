@@ -1,8 +1,8 @@
 //! Toxiproxy taken offline: recorded TCP sessions replayed through its toxics.
 //!
 //! `rehearse` is the call that the crate exists for; its contract names the definition in `specs/Rehearsal.antt`. Around it
-//! stand the edges: readers and writers that count their failed calls, loading a capture, dumps in hexadecimal, printing, and
-//! the line that tells a refusal.
+//! stand the edges: readers and writers that count their failed calls, loading a capture, dumps in hexadecimal, printing,
+//! shelves for the files of a rehearsal, and the line that tells a refusal.
 #![tactic(auto)]
 
 mod answering;
@@ -12,11 +12,13 @@ mod counted;
 mod dumps;
 mod fault_lines;
 mod faults;
+mod folders;
 mod gates;
 mod inputs;
 pub mod laws;
 mod loading;
 mod meeting;
+mod memory_shelves;
 mod options;
 mod outputs;
 mod plans;
@@ -25,6 +27,8 @@ mod rehearsal;
 mod rows;
 mod running;
 mod scenario_outputs;
+mod shelves;
+mod storing;
 mod values;
 
 pub use answering::answers;
@@ -33,11 +37,15 @@ pub use counted::Counted;
 pub use dumps::{is_dump, undump};
 pub use fault_lines::fault_line;
 pub use faults::RunFault;
+pub use folders::Folder;
 pub use gates::{Gate, Phase, Through};
 pub use loading::load;
+pub use memory_shelves::{MemoryFile, MemoryShelf};
 pub use options::Options;
 pub use outputs::{Output, Outputs};
 pub use plans::Plan;
 pub use printing::{print_reports, write_bytes};
 pub use rehearsal::rehearse;
+pub use shelves::{Shelf, ShelfError};
+pub use storing::{StoreFault, store_all};
 pub use values::Values;

@@ -1,0 +1,51 @@
+//! Shelves: where files are put, whole, one after another.
+use std::alloc::{AllocError, AllocFailed};
+use std::io;
+use thiserror::Error;
+
+/// A shelf did not take a file.
+#[derive(Clone, Copy, Debug, PartialEq, Eq, Error)]
+#[error("the shelf did not take the file")]
+pub struct ShelfError;
+
+impl From<io::Error> for ShelfError {
+    fn from(_refused: io::Error) -> ShelfError {
+        ShelfError
+    }
+}
+
+impl From<AllocError> for ShelfError {
+    fn from(_refused: AllocError) -> ShelfError {
+        ShelfError
+    }
+}
+
+impl<T: Drop> From<AllocFailed<T>> for ShelfError {
+    fn from(_refused: AllocFailed<T>) -> ShelfError {
+        ShelfError
+    }
+}
+
+/// Where files are put: a folder, an archive, or a list in memory.
+///
+/// Contracts see two things of a shelf. `files` are the files that it took whole, the oldest first, or `None` where it does not
+/// tell them, as a folder, whose files others may change. `failures` counts the calls that have failed; a shelf keeps that
+/// number itself, and no other code raises it.
+pub trait Shelf {
+    ghost use Rattle.std.specs.Prelude.{◌≡◌, ℕ, ◌+◌, ◌-◌, ◌^◌, ◌<◌, [], ◌∷◌, List, Option, OnOk, OnErr, is_ok, if◌then◌else◌};
+    ghost use Rattle.toxicap.specs.Shelves.{StoredFile, stored_file, Takes};
+
+    ghost files: { Self → Option (List StoredFile) };
+
+    ghost failures: { Self → ℕ };
+
+    /// Puts a file on the shelf, under its name.
+    ///
+    /// # Errors
+    /// The shelf failed, for whatever cause. It has the files that it had; what it keeps of this one is its own matter.
+    fn put(&mut self, name: &str, bytes: &[u8]) -> Result<(), ShelfError>
+        requires { failures self.old < 2 ^ 64 - 1 }
+        ensures taken { OnOk result (Takes (files self.old) (files self.new) (stored_file name.now bytes.now ∷ [])) }
+        ensures as_before { OnErr result (files self.new ≡ files self.old) }
+        ensures counted { failures self.new ≡ (if is_ok result then failures self.old else failures self.old + 1) };
+}

@@ -2,7 +2,7 @@
 use Rattle.std.specs.Prelude.{◌≡◌, ℕ, ◌<◌, ◌≤◌, List, length, take, Result, Ok, Err, IsOk}
 use Rattle.pcap_records.specs.Reading.{capture_limit}
 use Rattle.toxicap.specs.declared.faults.RunFault.{RunFault}
-use Rattle.toxicap.specs.declared.faults.RunFault.TheVariants.{CaptureTooLong, Memory, ReadFailed, ShelfFailed, WriteFailed}
+use Rattle.toxicap.specs.declared.faults.RunFault.TheVariants.{BadHost, CaptureTooLong, Memory, ReadFailed, ShelfFailed, WriteFailed}
 use Rattle.toxicap.specs.declared.outputs.Output.{Output}
 use Rattle.toxicap.specs.Answering.{AnswersBy}
 use Rattle.toxicap.specs.Prints.{reports_of}
@@ -26,6 +26,8 @@ PrintsBy (Err WriteFailed) wanted text AtEnd Wrote =
 PrintsBy (Err ReadFailed) wanted text AtEnd Wrote = length text ≤ capture_limit
 PrintsBy (Err Memory) wanted text AtEnd Wrote = length text ≤ capture_limit
 PrintsBy (Err CaptureTooLong) wanted text AtEnd Wrote = wanted ≡ Err CaptureTooLong
+PrintsBy (Err (ShelfFailed after)) wanted text AtEnd Wrote = ⊥
+PrintsBy (Err (BadHost at)) wanted text AtEnd Wrote = ⊥
 PrintsBy (Err fault) wanted text AtEnd Wrote = AtEnd × (wanted ≡ Err fault)
 
 -- How a run ends that stores: on Ok there were outputs to store; a shelf fails after fewer files than they have; any other refusal

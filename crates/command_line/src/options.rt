@@ -3,48 +3,64 @@ use clap::builder::ValueParser;
 use clap::{Arg, ArgAction, Command};
 use std::alloc::{AllocError, Global};
 
-const ABOUT: &str = "Replays the TCP sessions of a packet capture through Toxiproxy's toxics.
+const ABOUT: &str = "\
+Replays the TCP sessions of a packet capture through Toxiproxy's toxics. Each
+scenario, a list of proxies with their toxics, is answered with the capture of
+what each side would have received, and a report with a line per connection.";
 
-For each scenario, a list of proxies with their toxics, it answers what each side
-would have received: a capture, and a report with a line for each connection.";
+const VERSION: &str = "1.0.0";
 
-const VERSION: &str = "1.0.0
-captures:  classic pcap 2.4, microseconds, Ethernet, IPv4, TCP; or a hexadecimal dump
-scenarios: JSON, the list of proxies that Toxiproxy's populate call takes, each
-           proxy with a list of its toxics as a further member, \"toxics\"";
+const FORMS: &str = "\
+1.0.0
+captures:  classic pcap 2.4 in microseconds, Ethernet, IPv4, TCP;
+           or a dump of one as hexadecimal digits
+scenarios: JSON in the form of Toxiproxy's populate call, with each proxy's
+           toxics as its member \"toxics\"";
 
-const CAPTURE: &str = "The capture to replay: a classic pcap file, or a dump of one as hexadecimal
-digits; at most 2^30 bytes [default: standard input]";
+const CAPTURE: &str = "\
+The capture: a classic pcap file, or its bytes as
+hexadecimal digits; at most 2^30 bytes
+[default: standard input]";
 
-const SCENARIO: &str = "A file with one scenario, a JSON array of proxies; may be repeated, up to 256
-times, and each gives an output [default: one scenario without proxies]";
+const SCENARIO: &str = "\
+A scenario, a JSON array of proxies; may be repeated,
+up to 256 times, for one output each
+[default: one scenario without proxies]";
 
-const HOST: &str = "The IPv4 address of a host that upstreams name, as redis=10.0.0.9; may be
-repeated, each name once";
+const HOST: &str = "\
+The IPv4 address of a host that upstreams name, as in
+redis=10.0.0.9; may be repeated, each name once";
 
-const SEED: &str = "What jitter, slices and toxicity are drawn from, 0 to 2^64 - 1: the same seed
-draws the same";
+const SEED: &str = "\
+What jitter, slices and toxicity are drawn from, 0 to
+2^64 - 1; one seed draws the same each time";
 
-const WORKERS: &str = "How many threads work, 1 to 16; no output depends on it";
+const WORKERS: &str = "\
+How many threads work, 1 to 16; no output depends
+on it";
 
-const CUT: &str = "How many packet records a thread reads at once, 1 to 1048576; no output
-depends on it";
+const CUT: &str = "\
+How many records of the capture a thread reads at
+once, 1 to 1048576; no output depends on it";
 
-const OUT: &str = "A folder, which exists, for the outputs: 0000.pcap and 0000.txt of the first
-scenario, 0001.pcap and on, made or replaced [default: the reports alone, on
-standard output]";
+const OUT: &str = "\
+A folder, which exists, for the outputs: 0000.pcap
+and 0000.txt of the first scenario, then 0001.pcap;
+files of these names are replaced
+[default: the reports alone, on standard output]";
 
-const AFTER: &str = "Exit status:
-  0  all outputs were written
-  1  refused: one line on standard error says why, as
+const AFTER: &str = "\
+Exit status:
+  0  every output was written
+  1  refused; a line on standard error says why, such as
      refused 15 UnknownHost scenario 0 proxy 0
-  2  the command line has a fault, which standard error tells
+  2  the command line has a fault, and standard error tells it
 
 Examples:
   What was recorded, as a report:
     toxicap --capture session.pcap
 
-  Two scenarios, with the captures that each side would have received:
+  Two scenarios, with the captures of what each side would have received:
     toxicap --capture session.pcap --scenario slow.json --scenario lossy.json \\
       --host redis=10.0.0.9 --seed 7 --out outputs";
 
@@ -75,6 +91,7 @@ pub(crate) fn program<'a>(alloc: Global) -> Result<Command<'a>, AllocError> {
     Command::new(alloc, "toxicap")
         .no_binary_name(true)
         .version(VERSION)
+        .long_version(FORMS)
         .about(ABOUT)
         .after_help(AFTER)
         .arg(option(alloc, "capture", "PATH", CAPTURE))?

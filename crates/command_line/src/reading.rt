@@ -1,5 +1,6 @@
 //! From the words of a command line to what it asks for.
-ghost use Rattle.std.specs.Prelude.{◌≡◌, ◌≤◌, ◌^◌, IfOk};
+ghost use Rattle.std.specs.Prelude.{◌≡◌, ◌≤◌, map, IfOk};
+ghost use Rattle.command_line.specs.Asking.{IsInRange, ReadsAs};
 
 use crate::asked::{Asked, Stop};
 use crate::options::program;
@@ -14,8 +15,7 @@ use std::convert::AsStr;
 /// [`Stop::Shown`] where the words ask for the help or for the version; [`Stop::Usage`] where they have a fault: an unknown option, a word that is no option,
 /// an option without its value, one that stands twice and may not, a number that is none or out of range; [`Stop::Memory`].
 pub fn read_words<'a, S: AsStr>(alloc: Global, words: &'a [S]) -> Result<Asked<'a>, Stop>
-    ensures workers { IfOk result (λ asked. (1 ≤ asked.workers) × (asked.workers ≤ 16)) }
-    ensures cut { IfOk result (λ asked. (1 ≤ asked.cut) × (asked.cut ≤ 2 ^ 20)) }
+    ensures { ReadsAs (map S.text words.entry.now) result }
 {
     match program(alloc)?.try_get_matches_from(words) {
         Ok(matches) => Ok(asked_in(alloc, &matches)?),
@@ -25,8 +25,7 @@ pub fn read_words<'a, S: AsStr>(alloc: Global, words: &'a [S]) -> Result<Asked<'
 
 // What the words ask for, as clap found it.
 fn asked_in<'a>(alloc: Global, matches: &ArgMatches<'a>) -> Result<Asked<'a>, AllocError>
-    ensures workers { IfOk result (λ asked. (1 ≤ asked.workers) × (asked.workers ≤ 16)) }
-    ensures cut { IfOk result (λ asked. (1 ≤ asked.cut) × (asked.cut ≤ 2 ^ 20)) }
+    ensures { IfOk result IsInRange }
 {
     Ok(Asked {
         capture: matches.get_str("capture"),

@@ -15,7 +15,7 @@ use Rattle.toxicap.specs.Inputs.{TakesInputs}
 use Rattle.toxicap.specs.Commands.{Streams, AnswersInto, RunsBy}
 use Rattle.command_line.specs.declared.asked.Asked.{Asked}
 use Rattle.toxicap.specs.Prints.{reports_of}
-use Rattle.toxicap.specs.RunEnds.{PrintsBy, StoresBy, reports_called_for, failed_writes}
+use Rattle.toxicap.specs.RunEnds.{PrintsBy, StoresBy, reports_called_for, failed_reads, failed_writes}
 
 -- there was no answer, so nothing was printed
 pub no_report : (fault : RunFault) (wanted : Result (List Output) RunFault) (text : List ℕ) (AtEnd : Type 0) (Wrote : List ℕ → Type 0)
@@ -87,7 +87,7 @@ forget_end (Some folder) result wanted text AtEnd Unwritten Wrote is = (forget_e
 
 module _ (asked : Asked) (hosts : List KnownHost) (texts : List (List ℕ)) (takes : TakesInputs asked hosts texts) (result : Result (Unit {0}) RunFault) (s : Streams) where
   -- the capture was read of standard input
-  pub answered_of_input : asked.capture ≡ None → (text : List ℕ) → s.Read text
+  pub answered_of_input : asked.capture ≡ None → (text : List ℕ) → s.Read text (failed_reads result)
       → AnswersInto asked.out result (called_for hosts texts asked.seed text) text s.AtEnd s.Unwritten s.Wrote → RunsBy asked result s
   answered_of_input is text read into = inr (hosts, texts, takes, rw is (text, read, into))
 

@@ -1,6 +1,7 @@
 //! A run that a command line asks for: its inputs are read, and the answers printed or stored.
-ghost use Rattle.std.specs.Prelude.{◌≡◌, ◌≢◌, ℕ, ◌+◌, ◌-◌, ◌^◌, ◌<◌, ◌≤◌, List, map, IfErr};
+ghost use Rattle.std.specs.Prelude.{◌≡◌, ◌≢◌, ℕ, ◌+◌, ◌-◌, ◌^◌, ◌<◌, List, map, IfErr};
 ghost use Rattle.std.specs.Io.KnownBytes.{Appends, Consumes, IsAtEnd};
+ghost use Rattle.command_line.specs.Asking.{IsInRange};
 ghost use Rattle.toxicap.specs.declared.faults.RunFault.{RunFault};
 ghost use Rattle.toxicap.specs.Answering.{called_for};
 ghost use Rattle.toxicap.specs.Commands.{AnswersInto, RunsBy};
@@ -32,17 +33,17 @@ pub(crate) fn run_asked<H: Files + Threads + Wait, R: Read, W: Write>(
     reader: &mut Counted<R>,
     writer: &mut Counted<W>,
 ) -> Result<(), RunFault>
-    requires workers { (1 ≤ asked.now.workers) × (asked.now.workers ≤ 16) }
-    requires cut { (1 ≤ asked.now.cut) × (asked.now.cut ≤ 2 ^ 20) }
+    requires asked { IsInRange asked.now }
     requires reads { reader.old.failed < 2 ^ 64 - 1 }
     requires writes { writer.old.failed < 2 ^ 64 - 1 }
     ensures runs { RunsBy asked.now result (record {
         Unread = reader.new ≡ reader.old;
-        Read = λ text. Consumes (R.remaining reader.old.inner) (R.remaining reader.new.inner) text
-            × (reader.new.failed ≡ reader.old.failed + failed_reads result);
+        Read = λ text n. Consumes (R.remaining reader.old.inner) (R.remaining reader.new.inner) text
+            × (reader.new.failed ≡ reader.old.failed + n);
         AtEnd = IsAtEnd (R.remaining reader.new.inner);
         Unwritten = writer.new ≡ writer.old;
         Wrote = Appends (W.contents writer.old.inner) (W.contents writer.new.inner);
+        WritesFailed = λ n. writer.new.failed ≡ writer.old.failed + n;
     }) }
     ensures failed_writes { writer.new.failed ≡ writer.old.failed + failed_writes result }
     ensures untouched { IfErr result (λ fault. fault ≢ RunFault.WriteFailed → writer.new ≡ writer.old) }

@@ -1,6 +1,6 @@
 -- What a text calls for, by what its parts answer.
-use Rattle.std.proofs.Common.{◌≡◌, ℕ, ◌<◌, ◌≤◌, Bool, true, false, ◌==◌, nat_lt, [], List, length, count_by, Option, Some, None, IfSome, Result, Ok, Err, refl, IfErr, position, if◌then◌else◌, ◌%◌}
-use Rattle.std.proofs.lemmas.Bool.{lt-ltb, le-ltb}
+use Rattle.std.proofs.Common.{◌≡◌, ℕ, ◌<◌, ◌≤◌, Bool, true, false, ◌==◌, nat_lt, [], List, length, count_by, Option, Some, None, IfSome, Result, Ok, Err, refl, IfErr, position, if◌then◌else◌, ◌%◌, arith}
+use Rattle.std.proofs.lemmas.Bool.{lt-ltb, le-ltb, ltb-false}
 use Rattle.hex.specs.Hex.{is_hex_digit}
 use Rattle.pcap_records.specs.declared.fault.CaptureFault.{CaptureFault}
 use Rattle.pcap_records.specs.declared.fault.CaptureFault.TheVariants as of_capture
@@ -12,7 +12,7 @@ use Rattle.scenarios.specs.declared.hosts.KnownHost.{KnownHost}
 use Rattle.scenarios.specs.declared.proxies.Proxy.{Proxy}
 use Rattle.toxicap.specs.declared.outputs.Output.{Output}
 use Rattle.toxicap.specs.declared.faults.RunFault.{RunFault}
-use Rattle.toxicap.specs.declared.faults.RunFault.TheVariants.{CaptureTooLong, TooManyScenarios, Memory, BadDump, ReadFailed, WriteFailed}
+use Rattle.toxicap.specs.declared.faults.RunFault.TheVariants.{BadHost, CaptureTooLong, TooManyScenarios, Memory, BadDump, ReadFailed, ShelfFailed, WriteFailed}
 use Rattle.toxicap.specs.Answering.{capture_bytes_of, answer_under, called_for, scenarios_from, IsOfText, AnswersBy}
 use Rattle.toxicap.specs.Dumps.{is_dump, is_foreign, dumped_bytes, dump_reading, dump_reading_from}
 use Rattle.toxicap.specs.Loading.{StopsLoading}
@@ -65,6 +65,8 @@ of_capture_bytes text = by (is_dump text)
 pub of_agreed : {B : Type 0} (fault : RunFault) (wanted : Result B RunFault) → Refuses (run_refusal fault) wanted → IfErr wanted IsOfText → IsOfText fault
 of_agreed ReadFailed wanted is each = rw is at each
 of_agreed WriteFailed wanted is each = rw is at each
+of_agreed (ShelfFailed after) wanted is each = rw is at each
+of_agreed (BadHost at) wanted is each = rw is at each
 of_agreed _ wanted is each = tt
 
 -- ---- the end of loading
@@ -91,8 +93,20 @@ module _ (hosts : List KnownHost) (texts : List (List ℕ)) (seed : ℕ) where
   answered (Err Memory) text AtEnd within at_end is own = within
   answered (Err ReadFailed) text AtEnd within at_end is own = absurd own
   answered (Err WriteFailed) text AtEnd within at_end is own = absurd own
+  answered (Err (ShelfFailed after)) text AtEnd within at_end is own = absurd own
+  answered (Err (BadHost at)) text AtEnd within at_end is own = absurd own
   answered (Err CaptureTooLong) text AtEnd within at_end is own = is
   answered (Err _) text AtEnd within at_end is own = (at_end, is)
+
+  -- a text that calls for outputs is within the limit
+  pub within : (text : List ℕ) (outputs : List Output) → called_for hosts texts seed text ≡ Ok outputs → length text ≤ capture_limit
+  unfolding called_for
+  within text outputs is = by (nat_lt capture_limit (length text)) refl is
+    where
+      by : (b : Bool) → nat_lt capture_limit (length text) ≡ b
+          → (if b then Err CaptureTooLong else after (capture_bytes_of text) (answer_under hosts texts seed)) ≡ Ok outputs → length text ≤ capture_limit
+      by true test is = cc
+      by false test is = omega (arith, ltb-false capture_limit (length text) test)
 
 -- ---- steps one behind another
 

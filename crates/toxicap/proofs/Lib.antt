@@ -7,7 +7,8 @@ mod Evaluated
 mod PrintedPart
 mod StoredFiles
 mod AnswerSteps
-mod OverviewSteps
+mod RunSteps
+mod FirstPlaces
 mod Meetings
 mod WrittenLines
 mod PlacesInLists

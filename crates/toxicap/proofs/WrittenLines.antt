@@ -48,3 +48,11 @@ OnOk-at (Err fault) went h = absurd cc
 pub OnErr-at : {P : Type 0} (r : Result (Unit {0}) RunFault) → is_ok r ≡ false → OnErr r P → P
 OnErr-at (Ok done) went h = absurd cc
 OnErr-at (Err fault) went h = h
+
+-- a text was written, as far as the writes go
+pub text_written : (r : Result (Unit {0}) RunFault) (text : List ℕ) (Wrote : List ℕ → Type 0) (before after : ℕ)
+    → OnOk r (Wrote text) → OnOk r (after ≡ before)
+    → OnErr r ((written : ℕ) × (written < length text) × Wrote (take written text)) → OnErr r (after ≡ before + 1)
+    → WrittenSoFar text Wrote before after
+text_written (Ok done) text Wrote before after whole none part one = inl (whole, none)
+text_written (Err fault) text Wrote before after whole none part one = inr (part.0, part.1, part.2, one)

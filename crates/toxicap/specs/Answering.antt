@@ -7,7 +7,7 @@ use Rattle.scenarios.specs.declared.causes.Refusal.{Refusal}
 use Rattle.scenarios.specs.declared.hosts.KnownHost.{KnownHost}
 use Rattle.scenarios.specs.declared.proxies.Proxy.{Proxy}
 use Rattle.toxicap.specs.declared.faults.RunFault.{RunFault}
-use Rattle.toxicap.specs.declared.faults.RunFault.TheVariants.{BadScenario, CaptureTooLong, Memory, ReadFailed, WriteFailed}
+use Rattle.toxicap.specs.declared.faults.RunFault.TheVariants.{BadHost, BadScenario, CaptureTooLong, Memory, ReadFailed, ShelfFailed, WriteFailed}
 use Rattle.toxicap.specs.declared.outputs.Output.{Output}
 use Rattle.toxicap.specs.Dumps.{is_dump, dump_reading}
 use Rattle.toxicap.specs.Rehearsal.{answer}
@@ -36,10 +36,12 @@ unfoldable pub called_for : List KnownHost → List (List ℕ) → ℕ → List 
 called_for hosts texts seed text =
     if nat_lt capture_limit (length text) then Err CaptureTooLong else after (capture_bytes_of text) (answer_under hosts texts seed)
 
--- a fault of the texts: no call of a reader or of a writer has failed
+-- a fault of the texts: no call of a reader, a writer or a shelf has failed, and no host is refused
 abbrev pub IsOfText : RunFault → Type 0
 IsOfText ReadFailed = ⊥
 IsOfText WriteFailed = ⊥
+IsOfText (ShelfFailed after) = ⊥
+IsOfText (BadHost at) = ⊥
 IsOfText _ = Unit {0}
 
 -- How an answer comes of what was called for by the text that was read, given what it is to be at the reader's end. A failed
@@ -51,4 +53,6 @@ AnswersBy (Err ReadFailed) wanted text AtEnd = length text ≤ capture_limit
 AnswersBy (Err Memory) wanted text AtEnd = length text ≤ capture_limit
 AnswersBy (Err CaptureTooLong) wanted text AtEnd = wanted ≡ Err CaptureTooLong
 AnswersBy (Err WriteFailed) wanted text AtEnd = ⊥
+AnswersBy (Err (ShelfFailed after)) wanted text AtEnd = ⊥
+AnswersBy (Err (BadHost at)) wanted text AtEnd = ⊥
 AnswersBy (Err fault) wanted text AtEnd = AtEnd × (wanted ≡ Err fault)

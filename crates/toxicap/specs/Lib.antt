@@ -14,7 +14,9 @@ pub mod Shelves
 pub mod ShelfViews
 pub mod Stores
 pub mod Answering
-pub mod Overview
+pub mod RunEnds
+pub mod Inputs
+pub mod Commands
 pub mod Runs
 pub mod WrittenRows
 pub mod GroupingRows

@@ -12,9 +12,9 @@ status_of (Err _) = 1
 abbrev pub usage_status : ℕ
 usage_status = 2
 
--- what is told where words stand on the command line
-abbrev pub usage_text : List ℕ
-usage_text = codes "usage: toxicap < FILE"
+-- what is told where a word of the command line is no text
+abbrev pub no_text : List ℕ
+no_text = codes "error: a word of the command line is not text in UTF-8"
 
 -- a line of text with its line feed
 abbrev pub text_with_line_feed : List ℕ → List ℕ

@@ -5,7 +5,7 @@ ghost use Rattle.pcap_records.specs.Agreement.{AgreesUnlessMemory};
 ghost use Rattle.pcap_records.specs.Reading.{capture_limit};
 ghost use Rattle.scenarios.specs.Populate.{scenario};
 ghost use Rattle.toxicap.specs.Answering.{AnswersBy, IsOfText, answer_under, called_for, numbered, scenarios_from};
-ghost use Rattle.toxicap.specs.Overview.{failed_reads};
+ghost use Rattle.toxicap.specs.RunEnds.{failed_reads};
 ghost use Rattle.toxicap.specs.RunFault.{run_refusal};
 
 use crate::counted::Counted;

@@ -7,12 +7,14 @@
 
 mod answering;
 mod capture_table;
+mod commands;
 mod counted;
 mod dumps;
 mod fault_lines;
 mod faults;
 mod folders;
 mod gates;
+mod inputs;
 pub mod laws;
 mod loading;
 mod meeting;
@@ -23,13 +25,14 @@ mod plans;
 mod printing;
 mod rehearsal;
 mod rows;
-mod runs;
+mod running;
 mod scenario_outputs;
 mod shelves;
 mod storing;
 mod values;
 
 pub use answering::answers;
+pub use commands::{command, refuse_words};
 pub use counted::Counted;
 pub use dumps::{is_dump, undump};
 pub use fault_lines::fault_line;
@@ -43,7 +46,6 @@ pub use outputs::{Output, Outputs};
 pub use plans::Plan;
 pub use printing::{print_reports, write_bytes};
 pub use rehearsal::rehearse;
-pub use runs::run;
 pub use shelves::{Shelf, ShelfError};
 pub use storing::{StoreFault, store_all};
 pub use values::Values;

@@ -1,25 +1,28 @@
-//! The program `toxicap`: it reads a capture, or a dump of one, from standard input and writes the report of its
-//! rehearsal under one scenario without proxies to standard output. All of it is the library's `run`.
+//! The program `toxicap`. All of it is the library's `command`, on the words of the command line and the standard streams.
 #![tactic(auto)]
 
-use std::env::{Env, FillError};
+use std::env;
+use std::io;
 use std::process::ExitCode;
-use toxicap::{Counted, run};
+use toxicap::{Counted, command, refuse_words};
 
 fn main(rt: HostRuntime) -> ExitCode {
-    let status = run(
-        &rt,
-        rt.alloc(),
-        has_words(&rt),
-        &mut Counted::new(rt.stdin()),
-        &mut Counted::new(rt.stdout()),
-        &mut Counted::new(rt.stderr()),
-    );
+    let mut faults = Counted::new(rt.stderr());
+    let status = match words_of(&rt) {
+        Ok(words) => command(
+            &rt,
+            rt.alloc(),
+            &words,
+            &mut Counted::new(rt.stdin()),
+            &mut Counted::new(rt.stdout()),
+            &mut faults,
+        ),
+        Err(error) => refuse_words(rt.alloc(), &error, &mut faults),
+    };
     ExitCode::from(status)
 }
 
-// Whether a word stands behind the program's name. No room is needed to see that there is one, so this takes no
-// memory, and the word may be any bytes.
-fn has_words(env: &impl Env) -> bool {
-    !matches!(env.arg(1, &mut []), Err(FillError::NotPresent))
+// The words behind the program's name.
+fn words_of(rt: &HostRuntime) -> io::Result<Vec<String>> {
+    Ok(env::args(rt)?.skip(1).collect(rt.alloc())?)
 }

@@ -1,6 +1,6 @@
 use Rattle.std.proofs.Common.{sym, ◌∙◌}
 use Rattle.toxicap.proofs.WrittenLines.{line_stopped, line_written, OnOk-at, OnErr-at}
-use Rattle.toxicap.proofs.runs.write_line.Goals as goal
+use Rattle.toxicap.proofs.commands.write_line.Goals as goal
 
 -- the line was written, and the line feed is as far as its write went
 pub returns-then-is_ok : goal.returns-then-is_ok

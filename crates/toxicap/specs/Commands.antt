@@ -1,0 +1,78 @@
+-- How the program ends on a command line.
+use Rattle.std.specs.Prelude.{◌≡◌, ◌≢◌, IfErr, ℕ, ◌<◌, ◌⊎◌, List, length, take, Option, Some, None, Result, Ok, Err}
+use Rattle.std.specs.Borrow.{Bor}
+use Rattle.std.specs.String.{string_bytes}
+use Rattle.scenarios.specs.declared.hosts.KnownHost.{KnownHost}
+use Rattle.command_line.specs.declared.asked.Asked.{Asked}
+use Rattle.command_line.specs.declared.asked.Stop.{Stop}
+use Rattle.command_line.specs.declared.asked.Stop.TheVariants as stop
+use Rattle.toxicap.specs.declared.faults.RunFault.{RunFault}
+use Rattle.toxicap.specs.declared.faults.RunFault.TheVariants.{Memory, WriteFailed}
+use Rattle.toxicap.specs.declared.outputs.Output.{Output}
+use Rattle.toxicap.specs.Answering.{called_for}
+use Rattle.toxicap.specs.Inputs.{RefusesInputs, TakesInputs}
+use Rattle.toxicap.specs.RunEnds.{PrintsBy, StoresBy, failed_reads, failed_writes, reports_called_for}
+use Rattle.toxicap.specs.Runs.{Tells, WrittenSoFar, status_of, usage_status}
+
+-- What is said of standard input and output over a run: that input was not read, that a text was read of it while so many reads failed,
+-- that it is at its end;
+-- that output was not written, that bytes were written to it, that so many writes failed.
+pub record Streams : Type 1 where
+  pub Unread : Type 0
+  pub Read : List ℕ → ℕ → Type 0
+  pub AtEnd : Type 0
+  pub Unwritten : Type 0
+  pub Wrote : List ℕ → Type 0
+  pub WritesFailed : ℕ → Type 0
+
+-- What is said of standard error: that nothing was written to it, that bytes were, and how many of its writes had failed before and
+-- have failed now.
+pub record FaultStream : Type 1 where
+  pub Untold : Type 0
+  pub Told : List ℕ → Type 0
+  pub before : ℕ
+  pub now : ℕ
+
+-- the answers to a text are printed on standard output, or they are stored in a folder and nothing is printed
+abbrev pub AnswersInto : Option (Bor (List ℕ)) → Result (Unit {0}) RunFault → Result (List Output) RunFault → List ℕ → Type 0 → Type 0
+    → (List ℕ → Type 0) → Type 0
+AnswersInto None outcome wanted text AtEnd Unwritten Wrote = PrintsBy outcome (reports_called_for wanted) text AtEnd Wrote
+AnswersInto (Some folder) outcome wanted text AtEnd Unwritten Wrote = StoresBy outcome wanted text AtEnd × Unwritten
+
+-- the text is read of standard input, or of a file, of which no clause can say what it holds, and input is not read
+abbrev pub AnswersFrom : Option (Bor (List ℕ)) → Result (Unit {0}) RunFault → (List ℕ → Type 0 → Type 0) → Streams → Type 0
+AnswersFrom None outcome Answers s = (text : List ℕ) × s.Read text (failed_reads outcome) × Answers text s.AtEnd
+AnswersFrom (Some path) outcome Answers s = (text : List ℕ) × s.Unread × Answers text (Unit {0})
+
+-- How a run ends that a command line asks for: what it names is refused, and no stream is used; or it is there, and what the
+-- capture's text calls for under it is answered.
+abbrev pub RunsBy : Asked → Result (Unit {0}) RunFault → Streams → Type 0
+RunsBy asked outcome s =
+    (RefusesInputs asked outcome × s.Unread × s.Unwritten)
+    ⊎ ((hosts : List KnownHost) × (texts : List (List ℕ)) × TakesInputs asked hosts texts
+    × AnswersFrom asked.capture outcome (λ text AtEnd. AnswersInto asked.out outcome (called_for hosts texts asked.seed text) text AtEnd s.Unwritten s.Wrote) s)
+
+-- a text was written, or one write failed and a first part of it was
+abbrev pub WritesText : Result (Unit {0}) RunFault → List ℕ → (List ℕ → Type 0) → Type 0
+WritesText (Ok _) text Wrote = Wrote text
+WritesText (Err WriteFailed) text Wrote = (written : ℕ) × (written < length text) × Wrote (take written text)
+WritesText (Err _) text Wrote = ⊥
+
+-- The outcome of the program on a command line that has no fault: it runs what was asked for; or it shows a text; or there is no
+-- memory to read the command line.
+abbrev pub CommandEnds : Result Asked Stop → Result (Unit {0}) RunFault → Streams → Type 0
+CommandEnds (Ok asked) outcome s = RunsBy asked outcome s
+CommandEnds (Err (stop.Shown text)) outcome s = WritesText outcome (string_bytes text) s.Wrote × s.Unread
+CommandEnds (Err (stop.Usage text)) outcome s = ⊥
+CommandEnds (Err stop.Memory) outcome s = (outcome ≡ Err Memory) × s.Unread × s.Unwritten
+
+-- How the program ends with a status. With a fault of the command line nothing is read or written but what tells it. Else there is an
+-- outcome, which says what was read and written, the status, and what was told; only a run that ends well or whose write fails
+-- has written anything.
+abbrev pub ProgramEnds : Result Asked Stop → ℕ → Streams → FaultStream → Type 0
+ProgramEnds (Err (stop.Usage text)) status s t =
+    (status ≡ usage_status) × WrittenSoFar (string_bytes text) t.Told t.before t.now × s.Unread × s.Unwritten
+ProgramEnds line status s t =
+    (outcome : Result (Unit {0}) RunFault) × CommandEnds line outcome s
+    × s.WritesFailed (failed_writes outcome) × IfErr outcome (λ fault. fault ≢ WriteFailed → s.Unwritten)
+    × (status ≡ status_of outcome) × Tells outcome t.Untold t.Told t.before t.now

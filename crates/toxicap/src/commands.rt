@@ -1,0 +1,142 @@
+//! The program: from the words of its command line to an exit status.
+ghost use Rattle.std.specs.Prelude.{◌≡◌, ◌≢◌, ◌+◌, ◌-◌, ◌^◌, ◌<◌, ◌≤◌, map, Result, Err};
+ghost use Rattle.std.specs.IoError.{error_kind};
+ghost use Rattle.std.specs.Io.KnownBytes.{Appends, Consumes, IsAtEnd};
+ghost use Rattle.command_line.specs.Asking.{ReadsAs};
+ghost use Rattle.command_line.specs.declared.asked.Asked.{Asked};
+ghost use Rattle.command_line.specs.declared.asked.Stop.{Stop};
+ghost use Rattle.toxicap.specs.Commands.{ProgramEnds};
+ghost use Rattle.toxicap.specs.Runs.{no_text, status_of, text_with_line_feed, usage_status, Tells, WrittenSoFar};
+
+use crate::counted::Counted;
+use crate::fault_lines::fault_line;
+use crate::faults::RunFault;
+use crate::printing::write_bytes;
+use crate::running::run_asked;
+use command_line::{Stop, read_words};
+use std::alloc::Global;
+use std::convert::AsStr;
+use std::io::{Error, ErrorKind, Read, Write};
+use std::rt::Files;
+use std::sync::Wait;
+use std::thread::Threads;
+
+// What is told of words that are no text.
+const NO_TEXT: &[u8] = b"error: a word of the command line is not text in UTF-8";
+
+/// The whole program on the words behind its name: it reads what they name, the capture from `input` where they name none, rehearses,
+/// prints or stores the outputs, tells a refusal on `faults`, and answers the exit status.
+///
+/// The status is 0, 1 for a refusal, whose line is written with a line feed, and 2 for a fault of the command line, whose text is
+/// written; nothing is read then. `--help` and `--version` are written on `output`. Refusals come in this order: hosts, scenario
+/// files as bytes, the capture's bytes, its dump, the scenarios, their number, the capture's own faults, and last a write or a file
+/// that fails; want of memory comes where it happens. Where there is no memory for a refusal's line, nothing is written; a write on
+/// `faults` that fails ends it early and leaves the status as it is. It waits for the threads of the rehearsal: its clauses
+/// hold if it returns.
+pub fn command<H: Files + Threads + Wait, S: AsStr, I: Read, O: Write, E: Write>(
+    rt: &H,
+    alloc: Global,
+    words: &[S],
+    input: &mut Counted<I>,
+    output: &mut Counted<O>,
+    faults: &mut Counted<E>,
+) -> u8
+    requires reads { input.old.failed < 2 ^ 64 - 1 }
+    requires writes { output.old.failed < 2 ^ 64 - 1 }
+    requires tells { faults.old.failed < 2 ^ 64 - 1 }
+
+    ensures status { result ≤ 2 }
+    ensures quiet { result ≡ 0 → faults.new ≡ faults.old }
+    ensures usage { result ≡ 2 → (input.new ≡ input.old) × (output.new ≡ output.old) }
+
+    // The command line is read, and how the program ends follows from what it asks for.
+    ensures ends { (line : Result Asked Stop) × ReadsAs (map S.text words.now) line
+        × ProgramEnds line result
+            (record {
+              Unread = input.new ≡ input.old;
+              Read = λ text n. Consumes (I.remaining input.old.inner) (I.remaining input.new.inner) text
+                  × (input.new.failed ≡ input.old.failed + n);
+              AtEnd = IsAtEnd (I.remaining input.new.inner);
+              Unwritten = output.new ≡ output.old;
+              Wrote = Appends (O.contents output.old.inner) (O.contents output.new.inner);
+              WritesFailed = λ n. output.new.failed ≡ output.old.failed + n;
+            })
+            (record {
+              Untold = faults.new ≡ faults.old;
+              Told = Appends (E.contents faults.old.inner) (E.contents faults.new.inner);
+              before = faults.old.failed;
+              now = faults.new.failed;
+            }) }
+{
+    match read_words(alloc, words) {
+        Ok(asked) => {
+            let outcome = run_asked(rt, alloc, &asked, input, output);
+            report_outcome(alloc, outcome, faults)
+        }
+        Err(Stop::Shown(text)) => {
+            let outcome = write_bytes(output, text.as_bytes());
+            report_outcome(alloc, outcome, faults)
+        }
+        Err(Stop::Memory) => report_outcome(alloc, Err(RunFault::Memory), faults),
+        Err(Stop::Usage(text)) => {
+            write_text(faults, text.as_bytes());
+            2
+        }
+    }
+}
+
+/// What the program answers where its command line cannot be had, for this error: 1 for want of memory, which is told as any
+/// refusal is, and else 2, with a line that says that a word is no text.
+pub fn refuse_words<E: Write>(alloc: Global, error: &Error, faults: &mut Counted<E>) -> u8
+    requires { faults.old.failed < 2 ^ 64 - 1 }
+    ensures memory { error_kind error.now ≡ ErrorKind.OutOfMemory → (result ≡ 1) × Tells (Err RunFault.Memory) (faults.new ≡ faults.old)
+        (Appends (E.contents faults.old.inner) (E.contents faults.new.inner)) faults.old.failed faults.new.failed }
+    ensures no_text { error_kind error.now ≢ ErrorKind.OutOfMemory → (result ≡ usage_status) × WrittenSoFar (text_with_line_feed no_text)
+        (Appends (E.contents faults.old.inner) (E.contents faults.new.inner)) faults.old.failed faults.new.failed }
+{
+    if error.kind() == ErrorKind::OutOfMemory {
+        return report_outcome(alloc, Err(RunFault::Memory), faults);
+    }
+    write_line(faults, NO_TEXT);
+    2
+}
+
+// The exit status of an outcome: 0, or 1 for a refusal, whose line is written first, with a line feed.
+fn report_outcome<W: Write>(
+    alloc: Global,
+    outcome: Result<(), RunFault>,
+    faults: &mut Counted<W>,
+) -> u8
+    requires { faults.old.failed < 2 ^ 64 - 1 }
+    ensures status { result ≡ status_of outcome }
+    ensures told { Tells outcome (faults.new ≡ faults.old)
+        (Appends (W.contents faults.old.inner) (W.contents faults.new.inner)) faults.old.failed faults.new.failed }
+{
+    let Err(fault) = outcome else {
+        return 0;
+    };
+    if let Ok(line) = fault_line(alloc, &fault) {
+        write_line(faults, line.as_bytes());
+    }
+    1
+}
+
+// Writes a text, as far as the writes go.
+fn write_text<W: Write>(writer: &mut Counted<W>, text: &[u8])
+    requires { writer.old.failed < 2 ^ 64 - 1 }
+    ensures { WrittenSoFar text.now (Appends (W.contents writer.old.inner) (W.contents writer.new.inner))
+        writer.old.failed writer.new.failed }
+{
+    let _ = write_bytes(writer, text);
+}
+
+// Writes a line and its line feed, as far as the writes go.
+fn write_line<W: Write>(writer: &mut Counted<W>, line: &[u8])
+    requires { writer.old.failed < 2 ^ 64 - 1 }
+    ensures { WrittenSoFar (text_with_line_feed line.now) (Appends (W.contents writer.old.inner) (W.contents writer.new.inner))
+        writer.old.failed writer.new.failed }
+{
+    if write_bytes(writer, line).is_ok() {
+        let _ = write_bytes(writer, b"\n");
+    }
+}

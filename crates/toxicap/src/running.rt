@@ -1,0 +1,141 @@
+//! A run that a command line asks for: its inputs are read, and the answers printed or stored.
+ghost use Rattle.std.specs.Prelude.{◌≡◌, ◌≢◌, ℕ, ◌+◌, ◌-◌, ◌^◌, ◌<◌, List, map, IfErr};
+ghost use Rattle.std.specs.Io.KnownBytes.{Appends, Consumes, IsAtEnd};
+ghost use Rattle.command_line.specs.Asking.{IsInRange};
+ghost use Rattle.toxicap.specs.declared.faults.RunFault.{RunFault};
+ghost use Rattle.toxicap.specs.Answering.{called_for};
+ghost use Rattle.toxicap.specs.Commands.{AnswersInto, RunsBy};
+ghost use Rattle.toxicap.specs.RunEnds.{PrintsBy, StoresBy, reports_called_for, failed_reads, failed_writes};
+
+use crate::answering::answers;
+use crate::counted::Counted;
+use crate::faults::RunFault;
+use crate::folders::Folder;
+use crate::inputs::{read_files, read_hosts, texts_of};
+use crate::options::Options;
+use crate::plans::Plan;
+use crate::printing::print_reports;
+use crate::storing::store_all;
+use command_line::Asked;
+use std::alloc::Global;
+use std::fs;
+use std::io::{Read, Write};
+use std::rt::Files;
+use std::sync::Wait;
+use std::thread::Threads;
+
+/// Does what a command line asks for: its hosts are read first, then its scenario files, then the capture, from `reader` where no
+/// file is named. The answers are stored in its folder, or where it names none the reports are printed on `writer`.
+pub(crate) fn run_asked<H: Files + Threads + Wait, R: Read, W: Write>(
+    rt: &H,
+    alloc: Global,
+    asked: &Asked<'_>,
+    reader: &mut Counted<R>,
+    writer: &mut Counted<W>,
+) -> Result<(), RunFault>
+    requires asked { IsInRange asked.now }
+    requires reads { reader.old.failed < 2 ^ 64 - 1 }
+    requires writes { writer.old.failed < 2 ^ 64 - 1 }
+    ensures runs { RunsBy asked.now result (record {
+        Unread = reader.new ≡ reader.old;
+        Read = λ text n. Consumes (R.remaining reader.old.inner) (R.remaining reader.new.inner) text
+            × (reader.new.failed ≡ reader.old.failed + n);
+        AtEnd = IsAtEnd (R.remaining reader.new.inner);
+        Unwritten = writer.new ≡ writer.old;
+        Wrote = Appends (W.contents writer.old.inner) (W.contents writer.new.inner);
+        WritesFailed = λ n. writer.new.failed ≡ writer.old.failed + n;
+    }) }
+    ensures failed_writes { writer.new.failed ≡ writer.old.failed + failed_writes result }
+    ensures untouched { IfErr result (λ fault. fault ≢ RunFault.WriteFailed → writer.new ≡ writer.old) }
+{
+    let hosts = read_hosts(alloc, &asked.hosts)?;
+    let files = read_files(rt, alloc, &asked.scenarios)?;
+    let texts = texts_of(alloc, &files)?;
+    let options = Options {
+        hosts,
+        seed: asked.seed,
+        plan: Plan::new(asked.workers, asked.cut).unwrap(),
+    };
+    let Some(path) = asked.capture else {
+        return answer_into(rt, alloc, reader, writer, asked.out, &texts, &options);
+    };
+    let Ok(file) = fs::open(rt, path) else {
+        return Err(RunFault::ReadFailed);
+    };
+    let mut file = Counted::new(file);
+    answer_into(rt, alloc, &mut file, writer, asked.out, &texts, &options)
+}
+
+// The answers to a reader's capture, stored in a folder, or without one their reports printed.
+fn answer_into<H: Files + Threads + Wait, R: Read, W: Write>(
+    rt: &H,
+    alloc: Global,
+    reader: &mut Counted<R>,
+    writer: &mut Counted<W>,
+    out: Option<&str>,
+    texts: &[&[u8]],
+    options: &Options,
+) -> Result<(), RunFault>
+    requires reads { reader.old.failed < 2 ^ 64 - 1 }
+    requires writes { writer.old.failed < 2 ^ 64 - 1 }
+    ensures answer { (text : List ℕ)
+        × Consumes (R.remaining reader.old.inner) (R.remaining reader.new.inner) text
+        × AnswersInto out.entry result (called_for options.now.hosts (map (λ t. t.now) texts.now) options.now.seed text) text
+            (IsAtEnd (R.remaining reader.new.inner))
+            (writer.new ≡ writer.old) (Appends (W.contents writer.old.inner) (W.contents writer.new.inner)) }
+    ensures failed_reads { reader.new.failed ≡ reader.old.failed + failed_reads result }
+    ensures failed_writes { writer.new.failed ≡ writer.old.failed + failed_writes result }
+    ensures untouched { IfErr result (λ fault. fault ≢ RunFault.WriteFailed → writer.new ≡ writer.old) }
+{
+    match out {
+        None => print_answers(rt, alloc, reader, writer, texts, options),
+        Some(folder) => store_answers(rt, alloc, reader, folder, texts, options),
+    }
+}
+
+// Reads a capture to its end, rehearses it under scenarios that are still texts, and writes the reports. Nothing is written
+// before they are whole, so every refusal but a failed write leaves the writer as it was.
+fn print_answers<H: Threads + Wait, R: Read, W: Write>(
+    rt: &H,
+    alloc: Global,
+    reader: &mut Counted<R>,
+    writer: &mut Counted<W>,
+    texts: &[&[u8]],
+    options: &Options,
+) -> Result<(), RunFault>
+    requires reads { reader.old.failed < 2 ^ 64 - 1 }
+    requires writes { writer.old.failed < 2 ^ 64 - 1 }
+    ensures answer { (text : List ℕ)
+        × Consumes (R.remaining reader.old.inner) (R.remaining reader.new.inner) text
+        × PrintsBy result (reports_called_for (called_for options.now.hosts (map (λ t. t.now) texts.now) options.now.seed text)) text
+            (IsAtEnd (R.remaining reader.new.inner))
+            (Appends (W.contents writer.old.inner) (W.contents writer.new.inner)) }
+    ensures failed_reads { reader.new.failed ≡ reader.old.failed + failed_reads result }
+    ensures failed_writes { writer.new.failed ≡ writer.old.failed + failed_writes result }
+    ensures untouched { IfErr result (λ fault. fault ≢ RunFault.WriteFailed → writer.new ≡ writer.old) }
+{
+    let outputs = answers(rt, alloc, reader, texts, options)?;
+    print_reports(&outputs, writer)
+}
+
+// Reads a capture to its end, rehearses it under scenarios that are still texts, and stores the outputs in a folder.
+fn store_answers<H: Files + Threads + Wait, R: Read>(
+    rt: &H,
+    alloc: Global,
+    reader: &mut Counted<R>,
+    folder: &str,
+    texts: &[&[u8]],
+    options: &Options,
+) -> Result<(), RunFault>
+    requires { reader.old.failed < 2 ^ 64 - 1 }
+    ensures answer { (text : List ℕ)
+        × Consumes (R.remaining reader.old.inner) (R.remaining reader.new.inner) text
+        × StoresBy result (called_for options.now.hosts (map (λ t. t.now) texts.now) options.now.seed text) text (IsAtEnd (R.remaining reader.new.inner)) }
+    ensures failed_reads { reader.new.failed ≡ reader.old.failed + failed_reads result }
+    ensures no_write { failed_writes result ≡ 0 }
+{
+    let outputs = answers(rt, alloc, reader, texts, options)?;
+    let mut shelf = Folder::new(alloc, rt, folder)?;
+    store_all(alloc, &outputs, &mut shelf)?;
+    Ok(())
+}

@@ -3,8 +3,8 @@ use Rattle.std.proofs.lemmas.Bool.Decides.{nat_tests}
 use Rattle.reassembly.specs.RecordedView.{recorded_view}
 use Rattle.toxic_defs.specs.DeliveredLines.{delivered_view}
 use Rattle.segment_writer.specs.WrittenConnections.{written_connection}
-use Rattle.part_tests.proofs.WrittenLists.{AreWritten, conn_of_capture, none_written, one_more, lists_sorted, lists_once}
-use Rattle.part_tests.proofs.tests.merging.written.Goals as goal
+use Rattle.worker_tests.proofs.WrittenLists.{AreWritten, conn_of_capture, none_written, one_more, lists_sorted, lists_once}
+use Rattle.worker_tests.proofs.tests.merging.written.Goals as goal
 
 pub loop-number-init : goal.loop-number-init
 loop-number-init g c = subst (λ ls. AreWritten ls 0) (sym c.new-lists.ensures.items) none_written

@@ -1,5 +1,5 @@
-use Rattle.part_tests.proofs.WrittenLists.{AreWritten}
-use Rattle.part_tests.proofs.tests.merging.written.Given as goal
+use Rattle.worker_tests.proofs.WrittenLists.{AreWritten}
+use Rattle.worker_tests.proofs.tests.merging.written.Given as goal
 
 abbrev pub invariant-loop-number : goal.invariant-loop-number
 invariant-loop-number g l = AreWritten l.lists.items l.number-counter

@@ -1,0 +1,5 @@
+//! Tests of boards, trays, workers, ranges, deliveries and merging.
+mod boards;
+mod deliveries;
+mod merging;
+mod workers;

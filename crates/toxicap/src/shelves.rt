@@ -29,8 +29,8 @@ impl<T: Drop> From<AllocFailed<T>> for ShelfError {
 /// Where files are put: a folder, an archive, or a list in memory.
 ///
 /// Contracts see two things of a shelf. `files` are the files that it took whole, the oldest first, or `None` where it does not
-/// tell them, as a folder, whose files others may change. `failures` counts the calls that have failed; a shelf keeps that
-/// number itself, and no other code raises it.
+/// tell them, as a folder, whose files others may change. `failures` is the number of its failed calls, which each shelf counts
+/// for itself.
 pub trait Shelf {
     ghost use Rattle.std.specs.Prelude.{◌≡◌, ℕ, ◌+◌, ◌-◌, ◌^◌, ◌<◌, [], ◌∷◌, List, Option, OnOk, OnErr, is_ok, if◌then◌else◌};
     ghost use Rattle.toxicap.specs.Shelves.{StoredFile, stored_file, Takes};

@@ -1,0 +1,3 @@
+pub mod TrayLemmas
+pub mod Sums
+pub mod RuleKept

@@ -1,0 +1,19 @@
+//! Jobs that are spread over workers: plans and gates, a board that hands each number out once, a tray that puts values in
+//! order, and `work_all`, whose answer is that of one worker.
+#![tactic(auto)]
+
+mod boards;
+mod gates;
+mod plans;
+mod rules;
+mod seat_views;
+mod trays;
+mod values;
+mod works;
+
+pub use boards::{Board, Chief, Pass, SplitFault};
+pub use gates::{Gate, Phase, Through};
+pub use plans::Plan;
+pub use trays::{PutFault, Tray};
+pub use values::Values;
+pub use works::{Work, work_all};

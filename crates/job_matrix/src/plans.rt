@@ -1,0 +1,61 @@
+//! How a rehearsal's work is spread. No outcome depends on it.
+ghost use Rattle.std.specs.Prelude.{◌≡◌, ◌≤◌, ◌^◌};
+ghost use Rattle.job_matrix.specs.Plans.{plan_of};
+
+use std::marker::Model;
+
+// The most workers.
+const WORKER_LIMIT: u32 = 16;
+
+// The most records of a range.
+const CUT_LIMIT: u32 = 1 << 20;
+
+/// How many workers there are, and how many records a range has that one of them reads.
+#[derive(Clone, Copy, Debug, PartialEq, Eq)]
+pub struct Plan {
+    workers: u32,
+    cut: u32,
+}
+
+impl Model for Plan {
+    ghost use Rattle.std.specs.Prelude.{◌≤◌, ◌^◌};
+    ghost use Rattle.job_matrix.specs.Plans.{PlanView};
+
+    ghost Value = { PlanView };
+
+    ghost view = { λ p. record { workers = p.workers; cut = p.cut } };
+
+    ghost invariant = { λ p. (1 ≤ p.workers) × (p.workers ≤ 16) × (1 ≤ p.cut) × (p.cut ≤ 2 ^ 20) };
+
+    ghost inverse = { λ p. record { workers = p.workers; cut = p.cut } };
+}
+
+impl Plan {
+    /// A plan of 1 to 16 workers and ranges of 1 to 2^20 records; `None` for other numbers.
+    pub fn new(workers: u32, cut: u32) -> Option<Plan>
+        ensures { result ≡ plan_of workers cut }
+    {
+        let within = 1 <= workers && workers <= WORKER_LIMIT && 1 <= cut && cut <= CUT_LIMIT;
+        if within {
+            Some(Plan { workers, cut })
+        } else {
+            None
+        }
+    }
+
+    /// How many workers there are.
+    pub fn workers(self) -> u32
+        ensures value { result ≡ self.workers }
+        ensures within { (1 ≤ result) × (result ≤ 16) }
+    {
+        self.workers
+    }
+
+    /// How many records a range has.
+    pub fn cut(self) -> u32
+        ensures value { result ≡ self.cut }
+        ensures within { (1 ≤ result) × (result ≤ 2 ^ 20) }
+    {
+        self.cut
+    }
+}

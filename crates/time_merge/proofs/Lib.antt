@@ -1,0 +1,3 @@
+pub mod WalkedLists
+pub mod ListedOrder
+pub mod KeySources

@@ -1,0 +1,117 @@
+-- The order of listed keys: it is that of keys, and a list in order of key has its listed keys in order.
+use Rattle.std.proofs.Common.{◌≡◌, ℕ, zero, suc, ◌+◌, ◌<◌, ◌≤◌, Bool, true, false, cond, ◌||◌, ◌&&◌, ◌==◌, nat_lt, nat_cmp, is_lt, List, [], ◌∷◌, length, map, slice_index_or, refl, sym, ap, ap₂, ◌∙◌, subst, Ordering, Less, Equal, Greater, arith, add-one}
+use Rattle.std.specs.Ordering.{ordering_then, is_some_and, partial_lt}
+use Rattle.std.specs.Cmp.{IsStrictWeakOrder}
+use Rattle.std.specs.List.{All}
+use Rattle.std.specs.List.Sorted.{IsSortedBy, IsSorted, IsPermutation}
+use Rattle.std.proofs.lemmas.Bool.Decides.{nat_tests}
+use Rattle.std.proofs.lemmas.List.Elements.{All-head, All-tail}
+use Rattle.std.proofs.lemmas.List.Sorted.{ranks_by, sorted_far, IsPermutation-map, All-permutation}
+use Rattle.segment_writer.specs.declared.framed.SegKey.{SegKey}
+use Rattle.segment_writer.specs.declared.framed.Framed.{Framed}
+use Rattle.segment_writer.specs.WrittenSegments.{is_key_below, sorted_by_key}
+use Rattle.segment_writer.specs.KeyLaws.{NoneLower, NeverFalls, HasNoKeyTwice, OneOrder}
+use Rattle.time_merge.specs.declared.listed_keys.ListedKey.{ListedKey}
+use Rattle.time_merge.specs.contracts.listed_keys.ListedKeyOrd.TheImpl.Laws.{total-law, matches_partial_cmp-law}
+use Rattle.time_merge.specs.contracts.listed_keys.ListedKeyPartialOrd.TheImpl.{ghosts as partial}
+use Rattle.time_merge.specs.MergedCapture.{all_segments}
+use Rattle.time_merge.specs.ListedKeys.{key_cmp, listed_key_cmp, listed_keys, all_listed_keys, listed_segment, IsListed}
+use Rattle.time_merge.proofs.WalkedLists.{all_listed, all_shown}
+
+-- ---- comparisons
+
+next_test : (b c : Bool) (o : Ordering) → is_lt (ordering_then (cond b Less (cond c Equal Greater)) o) ≡ (b || (c && is_lt o))
+next_test true c o = refl
+next_test false true o = refl
+next_test false false o = refl
+
+last_test : (b c : Bool) → is_lt (cond b Less (cond c Equal Greater)) ≡ b
+last_test true c = refl
+last_test false true = refl
+last_test false false = refl
+
+then_test : (m n : ℕ) (o : Ordering) (t : Bool) → is_lt o ≡ t → is_lt (ordering_then (nat_cmp m n) o) ≡ (nat_lt m n || (m == n && t))
+then_test m n o t h = next_test (nat_lt m n) (m == n) o ∙ ap (λ u. nat_lt m n || (m == n && u)) h
+
+key_test : (a b : SegKey) → is_lt (key_cmp a b) ≡ is_key_below a b
+key_test a b = then_test a.moment b.moment _ _ (then_test a.conn b.conn _ _ (then_test a.turn b.turn _ _ (last_test (nat_lt a.place b.place) (a.place == b.place))))
+
+-- a listed key is lower
+abbrev pub below : ListedKey → ListedKey → Bool
+below a b = is_lt (listed_key_cmp a b)
+
+-- the order that is derived is this one
+abbrev pub derived : ListedKey → ListedKey → Bool
+derived = partial_lt (partial).partial_cmp
+
+pub derived_is_below : derived ≡ below
+derived_is_below = λ i a b. is_some_and is_lt (matches_partial_cmp-law a b i)
+
+pub below_order : IsStrictWeakOrder below
+below_order = ranks_by total-law (λ (l : ListedKey). l)
+
+pub derived_order : IsStrictWeakOrder derived
+derived_order = subst IsStrictWeakOrder (sym derived_is_below) below_order
+
+not_below-key : (a b : ListedKey) → below a b ≡ false → is_key_below a.key b.key ≡ false
+not_below-key a b h = sym (key_test a.key b.key) ∙ by (key_cmp a.key b.key) _ h
+  where
+    by : (o p : Ordering) → is_lt (ordering_then o p) ≡ false → is_lt o ≡ false
+    by Less p h = h
+    by Equal p h = refl
+    by Greater p h = refl
+
+-- ---- a list in order of key
+
+next_not_below : (k j : SegKey) (list index : ℕ) → is_key_below j k ≡ false
+    → below (record { key = j; list = list; index = index + 1 }) (record { key = k; list = list; index = index }) ≡ false
+next_not_below k j list index h = by (key_cmp j k) (key_test j k ∙ h)
+  where
+    later : is_lt (ordering_then (nat_cmp list list) (nat_cmp (index + 1) index)) ≡ false
+    later = then_test list list _ _ (last_test (nat_lt (index + 1) index) (index + 1 == index)) ∙ grind (arith, nat_tests)
+
+    by : (o : Ordering) → is_lt o ≡ false → is_lt (ordering_then o (ordering_then (nat_cmp list list) (nat_cmp (index + 1) index))) ≡ false
+    by Less e = e
+    by Equal e = later
+    by Greater e = refl
+
+sorted-cons : {X : Type 0} (lt : X → X → Bool) (x y : X) (ys : List X) → lt y x ≡ false → IsSortedBy lt (y ∷ ys) → IsSortedBy lt (x ∷ y ∷ ys)
+sorted-cons lt x y ys h sorted zero d low within = h
+sorted-cons lt x y ys h sorted (suc k) d low within =
+    rw (add-one (suc k)) (subst (λ n. lt (slice_index_or (y ∷ ys) n d) (slice_index_or (y ∷ ys) k d) ≡ false) (add-one k) (sorted k d (omega arith) (omega arith)))
+
+pub keys_sorted : (list index : ℕ) (xs : List Framed) → NeverFalls xs → IsSortedBy below (listed_keys list index xs)
+keys_sorted list index [] falls k d low within = absurd (omega arith)
+keys_sorted list index (x ∷ []) falls k d low within = absurd (omega arith)
+keys_sorted list index (x ∷ y ∷ ys) falls k d low within =
+    sorted-cons below _ _ (listed_keys list (index + 1 + 1) ys) (next_not_below x.key y.key list index falls.0.0) (keys_sorted list (index + 1) (y ∷ ys) falls.1) k d low within
+
+-- ---- listed keys in order stand for segments that never fall
+
+module _ (lists : List (List Framed)) where
+  none_lower : (k : ListedKey) (ks : List ListedKey) → IsListed lists k → All (IsListed lists) ks
+      → ((j : ℕ) (d : ListedKey) → j < length ks → below (slice_index_or ks j d) k ≡ false) → NoneLower (listed_segment lists k).key (map (listed_segment lists) ks)
+  none_lower k [] here all far = tt
+  none_lower k (l ∷ ks) here all far =
+      let there = All-head (IsListed lists) l ks all in (
+        ap₂ is_key_below there.key here.key ∙ not_below-key l k (far 0 l (omega arith)),
+        none_lower k ks here (All-tail (IsListed lists) l ks all) (λ j d within. far (suc j) d (omega arith)),
+      )
+
+  never_falls : (ks : List ListedKey) → All (IsListed lists) ks → ((i j : ℕ) (d : ListedKey) → i ≤ j → j < length ks → below (slice_index_or ks j d) (slice_index_or ks i d) ≡ false)
+      → NeverFalls (map (listed_segment lists) ks)
+  never_falls [] all far = tt
+  never_falls (k ∷ ks) all far = (
+    none_lower k ks (All-head (IsListed lists) k ks all) (All-tail (IsListed lists) k ks all) (λ j d within. far 0 (suc j) d (omega arith) (omega arith)),
+    never_falls ks (All-tail (IsListed lists) k ks all) (λ i j d le within. far (suc i) (suc j) d (omega arith) (omega arith)),
+  )
+
+  pub merged_listed : (ks : List ListedKey) → IsPermutation (all_listed_keys lists) ks → All (IsListed lists) ks
+  merged_listed ks moved = All-permutation (IsListed lists) (all_listed_keys lists) ks moved (all_listed lists)
+
+  pub merged_sorted : OneOrder → HasNoKeyTwice (all_segments lists) → (ks : List ListedKey) → IsPermutation (all_listed_keys lists) ks → IsSorted listed_key_cmp ks
+      → map (listed_segment lists) ks ≡ sorted_by_key (all_segments lists)
+  merged_sorted one_order once ks moved sorted =
+      one_order (all_segments lists) (map (listed_segment lists) ks) once
+      (subst (λ (xs : List Framed). IsPermutation xs (map (listed_segment lists) ks)) (all_shown lists) (IsPermutation-map (listed_segment lists) (all_listed_keys lists) ks moved))
+      (never_falls ks (merged_listed ks moved) (sorted_far below below_order ks sorted))

@@ -1,0 +1,2 @@
+pub mod MergedCapture
+pub mod ListedKeys

@@ -1,0 +1,9 @@
+//! One capture of many lists of written segments.
+#![tactic(auto)]
+
+mod listed_keys;
+mod merged;
+mod merging;
+
+pub use merged::Merged;
+pub use merging::merge;

@@ -3,3 +3,5 @@ pub mod TrayPlaces
 pub mod Counting
 pub mod BoardViews
 pub mod BoardRule
+pub mod Filling
+pub mod BoardWorld

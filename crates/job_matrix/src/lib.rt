@@ -4,11 +4,13 @@
 
 mod boards;
 mod gates;
+pub mod laws;
 mod plans;
 mod rules;
 mod seat_views;
 mod trays;
 mod values;
+mod workers;
 mod works;
 
 pub use boards::{Board, Chief, Pass, SplitFault};
@@ -16,4 +18,5 @@ pub use gates::{Gate, Phase, Through};
 pub use plans::Plan;
 pub use trays::{PutFault, Tray};
 pub use values::Values;
-pub use works::{Work, work_all};
+pub use workers::work_all;
+pub use works::Work;

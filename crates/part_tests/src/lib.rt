@@ -1,4 +1,4 @@
-//! The tests over the public calls of the crates that read, group and know scenarios, with values from outside.
+//! The tests over the public calls of the crates that read, group, know scenarios and spread work, with values from outside.
 #![tactic(auto)]
 
 #[cfg(test)]

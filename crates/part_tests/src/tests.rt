@@ -1,5 +1,6 @@
 //! Tests over the public calls of the lower crates, with values from outside.
 mod captures;
+mod deliveries;
 mod frames;
 mod scenario_files;
 mod tables;

@@ -1,0 +1,6 @@
+mod Meetings
+mod SeenPackets
+mod RowLemmas
+mod TableConnections
+mod DeliverySteps
+mod Isolated

@@ -1,0 +1,82 @@
+-- Lists that are laid out row by row.
+use Rattle.std.proofs.Common.{◌≡◌, ◌<◌, ◌≤◌, ℕ, zero, suc, ◌+◌, ◌*◌, ◌/◌, ◌%◌, List, [], ◌∷◌, map, length, get_or, Some, refl, sym, ap, ap₂, ◌∙◌, arith}
+use Rattle.std.specs.List.{range_with_len, enumerate_from, slice_get}
+use Rattle.std.proofs.Math.Nat.{suc-mul, mul-le-mul_right}
+use Rattle.std.proofs.lemmas.Nat.{div-add-mod', div_below, mod_below}
+use Rattle.std.proofs.lemmas.List.{length-append, length-map, get_or-map, get_or_append_left, get_or-append-add}
+use Rattle.std.proofs.lemmas.List.FromFn.{fill_by_all}
+use Rattle.std.proofs.lemmas.Option.{slice_get-get_or, slice_get_within, get_or_from_slice_get}
+use Rattle.conn_workers.specs.DeliveryRows.{rows}
+
+-- the elements at all places are the list
+pub listed : {V : Type 0} (xs : List V) (n : ℕ) (d : V) → length xs ≡ n → map (λ j. get_or xs j d) (range_with_len 0 n) ≡ xs
+listed xs n d len = sym (fill_by_all (λ j. get_or xs j d) xs n d len (λ k below. refl))
+
+-- where a place is within rows, they have columns
+pub some_columns : (j rows columns : ℕ) → j < rows * columns → 0 < columns
+some_columns j rows zero below = let none : rows * zero ≡ zero = omega arith in absurd (omega (arith, below, none))
+some_columns j rows (suc columns) below = omega arith
+
+module _ {R C V : Type 0} (f : R → C → V) where
+  pub length-rows : (rs : List R) (cs : List C) → length (rows f rs cs) ≡ length rs * length cs
+  length-rows [] cs = let e : 0 ≡ 0 * length cs = omega arith in e
+  length-rows (r ∷ rs) cs =
+      length-append (map (f r) cs) (rows f rs cs) ∙ ap₂ (λ a b. a + b) (length-map cs (f r)) (length-rows rs cs)
+      ∙ (let e : length cs + length rs * length cs ≡ suc (length rs) * length cs = omega (arith, suc-mul (length rs) (length cs)) in e)
+
+  -- the value of row s and column c
+  pub cell : (rs : List R) (cs : List C) (s c : ℕ) (d : V) (r : R) (x : C) → s < length rs → c < length cs
+      → get_or (rows f rs cs) (s * length cs + c) d ≡ f (get_or rs s r) (get_or cs c x)
+  cell [] cs s c d r x row column = absurd (omega (arith, row))
+  cell (a ∷ rs) cs zero c d r x row column =
+      let place : zero * length cs + c ≡ c = omega arith in
+      rw place
+      (get_or_append_left (map (f a) cs) (rows f rs cs) d c (omega (arith, column, length-map cs (f a)))
+      ∙ get_or-map (f a) cs c x d column)
+  cell (a ∷ rs) cs (suc s) c d r x row column =
+      let place : suc s * length cs + c ≡ length (map (f a) cs) + (s * length cs + c) = omega (arith, suc-mul s (length cs), length-map cs (f a)) in
+      rw place
+      (get_or-append-add (map (f a) cs) (rows f rs cs) (s * length cs + c) d ∙ cell rs cs s c d r x (omega (arith, row)) column)
+
+  -- of as many columns, the value at a place
+  pub at_place : (rs : List R) (cs : List C) (j : ℕ) (d : V) (r : R) (x : C) → 0 < length cs → j < length rs * length cs
+      → get_or (rows f rs cs) j d ≡ f (get_or rs (j / length cs) r) (get_or cs (j % length cs) x)
+  at_place rs cs j d r x some below =
+      ap (λ k. get_or (rows f rs cs) k d) (sym (div-add-mod' j (length cs)))
+      ∙ cell rs cs (j / length cs) (j % length cs) d r x (div_below j (length cs) (length rs) some below) (mod_below j (length cs) some)
+
+  -- the same where row and column are known
+  pub cell_found : (rs : List R) (cs : List C) (s c : ℕ) (r : R) (x : C) → slice_get rs s ≡ Some r → slice_get cs c ≡ Some x
+      → slice_get (rows f rs cs) (s * length cs + c) ≡ Some (f r x)
+  cell_found rs cs s c r x row column =
+      let row_within : s < length rs = slice_get_within rs s r row in
+      let column_within : c < length cs = slice_get_within cs c x column in
+      let below : suc s * length cs ≤ length rs * length cs = mul-le-mul_right (length cs) row_within in
+      let within : s * length cs + c < length (rows f rs cs) = omega (arith, below, column_within, suc-mul s (length cs), length-rows rs cs) in
+      slice_get-get_or (rows f rs cs) (s * length cs + c) (f r x) within
+      ∙ ap Some (cell rs cs s c (f r x) r x row_within column_within
+      ∙ ap₂ f (get_or_from_slice_get rs s r r row) (get_or_from_slice_get cs c x x column))
+
+-- two layouts of lists that are mapped from one list
+module _ {R C D E V : Type 0} (f : R → C → V) (g : R → D → V) (a : E → C) (b : E → D) (alike : (r : R) (x : E) → f r (a x) ≡ g r (b x)) where
+  row_alike : (r : R) (xs : List E) → map (f r) (map a xs) ≡ map (g r) (map b xs)
+  row_alike r [] = refl
+  row_alike r (x ∷ xs) = rw (alike r x, row_alike r xs) refl
+
+  pub rows_alike : (rs : List R) (xs : List E) → rows f rs (map a xs) ≡ rows g rs (map b xs)
+  rows_alike [] xs = refl
+  rows_alike (r ∷ rs) xs = rw (row_alike r xs, rows_alike rs xs) refl
+
+-- ---- lists whose elements are numbered
+
+pub numbered : {X : Type 0} (n : ℕ) (xs : List X) (k : ℕ) (x : X) → slice_get xs k ≡ Some x → slice_get (enumerate_from n xs) k ≡ Some (n + k, x)
+numbered n [] k x is = absurd (omega (arith, slice_get_within [] k x is))
+numbered n (y ∷ xs) zero x is = let e : n ≡ n + zero = omega arith in ap₂ (λ i o. let p : ℕ × _ = (i, o) in Some p) e (let same : y ≡ x = cc in same)
+numbered n (y ∷ xs) (suc k) x is = numbered (n + 1) xs k x is ∙ ap (λ i. let p : ℕ × _ = (i, x) in Some p) (let e : n + 1 + k ≡ n + suc k = omega arith in e)
+
+-- what is made of numbered elements, and tells their numbers, has its own place for its number
+pub number_is : {X C : Type 0} (f : ℕ × X → C) (number : C → ℕ) → ((p : ℕ × X) → number (f p) ≡ p.0)
+    → (n : ℕ) (xs : List X) (k : ℕ) (c : C) → slice_get (map f (enumerate_from n xs)) k ≡ Some c → number c ≡ n + k
+number_is f number tells n [] k c is = absurd (omega (arith, slice_get_within [] k c is))
+number_is f number tells n (x ∷ xs) zero c is = ap number (let same : c ≡ f (n, x) = cc in same) ∙ tells (n, x) ∙ (let e : n ≡ n + zero = omega arith in e)
+number_is f number tells n (x ∷ xs) (suc k) c is = number_is f number tells (n + 1) xs k c is ∙ (let e : n + 1 + k ≡ n + suc k = omega arith in e)

@@ -1,0 +1,124 @@
+-- The connections of a capture's table.
+use Rattle.std.proofs.Common.{◌≡◌, ◌<◌, ◌≤◌, ℕ, zero, suc, ◌-◌, Bool, true, false, List, [], ◌∷◌, map, filter, length, get_or, Option, Some, None, refl, ap, ◌∙◌, arith, if◌then◌else◌}
+use Rattle.std.specs.List.{AllByRecursion, enumerate_from, filter_map, cons_option}
+use Rattle.std.proofs.lemmas.List.{length-map, take_all, get_or-map}
+use Rattle.std.proofs.lemmas.List.FromFn.{length-enumerate_from}
+use Rattle.pcap_records.specs.Reading.{Packet}
+use Rattle.pcap_records.specs.CaptureView.{CaptureView, contents_of, packet_of}
+use Rattle.conn_table.specs.declared.conns.Conn.{Conn}
+use Rattle.conn_table.specs.SeenCapture.{SeenPacket, seen_packets, seen_capture}
+use Rattle.conn_table.specs.IndexedSegments.{IndexedSegment, indexed_segment, indexed_segments}
+use Rattle.conn_table.specs.Connections.{connections, beginnings, begins}
+use Rattle.conn_table.specs.IndexedConnections.{indexed_connections, indexed_connection_of, without_indices, IndexedConnectionsAgree}
+use Rattle.conn_table.specs.Partials.{packets_between, segments_between}
+use Rattle.conn_table.specs.Tables.{table_in, conn_in}
+use Rattle.reassembly.specs.RecordedView.{IsConnOf, IsConnectionOf}
+use Rattle.reassembly.specs.CaptureConnections.{ConnectionsAreOfCapture, ConnsAreOfCapture}
+use Rattle.conn_workers.specs.DeliveryRows.{connections_of}
+use Rattle.conn_workers.specs.CaptureTables.{whole_table, whole_connections}
+use Rattle.conn_workers.proofs.SeenPackets.{length-seen_packets}
+
+pub conns_are : (c : CaptureView) → (whole_table c).conns ≡ map (conn_in c) (whole_connections c)
+unfolding table_in
+conns_are c = refl
+
+-- ---- against the definition
+
+all_packets : (c : CaptureView) → packets_between c 0 (length c.records) 0 ≡ seen_packets 0 (contents_of c).packets
+all_packets c =
+    let packets : List Packet = (contents_of c).packets in
+    let len : length packets ≡ length c.records = length-map c.records (packet_of c.bytes) in
+    let whole : length c.records - 0 ≡ length c.records = omega arith in
+    ap (seen_packets 0) (rw whole (take_all (length c.records) packets (omega (arith, len))))
+
+all_segments : (c : CaptureView) → segments_between c 0 (length c.records) 0 ≡ indexed_segments 0 (seen_packets 0 (contents_of c).packets)
+all_segments c = ap (indexed_segments 0) (all_packets c)
+
+pub connections_are : IndexedConnectionsAgree → (c : CaptureView) → map without_indices (whole_connections c) ≡ connections_of (seen_capture (contents_of c))
+connections_are agree c = agree (segments_between c 0 (length c.records) 0) ∙ ap connections (all_segments c)
+
+-- ---- no more than records
+
+fewer : {X : Type 0} (test : X → Bool) (xs : List X) → length (filter test xs) ≤ length xs
+fewer test [] = omega arith
+fewer {X} test (x ∷ xs) = by (test x) (fewer test xs)
+  where
+    by : (b : Bool) → length (filter test xs) ≤ length xs → length (if b then x ∷ filter test xs else filter test xs) ≤ suc (length xs)
+    by true rest = omega (arith, rest)
+    by false rest = omega (arith, rest)
+
+fewer_mapped : {X Y : Type 0} (h : X → Option Y) (xs : List X) → length (filter_map h xs) ≤ length xs
+fewer_mapped h [] = omega arith
+fewer_mapped {X} {Y} h (x ∷ xs) = by (h x) (fewer_mapped h xs)
+  where
+    by : (o : Option Y) → length (filter_map h xs) ≤ length xs → length (cons_option o (filter_map h xs)) ≤ suc (length xs)
+    by (Some y) rest = omega (arith, rest)
+    by None rest = omega (arith, rest)
+
+few_segments : (packets : List SeenPacket) → length (indexed_segments 0 packets) ≤ length packets
+unfolding indexed_segments
+few_segments packets = omega (arith, fewer_mapped indexed_segment (enumerate_from 0 packets), length-enumerate_from 0 packets)
+
+few_beginnings : (segs : List IndexedSegment) → length (indexed_connections segs) ≤ length segs
+unfolding indexed_connections beginnings
+few_beginnings segs =
+    omega (arith, length-map (enumerate_from 0 (beginnings segs)) (indexed_connection_of segs), length-enumerate_from 0 (beginnings segs), fewer (begins segs) segs)
+
+pub few_connections : (c : CaptureView) → length (whole_connections c) ≤ length c.records
+few_connections c =
+    let packets : List Packet = (contents_of c).packets in
+    omega (
+      arith,
+      few_beginnings (segments_between c 0 (length c.records) 0),
+      few_segments (packets_between c 0 (length c.records) 0),
+      ap length (all_packets c),
+      length-seen_packets packets,
+      length-map c.records (packet_of c.bytes),
+    )
+
+pub few_conns : (c : CaptureView) → length (whole_table c).conns ≤ length c.records
+few_conns c = omega (arith, ap length (conns_are c), length-map (whole_connections c) (conn_in c), few_connections c)
+
+-- ---- a connection of the table
+
+-- the element at a place, whatever stands past the last
+pub record StandsAt {A : Type 0} (xs : List A) (i : ℕ) : Type 0 where
+  pub item : A
+  pub read : (d : A) → get_or xs i d ≡ item
+
+same_read : {A : Type 0} (xs : List A) (i : ℕ) (d e : A) → i < length xs → get_or xs i d ≡ get_or xs i e
+same_read [] i d e within = absurd (omega (arith, within))
+same_read (x ∷ xs) zero d e within = refl
+same_read (x ∷ xs) (suc i) d e within = same_read xs i d e (omega (arith, within))
+
+stands_at : {A : Type 0} (xs : List A) (i : ℕ) → i < length xs → StandsAt xs i
+stands_at [] i within = absurd (omega (arith, within))
+stands_at (x ∷ xs) i within = record { item = get_or (x ∷ xs) i x; read = λ d. same_read (x ∷ xs) i d x within }
+
+all_at : {A : Type 0} (P : A → Type 0) (xs : List A) (i : ℕ) (d : A) → AllByRecursion P xs → i < length xs → P (get_or xs i d)
+all_at P [] i d all within = absurd (omega (arith, within))
+all_at P (x ∷ xs) zero d all within = all.0
+all_at P (x ∷ xs) (suc i) d all within = all_at P xs i d all.1 (omega (arith, within))
+
+module _ (c : CaptureView) (conns : List Conn) (shown : conns ≡ (whole_table c).conns) (i : ℕ) (within : i < length conns) where
+  mapped : conns ≡ map (conn_in c) (whole_connections c)
+  mapped = shown ∙ conns_are c
+
+  pub in_connections : i < length (whole_connections c)
+  in_connections = omega (arith, within, ap length mapped, length-map (whole_connections c) (conn_in c))
+
+  pub here : StandsAt (whole_connections c) i
+  here = stands_at (whole_connections c) i in_connections
+
+  pub conn_here : (conn : Conn) → conn ≡ get_or conns i conn → conn ≡ conn_in c here.item
+  conn_here conn read =
+      read ∙ ap (λ cs. get_or cs i conn) mapped ∙ get_or-map (conn_in c) (whole_connections c) i here.item conn in_connections ∙ ap (conn_in c) (here.read here.item)
+
+  pub is_of_capture : ConnsAreOfCapture → (conn : Conn) → conn ≡ get_or conns i conn → IsConnOf c conn
+  is_of_capture are conn read =
+      let all : AllByRecursion (IsConnOf c) conns = rw mapped (are c 0 (length c.records) 0) in
+      rw read (all_at (IsConnOf c) conns i conn all within)
+
+  pub connection_of_capture : ConnectionsAreOfCapture → IsConnectionOf c here.item
+  connection_of_capture are =
+      rw (← here.read here.item) (all_at (IsConnectionOf c) (whole_connections c) i here.item (are c 0 (length c.records) 0) in_connections)

@@ -1,0 +1,29 @@
+-- What each connection contributes to each scenario, scenario by scenario.
+use Rattle.std.specs.Prelude.{ℕ, List, map}
+use Rattle.std.specs.List.{enumerate_from, flat_map}
+use Rattle.conn_table.specs.SeenCapture.{SeenCapture}
+use Rattle.conn_table.specs.IndexedSegments.{indexed_segments}
+use Rattle.conn_table.specs.Connections.{Connection, connections}
+use Rattle.scenarios.specs.declared.proxies.Proxy.{Proxy}
+use Rattle.conn_workers.specs.declared.deliveries.Delivery.{Delivery}
+use Rattle.conn_workers.specs.ConnectionParts.{Part, part_of}
+
+-- the connections of what is seen of a capture
+abbrev pub connections_of : SeenCapture → List Connection
+connections_of c = connections (indexed_segments 0 c.packets)
+
+-- a part, with the numbers of its scenario and of its connection
+abbrev pub delivery : ℕ → ℕ → Part → Delivery
+delivery scenario conn p = record { scenario = scenario; conn = conn; segments = p.segments; line = p.line }
+
+-- what a connection contributes to a scenario with its number
+abbrev pub delivery_of : ℕ → ℕ → ℕ × List Proxy → Connection → Delivery
+delivery_of ticks seed (number, proxies) c = delivery number c.number (part_of ticks seed (number, proxies) c)
+
+-- a value for each of rs and each of cs, row by row
+abbrev pub rows : {R C V : Type 0} → (R → C → V) → List R → List C → List V
+rows f rs cs = flat_map (λ r. map (f r) cs) rs
+
+-- a row for each scenario, and in it a delivery for each connection
+unfoldable pub deliveries : ℕ → ℕ → List Connection → List (List Proxy) → List Delivery
+deliveries ticks seed conns scenarios = rows (delivery_of ticks seed) (enumerate_from 0 scenarios) conns

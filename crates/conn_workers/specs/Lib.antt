@@ -1,0 +1,9 @@
+pub mod MetProxies
+pub mod ConnectionParts
+pub mod DeliveryRows
+pub mod CaptureTables
+pub mod Recordings
+pub mod RecordedDeliveries
+pub mod DeliveryLaws
+pub use Rattle.pcap_records.specs.Instants
+pub use Rattle.pcap_records.specs.CaptureView

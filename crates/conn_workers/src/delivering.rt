@@ -1,0 +1,63 @@
+//! What each connection of a capture contributes to each scenario.
+ghost use Rattle.std.specs.Prelude.{◌≡◌, ◌≤◌, length, IfOk};
+ghost use Rattle.pcap_records.specs.CaptureView.{contents_of};
+ghost use Rattle.pcap_records.specs.Instants.{microseconds};
+ghost use Rattle.conn_table.specs.SeenCapture.{seen_capture};
+ghost use Rattle.conn_workers.specs.DeliveryRows.{connections_of, deliveries};
+ghost use Rattle.conn_workers.specs.CaptureTables.{whole_table};
+
+use crate::deliveries::Deliveries;
+use crate::line_jobs::LineJobs;
+use crate::part_jobs::PartJobs;
+use conn_table::Table;
+use conn_table::laws::indexed_connections_agree;
+use job_matrix::{Gate, Phase, Plan, work_all};
+use pcap_records::Capture;
+use scenarios::Scenario;
+use std::alloc::{AllocError, Global};
+use std::thread::Threads;
+
+/// What each connection of a capture contributes to each scenario, scenario by scenario. Workers first make the recorded lines, in
+/// phase `Lines` with one job for each connection, and then the deliveries, in phase `Jobs`: of C connections, job s * C + c makes that
+/// of connection c under scenario s. The answer is the same whatever the plan and the gate.
+///
+/// The table is that of all records of the capture, however it was made, and there are at most 256 scenarios.
+///
+/// # Errors
+/// A growth was refused.
+pub fn deliver<R: Threads + Sync, G: Gate>(
+    rt: &R,
+    alloc: Global,
+    capture: &Capture<'_>,
+    table: &Table,
+    scenarios: &[Scenario],
+    seed: u64,
+    plan: Plan,
+    gate: &G,
+) -> Result<Deliveries, AllocError>
+    requires table { table.now ≡ whole_table capture.now }
+    requires few { length scenarios.now ≤ 256 }
+    ensures { IfOk result (λ v. v ≡ deliveries microseconds seed (connections_of (seen_capture (contents_of capture.now))) scenarios.now) }
+{
+    indexed_connections_agree();
+    let workers = plan.workers() as u64;
+    let conns = table.conns();
+    let records = capture.records();
+    // each connection begins at a record of its own
+    prove!(conns.len() <= records.len());
+    let count = conns.len() as u64;
+    let line_jobs = LineJobs {
+        alloc,
+        capture,
+        conns,
+    };
+    let recordings = work_all(rt, alloc, count, workers, Phase::Lines, gate, &line_jobs)?;
+    let part_jobs = PartJobs {
+        alloc,
+        recordings: recordings.as_slice(),
+        scenarios,
+        seed,
+    };
+    let jobs = scenarios.len() as u64 * count;
+    work_all(rt, alloc, jobs, workers, Phase::Jobs, gate, &part_jobs)
+}

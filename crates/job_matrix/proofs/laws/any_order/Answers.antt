@@ -1,0 +1,5 @@
+use Rattle.job_matrix.proofs.WorldKept.{any_order}
+use Rattle.job_matrix.proofs.laws.any_order.Goals as goal
+
+pub returns : goal.returns
+returns g c = any_order _

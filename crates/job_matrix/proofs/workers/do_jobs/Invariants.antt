@@ -1,0 +1,13 @@
+use Rattle.std.proofs.Common.{◌≡◌, ◌-◌}
+use Rattle.job_matrix.specs.Filling.{with_values}
+use Rattle.job_matrix.proofs.Claimed.{above_all}
+use Rattle.job_matrix.proofs.workers.do_jobs.Given as goal
+
+abbrev pub invariant-claims : goal.invariant-claims
+invariant-claims g l = record {
+  board : l.pass.board ≡ l.board;
+  done : l.done.items ≡ with_values (g.W.Work.meaning l.work) l.pass.jobs;
+}
+
+abbrev pub decreases-claims : goal.decreases-claims
+decreases-claims g l = l.board.limit - above_all l.pass.jobs

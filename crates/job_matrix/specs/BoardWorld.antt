@@ -1,0 +1,102 @@
+-- The world of a board, without threads: workers who claim numbers below n, do the jobs of these numbers, and leave, in whatever order
+-- these events come.
+use Rattle.std.specs.Prelude.{◌≡◌, ◌≤◌, ◌+◌, ℕ, Bool, true, false, List, [], ◌∷◌, ◌++◌, Option, Some, None, map, replicate, nat_lt, IsPermutation, slice_get, slice_set, if◌then◌else◌}
+use Rattle.std.specs.List.{range_with_len}
+use Rattle.job_matrix.specs.Counting.{times, total, CountsBelow}
+use Rattle.job_matrix.specs.Filling.{jobs_in, AreRight, put_each}
+
+-- the number that a worker holds, whether it was told that no number is left, and whether it left
+pub record Worker : Type 0 where
+  pub holds : Option ℕ
+  pub told : Bool
+  pub left : Bool
+
+-- the next number, the workers, the jobs that are done, with their values, and the jobs that were lost
+pub record World (V : Type 0) : Type 0 where
+  pub next : ℕ
+  pub workers : List Worker
+  pub done : List (ℕ × V)
+  pub lost : List ℕ
+
+pub data Event : Type 0 where
+  claims : ℕ → Event
+  finishes : ℕ → Event
+  leaves : ℕ → Event
+
+abbrev pub whose : Event → ℕ
+whose (claims w) = w
+whose (finishes w) = w
+whose (leaves w) = w
+
+abbrev pub worker : Option ℕ → Bool → Bool → Worker
+worker holds told left = record { holds = holds; told = told; left = left }
+
+abbrev pub held : Option ℕ → List ℕ
+held (Some job) = job ∷ []
+held None = []
+
+module _ {V : Type 0} where
+  -- a worker who is there, holds nothing and was not told has the next number, or is told that none is left
+  abbrev pub claimed : ℕ → World V → ℕ → Option ℕ → Bool → Bool → World V
+  claimed n s w None false false =
+      if nat_lt s.next n
+      then record s { next = s.next + 1; workers = slice_set s.workers w (worker (Some s.next) false false) }
+      else record s { workers = slice_set s.workers w (worker None true false) }
+  claimed n s w holds told left = s
+
+  -- a worker's job is done
+  abbrev pub finished : (ℕ → V) → World V → ℕ → Option ℕ → Bool → Bool → World V
+  finished meaning s w (Some job) told left =
+      record s { workers = slice_set s.workers w (worker None told left); done = s.done ++ (job, meaning job) ∷ [] }
+  finished meaning s w None told left = s
+
+  -- a worker is gone, and what it held is lost
+  abbrev pub gone : World V → ℕ → Option ℕ → Bool → Bool → World V
+  gone s w holds told left = record s { workers = slice_set s.workers w (worker None told true); lost = s.lost ++ held holds }
+
+  abbrev pub step_of : (ℕ → V) → ℕ → World V → Event → Option Worker → World V
+  step_of meaning n s (claims w) (Some it) = claimed n s w it.holds it.told it.left
+  step_of meaning n s (finishes w) (Some it) = finished meaning s w it.holds it.told it.left
+  step_of meaning n s (leaves w) (Some it) = gone s w it.holds it.told it.left
+  step_of meaning n s event None = s
+
+  -- one event; that of a worker who is not there changes nothing
+  abbrev pub step : (ℕ → V) → ℕ → World V → Event → World V
+  step meaning n s event = step_of meaning n s event (slice_get s.workers (whose event))
+
+  abbrev pub run : (ℕ → V) → ℕ → World V → List Event → World V
+  run meaning n s [] = s
+  run meaning n s (event ∷ events) = run meaning n (step meaning n s event) events
+
+  abbrev pub start : ℕ → World V
+  start workers = record { next = 0; workers = replicate workers (worker None false false); done = []; lost = [] }
+
+  -- how often a number is held, done or lost
+  abbrev pub places : World V → ℕ → ℕ
+  places s x = total (λ w. times x (held w.holds)) s.workers + times x (jobs_in s.done) + times x s.lost
+
+  -- each number below the next is in one place, once, and no other number is; each done value is the one that its job is to give
+  pub record IsWhole (meaning : ℕ → V) (n : ℕ) (s : World V) : Type 0 where
+    pub once : CountsBelow s.next (places s)
+    pub right : AreRight meaning s.done
+    pub within : s.next ≤ n
+
+-- whatever the events, each number is in one place, once
+abbrev pub AnyOrder : Type 0 → Type 0
+AnyOrder V = (meaning : ℕ → V) (n workers : ℕ) (events : List Event) → IsWhole meaning n (run meaning n (start workers) events)
+
+-- where all numbers were claimed, and none is held or lost, each job is done once, with its value
+abbrev pub AllDone : Type 0 → Type 0
+AllDone V =
+    (meaning : ℕ → V) (n workers : ℕ) (events : List Event)
+    → (let s = run meaning n (start workers) events in
+      s.next ≡ n → ((w : ℕ) (it : Worker) → slice_get s.workers w ≡ Some it → it.holds ≡ None) → s.lost ≡ []
+        → CountsBelow n (λ x. times x (jobs_in s.done)) × AreRight meaning s.done)
+
+-- then a tray into which the values are put, in whatever order, has them in order of the jobs
+abbrev pub TrayIsFilled : Type 0 → Type 0
+TrayIsFilled V =
+    (meaning : ℕ → V) (n workers : ℕ) (events : List Event) (order : List (ℕ × V))
+    → (let s = run meaning n (start workers) events in
+      s.next ≡ n → ((w : ℕ) (it : Worker) → slice_get s.workers w ≡ Some it → it.holds ≡ None) → s.lost ≡ []
+        → IsPermutation s.done order → put_each (replicate n None) order ≡ map Some (map meaning (range_with_len 0 n)))

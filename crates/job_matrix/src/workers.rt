@@ -1,0 +1,150 @@
+//! Workers, who claim the jobs of a work from one board, and the values of all jobs in order.
+ghost use Rattle.std.specs.Prelude.{◌≡◌, ◌+◌, ◌-◌, ◌<◌, ◌≤◌, ◌^◌, ℕ, true, [], ◌++◌, map, replicate, Some, None, IfOk, IsOkAnd};
+ghost use Rattle.std.specs.List.{range_with_len};
+ghost use Rattle.std.specs.Thread.{IsSync};
+ghost use Rattle.job_matrix.specs.Counting.{times, CountsBelow};
+ghost use Rattle.job_matrix.specs.Filling.{jobs_in, with_values, put_each};
+
+use crate::boards::{Board, Chief, Pass};
+use crate::gates::{Gate, Phase};
+use crate::trays::Tray;
+use crate::values::Values;
+use crate::works::Work;
+use std::alloc::{AllocError, Global};
+use std::thread::{Threads, join};
+
+// The jobs that one worker claims, with their values. Where memory is wanting it claims no more.
+fn do_jobs<W: Work, G: Gate>(
+    alloc: Global,
+    board: &Board,
+    mut pass: Pass,
+    phase: Phase,
+    gate: &G,
+    work: &W,
+) -> (Pass, Result<Vec<(u64, W::Out)>, AllocError>)
+where
+    W::Out: Drop,
+    requires pass { (pass.board ≡ board.now) × (pass.jobs ≡ []) }
+    requires jobs { board.now.limit ≤ W.jobs work.now }
+    requires few { board.now.limit ≤ 2 ^ 48 }
+    ensures board { result.0.board ≡ board.now }
+    ensures done { IfOk result.1 (λ v. v.items ≡ with_values (W.meaning work.now) result.0.jobs) }
+    ensures told { IfOk result.1 (λ v. result.0.told ≡ true) }
+{
+    let mut done = Vec::new(alloc);
+    'claims: loop {
+        let Some(job) = board.claim(&mut pass) else {
+            return (pass, Ok(done));
+        };
+        gate.pass(phase, job);
+        let Ok(value) = work.value(job) else {
+            return (pass, Err(AllocError));
+        };
+        if done.push((job, value)).is_err() {
+            return (pass, Err(AllocError));
+        }
+    }
+}
+
+// The jobs of two lists, one behind the other, where both have found memory.
+fn append_jobs<V: Drop>(
+    first: Result<Vec<(u64, V)>, AllocError>,
+    second: Result<Vec<(u64, V)>, AllocError>,
+) -> Result<Vec<(u64, V)>, AllocError>
+    ensures { IfOk result (λ v. IsOkAnd first (λ a. IsOkAnd second (λ b. v.items ≡ a.items ++ b.items))) }
+{
+    let mut all = first?;
+    let mut more = second?;
+    all.append(&mut more)?;
+    Ok(all)
+}
+
+// The jobs that so many workers claim, with their values: this thread is one of them, and each other has a thread of its own. All
+// passes have come back.
+fn spread<W: Work, G: Gate, R: Threads + Sync>(
+    rt: &R,
+    alloc: Global,
+    board: &Board,
+    mut chief: Chief,
+    phase: Phase,
+    gate: &G,
+    work: &W,
+    workers: u64,
+) -> (Chief, Result<Vec<(u64, W::Out)>, AllocError>)
+where
+    W::Out: Send + Drop,
+    requires chief { (chief.board ≡ board.now) × (chief.jobs ≡ []) }
+    requires workers { (0 < workers) × (chief.made + workers ≤ 65536) }
+    requires work { (board.now.limit ≤ 2 ^ 48) × (board.now.limit ≤ W.jobs work.now) }
+    ensures board { result.0.board ≡ board.now }
+    ensures back { (result.0.made ≡ chief.made + workers) × (result.0.back ≡ chief.back + workers) }
+    ensures done { IfOk result.1 (λ v. (v.items ≡ with_values (W.meaning work.now) result.0.jobs) × (0 < result.0.told)) }
+{
+    let Ok(pass) = chief.split(board) else {
+        unreachable!()
+    };
+    if workers == 1 {
+        let (pass, done) = do_jobs(alloc, board, pass, phase, gate, work);
+        chief.take_back(board, pass);
+        return (chief, done);
+    }
+    let ((pass, mine), (mut chief, others)) = join(
+        rt,
+        move || -> (Pass, Result<Vec<(u64, W::Out)>, AllocError>)
+            requires { (pass.board ≡ board.now) × (pass.jobs ≡ []) × (board.now.limit ≤ 2 ^ 48) × (board.now.limit ≤ W.jobs work.now) }
+            ensures { (result.0.board ≡ board.entry.now) × IfOk result.1 (λ v. (v.items ≡ with_values (W.meaning work.entry.now) result.0.jobs) × (result.0.told ≡ true)) }
+        { do_jobs(alloc, board, pass, phase, gate, work) },
+        move || -> (Chief, Result<Vec<(u64, W::Out)>, AllocError>)
+            requires { IsSync R.row × (chief.board ≡ board.now) × (chief.jobs ≡ []) × (1 < workers) × (chief.made + (workers - 1) ≤ 65536) × (board.now.limit ≤ 2 ^ 48) × (board.now.limit ≤ W.jobs work.now) }
+            ensures { (result.0.board ≡ board.entry.now) × (result.0.made ≡ chief.made + (workers - 1)) × (result.0.back ≡ chief.back + (workers - 1)) × IfOk result.1 (λ v. (v.items ≡ with_values (W.meaning work.entry.now) result.0.jobs) × (0 < result.0.told)) }
+        { spread(rt, alloc, board, chief, phase, gate, work, workers - 1) },
+    );
+    chief.take_back(board, pass);
+    (chief, append_jobs(others, mine))
+}
+
+// The values of jobs that were done once each, in order of the jobs.
+fn put_in_order<V: Drop>(
+    alloc: Global,
+    count: u64,
+    done: Vec<(u64, V)>,
+) -> Result<Values<V>, AllocError>
+    requires { CountsBelow count (λ x. times x (jobs_in done.items)) }
+    ensures { IfOk result (λ v. map Some v ≡ put_each (replicate count None) done.items) }
+{
+    let mut tray = Tray::open(alloc, count)?;
+    for (job, value) in done {
+        let Ok(()) = tray.put(job, value) else {
+            unreachable!()
+        };
+    }
+    let Ok(values) = tray.finish() else {
+        unreachable!()
+    };
+    Ok(values)
+}
+
+/// The values of the jobs below `n`, in order. They are the same for every number of workers and in whatever order these come.
+pub fn work_all<W: Work, G: Gate, R: Threads + Sync>(
+    rt: &R,
+    alloc: Global,
+    n: u64,
+    workers: u64,
+    phase: Phase,
+    gate: &G,
+    work: &W,
+) -> Result<Values<W::Out>, AllocError>
+where
+    W::Out: Send + Drop,
+    requires few { n ≤ 2 ^ 48 }
+    requires workers { (1 ≤ workers) × (workers ≤ 16) }
+    requires jobs { n ≤ W.jobs work.now }
+    ensures { IfOk result (λ v. v ≡ map (W.meaning work.now) (range_with_len 0 n)) }
+{
+    let (board, chief) = Board::open(alloc, n)?;
+    let (chief, done) = spread(rt, alloc, &board, chief, phase, gate, work, workers);
+    let Ok(count) = board.close(chief) else {
+        unreachable!()
+    };
+    put_in_order(alloc, count, done?)
+}

@@ -7,8 +7,7 @@ mod Evaluated
 mod PrintedPart
 mod AnswerSteps
 mod OverviewSteps
-mod Meetings
 mod WrittenLines
-mod PlacesInLists
 mod WholeTables
-mod PartSteps
+mod RowSteps
+mod GatheredRows

@@ -11,8 +11,8 @@ use crate::counted::Counted;
 use crate::fault_lines::fault_line;
 use crate::faults::RunFault;
 use crate::options::Options;
-use crate::plans::Plan;
 use crate::printing::{print_reports, write_bytes};
+use job_matrix::Plan;
 use scenarios::Hosts;
 use std::alloc::Global;
 use std::io::{Read, Write};
@@ -31,7 +31,7 @@ const BARE: &[u8] = b"[]";
 /// The status is 0, 1 for a refusal, whose line is written with a line feed, and 2 for words, where a line of usage is
 /// written and nothing is read. Where there is no memory for a refusal's line, nothing is written; a write of it that fails
 /// ends it early and leaves the status as it is. It waits for the threads of the rehearsal: its clauses hold if it returns.
-pub fn run<H: Threads + Wait, R: Read, W: Write, E: Write>(
+pub fn run<H: Threads + Wait + Sync, R: Read, W: Write, E: Write>(
     rt: &H,
     alloc: Global,
     words: bool,
@@ -72,7 +72,7 @@ pub fn run<H: Threads + Wait, R: Read, W: Write, E: Write>(
 
 // Reads a capture to its end, rehearses it under one scenario without proxies and writes the report. Nothing is written before the
 // report is whole, so every refusal but a failed write leaves the writer as it was.
-fn overview<H: Threads + Wait, R: Read, W: Write>(
+fn overview<H: Threads + Wait + Sync, R: Read, W: Write>(
     rt: &H,
     alloc: Global,
     reader: &mut Counted<R>,

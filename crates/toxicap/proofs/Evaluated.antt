@@ -10,10 +10,10 @@ use Rattle.reassembly.specs.RecordedLines.{recorded_side}
 use Rattle.toxic_defs.specs.SessionCut.{cut_line}
 use Rattle.toxic_defs.specs.DeliveredLines.{delivered_connection}
 use Rattle.segment_writer.specs.WrittenSegments.{pieces, segments_sent_from, frame_bytes, sorted_by_key, written_segments}
-use Rattle.toxicap.specs.OutputCapture.{capture_of}
+use Rattle.time_merge.specs.MergedCapture.{capture_of}
 use Rattle.report.specs.ReportText.{connection_text}
 use Rattle.toxicap.specs.WrittenRows.{SessionWritten, RefusedWritten, RefusedPart}
-use Rattle.toxicap.specs.Contribution.{part}
+use Rattle.conn_workers.specs.ConnectionParts.{part}
 use Rattle.toxicap.specs.GroupingRows.{RepeatedGrouped, InTurnGrouped, UnopenedFirstGrouped, BothSidesGrouped, LateAnswersGrouped}
 
 pub session_written : SessionWritten

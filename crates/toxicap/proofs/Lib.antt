@@ -9,8 +9,7 @@ mod StoredFiles
 mod AnswerSteps
 mod RunSteps
 mod FirstPlaces
-mod Meetings
 mod WrittenLines
-mod PlacesInLists
 mod WholeTables
-mod PartSteps
+mod RowSteps
+mod GatheredRows

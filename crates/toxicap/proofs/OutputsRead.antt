@@ -15,15 +15,16 @@ use Rattle.scenarios.specs.declared.proxies.Proxy.{Proxy}
 use Rattle.conn_table.specs.IndexedSegments.{indexed_segments}
 use Rattle.conn_table.specs.Connections.{Connection, connections}
 use Rattle.segment_writer.specs.WrittenSegments.{sorted_by_key}
-use Rattle.toxicap.specs.OutputCapture.{capture_of}
+use Rattle.time_merge.specs.MergedCapture.{capture_of}
 use Rattle.reassembly.specs.Positions.{client_of, server_of}
 use Rattle.reassembly.specs.RecordedLines.{recorded_connection}
 use Rattle.toxic_defs.specs.DeliveredLines.{DeliveredConnection, delivered_connection}
 use Rattle.segment_writer.specs.WrittenConnections.{written_connection}
 use Rattle.segment_writer.specs.KeyLaws.{NoneLower, NeverFalls, SortedNeverFalls}
-use Rattle.toxicap.specs.Contribution.{part}
+use Rattle.conn_workers.specs.MetProxies.{met_proxy}
+use Rattle.conn_workers.specs.ConnectionParts.{part, part_of}
 use Rattle.conn_table.specs.SeenCapture.{SeenCapture, seen_packets, seen_capture}
-use Rattle.toxicap.specs.Rehearsal.{met_proxy, part_of, output, outputs_of, scenario_limit, answer}
+use Rattle.toxicap.specs.Rehearsal.{output, outputs_of, scenario_limit, answer}
 use Rattle.toxicap.specs.SoundOutputs.{NeverFall, IsSoundFrame, IsReadWhole, OutputsAreRead}
 use Rattle.toxicap.proofs.WrittenFrames.{all-append, IsSoundWritten, IsWritten, all-sorted_by_key, segments_are}
 use Rattle.toxicap.proofs.SoundConnections.{HasBytes, IsSoundConnection, packets_have, connections_are, server_base_fits}

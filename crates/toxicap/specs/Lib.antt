@@ -2,12 +2,8 @@ pub mod Dumps
 pub mod CountedView
 pub mod Loading
 pub mod RunFault
-pub mod WholeTable
-pub mod OutputCapture
-pub mod Contribution
-pub mod DirectParts
-pub mod Plans
 pub mod Rehearsal
+pub mod GatheredOutputs
 pub mod SoundOutputs
 pub mod Prints
 pub mod Shelves

@@ -1,38 +1,22 @@
 -- The outcome of a rehearsal: for each scenario a capture and a report, by filtering the whole list of packets for one
 -- connection after another.
-use Rattle.std.specs.Prelude.{◌≡◌, ℕ, List, length, map, find, Option, option_map, nat_lt, if◌then◌else◌, Result, Ok, Err}
+use Rattle.std.specs.Prelude.{◌≡◌, ℕ, List, length, map, nat_lt, if◌then◌else◌, Result, Ok, Err}
 use Rattle.std.specs.List.{enumerate_from, flat_map}
 use Rattle.pcap_records.specs.declared.fault.CaptureFault.{CaptureFault}
 use Rattle.pcap_records.specs.Reading.{Reading, reading}
-use Rattle.frame_headers.specs.declared.peers.Peer.{Peer}
 use Rattle.toxicap.specs.declared.faults.RunFault.{RunFault}
 use Rattle.toxicap.specs.declared.faults.RunFault.TheVariants.{TooManyScenarios}
 use Rattle.toxicap.specs.declared.outputs.Output.{Output}
 use Rattle.toxicap.specs.RunFault.{run_fault}
 use Rattle.conn_table.specs.SeenCapture.{SeenCapture, seen_capture}
 use Rattle.conn_table.specs.IndexedSegments.{indexed_segments}
-use Rattle.conn_table.specs.Connections.{Connection, connections, unopened_count}
-use Rattle.reassembly.specs.Positions.{server_of}
-use Rattle.toxic_defs.specs.DeliveredLines.{MetProxy}
-use Rattle.scenarios.specs.Populate.{leads_to}
+use Rattle.conn_table.specs.Connections.{connections, unopened_count}
 use Rattle.scenarios.specs.declared.proxies.Proxy.{Proxy}
-use Rattle.toxicap.specs.Contribution.{Part, part}
-use Rattle.toxicap.specs.OutputCapture.{capture_of}
+use Rattle.conn_workers.specs.ConnectionParts.{Part, part_of}
+use Rattle.time_merge.specs.MergedCapture.{capture_of}
 use Rattle.report.specs.ReportText.{report_text}
 
--- a scenario is seen as its proxies in order. What a connection meets of a proxy with its number
-abbrev pub met_of : ℕ × Proxy → MetProxy
-met_of (number, proxy) = record { number = number; enabled = proxy.enabled; up = proxy.up; down = proxy.down }
-
--- the first proxy of a scenario that stands before a server, if one does
-abbrev pub met_proxy : Peer → List Proxy → Option MetProxy
-met_proxy server proxies = option_map met_of (find (λ x. leads_to server x.1) (enumerate_from 0 proxies))
-
--- what a connection contributes to a scenario with its number
-abbrev pub part_of : ℕ → ℕ → ℕ × List Proxy → Connection → Part
-part_of ticks seed (number, proxies) c = part ticks c number seed (met_proxy (server_of c) proxies)
-
--- the parts of all connections, one after another
+-- A scenario is seen as its proxies in order. The parts of all connections, one after another
 abbrev pub parts : SeenCapture → ℕ → ℕ × List Proxy → List Part
 parts c seed scenario = map (part_of c.ticks seed scenario) (connections (indexed_segments 0 c.packets))
 

@@ -7,8 +7,8 @@ use Rattle.toxic_defs.specs.DeliveredLines.{delivered_connection, MetProxy}
 use Rattle.segment_writer.specs.WrittenConnections.{written_connection}
 use Rattle.segment_writer.specs.WrittenSegments.{WrittenConnection, written_segments}
 use Rattle.segment_writer.specs.declared.framed.Framed.{Framed}
-use Rattle.toxicap.specs.Contribution.{part}
-use Rattle.toxicap.specs.OutputCapture.{capture_of}
+use Rattle.conn_workers.specs.ConnectionParts.{part}
+use Rattle.time_merge.specs.MergedCapture.{capture_of}
 
 abbrev pub client : Peer
 client = record { addr = 0x0a000001; port = 40000 }

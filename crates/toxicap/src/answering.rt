@@ -11,11 +11,11 @@ ghost use Rattle.toxicap.specs.RunFault.{run_refusal};
 use crate::counted::Counted;
 use crate::dumps::capture_bytes;
 use crate::faults::RunFault;
-use crate::gates::Through;
 use crate::loading::load;
 use crate::options::Options;
 use crate::outputs::Outputs;
 use crate::rehearsal::rehearse;
+use job_matrix::Through;
 use scenarios::{Hosts, Scenario, ScenarioFault, read_scenario};
 use std::alloc::Global;
 use std::io::Read;
@@ -29,7 +29,7 @@ use std::thread::Threads;
 /// In this order: [`RunFault::ReadFailed`] or [`RunFault::CaptureTooLong`] while the capture is read, [`RunFault::BadDump`],
 /// [`RunFault::BadScenario`] for the first scenario that is refused, [`RunFault::TooManyScenarios`], the faults of the capture itself;
 /// [`RunFault::Memory`] at the growth that was refused.
-pub fn answers<H: Threads + Wait, R: Read>(
+pub fn answers<H: Threads + Wait + Sync, R: Read>(
     rt: &H,
     alloc: Global,
     reader: &mut Counted<R>,
@@ -52,7 +52,7 @@ pub fn answers<H: Threads + Wait, R: Read>(
 
 // What a text calls for.
 #[tactic(auto, unfolding(crate::specs::Answering::called_for))]
-fn answer_to_text<H: Threads + Wait>(
+fn answer_to_text<H: Threads + Wait + Sync>(
     rt: &H,
     alloc: Global,
     text: Vec<u8>,
@@ -68,7 +68,7 @@ fn answer_to_text<H: Threads + Wait>(
 }
 
 // The answer to a capture's bytes.
-fn answer_to_bytes<H: Threads + Wait>(
+fn answer_to_bytes<H: Threads + Wait + Sync>(
     rt: &H,
     alloc: Global,
     bytes: &[u8],

@@ -33,7 +33,7 @@ const NO_TEXT: &[u8] = b"error: a word of the command line is not text in UTF-8"
 /// that fails; want of memory comes where it happens. Where there is no memory for a refusal's line, nothing is written; a write on
 /// `faults` that fails ends it early and leaves the status as it is. It waits for the threads of the rehearsal: its clauses
 /// hold if it returns.
-pub fn command<H: Files + Threads + Wait, S: AsStr, I: Read, O: Write, E: Write>(
+pub fn command<H: Files + Threads + Wait + Sync, S: AsStr, I: Read, O: Write, E: Write>(
     rt: &H,
     alloc: Global,
     words: &[S],

@@ -6,22 +6,19 @@
 #![tactic(auto)]
 
 mod answering;
-mod capture_table;
 mod commands;
 mod counted;
+mod delivery_rows;
 mod dumps;
 mod fault_lines;
 mod faults;
 mod folders;
-mod gates;
 mod inputs;
 pub mod laws;
 mod loading;
-mod meeting;
 mod memory_shelves;
 mod options;
 mod outputs;
-mod plans;
 mod printing;
 mod rehearsal;
 mod rows;
@@ -29,7 +26,6 @@ mod running;
 mod scenario_outputs;
 mod shelves;
 mod storing;
-mod values;
 
 pub use answering::answers;
 pub use commands::{command, refuse_words};
@@ -38,14 +34,12 @@ pub use dumps::{is_dump, undump};
 pub use fault_lines::fault_line;
 pub use faults::RunFault;
 pub use folders::Folder;
-pub use gates::{Gate, Phase, Through};
+pub use job_matrix::{Gate, Phase, Plan, Through, Values};
 pub use loading::load;
 pub use memory_shelves::{MemoryFile, MemoryShelf};
 pub use options::Options;
 pub use outputs::{Output, Outputs};
-pub use plans::Plan;
 pub use printing::{print_reports, write_bytes};
 pub use rehearsal::rehearse;
 pub use shelves::{Shelf, ShelfError};
 pub use storing::{StoreFault, store_all};
-pub use values::Values;

@@ -1,5 +1,5 @@
 //! What a rehearsal is told beside its capture and its scenarios.
-use crate::plans::Plan;
+use job_matrix::Plan;
 use scenarios::Hosts;
 
 /// What a rehearsal is told beside its capture and its scenarios.

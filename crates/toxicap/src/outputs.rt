@@ -1,5 +1,5 @@
 //! What a rehearsal answers.
-use crate::values::Values;
+use job_matrix::Values;
 
 /// What one scenario answers: a capture of what each side would have received, and a report.
 #[derive(Drop)]

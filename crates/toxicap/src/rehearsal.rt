@@ -4,11 +4,9 @@ ghost use Rattle.toxicap.specs.Rehearsal.{answer};
 ghost use Rattle.toxicap.specs.RunFault.{run_refusal};
 
 use crate::faults::RunFault;
-use crate::gates::Gate;
 use crate::outputs::Outputs;
-use crate::plans::Plan;
 use crate::scenario_outputs::list_outputs;
-use crate::values::Values;
+use job_matrix::{Gate, Plan, Values};
 use pcap_records::read_capture;
 use scenarios::Scenario;
 use std::alloc::Global;
@@ -25,7 +23,7 @@ const SCENARIO_LIMIT: usize = 256;
 /// `TooManyScenarios` for more than 256, before the capture is looked at; then the capture's own fault; then `Memory`, where a
 /// growth was refused.
 #[tactic(auto, unfolding(crate::specs::Rehearsal::answer))]
-pub fn rehearse<R: Threads + Wait, G: Gate>(
+pub fn rehearse<R: Threads + Wait + Sync, G: Gate>(
     rt: &R,
     alloc: Global,
     capture: &[u8],
@@ -40,6 +38,6 @@ pub fn rehearse<R: Threads + Wait, G: Gate>(
         return Err(RunFault::TooManyScenarios);
     }
     let capture = read_capture(alloc, capture)?;
-    let outputs = list_outputs(alloc, &capture, scenarios, seed)?;
+    let outputs = list_outputs(rt, alloc, &capture, scenarios, seed, plan, gate)?;
     Ok(Values::of(outputs))
 }

@@ -13,10 +13,10 @@ use crate::faults::RunFault;
 use crate::folders::Folder;
 use crate::inputs::{read_files, read_hosts, texts_of};
 use crate::options::Options;
-use crate::plans::Plan;
 use crate::printing::print_reports;
 use crate::storing::store_all;
 use command_line::Asked;
+use job_matrix::Plan;
 use std::alloc::Global;
 use std::fs;
 use std::io::{Read, Write};
@@ -26,7 +26,7 @@ use std::thread::Threads;
 
 /// Does what a command line asks for: its hosts are read first, then its scenario files, then the capture, from `reader` where no
 /// file is named. The answers are stored in its folder, or where it names none the reports are printed on `writer`.
-pub(crate) fn run_asked<H: Files + Threads + Wait, R: Read, W: Write>(
+pub(crate) fn run_asked<H: Files + Threads + Wait + Sync, R: Read, W: Write>(
     rt: &H,
     alloc: Global,
     asked: &Asked<'_>,
@@ -67,7 +67,7 @@ pub(crate) fn run_asked<H: Files + Threads + Wait, R: Read, W: Write>(
 }
 
 // The answers to a reader's capture, stored in a folder, or without one their reports printed.
-fn answer_into<H: Files + Threads + Wait, R: Read, W: Write>(
+fn answer_into<H: Files + Threads + Wait + Sync, R: Read, W: Write>(
     rt: &H,
     alloc: Global,
     reader: &mut Counted<R>,
@@ -95,7 +95,7 @@ fn answer_into<H: Files + Threads + Wait, R: Read, W: Write>(
 
 // Reads a capture to its end, rehearses it under scenarios that are still texts, and writes the reports. Nothing is written
 // before they are whole, so every refusal but a failed write leaves the writer as it was.
-fn print_answers<H: Threads + Wait, R: Read, W: Write>(
+fn print_answers<H: Threads + Wait + Sync, R: Read, W: Write>(
     rt: &H,
     alloc: Global,
     reader: &mut Counted<R>,
@@ -119,7 +119,7 @@ fn print_answers<H: Threads + Wait, R: Read, W: Write>(
 }
 
 // Reads a capture to its end, rehearses it under scenarios that are still texts, and stores the outputs in a folder.
-fn store_answers<H: Files + Threads + Wait, R: Read>(
+fn store_answers<H: Files + Threads + Wait + Sync, R: Read>(
     rt: &H,
     alloc: Global,
     reader: &mut Counted<R>,

@@ -1,11 +1,11 @@
 -- Lists of jobs with values in another order.
-use Rattle.std.proofs.Common.{◌≡◌, ℕ, zero, suc, ◌+◌, ◌<◌, ◌==◌, List, [], ◌∷◌, length, get_or, All, if◌then◌else◌, IsPermutation, refl, sym, ap, ◌∙◌, arith}
+use Rattle.std.proofs.Common.{◌≡◌, ℕ, zero, suc, ◌==◌, List, [], ◌∷◌, All, if◌then◌else◌, IsPermutation, refl, sym, ◌∙◌, arith}
 use Rattle.std.specs.List.{sum_by}
 use Rattle.std.proofs.lemmas.List.Sums.{sum_by-cons}
 use Rattle.std.proofs.lemmas.List.Sorted.{sum_by-IsPermutation, All-permutation}
-use Rattle.job_matrix.specs.Counting.{times, CountsBelow}
-use Rattle.job_matrix.specs.Filling.{jobs_in, EachJob, AreRight}
-use Rattle.job_matrix.specs.BoardWorld.{TrayIsFilled, World, run, start}
+use Rattle.job_matrix.specs.Counting.{times}
+use Rattle.job_matrix.specs.Filling.{jobs_in, EachJob}
+use Rattle.job_matrix.specs.BoardWorld.{TrayIsFilled, world_after, first_world}
 use Rattle.job_matrix.proofs.FilledTrays.{filled_in_order}
 use Rattle.job_matrix.proofs.WorldKept.{all_done}
 
@@ -29,7 +29,7 @@ module _ {V : Type 0} where
 
 pub tray_is_filled : (V : Type 0) → TrayIsFilled V
 tray_is_filled V meaning n workers events order last none lost same =
-    let done : List (ℕ × V) = (run meaning n (start workers) events).done in
+    let done : List (ℕ × V) = (world_after meaning n (first_world workers) events).done in
     let all = all_done V meaning n workers events last none lost in
     let right = from_all (λ job value. value ≡ meaning job) order (All-permutation (λ (d : ℕ × V). d.1 ≡ meaning d.0) done order same (to_all (λ job value. value ≡ meaning job) done all.1)) in
     filled_in_order V meaning n order (λ x. let e = times_reordered x done order same in ((λ h. e ∙ (all.0 x).0 h), (λ h. e ∙ (all.0 x).1 h))) right

@@ -1,13 +1,12 @@
 -- Each event of a board's world keeps each number in one place.
-use Rattle.std.proofs.Common.{◌≡◌, ℕ, zero, suc, ◌+◌, ◌<◌, ◌≤◌, Bool, true, false, List, [], ◌∷◌, ◌++◌, Option, Some, None, map, replicate, set, nat_lt, slice_get, slice_set, if◌then◌else◌, refl, sym, ap, ◌∙◌, subst, arith}
-use Rattle.std.proofs.lemmas.Bool.{ltb-false}
+use Rattle.std.proofs.Common.{◌≡◌, ℕ, zero, suc, ◌+◌, ◌<◌, Bool, true, false, List, [], ◌∷◌, ◌++◌, Option, Some, None, replicate, set, nat_lt, slice_get, slice_set, if◌then◌else◌, refl, ap, ◌∙◌, arith}
 use Rattle.std.proofs.lemmas.List.{map-append}
 use borrow.Author.Tests.{ltb-true}
 use mathlib.Core.Logic.{dite}
 use native.Mathlib.Decide.{ℕ_discrete}
-use Rattle.job_matrix.specs.Counting.{times, total, CountsBelow}
-use Rattle.job_matrix.specs.Filling.{jobs_in, EachJob, AreRight}
-use Rattle.job_matrix.specs.BoardWorld.{Worker, World, Event, claims, finishes, leaves, worker, held, claimed, finished, gone, step_of, whose, step, run, start, places, IsWhole, AnyOrder, AllDone}
+use Rattle.job_matrix.specs.Counting.{times, total}
+use Rattle.job_matrix.specs.Filling.{jobs_in, AreRight}
+use Rattle.job_matrix.specs.BoardWorld.{Worker, World, Event, claims, finishes, leaves, worker, held, after_claim, after_finish, after_leave, event_by, whose, after_event, world_after, first_world, IsWhole, AnyOrder, AllDone}
 use Rattle.job_matrix.proofs.Sums.{times-append, times_one}
 
 -- the sum after a change of one element, as std reads lists
@@ -31,20 +30,19 @@ module _ {V : Type 0} where
   right-append meaning [] job right = (refl, tt)
   right-append meaning (d ∷ done) job right = (right.0, right-append meaning done job right.1)
 
-  -- a number is claimed
+  -- a number is after_claim
   claims_next : (meaning : ℕ → V) (n : ℕ) (s : World V) (w : ℕ) → slice_get s.workers w ≡ Some (worker None false false) → IsWhole meaning n s → s.next < n
       → IsWhole meaning n (record s { next = s.next + 1; workers = slice_set s.workers w (worker (Some s.next) false false) })
   claims_next meaning n s w at whole below = record {
     once = λ x.
-      let now = total_set_at (holding x) s.workers w (worker None false false) (worker (Some s.next) false false) at in
-      let one = times_one x s.next in
-      let once = whole.once x in
-      (
-        (λ h. dite (ℕ_discrete x s.next)
-          (λ same. omega (arith, now, one.0 same, once.1 (omega arith)))
-          (λ other. omega (arith, now, one.1 other, once.0 (omega arith)))),
-        (λ h. omega (arith, now, one.1 (λ e. omega arith), once.1 (omega arith))),
-      );
+        let now = total_set_at (holding x) s.workers w (worker None false false) (worker (Some s.next) false false) at in
+        let one = times_one x s.next in
+        let once = whole.once x in (
+          (λ h. dite (ℕ_discrete x s.next)
+              (λ same. omega (arith, now, one.0 same, once.1 (omega arith)))
+              (λ other. omega (arith, now, one.1 other, once.0 (omega arith)))),
+          (λ h. omega (arith, now, one.1 (λ e. omega arith), once.1 (omega arith))),
+        );
     right = whole.right;
     within = omega arith;
   }
@@ -54,9 +52,9 @@ module _ {V : Type 0} where
       → IsWhole meaning n (record s { workers = slice_set s.workers w (worker None true false) })
   claims_none meaning n s w at whole = record {
     once = λ x.
-      let now = total_set_at (holding x) s.workers w (worker None false false) (worker None true false) at in
-      let once = whole.once x in
-      ((λ h. omega (arith, now, once.0 h)), (λ h. omega (arith, now, once.1 h)));
+        let now = total_set_at (holding x) s.workers w (worker None false false) (worker None true false) at in
+        let once = whole.once x in
+        ((λ h. omega (arith, now, once.0 h)), (λ h. omega (arith, now, once.1 h)));
     right = whole.right;
     within = whole.within;
   }
@@ -67,39 +65,39 @@ module _ {V : Type 0} where
   claims_either meaning n s w false test at whole = claims_none meaning n s w at whole
 
   kept_by_claim : (meaning : ℕ → V) (n : ℕ) (s : World V) (w : ℕ) (holds : Option ℕ) (told left : Bool) → slice_get s.workers w ≡ Some (worker holds told left) → IsWhole meaning n s
-      → IsWhole meaning n (claimed n s w holds told left)
+      → IsWhole meaning n (after_claim n s w holds told left)
   kept_by_claim meaning n s w None false false at whole = claims_either meaning n s w (nat_lt s.next n) refl at whole
   kept_by_claim meaning n s w None false true at whole = whole
   kept_by_claim meaning n s w None true left at whole = whole
   kept_by_claim meaning n s w (Some job) told left at whole = whole
 
   kept_by_finish : (meaning : ℕ → V) (n : ℕ) (s : World V) (w : ℕ) (holds : Option ℕ) (told left : Bool) → slice_get s.workers w ≡ Some (worker holds told left) → IsWhole meaning n s
-      → IsWhole meaning n (finished meaning s w holds told left)
+      → IsWhole meaning n (after_finish meaning s w holds told left)
   kept_by_finish meaning n s w None told left at whole = whole
   kept_by_finish meaning n s w (Some job) told left at whole = record {
     once = λ x.
-      let now = total_set_at (holding x) s.workers w (worker (Some job) told left) (worker None told left) at in
-      let more = ap (times x) (jobs-append s.done job (meaning job)) ∙ times-append x (jobs_in s.done) (job ∷ []) in
-      let once = whole.once x in
-      ((λ h. omega (arith, now, more, once.0 h)), (λ h. omega (arith, now, more, once.1 h)));
+        let now = total_set_at (holding x) s.workers w (worker (Some job) told left) (worker None told left) at in
+        let more = ap (times x) (jobs-append s.done job (meaning job)) ∙ times-append x (jobs_in s.done) (job ∷ []) in
+        let once = whole.once x in
+        ((λ h. omega (arith, now, more, once.0 h)), (λ h. omega (arith, now, more, once.1 h)));
     right = right-append meaning s.done job whole.right;
     within = whole.within;
   }
 
   kept_by_leave : (meaning : ℕ → V) (n : ℕ) (s : World V) (w : ℕ) (holds : Option ℕ) (told left : Bool) → slice_get s.workers w ≡ Some (worker holds told left) → IsWhole meaning n s
-      → IsWhole meaning n (gone s w holds told left)
+      → IsWhole meaning n (after_leave s w holds told left)
   kept_by_leave meaning n s w holds told left at whole = record {
     once = λ x.
-      let now = total_set_at (holding x) s.workers w (worker holds told left) (worker None told true) at in
-      let more = times-append x s.lost (held holds) in
-      let once = whole.once x in
-      ((λ h. omega (arith, now, more, once.0 h)), (λ h. omega (arith, now, more, once.1 h)));
+        let now = total_set_at (holding x) s.workers w (worker holds told left) (worker None told true) at in
+        let more = times-append x s.lost (held holds) in
+        let once = whole.once x in
+        ((λ h. omega (arith, now, more, once.0 h)), (λ h. omega (arith, now, more, once.1 h)));
     right = whole.right;
     within = whole.within;
   }
 
   kept_by_any : (meaning : ℕ → V) (n : ℕ) (s : World V) (event : Event) (found : Option Worker) → slice_get s.workers (whose event) ≡ found → IsWhole meaning n s
-      → IsWhole meaning n (step_of meaning n s event found)
+      → IsWhole meaning n (event_by meaning n s event found)
   kept_by_any meaning n s (claims w) (Some it) at whole = kept_by_claim meaning n s w it.holds it.told it.left at whole
   kept_by_any meaning n s (finishes w) (Some it) at whole = kept_by_finish meaning n s w it.holds it.told it.left at whole
   kept_by_any meaning n s (leaves w) (Some it) at whole = kept_by_leave meaning n s w it.holds it.told it.left at whole
@@ -107,12 +105,12 @@ module _ {V : Type 0} where
   kept_by_any meaning n s (finishes w) None at whole = whole
   kept_by_any meaning n s (leaves w) None at whole = whole
 
-  kept_by_run : (meaning : ℕ → V) (n : ℕ) (s : World V) (events : List Event) → IsWhole meaning n s → IsWhole meaning n (run meaning n s events)
+  kept_by_run : (meaning : ℕ → V) (n : ℕ) (s : World V) (events : List Event) → IsWhole meaning n s → IsWhole meaning n (world_after meaning n s events)
   kept_by_run meaning n s [] whole = whole
   kept_by_run meaning n s (event ∷ events) whole =
-      kept_by_run meaning n (step meaning n s event) events (kept_by_any meaning n s event (slice_get s.workers (whose event)) refl whole)
+      kept_by_run meaning n (after_event meaning n s event) events (kept_by_any meaning n s event (slice_get s.workers (whose event)) refl whole)
 
-  start_whole : (meaning : ℕ → V) (n workers : ℕ) → IsWhole meaning n (start workers)
+  start_whole : (meaning : ℕ → V) (n workers : ℕ) → IsWhole meaning n (first_world workers)
   start_whole meaning n workers = record {
     once = λ x. let none = nobody_holds workers x in ((λ h. absurd (omega arith)), (λ h. omega (arith, none)));
     right = tt;
@@ -120,7 +118,7 @@ module _ {V : Type 0} where
   }
 
 pub any_order : (V : Type 0) → AnyOrder V
-any_order V meaning n workers events = kept_by_run meaning n (start workers) events (start_whole meaning n workers)
+any_order V meaning n workers events = kept_by_run meaning n (first_world workers) events (start_whole meaning n workers)
 
 none_held : (workers : List Worker) (x : ℕ) → ((w : ℕ) (it : Worker) → slice_get workers w ≡ Some it → it.holds ≡ None) → total (holding x) workers ≡ 0
 none_held [] x none = refl
@@ -131,12 +129,12 @@ none_held (it ∷ workers) x none =
 
 pub all_done : (V : Type 0) → AllDone V
 all_done V meaning n workers events last none lost =
-    let s : World V = run meaning n (start workers) events in
+    let s : World V = world_after meaning n (first_world workers) events in
     let whole = any_order V meaning n workers events in (
       (λ x.
-        let held' = none_held s.workers x none in
-        let gone' : times x s.lost ≡ 0 = ap (times x) lost in
-        let once = whole.once x in
-        ((λ h. omega (arith, held', gone', once.0 (omega (arith, last)))), (λ h. omega (arith, held', gone', once.1 (omega (arith, last)))))),
+          let held' = none_held s.workers x none in
+          let gone' : times x s.lost ≡ 0 = ap (times x) lost in
+          let once = whole.once x in
+          ((λ h. omega (arith, held', gone', once.0 (omega (arith, last)))), (λ h. omega (arith, held', gone', once.1 (omega (arith, last)))))),
       whole.right,
     )

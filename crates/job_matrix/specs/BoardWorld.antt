@@ -37,66 +37,66 @@ held None = []
 
 module _ {V : Type 0} where
   -- a worker who is there, holds nothing and was not told has the next number, or is told that none is left
-  abbrev pub claimed : ℕ → World V → ℕ → Option ℕ → Bool → Bool → World V
-  claimed n s w None false false =
+  abbrev pub after_claim : ℕ → World V → ℕ → Option ℕ → Bool → Bool → World V
+  after_claim n s w None false false =
       if nat_lt s.next n
       then record s { next = s.next + 1; workers = slice_set s.workers w (worker (Some s.next) false false) }
       else record s { workers = slice_set s.workers w (worker None true false) }
-  claimed n s w holds told left = s
+  after_claim n s w holds told left = s
 
   -- a worker's job is done
-  abbrev pub finished : (ℕ → V) → World V → ℕ → Option ℕ → Bool → Bool → World V
-  finished meaning s w (Some job) told left =
+  abbrev pub after_finish : (ℕ → V) → World V → ℕ → Option ℕ → Bool → Bool → World V
+  after_finish meaning s w (Some job) told left =
       record s { workers = slice_set s.workers w (worker None told left); done = s.done ++ (job, meaning job) ∷ [] }
-  finished meaning s w None told left = s
+  after_finish meaning s w None told left = s
 
   -- a worker is gone, and what it held is lost
-  abbrev pub gone : World V → ℕ → Option ℕ → Bool → Bool → World V
-  gone s w holds told left = record s { workers = slice_set s.workers w (worker None told true); lost = s.lost ++ held holds }
+  abbrev pub after_leave : World V → ℕ → Option ℕ → Bool → Bool → World V
+  after_leave s w holds told left = record s { workers = slice_set s.workers w (worker None told true); lost = s.lost ++ held holds }
 
-  abbrev pub step_of : (ℕ → V) → ℕ → World V → Event → Option Worker → World V
-  step_of meaning n s (claims w) (Some it) = claimed n s w it.holds it.told it.left
-  step_of meaning n s (finishes w) (Some it) = finished meaning s w it.holds it.told it.left
-  step_of meaning n s (leaves w) (Some it) = gone s w it.holds it.told it.left
-  step_of meaning n s event None = s
+  abbrev pub event_by : (ℕ → V) → ℕ → World V → Event → Option Worker → World V
+  event_by meaning n s (claims w) (Some it) = after_claim n s w it.holds it.told it.left
+  event_by meaning n s (finishes w) (Some it) = after_finish meaning s w it.holds it.told it.left
+  event_by meaning n s (leaves w) (Some it) = after_leave s w it.holds it.told it.left
+  event_by meaning n s event None = s
 
   -- one event; that of a worker who is not there changes nothing
-  abbrev pub step : (ℕ → V) → ℕ → World V → Event → World V
-  step meaning n s event = step_of meaning n s event (slice_get s.workers (whose event))
+  abbrev pub after_event : (ℕ → V) → ℕ → World V → Event → World V
+  after_event meaning n s event = event_by meaning n s event (slice_get s.workers (whose event))
 
-  abbrev pub run : (ℕ → V) → ℕ → World V → List Event → World V
-  run meaning n s [] = s
-  run meaning n s (event ∷ events) = run meaning n (step meaning n s event) events
+  abbrev pub world_after : (ℕ → V) → ℕ → World V → List Event → World V
+  world_after meaning n s [] = s
+  world_after meaning n s (event ∷ events) = world_after meaning n (after_event meaning n s event) events
 
-  abbrev pub start : ℕ → World V
-  start workers = record { next = 0; workers = replicate workers (worker None false false); done = []; lost = [] }
+  abbrev pub first_world : ℕ → World V
+  first_world workers = record { next = 0; workers = replicate workers (worker None false false); done = []; lost = [] }
 
   -- how often a number is held, done or lost
-  abbrev pub places : World V → ℕ → ℕ
-  places s x = total (λ w. times x (held w.holds)) s.workers + times x (jobs_in s.done) + times x s.lost
+  abbrev pub count_in : World V → ℕ → ℕ
+  count_in s x = total (λ w. times x (held w.holds)) s.workers + times x (jobs_in s.done) + times x s.lost
 
   -- each number below the next is in one place, once, and no other number is; each done value is the one that its job is to give
   pub record IsWhole (meaning : ℕ → V) (n : ℕ) (s : World V) : Type 0 where
-    pub once : CountsBelow s.next (places s)
+    pub once : CountsBelow s.next (count_in s)
     pub right : AreRight meaning s.done
     pub within : s.next ≤ n
 
 -- whatever the events, each number is in one place, once
 abbrev pub AnyOrder : Type 0 → Type 0
-AnyOrder V = (meaning : ℕ → V) (n workers : ℕ) (events : List Event) → IsWhole meaning n (run meaning n (start workers) events)
+AnyOrder V = (meaning : ℕ → V) (n workers : ℕ) (events : List Event) → IsWhole meaning n (world_after meaning n (first_world workers) events)
 
--- where all numbers were claimed, and none is held or lost, each job is done once, with its value
+-- where all numbers were after_claim, and none is held or lost, each job is done once, with its value
 abbrev pub AllDone : Type 0 → Type 0
 AllDone V =
     (meaning : ℕ → V) (n workers : ℕ) (events : List Event)
-    → (let s = run meaning n (start workers) events in
-      s.next ≡ n → ((w : ℕ) (it : Worker) → slice_get s.workers w ≡ Some it → it.holds ≡ None) → s.lost ≡ []
-        → CountsBelow n (λ x. times x (jobs_in s.done)) × AreRight meaning s.done)
+    → (let s = world_after meaning n (first_world workers) events in
+    s.next ≡ n → ((w : ℕ) (it : Worker) → slice_get s.workers w ≡ Some it → it.holds ≡ None) → s.lost ≡ []
+    → CountsBelow n (λ x. times x (jobs_in s.done)) × AreRight meaning s.done)
 
 -- then a tray into which the values are put, in whatever order, has them in order of the jobs
 abbrev pub TrayIsFilled : Type 0 → Type 0
 TrayIsFilled V =
     (meaning : ℕ → V) (n workers : ℕ) (events : List Event) (order : List (ℕ × V))
-    → (let s = run meaning n (start workers) events in
-      s.next ≡ n → ((w : ℕ) (it : Worker) → slice_get s.workers w ≡ Some it → it.holds ≡ None) → s.lost ≡ []
-        → IsPermutation s.done order → put_each (replicate n None) order ≡ map Some (map meaning (range_with_len 0 n)))
+    → (let s = world_after meaning n (first_world workers) events in
+    s.next ≡ n → ((w : ℕ) (it : Worker) → slice_get s.workers w ≡ Some it → it.holds ≡ None) → s.lost ≡ []
+    → IsPermutation s.done order → put_each (replicate n None) order ≡ map Some (map meaning (range_with_len 0 n)))

@@ -26,7 +26,6 @@ where
     W::Out: Drop,
     requires pass { (pass.board ≡ board.now) × (pass.jobs ≡ []) }
     requires jobs { board.now.limit ≤ W.jobs work.now }
-    requires few { board.now.limit ≤ 2 ^ 48 }
     ensures board { result.0.board ≡ board.now }
     ensures done { IfOk result.1 (λ v. v.items ≡ with_values (W.meaning work.now) result.0.jobs) }
     ensures told { IfOk result.1 (λ v. result.0.told ≡ true) }
@@ -75,7 +74,7 @@ where
     W::Out: Send + Drop,
     requires chief { (chief.board ≡ board.now) × (chief.jobs ≡ []) }
     requires workers { (0 < workers) × (chief.made + workers ≤ 65536) }
-    requires work { (board.now.limit ≤ 2 ^ 48) × (board.now.limit ≤ W.jobs work.now) }
+    requires jobs { board.now.limit ≤ W.jobs work.now }
     ensures board { result.0.board ≡ board.now }
     ensures back { (result.0.made ≡ chief.made + workers) × (result.0.back ≡ chief.back + workers) }
     ensures done { IfOk result.1 (λ v. (v.items ≡ with_values (W.meaning work.now) result.0.jobs) × (0 < result.0.told)) }
@@ -91,11 +90,11 @@ where
     let ((pass, mine), (mut chief, others)) = join(
         rt,
         move || -> (Pass, Result<Vec<(u64, W::Out)>, AllocError>)
-            requires { (pass.board ≡ board.now) × (pass.jobs ≡ []) × (board.now.limit ≤ 2 ^ 48) × (board.now.limit ≤ W.jobs work.now) }
+            requires { (pass.board ≡ board.now) × (pass.jobs ≡ []) × (board.now.limit ≤ W.jobs work.now) }
             ensures { (result.0.board ≡ board.entry.now) × IfOk result.1 (λ v. (v.items ≡ with_values (W.meaning work.entry.now) result.0.jobs) × (result.0.told ≡ true)) }
         { do_jobs(alloc, board, pass, phase, gate, work) },
         move || -> (Chief, Result<Vec<(u64, W::Out)>, AllocError>)
-            requires { IsSync R.row × (chief.board ≡ board.now) × (chief.jobs ≡ []) × (1 < workers) × (chief.made + (workers - 1) ≤ 65536) × (board.now.limit ≤ 2 ^ 48) × (board.now.limit ≤ W.jobs work.now) }
+            requires { IsSync R.row × (chief.board ≡ board.now) × (chief.jobs ≡ []) × (1 < workers) × (chief.made + (workers - 1) ≤ 65536) × (board.now.limit ≤ W.jobs work.now) }
             ensures { (result.0.board ≡ board.entry.now) × (result.0.made ≡ chief.made + (workers - 1)) × (result.0.back ≡ chief.back + (workers - 1)) × IfOk result.1 (λ v. (v.items ≡ with_values (W.meaning work.entry.now) result.0.jobs) × (0 < result.0.told)) }
         { spread(rt, alloc, board, chief, phase, gate, work, workers - 1) },
     );

@@ -1,7 +1,9 @@
 //! Tests over the public calls of the lower crates, with values from outside.
+mod boards;
 mod captures;
 mod deliveries;
 mod frames;
 mod scenario_files;
 mod tables;
 mod toxic_files;
+mod workers;

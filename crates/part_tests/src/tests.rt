@@ -2,6 +2,7 @@
 mod boards;
 mod captures;
 mod frames;
+mod range_tables;
 mod scenario_files;
 mod tables;
 mod toxic_files;

@@ -2,4 +2,5 @@
 mod boards;
 mod deliveries;
 mod merging;
+mod range_tables;
 mod workers;

@@ -73,10 +73,10 @@ fn from_right(
 }
 
 // A connection as a test wants it: its client, and the numbers of its members' records.
-type Wanted = (Host, &'static [u32]);
+pub(super) type Wanted = (Host, &'static [u32]);
 
 // That a table has these connections, numbered in turn, and so many unopened segments.
-fn check(
+pub(super) fn check(
     rt: &impl Abort,
     alloc: Global,
     table: &Table,
@@ -101,7 +101,7 @@ fn check(
 }
 
 // An opening that is sent again, and a second session of the same pair.
-fn repeated() -> [RecordedSegment<'static>; 6] {
+pub(super) fn repeated() -> [RecordedSegment<'static>; 6] {
     [
         segment((1, 0), CLIENT, SERVER, SYN, (1000, 0), b""),
         segment((1, 500_000), CLIENT, SERVER, SYN, (1000, 0), b""),
@@ -112,7 +112,34 @@ fn repeated() -> [RecordedSegment<'static>; 6] {
     ]
 }
 
-const REPEATED: [Wanted; 2] = [(CLIENT, &[0, 1, 2, 3]), (CLIENT, &[4, 5])];
+pub(super) const REPEATED: [Wanted; 2] = [(CLIENT, &[0, 1, 2, 3]), (CLIENT, &[4, 5])];
+
+// An opening, and a session whose stamps are before it.
+pub(super) fn falling() -> [RecordedSegment<'static>; 3] {
+    [
+        segment((5, 0), CLIENT, SERVER, SYN, (1000, 0), b""),
+        segment((4, 0), SECOND_CLIENT, SERVER, SYN, (2000, 0), b""),
+        segment(
+            (4, 500_000),
+            SECOND_CLIENT,
+            SERVER,
+            PSH + ACK,
+            (2001, 0),
+            b"h",
+        ),
+    ]
+}
+
+pub(super) const FALLING: [Wanted; 2] = [(CLIENT, &[0]), (SECOND_CLIENT, &[1, 2])];
+
+// That all members of a table have this instant.
+pub(super) fn check_instants(rt: &impl Abort, table: &Table, micros: u64) {
+    for conn in table.conns() {
+        let members = conn.members.as_slice();
+        assert_eq!(rt; conn.opened.count(), micros);
+        assert!(rt; members.iter().all(|member| member.at.count() == micros));
+    }
+}
 
 #[test]
 fn an_unopened_pair_first(rt: HostRuntime) -> Result<(), Fail> {
@@ -226,36 +253,14 @@ fn what_a_member_tells(rt: HostRuntime) -> Result<(), Fail> {
 
 #[test]
 fn instants_where_stamps_fall_back(rt: HostRuntime) -> Result<(), Fail> {
-    let segments = [
-        segment((5, 0), CLIENT, SERVER, SYN, (1000, 0), b""),
-        segment((4, 0), SECOND_CLIENT, SERVER, SYN, (2000, 0), b""),
-        segment(
-            (4, 500_000),
-            SECOND_CLIENT,
-            SERVER,
-            PSH + ACK,
-            (2001, 0),
-            b"h",
-        ),
-    ];
-    let bytes = file(rt.alloc(), true, &segments)?;
+    let bytes = file(rt.alloc(), true, &falling())?;
     let capture = read_capture(rt.alloc(), &bytes)?;
     for table in [
         whole(rt.alloc(), &capture)?,
         from_left(rt.alloc(), &capture, 1)?,
     ] {
-        check(
-            &rt,
-            rt.alloc(),
-            &table,
-            &[(CLIENT, &[0]), (SECOND_CLIENT, &[1, 2])],
-            0,
-        )?;
-        for conn in table.conns() {
-            let members = conn.members.as_slice();
-            assert_eq!(rt; conn.opened.count(), 5_000_000);
-            assert!(rt; members.iter().all(|member| member.at.count() == 5_000_000));
-        }
+        check(&rt, rt.alloc(), &table, &FALLING, 0)?;
+        check_instants(&rt, &table, 5_000_000);
     }
     Ok(())
 }

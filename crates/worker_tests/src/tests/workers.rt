@@ -44,10 +44,10 @@ impl Work for Tripled {
 
 // A gate that holds job 0 of a phase until job 1 of it has passed.
 #[derive(Drop)]
-struct Holding {
-    phase: Phase,
-    passed: AtomicU64,
-    gave_up: AtomicU64,
+pub(super) struct Holding {
+    pub(super) phase: Phase,
+    pub(super) passed: AtomicU64,
+    pub(super) gave_up: AtomicU64,
 }
 
 impl Gate for Holding {

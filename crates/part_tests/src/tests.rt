@@ -2,5 +2,4 @@
 mod captures;
 mod frames;
 mod scenario_files;
-mod tables;
 mod toxic_files;

@@ -3,4 +3,5 @@ mod boards;
 mod deliveries;
 mod merging;
 mod range_tables;
+mod tables;
 mod workers;

@@ -1,5 +1,5 @@
 use Rattle.std.proofs.Common.{◌≡◌, ◌≤◌, ◌-◌, length}
-use Rattle.part_tests.proofs.tests.tables.from_left.Given as goal
+use Rattle.worker_tests.proofs.tests.tables.from_left.Given as goal
 
 abbrev pub invariant-cuts : goal.invariant-cuts
 invariant-cuts l = record { place : l.done.to ≡ l.at; within : l.at ≤ length l.capture.records }

@@ -1,6 +1,7 @@
 //! From the words of a command line to what it asks for.
-ghost use Rattle.std.specs.Prelude.{◌≡◌, ◌≤◌, map, IfOk};
-ghost use Rattle.command_line.specs.Asking.{IsInRange, ReadsAs};
+ghost use Rattle.std.specs.Prelude.{◌≡◌, ◌≤◌, ◌^◌, map, option_map, IfOk};
+ghost use Rattle.clap.specs.Words.{found_of, kind_of, rows_of};
+ghost use Rattle.command_line.specs.Asking.{Asks, IsInRange, ReadsAs, StopsFor, number_of, number_to, values_of};
 
 use crate::asked::{Asked, Stop};
 use crate::options::program;
@@ -12,8 +13,9 @@ use std::convert::AsStr;
 /// Reads the words of a command line, which stand behind the program's name.
 ///
 /// # Errors
-/// [`Stop::Shown`] where the words ask for the help or for the version; [`Stop::Usage`] where they have a fault: an unknown option, a word that is no option,
-/// an option without its value, one that stands twice and may not, a number that is none or out of range; [`Stop::Memory`].
+/// [`Stop::Shown`] where the words ask for the help or for the version; [`Stop::Usage`] where they have a fault: an unknown option,
+/// a word that is no option, an option without its value, one that stands twice and may not, a number that is none or out of
+/// range; [`Stop::Memory`].
 pub fn read_words<'a, S: AsStr>(alloc: Global, words: &'a [S]) -> Result<Asked<'a>, Stop>
     ensures { ReadsAs (map S.text words.entry.now) result }
 {
@@ -25,24 +27,26 @@ pub fn read_words<'a, S: AsStr>(alloc: Global, words: &'a [S]) -> Result<Asked<'
 
 // What the words ask for, as clap found it.
 fn asked_in<'a>(alloc: Global, matches: &ArgMatches<'a>) -> Result<Asked<'a>, AllocError>
-    ensures { IfOk result IsInRange }
+    ensures range { IfOk result IsInRange }
+    ensures asks { IfOk result (Asks (rows_of (found_of matches.now))) }
 {
     Ok(Asked {
         capture: matches.get_str("capture"),
-        scenarios: all_of(alloc, matches, "scenario")?,
-        hosts: all_of(alloc, matches, "host")?,
+        scenarios: values(alloc, matches, "scenario")?,
+        hosts: values(alloc, matches, "host")?,
         seed: matches.get_one::<u64>("seed").unwrap_or(0),
-        workers: number_in(matches, "workers", 16, 1),
-        cut: number_in(matches, "cut", 1 << 20, 4096),
+        workers: number_from_one(matches, "workers", 16, 1),
+        cut: number_from_one(matches, "cut", 1 << 20, 4096),
         out: matches.get_str("out"),
     })
 }
 
-// The number of an option. That it lies between 1 and `most` was tested by clap; it is tested again here, so that callers can rely
-// on it without a theorem about clap's options.
-fn number_in(matches: &ArgMatches<'_>, name: &str, most: u32, default: u32) -> u32
+// The number of an option. That it lies between 1 and `most` was tested by clap; it is tested again here, so that callers can
+// rely on it without a theorem about clap's tests.
+fn number_from_one(matches: &ArgMatches<'_>, name: &str, most: u32, default: u32) -> u32
     requires { (1 ≤ default) × (default ≤ most) }
-    ensures { (1 ≤ result) × (result ≤ most) }
+    ensures range { (1 ≤ result) × (result ≤ most) }
+    ensures is { result ≡ number_to most default (number_of (2 ^ 32) name.now (rows_of (found_of matches.now))) }
 {
     match matches.get_one::<u32>(name) {
         Some(number) if 1 <= number && number <= most => number,
@@ -51,11 +55,13 @@ fn number_in(matches: &ArgMatches<'_>, name: &str, most: u32, default: u32) -> u
 }
 
 // All values of an option that may be repeated, in order.
-fn all_of<'a>(
+fn values<'a>(
     alloc: Global,
     matches: &ArgMatches<'a>,
     name: &str,
-) -> Result<Vec<&'a str>, AllocError> {
+) -> Result<Vec<&'a str>, AllocError>
+    ensures { IfOk result (λ found. map (λ value. value.now) found.items ≡ values_of name.now (rows_of (found_of matches.now))) }
+{
     let mut values = Vec::new(alloc);
     if let Some(found) = matches.get_strs(name) {
         values.extend_from_slice(found)?;
@@ -64,7 +70,9 @@ fn all_of<'a>(
 }
 
 // What an answer of clap's is: a text that was asked for, a fault, or want of memory, also for the text.
-fn stop_of(alloc: Global, error: &Error) -> Stop {
+fn stop_of(alloc: Global, error: &Error) -> Stop
+    ensures { StopsFor (kind_of error.now) result }
+{
     if error.kind() == ErrorKind::OutOfMemory {
         return Stop::Memory;
     }

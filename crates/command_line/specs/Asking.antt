@@ -1,9 +1,9 @@
 -- What the words of a command line ask for. How words are read as options with values is clap's own definition.
-use Rattle.std.specs.Prelude.{◌≡◌, ◌≢◌, ℕ, ◌≤◌, ◌<◌, ◌^◌, ◌⊎◌, ◌&&◌, nat_le, nat_lt, List, [], length, map, Option, Some, None, option_map, option_and_then, unwrap_or, codes, if◌then◌else◌, Result, Ok, Err}
+use Rattle.std.specs.Prelude.{◌≡◌, ◌≢◌, ℕ, ◌≤◌, ◌^◌, ◌⊎◌, ◌&&◌, nat_le, nat_lt, List, [], length, map, Option, Some, None, option_map, option_and_then, unwrap_or, codes, if◌then◌else◌, Result, Ok, Err}
 use Rattle.std.specs.List.{list_all}
 use Rattle.std.specs.Char.{digit_value}
 use Rattle.std.specs.Str.Parse.{digits_value, without_leading_plus}
-use Rattle.clap.specs.Words.{Row, Text, IsAmong, all_of, fault_of, first_of, matches_of, one_of}
+use Rattle.clap.specs.Words.{Kinds, Row, Text, IsAmong, all_of, fault_of, first_of, matches_of, one_of}
 use Rattle.clap.specs.declared.error.ErrorKind.{ErrorKind}
 use Rattle.clap.specs.declared.error.ErrorKind.TheVariants.{DisplayHelp, DisplayVersion, OutOfMemory}
 use Rattle.command_line.specs.OptionTable.{program_options}
@@ -48,12 +48,19 @@ pub record Asks (rows : List Row) (asked : Asked) : Type 0 where
 abbrev pub AsksText : ErrorKind → Type 0
 AsksText kind = (kind ≡ DisplayHelp) ⊎ (kind ≡ DisplayVersion)
 
+-- the kinds of fault that words have, and their matches
+unfoldable pub faults_in : List Text → Kinds
+faults_in words = fault_of program_options words
+
+unfoldable pub matches_in : List Text → List Row
+matches_in words = matches_of program_options words
+
 -- How words are read. Words without a fault ask for what their matches do; a text is shown or a fault told where clap's definition has
 -- one of that kind; memory may be wanted for any words.
 abbrev pub ReadsAs : List Text → Result Asked Stop → Type 0
-ReadsAs words (Ok asked) = IsInRange asked × (fault_of program_options words ≡ []) × Asks (matches_of program_options words) asked
-ReadsAs words (Err (Shown text)) = (kind : ErrorKind) × IsAmong kind (fault_of program_options words) × AsksText kind
-ReadsAs words (Err (Usage text)) = (kind : ErrorKind) × IsAmong kind (fault_of program_options words) × (AsksText kind → ⊥)
+ReadsAs words (Ok asked) = IsInRange asked × (faults_in words ≡ []) × Asks (matches_in words) asked
+ReadsAs words (Err (Shown text)) = (kind : ErrorKind) × IsAmong kind (faults_in words) × AsksText kind
+ReadsAs words (Err (Usage text)) = (kind : ErrorKind) × IsAmong kind (faults_in words) × (AsksText kind → ⊥)
 ReadsAs words (Err Memory) = Unit {0}
 
 -- how a fault of clap's stops a command line

@@ -1,7 +1,7 @@
 //! From the words of a command line to what it asks for.
-ghost use Rattle.std.specs.Prelude.{◌≡◌, ◌≤◌, ◌^◌, map, option_map, IfOk};
+ghost use Rattle.std.specs.Prelude.{◌≡◌, ◌≤◌, [], map, option_map, unwrap_or, IfOk};
 ghost use Rattle.clap.specs.Words.{found_of, kind_of, rows_of};
-ghost use Rattle.command_line.specs.Asking.{Asks, IsInRange, ReadsAs, StopsFor, number_of, number_to, values_of};
+ghost use Rattle.command_line.specs.Asking.{Asks, IsInRange, ReadsAs, StopsFor, number_to};
 
 use crate::asked::{Asked, Stop};
 use crate::options::program;
@@ -32,41 +32,37 @@ fn asked_in<'a>(alloc: Global, matches: &ArgMatches<'a>) -> Result<Asked<'a>, Al
 {
     Ok(Asked {
         capture: matches.get_str("capture"),
-        scenarios: values(alloc, matches, "scenario")?,
-        hosts: values(alloc, matches, "host")?,
+        scenarios: copy_of(alloc, matches.get_strs("scenario"))?,
+        hosts: copy_of(alloc, matches.get_strs("host"))?,
         seed: matches.get_one::<u64>("seed").unwrap_or(0),
-        workers: number_from_one(matches, "workers", 16, 1),
-        cut: number_from_one(matches, "cut", 1 << 20, 4096),
+        workers: from_one(matches.get_one("workers"), 16, 1),
+        cut: from_one(matches.get_one("cut"), 1 << 20, 4096),
         out: matches.get_str("out"),
     })
 }
 
-// The number of an option. That it lies between 1 and `most` was tested by clap; it is tested again here, so that callers can
-// rely on it without a theorem about clap's tests.
-fn number_from_one(matches: &ArgMatches<'_>, name: &str, most: u32, default: u32) -> u32
+// A number from 1 to `most`, or the default. clap has tested the number by then; it is tested again, so that callers can rely on
+// it without a theorem about clap's tests.
+fn from_one(number: Option<u32>, most: u32, default: u32) -> u32
     requires { (1 ≤ default) × (default ≤ most) }
     ensures range { (1 ≤ result) × (result ≤ most) }
-    ensures is { result ≡ number_to most default (number_of (2 ^ 32) name.now (rows_of (found_of matches.now))) }
+    ensures is { result ≡ number_to most default number }
 {
-    match matches.get_one::<u32>(name) {
+    match number {
         Some(number) if 1 <= number && number <= most => number,
         _ => default,
     }
 }
 
-// All values of an option that may be repeated, in order.
-fn values<'a>(
-    alloc: Global,
-    matches: &ArgMatches<'a>,
-    name: &str,
-) -> Result<Vec<&'a str>, AllocError>
-    ensures { IfOk result (λ found. map (λ value. value.now) found.items ≡ values_of name.now (rows_of (found_of matches.now))) }
+// A copy of the values of an option that may be repeated.
+fn copy_of<'a>(alloc: Global, found: Option<&[&'a str]>) -> Result<Vec<&'a str>, AllocError>
+    ensures { IfOk result (λ copy. map (λ value. value.now) copy.items ≡ unwrap_or (option_map (λ values. map (λ value. value.now) values.now) found.entry) []) }
 {
-    let mut values = Vec::new(alloc);
-    if let Some(found) = matches.get_strs(name) {
-        values.extend_from_slice(found)?;
+    let mut copy = Vec::new(alloc);
+    if let Some(values) = found {
+        copy.extend_from_slice(values)?;
     }
-    Ok(values)
+    Ok(copy)
 }
 
 // What an answer of clap's is: a text that was asked for, a fault, or want of memory, also for the text.

@@ -32,8 +32,30 @@ check 1 "" "refused 1 ShortHeader" /dev/null
 check 1 "" "refused 2 BadMagic" "$work/nano"
 check 1 "" "refused 5 RecordTooLong at 0" "$work/long"
 check 1 "" "refused 55 BadDump at 3" "$work/broken"
-check 2 "" "usage: toxicap < FILE" "$stored" --help
-check 2 "" "usage: toxicap < FILE" /dev/null ''
+check 1 "" "refused 23 BadHost host 0" "$stored" --host web
+check 1 "" "refused 61 ReadFailed" "$stored" --capture "$work/nothing"
+check 1 "" "refused 61 ReadFailed" "$stored" --scenario "$work"
+check 1 "" "refused 60 ShelfFailed after 0" "$stored" --out "$work/nothing"
+check 2 "" "error: invalid value '17' for '--workers <N>': 17 is not in 1..=16
+
+For more information, try '--help'." "$stored" --workers 17
+
+# a word that is no text
+check 2 "" "error: a word of the command line is not text in UTF-8" "$stored" --capture $'\xff'
+
+# options over files
+mkdir "$work/outputs"
+check 0 "$(cat crates/toxicap_program/stdout)" "" /dev/null --capture "$stored" --seed 7 --workers 2 --cut 1
+check 0 "" "" "$stored" --out "$work/outputs"
+if cmp -s "$work/outputs/0000.txt" crates/toxicap_program/stdout && [ "$(stat -c %s "$work/outputs/0000.pcap")" = 24 ] \
+  && [ "$(ls "$work/outputs")" = "$(printf '0000.pcap\n0000.txt')" ]; then passed=$((passed + 1)); else failed=$((failed + 1)); echo "failed: the files of --out"; fi
+
+# the texts that are asked for, on standard output
+for word in --help --version; do
+  status=0
+  "$program" "$word" < /dev/null > "$work/output" 2> "$work/fault" || status=$?
+  if [ "$status" = 0 ] && [ -s "$work/output" ] && [ ! -s "$work/fault" ]; then passed=$((passed + 1)); else failed=$((failed + 1)); echo "failed: $word"; fi
+done
 
 # a reader that cannot be read, and a writer that cannot be written
 check 1 "" "refused 61 ReadFailed" .

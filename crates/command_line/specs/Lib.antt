@@ -1,1 +1,2 @@
+pub mod OptionTable
 pub mod Asking

@@ -1,4 +1,8 @@
 //! The options of the program, with their texts. Lines are broken by hand, below 80 columns.
+ghost use Rattle.std.specs.Prelude.{◌≡◌, false, IfOk};
+ghost use Rattle.clap.specs.Words.{app_of, rule_of};
+ghost use Rattle.command_line.specs.OptionTable.{bare_app, number_rule, option_rule, path_options, program_options, repeated_rule};
+
 use clap::builder::ValueParser;
 use clap::{Arg, ArgAction, Command};
 use std::alloc::{AllocError, Global};
@@ -65,7 +69,10 @@ Examples:
       --host redis=10.0.0.9 --seed 7 --out outputs";
 
 // An option that takes a value and may stand once.
-fn option<'a>(alloc: Global, name: &'a str, value: &'a str, help: &'a str) -> Arg<'a> {
+fn option<'a>(alloc: Global, name: &'a str, value: &'a str, help: &'a str) -> Arg<'a>
+    ensures rule { rule_of result ≡ option_rule name.entry.now }
+    ensures local { result.global ≡ false }
+{
     Arg::new(alloc, name)
         .long(name)
         .value_name(value)
@@ -73,32 +80,68 @@ fn option<'a>(alloc: Global, name: &'a str, value: &'a str, help: &'a str) -> Ar
         .action(ArgAction::Set)
 }
 
-// An option that takes a whole number between these two and may stand once.
+// An option that takes a value and may be repeated.
+fn repeated<'a>(alloc: Global, name: &'a str, value: &'a str, help: &'a str) -> Arg<'a>
+    ensures rule { rule_of result ≡ repeated_rule name.entry.now }
+    ensures local { result.global ≡ false }
+{
+    Arg::new(alloc, name)
+        .long(name)
+        .value_name(value)
+        .help(help)
+        .action(ArgAction::Append)
+}
+
+// An option that takes a whole number from `least` to `most`, and may stand once.
 fn number<'a>(
     alloc: Global,
     name: &'a str,
     help: &'a str,
-    range: (u64, u64),
+    least: u64,
+    most: u64,
     default: &'a str,
-) -> Arg<'a> {
-    option(alloc, name, "N", help)
-        .value_parser(ValueParser::Unsigned(range.0, range.1))
+) -> Arg<'a>
+    ensures rule { rule_of result ≡ number_rule name.entry.now least most default.entry.now }
+    ensures local { result.global ≡ false }
+{
+    Arg::new(alloc, name)
+        .long(name)
+        .value_name("N")
+        .help(help)
+        .action(ArgAction::Set)
+        .value_parser(ValueParser::unsigned(least, most))
         .default_value(default)
 }
 
-/// The program's command line, for words behind the program's name.
-pub(crate) fn program<'a>(alloc: Global) -> Result<Command<'a>, AllocError> {
+// The program without its options: words behind its name, its version, and what stands around the options in the help.
+fn bare<'a>(alloc: Global) -> Command<'a>
+    ensures { app_of result ≡ bare_app }
+{
     Command::new(alloc, "toxicap")
         .no_binary_name(true)
         .version(VERSION)
         .long_version(FORMS)
         .about(ABOUT)
         .after_help(AFTER)
+}
+
+// The program with the options that name its inputs.
+fn with_inputs<'a>(alloc: Global) -> Result<Command<'a>, AllocError>
+    ensures { IfOk result (λ c. app_of c ≡ path_options) }
+{
+    bare(alloc)
         .arg(option(alloc, "capture", "PATH", CAPTURE))?
-        .arg(option(alloc, "scenario", "PATH", SCENARIO).action(ArgAction::Append))?
-        .arg(option(alloc, "host", "NAME=ADDR", HOST).action(ArgAction::Append))?
-        .arg(number(alloc, "seed", SEED, (0, u64::MAX), "0"))?
-        .arg(number(alloc, "workers", WORKERS, (1, 16), "1"))?
-        .arg(number(alloc, "cut", CUT, (1, 1 << 20), "4096"))?
+        .arg(repeated(alloc, "scenario", "PATH", SCENARIO))?
+        .arg(repeated(alloc, "host", "NAME=ADDR", HOST))
+}
+
+/// The program's command line.
+pub(crate) fn program<'a>(alloc: Global) -> Result<Command<'a>, AllocError>
+    ensures { IfOk result (λ c. app_of c ≡ program_options) }
+{
+    with_inputs(alloc)?
+        .arg(number(alloc, "seed", SEED, 0, u64::MAX, "0"))?
+        .arg(number(alloc, "workers", WORKERS, 1, 16, "1"))?
+        .arg(number(alloc, "cut", CUT, 1, 1 << 20, "4096"))?
         .arg(option(alloc, "out", "DIR", OUT))
 }

@@ -1,6 +1,7 @@
 //! From the words of a command line to what it asks for.
-ghost use Rattle.std.specs.Prelude.{◌≡◌, ◌≤◌, map, IfOk};
-ghost use Rattle.command_line.specs.Asking.{IsInRange, ReadsAs};
+ghost use Rattle.std.specs.Prelude.{◌≡◌, ◌≤◌, [], map, option_map, unwrap_or, IfOk};
+ghost use Rattle.clap.specs.Words.{found_of, kind_of, rows_of};
+ghost use Rattle.command_line.specs.Asking.{Asks, IsInRange, ReadsAs, StopsFor, number_to};
 
 use crate::asked::{Asked, Stop};
 use crate::options::program;
@@ -12,8 +13,9 @@ use std::convert::AsStr;
 /// Reads the words of a command line, which stand behind the program's name.
 ///
 /// # Errors
-/// [`Stop::Shown`] where the words ask for the help or for the version; [`Stop::Usage`] where they have a fault: an unknown option, a word that is no option,
-/// an option without its value, one that stands twice and may not, a number that is none or out of range; [`Stop::Memory`].
+/// [`Stop::Shown`] where the words ask for the help or for the version; [`Stop::Usage`] where they have a fault: an unknown option,
+/// a word that is no option, an option without its value, one that stands twice and may not, a number that is none or out of
+/// range; [`Stop::Memory`].
 pub fn read_words<'a, S: AsStr>(alloc: Global, words: &'a [S]) -> Result<Asked<'a>, Stop>
     ensures { ReadsAs (map S.text words.entry.now) result }
 {
@@ -25,46 +27,48 @@ pub fn read_words<'a, S: AsStr>(alloc: Global, words: &'a [S]) -> Result<Asked<'
 
 // What the words ask for, as clap found it.
 fn asked_in<'a>(alloc: Global, matches: &ArgMatches<'a>) -> Result<Asked<'a>, AllocError>
-    ensures { IfOk result IsInRange }
+    ensures range { IfOk result IsInRange }
+    ensures asks { IfOk result (Asks (rows_of (found_of matches.now))) }
 {
     Ok(Asked {
         capture: matches.get_str("capture"),
-        scenarios: all_of(alloc, matches, "scenario")?,
-        hosts: all_of(alloc, matches, "host")?,
+        scenarios: copy_of(alloc, matches.get_strs("scenario"))?,
+        hosts: copy_of(alloc, matches.get_strs("host"))?,
         seed: matches.get_one::<u64>("seed").unwrap_or(0),
-        workers: number_in(matches, "workers", 16, 1),
-        cut: number_in(matches, "cut", 1 << 20, 4096),
+        workers: from_one(matches.get_one("workers"), 16, 1),
+        cut: from_one(matches.get_one("cut"), 1 << 20, 4096),
         out: matches.get_str("out"),
     })
 }
 
-// The number of an option. That it lies between 1 and `most` was tested by clap; it is tested again here, so that callers can rely
-// on it without a theorem about clap's options.
-fn number_in(matches: &ArgMatches<'_>, name: &str, most: u32, default: u32) -> u32
+// A number from 1 to `most`, or the default. clap has tested the number by then; it is tested again, so that callers can rely on
+// it without a theorem about clap's tests.
+fn from_one(number: Option<u32>, most: u32, default: u32) -> u32
     requires { (1 ≤ default) × (default ≤ most) }
-    ensures { (1 ≤ result) × (result ≤ most) }
+    ensures range { (1 ≤ result) × (result ≤ most) }
+    ensures is { result ≡ number_to most default number }
 {
-    match matches.get_one::<u32>(name) {
+    match number {
         Some(number) if 1 <= number && number <= most => number,
         _ => default,
     }
 }
 
-// All values of an option that may be repeated, in order.
-fn all_of<'a>(
-    alloc: Global,
-    matches: &ArgMatches<'a>,
-    name: &str,
-) -> Result<Vec<&'a str>, AllocError> {
-    let mut values = Vec::new(alloc);
-    if let Some(found) = matches.get_strs(name) {
-        values.extend_from_slice(found)?;
+// A copy of the values of an option that may be repeated.
+fn copy_of<'a>(alloc: Global, found: Option<&[&'a str]>) -> Result<Vec<&'a str>, AllocError>
+    ensures { IfOk result (λ copy. map (λ value. value.now) copy.items ≡ unwrap_or (option_map (λ values. map (λ value. value.now) values.now) found.entry) []) }
+{
+    let mut copy = Vec::new(alloc);
+    if let Some(values) = found {
+        copy.extend_from_slice(values)?;
     }
-    Ok(values)
+    Ok(copy)
 }
 
 // What an answer of clap's is: a text that was asked for, a fault, or want of memory, also for the text.
-fn stop_of(alloc: Global, error: &Error) -> Stop {
+fn stop_of(alloc: Global, error: &Error) -> Stop
+    ensures { StopsFor (kind_of error.now) result }
+{
     if error.kind() == ErrorKind::OutOfMemory {
         return Stop::Memory;
     }

@@ -1,4 +1,5 @@
 //! Tests over the public calls of all crates, with values from outside.
+mod commands;
 mod dumps;
 mod edges;
 mod pieces;

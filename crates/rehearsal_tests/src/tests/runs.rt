@@ -6,9 +6,10 @@ use scenarios::Hosts;
 use std::alloc::AllocGlobal;
 use std::io::{Read, Write};
 use std::process::Abort;
+use std::rt::Files;
 use std::sync::Wait;
 use std::thread::Threads;
-use toxicap::{Counted, Options, Outputs, Plan, RunFault, answers, print_reports, run, undump};
+use toxicap::{Counted, Options, Outputs, Plan, RunFault, answers, command, print_reports, undump};
 
 // A file header, its fields lowest byte first.
 const HEADER: &str = "d4c3b2a1 02000400 00000000 00000000 ffff0000 01000000\n";
@@ -240,44 +241,40 @@ fn runs_over_failing_ends(rt: HostRuntime) {
     }
 }
 
-// Runs the program over a text: its status, what it wrote, and what it told on standard error.
+// Runs the program without options over a text: its status, what it wrote, and what it told on standard error.
 fn check_program(
-    rt: &(impl Abort + AllocGlobal + Threads + Wait),
-    words: bool,
+    rt: &(impl Abort + AllocGlobal + Files + Threads + Wait),
     text: &[u8],
     wanted: (u8, &str, &str),
 ) {
     let mut input = Counted::new(text);
     let mut output = Counted::new(Vec::new(rt.alloc()));
     let mut faults = Counted::new(Vec::new(rt.alloc()));
-    let status = run(rt, rt.alloc(), words, &mut input, &mut output, &mut faults);
+    let words: [&str; 0] = [];
+    let status = command(rt, rt.alloc(), &words, &mut input, &mut output, &mut faults);
     assert_eq!(rt; status, wanted.0);
     assert_eq!(rt; output.into_inner().as_slice(), wanted.1.as_bytes());
     assert_eq!(rt; faults.into_inner().as_slice(), wanted.2.as_bytes());
-    if words {
-        assert_eq!(rt; input.into_inner().len(), text.len());
-    }
 }
 
 #[test]
 fn statuses(rt: HostRuntime) {
     let dump = STORED_RUN.trim_start().as_bytes();
-    check_program(&rt, false, dump, (0, STORED_REPORT, ""));
-    check_program(&rt, false, b"", (1, "", "refused 1 ShortHeader\n"));
-    check_program(&rt, false, b"d4c", (1, "", "refused 55 BadDump at 3\n"));
-    check_program(&rt, true, dump, (2, "", "usage: toxicap < FILE\n"));
+    check_program(&rt, dump, (0, STORED_REPORT, ""));
+    check_program(&rt, b"", (1, "", "refused 1 ShortHeader\n"));
+    check_program(&rt, b"d4c", (1, "", "refused 55 BadDump at 3\n"));
 
     let too_long = format!(in rt.alloc(); "{HEADER}00000000 00000000 01000400 01000400").expect(
         &rt, "memory",
     );
-    let line = "refused 5 RecordTooLong at 0\n";
-    check_program(&rt, false, too_long.as_bytes(), (1, "", line));
+    check_program(&rt, too_long.as_bytes(), (1, "", "refused 5 RecordTooLong at 0\n"));
 }
 
 // A write that fails on standard error ends the line there, and leaves the status as it is.
 #[test]
 fn faults_told_in_part(rt: HostRuntime) {
-    for (words, status, told) in [(false, 1, "refused 61"), (true, 2, "usage: tox")] {
+    let rows: [(&[&str], u8, &str); 2] = [(&[], 1, "refused 61"), (&["--cut=0"], 2, "error: inv")];
+    for (words, status, told) in rows {
         let mut input = Counted::new(Pieces {
             rest: b"d4",
             most: 1,
@@ -289,7 +286,7 @@ fn faults_told_in_part(rt: HostRuntime) {
             most: 10,
             calls: 1,
         });
-        let answer = run(&rt, rt.alloc(), words, &mut input, &mut output, &mut faults);
+        let answer = command(&rt, rt.alloc(), words, &mut input, &mut output, &mut faults);
         assert_eq!(rt; answer, status);
         assert_eq!(rt; faults.failed(), 1);
         assert_eq!(rt; faults.into_inner().taken.as_slice(), told.as_bytes());
@@ -305,10 +302,11 @@ fn an_output_that_refuses_once(rt: HostRuntime) {
         takes_nothing: true,
     });
     let mut faults = Counted::new(Vec::new(rt.alloc()));
-    let status = run(
+    let words: [&str; 0] = [];
+    let status = command(
         &rt,
         rt.alloc(),
-        false,
+        &words,
         &mut Counted::new(STORED_RUN.trim_start().as_bytes()),
         &mut output,
         &mut faults,

@@ -1,0 +1,2 @@
+mod NumberSteps
+mod ReadingSteps

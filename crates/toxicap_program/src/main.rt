@@ -1,9 +1,8 @@
 //! The program `toxicap`. All of it is the library's `command`, on the words of the command line and the standard streams.
 #![tactic(auto)]
 
-use std::env;
-use std::io;
 use std::process::ExitCode;
+use std::{env, io};
 use toxicap::{Counted, command, refuse_words};
 
 fn main(rt: HostRuntime) -> ExitCode {

@@ -36,11 +36,7 @@ fn report(rt: &HostRuntime, scenario: u32, line: &str) -> Result<String, Fail> {
 }
 
 // Runs the program on words and a text as its standard input: its status, what it wrote, and what it told.
-fn ended(
-    rt: &HostRuntime,
-    words: &[&str],
-    text: &[u8],
-) -> Result<(u8, String, String), Fail> {
+fn ended(rt: &HostRuntime, words: &[&str], text: &[u8]) -> Result<(u8, String, String), Fail> {
     let mut input = Counted::new(text);
     let mut output = Counted::new(Vec::new(rt.alloc()));
     let mut faults = Counted::new(Vec::new(rt.alloc()));
@@ -82,13 +78,22 @@ fn captures_and_scenarios(rt: HostRuntime) -> Result<(), Fail> {
     fs::write(&rt, "bare.json", "[]")?;
     fs::write(&rt, "slow.json", slow_file(&rt, "10.0.0.2:80", 1_000_000)?)?;
     check(&rt, &["--capture", "plain.pcap"], b"", (0, &bare, ""))?;
-    let both = ["--capture=plain.pcap", "--scenario", "bare.json", "--scenario=slow.json"];
+    let both = [
+        "--capture=plain.pcap",
+        "--scenario",
+        "bare.json",
+        "--scenario=slow.json",
+    ];
     let mut reports = report(&rt, 0, PLAIN)?;
     reports.push_str(&report(&rt, 1, SLOW)?)?;
     check(&rt, &both, b"", (0, &reports, ""))?;
 
     // a capture that is a dump
-    fs::write(&rt, "header.txt", "d4c3b2a1 02000400 00000000 00000000 ffff0000 01000000\n")?;
+    fs::write(
+        &rt,
+        "header.txt",
+        "d4c3b2a1 02000400 00000000 00000000 ffff0000 01000000\n",
+    )?;
     let empty =
         "scenario 0 records 0 rest 0 segment 0 short 0 notipv4 0 badipv4 0 fragment 0 nottcp 0 cut 0 badtcp 0 sameends 0\nconnections 0 unopened 0\n";
     check(&rt, &["--capture", "header.txt"], &bytes, (0, empty, ""))
@@ -98,8 +103,18 @@ fn captures_and_scenarios(rt: HostRuntime) -> Result<(), Fail> {
 fn workers_and_cuts_change_nothing(rt: HostRuntime) -> Result<(), Fail> {
     let bytes = file(rt.alloc(), true, &session())?;
     let bare = report(&rt, 0, PLAIN)?;
-    check(&rt, &["--workers", "16", "--cut", "1048576"], &bytes, (0, &bare, ""))?;
-    check(&rt, &["--workers", "1", "--cut", "1"], &bytes, (0, &bare, ""))
+    check(
+        &rt,
+        &["--workers", "16", "--cut", "1048576"],
+        &bytes,
+        (0, &bare, ""),
+    )?;
+    check(
+        &rt,
+        &["--workers", "1", "--cut", "1"],
+        &bytes,
+        (0, &bare, ""),
+    )
 }
 
 // The first words that are drawn for the session's client: 872,008 of a million with the seed 0, 663,470 with the seed 42.
@@ -130,13 +145,25 @@ fn hosts(rt: HostRuntime) -> Result<(), Fail> {
     let unknown = "refused 15 UnknownHost scenario 0 proxy 0";
     refused(&rt, &["--scenario", "named.json"], &bytes, unknown)?;
     let slow = report(&rt, 0, SLOW)?;
-    let known = ["--host", "db=10.0.0.7", "--scenario", "named.json", "--host=web=10.0.0.2"];
+    let known = [
+        "--host",
+        "db=10.0.0.7",
+        "--scenario",
+        "named.json",
+        "--host=web=10.0.0.2",
+    ];
     check(&rt, &known, &bytes, (0, &slow, ""))?;
 
     let rows: [(&[&str], &str); 5] = [
         (&["--host", "web"], "refused 23 BadHost host 0"),
-        (&["--host", "a=10.0.0.9", "--host", "b"], "refused 23 BadHost host 1"),
-        (&["--host", "a=10.0.0.9", "--host", "a=10.0.0.9"], "refused 23 BadHost host 1"),
+        (
+            &["--host", "a=10.0.0.9", "--host", "b"],
+            "refused 23 BadHost host 1",
+        ),
+        (
+            &["--host", "a=10.0.0.9", "--host", "a=10.0.0.9"],
+            "refused 23 BadHost host 1",
+        ),
         (&["--host", "=10.0.0.9"], "refused 23 BadHost host 0"),
         (&["--host", "a=b=10.0.0.9"], "refused 23 BadHost host 0"),
     ];
@@ -150,23 +177,54 @@ fn hosts(rt: HostRuntime) -> Result<(), Fail> {
 fn outputs_in_a_folder(rt: HostRuntime) -> Result<(), Fail> {
     let bytes = file(rt.alloc(), true, &session())?;
     fs::write(&rt, "stored_bare.json", "[]")?;
-    fs::write(&rt, "stored_slow.json", slow_file(&rt, "10.0.0.2:80", 1_000_000)?)?;
+    fs::write(
+        &rt,
+        "stored_slow.json",
+        slow_file(&rt, "10.0.0.2:80", 1_000_000)?,
+    )?;
     fs::create_dir(&rt, "outputs")?;
-    let words = ["--out", "outputs", "--scenario", "stored_bare.json", "--scenario", "stored_slow.json"];
+    let words = [
+        "--out",
+        "outputs",
+        "--scenario",
+        "stored_bare.json",
+        "--scenario",
+        "stored_slow.json",
+    ];
     check(&rt, &words, &bytes, (0, "", ""))?;
     let plain = report(&rt, 0, PLAIN)?;
     let slow = report(&rt, 1, SLOW)?;
-    assert_eq!(rt; fs::read_to_string(&rt, "outputs/0000.txt")?.as_str(), plain.as_str());
-    assert_eq!(rt; fs::read_to_string(&rt, "outputs/0001.txt")?.as_str(), slow.as_str());
+    assert_eq!(rt;
+        fs::read_to_string(&rt, "outputs/0000.txt")?.as_str(),
+        plain.as_str()
+    );
+    assert_eq!(rt;
+        fs::read_to_string(&rt, "outputs/0001.txt")?.as_str(),
+        slow.as_str()
+    );
     let written = session_written(rt.alloc())?;
-    assert_eq!(rt; fs::read(&rt, "outputs/0000.pcap")?.as_slice(), written.as_slice());
+    assert_eq!(rt;
+        fs::read(&rt, "outputs/0000.pcap")?.as_slice(),
+        written.as_slice()
+    );
     assert_eq!(rt; fs::read(&rt, "outputs/0001.pcap")?.len(), written.len());
 
     // files that are there are replaced, and others stay
-    check(&rt, &["--out=outputs", "--scenario=stored_slow.json"], &bytes, (0, "", ""))?;
+    check(
+        &rt,
+        &["--out=outputs", "--scenario=stored_slow.json"],
+        &bytes,
+        (0, "", ""),
+    )?;
     let replaced = report(&rt, 0, SLOW)?;
-    assert_eq!(rt; fs::read_to_string(&rt, "outputs/0000.txt")?.as_str(), replaced.as_str());
-    assert_eq!(rt; fs::read_to_string(&rt, "outputs/0001.txt")?.as_str(), slow.as_str());
+    assert_eq!(rt;
+        fs::read_to_string(&rt, "outputs/0000.txt")?.as_str(),
+        replaced.as_str()
+    );
+    assert_eq!(rt;
+        fs::read_to_string(&rt, "outputs/0001.txt")?.as_str(),
+        slow.as_str()
+    );
 
     let nowhere = "refused 60 ShelfFailed after 0";
     refused(&rt, &["--out", "no such folder"], &bytes, nowhere)?;
@@ -180,19 +238,49 @@ fn the_order_of_refusals(rt: HostRuntime) -> Result<(), Fail> {
     fs::write(&rt, "broken.txt", "d4c")?;
     let rows: [(&[&str], &str); 6] = [
         (
-            &["--capture", "none", "--scenario", "none", "--host", "x", "--out", "none"],
+            &[
+                "--capture",
+                "none",
+                "--scenario",
+                "none",
+                "--host",
+                "x",
+                "--out",
+                "none",
+            ],
             "refused 23 BadHost host 0",
         ),
         (
-            &["--capture", "broken.txt", "--scenario", "none", "--out", "none"],
+            &[
+                "--capture",
+                "broken.txt",
+                "--scenario",
+                "none",
+                "--out",
+                "none",
+            ],
             "refused 61 ReadFailed",
         ),
         (
-            &["--capture", "none", "--scenario", "broken.json", "--out", "none"],
+            &[
+                "--capture",
+                "none",
+                "--scenario",
+                "broken.json",
+                "--out",
+                "none",
+            ],
             "refused 61 ReadFailed",
         ),
         (
-            &["--capture", "broken.txt", "--scenario", "broken.json", "--out", "none"],
+            &[
+                "--capture",
+                "broken.txt",
+                "--scenario",
+                "broken.json",
+                "--out",
+                "none",
+            ],
             "refused 55 BadDump at 3",
         ),
         (
@@ -242,12 +330,20 @@ fn faults_of_the_command_line(rt: HostRuntime) -> Result<(), Fail> {
         assert_eq!(rt; status, 2, "{words:?}");
         assert_eq!(rt; written.as_str(), "", "{words:?}");
         assert!(rt; told.starts_with("error: "), "{words:?}");
-        assert!(rt; told.ends_with("For more information, try '--help'.\n"), "{words:?}");
+        assert!(rt;
+            told.ends_with("For more information, try '--help'.\n"),
+            "{words:?}"
+        );
     }
     let workers =
         "error: invalid value '17' for '--workers <N>': 17 is not in 1..=16\n\nFor more information, try '--help'.\n";
     check(&rt, &["--workers", "17"], b"unread", (2, "", workers))?;
-    check(&rt, &["--seed", "18446744073709551615"], b"", (1, "", "refused 1 ShortHeader\n"))
+    check(
+        &rt,
+        &["--seed", "18446744073709551615"],
+        b"",
+        (1, "", "refused 1 ShortHeader\n"),
+    )
 }
 
 #[test]
@@ -255,11 +351,26 @@ fn help_and_version(rt: HostRuntime) -> Result<(), Fail> {
     let (status, help, told) = ended(&rt, &["--help"], b"unread")?;
     assert_eq!(rt; status, 0);
     assert_eq!(rt; told.as_str(), "");
-    let options = ["--capture <PATH>", "--scenario <PATH>", "--host <NAME=ADDR>", "--seed <N>", "--workers <N>", "--cut <N>", "--out <DIR>"];
+    let options = [
+        "--capture <PATH>",
+        "--scenario <PATH>",
+        "--host <NAME=ADDR>",
+        "--seed <N>",
+        "--workers <N>",
+        "--cut <N>",
+        "--out <DIR>",
+    ];
     for option in options {
         assert!(rt; help.contains(option), "{option}");
     }
-    for part in ["[default: standard input]", "[default: 0]", "[default: 1]", "[default: 4096]", "Exit status:", "Examples:"] {
+    for part in [
+        "[default: standard input]",
+        "[default: 0]",
+        "[default: 1]",
+        "[default: 4096]",
+        "Exit status:",
+        "Examples:",
+    ] {
         assert!(rt; help.contains(part), "{part}");
     }
     for line in help.lines() {
@@ -296,7 +407,10 @@ fn help_that_cannot_be_written(rt: HostRuntime) -> Result<(), Fail> {
     );
     assert_eq!(rt; status, 1);
     assert_eq!(rt; output.into_inner().taken.len(), 100);
-    assert_eq!(rt; faults.into_inner().as_slice(), b"refused 62 WriteFailed\n".as_slice());
+    assert_eq!(rt;
+        faults.into_inner().as_slice(),
+        b"refused 62 WriteFailed\n".as_slice()
+    );
     Ok(())
 }
 
@@ -314,7 +428,10 @@ fn words_that_cannot_be_had(rt: HostRuntime) -> Result<(), Fail> {
     ];
     for (kind, status, told) in rows {
         let mut faults = Counted::new(Vec::new(rt.alloc()));
-        assert_eq!(rt; refuse_words(rt.alloc(), &Error::from(kind), &mut faults), status);
+        assert_eq!(rt;
+            refuse_words(rt.alloc(), &Error::from(kind), &mut faults),
+            status
+        );
         assert_eq!(rt; faults.into_inner().as_slice(), told.as_bytes());
     }
     Ok(())

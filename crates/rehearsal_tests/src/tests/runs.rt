@@ -267,7 +267,11 @@ fn statuses(rt: HostRuntime) {
     let too_long = format!(in rt.alloc(); "{HEADER}00000000 00000000 01000400 01000400").expect(
         &rt, "memory",
     );
-    check_program(&rt, too_long.as_bytes(), (1, "", "refused 5 RecordTooLong at 0\n"));
+    check_program(
+        &rt,
+        too_long.as_bytes(),
+        (1, "", "refused 5 RecordTooLong at 0\n"),
+    );
 }
 
 // A write that fails on standard error ends the line there, and leaves the status as it is.

@@ -60,7 +60,7 @@ fn enabled_proxies_and_others(rt: HostRuntime) -> Result<(), Fail> {
 // ---- answers
 
 // What a capture's text answers under the texts of scenarios, with one known host, `web` at 10.0.0.2.
-fn answered<R: Threads + Wait>(
+fn answered<R: Threads + Wait + Sync>(
     rt: &R,
     alloc: Global,
     text: &[u8],

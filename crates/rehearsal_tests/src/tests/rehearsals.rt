@@ -22,7 +22,7 @@ pub fn scenario_of(alloc: Global, text: &str) -> Result<Scenario, RunFault> {
 }
 
 // The one output of a file under a scenario: its capture and its report.
-pub fn rehearsed_under<R: Threads + Wait>(
+pub fn rehearsed_under<R: Threads + Wait + Sync>(
     rt: &R,
     alloc: Global,
     bytes: &[u8],
@@ -39,7 +39,7 @@ pub fn rehearsed_under<R: Threads + Wait>(
 }
 
 // The same under a scenario without proxies.
-pub fn rehearsed<R: Threads + Wait>(
+pub fn rehearsed<R: Threads + Wait + Sync>(
     rt: &R,
     alloc: Global,
     bytes: &[u8],

@@ -29,7 +29,7 @@ const EMPTY_REPORT: &str =
 
 // What a reader's capture answers under one scenario without proxies.
 fn answered<R: Read>(
-    rt: &(impl AllocGlobal + Threads + Wait),
+    rt: &(impl AllocGlobal + Threads + Wait + Sync),
     reader: &mut Counted<R>,
 ) -> Result<Outputs, RunFault>
     requires { reader.old.failed < 2 ^ 64 - 1 }
@@ -44,7 +44,7 @@ fn answered<R: Read>(
 
 // What is printed of that.
 fn overview<R: Read, W: Write>(
-    rt: &(impl AllocGlobal + Threads + Wait),
+    rt: &(impl AllocGlobal + Threads + Wait + Sync),
     reader: &mut Counted<R>,
     writer: &mut Counted<W>,
 ) -> Result<(), RunFault>
@@ -56,7 +56,7 @@ fn overview<R: Read, W: Write>(
 
 // Runs over a text: the report that is written, or the refusal, which writes nothing.
 fn check_run(
-    rt: &(impl Abort + AllocGlobal + Threads + Wait),
+    rt: &(impl Abort + AllocGlobal + Threads + Wait + Sync),
     text: &[u8],
     wanted: Result<&str, RunFault>,
 ) {
@@ -243,7 +243,7 @@ fn runs_over_failing_ends(rt: HostRuntime) {
 
 // Runs the program without options over a text: its status, what it wrote, and what it told on standard error.
 fn check_program(
-    rt: &(impl Abort + AllocGlobal + Files + Threads + Wait),
+    rt: &(impl Abort + AllocGlobal + Files + Threads + Wait + Sync),
     text: &[u8],
     wanted: (u8, &str, &str),
 ) {

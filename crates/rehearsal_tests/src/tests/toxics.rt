@@ -29,7 +29,7 @@ fn file_of(alloc: Global, toxics: &str) -> Result<String, AllocError> {
 }
 
 // The one output of a capture under a scenario's text.
-fn output_of<R: Threads + Wait>(
+fn output_of<R: Threads + Wait + Sync>(
     rt: &R,
     alloc: Global,
     bytes: &[u8],

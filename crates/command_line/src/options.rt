@@ -37,7 +37,7 @@ redis=10.0.0.9; may be repeated, each name once";
 
 const SEED: &str = "\
 What jitter, slices and toxicity are drawn from, 0 to
-2^64 - 1; one seed draws the same each time";
+2^64 - 1; equal seeds draw the same";
 
 const WORKERS: &str = "\
 How many threads work, 1 to 16; no output depends
@@ -45,7 +45,8 @@ on it";
 
 const CUT: &str = "\
 How many records of the capture a thread reads at
-once, 1 to 1048576; no output depends on it";
+once, 1 to 1048576; no output depends
+on it";
 
 const OUT: &str = "\
 A folder, which exists, for the outputs: 0000.pcap

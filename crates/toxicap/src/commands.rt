@@ -52,21 +52,21 @@ pub fn command<H: Files + Threads + Wait + Sync, S: AsStr, I: Read, O: Write, E:
     // The command line is read, and how the program ends follows from what it asks for.
     ensures ends { (line : Result Asked Stop) × ReadsAs (map S.text words.now) line
         × ProgramEnds line result
-            (record {
-              Unread = input.new ≡ input.old;
-              Read = λ text n. Consumes (I.remaining input.old.inner) (I.remaining input.new.inner) text
-                  × (input.new.failed ≡ input.old.failed + n);
-              AtEnd = IsAtEnd (I.remaining input.new.inner);
-              Unwritten = output.new ≡ output.old;
-              Wrote = Appends (O.contents output.old.inner) (O.contents output.new.inner);
-              WritesFailed = λ n. output.new.failed ≡ output.old.failed + n;
-            })
-            (record {
-              Untold = faults.new ≡ faults.old;
-              Told = Appends (E.contents faults.old.inner) (E.contents faults.new.inner);
-              before = faults.old.failed;
-              now = faults.new.failed;
-            }) }
+        (record {
+          Unread = input.new ≡ input.old;
+          Read = λ text n. Consumes (I.remaining input.old.inner) (I.remaining input.new.inner) text
+              × (input.new.failed ≡ input.old.failed + n);
+          AtEnd = IsAtEnd (I.remaining input.new.inner);
+          Unwritten = output.new ≡ output.old;
+          Wrote = Appends (O.contents output.old.inner) (O.contents output.new.inner);
+          WritesFailed = λ n. output.new.failed ≡ output.old.failed + n;
+        })
+        (record {
+          Untold = faults.new ≡ faults.old;
+          Told = Appends (E.contents faults.old.inner) (E.contents faults.new.inner);
+          before = faults.old.failed;
+          now = faults.new.failed;
+        }) }
 {
     match read_words(alloc, words) {
         Ok(asked) => {

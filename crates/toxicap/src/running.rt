@@ -37,13 +37,13 @@ pub(crate) fn run_asked<H: Files + Threads + Wait + Sync, R: Read, W: Write>(
     requires reads { reader.old.failed < 2 ^ 64 - 1 }
     requires writes { writer.old.failed < 2 ^ 64 - 1 }
     ensures runs { RunsBy asked.now result (record {
-        Unread = reader.new ≡ reader.old;
-        Read = λ text n. Consumes (R.remaining reader.old.inner) (R.remaining reader.new.inner) text
-            × (reader.new.failed ≡ reader.old.failed + n);
-        AtEnd = IsAtEnd (R.remaining reader.new.inner);
-        Unwritten = writer.new ≡ writer.old;
-        Wrote = Appends (W.contents writer.old.inner) (W.contents writer.new.inner);
-        WritesFailed = λ n. writer.new.failed ≡ writer.old.failed + n;
+      Unread = reader.new ≡ reader.old;
+      Read = λ text n. Consumes (R.remaining reader.old.inner) (R.remaining reader.new.inner) text
+          × (reader.new.failed ≡ reader.old.failed + n);
+      AtEnd = IsAtEnd (R.remaining reader.new.inner);
+      Unwritten = writer.new ≡ writer.old;
+      Wrote = Appends (W.contents writer.old.inner) (W.contents writer.new.inner);
+      WritesFailed = λ n. writer.new.failed ≡ writer.old.failed + n;
     }) }
     ensures failed_writes { writer.new.failed ≡ writer.old.failed + failed_writes result }
     ensures untouched { IfErr result (λ fault. fault ≢ RunFault.WriteFailed → writer.new ≡ writer.old) }
@@ -81,8 +81,8 @@ fn answer_into<H: Files + Threads + Wait + Sync, R: Read, W: Write>(
     ensures answer { (text : List ℕ)
         × Consumes (R.remaining reader.old.inner) (R.remaining reader.new.inner) text
         × AnswersInto out.entry result (called_for options.now.hosts (map (λ t. t.now) texts.now) options.now.seed text) text
-            (IsAtEnd (R.remaining reader.new.inner))
-            (writer.new ≡ writer.old) (Appends (W.contents writer.old.inner) (W.contents writer.new.inner)) }
+        (IsAtEnd (R.remaining reader.new.inner))
+        (writer.new ≡ writer.old) (Appends (W.contents writer.old.inner) (W.contents writer.new.inner)) }
     ensures failed_reads { reader.new.failed ≡ reader.old.failed + failed_reads result }
     ensures failed_writes { writer.new.failed ≡ writer.old.failed + failed_writes result }
     ensures untouched { IfErr result (λ fault. fault ≢ RunFault.WriteFailed → writer.new ≡ writer.old) }
@@ -108,8 +108,8 @@ fn print_answers<H: Threads + Wait + Sync, R: Read, W: Write>(
     ensures answer { (text : List ℕ)
         × Consumes (R.remaining reader.old.inner) (R.remaining reader.new.inner) text
         × PrintsBy result (reports_called_for (called_for options.now.hosts (map (λ t. t.now) texts.now) options.now.seed text)) text
-            (IsAtEnd (R.remaining reader.new.inner))
-            (Appends (W.contents writer.old.inner) (W.contents writer.new.inner)) }
+        (IsAtEnd (R.remaining reader.new.inner))
+        (Appends (W.contents writer.old.inner) (W.contents writer.new.inner)) }
     ensures failed_reads { reader.new.failed ≡ reader.old.failed + failed_reads result }
     ensures failed_writes { writer.new.failed ≡ writer.old.failed + failed_writes result }
     ensures untouched { IfErr result (λ fault. fault ≢ RunFault.WriteFailed → writer.new ≡ writer.old) }

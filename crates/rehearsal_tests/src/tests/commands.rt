@@ -1,10 +1,13 @@
 //! The program's command line: each option, the order of refusals, and the three statuses, over real files.
-ghost use Rattle.std.specs.Prelude.{◌<◌, ◌-◌, ◌^◌};
-
 use super::edges::Sips;
 use super::rehearsals::session_written;
+use std::alloc::{AllocGlobal, Global};
 use std::fs;
+use std::process::Abort;
+use std::rt::Files;
+use std::sync::Wait;
 use std::test::Fail;
+use std::thread::Threads;
 use toxicap::{Counted, command, refuse_words};
 use worked_sessions::sessions::{file, session};
 
@@ -22,21 +25,25 @@ const SLOW: &str =
     "0 10.0.0.1:40000 > 10.0.0.2:80 proxy 0 up 5/5/0 fin+101000 max 100000 down 0/0/0 fin+3000 max 0\n";
 
 // A scenario file: one proxy with a latency of 100 ms upstream, which applies at so many times in a million.
-fn slow_file(rt: &HostRuntime, upstream: &str, ppm: u32) -> Result<String, Fail> {
-    let text = format!(in rt.alloc();
+fn slow_file(alloc: Global, upstream: &str, ppm: u32) -> Result<String, Fail> {
+    let text = format!(in alloc;
         "[{{\"name\":\"web\",\"upstream\":\"{upstream}\",\"toxics\":[{{\"type\":\"latency\",\"stream\":\"upstream\",\"toxicity_ppm\":{ppm},\"attributes\":{{\"latency\":100}}}}]}}]"
     )?;
     Ok(text)
 }
 
 // A report of the plain session.
-fn report(rt: &HostRuntime, scenario: u32, line: &str) -> Result<String, Fail> {
-    let text = format!(in rt.alloc(); "scenario {scenario} {COUNTS}{line}")?;
+fn report(alloc: Global, scenario: u32, line: &str) -> Result<String, Fail> {
+    let text = format!(in alloc; "scenario {scenario} {COUNTS}{line}")?;
     Ok(text)
 }
 
 // Runs the program on words and a text as its standard input: its status, what it wrote, and what it told.
-fn ended(rt: &HostRuntime, words: &[&str], text: &[u8]) -> Result<(u8, String, String), Fail> {
+fn ended(
+    rt: &(impl Abort + AllocGlobal + Files + Threads + Wait + Sync),
+    words: &[&str],
+    text: &[u8],
+) -> Result<(u8, String, String), Fail> {
     let mut input = Counted::new(text);
     let mut output = Counted::new(Vec::new(rt.alloc()));
     let mut faults = Counted::new(Vec::new(rt.alloc()));
@@ -50,7 +57,7 @@ fn ended(rt: &HostRuntime, words: &[&str], text: &[u8]) -> Result<(u8, String, S
 }
 
 fn check(
-    rt: &HostRuntime,
+    rt: &(impl Abort + AllocGlobal + Files + Threads + Wait + Sync),
     words: &[&str],
     text: &[u8],
     wanted: (u8, &str, &str),
@@ -63,7 +70,12 @@ fn check(
 }
 
 // The words are refused with this line.
-fn refused(rt: &HostRuntime, words: &[&str], text: &[u8], line: &str) -> Result<(), Fail> {
+fn refused(
+    rt: &(impl Abort + AllocGlobal + Files + Threads + Wait + Sync),
+    words: &[&str],
+    text: &[u8],
+    line: &str,
+) -> Result<(), Fail> {
     let told = format!(in rt.alloc(); "{line}\n")?;
     check(rt, words, text, (1, "", told.as_str()))
 }
@@ -71,12 +83,16 @@ fn refused(rt: &HostRuntime, words: &[&str], text: &[u8], line: &str) -> Result<
 #[test]
 fn captures_and_scenarios(rt: HostRuntime) -> Result<(), Fail> {
     let bytes = file(rt.alloc(), true, &session())?;
-    let bare = report(&rt, 0, PLAIN)?;
+    let bare = report(rt.alloc(), 0, PLAIN)?;
     check(&rt, &[], &bytes, (0, &bare, ""))?;
 
     fs::write(&rt, "plain.pcap", &bytes)?;
     fs::write(&rt, "bare.json", "[]")?;
-    fs::write(&rt, "slow.json", slow_file(&rt, "10.0.0.2:80", 1_000_000)?)?;
+    fs::write(
+        &rt,
+        "slow.json",
+        slow_file(rt.alloc(), "10.0.0.2:80", 1_000_000)?,
+    )?;
     check(&rt, &["--capture", "plain.pcap"], b"", (0, &bare, ""))?;
     let both = [
         "--capture=plain.pcap",
@@ -84,8 +100,8 @@ fn captures_and_scenarios(rt: HostRuntime) -> Result<(), Fail> {
         "bare.json",
         "--scenario=slow.json",
     ];
-    let mut reports = report(&rt, 0, PLAIN)?;
-    reports.push_str(&report(&rt, 1, SLOW)?)?;
+    let mut reports = report(rt.alloc(), 0, PLAIN)?;
+    reports.push_str(&report(rt.alloc(), 1, SLOW)?)?;
     check(&rt, &both, b"", (0, &reports, ""))?;
 
     // a capture that is a dump
@@ -102,7 +118,7 @@ fn captures_and_scenarios(rt: HostRuntime) -> Result<(), Fail> {
 #[test]
 fn workers_and_cuts_change_nothing(rt: HostRuntime) -> Result<(), Fail> {
     let bytes = file(rt.alloc(), true, &session())?;
-    let bare = report(&rt, 0, PLAIN)?;
+    let bare = report(rt.alloc(), 0, PLAIN)?;
     check(
         &rt,
         &["--workers", "16", "--cut", "1048576"],
@@ -130,10 +146,14 @@ fn seeds(rt: HostRuntime) -> Result<(), Fail> {
         (663_470, &["--seed", "42"], IDLE),
     ];
     for (ppm, seed, line) in rows {
-        fs::write(&rt, "seeded.json", slow_file(&rt, "10.0.0.2:80", ppm)?)?;
+        fs::write(
+            &rt,
+            "seeded.json",
+            slow_file(rt.alloc(), "10.0.0.2:80", ppm)?,
+        )?;
         let mut words = vec![in rt.alloc(); "--scenario", "seeded.json"]?;
         words.extend_from_slice(seed)?;
-        check(&rt, &words, &bytes, (0, &report(&rt, 0, line)?, ""))?;
+        check(&rt, &words, &bytes, (0, &report(rt.alloc(), 0, line)?, ""))?;
     }
     Ok(())
 }
@@ -141,10 +161,14 @@ fn seeds(rt: HostRuntime) -> Result<(), Fail> {
 #[test]
 fn hosts(rt: HostRuntime) -> Result<(), Fail> {
     let bytes = file(rt.alloc(), true, &session())?;
-    fs::write(&rt, "named.json", slow_file(&rt, "web:80", 1_000_000)?)?;
+    fs::write(
+        &rt,
+        "named.json",
+        slow_file(rt.alloc(), "web:80", 1_000_000)?,
+    )?;
     let unknown = "refused 15 UnknownHost scenario 0 proxy 0";
     refused(&rt, &["--scenario", "named.json"], &bytes, unknown)?;
-    let slow = report(&rt, 0, SLOW)?;
+    let slow = report(rt.alloc(), 0, SLOW)?;
     let known = [
         "--host",
         "db=10.0.0.7",
@@ -180,7 +204,7 @@ fn outputs_in_a_folder(rt: HostRuntime) -> Result<(), Fail> {
     fs::write(
         &rt,
         "stored_slow.json",
-        slow_file(&rt, "10.0.0.2:80", 1_000_000)?,
+        slow_file(rt.alloc(), "10.0.0.2:80", 1_000_000)?,
     )?;
     fs::create_dir(&rt, "outputs")?;
     let words = [
@@ -192,8 +216,8 @@ fn outputs_in_a_folder(rt: HostRuntime) -> Result<(), Fail> {
         "stored_slow.json",
     ];
     check(&rt, &words, &bytes, (0, "", ""))?;
-    let plain = report(&rt, 0, PLAIN)?;
-    let slow = report(&rt, 1, SLOW)?;
+    let plain = report(rt.alloc(), 0, PLAIN)?;
+    let slow = report(rt.alloc(), 1, SLOW)?;
     assert_eq!(rt;
         fs::read_to_string(&rt, "outputs/0000.txt")?.as_str(),
         plain.as_str()
@@ -216,7 +240,7 @@ fn outputs_in_a_folder(rt: HostRuntime) -> Result<(), Fail> {
         &bytes,
         (0, "", ""),
     )?;
-    let replaced = report(&rt, 0, SLOW)?;
+    let replaced = report(rt.alloc(), 0, SLOW)?;
     assert_eq!(rt;
         fs::read_to_string(&rt, "outputs/0000.txt")?.as_str(),
         replaced.as_str()

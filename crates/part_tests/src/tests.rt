@@ -3,3 +3,4 @@ mod captures;
 mod frames;
 mod scenario_files;
 mod toxic_files;
+mod toxics;

@@ -1,4 +1,6 @@
 //! The frames that are written of the plain session, both checksums filled, made and summed apart from this project.
+use crate::sessions::header;
+use std::alloc::{AllocError, Global};
 
 /// SYN from the client, both checksums filled.
 pub const OPENING: [u8; 54] = [
@@ -47,3 +49,24 @@ pub const SERVER_ENDS: [u8; 54] = [
     0x00, 0x01, 0x00, 0x50, 0x9c, 0x40, 0x00, 0x00, 0x13, 0x89, 0x00, 0x00, 0x03, 0xef, 0x50, 0x11,
     0xff, 0xff, 0xe7, 0xc8, 0x00, 0x00,
 ];
+
+// Appends what is written of one frame: its record, stamped so many microseconds behind the first second.
+fn put_written(file: &mut Vec<u8>, micros: u32, frame: &[u8]) -> Result<(), AllocError> {
+    let len = frame.len().min(1514) as u32;
+    for number in [1, micros, len, len] {
+        file.extend_from_slice(&number.to_le_bytes())?;
+    }
+    file.extend_from_slice(frame)
+}
+
+/// The output capture of the plain session: 449 bytes.
+pub fn session_written(alloc: Global) -> Result<Vec<u8>, AllocError> {
+    let mut file = header(alloc, true)?;
+    put_written(&mut file, 0, &OPENING)?;
+    put_written(&mut file, 0, &OPENING_ANSWERED)?;
+    put_written(&mut file, 0, &ACKNOWLEDGED)?;
+    put_written(&mut file, 1000, &DATA)?;
+    put_written(&mut file, 2000, &CLIENT_ENDS)?;
+    put_written(&mut file, 3000, &SERVER_ENDS)?;
+    Ok(file)
+}

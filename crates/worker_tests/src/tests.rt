@@ -1,6 +1,7 @@
 //! Tests of boards, trays, workers, ranges, deliveries and merging.
 mod boards;
 mod deliveries;
+mod joining;
 mod merging;
 mod range_tables;
 mod tables;

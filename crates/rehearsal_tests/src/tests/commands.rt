@@ -1,6 +1,4 @@
-//! The program's command line: each option, the order of refusals, and the three statuses, over real files.
-use super::edges::Sips;
-use super::rehearsals::session_written;
+//! The program's command line: each option, over real files.
 use std::alloc::{AllocGlobal, Global};
 use std::fs;
 use std::process::Abort;
@@ -8,8 +6,9 @@ use std::rt::Files;
 use std::sync::Wait;
 use std::test::Fail;
 use std::thread::Threads;
-use toxicap::{Counted, command, refuse_words};
+use toxicap::{Counted, command};
 use worked_sessions::sessions::{file, session};
+use worked_sessions::written_frames::session_written;
 
 const COUNTS: &str =
     "records 7 rest 0 segment 7 short 0 notipv4 0 badipv4 0 fragment 0 nottcp 0 cut 0 badtcp 0 sameends 0\nconnections 1 unopened 0\n";
@@ -39,7 +38,7 @@ fn report(alloc: Global, scenario: u32, line: &str) -> Result<String, Fail> {
 }
 
 // Runs the program on words and a text as its standard input: its status, what it wrote, and what it told.
-fn ended(
+pub fn ended(
     rt: &(impl Abort + AllocGlobal + Files + Threads + Wait + Sync),
     words: &[&str],
     text: &[u8],
@@ -56,7 +55,8 @@ fn ended(
     Ok((status, written, told))
 }
 
-fn check(
+// The program ends with this status, and has written and told these texts.
+pub fn check(
     rt: &(impl Abort + AllocGlobal + Files + Threads + Wait + Sync),
     words: &[&str],
     text: &[u8],
@@ -70,7 +70,7 @@ fn check(
 }
 
 // The words are refused with this line.
-fn refused(
+pub fn refused(
     rt: &(impl Abort + AllocGlobal + Files + Threads + Wait + Sync),
     words: &[&str],
     text: &[u8],
@@ -253,210 +253,4 @@ fn outputs_in_a_folder(rt: HostRuntime) -> Result<(), Fail> {
     let nowhere = "refused 60 ShelfFailed after 0";
     refused(&rt, &["--out", "no such folder"], &bytes, nowhere)?;
     refused(&rt, &["--out", ""], &bytes, nowhere)
-}
-
-// What is refused first: hosts, files of scenarios, the capture's bytes, its dump, scenarios, the capture, and then the folder.
-#[test]
-fn the_order_of_refusals(rt: HostRuntime) -> Result<(), Fail> {
-    fs::write(&rt, "broken.json", "[")?;
-    fs::write(&rt, "broken.txt", "d4c")?;
-    let rows: [(&[&str], &str); 6] = [
-        (
-            &[
-                "--capture",
-                "none",
-                "--scenario",
-                "none",
-                "--host",
-                "x",
-                "--out",
-                "none",
-            ],
-            "refused 23 BadHost host 0",
-        ),
-        (
-            &[
-                "--capture",
-                "broken.txt",
-                "--scenario",
-                "none",
-                "--out",
-                "none",
-            ],
-            "refused 61 ReadFailed",
-        ),
-        (
-            &[
-                "--capture",
-                "none",
-                "--scenario",
-                "broken.json",
-                "--out",
-                "none",
-            ],
-            "refused 61 ReadFailed",
-        ),
-        (
-            &[
-                "--capture",
-                "broken.txt",
-                "--scenario",
-                "broken.json",
-                "--out",
-                "none",
-            ],
-            "refused 55 BadDump at 3",
-        ),
-        (
-            &["--scenario", "broken.json", "--out", "none"],
-            "refused 10 NotJson scenario 0",
-        ),
-        (&["--out", "none"], "refused 1 ShortHeader"),
-    ];
-    for (words, line) in rows {
-        refused(&rt, words, b"", line)?;
-    }
-    Ok(())
-}
-
-// A path where nothing is, and a folder, which opens and cannot be read.
-#[test]
-fn paths_that_cannot_be_read(rt: HostRuntime) -> Result<(), Fail> {
-    let bytes = file(rt.alloc(), true, &session())?;
-    for path in ["nothing here", ".", ""] {
-        refused(&rt, &["--capture", path], &bytes, "refused 61 ReadFailed")?;
-        refused(&rt, &["--scenario", path], &bytes, "refused 61 ReadFailed")?;
-    }
-    Ok(())
-}
-
-#[test]
-fn faults_of_the_command_line(rt: HostRuntime) -> Result<(), Fail> {
-    let rows: [&[&str]; 15] = [
-        &["--seed", "1", "--seed", "2"],
-        &["--capture", "a", "--capture", "b"],
-        &["--out", "a", "--out", "b"],
-        &["--workers", "0"],
-        &["--workers", "x"],
-        &["--cut", "0"],
-        &["--cut", "1048577"],
-        &["--seed", "-1"],
-        &["--seed", "1.5"],
-        &["--seed", "18446744073709551616"],
-        &["--seeds", "1"],
-        &["--capture"],
-        &["session.pcap"],
-        &["-x"],
-        &[""],
-    ];
-    for words in rows {
-        let (status, written, told) = ended(&rt, words, b"unread")?;
-        assert_eq!(rt; status, 2, "{words:?}");
-        assert_eq!(rt; written.as_str(), "", "{words:?}");
-        assert!(rt; told.starts_with("error: "), "{words:?}");
-        assert!(rt;
-            told.ends_with("For more information, try '--help'.\n"),
-            "{words:?}"
-        );
-    }
-    let workers =
-        "error: invalid value '17' for '--workers <N>': 17 is not in 1..=16\n\nFor more information, try '--help'.\n";
-    check(&rt, &["--workers", "17"], b"unread", (2, "", workers))?;
-    check(
-        &rt,
-        &["--seed", "18446744073709551615"],
-        b"",
-        (1, "", "refused 1 ShortHeader\n"),
-    )
-}
-
-#[test]
-fn help_and_version(rt: HostRuntime) -> Result<(), Fail> {
-    let (status, help, told) = ended(&rt, &["--help"], b"unread")?;
-    assert_eq!(rt; status, 0);
-    assert_eq!(rt; told.as_str(), "");
-    let options = [
-        "--capture <PATH>",
-        "--scenario <PATH>",
-        "--host <NAME=ADDR>",
-        "--seed <N>",
-        "--workers <N>",
-        "--cut <N>",
-        "--out <DIR>",
-    ];
-    for option in options {
-        assert!(rt; help.contains(option), "{option}");
-    }
-    for part in [
-        "[default: standard input]",
-        "[default: 0]",
-        "[default: 1]",
-        "[default: 4096]",
-        "Exit status:",
-        "Examples:",
-    ] {
-        assert!(rt; help.contains(part), "{part}");
-    }
-    for line in help.lines() {
-        assert!(rt; line.len() < 80, "{line}");
-    }
-
-    check(&rt, &["-V"], b"unread", (0, "toxicap 1.0.0\n", ""))?;
-    let (status, version, told) = ended(&rt, &["--version"], b"unread")?;
-    assert_eq!(rt; status, 0);
-    assert_eq!(rt; told.as_str(), "");
-    assert!(rt; version.starts_with("toxicap 1.0.0\n"));
-    for form in ["pcap 2.4", "Ethernet", "IPv4", "TCP", "JSON"] {
-        assert!(rt; version.contains(form), "{form}");
-    }
-    Ok(())
-}
-
-#[test]
-fn help_that_cannot_be_written(rt: HostRuntime) -> Result<(), Fail> {
-    let mut output = Counted::new(Sips {
-        taken: Vec::new(rt.alloc()),
-        most: 100,
-        calls: 1,
-    });
-    let mut faults = Counted::new(Vec::new(rt.alloc()));
-    let words = ["--help"];
-    let status = command(
-        &rt,
-        rt.alloc(),
-        &words,
-        &mut Counted::new(b"".as_slice()),
-        &mut output,
-        &mut faults,
-    );
-    assert_eq!(rt; status, 1);
-    assert_eq!(rt; output.into_inner().taken.len(), 100);
-    assert_eq!(rt;
-        faults.into_inner().as_slice(),
-        b"refused 62 WriteFailed\n".as_slice()
-    );
-    Ok(())
-}
-
-// A command line that cannot be had: there is no memory for it, or a word of it is no text.
-#[test]
-fn words_that_cannot_be_had(rt: HostRuntime) -> Result<(), Fail> {
-    use std::io::{Error, ErrorKind};
-    let rows = [
-        (ErrorKind::OutOfMemory, 1, "refused 40 Memory\n"),
-        (
-            ErrorKind::InvalidData,
-            2,
-            "error: a word of the command line is not text in UTF-8\n",
-        ),
-    ];
-    for (kind, status, told) in rows {
-        let mut faults = Counted::new(Vec::new(rt.alloc()));
-        assert_eq!(rt;
-            refuse_words(rt.alloc(), &Error::from(kind), &mut faults),
-            status
-        );
-        assert_eq!(rt; faults.into_inner().as_slice(), told.as_bytes());
-    }
-    Ok(())
 }

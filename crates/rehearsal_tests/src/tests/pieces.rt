@@ -2,7 +2,6 @@
 ghost use Rattle.std.specs.Prelude.{◌≡◌, length, IfOk};
 ghost use Rattle.conn_table.specs.Tables.{table_in};
 
-use super::rehearsals::session_written;
 use conn_table::laws::tables_agree;
 use conn_table::{Partial, Table, finish};
 use pcap_records::{Capture, Moment, read_capture, write_header};
@@ -17,6 +16,7 @@ use toxic_defs::delivered_by;
 use worked_sessions::sessions::{
     ACK, CLIENT, PSH, SECOND_CLIENT, SERVER, SYN, file, segment, session,
 };
+use worked_sessions::written_frames::session_written;
 
 fn whole(alloc: Global, capture: &Capture<'_>) -> Result<Table, AllocError>
     ensures { IfOk result (λ table. table ≡ table_in capture.now 0 (length capture.now.records) 0) }

@@ -1,5 +1,5 @@
 //! Sessions under proxies, and whole answers from the texts of scenarios.
-use super::rehearsals::{rehearsed_under, session_written};
+use super::rehearsals::rehearsed_under;
 use scenarios::{Cause, Hosts, Refusal};
 use std::alloc::{AllocError, Global};
 use std::sync::Wait;
@@ -7,7 +7,7 @@ use std::test::Fail;
 use std::thread::Threads;
 use toxicap::{Counted, Options, Outputs, Plan, RunFault, answers, fault_line, undump};
 use worked_sessions::sessions::{file, session};
-use worked_sessions::written_frames::OPENING;
+use worked_sessions::written_frames::{OPENING, session_written};
 
 // A disabled proxy, and an enabled one behind it, for the server of the plain session.
 const BOTH: &str =

@@ -1,71 +1,46 @@
 //! Rehearsals of worked captures.
+use super::plans::under_every_plan;
 use scenarios::{Hosts, Scenario, read_scenario};
-use std::alloc::{AllocError, Global};
+use std::alloc::Global;
+use std::process::Abort;
 use std::sync::Wait;
 use std::test::Fail;
 use std::thread::Threads;
 use toxicap::{Plan, RunFault, Through, rehearse};
 use worked_sessions::sessions::{
-    ACK, CLIENT, FIN, Host, PSH, RST, SECOND_CLIENT, SERVER, SYN, file, header, put, segment,
-    session,
+    ACK, CLIENT, FIN, Host, PSH, RST, RecordedSegment, SECOND_CLIENT, SERVER, SYN, file, header,
+    put, segment, session,
 };
-use worked_sessions::written_frames::{
-    ACKNOWLEDGED, CLIENT_ENDS, DATA, OPENING, OPENING_ANSWERED, SERVER_ENDS,
-};
+use worked_sessions::written_frames::session_written;
 
 // The scenario of a text, where no host is known.
-pub fn scenario_of(alloc: Global, text: &str) -> Result<Scenario, RunFault> {
+pub fn scenario_of(alloc: Global, text: &str) -> Result<Scenario, Fail> {
     match read_scenario(alloc, text.as_bytes(), &Hosts::new(alloc)) {
         Ok(scenario) => Ok(scenario),
-        Err(_) => Err(RunFault::Memory),
+        Err(_) => Err("no scenario")?,
     }
 }
 
-// The one output of a file under a scenario: its capture and its report.
-pub fn rehearsed_under<R: Threads + Wait + Sync>(
+// The one output of a file under a scenario, its capture and its report: the same under every plan.
+pub fn rehearsed_under<R: Abort + Threads + Wait + Sync>(
     rt: &R,
     alloc: Global,
     bytes: &[u8],
     text: &str,
-) -> Result<(Vec<u8>, Vec<u8>), RunFault> {
-    let plan = Plan::new(1, 4096).ok_or(RunFault::Memory)?;
+) -> Result<(Vec<u8>, Vec<u8>), Fail> {
     let scenario = scenario_of(alloc, text)?;
-    let outputs = rehearse(rt, alloc, bytes, &[scenario], 0, plan, &Through)?;
-    let mut outputs = outputs.into_vec();
-    match outputs.pop() {
-        Some(output) => Ok((output.capture.into_vec(), output.report.into_vec())),
-        None => Err(RunFault::Memory),
-    }
+    let outputs = under_every_plan(rt, alloc, bytes, &[scenario], 0)?;
+    let output = outputs.into_vec().pop().ok_or("no output")?;
+    Ok((output.capture.into_vec(), output.report.into_vec()))
 }
 
 // The same under a scenario without proxies.
-pub fn rehearsed<R: Threads + Wait + Sync>(
+pub fn rehearsed<R: Abort + Threads + Wait + Sync>(
     rt: &R,
     alloc: Global,
     bytes: &[u8],
-) -> Result<(Vec<u8>, Vec<u8>), RunFault> {
+) -> Result<(Vec<u8>, Vec<u8>), Fail> {
     rehearsed_under(rt, alloc, bytes, "[]")
-}
-
-// Appends what is written of one frame: its record, stamped so many microseconds behind the first second.
-fn put_written(out: &mut Vec<u8>, micros: u32, frame: &[u8]) -> Result<(), AllocError> {
-    let len = frame.len().min(1514) as u32;
-    for number in [1, micros, len, len] {
-        out.extend_from_slice(&number.to_le_bytes())?;
-    }
-    out.extend_from_slice(frame)
-}
-
-// The output capture of the plain session: 449 bytes.
-pub fn session_written(alloc: Global) -> Result<Vec<u8>, AllocError> {
-    let mut out = header(alloc, true)?;
-    put_written(&mut out, 0, &OPENING)?;
-    put_written(&mut out, 0, &OPENING_ANSWERED)?;
-    put_written(&mut out, 0, &ACKNOWLEDGED)?;
-    put_written(&mut out, 1000, &DATA)?;
-    put_written(&mut out, 2000, &CLIENT_ENDS)?;
-    put_written(&mut out, 3000, &SERVER_ENDS)?;
-    Ok(out)
 }
 
 #[test]
@@ -101,17 +76,21 @@ pub fn ends_with(report: &[u8], text: &str) -> bool {
     report.ends_with(text.as_bytes())
 }
 
-#[test]
-fn repeated_opening_and_second_session(rt: HostRuntime) -> Result<(), Fail> {
-    let segments = [
+// An opening that is sent again, its answer and a byte, and a second session of the same ends.
+pub fn repeated() -> [RecordedSegment<'static>; 6] {
+    [
         segment((1, 0), CLIENT, SERVER, SYN, (1000, 0), b""),
         segment((1, 500_000), CLIENT, SERVER, SYN, (1000, 0), b""),
         segment((1, 600_000), SERVER, CLIENT, SYN + ACK, (5000, 1001), b""),
         segment((1, 700_000), CLIENT, SERVER, PSH + ACK, (1001, 5001), b"a"),
         segment((2, 0), CLIENT, SERVER, SYN, (9000, 0), b""),
         segment((2, 100_000), CLIENT, SERVER, PSH + ACK, (9001, 0), b"b"),
-    ];
-    let bytes = file(rt.alloc(), true, &segments)?;
+    ]
+}
+
+#[test]
+fn repeated_opening_and_second_session(rt: HostRuntime) -> Result<(), Fail> {
+    let bytes = file(rt.alloc(), true, &repeated())?;
     let (capture, report) = rehearsed(&rt, rt.alloc(), &bytes)?;
     assert_eq!(rt; capture.len(), 586);
     // The second SYN ACK: its sequence number is 0, its acknowledgment number 9001.

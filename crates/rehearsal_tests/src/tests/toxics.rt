@@ -1,12 +1,13 @@
 //! Sessions through toxics, with values from outside.
+use super::plans::under_every_plan;
 use super::rehearsals::scenario_of;
 use pcap_records::read_capture;
 use std::alloc::{AllocError, Global};
+use std::process::Abort;
 use std::sync::Wait;
 use std::test::Fail;
 use std::thread::Threads;
-use toxic_defs::{Key, Kind, Toxic, applies, word};
-use toxicap::{Output, Plan, RunFault, Through, rehearse};
+use toxicap::Output;
 use worked_sessions::sessions::{
     ACK, CLIENT, Host, PSH, RST, SECOND_CLIENT, SERVER, SYN, file, segment, session,
 };
@@ -28,17 +29,16 @@ fn file_of(alloc: Global, toxics: &str) -> Result<String, AllocError> {
     )
 }
 
-// The one output of a capture under a scenario's text.
-fn output_of<R: Threads + Wait + Sync>(
+// The one output of a capture under a scenario's text: the same under every plan.
+fn output_of<R: Abort + Threads + Wait + Sync>(
     rt: &R,
     alloc: Global,
     bytes: &[u8],
     text: &str,
-) -> Result<Output, RunFault> {
-    let plan = Plan::new(1, 4096).ok_or(RunFault::Memory)?;
+) -> Result<Output, Fail> {
     let scenario = scenario_of(alloc, text)?;
-    let outputs = rehearse(rt, alloc, bytes, &[scenario], SEED, plan, &Through)?;
-    outputs.into_vec().pop().ok_or(RunFault::Memory)
+    let outputs = under_every_plan(rt, alloc, bytes, &[scenario], SEED)?;
+    Ok(outputs.into_vec().pop().ok_or("no output")?)
 }
 
 // The instants, in microseconds, and the payloads' lengths of the records that carry payload.
@@ -328,128 +328,4 @@ fn other_connections_do_not_matter(rt: HostRuntime) -> Result<(), Fail> {
 // Whether a text has a part.
 fn contains(text: &[u8], part: &[u8]) -> bool {
     text.windows(part.len().max(1)).any(|found| found == part)
-}
-
-// ---- calls
-
-#[test]
-fn words_and_what_applies(rt: HostRuntime) -> Result<(), Fail> {
-    let key = Key {
-        seed: SEED,
-        s: 0,
-        c: 3,
-        d: 0,
-        t: 6,
-    };
-    for (k, wanted) in [(0, 0xa15c_02b7), (1, 0x7b47_f409), (2, 0xba1d_3330)] {
-        assert_eq!(rt; word(key, k), wanted);
-    }
-    for (ppm, wanted) in [(161_783, false), (161_784, true)] {
-        let toxic = Toxic::new(Kind::Bandwidth { rate: 1 }, ppm).ok_or("a toxic")?;
-        assert_eq!(rt; applies(&toxic, key), wanted);
-    }
-    Ok(())
-}
-
-#[test]
-fn borders_of_ranges(rt: HostRuntime) {
-    let most = 1_000_000_000;
-    let rows = [
-        (
-            Kind::Latency {
-                latency: most,
-                jitter: most,
-            },
-            true,
-        ),
-        (
-            Kind::Latency {
-                latency: most + 1,
-                jitter: 0,
-            },
-            false,
-        ),
-        (
-            Kind::Latency {
-                latency: 0,
-                jitter: most + 1,
-            },
-            false,
-        ),
-        (Kind::Bandwidth { rate: 0 }, false),
-        (Kind::Bandwidth { rate: 1 }, true),
-        (Kind::Bandwidth { rate: 1_000_000 }, true),
-        (Kind::Bandwidth { rate: 1_000_001 }, false),
-        (Kind::SlowClose { delay: most }, true),
-        (Kind::SlowClose { delay: most + 1 }, false),
-        (Kind::Timeout { timeout: most }, true),
-        (Kind::Timeout { timeout: most + 1 }, false),
-        (Kind::ResetPeer { timeout: most }, true),
-        (Kind::ResetPeer { timeout: most + 1 }, false),
-        (
-            Kind::Slicer {
-                average_size: 1,
-                size_variation: 0,
-                delay: most,
-            },
-            true,
-        ),
-        (
-            Kind::Slicer {
-                average_size: 0,
-                size_variation: 0,
-                delay: 0,
-            },
-            false,
-        ),
-        (
-            Kind::Slicer {
-                average_size: most,
-                size_variation: most - 1,
-                delay: 0,
-            },
-            true,
-        ),
-        (
-            Kind::Slicer {
-                average_size: most + 1,
-                size_variation: 0,
-                delay: 0,
-            },
-            false,
-        ),
-        (
-            Kind::Slicer {
-                average_size: 5,
-                size_variation: 5,
-                delay: 0,
-            },
-            false,
-        ),
-        (
-            Kind::Slicer {
-                average_size: 1,
-                size_variation: 0,
-                delay: most + 1,
-            },
-            false,
-        ),
-        (
-            Kind::LimitData {
-                bytes: 1_000_000_000_000,
-            },
-            true,
-        ),
-        (
-            Kind::LimitData {
-                bytes: 1_000_000_000_001,
-            },
-            false,
-        ),
-    ];
-    for (kind, fits) in rows {
-        assert_eq!(rt; kind.fits(), fits);
-        assert_eq!(rt; Toxic::new(kind, 1_000_000).is_some(), fits);
-        assert!(rt; Toxic::new(kind, 1_000_001).is_none());
-    }
 }

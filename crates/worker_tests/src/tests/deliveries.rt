@@ -5,13 +5,14 @@ ghost use Rattle.conn_workers.specs.CaptureTables.{whole_table};
 use conn_table::laws::tables_agree;
 use conn_table::{Partial, Table, finish};
 use conn_workers::{Delivery, deliver};
-use job_matrix::{Plan, Through};
+use job_matrix::{Gate, Phase, Plan, Through};
 use pcap_records::{Capture, Moment, read_capture};
 use scenarios::{Hosts, Scenario, read_scenario};
 use std::alloc::{AllocError, Global};
 use std::process::Abort;
 use std::test::Fail;
 use std::thread::Threads;
+use worked_sessions::gates::{Counting, Holding};
 use worked_sessions::sessions::{
     ACK, CLIENT, PSH, RecordedSegment, SECOND_CLIENT, SERVER, SYN, file, put, put_field, segment,
 };
@@ -79,20 +80,21 @@ fn whole_table(alloc: Global, capture: &Capture<'_>) -> Result<Table, AllocError
     finish(alloc, whole)
 }
 
-// The deliveries of a file by so many workers, with seed 42.
-fn delivered<R: Threads + Sync>(
+// The deliveries of a file by so many workers, who pass a gate, with seed 42.
+fn delivered<R: Threads + Sync, G: Gate>(
     rt: &R,
     alloc: Global,
     bytes: &[u8],
     scenarios: &[Scenario],
     workers: u32,
+    gate: &G,
 ) -> Result<Vec<Delivery>, Fail>
     requires { length scenarios.now ≤ 256 }
 {
     let capture = read_capture(alloc, bytes)?;
     let table = whole_table(alloc, &capture)?;
     let plan = Plan::new(workers, 4096).ok_or("no such plan")?;
-    let deliveries = deliver(rt, alloc, &capture, &table, scenarios, 42, plan, &Through)?;
+    let deliveries = deliver(rt, alloc, &capture, &table, scenarios, 42, plan, gate)?;
     Ok(deliveries.into_vec())
 }
 
@@ -137,7 +139,7 @@ fn a_row_for_each_scenario(rt: HostRuntime) -> Result<(), Fail> {
         scenario(rt.alloc(), &[DISABLED])?,
     ];
     for workers in [1, 2, 4, 16] {
-        let deliveries = delivered(&rt, rt.alloc(), &bytes, &scenarios, workers)?;
+        let deliveries = delivered(&rt, rt.alloc(), &bytes, &scenarios, workers, &Through)?;
         assert_eq!(rt; deliveries.len(), 4);
         let wanted = [
             (0, 0, 3, FIRST_LINE),
@@ -156,7 +158,7 @@ fn a_row_for_each_scenario(rt: HostRuntime) -> Result<(), Fail> {
 fn segments_of_a_connection(rt: HostRuntime) -> Result<(), Fail> {
     let bytes = file(rt.alloc(), true, &segments())?;
     let scenarios = [scenario(rt.alloc(), &[DELAYED])?];
-    let deliveries = delivered(&rt, rt.alloc(), &bytes, &scenarios, 2)?;
+    let deliveries = delivered(&rt, rt.alloc(), &bytes, &scenarios, 2, &Through)?;
     let delivery = deliveries.get(1).ok_or("no second delivery")?;
     check(&rt, delivery, 0, 1, 4, DELAYED_LINE);
     let wanted = [
@@ -183,9 +185,9 @@ fn connections_are_isolated(rt: HostRuntime) -> Result<(), Fail> {
     let alone = [scenario(rt.alloc(), &[DELAYED])?];
     let beside = [scenario(rt.alloc(), &[DELAYED, SILENT])?];
     for workers in [1, 2, 16] {
-        let first = delivered(&rt, rt.alloc(), &bytes, &alone, workers)?;
-        let second = delivered(&rt, rt.alloc(), &bytes, &beside, workers)?;
-        let third = delivered(&rt, rt.alloc(), &longer, &alone, workers)?;
+        let first = delivered(&rt, rt.alloc(), &bytes, &alone, workers, &Through)?;
+        let second = delivered(&rt, rt.alloc(), &bytes, &beside, workers, &Through)?;
+        let third = delivered(&rt, rt.alloc(), &longer, &alone, workers, &Through)?;
         let own = first.get(1).ok_or("no second delivery")?;
         check(&rt, own, 0, 1, 4, DELAYED_LINE);
         check_same(&rt, own, second.get(1).ok_or("no second delivery")?);
@@ -208,7 +210,44 @@ fn nothing_is_delivered_of_nothing(rt: HostRuntime) -> Result<(), Fail> {
     let empty = file(rt.alloc(), true, &[])?;
     let bytes = file(rt.alloc(), true, &segments())?;
     let scenarios = [scenario(rt.alloc(), &[])?];
-    assert!(rt; delivered(&rt, rt.alloc(), &empty, &scenarios, 16)?.is_empty());
-    assert!(rt; delivered(&rt, rt.alloc(), &bytes, &[], 2)?.is_empty());
+    assert!(rt; delivered(&rt, rt.alloc(), &empty, &scenarios, 16, &Through)?.is_empty());
+    assert!(rt; delivered(&rt, rt.alloc(), &bytes, &[], 2, &Through)?.is_empty());
+    Ok(())
+}
+
+// Job 0 of a phase waits until job 1 of it has passed: one thread alone would give up.
+#[test]
+fn two_workers_in_each_phase(rt: HostRuntime) -> Result<(), Fail> {
+    let bytes = file(rt.alloc(), true, &segments())?;
+    let scenarios = [scenario(rt.alloc(), &[])?];
+    for phase in [Phase::Lines, Phase::Jobs] {
+        let gate = Holding::new(phase);
+        let deliveries = delivered(&rt, rt.alloc(), &bytes, &scenarios, 2, &gate)?;
+        assert!(rt; !gate.gave_up());
+        assert_eq!(rt; deliveries.len(), 2);
+        let first = deliveries.first().ok_or("no delivery")?;
+        check(&rt, first, 0, 0, 3, FIRST_LINE);
+        let second = deliveries.get(1).ok_or("no second delivery")?;
+        check(&rt, second, 0, 1, 4, SECOND_LINE);
+    }
+    Ok(())
+}
+
+// Lines are made once for each connection, deliveries once for each connection and scenario.
+#[test]
+fn jobs_of_each_phase(rt: HostRuntime) -> Result<(), Fail> {
+    let bytes = file(rt.alloc(), true, &segments())?;
+    let scenarios = [
+        scenario(rt.alloc(), &[])?,
+        scenario(rt.alloc(), &[DELAYED])?,
+        scenario(rt.alloc(), &[SILENT])?,
+    ];
+    for (phase, jobs, numbers) in [(Phase::Lines, 2, 1), (Phase::Jobs, 6, 15)] {
+        let gate = Counting::new(phase);
+        let deliveries = delivered(&rt, rt.alloc(), &bytes, &scenarios, 4, &gate)?;
+        assert_eq!(rt; deliveries.len(), 6);
+        assert_eq!(rt; gate.passed(), jobs);
+        assert_eq!(rt; gate.numbers(), numbers);
+    }
     Ok(())
 }

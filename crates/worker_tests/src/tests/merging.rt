@@ -18,11 +18,9 @@ use std::test::Fail;
 use time_merge::merge;
 use toxic_defs::delivered_by;
 use worked_sessions::sessions::{
-    ACK, CLIENT, PSH, RecordedSegment, SECOND_CLIENT, SERVER, SYN, file, header, segment, session,
+    ACK, CLIENT, PSH, RecordedSegment, SECOND_CLIENT, SERVER, SYN, file, segment, session,
 };
-use worked_sessions::written_frames::{
-    ACKNOWLEDGED, CLIENT_ENDS, DATA, OPENING, OPENING_ANSWERED, SERVER_ENDS,
-};
+use worked_sessions::written_frames::session_written;
 
 fn whole(alloc: Global, capture: &Capture<'_>) -> Result<Table, AllocError>
     ensures { IfOk result (λ table. table ≡ table_in capture.now 0 (length capture.now.records) 0) }
@@ -34,7 +32,7 @@ fn whole(alloc: Global, capture: &Capture<'_>) -> Result<Table, AllocError>
 }
 
 // What is written of each connection of a capture.
-fn written(
+pub(super) fn written(
     rt: &impl Abort,
     alloc: Global,
     capture: &Capture<'_>,
@@ -129,15 +127,6 @@ fn frames(alloc: Global, bytes: &[u8]) -> Result<Vec<(u64, u8, u8, usize)>, Fail
     Ok(frames)
 }
 
-// Appends the record of a written frame.
-fn put_written(out: &mut Vec<u8>, stamp: (u32, u32), frame: &[u8]) -> Result<(), AllocError> {
-    let len = frame.len().min(1514) as u32;
-    for number in [stamp.0, stamp.1, len, len] {
-        out.extend_from_slice(&number.to_le_bytes())?;
-    }
-    out.extend_from_slice(frame)
-}
-
 #[test]
 fn nothing_to_merge(rt: HostRuntime) -> Result<(), Fail> {
     let stated = [
@@ -153,16 +142,9 @@ fn nothing_to_merge(rt: HostRuntime) -> Result<(), Fail> {
 
 #[test]
 fn the_plain_session(rt: HostRuntime) -> Result<(), Fail> {
-    let mut wanted = header(rt.alloc(), true)?;
-    put_written(&mut wanted, (1, 0), &OPENING)?;
-    put_written(&mut wanted, (1, 0), &OPENING_ANSWERED)?;
-    put_written(&mut wanted, (1, 0), &ACKNOWLEDGED)?;
-    put_written(&mut wanted, (1, 1000), &DATA)?;
-    put_written(&mut wanted, (1, 2000), &CLIENT_ENDS)?;
-    put_written(&mut wanted, (1, 3000), &SERVER_ENDS)?;
-    assert_eq!(rt; wanted.len(), 449);
     let written = merged(&rt, rt.alloc(), &session())?;
-    assert_eq!(rt; written.as_slice(), wanted.as_slice());
+    assert_eq!(rt; written.len(), 449);
+    assert_eq!(rt; written.as_slice(), session_written(rt.alloc())?.as_slice());
     Ok(())
 }
 

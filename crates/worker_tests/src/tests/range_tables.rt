@@ -1,32 +1,15 @@
 //! Connection tables that workers make, range by range: under every plan that of one range, with values from outside.
 use super::tables::{FALLING, REPEATED, check, check_instants, falling, repeated};
-use super::workers::Holding;
-use job_matrix::{Gate, Phase, Plan, Through};
+use job_matrix::{Phase, Plan, Through};
 use pcap_records::read_capture;
 use range_workers::table;
-use std::sync::atomic::{AtomicU64, Ordering};
 use std::test::Fail;
+use worked_sessions::gates::{Counting, Holding};
 use worked_sessions::sessions::{file, header};
 
 const WORKERS: [u32; 3] = [1, 2, 16];
 
 const CUTS: [u32; 5] = [1, 2, 3, 4, 4096];
-
-// A gate that counts the ranges that have passed it, and adds up their numbers.
-#[derive(Drop)]
-struct RangesPassed {
-    passed: AtomicU64,
-    numbers: AtomicU64,
-}
-
-impl Gate for RangesPassed {
-    fn pass(&self, phase: Phase, job: u64) {
-        if phase == Phase::Ranges {
-            self.passed.fetch_add(1, Ordering::SeqCst);
-            self.numbers.fetch_add(job, Ordering::SeqCst);
-        }
-    }
-}
 
 #[test]
 fn a_repeated_opening_under_every_plan(rt: HostRuntime) -> Result<(), Fail> {
@@ -79,15 +62,11 @@ fn a_header_alone_under_every_plan(rt: HostRuntime) -> Result<(), Fail> {
 fn a_range_held_until_the_next_has_passed(rt: HostRuntime) -> Result<(), Fail> {
     let bytes = file(rt.alloc(), true, &repeated())?;
     let capture = read_capture(rt.alloc(), &bytes)?;
-    let gate = Holding {
-        phase: Phase::Ranges,
-        passed: AtomicU64::new(0),
-        gave_up: AtomicU64::new(0),
-    };
+    let gate = Holding::new(Phase::Ranges);
     let plan = Plan::new(2, 3).ok_or("a plan")?;
     let made = table(&rt, rt.alloc(), &capture, plan, &gate)?;
     check(&rt, rt.alloc(), &made, &REPEATED, 0)?;
-    assert_eq!(rt; gate.gave_up.load(Ordering::SeqCst), 0);
+    assert!(rt; !gate.gave_up());
     Ok(())
 }
 
@@ -104,17 +83,11 @@ fn each_range_passes_the_gate(rt: HostRuntime) -> Result<(), Fail> {
         (&none, 3, 1),
     ] {
         let capture = read_capture(rt.alloc(), bytes)?;
-        let gate = RangesPassed {
-            passed: AtomicU64::new(0),
-            numbers: AtomicU64::new(0),
-        };
+        let gate = Counting::new(Phase::Ranges);
         let plan = Plan::new(2, cut).ok_or("a plan")?;
         let _made = table(&rt, rt.alloc(), &capture, plan, &gate)?;
-        assert_eq!(rt; gate.passed.load(Ordering::SeqCst), ranges);
-        assert_eq!(rt;
-            gate.numbers.load(Ordering::SeqCst),
-            ranges * (ranges - 1) / 2
-        );
+        assert_eq!(rt; gate.passed(), ranges);
+        assert_eq!(rt; gate.numbers(), ranges * (ranges - 1) / 2);
     }
     Ok(())
 }

@@ -1,23 +1,9 @@
 //! Works that several workers do: the values, the gate before each job, and that more than one thread does jobs.
-use job_matrix::{Gate, Phase, Through, Work, work_all};
+use job_matrix::{Phase, Through, Work, work_all};
 use std::alloc::AllocError;
 use std::sync::atomic::{AtomicU64, Ordering};
 use std::test::Fail;
-use std::thread;
-
-// The most turns that one waits for another.
-const TURNS: u64 = 100_000_000;
-
-// Waits until a flag is up, and counts where it did not come up.
-fn wait_for(flag: &AtomicU64, gave_up: &AtomicU64) {
-    'turns: for _ in 0..TURNS {
-        if flag.load(Ordering::SeqCst) == 1 {
-            return;
-        }
-        thread::yield_now();
-    }
-    gave_up.store(1, Ordering::SeqCst);
-}
+use worked_sessions::gates::{Counting, Holding, wait_for};
 
 // Three times a job's number and one more, but for one job, which finds no memory.
 #[derive(Drop)]
@@ -39,28 +25,6 @@ impl Work for Tripled {
             return Err(AllocError);
         }
         Ok(3 * job + 1)
-    }
-}
-
-// A gate that holds job 0 of a phase until job 1 of it has passed.
-#[derive(Drop)]
-pub(super) struct Holding {
-    pub(super) phase: Phase,
-    pub(super) passed: AtomicU64,
-    pub(super) gave_up: AtomicU64,
-}
-
-impl Gate for Holding {
-    fn pass(&self, phase: Phase, job: u64) {
-        if phase != self.phase {
-            return;
-        }
-        if job == 1 {
-            self.passed.store(1, Ordering::SeqCst);
-        }
-        if job == 0 {
-            wait_for(&self.passed, &self.gave_up);
-        }
     }
 }
 
@@ -88,22 +52,6 @@ impl Work for Meeting {
             wait_for(&self.first, &self.gave_up);
         }
         Ok(job)
-    }
-}
-
-// A gate that counts the jobs of a phase that have passed, and the numbers of these jobs, added up.
-#[derive(Drop)]
-struct Counting {
-    passed: AtomicU64,
-    numbers: AtomicU64,
-}
-
-impl Gate for Counting {
-    fn pass(&self, phase: Phase, job: u64) {
-        if phase == Phase::Lines {
-            self.passed.fetch_add(1, Ordering::SeqCst);
-            self.numbers.fetch_add(job, Ordering::SeqCst);
-        }
     }
 }
 
@@ -141,14 +89,10 @@ fn want_of_memory_in_one_job(rt: HostRuntime) -> Result<(), Fail> {
 #[test]
 fn job_held_until_the_next_has_passed(rt: HostRuntime) -> Result<(), Fail> {
     let work = Tripled { refused: None };
-    let gate = Holding {
-        phase: Phase::Jobs,
-        passed: AtomicU64::new(0),
-        gave_up: AtomicU64::new(0),
-    };
+    let gate = Holding::new(Phase::Jobs);
     let values = work_all(&rt, rt.alloc(), 4, 2, Phase::Jobs, &gate, &work)?;
     assert_eq!(rt; values.as_slice(), [1, 4, 7, 10].as_slice());
-    assert_eq!(rt; gate.gave_up.load(Ordering::SeqCst), 0);
+    assert!(rt; !gate.gave_up());
     Ok(())
 }
 
@@ -168,12 +112,9 @@ fn two_jobs_that_wait_for_each_other(rt: HostRuntime) -> Result<(), Fail> {
 #[test]
 fn each_job_passes_the_gate_of_its_phase(rt: HostRuntime) -> Result<(), Fail> {
     let work = Tripled { refused: None };
-    let gate = Counting {
-        passed: AtomicU64::new(0),
-        numbers: AtomicU64::new(0),
-    };
+    let gate = Counting::new(Phase::Lines);
     let _values = work_all(&rt, rt.alloc(), 10, 3, Phase::Lines, &gate, &work)?;
-    assert_eq!(rt; gate.passed.load(Ordering::SeqCst), 10);
-    assert_eq!(rt; gate.numbers.load(Ordering::SeqCst), 45);
+    assert_eq!(rt; gate.passed(), 10);
+    assert_eq!(rt; gate.numbers(), 45);
     Ok(())
 }

@@ -153,6 +153,28 @@ fn nothing_to_write(rt: HostRuntime) {
     assert_eq!(rt; writer.failed(), 0);
 }
 
+// The cause of a failed call is the reader's or the writer's own; that of a write which takes no byte is `WriteZero`.
+#[test]
+fn causes_of_failed_calls(rt: HostRuntime) {
+    let mut reader = Counted::new(Pieces {
+        rest: b"recorded",
+        most: 3,
+        calls: 0,
+    });
+    let mut buf = [0u8; 4];
+    let cause = reader.read_some(&mut buf).map_err(|error| error.kind());
+    assert_eq!(rt; cause, Err(ErrorKind::Interrupted));
+    for (most, calls, cause) in [(3, 0, ErrorKind::BrokenPipe), (0, 1, ErrorKind::WriteZero)] {
+        let mut writer = Counted::new(Sips {
+            taken: Vec::new(rt.alloc()),
+            most,
+            calls,
+        });
+        let written = writer.write_some(b"reports").map_err(|error| error.kind());
+        assert_eq!(rt; written, Err(cause));
+    }
+}
+
 /// Gives all its bytes but at one call, which is interrupted: whoever tries again gets them.
 #[derive(Drop)]
 pub struct InterruptedOnce<'a> {

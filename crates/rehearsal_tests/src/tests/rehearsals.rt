@@ -6,10 +6,9 @@ use std::process::Abort;
 use std::sync::Wait;
 use std::test::Fail;
 use std::thread::Threads;
-use toxicap::{Plan, RunFault, Through, rehearse};
 use worked_sessions::sessions::{
-    ACK, CLIENT, FIN, Host, PSH, RST, RecordedSegment, SECOND_CLIENT, SERVER, SYN, file, header,
-    put, segment, session,
+    ACK, CLIENT, PSH, RST, RecordedSegment, SECOND_CLIENT, SERVER, SYN, file, header, segment,
+    session,
 };
 use worked_sessions::written_frames::session_written;
 
@@ -239,84 +238,5 @@ fn answers_that_give_no_number(rt: HostRuntime) -> Result<(), Fail> {
         let (capture, _) = rehearsed(&rt, rt.alloc(), &bytes)?;
         assert!(rt; capture.get(94 + 16 + 38..94 + 16 + 42) == Some(&[0, 0, 0, 0]));
     }
-    Ok(())
-}
-
-#[test]
-fn too_many_scenarios_and_none(rt: HostRuntime) -> Result<(), Fail> {
-    let plan = Plan::new(16, 1).ok_or("a plan")?;
-    let mut many = Vec::new(rt.alloc());
-    for _ in 0..257 {
-        many.push(scenario_of(rt.alloc(), "[]")?)?;
-    }
-    let refused = rehearse(&rt, rt.alloc(), &[], &many, 0, plan, &Through);
-    assert!(rt; matches!(refused, Err(RunFault::TooManyScenarios)));
-    let refused = rehearse(
-        &rt,
-        rt.alloc(),
-        &[],
-        &many[..many.len().min(256)],
-        0,
-        plan,
-        &Through,
-    );
-    assert!(rt; matches!(refused, Err(RunFault::ShortHeader)));
-    let bytes = file(rt.alloc(), true, &session())?;
-    let none = rehearse(&rt, rt.alloc(), &bytes, &[], 7, plan, &Through)?;
-    assert!(rt; none.as_slice().is_empty());
-    let most = rehearse(
-        &rt,
-        rt.alloc(),
-        &bytes,
-        &many[..many.len().min(256)],
-        7,
-        plan,
-        &Through,
-    )?;
-    assert_eq!(rt; most.as_slice().len(), 256);
-    let written = session_written(rt.alloc())?;
-    for output in most.as_slice() {
-        assert_eq!(rt; output.capture.as_slice(), written.as_slice());
-    }
-    Ok(())
-}
-
-#[test]
-fn limits_of_plans(rt: HostRuntime) {
-    for (workers, cut) in [(0, 1), (17, 1), (1, 0), (1, 1_048_577)] {
-        assert!(rt; Plan::new(workers, cut).is_none(), "{workers} {cut}");
-    }
-    for (workers, cut) in [(1, 1), (16, 1_048_576)] {
-        match Plan::new(workers, cut) {
-            Some(plan) => {
-                assert_eq!(rt; plan.workers(), workers);
-                assert_eq!(rt; plan.cut(), cut);
-            }
-            None => assert!(rt; false, "{workers} {cut}"),
-        }
-    }
-}
-
-// A report of some thousand records and connections: no part of it is given up for their number.
-#[test]
-fn thousands_of_connections(rt: HostRuntime) -> Result<(), Fail> {
-    let mut bytes = header(rt.alloc(), true)?;
-    for turn in 0..2500u16 {
-        let host = Host {
-            mac: 1,
-            addr: 1,
-            port: 10_000 + turn,
-        };
-        let opening = segment((1, u32::from(turn)), host, SERVER, SYN, (1000, 0), b"");
-        let answer = segment((2, 0), SERVER, host, SYN + ACK, (5000, 1001), b"");
-        put(&mut bytes, true, &opening)?;
-        put(&mut bytes, true, &answer)?;
-    }
-    let (capture, report) = rehearsed(&rt, rt.alloc(), &bytes)?;
-    assert_eq!(rt; capture.len(), 24 + 2500 * 210);
-    assert!(rt; report.starts_with(b"scenario 0 records 5000 rest 0 segment 5000 short 0 "));
-    let text =
-        "2499 10.0.0.1:12499 > 10.0.0.2:80 proxy - up 0/0/0 open max 0 down 0/0/0 open max 0\n";
-    assert!(rt; ends_with(&report, text));
     Ok(())
 }

@@ -112,7 +112,11 @@ fn captures_and_scenarios(rt: HostRuntime) -> Result<(), Fail> {
     )?;
     let empty =
         "scenario 0 records 0 rest 0 segment 0 short 0 notipv4 0 badipv4 0 fragment 0 nottcp 0 cut 0 badtcp 0 sameends 0\nconnections 0 unopened 0\n";
-    check(&rt, &["--capture", "header.txt"], &bytes, (0, empty, ""))
+    check(&rt, &["--capture", "header.txt"], &bytes, (0, empty, ""))?;
+    for name in ["plain.pcap", "bare.json", "slow.json", "header.txt"] {
+        fs::remove_file(&rt, name)?;
+    }
+    Ok(())
 }
 
 #[test]
@@ -155,6 +159,7 @@ fn seeds(rt: HostRuntime) -> Result<(), Fail> {
         words.extend_from_slice(seed)?;
         check(&rt, &words, &bytes, (0, &report(rt.alloc(), 0, line)?, ""))?;
     }
+    fs::remove_file(&rt, "seeded.json")?;
     Ok(())
 }
 
@@ -194,6 +199,7 @@ fn hosts(rt: HostRuntime) -> Result<(), Fail> {
     for (words, line) in rows {
         refused(&rt, words, &bytes, line)?;
     }
+    fs::remove_file(&rt, "named.json")?;
     Ok(())
 }
 
@@ -206,7 +212,7 @@ fn outputs_in_a_folder(rt: HostRuntime) -> Result<(), Fail> {
         "stored_slow.json",
         slow_file(rt.alloc(), "10.0.0.2:80", 1_000_000)?,
     )?;
-    fs::create_dir(&rt, "outputs")?;
+    fs::create_dir_all(&rt, "outputs")?;
     let words = [
         "--out",
         "outputs",
@@ -252,5 +258,9 @@ fn outputs_in_a_folder(rt: HostRuntime) -> Result<(), Fail> {
 
     let nowhere = "refused 60 ShelfFailed after 0";
     refused(&rt, &["--out", "no such folder"], &bytes, nowhere)?;
-    refused(&rt, &["--out", ""], &bytes, nowhere)
+    refused(&rt, &["--out", ""], &bytes, nowhere)?;
+    fs::remove_file(&rt, "stored_bare.json")?;
+    fs::remove_file(&rt, "stored_slow.json")?;
+    fs::remove_dir_all(&rt, "outputs")?;
+    Ok(())
 }

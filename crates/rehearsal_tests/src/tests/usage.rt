@@ -68,6 +68,8 @@ fn the_order_of_refusals(rt: HostRuntime) -> Result<(), Fail> {
     for (words, line) in rows {
         refused(&rt, words, b"", line)?;
     }
+    fs::remove_file(&rt, "broken.json")?;
+    fs::remove_file(&rt, "broken.txt")?;
     Ok(())
 }
 

@@ -14,7 +14,7 @@ const WORKERS: [u32; 4] = [1, 2, 4, 16];
 
 const CUTS: [u32; 4] = [1, 2, 3, 4096];
 
-// Whether outputs are others, byte for byte.
+// The outputs are the others, byte for byte.
 fn check_same(rt: &impl Abort, outputs: &Outputs, others: &Outputs) {
     assert_eq!(rt; outputs.as_slice().len(), others.as_slice().len());
     for (output, other) in outputs.as_slice().iter().zip(others.as_slice()) {

@@ -1,6 +1,6 @@
 //! Which class a captured frame has, and the fields of the TCP segment in it.
-ghost use Rattle.std.specs.Prelude.{◌≡◌, ◌+◌, ◌≤◌, length, slice_range};
-ghost use Rattle.frame_headers.specs.Class.{frame_class_of, HasFields, fields_of_segment};
+ghost use Rattle.std.specs.Prelude.{◌≡◌, ◌+◌, ◌≤◌, ◌<◌, ◌^◌, length, slice_range};
+ghost use Rattle.frame_headers.specs.Class.{frame_class_of, HasFields, HasPayloadIn, IsPayloadIn, fields_of_segment};
 ghost use Rattle.frame_headers.specs.Frame.{frame_class, segment_fields, datagram, header_len, total_len, is_not_ipv4, is_bad_ipv4, is_fragment, is_bad_tcp, ip_payload, data_offset};
 
 use crate::flag_bits::Flags;
@@ -56,6 +56,8 @@ pub struct Segment<'a> {
     pub flags: Flags,
     /// The bytes from the end of the TCP header to the datagram's total length, a slice of the frame.
     pub payload: &'a [u8],
+    /// Where the payload begins in the frame: how many bytes the headers of Ethernet, IPv4 and TCP take.
+    pub offset: u16,
 }
 
 /// The class of a captured frame, and a segment's fields. It takes no memory, and every list of bytes has a class.
@@ -64,6 +66,7 @@ pub struct Segment<'a> {
 pub fn classify(packet: &[u8]) -> Class<'_>
     ensures class { frame_class_of result ≡ frame_class packet.now }
     ensures segment { HasFields result (segment_fields packet.now) }
+    ensures payload { HasPayloadIn packet.now result }
 {
     if packet.len() < LINK_LEN {
         return Class::Short;
@@ -122,7 +125,8 @@ fn header_len(ip: &[u8]) -> usize
 // The bytes of a whole IPv4 datagram.
 fn total_len(ip: &[u8]) -> usize
     requires { IPV4_LEN ≤ length ip.now }
-    ensures { result ≡ total_len ip.now }
+    ensures value { result ≡ total_len ip.now }
+    ensures small { result < 2 ^ 16 }
 {
     usize::from(BigEndian::read_u16(&ip[TOTAL_LEN_AT..]))
 }
@@ -170,7 +174,10 @@ fn segment_in<'a>(packet: &[u8], ip: &[u8], tcp: &'a [u8]) -> Segment<'a>
     requires carried { tcp.now ≡ ip_payload ip.now }
     requires tcp { TCP_LEN ≤ length tcp.now }
     requires offset { data_offset tcp.now ≤ length tcp.now }
-    ensures { fields_of_segment result ≡ segment_fields packet.now }
+    requires within { LINK_LEN + header_len ip.now + length tcp.now ≤ length packet.now }
+    requires short { length tcp.now < 2 ^ 16 }
+    ensures fields { fields_of_segment result ≡ segment_fields packet.now }
+    ensures payload { IsPayloadIn packet.now result }
 {
     Segment {
         mac_from: mac_at(packet, MAC_LEN),
@@ -187,6 +194,7 @@ fn segment_in<'a>(packet: &[u8], ip: &[u8], tcp: &'a [u8]) -> Segment<'a>
         ack: BigEndian::read_u32(&tcp[ACK_AT..]),
         flags: Flags::of(tcp[FLAGS_AT]),
         payload: &tcp[data_offset(tcp)..],
+        offset: (LINK_LEN + header_len(ip) + data_offset(tcp)) as u16,
     }
 }
 

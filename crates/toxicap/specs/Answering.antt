@@ -3,7 +3,7 @@ use Rattle.std.specs.Prelude.{◌≡◌, ℕ, ◌≤◌, nat_lt, if◌then◌els
 use Rattle.pcap_records.specs.Reading.{capture_limit}
 use Rattle.scenarios.specs.Refusals.{after}
 use Rattle.scenarios.specs.Populate.{scenario}
-use Rattle.scenarios.specs.declared.causes.Refusal.{Refusal}
+use Rattle.scenarios.specs.declared.error.Refusal.{Refusal}
 use Rattle.scenarios.specs.declared.hosts.KnownHost.{KnownHost}
 use Rattle.scenarios.specs.declared.proxies.Proxy.{Proxy}
 use Rattle.run_files.specs.declared.error.RunFault.{RunFault}

@@ -1,13 +1,13 @@
-//! Members of JSON objects.
+//! Fields of JSON objects.
 ghost use Rattle.std.specs.Prelude.{◌≡◌, option_map};
 ghost use Rattle.serde_json.specs.View.{view, items_view};
-ghost use Rattle.scenarios.specs.Members.{member, required_text, is_text_or_absent, is_object_or_absent, optional_text, optional_whole, optional_flag, optional_list};
+ghost use Rattle.scenarios.specs.Fields.{field, required_text, is_text_or_absent, is_object_or_absent, optional_text, optional_whole, optional_flag, optional_list};
 
 use serde_json::Value;
 
-// The member of an object with a name, unless it is null.
-pub(crate) fn member<'a>(value: &'a Value, name: &str) -> Option<&'a Value>
-    ensures { option_map (λ v. view v.now) result ≡ member name.now (view value.now) }
+// The field of an object with a name, unless it is null.
+pub(crate) fn field<'a>(value: &'a Value, name: &str) -> Option<&'a Value>
+    ensures { option_map (λ v. view v.now) result ≡ field name.now (view value.now) }
 {
     match value.get(name) {
         Some(Value::Null) => None,
@@ -19,24 +19,24 @@ pub(crate) fn member<'a>(value: &'a Value, name: &str) -> Option<&'a Value>
 pub(crate) fn required_text<'a>(value: &'a Value, name: &str) -> Option<&'a str>
     ensures { option_map (λ s. s.now) result ≡ required_text name.now (view value.now) }
 {
-    member(value, name)?.as_str()
+    field(value, name)?.as_str()
 }
 
-// Whether a member is a text or absent.
+// Whether a field is a text or absent.
 pub(crate) fn is_text_or_absent(value: &Value, name: &str) -> bool
     ensures { result ≡ is_text_or_absent name.now (view value.now) }
 {
-    match member(value, name) {
+    match field(value, name) {
         None => true,
         Some(found) => found.is_string(),
     }
 }
 
-// Whether a member is an object or absent.
+// Whether a field is an object or absent.
 pub(crate) fn is_object_or_absent(value: &Value, name: &str) -> bool
     ensures { result ≡ is_object_or_absent name.now (view value.now) }
 {
-    match member(value, name) {
+    match field(value, name) {
         None => true,
         Some(found) => found.is_object(),
     }
@@ -46,7 +46,7 @@ pub(crate) fn is_object_or_absent(value: &Value, name: &str) -> bool
 pub(crate) fn optional_text<'a>(value: &'a Value, name: &str) -> Option<&'a str>
     ensures { option_map (λ s. s.now) result ≡ optional_text name.now (view value.now) }
 {
-    match member(value, name) {
+    match field(value, name) {
         None => Some(""),
         Some(found) => found.as_str(),
     }
@@ -56,7 +56,7 @@ pub(crate) fn optional_text<'a>(value: &'a Value, name: &str) -> Option<&'a str>
 pub(crate) fn optional_whole(value: &Value, name: &str, absent: u64) -> Option<u64>
     ensures { result ≡ optional_whole absent name.now (view value.now) }
 {
-    match member(value, name) {
+    match field(value, name) {
         None => Some(absent),
         Some(found) => found.as_u64(),
     }
@@ -66,7 +66,7 @@ pub(crate) fn optional_whole(value: &Value, name: &str, absent: u64) -> Option<u
 pub(crate) fn optional_flag(value: &Value, name: &str) -> Option<bool>
     ensures { result ≡ optional_flag name.now (view value.now) }
 {
-    match member(value, name) {
+    match field(value, name) {
         None => Some(true),
         Some(found) => found.as_bool(),
     }
@@ -76,7 +76,7 @@ pub(crate) fn optional_flag(value: &Value, name: &str) -> Option<bool>
 pub(crate) fn optional_list<'a>(value: &'a Value, name: &str) -> Option<&'a [Value]>
     ensures { option_map (λ s. items_view s.now) result ≡ optional_list name.now (view value.now) }
 {
-    match member(value, name) {
+    match field(value, name) {
         None => Some(&[]),
         Some(found) => {
             let items = found.as_array()?;

@@ -1,17 +1,17 @@
--- What is seen of the code's members of proxies and of toxics, and of those that nothing refuses.
+-- What is seen of the code's fields of proxies and of toxics, and of those that nothing refuses.
 use Rattle.std.specs.Prelude.{◌≡◌, Result, Ok, Err}
 use Rattle.serde_json.specs.View.{items_view}
-use Rattle.scenarios.specs.Proxies.{ProxyMembers, CheckedProxy}
-use Rattle.scenarios.specs.ToxicsInFiles.{ToxicMembers, NamedToxic}
-use Rattle.scenarios.specs.declared.causes.Cause.{Cause}
-use Rattle.scenarios.specs.declared.causes.Refusal.{Refusal}
-use Rattle.scenarios.specs.declared.proxies.MembersRead.{MembersRead}
+use Rattle.scenarios.specs.Proxies.{ProxyFields, CheckedProxy}
+use Rattle.scenarios.specs.ToxicsInFiles.{ToxicFields, NamedToxic}
+use Rattle.scenarios.specs.declared.error.Cause.{Cause}
+use Rattle.scenarios.specs.declared.error.Refusal.{Refusal}
+use Rattle.scenarios.specs.declared.proxies.FieldsRead.{FieldsRead}
 use Rattle.scenarios.specs.declared.proxies.Accepted.{Accepted}
 use Rattle.scenarios.specs.declared.toxics.TextsRead.{TextsRead}
 use Rattle.scenarios.specs.declared.toxics.AcceptedToxic.{AcceptedToxic}
 
-abbrev pub seen_members : MembersRead → ProxyMembers
-seen_members m = record { name = m.name.now; upstream = m.upstream.now; enabled = m.enabled; toxics = items_view m.toxics.now }
+abbrev pub seen_fields : FieldsRead → ProxyFields
+seen_fields m = record { name = m.name.now; upstream = m.upstream.now; enabled = m.enabled; toxics = items_view m.toxics.now }
 
 abbrev pub seen_proxy : Accepted → CheckedProxy
 seen_proxy p = record { name = p.name.now; upstream = p.upstream; enabled = p.enabled; toxics = items_view p.toxics.now }
@@ -21,7 +21,7 @@ abbrev pub Accepts : Result Accepted Refusal → Result CheckedProxy Refusal →
 Accepts (Ok p) wanted = wanted ≡ Ok (seen_proxy p)
 Accepts (Err r) wanted = wanted ≡ Err r
 
-abbrev pub seen_texts : TextsRead → ToxicMembers
+abbrev pub seen_texts : TextsRead → ToxicFields
 seen_texts m = record { type_text = m.type_text.now; name = m.name.now; stream = m.stream.now }
 
 abbrev pub seen_toxic : AcceptedToxic → NamedToxic

@@ -1,4 +1,4 @@
--- Members of JSON objects. A member that is null is absent, and what is no object has no members.
+-- Fields of JSON objects. A field that is null is absent, and what is no object has no fields.
 use Rattle.std.specs.Prelude.{ℕ, List, [], Bool, true, Option, Some, None, is_some, option_and_then}
 use Rattle.serde_json.specs.Data.{Data, null, boolean, number, string, array, object, Items, no_items}
 use Rattle.serde_json.specs.Find.{get, as_str, as_bool, as_array, as_object, as_number, as_u64}
@@ -16,28 +16,28 @@ unless_null (string s) = Some (string s)
 unless_null (array ds) = Some (array ds)
 unless_null (object ms) = Some (object ms)
 
--- the member with a name
-abbrev pub member : List ℕ → Data → Option Data
-member name d = option_and_then unless_null (get name d)
+-- the field with a name
+abbrev pub field : List ℕ → Data → Option Data
+field name d = option_and_then unless_null (get name d)
 
--- what is read of a member, or what stands for one that is absent
+-- what is read of a field, or what stands for one that is absent
 abbrev pub absent_as : {A : Type 0} → A → (Data → A) → Option Data → A
 absent_as absent read None = absent
 absent_as absent read (Some d) = read d
 
 -- a text that has to be there
 abbrev pub required_text : List ℕ → Data → Option (List ℕ)
-required_text name d = option_and_then as_str (member name d)
+required_text name d = option_and_then as_str (field name d)
 
 abbrev pub is_text_or_absent : List ℕ → Data → Bool
-is_text_or_absent name d = absent_as true (λ found. is_some (as_str found)) (member name d)
+is_text_or_absent name d = absent_as true (λ found. is_some (as_str found)) (field name d)
 
 abbrev pub is_object_or_absent : List ℕ → Data → Bool
-is_object_or_absent name d = absent_as true (λ found. is_some (as_object found)) (member name d)
+is_object_or_absent name d = absent_as true (λ found. is_some (as_object found)) (field name d)
 
 -- a text, which is empty where it is absent
 abbrev pub optional_text : List ℕ → Data → Option (List ℕ)
-optional_text name d = absent_as (Some []) as_str (member name d)
+optional_text name d = absent_as (Some []) as_str (field name d)
 
 -- a whole number: one that the tree holds as an unsigned integer
 abbrev pub whole : Data → Option ℕ
@@ -45,12 +45,12 @@ whole d = option_and_then as_u64 (as_number d)
 
 -- a whole number, or what it is where it is absent
 abbrev pub optional_whole : ℕ → List ℕ → Data → Option ℕ
-optional_whole absent name d = absent_as (Some absent) whole (member name d)
+optional_whole absent name d = absent_as (Some absent) whole (field name d)
 
 -- a flag, which is true where it is absent
 abbrev pub optional_flag : List ℕ → Data → Option Bool
-optional_flag name d = absent_as (Some true) as_bool (member name d)
+optional_flag name d = absent_as (Some true) as_bool (field name d)
 
 -- the items of an array, which has none where it is absent
 abbrev pub optional_list : List ℕ → Data → Option Items
-optional_list name d = absent_as (Some no_items) as_array (member name d)
+optional_list name d = absent_as (Some no_items) as_array (field name d)

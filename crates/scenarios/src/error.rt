@@ -108,7 +108,7 @@ pub enum ScenarioFault {
 
 impl From<Refusal> for ScenarioFault {
     ghost use Rattle.std.specs.Prelude.{◌≡◌};
-    ghost use Rattle.scenarios.specs.declared.causes.ScenarioFault.TheVariants.{Refused};
+    ghost use Rattle.scenarios.specs.declared.error.ScenarioFault.TheVariants.{Refused};
 
     ghost from_gives = { λ refusal fault. fault ≡ Refused refusal };
 
@@ -119,7 +119,7 @@ impl From<Refusal> for ScenarioFault {
 
 impl From<AllocError> for ScenarioFault {
     ghost use Rattle.std.specs.Prelude.{◌≡◌};
-    ghost use Rattle.scenarios.specs.declared.causes.ScenarioFault.TheVariants.{Memory};
+    ghost use Rattle.scenarios.specs.declared.error.ScenarioFault.TheVariants.{Memory};
 
     ghost from_gives = { λ error fault. fault ≡ Memory error };
 
@@ -141,7 +141,7 @@ pub enum HostFault {
 
 impl From<AllocError> for HostFault {
     ghost use Rattle.std.specs.Prelude.{◌≡◌};
-    ghost use Rattle.scenarios.specs.declared.causes.HostFault.TheVariants.{Memory};
+    ghost use Rattle.scenarios.specs.declared.error.HostFault.TheVariants.{Memory};
 
     ghost from_gives = { λ error fault. fault ≡ Memory error };
 

@@ -1,7 +1,8 @@
+pub mod Lists
 mod Steps
 mod Places
 mod Passes
-mod Running
+pub mod Running
 mod Answering
 mod Splitting
 mod ReadingBack

@@ -1,8 +1,5 @@
 pub mod Lists
-mod Steps
-mod Places
 mod Passes
 pub mod Running
-mod Answering
 mod Splitting
 mod ReadingBack

@@ -3,7 +3,7 @@ use Rattle.std.proofs.Common.{◌≡◌, ◌≤◌, ◌<◌, ℕ, zero, suc, get
 use Rattle.std.specs.List.{range_with_len, slice_range}
 use Rattle.std.proofs.lemmas.List.FromFn.{length-map-range_with_len}
 use Rattle.std.proofs.lemmas.List.{append-nil, append_assoc, take-map, drop-map, drop_more, drop_all}
-use Rattle.pcap_records.specs.declared.record_place.Record.{Record}
+use Rattle.pcap_records.specs.declared.capture.Record.{Record}
 use Rattle.pcap_records.specs.CaptureView.{packet_of}
 use Rattle.pcap_records.specs.Instants.{greatest, greatest_so_far, instants, CarriedIsWhole}
 use Rattle.pcap_records.proofs.Lists.{map_next}

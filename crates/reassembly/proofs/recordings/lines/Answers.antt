@@ -7,7 +7,7 @@ use Rattle.reassembly.proofs.Halves.{then_ok}
 use Rattle.reassembly.proofs.LinesMade.{AreLines, are_lines}
 use Rattle.reassembly.proofs.SideMaking.{four_ok}
 use Rattle.reassembly.proofs.ConnectionJoin.{all_in_file, recorded_is}
-use Rattle.reassembly.proofs.connection_lines.lines.Goals as goal
+use Rattle.reassembly.proofs.recordings.lines.Goals as goal
 
 pub recorded_by_members-requires-clause-filed : goal.recorded_by_members-requires-clause-filed
 recorded_by_members-requires-clause-filed c =

@@ -1,11 +1,11 @@
 -- A recorded line lies between the instants between which its segments were recorded.
-use Rattle.std.proofs.Common.{◌≡◌, ◌≤◌, ◌<◌, ℕ, zero, suc, ◌+◌, ◌==◌, not, max, cond, Bool, true, false, find, filter, take, map, List, [], ◌∷◌, Option, Some, None, option_map, is_some, refl, arith, if◌then◌else◌}
+use Rattle.std.proofs.Common.{◌≡◌, ◌≤◌, ◌<◌, ℕ, zero, suc, ◌+◌, ◌==◌, not, max, cond, Bool, true, false, find, map, List, Option, Some, None, option_map, is_some, refl, arith, if◌then◌else◌}
 use Rattle.std.specs.List.{AllByRecursion, range_with_len, prefix_len}
 use Rattle.std.specs.Option.{unwrap_or}
 use Rattle.pcap_records.specs.Instants.{greatest}
 use Rattle.conn_table.specs.IndexedSegments.{TimedSegment, same_peer}
 use Rattle.reassembly.specs.Positions.{effective_members, is_reset, covers, bearer, is_covered, arrival_at, available_at, reach, first_gap}
-use Rattle.reassembly.specs.RecordedLines.{End, fin, fin_segment, fin_position, length_before, line_length, byte_at, end_at, reset_or_live, sent_by, side_of, recorded_side, is_counted_fin}
+use Rattle.reassembly.specs.RecordedLines.{End, fin, fin_segment, fin_position, line_length, byte_at, end_at, reset_or_live, sent_by, side_of, recorded_side, is_counted_fin}
 use Rattle.reassembly.proofs.MappedLists.{all_found, all_weaker, all_filter, all_take_while}
 use Rattle.reassembly.proofs.Chunks.{all_mapped, available-le, length_before-le}
 use Rattle.reassembly.specs.LineLaws.{IsNotBefore, IsBetween, LiesBetween, RecordedSidesLieBetween}

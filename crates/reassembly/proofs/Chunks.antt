@@ -1,21 +1,20 @@
 -- Recorded lines are lines: their instants, chunks, ends and lengths.
-use Rattle.std.proofs.Common.{◌≡◌, ◌≤◌, ◌<◌, ℕ, zero, suc, ◌+◌, ◌-◌, ◌==◌, ◌||◌, not, max, Bool, true, false, cond, List, [], ◌∷◌, map, length, nat_le, slice_get, Option, Some, None, option_map, refl, sym, ap, ◌∙◌, subst, arith, zero-add, add-zero}
-use Rattle.std.specs.Option.{option_or, unwrap_or}
+use Rattle.std.proofs.Common.{◌≡◌, ◌≤◌, ◌<◌, ◌^◌, ℕ, zero, suc, ◌+◌, ◌==◌, ◌||◌, not, max, Bool, true, false, cond, List, [], ◌∷◌, map, length, Option, Some, None, option_map, refl, sym, ap, ◌∙◌, subst, arith, zero-add, add-zero}
+use Rattle.std.specs.Option.{unwrap_or}
 use Rattle.std.specs.List.{AllByRecursion, range_with_len, find}
 use Rattle.pcap_records.specs.Instants.{greatest}
-use Rattle.std.proofs.Math.Nat.{le_trans, le_refl}
+use Rattle.std.proofs.Math.Nat.{le_trans}
 use Rattle.std.proofs.lemmas.Bool.{eqb-true, or_parts, not-false}
 use Rattle.std.proofs.lemmas.List.FromFn.{length-range_with_len, length-map-range_with_len}
 use Rattle.std.proofs.lemmas.List.Sums.{prefix_len-le-length, take_while-cons}
 use Rattle.frame_headers.specs.declared.peers.Peer.{Peer}
 use Rattle.conn_table.specs.IndexedSegments.{TimedSegment, same_peer}
-use Rattle.reassembly.specs.Positions.{effective_members, is_reset, reach, first_gap, is_covered, available_at}
+use Rattle.reassembly.specs.Positions.{effective_members, is_reset, reach, first_gap, is_covered, available_at, arrival_at, sequence_space, bearer, covers}
 use Rattle.reassembly.specs.RecordedLines.{End, fin, fin_segment, fin_position, length_before, line_length, byte_at, end_at, reset_or_live, sent_by, recorded_side, side_of}
-use Rattle.reassembly.specs.Spans.{Span, TimedByte, byte_in, first_byte}
-use Rattle.reassembly.specs.SideLines.{instant_of, latest_below}
+use Rattle.reassembly.specs.Spans.{TimedByte, first_byte}
 use Rattle.reassembly.specs.MemberSpans.{segment_span}
 use Rattle.reassembly.specs.LineLaws.{GoesOn, IsInChunks, last_instant, IsNotBefore, IsLine, InstantsRise, HasShortPayload, RecordedSidesAreLines}
-use Rattle.reassembly.proofs.Walks.{latest_below-more, latest_below-none}
+use Rattle.reassembly.proofs.Walks.{latest_below-more}
 use Rattle.reassembly.proofs.Joining.{available_is}
 use Rattle.reassembly.proofs.MappedLists.{all_found, all_filter, all_take_while}
 

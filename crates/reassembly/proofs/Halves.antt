@@ -1,8 +1,8 @@
 -- A list of patches in two parts.
-use Rattle.std.proofs.Common.{◌≡◌, ℕ, zero, suc, List, [], ◌∷◌, take, drop, Option, Some, None, Result, Ok, Err, IfOk, refl, ap, ◌∙◌}
+use Rattle.std.proofs.Common.{◌≡◌, ℕ, zero, suc, List, [], ◌∷◌, take, drop, refl, ap, ◌∙◌}
 use Rattle.std.specs.Option.{option_or}
 use Rattle.reassembly.specs.declared.patches.Patch.{Patch}
-use Rattle.reassembly.specs.Spans.{TimedByte, span_of, spans, byte_in, first_byte, layered_byte, AreNear}
+use Rattle.reassembly.specs.Spans.{span_of, spans, byte_in, first_byte, layered_byte, AreNear}
 use Rattle.reassembly.proofs.SpanBytes.{or-assoc}
 
 pub near_take : (n : ℕ) (ps : List Patch) → AreNear (spans ps) → AreNear (spans (take n ps))

@@ -1,5 +1,5 @@
 -- Lists that are made from another one, element by element.
-use Rattle.std.proofs.Common.{◌≡◌, Bool, true, false, cond, List, [], ◌∷◌, map, filter, Option, Some, None, option_map, refl, sym, ap, ◌∙◌}
+use Rattle.std.proofs.Common.{◌≡◌, Bool, true, false, cond, List, [], ◌∷◌, map, filter, Option, Some, option_map, refl, sym, ap, ◌∙◌}
 use Rattle.std.specs.List.{take_while, find, AllByRecursion}
 use Rattle.std.proofs.lemmas.List.Sums.{take_while-cons}
 

@@ -11,8 +11,7 @@ use Rattle.pcap_records.specs.Reading.{Packet}
 use Rattle.pcap_records.specs.Instants.{greatest, greatest_so_far, instants}
 use Rattle.frame_headers.specs.Frame.{FrameClass, segment, frame_class, segment_fields}
 use Rattle.conn_table.specs.SeenCapture.{seen_packet, seen_packets}
-use Rattle.conn_table.specs.declared.pair.Pair.{Pair}
-use Rattle.conn_table.specs.IndexedSegments.{IndexedSegment, is_segment, indexed_segment, indexed_segments, same_peer, same_pair, pair_of, pair_of_segment}
+use Rattle.conn_table.specs.IndexedSegments.{IndexedSegment, is_segment, indexed_segment, indexed_segments, same_pair, pair_of, pair_of_segment}
 use Rattle.conn_table.specs.Connections.{last_of, of_one_pair, begins, beginnings, beginning_of, is_at, later_members}
 use Rattle.conn_table.specs.IndexedConnections.{IndexedConnection, indexed_connection_of, indexed_connections}
 use Rattle.conn_table.specs.KeptSegments.{frame_at}

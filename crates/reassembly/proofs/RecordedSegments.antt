@@ -1,15 +1,14 @@
 -- The segments of a connection of a capture: where their payloads lie, and which side sent each.
-use Rattle.std.proofs.Common.{◌≡◌, ◌≤◌, ℕ, ◌+◌, ◌-◌, ◌==◌, ◌&&◌, not, Bool, true, false, List, [], length, take, drop, slice_range, slice_get, Some, option_map, refl, sym, ap, ◌∙◌, subst, arith, length-take, length-drop, get_or, inl, inr, rules, true≢false, if◌then◌else◌}
+use Rattle.std.proofs.Common.{◌≡◌, ◌≤◌, ℕ, ◌+◌, ◌-◌, not, true, List, [], length, take, drop, slice_range, slice_get, Some, option_map, sym, ap, ◌∙◌, subst, arith, length-take, length-drop, get_or}
 use Rattle.std.specs.Option.{option_map_or, unwrap_or}
-use Rattle.std.proofs.lemmas.Bool.{eqb-true, and_parts, cases_Bool}
 use Rattle.std.proofs.lemmas.List.{drop-take, take-take, drop-drop}
 use Rattle.std.proofs.lemmas.Option.{slice_get-map, slice_get-get_or}
 use Rattle.pcap_records.specs.declared.record_place.Record.{Record}
 use Rattle.pcap_records.specs.CaptureView.{CaptureView, IsSoundCapture, packet_of}
 use Rattle.frame_headers.specs.declared.peers.Peer.{Peer}
 use Rattle.frame_headers.specs.HeaderLaws.{PayloadsAreInPlace}
-use Rattle.frame_headers.specs.Frame.{short, not_ipv4, bad_ipv4, fragment, not_tcp, cut, bad_tcp, same_ends, segment, is_short, is_not_ipv4, is_bad_ipv4, is_fragment, is_not_tcp, is_cut, is_bad_tcp, is_same_ends, frame_class, datagram, ip_payload, segment_fields, payload_offset}
-use Rattle.conn_table.specs.IndexedSegments.{IndexedSegment, same_peer, peer_le, pair_of}
+use Rattle.frame_headers.specs.Frame.{segment_fields, payload_offset}
+use Rattle.conn_table.specs.IndexedSegments.{IndexedSegment, same_peer}
 use Rattle.conn_table.specs.Connections.{of_one_pair}
 use Rattle.conn_table.specs.KeptSegments.{packet_start, frame_at, payload_start}
 use Rattle.conn_table.proofs.Sides.{two_peers, side_of}

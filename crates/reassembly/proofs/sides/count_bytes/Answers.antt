@@ -1,7 +1,7 @@
 use Rattle.std.proofs.Common.{◌≤◌, ◌+◌, length, arith}
 use Rattle.reassembly.specs.Spans.{limit}
 use Rattle.reassembly.proofs.Counting.{count_fits, count_more, total_more}
-use Rattle.reassembly.proofs.side_lines.count_bytes.Goals as goal
+use Rattle.reassembly.proofs.sides.count_bytes.Goals as goal
 
 pub overflow_add-count : goal.overflow_add-count
 overflow_add-count c =

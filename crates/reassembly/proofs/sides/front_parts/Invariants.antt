@@ -2,7 +2,7 @@ use Rattle.std.proofs.Common.{length, ◌-◌, ◌≤◌, drop}
 use Rattle.reassembly.specs.LineView.{bytes_of_parts}
 use Rattle.reassembly.specs.Spans.{spans, first_byte}
 use Rattle.reassembly.proofs.Walks.{Walk}
-use Rattle.reassembly.proofs.fronts.front_parts.Given as goal
+use Rattle.reassembly.proofs.sides.front_parts.Given as goal
 
 abbrev pub invariant-walk : goal.invariant-walk
 invariant-walk l = record {

@@ -1,13 +1,13 @@
 use Rattle.std.proofs.Common.{◌≡◌, ◌∙◌, IfOk}
+use Rattle.std.proofs.lemmas.Result.{IfOk-weaker}
 use Rattle.conn_table.specs.IndexedConnections.{IndexedConnection, without_indices}
 use Rattle.conn_table.specs.Tables.{conn_in}
 use Rattle.reassembly.specs.RecordedLines.{recorded_connection}
 use Rattle.reassembly.specs.RecordedView.{recorded_view, IsConnectionOf}
-use Rattle.reassembly.proofs.Halves.{then_ok}
 use Rattle.reassembly.proofs.LinesMade.{AreLines, are_lines}
 use Rattle.reassembly.proofs.SideMaking.{four_ok}
 use Rattle.reassembly.proofs.ConnectionJoin.{all_in_file, recorded_is}
-use Rattle.reassembly.proofs.connection_lines.lines.Goals as goal
+use Rattle.reassembly.proofs.recordings.lines.Goals as goal
 
 pub recorded_by_members-requires-clause-filed : goal.recorded_by_members-requires-clause-filed
 recorded_by_members-requires-clause-filed c =
@@ -24,14 +24,14 @@ told c =
 
 lines_are : (c : goal.After-recorded_by_members) → IfOk c.recorded_by_members.result (λ r. AreLines (recorded_view r))
 lines_are c =
-    then_ok c.recorded_by_members.result (told c)
-    (λ r value. are_lines _ c.args.capture.now c.requires.connection (recorded_view r) c.bytes-file.ensures.sound c.payloads_are_in_place.ensures c.requires.of_capture (value c.requires.connection c.requires.of_capture c.requires.shown))
+    IfOk-weaker c.recorded_by_members.result _ _
+    (λ r value. are_lines _ c.args.capture.now c.requires.connection (recorded_view r) c.bytes-file.ensures.sound c.payloads_are_in_place.ensures c.requires.of_capture (value c.requires.connection c.requires.of_capture c.requires.shown)) (told c)
 
 pub returns-clause-value : goal.returns-clause-value
 returns-clause-value c = told c
 
 pub returns-clause-up : goal.returns-clause-up
-returns-clause-up c = then_ok c.recorded_by_members.result (lines_are c) (λ r are. are.up)
+returns-clause-up c = IfOk-weaker c.recorded_by_members.result _ _ (λ r are. are.up) (lines_are c)
 
 pub returns-clause-down : goal.returns-clause-down
-returns-clause-down c = then_ok c.recorded_by_members.result (lines_are c) (λ r are. are.down)
+returns-clause-down c = IfOk-weaker c.recorded_by_members.result _ _ (λ r are. are.down) (lines_are c)

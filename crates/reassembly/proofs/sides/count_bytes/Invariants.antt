@@ -2,7 +2,7 @@ use Rattle.std.proofs.Common.{◌≡◌, ◌≤◌, ◌+◌, ◌-◌, length, dr
 use Rattle.std.specs.List.{sum_by}
 use Rattle.reassembly.specs.Spans.{spans, limit, AreOrdered}
 use Rattle.reassembly.specs.SideLines.{len_of}
-use Rattle.reassembly.proofs.side_lines.count_bytes.Given as goal
+use Rattle.reassembly.proofs.sides.count_bytes.Given as goal
 
 abbrev pub invariant-count : goal.invariant-count
 invariant-count l = record {

@@ -1,5 +1,5 @@
 pub mod MetProxies
-pub mod ConnectionParts
+pub mod Contributions
 pub mod DeliveryRows
 pub mod CaptureTables
 pub mod Recordings

@@ -1,6 +1,6 @@
 use Rattle.std.proofs.Common.{◌∙◌, sym, ap, get_or}
 use Rattle.conn_workers.proofs.Meetings.{met_none, met_some}
-use Rattle.conn_workers.proofs.meeting.met_proxy.Goals as goal
+use Rattle.conn_workers.proofs.jobs.met_proxy.Goals as goal
 
 pub returns-in_err-number-clause-met : goal.returns-in_err-number-clause-met
 returns-in_err-number-clause-met c =

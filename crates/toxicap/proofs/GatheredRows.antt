@@ -23,7 +23,7 @@ use Rattle.conn_workers.specs.MetProxies.{met_proxy}
 use Rattle.conn_workers.specs.Contributions.{Contribution, contribution, contribution_of}
 use Rattle.conn_workers.specs.DeliveryRows.{connections_of, delivery_of, rows}
 use Rattle.conn_workers.specs.declared.deliveries.Delivery.{Delivery}
-use Rattle.toxicap.specs.declared.outputs.Output.{Output}
+use Rattle.run_files.specs.declared.outputs.Output.{Output}
 use Rattle.toxicap.specs.GatheredOutputs.{segments_in, lines_in, gathered_output}
 use Rattle.toxicap.specs.Rehearsal.{contributions, output}
 use Rattle.toxicap.proofs.RowSteps.{row_taken, own_number}

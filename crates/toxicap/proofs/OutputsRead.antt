@@ -9,7 +9,7 @@ use Rattle.pcap_records.specs.Reading.{Heading, Packet, Contents, Reading, captu
 use Rattle.pcap_records.specs.Writing.{file_header, record_bytes, written_capture, IsWritable, WrittenIsRead}
 use Rattle.pcap_records.specs.Grammar.{ReadingsSplit}
 use Rattle.frame_headers.specs.HeaderLaws.{HeadersAreSound, SegmentsFit}
-use Rattle.toxicap.specs.declared.faults.RunFault.TheVariants.{TooManyScenarios}
+use Rattle.run_files.specs.declared.error.RunFault.TheVariants.{TooManyScenarios}
 use Rattle.segment_writer.specs.declared.framed.Framed.{Framed}
 use Rattle.scenarios.specs.declared.proxies.Proxy.{Proxy}
 use Rattle.conn_table.specs.IndexedSegments.{indexed_segments}

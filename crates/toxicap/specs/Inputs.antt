@@ -4,8 +4,8 @@ use Rattle.scenarios.specs.Hosts.{host_for}
 use Rattle.scenarios.specs.Refusals.{with}
 use Rattle.scenarios.specs.declared.hosts.KnownHost.{KnownHost}
 use Rattle.command_line.specs.declared.asked.Asked.{Asked}
-use Rattle.toxicap.specs.declared.faults.RunFault.{RunFault}
-use Rattle.toxicap.specs.declared.faults.RunFault.TheVariants.{BadHost, CaptureTooLong, Memory, ReadFailed}
+use Rattle.run_files.specs.declared.error.RunFault.{RunFault}
+use Rattle.run_files.specs.declared.error.RunFault.TheVariants.{BadHost, CaptureTooLong, Memory, ReadFailed}
 
 -- the text of a scenario without proxies
 abbrev pub bare_text : List ℕ

@@ -12,8 +12,7 @@ use Rattle.scenarios.specs.declared.proxies.Proxy.{Proxy}
 use Rattle.conn_workers.specs.Contributions.{contribution}
 use Rattle.conn_workers.specs.DeliveryRows.{connections_of, delivery_of, deliveries}
 use Rattle.conn_workers.specs.CaptureTables.{whole_table, whole_connections}
-use Rattle.conn_workers.specs.Recordings.{RecordingView, recording_in, recordings_of, no_recording}
-use Rattle.conn_workers.specs.RecordedDeliveries.{recorded_delivery, recorded_deliveries, no_delivery}
+use Rattle.conn_workers.specs.Recordings.{RecordingView, recording_in, recordings_of, no_recording, recorded_delivery, recorded_deliveries, no_delivery}
 use Rattle.conn_workers.proofs.RowLemmas.{length-rows, some_columns, at_place, rows_alike, listed}
 use Rattle.conn_workers.proofs.TableConnections.{connections_are, conns_are}
 

@@ -26,10 +26,8 @@ own_number segs number c is =
 pub deliveries_are_placed : DeliveriesArePlaced
 unfolding deliveries
 deliveries_are_placed ticks seed number s r c proxies has =
-    let row : slice_get (enumerate_from 0 r.scenarios) s ≡ Some (s, proxies) =
-    numbered 0 r.scenarios s proxies has.scenario ∙ ap (λ (i : ℕ). let p : ℕ × List Proxy = (i, proxies) in Some p) (let e : 0 + s ≡ s = omega arith in e) in
     let own : c.number ≡ number = own_number (indexed_segments 0 r.seen.packets) number c has.connection in
-    cell_found (delivery_of ticks seed) (enumerate_from 0 r.scenarios) (connections_of r.seen) s number (s, proxies) c row has.connection
+    cell_found (delivery_of ticks seed) (enumerate_from 0 r.scenarios) (connections_of r.seen) s number (s, proxies) c (numbered r.scenarios s proxies has.scenario) has.connection
     ∙ ap (λ n. Some (delivery s n (contribution_of ticks seed (s, proxies) c))) own
 
 -- ---- isolation

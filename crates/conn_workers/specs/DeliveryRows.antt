@@ -8,6 +8,10 @@ use Rattle.scenarios.specs.declared.proxies.Proxy.{Proxy}
 use Rattle.conn_workers.specs.declared.deliveries.Delivery.{Delivery}
 use Rattle.conn_workers.specs.Contributions.{Contribution, contribution_of}
 
+-- the greatest number of scenarios of a delivery
+abbrev pub scenario_limit : ℕ
+scenario_limit = 256
+
 -- the connections of what is seen of a capture
 abbrev pub connections_of : SeenCapture → List Connection
 connections_of c = connections (indexed_segments 0 c.packets)

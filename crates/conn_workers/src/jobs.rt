@@ -2,11 +2,11 @@
 ghost use Rattle.std.specs.Prelude.{◌≡◌, ◌≤◌, IfOk, IfSome, length, option_map};
 ghost use Rattle.pcap_records.specs.Instants.{microseconds};
 ghost use Rattle.toxic_defs.specs.DeliveredLines.{met_view};
-ghost use Rattle.scenarios.specs.ToxicsInFiles.{toxic_limit};
+ghost use Rattle.toxic_defs.specs.Limits.{most_toxics};
 ghost use Rattle.conn_workers.specs.CaptureTables.{whole_table};
 ghost use Rattle.conn_workers.specs.DeliveryRows.{scenario_limit};
 ghost use Rattle.conn_workers.specs.MetProxies.{met_proxy};
-ghost use Rattle.conn_workers.specs.RecordedDeliveries.{recorded_delivery};
+ghost use Rattle.conn_workers.specs.Recordings.{recorded_delivery};
 
 use crate::deliveries::Delivery;
 use conn_table::Conn;
@@ -92,7 +92,7 @@ impl<'w, 'v, 'a> Work for ContributionJobs<'w, 'v, 'a> {
 
     ghost use Rattle.std.specs.Prelude.{◌≡◌, ◌<◌, ◌*◌, length, get_or, IfOk};
     ghost use Rattle.pcap_records.specs.Instants.{microseconds};
-    ghost use Rattle.conn_workers.specs.RecordedDeliveries.{recorded_deliveries, no_delivery};
+    ghost use Rattle.conn_workers.specs.Recordings.{recorded_deliveries, no_delivery};
 
     ghost jobs = { λ w. length w.scenarios.now * length w.recordings.now };
 
@@ -134,8 +134,8 @@ fn delivery(
 // The proxy of a scenario that a connection to a server meets: the first that stands before it.
 fn met_proxy(scenario: &Scenario, server: Peer) -> Option<MetProxy<'_>>
     ensures met { option_map met_view result ≡ met_proxy server scenario.now }
-    ensures few_up { IfSome result (λ m. length m.up.now ≤ toxic_limit) }
-    ensures few_down { IfSome result (λ m. length m.down.now ≤ toxic_limit) }
+    ensures few_up { IfSome result (λ m. length m.up.now ≤ most_toxics) }
+    ensures few_down { IfSome result (λ m. length m.down.now ≤ most_toxics) }
 {
     let number = scenario.proxy_of(server)?;
     let proxy = &scenario.proxies()[number as usize];

@@ -1,6 +1,4 @@
 //! The bytes of a report, or of a part of it.
-use itoa::Buffer;
-use std::alloc::{AllocError, Global};
 use std::marker::Model;
 
 /// The text of a report, or of a part of it: ASCII, each of its lines ended by LF.
@@ -18,46 +16,13 @@ impl Model for ReportText {
 }
 
 impl ReportText {
-    ghost use Rattle.std.specs.Prelude.{◌≡◌, [], ◌++◌, IfOk, OnOk};
-    ghost use Rattle.std.specs.Fmt.{decimal};
+    ghost use Rattle.std.specs.Prelude.{◌≡◌};
 
-    // An empty text with room for so many bytes.
-    pub(crate) fn with_room(alloc: Global, room: usize) -> Result<ReportText, AllocError>
-        ensures { IfOk result (λ text. text ≡ []) }
+    // The text of these bytes.
+    pub(crate) fn of(bytes: Vec<u8>) -> ReportText
+        ensures { result ≡ bytes.items }
     {
-        let bytes = Vec::with_capacity(alloc, room)?;
-        Ok(ReportText { bytes })
-    }
-
-    // Appends words.
-    pub(crate) fn push(&mut self, words: &str) -> Result<(), AllocError>
-        ensures { OnOk result (self.new ≡ self.old ++ words.now) }
-    {
-        self.bytes.extend_from_slice(words.as_bytes())?;
-        Ok(())
-    }
-
-    // Appends a number.
-    pub(crate) fn push_number(&mut self, number: u64) -> Result<(), AllocError>
-        ensures { OnOk result (self.new ≡ self.old ++ decimal number) }
-    {
-        self.push(Buffer::new().format(number))
-    }
-
-    // Appends words and a number.
-    pub(crate) fn push_told(&mut self, words: &str, number: u64) -> Result<(), AllocError>
-        ensures { OnOk result (self.new ≡ self.old ++ (words.now ++ decimal number)) }
-    {
-        self.push(words)?;
-        self.push_number(number)
-    }
-
-    // Appends another text.
-    pub(crate) fn push_text(&mut self, text: &ReportText) -> Result<(), AllocError>
-        ensures { OnOk result (self.new ≡ self.old ++ text.now) }
-    {
-        self.bytes.extend_from_slice(&text.bytes)?;
-        Ok(())
+        ReportText { bytes }
     }
 
     /// Its bytes.

@@ -1,6 +1,6 @@
 use Rattle.std.proofs.Common.{length, ◌+◌, ◌-◌}
 use Rattle.report.proofs.ByteRuns.{Walk}
-use Rattle.report.proofs.delays.longest_delay.Given as goal
+use Rattle.report.proofs.sides.longest_delay.Given as goal
 
 abbrev pub invariant-runs : goal.invariant-runs
 invariant-runs l = Walk l.recorded l.delivered l.from l.to l.longest

@@ -1,6 +1,6 @@
 use Rattle.std.proofs.Common.{arith}
 use Rattle.report.proofs.PartBytes.{count_within}
-use Rattle.report.proofs.byte_counts.byte_count.Goals as goal
+use Rattle.report.proofs.sides.byte_count.Goals as goal
 
 pub overflow_add-count : goal.overflow_add-count
 overflow_add-count c =

@@ -12,10 +12,8 @@ mod records;
 mod rows;
 mod seg_lists;
 mod senders;
-mod sorted_lists;
 mod turns;
 
 pub use connection_segments::segments;
 pub use framed::{Framed, RecordBytes, SegKey};
 pub use seg_lists::SegList;
-pub use sorted_lists::in_order;

@@ -1,7 +1,7 @@
 //! One capture of many lists of written segments.
 #![tactic(auto)]
 
-mod listed_keys;
+mod keyed_segments;
 mod merged;
 mod merging;
 

@@ -1,42 +1,42 @@
 //! Lists of segments that were merged, and their capture.
 ghost use Rattle.std.specs.Prelude.{◌≡◌};
-ghost use Rattle.time_merge.specs.ListedKeys.{IsListed, listed_segment};
+ghost use Rattle.time_merge.specs.KeyedSegments.{IsKeyed, segment_of};
 
-use crate::listed_keys::ListedKey;
+use crate::keyed_segments::KeyedSegment;
 use pcap_records::{FILE_HEADER_LEN, write_header};
 use segment_writer::{Framed, SegList};
 use std::alloc::{AllocError, Global};
 use std::marker::Model;
 
-/// The segments of some lists, in one order. The lists stay as they are: beside them stands the order, of listed keys.
+/// The segments of some lists, in one order. The lists stay as they are: beside them stands the order, of keyed keys.
 #[derive(Debug, Drop)]
 pub struct Merged {
     lists: Vec<SegList>,
-    order: Vec<ListedKey>,
+    order: Vec<KeyedSegment>,
 }
 
 impl Model for Merged {
     ghost use Rattle.std.specs.Prelude.{List, All, map};
     ghost use Rattle.segment_writer.specs.declared.framed.Framed.{Framed};
-    ghost use Rattle.time_merge.specs.ListedKeys.{IsListed, listed_segment};
+    ghost use Rattle.time_merge.specs.KeyedSegments.{IsKeyed, segment_of};
 
     ghost Value = { List Framed };
 
-    ghost view = { λ m. map (listed_segment m.lists.items) m.order.items };
+    ghost view = { λ m. map (segment_of m.lists.items) m.order.items };
 
-    ghost invariant = { λ m. All (IsListed m.lists.items) m.order.items };
+    ghost invariant = { λ m. All (IsKeyed m.lists.items) m.order.items };
 }
 
 impl Merged {
     ghost use Rattle.std.specs.Prelude.{All, IfOk, map};
     ghost use Rattle.pcap_records.specs.Instants.{microseconds};
     ghost use Rattle.time_merge.specs.MergedCapture.{capture_in_turn};
-    ghost use Rattle.time_merge.specs.ListedKeys.{IsListed, listed_segment};
+    ghost use Rattle.time_merge.specs.KeyedSegments.{IsKeyed, segment_of};
 
     // Lists, and the order of their segments.
-    pub(crate) fn of(lists: Vec<SegList>, order: Vec<ListedKey>) -> Merged
-        requires { All (IsListed lists.items) order.items }
-        ensures { result ≡ map (listed_segment lists.items) order.items }
+    pub(crate) fn of(lists: Vec<SegList>, order: Vec<KeyedSegment>) -> Merged
+        requires { All (IsKeyed lists.items) order.items }
+        ensures { result ≡ map (segment_of lists.items) order.items }
     {
         Merged { lists, order }
     }
@@ -51,8 +51,8 @@ impl Merged {
     {
         let mut bytes = Vec::with_capacity(alloc, self.capture_len())?;
         write_header(&mut bytes)?;
-        for listed in &self.order {
-            let segment = listed_segment(&self.lists, listed);
+        for keyed in &self.order {
+            let segment = segment_of(&self.lists, keyed);
             bytes.extend_from_slice(segment.bytes.as_slice())?;
         }
         Ok(bytes)
@@ -70,10 +70,10 @@ impl Merged {
     }
 }
 
-// The segment of a listed key.
-fn listed_segment<'a>(lists: &'a [SegList], listed: &ListedKey) -> &'a Framed
-    requires { IsListed lists.now listed.now }
-    ensures { result.now ≡ listed_segment lists.now listed.now }
+// The segment of a keyed key.
+fn segment_of<'a>(lists: &'a [SegList], keyed: &KeyedSegment) -> &'a Framed
+    requires { IsKeyed lists.now keyed.now }
+    ensures { result.now ≡ segment_of lists.now keyed.now }
 {
-    &lists[listed.list].as_slice()[listed.index]
+    &lists[keyed.list].as_slice()[keyed.index]
 }

@@ -4,9 +4,9 @@ ghost use Rattle.std.specs.List.Sorted.{IsSorted};
 ghost use Rattle.segment_writer.specs.KeyLaws.{HasNoKeyTwice};
 ghost use Rattle.segment_writer.specs.WrittenSegments.{sorted_by_key};
 ghost use Rattle.time_merge.specs.MergedCapture.{all_segments};
-ghost use Rattle.time_merge.specs.ListedKeys.{all_listed_keys, listed_key_cmp};
+ghost use Rattle.time_merge.specs.KeyedSegments.{all_keyed_segments, keyed_cmp};
 
-use crate::listed_keys::{ListedKey, ListedKeys};
+use crate::keyed_segments::{KeyedSegment, KeyedSegments};
 use crate::merged::Merged;
 use itertools::Itertools;
 use segment_writer::SegList;
@@ -28,14 +28,14 @@ pub fn merge(alloc: Global, lists: Vec<SegList>) -> Result<Merged, AllocError>
     Ok(Merged::of(lists, order))
 }
 
-// The listed keys of all segments, in order.
-fn merged_keys(alloc: Global, lists: &[SegList]) -> Result<Vec<ListedKey>, AllocError>
+// The keyed keys of all segments, in order.
+fn merged_keys(alloc: Global, lists: &[SegList]) -> Result<Vec<KeyedSegment>, AllocError>
     requires { All (λ list. sorted_by_key list ≡ list) lists.now }
-    ensures all { IfOk result (λ keys. IsPermutation (all_listed_keys lists.now) keys.items) }
-    ensures sorted { IfOk result (λ keys. IsSorted listed_key_cmp keys.items) }
+    ensures all { IfOk result (λ keys. IsPermutation (all_keyed_segments lists.now) keys.items) }
+    ensures sorted { IfOk result (λ keys. IsSorted keyed_cmp keys.items) }
 {
     sorted_never_falls();
-    let sources = lists.iter().enumerate().map(|(list, segments)| ListedKeys {
+    let sources = lists.iter().enumerate().map(|(list, segments)| KeyedSegments {
         segments: segments.as_slice(),
         list,
         index: 0,

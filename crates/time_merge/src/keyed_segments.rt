@@ -3,38 +3,38 @@ use segment_writer::{Framed, SegKey};
 
 /// The key of a segment, the number of its list, and its index there. Listed keys are ordered by all three.
 #[derive(Clone, Copy, Debug, PartialEq, Eq, PartialOrd, Ord)]
-pub(crate) struct ListedKey {
+pub(crate) struct KeyedSegment {
     pub(crate) key: SegKey,
     pub(crate) list: usize,
     pub(crate) index: usize,
 }
 
-/// The listed keys of a list of segments, from one of them on.
+/// The keyed keys of a list of segments, from one of them on.
 #[derive(Drop)]
-pub(crate) struct ListedKeys<'a> {
+pub(crate) struct KeyedSegments<'a> {
     pub(crate) segments: &'a [Framed],
     pub(crate) list: usize,
     pub(crate) index: usize,
 }
 
-impl Iterator for ListedKeys<'_> {
-    type Item = ListedKey;
+impl Iterator for KeyedSegments<'_> {
+    type Item = KeyedSegment;
 
     ghost use Rattle.std.specs.Iterator.{YieldsFirst, item_count};
-    ghost use Rattle.time_merge.specs.ListedKeys.{keys_left};
+    ghost use Rattle.time_merge.specs.KeyedSegments.{keyed_left};
 
-    ghost next_gives = { YieldsFirst keys_left };
+    ghost next_gives = { YieldsFirst keyed_left };
 
-    ghost remaining = { item_count keys_left };
+    ghost remaining = { item_count keyed_left };
 
-    fn next(&mut self) -> Option<ListedKey> {
+    fn next(&mut self) -> Option<KeyedSegment> {
         let segment = self.segments.get(self.index)?;
-        let listed = ListedKey {
+        let keyed = KeyedSegment {
             key: segment.key,
             list: self.list,
             index: self.index,
         };
         self.index += 1;
-        Some(listed)
+        Some(keyed)
     }
 }

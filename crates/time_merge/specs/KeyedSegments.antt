@@ -5,39 +5,39 @@ use Rattle.std.specs.Ordering.{then_cmp, on, nat_cmp}
 use Rattle.std.specs.declared.cmp.Ordering.{Ordering}
 use Rattle.segment_writer.specs.declared.framed.SegKey.{SegKey}
 use Rattle.segment_writer.specs.declared.framed.Framed.{Framed}
-use Rattle.time_merge.specs.declared.listed_keys.ListedKey.{ListedKey}
-use Rattle.time_merge.specs.declared.listed_keys.ListedKeys.{ListedKeys}
+use Rattle.time_merge.specs.declared.keyed_segments.KeyedSegment.{KeyedSegment}
+use Rattle.time_merge.specs.declared.keyed_segments.KeyedSegments.{KeyedSegments}
 
 -- by moment, then connection, turn and place
 abbrev pub key_cmp : SegKey → SegKey → Ordering
 key_cmp = then_cmp (on (λ k. k.moment) nat_cmp) (then_cmp (on (λ k. k.conn) nat_cmp) (then_cmp (on (λ k. k.turn) nat_cmp) (on (λ k. k.place) nat_cmp)))
 
 -- by key, then list and index
-abbrev pub listed_key_cmp : ListedKey → ListedKey → Ordering
-listed_key_cmp = then_cmp (on (λ l. l.key) key_cmp) (then_cmp (on (λ l. l.list) nat_cmp) (on (λ l. l.index) nat_cmp))
+abbrev pub keyed_cmp : KeyedSegment → KeyedSegment → Ordering
+keyed_cmp = then_cmp (on (λ l. l.key) key_cmp) (then_cmp (on (λ l. l.list) nat_cmp) (on (λ l. l.index) nat_cmp))
 
 -- the keys of segments that stand in the list of this number, the first of them at this index
-abbrev pub listed_keys : ℕ → ℕ → List Framed → List ListedKey
-listed_keys list index [] = []
-listed_keys list index (x ∷ xs) = record { key = x.key; list = list; index = index } ∷ listed_keys list (index + 1) xs
+abbrev pub keyed_segments : ℕ → ℕ → List Framed → List KeyedSegment
+keyed_segments list index [] = []
+keyed_segments list index (x ∷ xs) = record { key = x.key; list = list; index = index } ∷ keyed_segments list (index + 1) xs
 
 -- the keys of all lists
-abbrev pub all_listed_keys : List (List Framed) → List ListedKey
-all_listed_keys lists = flat_map (λ (list, xs). listed_keys list 0 xs) (enumerate_from 0 lists)
+abbrev pub all_keyed_segments : List (List Framed) → List KeyedSegment
+all_keyed_segments lists = flat_map (λ (list, xs). keyed_segments list 0 xs) (enumerate_from 0 lists)
 
 -- what an iterator over a list has still to give
-abbrev pub keys_left : ListedKeys → List ListedKey
-keys_left l = listed_keys l.list l.index (drop l.index l.segments.now)
+abbrev pub keyed_left : KeyedSegments → List KeyedSegment
+keyed_left l = keyed_segments l.list l.index (drop l.index l.segments.now)
 
 abbrev pub no_segment : Framed
 no_segment = record { key = record { moment = 0; conn = 0; turn = 0; place = 0 }; bytes = [] }
 
--- the segment of a listed key
-abbrev pub listed_segment : List (List Framed) → ListedKey → Framed
-listed_segment lists l = slice_index_or (slice_index_or lists l.list []) l.index no_segment
+-- the segment of a keyed key
+abbrev pub segment_of : List (List Framed) → KeyedSegment → Framed
+segment_of lists l = slice_index_or (slice_index_or lists l.list []) l.index no_segment
 
 -- there is a segment at its place, and it has this key
-pub record IsListed (lists : List (List Framed)) (l : ListedKey) : Type 0 where
+pub record IsKeyed (lists : List (List Framed)) (l : KeyedSegment) : Type 0 where
   pub list : l.list < length lists
   pub index : l.index < length (slice_index_or lists l.list [])
-  pub key : (listed_segment lists l).key ≡ l.key
+  pub key : (segment_of lists l).key ≡ l.key

@@ -16,7 +16,7 @@ use Rattle.segment_writer.proofs.Sorting.{NoneBelow, Ordered, only_one, none_bel
 
 -- ---- the derived order of keys is that of the definition
 
-last_test : (b c : Bool) → is_lt (cond b Less (cond c Equal Greater)) ≡ b
+pub last_test : (b c : Bool) → is_lt (cond b Less (cond c Equal Greater)) ≡ b
 last_test true c = refl
 last_test false true = refl
 last_test false false = refl
@@ -26,10 +26,10 @@ next_test true c o = refl
 next_test false true o = refl
 next_test false false o = refl
 
-then_test : (m n : ℕ) (o : Ordering) (t : Bool) → is_lt o ≡ t → is_lt (ordering_then (nat_cmp m n) o) ≡ (nat_lt m n || (m == n && t))
+pub then_test : (m n : ℕ) (o : Ordering) (t : Bool) → is_lt o ≡ t → is_lt (ordering_then (nat_cmp m n) o) ≡ (nat_lt m n || (m == n && t))
 then_test m n o t h = next_test (nat_lt m n) (m == n) o ∙ ap (λ u. nat_lt m n || (m == n && u)) h
 
-derived_is_lower : (a b : SegKey) → is_lt (ghosts.cmp a b) ≡ is_key_below a b
+pub derived_is_lower : (a b : SegKey) → is_lt (ghosts.cmp a b) ≡ is_key_below a b
 derived_is_lower a b = then_test a.moment b.moment _ _ (then_test a.conn b.conn _ _ (then_test a.turn b.turn _ _ (last_test (nat_lt a.place b.place) (a.place == b.place))))
 
 -- whether a segment's key is lower

@@ -1,4 +1,4 @@
--- Each list is a source of the merge, and gives its keyed keys in order.
+-- Each list is a source of the merge, and gives its keyed segments in order.
 use Rattle.std.proofs.Common.{◌≡◌, ℕ, ◌+◌, true, List, [], ◌∷◌, ◌++◌, Option, map, refl, sym, ap, ◌∙◌, subst, append-nil}
 use Rattle.std.specs.List.{All, enumerate_from, flat_map}
 use Rattle.std.specs.List.Sorted.{IsSorted, IsSortedBy, IsPermutation}
@@ -11,12 +11,12 @@ use Rattle.itertools.specs.KMerge.{SourcesGive, joined_lists}
 use Rattle.segment_writer.specs.declared.framed.Framed.{Framed}
 use Rattle.segment_writer.specs.WrittenSegments.{sorted_by_key}
 use Rattle.segment_writer.specs.KeyLaws.{NeverFalls, SortedNeverFalls}
-use Rattle.time_merge.specs.declared.keyed_segments.KeyedSegment.{KeyedSegment}
-use Rattle.time_merge.specs.declared.keyed_segments.KeyedSegments.{KeyedSegments}
+use Rattle.time_merge.specs.declared.merging.KeyedSegment.{KeyedSegment}
+use Rattle.time_merge.specs.declared.merging.KeyedSegments.{KeyedSegments}
 use Rattle.time_merge.specs.KeyedSegments.{keyed_left, keyed_segments, all_keyed_segments, keyed_cmp}
 use Rattle.time_merge.proofs.KeyedOrder.{below, derived, derived_is_below, keys_sorted}
 
--- the keyed keys of each list
+-- the keyed segments of each list
 abbrev pub keys_of_list : ℕ × List Framed → List KeyedSegment
 keys_of_list (list, xs) = keyed_segments list 0 xs
 
@@ -27,7 +27,7 @@ sources_give : (sources : List KeyedSegments) → SourcesGive (λ (s r : KeyedSe
 sources_give [] = tt
 sources_give (s ∷ sources) = ((λ j same. (YieldsList-from_first (λ x. x) keyed_left (keyed_left s) (ap keyed_left same)).runs), sources_give sources)
 
--- the run over the lists gave sources that give the keys of each
+-- the run over the lists gave sources that give the keyed segments of each
 pub run_gives : {S : Type 0} {steps : S → Option KeyedSegments → S → Type 0} {s : S} {P : Run steps → Type 0} (lists : List (List Framed)) (run : WholeRun steps s P) → YieldsList steps keyed_left s (keys_of_lists lists)
     → SourcesGive (λ (s r : KeyedSegments). r ≡ s) (YieldsFirst keyed_left) run.0.items (keys_of_lists lists)
 unfolding YieldsRun

@@ -1,4 +1,4 @@
--- The order of keyed keys: it is that of keys, and a list in order of key has its keyed keys in order.
+-- The order of keyed segments: it is that of keys, and a list in order of key has its keyed segments in order.
 use Rattle.std.proofs.Common.{◌≡◌, ℕ, zero, suc, ◌+◌, ◌<◌, ◌≤◌, Bool, true, false, cond, ◌||◌, ◌&&◌, ◌==◌, nat_lt, nat_cmp, is_lt, List, [], ◌∷◌, length, map, slice_index_or, refl, sym, ap, ap₂, ◌∙◌, subst, Ordering, Less, Equal, Greater, arith, add-one}
 use Rattle.std.specs.Ordering.{ordering_then, is_some_and, partial_lt}
 use Rattle.std.specs.Cmp.{IsStrictWeakOrder}
@@ -11,32 +11,20 @@ use Rattle.segment_writer.specs.declared.framed.SegKey.{SegKey}
 use Rattle.segment_writer.specs.declared.framed.Framed.{Framed}
 use Rattle.segment_writer.specs.WrittenSegments.{is_key_below, sorted_by_key}
 use Rattle.segment_writer.specs.KeyLaws.{NoneLower, NeverFalls, HasNoKeyTwice, OneOrder}
-use Rattle.time_merge.specs.declared.keyed_segments.KeyedSegment.{KeyedSegment}
-use Rattle.time_merge.specs.contracts.keyed_segments.KeyedSegmentOrd.TheImpl.Laws.{total-law, matches_partial_cmp-law}
-use Rattle.time_merge.specs.contracts.keyed_segments.KeyedSegmentPartialOrd.TheImpl.{ghosts as partial}
+use Rattle.segment_writer.proofs.InOrder.{derived_is_lower, then_test, last_test}
+use Rattle.time_merge.specs.declared.merging.KeyedSegment.{KeyedSegment}
+use Rattle.time_merge.specs.contracts.merging.KeyedSegmentOrd.TheImpl.Laws.{total-law, matches_partial_cmp-law}
+use Rattle.time_merge.specs.contracts.merging.KeyedSegmentPartialOrd.TheImpl.{ghosts as partial}
 use Rattle.time_merge.specs.MergedCapture.{all_segments}
 use Rattle.time_merge.specs.KeyedSegments.{key_cmp, keyed_cmp, keyed_segments, all_keyed_segments, segment_of, IsKeyed}
 use Rattle.time_merge.proofs.WalkedLists.{all_keyed, all_shown}
 
 -- ---- comparisons
 
-next_test : (b c : Bool) (o : Ordering) → is_lt (ordering_then (cond b Less (cond c Equal Greater)) o) ≡ (b || (c && is_lt o))
-next_test true c o = refl
-next_test false true o = refl
-next_test false false o = refl
-
-last_test : (b c : Bool) → is_lt (cond b Less (cond c Equal Greater)) ≡ b
-last_test true c = refl
-last_test false true = refl
-last_test false false = refl
-
-then_test : (m n : ℕ) (o : Ordering) (t : Bool) → is_lt o ≡ t → is_lt (ordering_then (nat_cmp m n) o) ≡ (nat_lt m n || (m == n && t))
-then_test m n o t h = next_test (nat_lt m n) (m == n) o ∙ ap (λ u. nat_lt m n || (m == n && u)) h
-
 key_test : (a b : SegKey) → is_lt (key_cmp a b) ≡ is_key_below a b
-key_test a b = then_test a.moment b.moment _ _ (then_test a.conn b.conn _ _ (then_test a.turn b.turn _ _ (last_test (nat_lt a.place b.place) (a.place == b.place))))
+key_test = derived_is_lower
 
--- a keyed key is lower
+-- a keyed segment is lower
 abbrev pub below : KeyedSegment → KeyedSegment → Bool
 below a b = is_lt (keyed_cmp a b)
 
@@ -86,7 +74,7 @@ keys_sorted list index (x ∷ []) falls k d low within = absurd (omega arith)
 keys_sorted list index (x ∷ y ∷ ys) falls k d low within =
     sorted-cons below _ _ (keyed_segments list (index + 1 + 1) ys) (next_not_below x.key y.key list index falls.0.0) (keys_sorted list (index + 1) (y ∷ ys) falls.1) k d low within
 
--- ---- keyed keys in order stand for segments that never fall
+-- ---- keyed segments in order stand for segments that never fall
 
 module _ (lists : List (List Framed)) where
   none_lower : (k : KeyedSegment) (ks : List KeyedSegment) → IsKeyed lists k → All (IsKeyed lists) ks

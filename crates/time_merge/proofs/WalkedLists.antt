@@ -1,10 +1,10 @@
--- The keyed keys of some lists stand for all of their segments.
+-- The keyed segments of some lists stand for all of their segments.
 use Rattle.std.proofs.Common.{◌≡◌, ℕ, ◌<◌, ◌+◌, List, [], ◌∷◌, ◌++◌, length, drop, map, slice_index_or, refl, ap, ap₂, ◌∙◌, arith}
 use Rattle.std.specs.List.{All, enumerate_from, flat_map}
 use Rattle.std.proofs.lemmas.List.{length-drop, drop_more, map-append}
 use Rattle.std.proofs.lemmas.List.Elements.{All-nil, All-cons, All-append}
 use Rattle.segment_writer.specs.declared.framed.Framed.{Framed}
-use Rattle.time_merge.specs.declared.keyed_segments.KeyedSegment.{KeyedSegment}
+use Rattle.time_merge.specs.declared.merging.KeyedSegment.{KeyedSegment}
 use Rattle.time_merge.specs.MergedCapture.{all_segments}
 use Rattle.time_merge.specs.KeyedSegments.{keyed_segments, all_keyed_segments, segment_of, no_segment, IsKeyed}
 

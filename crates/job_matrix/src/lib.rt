@@ -9,14 +9,13 @@ mod plans;
 mod rules;
 mod seat_views;
 mod trays;
-mod values;
 mod workers;
 mod works;
 
 pub use boards::{Board, Chief, Pass, SplitFault};
 pub use gates::{Gate, Phase, Through};
+pub use pcap_records::Values;
 pub use plans::Plan;
 pub use trays::{PutFault, Tray};
-pub use values::Values;
 pub use workers::work_all;
 pub use works::Work;

@@ -2,7 +2,7 @@
 ghost use Rattle.std.specs.Prelude.{◌≡◌, ◌<◌, ℕ, length, map, replicate, Some, None, IfOk, IfErr, IfSome, IfNone, OnOk};
 ghost use Rattle.job_matrix.specs.TrayPlaces.{IsFree, Has, IsRefused, put_one};
 
-use crate::values::Values;
+use pcap_records::Values;
 use std::alloc::{AllocError, Global};
 use std::marker::Model;
 use thiserror::Error;

@@ -8,8 +8,8 @@ ghost use Rattle.job_matrix.specs.Filling.{jobs_in, with_values, put_each};
 use crate::boards::{Board, Chief, Pass};
 use crate::gates::{Gate, Phase};
 use crate::trays::Tray;
-use crate::values::Values;
 use crate::works::Work;
+use pcap_records::Values;
 use std::alloc::{AllocError, Global};
 use std::thread::{Threads, join};
 

@@ -13,6 +13,7 @@ mod moment;
 mod order;
 mod reader;
 mod record_place;
+mod values;
 mod writing;
 
 pub use capture::Capture;
@@ -23,4 +24,5 @@ pub use moment::Moment;
 pub use order::Order;
 pub use reader::read_capture;
 pub use record_place::Record;
-pub use writing::{write_header, write_record};
+pub use values::Values;
+pub use writing::{record_header_bytes, write_header, write_record};

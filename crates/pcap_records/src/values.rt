@@ -1,8 +1,8 @@
-//! A list that is handed out.
+//! Lists that are handed out.
 use std::marker::Model;
 
 /// A list: contracts see it as its elements in order.
-#[derive(Drop)]
+#[derive(Debug, Drop)]
 pub struct Values<V> {
     items: Vec<V>,
 }

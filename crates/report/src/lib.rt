@@ -2,12 +2,11 @@
 #![tactic(auto)]
 
 mod lines;
-mod report_text;
 mod reports;
 mod rows;
 mod sides;
 mod texts;
 
 pub use lines::line;
-pub use report_text::ReportText;
 pub use reports::report;
+pub use texts::ReportText;

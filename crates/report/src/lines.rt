@@ -5,9 +5,8 @@ ghost use Rattle.toxic_defs.specs.DeliveredLines.{delivered_view};
 ghost use Rattle.report.specs.ReportText.{peer_text, proxy_text, front_text, connection_text};
 ghost use Rattle.report.specs.ShortLines.{AreShort};
 
-use crate::report_text::ReportText;
 use crate::sides::push_side;
-use crate::texts::{push, push_number, push_told};
+use crate::texts::{ReportText, push, push_number, push_told};
 use conn_table::Conn;
 use frame_headers::Peer;
 use reassembly::Recorded;

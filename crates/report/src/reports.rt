@@ -6,8 +6,7 @@ ghost use Rattle.conn_table.specs.ClassCounts.{counts_of};
 ghost use Rattle.report.specs.ReportText.{heading_text, first_classes_text, other_classes_text, counts_text_of, counts_text, connections_text, report_text};
 
 use crate::lines::LINE_ROOM;
-use crate::report_text::ReportText;
-use crate::texts::{push, push_told};
+use crate::texts::{ReportText, push, push_told};
 use conn_table::{Counts, Table};
 use pcap_records::Capture;
 use std::alloc::{AllocError, Global};
@@ -85,7 +84,7 @@ fn push_counts(
     push_other_classes(text, counts)
 }
 
-// Appends the scenario's number, and how many records and bytes behind them the capture has.
+// Appends the scenario's number, and how many records and bytes after them the capture has.
 fn push_heading(
     text: &mut Vec<u8>,
     scenario: u32,

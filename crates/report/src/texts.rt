@@ -3,7 +3,11 @@ ghost use Rattle.std.specs.Prelude.{◌≡◌, ◌++◌, OnOk};
 ghost use Rattle.std.specs.Fmt.{decimal};
 
 use itoa::Buffer;
+use pcap_records::Values;
 use std::alloc::AllocError;
+
+/// The text of a report, or of a part of it: ASCII, each of its lines ended by LF.
+pub type ReportText = Values<u8>;
 
 /// Appends words.
 pub(crate) fn push(text: &mut Vec<u8>, words: &str) -> Result<(), AllocError>

@@ -6,7 +6,7 @@ use Rattle.itertools.proofs.TwoLemmas.{YieldsList-from_gives_of_both}
 use Rattle.itertools.specs.List.{merge_by}
 use Rattle.segment_writer.proofs.InOrder.{is_ordered}
 use Rattle.segment_writer.proofs.MergedLists.{goes_first, merged_is}
-use Rattle.segment_writer.proofs.seg_lists.SegList.join.Goals as goal
+use Rattle.segment_writer.proofs.framed.SegList.join.Goals as goal
 
 pub returns : goal.returns
 returns c =

@@ -1,6 +1,6 @@
 use Rattle.std.proofs.Common.{length, ◌-◌}
-use Rattle.segment_writer.specs.HeardBytes.{IsHeard}
-use Rattle.segment_writer.proofs.hearing.hear.Given as goal
+use Rattle.segment_writer.specs.LinePlaces.{IsHeard}
+use Rattle.segment_writer.proofs.turns.hear.Given as goal
 
 abbrev pub invariant-loop-part : goal.invariant-loop-part
 invariant-loop-part l = IsHeard l.parts (record { part = l.part; bytes = l.bytes }) l.at

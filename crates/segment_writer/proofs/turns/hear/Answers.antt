@@ -1,7 +1,7 @@
 use Rattle.std.proofs.Common.{◌∙◌, sym, arith}
-use Rattle.segment_writer.specs.declared.hearing.Heard.{Heard}
+use Rattle.segment_writer.specs.declared.turns.Heard.{Heard}
 use Rattle.segment_writer.proofs.Listening.{count_fits, heard_more, heard_all, heard_until, same_len}
-use Rattle.segment_writer.proofs.hearing.hear.Goals as goal
+use Rattle.segment_writer.proofs.turns.hear.Goals as goal
 
 pub overflow_cast-bytes : goal.overflow_cast-bytes
 overflow_cast-bytes c =

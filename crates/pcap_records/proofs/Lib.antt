@@ -1,7 +1,7 @@
 mod Steps
 mod Places
 mod Passes
-mod Running
+pub mod Running
 mod Answering
 mod Splitting
 mod ReadingBack

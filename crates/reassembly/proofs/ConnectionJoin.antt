@@ -12,7 +12,7 @@ use Rattle.conn_table.specs.IndexedSegments.{TimedSegment, IndexedSegment, same_
 use Rattle.conn_table.specs.Connections.{of_one_pair}
 use Rattle.conn_table.specs.IndexedConnections.{IndexedConnection, without_indices}
 use Rattle.conn_table.specs.Tables.{member_in, conn_in}
-use Rattle.conn_table.specs.declared.members.Member.{Member}
+use Rattle.conn_table.specs.declared.conns.Member.{Member}
 use Rattle.conn_table.specs.declared.conns.Conn.{Conn}
 use Rattle.reassembly.specs.Positions.{effective_members, is_reset, is_answer, server_base}
 use Rattle.reassembly.specs.RecordedLines.{End, RecordedSide, RecordedConnection, closing_segment, is_counted_fin, reset_or_live, sent_by, recorded_side, recorded_connection, side_of}

@@ -1,7 +1,7 @@
 -- Each connection of a capture's segments is recorded in the capture, between two peers.
 use Rattle.std.proofs.Common.{◌≡◌, ◌≤◌, ◌<◌, ℕ, zero, suc, ◌+◌, ◌-◌, ◌&&◌, Bool, true, false, cond, List, [], ◌∷◌, map, filter, length, take, drop, slice_range, nat_lt, nat_le, slice_get, Option, Some, None, option_map, refl, sym, ap, ◌∙◌, subst, arith, zero-add, add-zero, if◌then◌else◌}
 use Rattle.std.specs.Option.{unwrap_or}
-use Rattle.std.specs.List.{AllByRecursion, filter_map, cons_option, enumerate_from, zip, range_with_len}
+use Rattle.std.specs.List.{AllByRecursion, filter_map, cons_option, enumerate_from, last_or, zip, range_with_len}
 use Rattle.std.proofs.Math.Nat.{le_trans, le_refl}
 use Rattle.std.proofs.lemmas.Bool.{eqb-true, and_parts, ltb-true}
 use Rattle.std.proofs.lemmas.List.{length-map}
@@ -11,9 +11,9 @@ use Rattle.pcap_records.specs.Reading.{Packet}
 use Rattle.pcap_records.specs.Instants.{greatest, greatest_so_far, instants}
 use Rattle.frame_headers.specs.Frame.{FrameClass, segment, frame_class, segment_fields}
 use Rattle.conn_table.specs.SeenCapture.{seen_packet, seen_packets}
-use Rattle.conn_table.specs.declared.pair.Pair.{Pair}
+use Rattle.conn_table.specs.declared.conns.Pair.{Pair}
 use Rattle.conn_table.specs.IndexedSegments.{IndexedSegment, is_segment, indexed_segment, indexed_segments, same_peer, same_pair, pair_of, pair_of_segment}
-use Rattle.conn_table.specs.Connections.{last_or, of_one_pair, begins, beginnings, beginning_of, is_at, later_members}
+use Rattle.conn_table.specs.Connections.{of_one_pair, begins, beginnings, beginning_of, is_at, later_members}
 use Rattle.conn_table.specs.IndexedConnections.{IndexedConnection, indexed_connection_of, indexed_connections}
 use Rattle.conn_table.specs.KeptSegments.{frame_at}
 use Rattle.conn_table.specs.Tables.{conn_in}

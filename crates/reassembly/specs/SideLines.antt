@@ -1,7 +1,7 @@
 -- A side's line from what each position has: its bytes up to a gap or a FIN, and its end.
 use Rattle.std.specs.Prelude.{◌≡◌, ℕ, ◌+◌, ◌-◌, ◌==◌, max, Bool, List, [], map, length, sum_by, find, Option, Some, None, option_map, if◌then◌else◌}
 use Rattle.conn_table.specs.IndexedSegments.{TimedSegment}
-use Rattle.conn_table.specs.declared.members.Member.{Member}
+use Rattle.conn_table.specs.declared.conns.Member.{Member}
 use Rattle.reassembly.specs.declared.closings.Closing.{Closing}
 use Rattle.reassembly.specs.declared.side_lines.SideLine.{SideLine}
 use Rattle.reassembly.specs.RecordedBytes.{origin}

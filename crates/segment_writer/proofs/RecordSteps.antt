@@ -5,7 +5,8 @@ use borrow.Rule.Slice.PartMut.{put_mid}
 use Rattle.pcap_records.specs.Instants.{microseconds}
 use Rattle.pcap_records.specs.Writing.{record_header, record_bytes}
 use Rattle.frame_headers.specs.Flags.{ack_flag}
-use Rattle.frame_headers.specs.Headers.{headers, payload_limit}
+use Rattle.frame_headers.specs.Headers.{headers}
+use Rattle.frame_headers.specs.Layout.{payload_limit}
 use Rattle.frame_headers.specs.declared.written.Header.{Header}
 use Rattle.reassembly.specs.RecordedLines.{LineByte}
 use Rattle.reassembly.specs.LineView.{bytes_of_parts}

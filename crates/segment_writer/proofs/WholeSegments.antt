@@ -3,7 +3,7 @@ use Rattle.std.proofs.Common.{◌≡◌, ◌≤◌, ◌<◌, inl, inr, ℕ, ◌+
 use Rattle.std.proofs.lemmas.Bool.{cases_lt, lt-ltb, le-ltb, eq-eqb}
 use Rattle.std.proofs.lemmas.List.Elements.{filter-append}
 use Rattle.pcap_records.specs.Instants.{horizon, microseconds}
-use Rattle.frame_headers.specs.Headers.{payload_limit}
+use Rattle.frame_headers.specs.Layout.{payload_limit}
 use Rattle.reassembly.specs.RecordedLines.{LineByte, Line, End}
 use Rattle.reassembly.specs.LineLaws.{IsInChunks, GoesOn, IsNotBefore, last_instant}
 use Rattle.segment_writer.specs.WrittenSegments.{WrittenConnection, SentSegment, frame_bytes, is_key_below, sorted_by_key, opening_turn, up_turn, down_turn, segments_before_horizon, written_segments}

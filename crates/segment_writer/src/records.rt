@@ -3,7 +3,8 @@ ghost use Rattle.std.specs.Prelude.{◌≡◌, ◌≤◌, ◌<◌, ◌+◌, ◌+
 ghost use Rattle.pcap_records.specs.Instants.{horizon, microseconds};
 ghost use Rattle.pcap_records.specs.Writing.{record_header};
 ghost use Rattle.frame_headers.specs.Flags.{psh_flag, ack_flag};
-ghost use Rattle.frame_headers.specs.Headers.{headers, headers_len, payload_limit};
+ghost use Rattle.frame_headers.specs.Headers.{headers};
+ghost use Rattle.frame_headers.specs.Layout.{headers_len, payload_limit};
 ghost use Rattle.segment_writer.specs.WrittenSegments.{opening_segment};
 ghost use Rattle.segment_writer.specs.FirstPieces.{first_instant, first_of, piece_size};
 ghost use Rattle.segment_writer.specs.PiecePlaces.{left_at, IsPlace};

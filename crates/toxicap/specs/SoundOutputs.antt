@@ -5,7 +5,7 @@ use Rattle.pcap_records.specs.declared.order.Order.TheVariants.{Little}
 use Rattle.pcap_records.specs.Reading.{Packet, Reading, capture_limit, reading}
 use Rattle.frame_headers.specs.Frame.{frame_class, segment, segment_fields, datagram}
 use Rattle.frame_headers.specs.Sum.{sum16, tcp_sum}
-use Rattle.toxicap.specs.declared.outputs.Output.{Output}
+use Rattle.run_files.specs.declared.outputs.Output.{Output}
 use Rattle.scenarios.specs.declared.proxies.Proxy.{Proxy}
 use Rattle.toxicap.specs.Rehearsal.{answer}
 

@@ -1,5 +1,5 @@
 use Rattle.std.proofs.Common.{◌∙◌, ◌≤◌, ◌+◌, ◌++◌, length, take, ap, arith}
-use Rattle.frame_headers.specs.Headers.{payload_limit}
+use Rattle.frame_headers.specs.Layout.{payload_limit}
 use Rattle.segment_writer.specs.FirstPieces.{values}
 use Rattle.segment_writer.specs.PiecePlaces.{left_at}
 use Rattle.segment_writer.proofs.RecordSteps.{length-filled, made_is, piece_is, piece_within, piece_limited, length-piece, first_instant-place}

@@ -1,7 +1,5 @@
-mod Steps
-mod Places
+pub mod Lists
 mod Passes
 pub mod Running
-mod Answering
 mod Splitting
 mod ReadingBack

@@ -1,8 +1,8 @@
 use Rattle.std.proofs.Common.{◌≡◌, drop, arith, refl}
 use Rattle.std.proofs.lemmas.List.{take_rest}
 use Rattle.pcap_records.specs.Reading.{microsecond_heading, stamp_of}
-use Rattle.pcap_records.proofs.Places.{record_stands_at}
-use Rattle.pcap_records.proofs.front.found_at.Goals as goal
+use Rattle.pcap_records.proofs.Passes.{record_stands_at}
+use Rattle.pcap_records.proofs.reader.found_at.Goals as goal
 
 pub returns : goal.returns
 returns c =

@@ -2,7 +2,7 @@ use Rattle.std.proofs.Common.{◌≡◌, ◌∙◌, None, refl, replicate, arith
 use Rattle.std.proofs.lemmas.List.{length-replicate}
 use Rattle.conn_table.specs.Tables.{conns_from, unopened_after}
 use Rattle.conn_table.proofs.GrowthSteps.{slice_get-replicate}
-use Rattle.conn_table.proofs.growth.Growth.with_room.Goals as goal
+use Rattle.conn_table.proofs.table.Growth.with_room.Goals as goal
 
 pub returns : goal.returns
 unfolding conns_from unopened_after

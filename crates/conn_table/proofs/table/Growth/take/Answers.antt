@@ -1,8 +1,7 @@
 use Rattle.std.proofs.Common.{◌∙◌, refl, arith}
-use Rattle.conn_table.specs.Listings.{pair_at}
 use Rattle.conn_table.proofs.JoinSteps.{group_of_item}
 use Rattle.conn_table.proofs.Growths.{IsEntryAt, conns-few, unopened-few, number-few, current_at, grown-begun, grown-member, grown-unopened}
-use Rattle.conn_table.proofs.growth.Growth.take.Goals as goal
+use Rattle.conn_table.proofs.table.Growth.take.Goals as goal
 
 pub begin-requires-clause-few : goal.begin-requires-clause-few
 begin-requires-clause-few c = omega (arith, conns-few c.args.listing.now c.args.at c.args.self.now (omega arith) c.requires.grown)
@@ -46,8 +45,7 @@ returns-in_ok-add_member c =
       group = group_of_item l.pairs.keys l.entries.items c.args.at e c.requires.listing.groups c.requires.within c.index.ensures;
     } in
     let found = current_at l c.args.at e c.args.self.now c.index-else-entry.result.now at c.requires.grown c.index-else-entry.ensures ∙ c.in-Some.is in
-    let member = c.member.ensures (pair_at l.pairs.keys e.group) in
-    grown-member l c.args.at e c.args.self.now _ c.in-Some.current at c.requires.grown c.if-entry.false found (rw member at c.in_ok-add_member.ensures) refl refl
+    grown-member l c.args.at e c.args.self.now _ c.in-Some.current at c.requires.grown c.if-entry.false found (rw c.member_of.ensures at c.in_ok-add_member.ensures) refl refl
 
 pub returns-in_default : goal.returns-in_default
 returns-in_default c =

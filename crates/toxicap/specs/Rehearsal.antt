@@ -16,7 +16,7 @@ use Rattle.conn_workers.specs.ConnectionParts.{Part, part_of}
 use Rattle.time_merge.specs.MergedCapture.{capture_of}
 use Rattle.report.specs.ReportText.{report_text}
 
--- A scenario is seen as its proxies in order. The parts of all connections, one after another
+-- the parts of all connections, in order of number, under a scenario with its number; a scenario is seen as its proxies in order
 abbrev pub parts : SeenCapture → ℕ → ℕ × List Proxy → List Part
 parts c seed scenario = map (part_of c.ticks seed scenario) (connections (indexed_segments 0 c.packets))
 

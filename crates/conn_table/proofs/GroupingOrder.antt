@@ -4,7 +4,7 @@ use Rattle.std.specs.List.{AllByRecursion, filter_map, cons_option, enumerate_fr
 use Rattle.std.proofs.lemmas.List.{append_assoc}
 use Rattle.conn_table.specs.SeenCapture.{SeenPacket}
 use Rattle.conn_table.specs.IndexedSegments.{IndexedSegment, is_segment, indexed_segment, indexed_segments}
-use Rattle.conn_table.proofs.GroupingFilters.{all_weaker, all_push, filter_first, filter_second}
+use Rattle.conn_table.proofs.GroupingFilters.{all_weaker, all_append, filter_first, filter_second}
 
 abbrev pub AreBelow : ℕ → List IndexedSegment → Type 0
 AreBelow n = AllByRecursion (λ (x : IndexedSegment). x.index < n)
@@ -46,7 +46,7 @@ at_next {s = s} cut = record {
 pub behind_next : {n : ℕ} {all earlier : List IndexedSegment} {s : IndexedSegment} {later : List IndexedSegment} → IsSplitAt n all earlier (s ∷ later) → IsSplitAt (s.index + 1) all (earlier ++ s ∷ []) later
 behind_next {earlier = earlier} {s = s} {later = later} cut = record {
   whole = cut.whole ∙ sym (append_assoc earlier (s ∷ []) later);
-  below = all_push (λ x. x.index < s.index + 1) earlier s (below_more (s.index + 1) (omega arith) cut) (omega arith);
+  below = all_append (λ x. x.index < s.index + 1) earlier (s ∷ []) (below_more (s.index + 1) (omega arith) cut) (omega arith, tt);
   rising = cut.rising.1;
 }
 
@@ -75,8 +75,8 @@ rising_weaker n [] rising = tt
 rising_weaker n (s ∷ segs) rising = (omega (arith, rising.0), rising.1)
 
 rising_cons : (n : ℕ) (o : Option IndexedSegment) (segs : List IndexedSegment) → ((s : IndexedSegment) → o ≡ Some s → s.index ≡ n) → IsRising (n + 1) segs → IsRising n (cons_option o segs)
-rising_cons n None segs sequence_number rising = rising_weaker n segs rising
-rising_cons n (Some s) segs sequence_number rising = let here : s.index ≡ n = sequence_number s refl in (omega arith, rw here rising)
+rising_cons n None segs is_numbered rising = rising_weaker n segs rising
+rising_cons n (Some s) segs is_numbered rising = let here : s.index ≡ n = is_numbered s refl in (omega arith, rw here rising)
 
 index-indexed_segment : (n : ℕ) (p : SeenPacket) (s : IndexedSegment) → indexed_segment (n, p) ≡ Some s → s.index ≡ n
 index-indexed_segment n p s = by_test (is_segment p.frame.class)

@@ -1,14 +1,18 @@
--- The join of two adjacent ranges' partials.
-use Rattle.std.proofs.Common.{◌≡◌, List, [], ◌++◌, map, sym, ap, ◌∙◌, arith}
+-- The join of two adjacent ranges' partials, and a partial by pairs.
+use Rattle.std.proofs.Common.{◌≡◌, ℕ, List, [], ◌∷◌, ◌++◌, map, refl, sym, ap, ◌∙◌, arith}
 use Rattle.std.proofs.lemmas.List.{map-append, length-map}
-use Rattle.pcap_records.specs.CaptureView.{packet_of}
+use Rattle.pcap_records.specs.CaptureView.{CaptureView, packet_of}
 use Rattle.conn_table.specs.SeenCapture.{SeenPacket}
 use Rattle.conn_table.specs.IndexedSegments.{IndexedSegment}
 use Rattle.conn_table.specs.ClassCounts.{counts_of}
 use Rattle.conn_table.specs.KeptSegments.{KeptSegment, kept_in}
 use Rattle.conn_table.specs.Partials.{MarkedSegment, MarkedKept, PartialView, marked_after, marked_in, kept_of, marked_behind, packets_between, segments_between, partial_in, counts_sum, joined, carried, JoinsAgree}
 use Rattle.conn_table.specs.declared.class_counts.Counts.{Counts}
+use Rattle.conn_table.specs.Connections.{begins}
+use Rattle.conn_table.specs.Groups.{groups_of, GroupsAgree}
 use Rattle.conn_table.proofs.CountingSteps.{counts_of-append}
+use Rattle.conn_table.proofs.GroupingOrder.{IsSplitAt, behind_next, IsSplitAt-first}
+use Rattle.conn_table.proofs.GroupingBeginnings.{begins-agrees}
 use Rattle.conn_table.proofs.MarkSteps.{marked_after-append, kept_of-marked, marked_behind-kept}
 use Rattle.conn_table.proofs.RangeSteps.{packets_between-append, segments_between-append}
 
@@ -34,3 +38,15 @@ joins_agree c from mid to carry first second within =
     ∙ ap (λ (xs : List IndexedSegment). map (marked_in c) (marked_after [] xs)) (sym whole))))) in
     let view : Counts → List MarkedKept → PartialView = λ n ms. record { from = from; to = to; counts = n; marked = ms } in
     ap (λ (n : Counts). view n (ml ++ marked_behind (kept_of ml) (kept_of mr))) counts ∙ ap (λ (ms : List MarkedKept). view (counts_of (packets_between c from to carry)) ms) marks
+
+-- ---- by pairs
+
+marks-filtered : (c : CaptureView) (later : List IndexedSegment) {n : ℕ} {all earlier : List IndexedSegment} → IsSplitAt n all earlier later
+    → map (marked_in c) (marked_after earlier later) ≡ map (λ s. record { begins = begins all s; kept = kept_in c s }) later
+unfolding marked_after
+marks-filtered c [] cut = refl
+marks-filtered c (s ∷ later) cut = rw (begins-agrees cut, marks-filtered c later (behind_next cut)) refl
+
+pub groups_agree : GroupsAgree
+unfolding partial_in
+groups_agree c from to carry = ap groups_of (marks-filtered c (segments_between c from to carry) (IsSplitAt-first from (packets_between c from to carry)))

@@ -1,4 +1,5 @@
-mod GroupingFilters
+pub mod Peers
+pub mod GroupingFilters
 mod GroupingOrder
 pub mod GroupingPairs
 mod GroupingBeginnings
@@ -8,7 +9,7 @@ mod GroupingForms
 mod CountingSteps
 mod ListingSteps
 mod MarkSteps
-mod RangeSteps
+pub mod RangeSteps
 mod JoinSteps
 mod PartialSteps
 mod GrowthSteps

@@ -1,10 +1,10 @@
 -- Payloads lie in the file, and members stand in its order.
-use Rattle.std.proofs.Common.{◌≡◌, ◌<◌, ◌≤◌, ℕ, zero, suc, ◌+◌, ◌-◌, max, Bool, true, false, ◌&&◌, cond, nat_lt, List, [], ◌∷◌, ◌++◌, length, map, filter, take, drop, get_or, slice_get, slice_range, Some, refl, sym, ap, subst, ◌∙◌, arith, length-take}
+use Rattle.std.proofs.Common.{◌≡◌, ◌<◌, ◌≤◌, ℕ, zero, suc, ◌+◌, ◌-◌, max, Bool, true, false, ◌&&◌, cond, nat_lt, List, [], ◌∷◌, length, map, filter, take, drop, get_or, slice_get, slice_range, Some, refl, sym, ap, subst, ◌∙◌, arith, length-take}
 use Rattle.std.specs.List.{AllByRecursion, enumerate_from}
 use Rattle.std.proofs.lemmas.Bool.{and_parts, ltb-true}
 use Rattle.std.proofs.lemmas.List.{drop-drop, drop-take, take-take, get_or_default}
 use Rattle.std.proofs.lemmas.Option.{slice_get-map, slice_get-get_or}
-use Rattle.pcap_records.specs.declared.record_place.Record.{Record}
+use Rattle.pcap_records.specs.declared.capture.Record.{Record}
 use Rattle.pcap_records.specs.CaptureView.{CaptureView, packet_of, IsSoundCapture, IsWithinFile}
 use Rattle.frame_headers.specs.Frame.{FrameClass, frame_class, segment, segment_fields, payload_offset}
 use Rattle.frame_headers.specs.HeaderLaws.{IsPayloadInPlace, PayloadsAreInPlace}
@@ -15,14 +15,15 @@ use Rattle.conn_table.specs.KeptSegments.{payload_start, segment_read}
 use Rattle.conn_table.specs.Partials.{packets_between, segments_between, carried}
 use Rattle.conn_table.specs.Tables.{member_in, conn_in, table_in}
 use Rattle.conn_table.specs.TableFacts.{IsPlaced, PayloadsArePlaced, AreRising, IsSoundConn, ConnsAreSound}
-use Rattle.conn_table.specs.declared.members.Member.{Member}
+use Rattle.conn_table.specs.declared.conns.Member.{Member}
+use Rattle.conn_table.proofs.GroupingFilters.{all_append, all_filter}
 use Rattle.conn_table.proofs.GroupingOrder.{IsRising, IsSplitAt-first}
 use Rattle.conn_table.proofs.PartialSteps.{IsRecordOf, start_is, segments_more, segment_list, segments-none}
 
 -- ---- payloads
 
 -- a part of a part of the file
-placed_part : (file : List ℕ) (start len off n : ℕ) → off + n ≤ length (take len (drop start file)) → start + len ≤ length file
+pub placed_part : (file : List ℕ) (start len off n : ℕ) → off + n ≤ length (take len (drop start file)) → start + len ≤ length file
     → slice_range file (start + off) (start + off + n) ≡ slice_range (take len (drop start file)) off (off + n)
 placed_part file start len off n within in_file =
     let short : off + n ≤ len = omega (arith, length-take len (drop start file)) in
@@ -44,10 +45,6 @@ placed_at in_place c i at r sound here is =
       within = omega (arith, start, in_frame.within, in_file.ends, length-take r.len (drop r.start c.bytes));
       bytes = rw start (placed_part c.bytes r.start r.len (payload_offset bytes) n in_frame.within in_file.ends ∙ in_frame.bytes);
     }
-
-all_append : {X : Type 0} (P : X → Type 0) (xs ys : List X) → AllByRecursion P xs → AllByRecursion P ys → AllByRecursion P (xs ++ ys)
-all_append P [] ys first second = second
-all_append P (x ∷ xs) ys first second = (first.0, all_append P xs ys first.1 second)
 
 -- n records from a place on
 placed_from : PayloadsAreInPlace → (c : CaptureView) (from carry n : ℕ) → IsSoundCapture c.ticks c.bytes c.records → from + n ≤ length c.records → AllByRecursion (IsPlaced c) (segments_between c from (from + n) carry)
@@ -82,14 +79,6 @@ payloads_are_placed in_place c from to carry sound ordered within =
     subst (λ (n : ℕ). AllByRecursion (IsPlaced c) (segments_between c from n carry)) whole (placed_from in_place c from carry (to - from) sound (omega arith))
 
 -- ---- members
-
-all_filter : {X : Type 0} (P : X → Type 0) (Q : X → Bool) (xs : List X) → AllByRecursion P xs → AllByRecursion P (filter Q xs)
-all_filter P Q [] all = tt
-all_filter P Q (x ∷ xs) all = by_test (Q x) (all_filter P Q xs all.1)
-  where
-    by_test : (t : Bool) → AllByRecursion P (filter Q xs) → AllByRecursion P (cond t (x ∷ filter Q xs) (filter Q xs))
-    by_test true rest = (all.0, rest)
-    by_test false rest = rest
 
 rising_lower : (m n : ℕ) (segs : List IndexedSegment) → m ≤ n → IsRising n segs → IsRising m segs
 rising_lower m n [] le rising = tt

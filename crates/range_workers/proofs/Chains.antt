@@ -56,23 +56,6 @@ are_within c cut from (r ∷ []) (is, start, end) = All-cons (IsWithin c) r [] (
 are_within c cut from (r ∷ s ∷ rs) (is, within, rest) =
     All-cons (IsWithin c) r (s ∷ rs) (rw is (omega arith, omega (arith, within))) (are_within c cut (from + cut) (s ∷ rs) rest)
 
--- ---- the greatest stamp before a range
-
-greatest-append : (ns ms : List ℕ) → greatest (ns ++ ms) ≡ max (greatest ns) (greatest ms)
-greatest-append [] ms = omega arith
-greatest-append (n ∷ ns) ms = rw (greatest-append ns ms) (omega arith)
-
--- it is that before an earlier one, or of the stamps between
-pub carried_on : (c : CaptureView) (from n to : ℕ) → to ≡ from + n → carried c 0 to 0 ≡ max (carried c 0 from 0) (greatest (stamps_between c from to))
-carried_on c from n to is =
-    let ps : List Packet = (contents_of c).packets in
-    let all : to - 0 ≡ from + n = omega (arith, is) in
-    let first : from - 0 ≡ from = omega arith in
-    let more : to - from ≡ n = omega (arith, is) in
-    let stamps : stamps_between c 0 to ≡ stamps_between c 0 from ++ stamps_between c from to =
-    rw (all, first, more, take-add from n ps) (map-append (λ (p : Packet). p.stamp) (take from ps) (take n (drop from ps))) in
-    rw (stamps, greatest-append (stamps_between c 0 from) (stamps_between c from to)) (omega arith)
-
 -- ---- partials
 
 -- the partials of ranges that follow one another are adjacent

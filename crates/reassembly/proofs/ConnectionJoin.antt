@@ -12,7 +12,7 @@ use Rattle.conn_table.specs.IndexedSegments.{TimedSegment, IndexedSegment, same_
 use Rattle.conn_table.specs.Connections.{of_one_pair}
 use Rattle.conn_table.specs.IndexedConnections.{IndexedConnection, without_indices}
 use Rattle.conn_table.specs.Tables.{member_in, conn_in}
-use Rattle.conn_table.specs.declared.members.Member.{Member}
+use Rattle.conn_table.specs.declared.conns.Member.{Member}
 use Rattle.conn_table.specs.declared.conns.Conn.{Conn}
 use Rattle.conn_table.proofs.GroupingPairs.{one_pair-itself}
 use Rattle.reassembly.specs.Positions.{effective_members, is_reset, is_answer, server_base, shifted_start}

@@ -7,9 +7,8 @@ use Rattle.serde_json.specs.Data.{Data, Items, no_items, item}
 use Rattle.toxic_defs.specs.declared.kinds.Kind.{Kind}
 use Rattle.toxic_defs.specs.Toxics.{RatedKind, is_in_range, IsInRange, made_toxic}
 use Rattle.scenarios.specs.Refusals.{at_place, of_toxic}
-use Rattle.scenarios.specs.ToxicTypes.{toxic_type, stream_of, name_of}
-use Rattle.scenarios.specs.ToxicAttributes.{kind_in_range, ppm_of}
-use Rattle.scenarios.specs.ToxicsInFiles.{toxic_limit, toxic_members, ToxicsRead, no_toxics, direction, is_name_taken, NamedToxic, checked_toxic, toxic_in, with_toxic, toxics_from}
+use Rattle.scenarios.specs.ToxicTypes.{toxic_type, stream_of, name_of, kind_in_range, ppm_of}
+use Rattle.scenarios.specs.ToxicsInFiles.{toxic_limit, toxic_fields, ToxicsRead, no_toxics, direction, is_name_taken, NamedToxic, checked_toxic, toxic_in, with_toxic, toxics_from}
 use Rattle.scenarios.specs.ProxyLaws.{AreSoundToxics}
 use Rattle.scenarios.specs.declared.toxic_types.ToxicType.{ToxicType}
 use Rattle.scenarios.specs.declared.toxic_types.Stream.{Stream}
@@ -42,7 +41,7 @@ checked_fits read name way type_is d t is =
 toxic_fits : (read : ToxicsRead) (d : Data) (t : NamedToxic) → toxic_in read d ≡ Ok t → Fits read t
 unfolding toxic_in
 toxic_fits read d t is =
-    of_with (toxic_members d) _ _ t is λ m _ is₁.
+    of_with (toxic_fields d) _ _ t is λ m _ is₁.
     of_with (toxic_type m.type_text) _ _ t is₁ λ type_is _ is₂.
     of_with (stream_of m.stream) _ _ t is₂ λ stream _ is₃.
     checked_fits read (name_of m.name type_is stream) stream type_is d t is₃

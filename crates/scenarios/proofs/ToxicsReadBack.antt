@@ -10,10 +10,8 @@ use Rattle.serde_json.specs.View.{items_of}
 use Rattle.toxic_defs.specs.declared.kinds.Kind.{Kind}
 use Rattle.toxic_defs.specs.declared.kinds.Kind.TheVariants.{Latency, Bandwidth, SlowClose, Timeout, ResetPeer, Slicer, LimitData}
 use Rattle.toxic_defs.specs.Toxics.{RatedKind, fits, IsInRange, made_toxic}
-use Rattle.scenarios.specs.ToxicTypes.{type_name, toxic_type, stream_name, stream_of, name_of}
-use Rattle.scenarios.specs.ToxicAttributes.{kind_of}
+use Rattle.scenarios.specs.ToxicTypes.{type_name, toxic_type, stream_name, stream_of, name_of, kind_of, type_of, toxic_data, toxics_data}
 use Rattle.scenarios.specs.ToxicsInFiles.{toxic_limit, ToxicsRead, no_toxics, direction, is_name_taken, checked_toxic, toxic_in, with_toxic, toxics_from}
-use Rattle.scenarios.specs.WrittenToxics.{type_of, toxic_data, toxics_data}
 use Rattle.scenarios.specs.ProxyLaws.{AreSoundToxics}
 use Rattle.scenarios.specs.declared.toxic_types.ToxicType.{ToxicType}
 use Rattle.scenarios.specs.declared.toxic_types.Stream.{Stream}

@@ -9,10 +9,10 @@ use Rattle.serde_json.specs.Data.{Data, boolean, string, array, object, member, 
 use Rattle.serde_json.specs.View.{items_of}
 use Rattle.frame_headers.specs.declared.peers.Peer.{Peer}
 use Rattle.toxic_defs.specs.Toxics.{RatedKind, IsInRange}
-use Rattle.scenarios.specs.Addresses.{address}
+use Rattle.scenarios.specs.Hosts.{address}
 use Rattle.scenarios.specs.Upstreams.{colon}
 use Rattle.scenarios.specs.ToxicsInFiles.{toxic_limit}
-use Rattle.scenarios.specs.WrittenToxics.{toxics_data}
+use Rattle.scenarios.specs.ToxicTypes.{toxics_data}
 use Rattle.scenarios.specs.declared.toxic_types.Stream.TheVariants.{Upstream, Downstream}
 use Rattle.scenarios.specs.Proxies.{proxy_limit, has_name}
 use Rattle.scenarios.specs.Populate.{tree, scenario, met_number}

@@ -2,12 +2,12 @@
 use Rattle.std.specs.Prelude.{◌≡◌, ℕ, List, [], ◌∷◌, ◌++◌, codes, true, false, Some, None, Ok, Err}
 use Rattle.frame_headers.specs.declared.peers.Peer.{Peer}
 use Rattle.scenarios.specs.Refusals.{of_text, of_proxy, of_toxic}
-use Rattle.scenarios.specs.HostLists.{host_for}
+use Rattle.scenarios.specs.Hosts.{host_for}
 use Rattle.scenarios.specs.Upstreams.{upstream}
 use Rattle.scenarios.specs.Populate.{scenario, met_number}
 use Rattle.scenarios.specs.declared.hosts.KnownHost.{KnownHost}
 use Rattle.scenarios.specs.declared.proxies.Proxy.{Proxy}
-use Rattle.scenarios.specs.declared.causes.Cause.TheVariants.{NotJson, NotArray, BadMember, DuplicateProxy, BadUpstream, UnknownHost, UnknownToxic}
+use Rattle.scenarios.specs.declared.error.Cause.TheVariants.{NotJson, NotArray, BadMember, DuplicateProxy, BadUpstream, UnknownHost, UnknownToxic}
 
 -- ---- texts
 

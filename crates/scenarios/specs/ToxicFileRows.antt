@@ -7,8 +7,8 @@ use Rattle.scenarios.specs.Refusals.{of_toxic}
 use Rattle.scenarios.specs.Populate.{scenario}
 use Rattle.scenarios.specs.ScenarioRows.{of_one, server}
 use Rattle.scenarios.specs.declared.proxies.Proxy.{Proxy}
-use Rattle.scenarios.specs.declared.causes.Cause.TheVariants.{BadMember, UnknownToxic, BadStream, DuplicateToxic, AttributeRange, TooMany, BadToxicity}
-use Rattle.scenarios.specs.declared.causes.Refusal.{Refusal}
+use Rattle.scenarios.specs.declared.error.Cause.TheVariants.{BadMember, UnknownToxic, BadStream, DuplicateToxic, AttributeRange, TooMany, BadToxicity}
+use Rattle.scenarios.specs.declared.error.Refusal.{Refusal}
 
 -- ---- texts
 

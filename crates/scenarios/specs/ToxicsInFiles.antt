@@ -3,16 +3,15 @@ use Rattle.std.specs.Prelude.{ℕ, List, [], ◌∷◌, ◌++◌, codes, length,
 use Rattle.std.specs.List.{list_any}
 use Rattle.serde_json.specs.Data.{Data, Items, no_items, item}
 use Rattle.toxic_defs.specs.Toxics.{RatedKind, made_toxic}
-use Rattle.scenarios.specs.Members.{◌>>=◌, required_text, optional_text, is_object_or_absent}
+use Rattle.scenarios.specs.Fields.{◌>>=◌, required_text, optional_text, is_object_or_absent}
 use Rattle.scenarios.specs.Refusals.{with, after, unless, of_toxic, at_place}
-use Rattle.scenarios.specs.ToxicTypes.{toxic_type, stream_of, name_of}
-use Rattle.scenarios.specs.ToxicAttributes.{kind_in_range, ppm_of}
+use Rattle.scenarios.specs.ToxicTypes.{toxic_type, stream_of, name_of, kind_in_range, ppm_of}
 use Rattle.scenarios.specs.declared.toxic_types.ToxicType.{ToxicType}
 use Rattle.scenarios.specs.declared.toxic_types.Stream.{Stream}
 use Rattle.scenarios.specs.declared.toxic_types.Stream.TheVariants.{Upstream, Downstream}
-use Rattle.scenarios.specs.declared.causes.Cause.{Cause}
-use Rattle.scenarios.specs.declared.causes.Cause.TheVariants.{BadMember, UnknownToxic, BadStream, DuplicateToxic, AttributeRange, BadToxicity, TooMany}
-use Rattle.scenarios.specs.declared.causes.Refusal.{Refusal}
+use Rattle.scenarios.specs.declared.error.Cause.{Cause}
+use Rattle.scenarios.specs.declared.error.Cause.TheVariants.{BadMember, UnknownToxic, BadStream, DuplicateToxic, AttributeRange, BadToxicity, TooMany}
+use Rattle.scenarios.specs.declared.error.Refusal.{Refusal}
 
 -- the greatest number of toxics of a direction
 abbrev pub toxic_limit : ℕ
@@ -21,14 +20,14 @@ toxic_limit = 8
 -- ---- one toxic
 
 -- the texts of a toxic
-pub record ToxicMembers : Type 0 where
+pub record ToxicFields : Type 0 where
   pub type_text : List ℕ
   pub name : List ℕ
   pub stream : List ℕ
 
--- the texts of a toxic whose members are of their kinds
-abbrev pub toxic_members : Data → Option ToxicMembers
-toxic_members d = do
+-- the texts of a toxic whose fields are of their kinds
+abbrev pub toxic_fields : Data → Option ToxicFields
+toxic_fields d = do
   type_text ← required_text (codes "type") d
   name ← optional_text (codes "name") d
   stream ← optional_text (codes "stream") d
@@ -70,7 +69,7 @@ checked_toxic read name way type_is d =
 -- one toxic, behind those that were read
 unfoldable pub toxic_in : ToxicsRead → Data → Result NamedToxic Cause
 toxic_in read d =
-    with (toxic_members d) BadMember (λ m.
+    with (toxic_fields d) BadMember (λ m.
     with (toxic_type m.type_text) UnknownToxic (λ type_is.
     with (stream_of m.stream) BadStream (λ stream.
     checked_toxic read (name_of m.name type_is stream) stream type_is d)))

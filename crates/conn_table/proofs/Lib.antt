@@ -1,7 +1,7 @@
 pub mod Peers
 pub mod GroupingFilters
 mod GroupingOrder
-pub mod GroupingPairs
+mod GroupingPairs
 mod GroupingBeginnings
 mod GroupingMembers
 mod GroupingUnopened
@@ -16,5 +16,5 @@ mod GrowthSteps
 mod Growths
 mod Joins
 mod TableForms
-mod TableSoundness
-pub mod Sides
+pub mod TableSoundness
+mod Sides

@@ -13,13 +13,8 @@ use Rattle.conn_table.proofs.GroupingForms.{groupings_agree}
 
 -- ---- segments
 
-abbrev pub HasTwoPeers : IndexedSegment → Type 0
+abbrev HasTwoPeers : IndexedSegment → Type 0
 HasTwoPeers s = same_peer s.timed.fields.from s.timed.fields.to ≡ false
-
-pub two_peers : (frame : List ℕ) → frame_class frame ≡ segment → same_peer (segment_fields frame).from (segment_fields frame).to ≡ false
-unfolding frame_class segment_fields
-two_peers frame is =
-    last_test (is_short frame) (is_not_ipv4 frame) (is_bad_ipv4 (datagram frame)) (is_fragment (datagram frame)) (is_not_tcp (datagram frame)) (is_cut (datagram frame)) (is_bad_tcp (ip_payload (datagram frame))) (is_same_ends (datagram frame)) is
 
 segments_have : (n : ℕ) (ts : List ℕ) (ps : List Packet) → AllByRecursion HasTwoPeers (filter_map indexed_segment (enumerate_from n (map seen_packet (zip ts ps))))
 segments_have n [] ps = tt
@@ -33,45 +28,6 @@ segments_have n (t ∷ ts) (p ∷ ps) = by (is_segment (frame_class p.bytes)) re
         → AllByRecursion HasTwoPeers (cons_option (if b then Some (record { index = n; timed = record { at = t; fields = segment_fields p.bytes } }) else None) rest)
     by true is all = (peers_differ p.bytes is, all)
     by false is all = all
-
--- ---- a segment of a pair comes from one of its two peers
-
-same_peer-swap : (a b : Peer) → same_peer a b ≡ false → same_peer b a ≡ false
-same_peer-swap a b differ = false_from_ne_true (same_peer b a) (λ same. true≢false (sym (itself a) ∙ ap (λ x. same_peer a x) (sym (same_peer-is b a same)) ∙ differ))
-  where
-    itself : (p : Peer) → same_peer p p ≡ true
-    itself p = search rules
-
--- from the beginning's sender, or from its receiver
-from_first : (x a b : Peer) → same_peer a b ≡ false → same_peer x a ≡ true → same_peer x b ≡ not (same_peer x a)
-from_first x a b differ same = rw same (ap (λ y. same_peer y b) (same_peer-is x a same) ∙ differ)
-
-from_second : (x a b : Peer) → same_peer a b ≡ false → same_peer x b ≡ true → same_peer x b ≡ not (same_peer x a)
-from_second x a b differ same =
-    let other : same_peer x a ≡ false = ap (λ y. same_peer y a) (same_peer-is x b same) ∙ same_peer-swap a b differ in
-    rw (other, same) refl
-
-pub side_of : (b s : IndexedSegment) → HasTwoPeers b → of_one_pair b s ≡ true → same_peer s.timed.fields.from b.timed.fields.to ≡ not (same_peer s.timed.fields.from b.timed.fields.from)
-side_of b s differ same = by (peer_le s.timed.fields.from s.timed.fields.to) (peer_le b.timed.fields.from b.timed.fields.to) same
-  where
-    from : Peer
-    from = s.timed.fields.from
-
-    to : Peer
-    to = s.timed.fields.to
-
-    client : Peer
-    client = b.timed.fields.from
-
-    server : Peer
-    server = b.timed.fields.to
-
-    by : (u v : Bool) → same_pair (record { low = if u then from else to; high = if u then to else from }) (record { low = if v then client else server; high = if v then server else client }) ≡ true
-        → same_peer from server ≡ not (same_peer from client)
-    by true true is = from_first from client server differ (and_parts (same_peer from client) (same_peer to server) is).0
-    by true false is = from_second from client server differ (and_parts (same_peer from server) (same_peer to client) is).0
-    by false true is = from_second from client server differ (and_parts (same_peer to client) (same_peer from server) is).1
-    by false false is = from_first from client server differ (and_parts (same_peer to server) (same_peer from client) is).1
 
 -- ---- connections
 

@@ -14,14 +14,15 @@ use Rattle.conn_table.specs.IndexedConnections.{IndexedConnection, without_indic
 use Rattle.conn_table.specs.Tables.{member_in, conn_in}
 use Rattle.conn_table.specs.declared.conns.Member.{Member}
 use Rattle.conn_table.specs.declared.conns.Conn.{Conn}
-use Rattle.conn_table.proofs.GroupingPairs.{one_pair-itself}
+use Rattle.conn_table.proofs.Peers.{one_pair-itself}
 use Rattle.reassembly.specs.Positions.{effective_members, is_reset, is_answer, server_base, shifted_start}
 use Rattle.reassembly.specs.RecordedLines.{End, RecordedSide, RecordedConnection, fin_segment, is_counted_fin, reset_or_live, sent_by, recorded_side, recorded_connection, side_of}
 use Rattle.reassembly.specs.MemberSpans.{IsInFile, span_at, member_span, member_spans, segment_span, own_members, is_of, is_reset_member, is_server_answer, members_before_reset, is_fin_member}
 use Rattle.reassembly.specs.SideLines.{fin_of, segment_fin, IsSideOf}
 use Rattle.reassembly.specs.RecordedView.{IsRecorded, IsConnectionOf, IsOfMembers, reset_end, other_end}
 use Rattle.std.proofs.lemmas.Simd.{map-map}
-use Rattle.reassembly.proofs.MappedLists.{take_while-map, filter-map, find-map, map_same, filter_same, find_same, all_weaker, and_both, all_map, all_filter, all_take_while}
+use Rattle.pcap_records.proofs.Lists.{all_weaker, all_map, all_filter, all_take_while}
+use Rattle.reassembly.proofs.MappedLists.{take_while-map, filter-map, find-map, map_same, filter_same, find_same, and_both}
 use Rattle.reassembly.proofs.RecordedSegments.{IsHeard, heard}
 
 abbrev segments : IndexedConnection → List IndexedSegment

@@ -1,7 +1,7 @@
 -- The segments of a connection of a capture: where their payloads lie, and which side sent each.
-use Rattle.std.proofs.Common.{◌≡◌, ◌≤◌, ℕ, ◌+◌, ◌-◌, not, true, List, [], length, take, drop, slice_range, slice_get, Some, option_map, sym, ap, ◌∙◌, subst, arith, length-take, length-drop, get_or}
+use Rattle.std.proofs.Common.{◌≡◌, ◌≤◌, ℕ, ◌+◌, ◌-◌, not, true, List, [], length, take, drop, slice_range, slice_get, Some, option_map, refl, sym, ap, ◌∙◌, subst, arith, length-take, length-drop, get_or}
 use Rattle.std.specs.Option.{option_map_or, unwrap_or}
-use Rattle.std.proofs.lemmas.List.{drop-take, take-take, drop-drop}
+use Rattle.std.proofs.lemmas.List.{take-take, drop-drop}
 use Rattle.std.proofs.lemmas.Option.{slice_get-map, slice_get-get_or}
 use Rattle.pcap_records.specs.declared.capture.Record.{Record}
 use Rattle.pcap_records.specs.CaptureView.{CaptureView, IsSoundCapture, packet_of}
@@ -11,16 +11,11 @@ use Rattle.frame_headers.specs.Frame.{segment_fields, payload_offset}
 use Rattle.conn_table.specs.IndexedSegments.{IndexedSegment, same_peer}
 use Rattle.conn_table.specs.Connections.{of_one_pair}
 use Rattle.conn_table.specs.KeptSegments.{packet_start, frame_at, payload_start}
-use Rattle.conn_table.proofs.Sides.{two_peers, side_of}
+use Rattle.pcap_records.proofs.Lists.{drop_of_take}
+use Rattle.conn_table.proofs.Peers.{peers_differ, other_sender}
 use Rattle.reassembly.specs.RecordedView.{IsRecorded}
 
 -- ---- payloads
-
-part : (d n : ℕ) (xs : List ℕ) → d ≤ n → drop d (take n xs) ≡ take (n - d) (drop d xs)
-part d n xs within =
-    let whole : n ≡ d + (n - d) = omega arith in
-    let e = drop-take d (n - d) xs in
-    rw (← whole) at e
 
 part_of_part : (bytes : List ℕ) (start len off n : ℕ) → off + n ≤ length (take len (drop start bytes))
     → slice_range bytes (start + off) (start + off + n) ≡ slice_range (take len (drop start bytes)) off (off + n)
@@ -29,7 +24,7 @@ part_of_part bytes start len off n within =
     let left : start + off + n - (start + off) ≡ n = omega arith in
     let right : off + n - off ≡ n = omega arith in
     ap (λ k. take k (drop (start + off) bytes)) left ∙ ap (take n) (sym (drop-drop off start bytes)) ∙ sym (take-take n (len - off) (drop off (drop start bytes)) (omega arith))
-    ∙ ap (take n) (sym (part off len (drop start bytes) (omega arith))) ∙ ap (λ k. take k (drop off (take len (drop start bytes)))) (sym right)
+    ∙ ap (take n) (sym (drop_of_take off len (drop start bytes) (omega arith))) ∙ ap (λ k. take k (drop off (take len (drop start bytes)))) (sym right)
 
 frame_is : (c : CaptureView) (i : ℕ) (r : Record) → slice_get c.records i ≡ Some r → frame_at c i ≡ take r.len (drop r.start c.bytes)
 frame_is c i r e =
@@ -83,5 +78,5 @@ heard ticks c b s sound law rec_b rec paired =
     record {
       in_file = p.in_file;
       payload = p.payload;
-      server_sent = side_of b s (rw rec_b.fields (two_peers (frame_at c b.index) rec_b.class)) paired;
+      server_sent = other_sender b.timed.fields.from b.timed.fields.to s.timed.fields.from s.timed.fields.to (rw rec_b.fields (peers_differ (frame_at c b.index) (rw rec_b.class refl))) paired;
     }

@@ -81,7 +81,7 @@ proxy_is_sound hosts earlier d p is =
     let toxics = toxics_are_sound (length earlier) c.toxics t toxics_are in
     rw (← same_ok _ _ is₂) (record { named = before.0.0; port = before.0.1; port_fits = before.0.2; up_toxics = toxics.0; down_toxics = toxics.1 }, before.0.3, before.1)
 
--- what was read behind those that stand earlier
+-- what was read after those that stand earlier
 Behind : List Proxy → List Proxy → Type 0
 Behind earlier proxies = (more : List Proxy) × (proxies ≡ earlier ++ more) × AllByRecursion IsSound more × NamesAreFree earlier more × (length proxies ≤ proxy_limit)
 

@@ -47,27 +47,27 @@ pub record CheckedProxy : Type 0 where
   pub enabled : Bool
   pub toxics : Items
 
--- the proxy that fields say, behind those that stand earlier
+-- the proxy that fields say, after those that stand earlier
 unfoldable pub accepted_proxy : List KnownHost → List Proxy → ProxyFields → Result CheckedProxy Refusal
 accepted_proxy hosts earlier m =
     unless (has_name earlier m.name) (of_proxy (length earlier) DuplicateProxy)
     (after (at_place (of_proxy (length earlier)) (upstream hosts m.upstream)) (λ peer.
     Ok (record { name = m.name; upstream = peer; enabled = m.enabled; toxics = m.toxics })))
 
--- one proxy before its toxics are read, behind those that stand earlier
+-- one proxy before its toxics are read, after those that stand earlier
 unfoldable pub checked_proxy : List KnownHost → List Proxy → Data → Result CheckedProxy Refusal
 checked_proxy hosts earlier d =
     unless (nat_le proxy_limit (length earlier)) (of_proxy (length earlier) TooMany)
     (with (proxy_fields d) (of_proxy (length earlier) BadMember) (accepted_proxy hosts earlier))
 
--- one proxy, behind those that stand earlier
+-- one proxy, after those that stand earlier
 unfoldable pub proxy_in : List KnownHost → List Proxy → Data → Result Proxy Refusal
 proxy_in hosts earlier d =
     after (checked_proxy hosts earlier d) (λ c.
     after (toxics_from (length earlier) no_toxics c.toxics) (λ t.
     Ok (record { name = c.name; upstream = c.upstream; enabled = c.enabled; up = t.up; down = t.down })))
 
--- the proxies of the items, behind those that stand earlier
+-- the proxies of the items, after those that stand earlier
 unfoldable pub proxies_from : List KnownHost → List Proxy → Items → Result (List Proxy) Refusal
 proxies_from hosts earlier no_items = Ok earlier
 proxies_from hosts earlier (item d ds) = after (proxy_in hosts earlier d) (λ p. proxies_from hosts (earlier ++ p ∷ []) ds)

@@ -1,4 +1,4 @@
--- Where a refusal stands, and how steps that may refuse stand one behind another.
+-- Where a refusal stands, and how steps that may refuse stand one after another.
 use Rattle.std.specs.Prelude.{ℕ, Bool, true, false, Option, Some, None, Result, Ok, Err}
 use Rattle.scenarios.specs.declared.error.Cause.{Cause}
 use Rattle.scenarios.specs.declared.error.Refusal.{Refusal}

@@ -75,7 +75,7 @@ pub record ProxiesRefused : Type 0 where
   pub toxic : scenario [] (of_one (codes ",\"toxics\":[{\"type\":\"explode\"}]")) ≡ Err (of_toxic 0 0 UnknownToxic)
   pub typeless : scenario [] (of_one (codes ",\"toxics\":[{}]")) ≡ Err (of_toxic 0 0 BadMember)
 
--- a disabled proxy and one behind it, both for one server: the first is met
+-- a disabled proxy and one after it, both for one server: the first is met
 pub record FirstMet : Type 0 where
   pub both : scenario [] (codes "[" ++ proxy_text (codes "a") (codes ",\"enabled\":false") ++ codes "," ++ proxy_text (codes "b") [] ++ codes "]")
       ≡ Ok (record { name = codes "a"; upstream = server; enabled = false; up = []; down = [] } ∷ record { name = codes "b"; upstream = server; enabled = true; up = []; down = [] } ∷ [])

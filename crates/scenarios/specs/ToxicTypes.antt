@@ -3,6 +3,7 @@ use Rattle.std.specs.Prelude.{ℕ, ◌+◌, ◌*◌, ◌&&◌, List, [], ◌∷�
 use Rattle.serde_json.specs.Data.{unsigned, Data, number, string, object, Members, member, no_members}
 use Rattle.toxic_defs.specs.declared.kinds.Kind.{Kind}
 use Rattle.toxic_defs.specs.declared.kinds.Kind.TheVariants.{Latency, Bandwidth, SlowClose, Timeout, ResetPeer, Slicer, LimitData}
+use Rattle.toxic_defs.specs.Limits.{million}
 use Rattle.toxic_defs.specs.Toxics.{RatedKind, fits}
 use Rattle.scenarios.specs.Fields.{◌>>=◌, field, absent_as, optional_whole}
 use Rattle.scenarios.specs.declared.toxic_types.ToxicType.{ToxicType}
@@ -94,8 +95,8 @@ kind_in_range type_is d = do
 abbrev pub ppm_of : Data → Option ℕ
 ppm_of d = do
   toxicity ← optional_whole 1 (codes "toxicity") d
-  ppm ← optional_whole (toxicity * 1000000) (codes "toxicity_ppm") d
-  if nat_le toxicity 1 && nat_le ppm 1000000 then Some ppm else None
+  ppm ← optional_whole (toxicity * million) (codes "toxicity_ppm") d
+  if nat_le toxicity 1 && nat_le ppm million then Some ppm else None
 
 -- ---- toxics that are written as JSON
 

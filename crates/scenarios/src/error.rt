@@ -131,7 +131,7 @@ impl From<AllocError> for ScenarioFault {
 /// Why a host is not added.
 #[derive(Debug, Drop, Error)]
 pub enum HostFault {
-    /// The name is none, or the address is none, or the name is there.
+    /// The name is not valid, or the address is not valid, or the name is there.
     #[error("a host is NAME=ADDR, each name once")]
     BadHost,
     /// A growth of memory was refused.

@@ -4,10 +4,13 @@ ghost use Rattle.std.specs.List.{list_all};
 ghost use Rattle.scenarios.specs.Hosts.{address, is_name_byte, is_host_name};
 
 use crate::error::HostFault;
-use crate::names::NameText;
+use pcap_records::Values;
 use std::alloc::{AllocError, Global};
 use std::marker::Model;
 use std::net::Ipv4Addr;
+
+/// The name of a host or of a proxy: contracts see its bytes, which are UTF-8.
+pub type NameText = Values<u8>;
 
 // The address that a text writes as four decimal numbers with dots between them, if it does.
 pub(crate) fn address(text: &str) -> Option<u32>
@@ -91,7 +94,7 @@ impl Hosts {
         if !is_host_name(name) || self.look_up(name).is_some() {
             return Err(HostFault::BadHost);
         }
-        let name = NameText::copy_of(self.alloc, name)?;
+        let name = NameText::of(name.as_bytes().to_vec(self.alloc)?);
         self.list
             .push(KnownHost { name, addr })
             .map_err(AllocError::from)?;

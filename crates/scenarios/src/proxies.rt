@@ -7,17 +7,15 @@ ghost use Rattle.scenarios.specs.Proxies.{proxy_limit, proxy_fields, has_name, a
 ghost use Rattle.scenarios.specs.SeenFields.{seen_fields, Accepts};
 
 use crate::error::{Cause, Refusal, ScenarioFault};
-use crate::hosts::Hosts;
+use crate::hosts::{Hosts, NameText};
 use crate::fields::{is_text_or_absent, optional_flag, optional_list, required_text};
-use crate::names::NameText;
-use crate::toxic_lists::ToxicList;
-use crate::toxics::read_toxics;
+use crate::toxics::{ToxicList, read_toxics};
 use crate::upstreams::upstream;
 use frame_headers::Peer;
 use serde_json::Value;
 use std::alloc::{AllocError, Global};
 
-/// The greatest number of proxies of a scenario.
+// The greatest number of proxies of a scenario.
 const PROXY_LIMIT: usize = 64;
 
 /// A proxy: what it is called, whom it stands before, whether it takes connections, and what it does to them.
@@ -140,7 +138,7 @@ fn read_proxy(
     let accepted = check_proxy(value, hosts, earlier)?;
     let toxics = read_toxics(alloc, earlier.len(), accepted.toxics)?;
     let (up, down) = toxics.into_lists();
-    let name = NameText::copy_of(alloc, accepted.name)?;
+    let name = NameText::of(accepted.name.as_bytes().to_vec(alloc)?);
     Ok(Proxy {
         name,
         upstream: accepted.upstream,

@@ -11,17 +11,20 @@ ghost use Rattle.scenarios.specs.SeenFields.{seen_texts};
 
 use crate::error::{Cause, Refusal, ScenarioFault};
 use crate::fields::{is_object_or_absent, optional_text, required_text};
-use crate::toxic_lists::ToxicList;
 use crate::toxic_types::{
     Stream, ToxicType, kind_in_range, name_of, ppm_of, stream_of, toxic_type,
 };
+use pcap_records::Values;
 use serde_json::Value;
 use std::alloc::{AllocError, Global};
 use std::marker::Model;
 use toxic_defs::{Kind, Toxic};
 
-/// The greatest number of toxics of each direction of a proxy.
+// The greatest number of toxics of each direction of a proxy.
 const TOXIC_LIMIT: usize = 8;
+
+/// The toxics of one direction of a proxy, in the order of its file.
+pub type ToxicList = Values<Toxic>;
 
 // The texts of a toxic in its file.
 #[derive(Clone, Copy)]

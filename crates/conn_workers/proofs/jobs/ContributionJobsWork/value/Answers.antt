@@ -2,7 +2,7 @@ use Rattle.std.proofs.Common.{◌∙◌}
 use Rattle.std.proofs.lemmas.Result.{IfOk-weaker}
 use Rattle.pcap_records.specs.Instants.{microseconds}
 use Rattle.conn_workers.proofs.DeliverySteps.{job_is}
-use Rattle.conn_workers.proofs.part_jobs.PartJobsWork.value.Goals as goal
+use Rattle.conn_workers.proofs.jobs.ContributionJobsWork.value.Goals as goal
 
 pub returns : goal.returns
 returns c =

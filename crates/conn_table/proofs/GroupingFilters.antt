@@ -4,24 +4,6 @@ use Rattle.std.specs.List.{AllByRecursion, last_or}
 use Rattle.std.proofs.Math.Bool.{and-true}
 use Rattle.std.proofs.lemmas.Bool.{and_right}
 
--- ---- what holds of each element
-
-pub all_weaker : {X : Type 0} (P Q : X → Type 0) (weaker : (x : X) → P x → Q x) (xs : List X) → AllByRecursion P xs → AllByRecursion Q xs
-all_weaker P Q weaker [] all = tt
-all_weaker P Q weaker (x ∷ xs) all = (weaker x all.0, all_weaker P Q weaker xs all.1)
-
-pub all_append : {X : Type 0} (P : X → Type 0) (xs ys : List X) → AllByRecursion P xs → AllByRecursion P ys → AllByRecursion P (xs ++ ys)
-all_append P [] ys first second = second
-all_append P (x ∷ xs) ys first second = (first.0, all_append P xs ys first.1 second)
-
-pub all_filter : {X : Type 0} (P : X → Type 0) (Q : X → Bool) (xs : List X) → AllByRecursion P xs → AllByRecursion P (filter Q xs)
-all_filter P Q [] all = tt
-all_filter P Q (x ∷ xs) all = by_test (Q x) (all_filter P Q xs all.1)
-  where
-    by_test : (t : Bool) → AllByRecursion P (filter Q xs) → AllByRecursion P (cond t (x ∷ filter Q xs) (filter Q xs))
-    by_test true rest = (all.0, rest)
-    by_test false rest = rest
-
 -- ---- two lists, of which a test T passes one
 
 pub filter_first : {X : Type 0} (P T : X → Bool) (xs ys : List X) → AllByRecursion (λ x. T x ≡ true) xs → AllByRecursion (λ x. T x ≡ false) ys

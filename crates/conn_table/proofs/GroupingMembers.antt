@@ -4,7 +4,7 @@ use Rattle.std.specs.List.{AllByRecursion, enumerate_from, last_or}
 use Rattle.std.proofs.lemmas.Bool.{and_parts, false_from_ne_true, false≢true, eqb-true, eq-eqb, ne_eqb, lt-ltb, le-ltb}
 use Rattle.conn_table.specs.IndexedSegments.{IndexedSegment, pair_of_segment}
 use Rattle.conn_table.specs.Connections.{of_one_pair, begins, beginnings, beginning_of, is_at, later_members, connection_of, connections, begins_after, members_after, connections_after}
-use Rattle.conn_table.proofs.GroupingFilters.{all_weaker, all_append}
+use Rattle.pcap_records.proofs.Lists.{all_weaker, all_push}
 use Rattle.conn_table.proofs.GroupingOrder.{IsSplitAt, at_next, behind_next, filter_later}
 use Rattle.conn_table.proofs.GroupingPairs.{latest, latest-push, latest-pair}
 use Rattle.conn_table.proofs.Peers.{one_pair-is, one_pair-from, one_pair-itself}
@@ -72,7 +72,7 @@ unfolding members_after
 members_from [] b true cut behind alone is_open = refl
 members_from [] b false cut behind alone is_open = refl
 members_from (s ∷ later) {all = all} {earlier = earlier} b o cut behind alone is_open =
-    let alone' : IsAlone b (earlier ++ s ∷ []) = all_append (λ x. x.index ≡ b.index → x ≡ b) earlier (s ∷ []) alone ((λ same. absurd (omega (arith, cut.rising.0))), tt) in
+    let alone' : IsAlone b (earlier ++ s ∷ []) = all_push (λ x. x.index ≡ b.index → x ≡ b) earlier s alone (λ same. absurd (omega (arith, cut.rising.0))) in
     let rest = members_from later b (cond (begins_after earlier s && of_one_pair b s) false o) (behind_next cut) (omega (arith, cut.rising.0)) alone' (open_after b o cut behind is_open) in
     rw (belongs b o cut behind alone' is_open) (by_tests (of_one_pair b s) (begins_after earlier s) o rest)
   where
@@ -93,7 +93,7 @@ pub members-agree : {n : ℕ} {all earlier : List IndexedSegment} {b : IndexedSe
 members-agree {all = all} {earlier = earlier} {b = b} {later = later} cut begun =
     let is_open : IsOpen all (earlier ++ b ∷ []) b true = rw (latest-push (begins all) earlier b b, begins-agrees cut, begun, one_pair-itself b) (eq-eqb b.index b.index refl) in
     let others : IsAlone b earlier = all_weaker (λ x. x.index < b.index) (λ x. x.index ≡ b.index → x ≡ b) (λ x below same. absurd (omega arith)) earlier (at_next cut).below in
-    let alone : IsAlone b (earlier ++ b ∷ []) = all_append (λ x. x.index ≡ b.index → x ≡ b) earlier (b ∷ []) others ((λ same. refl), tt) in
+    let alone : IsAlone b (earlier ++ b ∷ []) = all_push (λ x. x.index ≡ b.index → x ≡ b) earlier b others (λ same. refl) in
     let Behind : IndexedSegment → Bool = λ x. nat_lt b.index x.index in
     filter_later Behind (λ x. is_at b (beginning_of all x)) (behind_next cut) (λ x below. le-ltb b.index x.index (omega arith)) (λ x from. lt-ltb b.index x.index (omega arith))
     ∙ members_from later b true (behind_next cut) (omega arith) alone is_open

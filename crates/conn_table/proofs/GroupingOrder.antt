@@ -4,7 +4,8 @@ use Rattle.std.specs.List.{AllByRecursion, filter_map, cons_option, enumerate_fr
 use Rattle.std.proofs.lemmas.List.{append_assoc}
 use Rattle.conn_table.specs.SeenCapture.{SeenPacket}
 use Rattle.conn_table.specs.IndexedSegments.{IndexedSegment, is_segment, indexed_segment, indexed_segments}
-use Rattle.conn_table.proofs.GroupingFilters.{all_weaker, all_append, filter_first, filter_second}
+use Rattle.pcap_records.proofs.Lists.{all_weaker, all_push}
+use Rattle.conn_table.proofs.GroupingFilters.{filter_first, filter_second}
 
 abbrev pub AreBelow : ℕ → List IndexedSegment → Type 0
 AreBelow n = AllByRecursion (λ (x : IndexedSegment). x.index < n)
@@ -46,7 +47,7 @@ at_next {s = s} cut = record {
 pub behind_next : {n : ℕ} {all earlier : List IndexedSegment} {s : IndexedSegment} {later : List IndexedSegment} → IsSplitAt n all earlier (s ∷ later) → IsSplitAt (s.index + 1) all (earlier ++ s ∷ []) later
 behind_next {earlier = earlier} {s = s} {later = later} cut = record {
   whole = cut.whole ∙ sym (append_assoc earlier (s ∷ []) later);
-  below = all_append (λ x. x.index < s.index + 1) earlier (s ∷ []) (below_more (s.index + 1) (omega arith) cut) (omega arith, tt);
+  below = all_push (λ x. x.index < s.index + 1) earlier s (below_more (s.index + 1) (omega arith) cut) (omega arith);
   rising = cut.rising.1;
 }
 

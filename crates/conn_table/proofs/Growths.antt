@@ -3,6 +3,7 @@ use Rattle.std.proofs.Common.{◌≡◌, ◌<◌, ◌≤◌, ℕ, ◌+◌, Bool,
 use Rattle.std.proofs.lemmas.Bool.{and_from, and_right, cases_eq}
 use Rattle.std.proofs.lemmas.List.{take_more, map_push, length-map}
 use Rattle.std.proofs.lemmas.Option.{get_or_from_slice_get}
+use Rattle.pcap_records.proofs.Lists.{slice_get-set_same, slice_get-set_other}
 use Rattle.conn_table.specs.declared.conns.Pair.{Pair}
 use Rattle.conn_table.specs.declared.listing.Entry.{Entry}
 use Rattle.conn_table.specs.declared.table.Current.{Current}
@@ -15,7 +16,7 @@ use Rattle.conn_table.specs.Tables.{member_from, conn_with, conns_from, unopened
 use Rattle.conn_table.specs.Listings.{pair_at, segment_of, mark_of, IsListing}
 use Rattle.conn_table.specs.Growing.{grown_at, current_of, HasGrown}
 use Rattle.conn_table.proofs.Peers.{same_pair-itself}
-use Rattle.conn_table.proofs.ListingSteps.{pairs_apart, slice_get-set_same, slice_get-set_other}
+use Rattle.conn_table.proofs.ListingSteps.{pairs_apart}
 use Rattle.conn_table.proofs.GrowthSteps.{count, count-le, length-conns_from, current_of-push_other, current_of-push_same, current_of-count, is_opened-current, conns_from-push_beginning, conns_from-push_unopened, conns_from-push_member, unopened_after-push, unopened-le}
 
 abbrev pub marks_to : Listing → ℕ → List MarkedKept

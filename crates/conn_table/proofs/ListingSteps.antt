@@ -3,10 +3,10 @@ use Rattle.std.proofs.Common.{◌≡◌, ◌≢◌, ◌<◌, ◌≤◌, ℕ, zer
 use Rattle.std.specs.List.{list_any, IsDistinct}
 use Rattle.std.specs.Option.{option_map}
 use Rattle.std.proofs.lemmas.Bool.{and_right, cases_eq, cases_lt, cond_both, or_parts}
-use Rattle.std.proofs.lemmas.List.{get_or_append_left, get_or_at, get_or-set_same, length_push, length-set, map_push}
+use Rattle.std.proofs.lemmas.List.{get_or_append_left, get_or_at, length_push, length-set, map_push}
 use Rattle.std.proofs.lemmas.List.Elements.{All-head, All-tail}
 use Rattle.std.proofs.lemmas.Map.Keys.{apart_from_distinct}
-use Rattle.std.proofs.lemmas.Option.{slice_get-get_or}
+use Rattle.pcap_records.proofs.Lists.{slice_get-set_same, slice_get-set_other}
 use Rattle.conn_table.specs.declared.conns.Pair.{Pair}
 use Rattle.conn_table.specs.declared.listing.Opening.{Opening}
 use Rattle.conn_table.specs.declared.listing.Entry.{Entry}
@@ -30,16 +30,6 @@ slice_get-append (y ∷ xs) ys (suc i) x is = slice_get-append xs ys i x is
 slice_get-end : {X : Type 0} (xs : List X) (x : X) → slice_get (xs ++ x ∷ []) (length xs) ≡ Some x
 slice_get-end [] x = refl
 slice_get-end (y ∷ xs) x = slice_get-end xs x
-
-pub slice_get-set_same : {X : Type 0} (xs : List X) (i : ℕ) (x : X) → i < length xs → slice_get (set xs i x) i ≡ Some x
-slice_get-set_same xs i x within = slice_get-get_or (set xs i x) i x (omega (arith, length-set xs i x)) ∙ ap (λ y. Some y) (get_or-set_same xs i x x within)
-
-pub slice_get-set_other : {X : Type 0} (xs : List X) (i j : ℕ) (x : X) → j ≢ i → slice_get (set xs i x) j ≡ slice_get xs j
-slice_get-set_other [] i j x other = refl
-slice_get-set_other (y ∷ xs) zero zero x other = absurd (other refl)
-slice_get-set_other (y ∷ xs) zero (suc j) x other = refl
-slice_get-set_other (y ∷ xs) (suc i) zero x other = refl
-slice_get-set_other (y ∷ xs) (suc i) (suc j) x other = slice_get-set_other xs i j x (λ same. other (ap (λ n. suc n) same))
 
 -- ---- pairs
 

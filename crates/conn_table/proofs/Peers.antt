@@ -3,7 +3,7 @@ use Rattle.std.proofs.Common.{◌≡◌, ℕ, ◌==◌, Bool, true, false, not, 
 use Rattle.std.specs.Bool.{beq}
 use Rattle.std.proofs.lemmas.Bool.{and_parts, eqb-true, false_from_ne_true}
 use Rattle.frame_headers.specs.declared.peers.Peer.{Peer}
-use Rattle.frame_headers.specs.Frame.{short, not_ipv4, bad_ipv4, fragment, not_tcp, cut, bad_tcp, same_ends, segment, frame_class, segment_fields, is_short, is_not_ipv4, is_bad_ipv4, is_fragment, is_not_tcp, is_cut, is_bad_tcp, is_same_ends, datagram, ip_payload}
+use Rattle.frame_headers.specs.Frame.{FrameClass, short, not_ipv4, bad_ipv4, fragment, not_tcp, cut, bad_tcp, same_ends, segment, frame_class, segment_fields, is_short, is_not_ipv4, is_bad_ipv4, is_fragment, is_not_tcp, is_cut, is_bad_tcp, is_same_ends, datagram, ip_payload}
 use Rattle.conn_table.specs.declared.conns.Pair.{Pair}
 use Rattle.conn_table.specs.IndexedSegments.{IndexedSegment, is_segment, same_peer, peer_le, same_pair, pair_of, pair_of_segment}
 use Rattle.conn_table.specs.Connections.{of_one_pair}
@@ -45,8 +45,19 @@ one_pair-itself s = one_pair-from s s refl
 
 -- ---- the peers of a segment differ
 
+pub class_is : (k : FrameClass) → is_segment k ≡ true → k ≡ segment
+class_is short is = absurd cc
+class_is not_ipv4 is = absurd cc
+class_is bad_ipv4 is = absurd cc
+class_is fragment is = absurd cc
+class_is not_tcp is = absurd cc
+class_is cut is = absurd cc
+class_is bad_tcp is = absurd cc
+class_is same_ends is = absurd cc
+class_is segment is = refl
+
 last_test : (a b c d e f g h : Bool)
-    → is_segment (cond a short (cond b not_ipv4 (cond c bad_ipv4 (cond d fragment (cond e not_tcp (cond f cut (cond g bad_tcp (cond h same_ends segment)))))))) ≡ true
+    → cond a short (cond b not_ipv4 (cond c bad_ipv4 (cond d fragment (cond e not_tcp (cond f cut (cond g bad_tcp (cond h same_ends segment))))))) ≡ segment
     → h ≡ false
 last_test true b c d e f g h is = absurd cc
 last_test false true c d e f g h is = absurd cc
@@ -58,7 +69,7 @@ last_test false false false false false false true h is = absurd cc
 last_test false false false false false false false true is = absurd cc
 last_test false false false false false false false false is = refl
 
-pub peers_differ : (frame : List ℕ) → is_segment (frame_class frame) ≡ true → same_peer (segment_fields frame).from (segment_fields frame).to ≡ false
+pub peers_differ : (frame : List ℕ) → frame_class frame ≡ segment → same_peer (segment_fields frame).from (segment_fields frame).to ≡ false
 unfolding frame_class segment_fields
 peers_differ frame is =
     last_test (is_short frame) (is_not_ipv4 frame) (is_bad_ipv4 (datagram frame)) (is_fragment (datagram frame)) (is_not_tcp (datagram frame)) (is_cut (datagram frame)) (is_bad_tcp (ip_payload (datagram frame))) (is_same_ends (datagram frame)) is

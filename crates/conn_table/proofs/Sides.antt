@@ -8,7 +8,7 @@ use Rattle.conn_table.specs.SeenCapture.{seen_packet, seen_packets}
 use Rattle.conn_table.specs.IndexedSegments.{IndexedSegment, is_segment, indexed_segment, indexed_segments, same_peer}
 use Rattle.conn_table.specs.Connections.{Connection, of_one_pair, begins_after, members_after, connections_after}
 use Rattle.conn_table.specs.TableFacts.{HasSide, HasSides, MembersHaveSides}
-use Rattle.conn_table.proofs.Peers.{same_peer-itself, peers_differ, other_sender}
+use Rattle.conn_table.proofs.Peers.{same_peer-itself, class_is, peers_differ, other_sender}
 use Rattle.conn_table.proofs.GroupingForms.{groupings_agree}
 
 -- ---- segments
@@ -26,7 +26,7 @@ segments_have n (t ∷ ts) (p ∷ ps) = by (is_segment (frame_class p.bytes)) re
 
     by : (b : Bool) → is_segment (frame_class p.bytes) ≡ b → AllByRecursion HasTwoPeers rest
         → AllByRecursion HasTwoPeers (cons_option (if b then Some (record { index = n; timed = record { at = t; fields = segment_fields p.bytes } }) else None) rest)
-    by true is all = (peers_differ p.bytes is, all)
+    by true is all = (peers_differ p.bytes (class_is (frame_class p.bytes) is), all)
     by false is all = all
 
 -- ---- connections

@@ -7,7 +7,6 @@ use Rattle.std.proofs.lemmas.List.{map-append}
 use Rattle.pcap_records.specs.CaptureView.{CaptureView}
 use Rattle.frame_headers.specs.declared.peers.Peer.{Peer}
 use Rattle.conn_table.specs.declared.conns.Member.{Member}
-use Rattle.conn_table.specs.declared.conns.Conn.{Conn}
 use Rattle.conn_table.specs.IndexedSegments.{IndexedSegment, peer_le, pair_of_segment}
 use Rattle.conn_table.specs.Connections.{of_one_pair, begins, beginnings, beginning_of, is_unopened, unopened_count, later_members, begins_after, members_after, Connection, connection_of, connections}
 use Rattle.conn_table.specs.IndexedConnections.{indexed_connection_of, indexed_connections, without_indices, IndexedConnectionsAgree}
@@ -72,12 +71,7 @@ conn-kept : (c : CaptureView) (n : ℕ) (b : IndexedSegment) (later : List KeptS
     → map (member_from (low b)) later ≡ map (member_in c b.timed.fields.from) segs
     → conn_with n (kept_in c b) later ≡ conn_in c (record { number = n; opening = b; later = segs })
 conn-kept c n b later segs same =
-    let conn : Peer → Peer → Member → List Member → Conn = λ f t m ms. record { number = n; opening = b.index; opened = b.timed.at; client = f; server = t; members = m ∷ ms } in
-    let first = member-kept c b b (one_pair-itself b) in
-    ap (λ (f : Peer). conn f (receiver_of (kept_in c b)) (member_from (low b) (kept_in c b)) (map (member_from (low b)) later)) (sender-kept c b)
-    ∙ (ap (λ (t : Peer). conn b.timed.fields.from t (member_from (low b) (kept_in c b)) (map (member_from (low b)) later)) (receiver-kept c b)
-    ∙ (ap (λ (m : Member). conn b.timed.fields.from b.timed.fields.to m (map (member_from (low b)) later)) first
-    ∙ ap (λ (ms : List Member). conn b.timed.fields.from b.timed.fields.to (member_in c b.timed.fields.from b) ms) same))
+    rw (member-kept c b b (one_pair-itself b), same, sender-kept c b, receiver-kept c b) refl
 
 conns-kept : (c : CaptureView) (later : List IndexedSegment) {n : ℕ} {all earlier : List IndexedSegment} (number : ℕ) → IsSplitAt n all earlier later
     → conns_from number (map (marked_in c) (marked_after earlier later)) ≡ map (conn_in c) (map (indexed_connection_of all) (enumerate_from number (filter (begins all) later)))

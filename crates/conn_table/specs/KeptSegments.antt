@@ -4,7 +4,7 @@ use Rattle.std.specs.Bool.{beq}
 use Rattle.std.specs.Option.{option_map, option_map_or}
 use Rattle.pcap_records.specs.CaptureView.{CaptureView, packet_at}
 use Rattle.frame_headers.specs.Flags.{has_flag, syn_flag, ack_flag, rst_flag}
-use Rattle.frame_headers.specs.Frame.{payload_offset, segment_fields}
+use Rattle.frame_headers.specs.Frame.{SegmentFields, payload_offset}
 use Rattle.conn_table.specs.declared.conns.Member.{Member}
 use Rattle.conn_table.specs.declared.conns.Pair.{Pair}
 use Rattle.conn_table.specs.declared.listing.Opening.{Opening}
@@ -48,9 +48,9 @@ kept_at start s = record {
   };
 }
 
--- the segment in a packet, which is recorded at an instant in the record of that number
-abbrev pub segment_read : ℕ → ℕ → List ℕ → IndexedSegment
-segment_read index at packet = record { index = index; timed = record { at = at; fields = segment_fields packet } }
+-- the segment with these fields, which is recorded at an instant in the record of that number
+abbrev pub segment_read : ℕ → ℕ → SegmentFields → IndexedSegment
+segment_read index at fields = record { index = index; timed = record { at = at; fields = fields } }
 
 -- what is kept of a capture's segment
 abbrev pub kept_in : CaptureView → IndexedSegment → KeptSegment

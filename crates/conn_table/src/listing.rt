@@ -3,7 +3,7 @@ ghost use Rattle.std.specs.Prelude.{◌≡◌, ◌==◌, ◌&&◌};
 ghost use Rattle.std.specs.Bool.{beq};
 
 use crate::conns::{Member, Pair, is_lower_or_same, pair_of};
-use frame_headers::{Flags, Segment, payload_place};
+use frame_headers::{Flags, Segment};
 use indexmap::IndexSet;
 use pcap_records::Moment;
 use std::alloc::{AllocError, Global};
@@ -79,7 +79,6 @@ pub(crate) struct Listing {
 
 impl Listing {
     ghost use Rattle.std.specs.Prelude.{◌≡◌, ◌+◌, ◌<◌, ◌≤◌, ◌^◌, ℕ, [], ◌∷◌, ◌++◌, length, slice_get, Some, OnOk, IfOk};
-    ghost use Rattle.frame_headers.specs.Frame.{frame_class, segment, segment_fields, payload_offset};
     ghost use Rattle.frame_headers.specs.Class.{fields_of_segment};
     ghost use Rattle.conn_table.specs.declared.conns.Pair.{Pair};
     ghost use Rattle.conn_table.specs.KeptSegments.{begins_behind, lasts_after, kept_at, segment_read};
@@ -154,37 +153,34 @@ impl Listing {
         !last.is_some_and(|last| last.is_same(opening))
     }
 
-    // Lists the segment in a packet, which begins at `start` in the file.
+    // Lists the segment of a packet, which begins at `start` in the file.
     pub(crate) fn list_segment(
         &mut self,
         index: u32,
         at: Moment,
         start: u32,
-        packet: &[u8],
-        fields: &Segment<'_>,
+        segment: &Segment<'_>,
     ) -> Result<(), AllocError>
         requires listing { IsListing self.old }
         requires few { length self.old.pairs.keys < 2 ^ 31 }
-        requires class { frame_class packet.now ≡ segment }
-        requires fields { fields_of_segment fields.now ≡ segment_fields packet.now }
-        requires within { start + length packet.now < 2 ^ 32 }
+        requires within { start + segment.now.offset < 2 ^ 32 }
+        requires short { length segment.now.payload.now < 2 ^ 16 }
         ensures listing { OnOk result (IsListing self.new) }
         ensures len { OnOk result (length self.new.entries.items ≡ length self.old.entries.items + 1) }
         ensures grown { OnOk result (length self.new.pairs.keys ≤ length self.old.pairs.keys + 1) }
         ensures marks { OnOk result (marks_of self.new
             ≡ marks_of self.old ++ mark_behind (kept_of (marks_of self.old))
-            (kept_at (start + payload_offset packet.now) (segment_read index at packet.now)) ∷ []) }
+            (kept_at (start + segment.now.offset) (segment_read index at (fields_of_segment segment.now))) ∷ []) }
     {
-        let place = payload_place(packet);
-        let group = self.group_of(pair_of(fields.from, fields.to))?;
+        let group = self.group_of(pair_of(segment.from, segment.to))?;
         let member = Member {
             at,
             index,
-            seq: fields.seq,
-            start: start + u32::from(place.offset),
-            len: place.len,
-            flags: fields.flags,
-            from_client: is_lower_or_same(fields.from, fields.to),
+            seq: segment.seq,
+            start: start + u32::from(segment.offset),
+            len: segment.payload.len() as u16,
+            flags: segment.flags,
+            from_client: is_lower_or_same(segment.from, segment.to),
         };
         self.add(Entry {
             member,
@@ -193,7 +189,7 @@ impl Listing {
         })
     }
 
-    // Lists another listing's segments behind these, marked as they begin connections there.
+    // Lists another listing's segments after these, marked as they begin connections there.
     pub(crate) fn append(&mut self, next: &Listing) -> Result<(), AllocError>
         requires listing { IsListing self.old }
         requires next { IsListing next.now }

@@ -4,18 +4,14 @@ use Rattle.std.specs.List.{range_with_len}
 use Rattle.std.proofs.Math.Seq.{take-add}
 use Rattle.std.proofs.lemmas.List.{map-append, append_assoc, length-map}
 use Rattle.std.proofs.lemmas.List.Elements.{All-nil, All-cons}
-use Rattle.std.proofs.lemmas.List.FromFn.{fill_by_all}
 use Rattle.pcap_records.specs.Instants.{greatest}
 use Rattle.pcap_records.specs.Reading.{Packet}
 use Rattle.pcap_records.specs.CaptureView.{CaptureView, contents_of, stamps_between}
+use Rattle.pcap_records.proofs.Lists.{listed}
 use Rattle.conn_table.specs.Partials.{partial_in, carried, JoinsAgree}
 use Rattle.range_workers.specs.declared.ranges.Range.{Range}
 use Rattle.range_workers.specs.Ranges.{range_in, AreRanges, IsWithin, AreWithin}
 use Rattle.range_workers.specs.RangePartials.{partial_of, partials_of, no_partial, AreAdjacentFrom, AreAdjacent, joined_to, joined_all}
-
--- the elements at all places are the list
-listed : {V : Type 0} (xs : List V) (n : ℕ) (d : V) → length xs ≡ n → map (λ j. get_or xs j d) (range_with_len 0 n) ≡ xs
-listed xs n d len = sym (fill_by_all (λ j. get_or xs j d) xs n d len (λ k below. refl))
 
 -- the meanings of the jobs are the partials of the ranges
 pub all_partials : (c : CaptureView) (n : ℕ) (lent ranges : List Range) → lent ≡ ranges → length lent ≡ n

@@ -16,7 +16,7 @@ use Rattle.conn_table.specs.Connections.{last_of, of_one_pair, begins, beginning
 use Rattle.conn_table.specs.IndexedConnections.{IndexedConnection, indexed_connection_of, indexed_connections}
 use Rattle.conn_table.specs.KeptSegments.{frame_at}
 use Rattle.conn_table.specs.Tables.{conn_in}
-use Rattle.conn_table.proofs.Peers.{one_pair-is, same_pair-itself}
+use Rattle.conn_table.proofs.Peers.{class_is, one_pair-is, same_pair-itself}
 use Rattle.reassembly.specs.RecordedView.{IsRecorded, IsConnectionOf, IsConnOf, ConnectionsAreOfCapture, ConnsAreOfCapture}
 use Rattle.reassembly.specs.LineLaws.{InstantsRise}
 use Rattle.conn_table.specs.Partials.{segments_between}
@@ -43,10 +43,6 @@ StandsAt all n ps = (k : ℕ) (p : Packet) → slice_get ps k ≡ Some p → sli
 stands_behind : (all : List Packet) (n : ℕ) (p : Packet) (ps : List Packet) → StandsAt all n (p ∷ ps) → StandsAt all (n + 1) ps
 stands_behind all n p ps at k q e = let next : n + 1 + k ≡ n + suc k = omega arith in ap (slice_get all) next ∙ at (suc k) q e
 
-is_segment-true : (k : FrameClass) → is_segment k ≡ true → k ≡ segment
-is_segment-true segment h = refl
-is_segment-true k h = absurd cc
-
 recorded_from : (c : CaptureView) (n : ℕ) (ats : List ℕ) (ps : List Packet) → StandsAt (contents_of c).packets n ps
     → AllByRecursion (IsRecorded c) (filter_map indexed_segment (enumerate_from n (map seen_packet (zip ats ps))))
 recorded_from c n [] ps e = tt
@@ -63,7 +59,7 @@ recorded_from c n (at ∷ ats) (p ∷ ps) e =
     by_class true t frame within rest = (
       record {
         within = within;
-        class = ap frame_class frame ∙ is_segment-true (frame_class p.bytes) t;
+        class = ap frame_class frame ∙ class_is (frame_class p.bytes) t;
         fields = ap segment_fields (sym frame);
       },
       rest,

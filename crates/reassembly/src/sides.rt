@@ -1,5 +1,5 @@
 //! One side of a connection, from its members: its line up to the first gap or to the FIN that counts, and how many bytes lie after.
-ghost use Rattle.std.specs.Prelude.{◌≡◌, ◌+◌, ◌<◌, ◌==◌, ◌||◌, [], not, ℕ, length, drop, max, find, option_map, sum_by, IfOk, All};
+ghost use Rattle.std.specs.Prelude.{◌≡◌, ◌<◌, ◌==◌, ◌||◌, [], not, length, drop, find, option_map, sum_by, IfOk, All};
 ghost use Rattle.reassembly.specs.LineView.{bytes_of_parts, end_view};
 ghost use Rattle.reassembly.specs.MemberSpans.{IsInFile, is_fin_member, own_members};
 ghost use Rattle.reassembly.specs.SideLines.{IsFront, IsSideOf, end_by, fin_of, first_from, latest_below, len_of, line_bytes, side_by, side_view, stop_of};

@@ -4,8 +4,8 @@ use Rattle.std.specs.Borrow.{Bor}
 use Rattle.std.specs.String.{string_bytes}
 use Rattle.scenarios.specs.declared.hosts.KnownHost.{KnownHost}
 use Rattle.command_line.specs.declared.asked.Asked.{Asked}
-use Rattle.command_line.specs.declared.asked.Stop.{Stop}
-use Rattle.command_line.specs.declared.asked.Stop.TheVariants as stop
+use Rattle.command_line.specs.declared.error.Stop.{Stop}
+use Rattle.command_line.specs.declared.error.Stop.TheVariants as stop
 use Rattle.run_files.specs.declared.error.RunFault.{RunFault}
 use Rattle.run_files.specs.declared.error.RunFault.TheVariants.{Memory, WriteFailed}
 use Rattle.run_files.specs.declared.outputs.Output.{Output}

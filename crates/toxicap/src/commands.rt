@@ -4,12 +4,12 @@ ghost use Rattle.std.specs.IoError.{error_kind};
 ghost use Rattle.std.specs.Io.KnownBytes.{Appends, Consumes, IsAtEnd};
 ghost use Rattle.command_line.specs.Asking.{ReadsAs};
 ghost use Rattle.command_line.specs.declared.asked.Asked.{Asked};
-ghost use Rattle.command_line.specs.declared.asked.Stop.{Stop};
+ghost use Rattle.command_line.specs.declared.error.Stop.{Stop};
 ghost use Rattle.toxicap.specs.Commands.{ProgramEnds};
 ghost use Rattle.toxicap.specs.RunEnds.{no_text, status_of, text_with_line_feed, usage_status, Tells, WrittenSoFar};
 
 use crate::runs::run_asked;
-use command_line::{Stop, read_words};
+use command_line::{Stop, read_arguments};
 use run_files::{Counted, RunFault, fault_line, write_bytes};
 use std::alloc::Global;
 use std::convert::AsStr;
@@ -65,7 +65,7 @@ pub fn command<H: Files + Threads + Wait + Sync, S: AsStr, I: Read, O: Write, E:
           now = faults.new.failed;
         }) }
 {
-    match read_words(alloc, words) {
+    match read_arguments(alloc, words) {
         Ok(asked) => {
             let outcome = run_asked(rt, alloc, &asked, input, output);
             report_outcome(alloc, outcome, faults)

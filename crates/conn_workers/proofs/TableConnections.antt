@@ -14,7 +14,7 @@ use Rattle.conn_table.specs.IndexedConnections.{indexed_connections, indexed_con
 use Rattle.conn_table.specs.Partials.{packets_between, segments_between}
 use Rattle.conn_table.specs.Tables.{table_in, conn_in}
 use Rattle.reassembly.specs.RecordedView.{IsConnOf, IsConnectionOf}
-use Rattle.reassembly.specs.CaptureConnections.{ConnectionsAreOfCapture, ConnsAreOfCapture}
+use Rattle.reassembly.specs.RecordedView.{ConnectionsAreOfCapture, ConnsAreOfCapture}
 use Rattle.conn_workers.specs.DeliveryRows.{connections_of}
 use Rattle.conn_workers.specs.CaptureTables.{whole_table, whole_connections}
 use Rattle.conn_workers.proofs.SeenPackets.{length-seen_packets}

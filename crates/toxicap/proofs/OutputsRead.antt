@@ -3,7 +3,7 @@ use Rattle.std.proofs.Common.{◌≡◌, ◌≤◌, ℕ, ◌+◌, Bool, true, fa
 use Rattle.std.specs.List.{AllByRecursion, enumerate_from, flat_map}
 use Rattle.std.proofs.lemmas.Bool.{ltb-false}
 use Rattle.pcap_records.specs.declared.fault.CaptureFault.TheVariants.{CaptureTooLong, ShortHeader, BadVersion, BadLink}
-use Rattle.pcap_records.specs.declared.order.Order.TheVariants.{Big, Little}
+use Rattle.pcap_records.specs.declared.heading.Order.TheVariants.{Big, Little}
 use Rattle.pcap_records.specs.Instants.{microseconds}
 use Rattle.pcap_records.specs.Reading.{Heading, Packet, Contents, Reading, capture_limit, microsecond_heading, number_in, magic, checked_heading, file_heading, reading}
 use Rattle.pcap_records.specs.Writing.{file_header, record_bytes, written_capture, IsWritable, WrittenIsRead}

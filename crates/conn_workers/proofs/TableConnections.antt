@@ -4,6 +4,7 @@ use Rattle.std.specs.List.{AllByRecursion, enumerate_from, filter_map, cons_opti
 use Rattle.std.proofs.lemmas.List.{length-map, take_all, get_or-map, get_or_default}
 use Rattle.std.proofs.lemmas.List.Sums.{count_by-le-length, length-filter}
 use Rattle.std.proofs.lemmas.List.FromFn.{length-enumerate_from}
+use Rattle.pcap_records.proofs.Lists.{all_at}
 use Rattle.pcap_records.specs.Reading.{Packet}
 use Rattle.pcap_records.specs.CaptureView.{CaptureView, contents_of, packet_of}
 use Rattle.conn_table.specs.declared.conns.Conn.{Conn}
@@ -13,8 +14,7 @@ use Rattle.conn_table.specs.Connections.{connections, beginnings, begins}
 use Rattle.conn_table.specs.IndexedConnections.{indexed_connections, indexed_connection_of, without_indices, IndexedConnectionsAgree}
 use Rattle.conn_table.specs.Partials.{packets_between, segments_between}
 use Rattle.conn_table.specs.Tables.{table_in, conn_in}
-use Rattle.reassembly.specs.RecordedView.{IsConnOf, IsConnectionOf}
-use Rattle.reassembly.specs.RecordedView.{ConnectionsAreOfCapture, ConnsAreOfCapture}
+use Rattle.reassembly.specs.RecordedView.{IsConnOf, IsConnectionOf, ConnectionsAreOfCapture, ConnsAreOfCapture}
 use Rattle.conn_workers.specs.DeliveryRows.{connections_of}
 use Rattle.conn_workers.specs.CaptureTables.{whole_table, whole_connections}
 use Rattle.conn_workers.proofs.SeenPackets.{length-seen_packets}
@@ -88,11 +88,6 @@ pub record StandsAt {A : Type 0} (xs : List A) (i : ℕ) : Type 0 where
 stands_at : {A : Type 0} (xs : List A) (i : ℕ) → i < length xs → StandsAt xs i
 stands_at [] i within = absurd (omega (arith, within))
 stands_at (x ∷ xs) i within = record { item = get_or (x ∷ xs) i x; read = λ d. get_or_default (x ∷ xs) i d x within }
-
-all_at : {A : Type 0} (P : A → Type 0) (xs : List A) (i : ℕ) (d : A) → AllByRecursion P xs → i < length xs → P (get_or xs i d)
-all_at P [] i d all within = absurd (omega (arith, within))
-all_at P (x ∷ xs) zero d all within = all.0
-all_at P (x ∷ xs) (suc i) d all within = all_at P xs i d all.1 (omega (arith, within))
 
 module _ (c : CaptureView) (conns : List Conn) (shown : conns ≡ (whole_table c).conns) (i : ℕ) (within : i < length conns) where
   mapped : conns ≡ map (conn_in c) (whole_connections c)

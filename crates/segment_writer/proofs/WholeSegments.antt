@@ -12,8 +12,7 @@ use Rattle.segment_writer.specs.TimelyLines.{Climbs, IsTimely, LinesAreTimely}
 use Rattle.segment_writer.specs.Senders.{client_in, server_in, own_side, peer_side, line_written, opening_by, opening_written}
 use Rattle.segment_writer.specs.declared.framed.Framed.{Framed}
 use Rattle.segment_writer.specs.declared.senders.Sender.{Sender}
-use Rattle.segment_writer.proofs.InOrder.{rising_is_sorted, parts_are_sorted_first, ordered-sorted_by_key}
-use Rattle.segment_writer.proofs.JoinSteps.{is_sorted}
+use Rattle.segment_writer.proofs.InOrder.{is_sorted, rising_is_sorted, parts_are_sorted_first, ordered-sorted_by_key}
 use Rattle.segment_writer.proofs.SentClimb.{SentClimbs, written_from, written_next, written_late, line_climbs}
 
 -- ---- lines of the rule are timely

@@ -1,4 +1,4 @@
--- What the session cut leaves of a line.
+-- What the session cut leaves of a line, and of lines that are made of recorded bytes.
 use Rattle.std.proofs.Common.{◌≡◌, ◌≤◌, ◌<◌, ℕ, ◌+◌, min, Bool, true, false, cond, List, [], ◌∷◌, length, nat_le, nat_lt, Option, Some, None, refl, sym, ap, ◌∙◌, subst, arith}
 use Rattle.std.proofs.Math.Nat.{le_trans, le_refl}
 use Rattle.std.proofs.lemmas.Bool.{ltb-true, ltb-false, le-ltb}
@@ -9,10 +9,9 @@ use Rattle.reassembly.specs.RecordedLines.{LineByte, Line, End, live, fin, close
 use Rattle.reassembly.specs.LineLaws.{IsInChunks, last_instant, IsNotBefore, IsLine}
 use Rattle.toxic_defs.specs.EndRule.{is_before}
 use Rattle.toxic_defs.specs.SessionCut.{closing_end, first_closing, is_after, line_up_to, line_before, cut_line, cut_limit}
-use Rattle.toxic_defs.specs.Laws.{IsBefore, CutLinesAreLines, FirstBytesStay, CutLinesEndInTime, CutEndsAreNotEarly}
-use Rattle.toxic_defs.proofs.FirstBytes.{bytes_before, up_to, first_stay, before_in_chunks, chunks_go_on, last_not_later, all_before, last_within}
-
--- ---- ends
+use Rattle.toxic_defs.specs.Laws.{IsBefore, CutLinesAreLines, FirstBytesStay, CutLinesEndInTime, CutEndsAreNotEarly, DelaysFront, AreUpTo, RecordedLinesDelay, CutLinesDelay}
+use Rattle.toxic_defs.proofs.FirstBytes.{before_short, bytes_before, up_to, first_stay, before_in_chunks, chunks_go_on, last_not_later, all_before, last_within, taken_all}
+use Rattle.toxic_defs.proofs.KeptBytes.{itself, taken}
 
 pub not_before_weaker : (a b : ℕ) (e : End) → a ≤ b → IsNotBefore b e → IsNotBefore a e
 not_before_weaker a b live h g = tt
@@ -97,13 +96,6 @@ cut_ends_are_not_early ticks opened up down f hu hd hf =
 
 -- ---- lines
 
-pub before_short : (limit : ℕ) (bytes : List LineByte) → length (bytes_before limit bytes) ≤ length bytes
-before_short limit bytes =
-    let p : LineByte → Bool = λ b. nat_lt b.at limit in
-    let n = length-filter p bytes in
-    let m = count_by-le-length p bytes in
-    omega (arith, n, m)
-
 before_ends : (limit : ℕ) (bytes : List LineByte) (e : End) → IsInChunks bytes → IsNotBefore (last_instant 0 bytes) e → IsNotBefore (last_instant 0 (bytes_before limit bytes)) e
 before_ends limit bytes e g h = not_before_weaker (last_instant 0 (bytes_before limit bytes)) (last_instant 0 bytes) e (last_not_later limit 0 bytes (chunks_go_on bytes g)) h
 
@@ -177,3 +169,20 @@ cut_made limit c f g end hb he hg =
     let b : g.bytes ≡ made.bytes = hb ∙ sym (cut_bytes limit c f) in
     let e : g.end ≡ made.end = hg ∙ ap (λ x. (line_before limit (record { bytes = []; end = x })).end) (he ∙ up_to_end c f) in
     ap (λ (bs : List LineByte). let r : Line = record { bytes = bs; end = g.end } in r) b ∙ ap (λ (x : End). let r : Line = record { bytes = made.bytes; end = x } in r) e
+
+-- ---- recorded bytes
+
+pub recorded_lines_delay : RecordedLinesDelay
+recorded_lines_delay ticks opened f line in_time ends = record { line = line; in_time = in_time; bytes = itself f.bytes; ends = ends }
+
+pub cut_lines_delay : CutLinesDelay
+cut_lines_delay ticks opened recorded up down f hu hd g =
+    let cut : Line = cut_line ticks up down f in
+    let n : ℕ = length cut.bytes in
+    let first = sym (first_bytes_stay ticks up down f g.line) in
+    record {
+      line = cut_lines_are_lines ticks up down f g.line;
+      in_time = subst (AreUpTo (horizon ticks)) first (taken_all (λ b. b.at ≤ horizon ticks) n f.bytes g.in_time);
+      bytes = subst (λ (bs : List LineByte). DelaysFront bs recorded) first (taken n f.bytes recorded g.bytes);
+      ends = cut_ends_are_not_early ticks opened up down f hu hd g.ends;
+    }

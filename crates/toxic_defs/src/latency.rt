@@ -1,10 +1,9 @@
 //! Latency: chunks that come later.
-ghost use Rattle.std.specs.Prelude.{◌≡◌, ◌≤◌, ◌+◌, ◌*◌, ◌-◌, ◌%◌, ◌&&◌, ℕ, nat_lt, length};
+ghost use Rattle.std.specs.Prelude.{◌≡◌, ◌≤◌, ◌&&◌, nat_lt, length};
 ghost use Rattle.pcap_records.specs.Instants.{microseconds};
 ghost use Rattle.reassembly.specs.LineView.{bytes_of_parts};
 ghost use Rattle.toxic_defs.specs.RandomWords.{word_of};
 ghost use Rattle.toxic_defs.specs.Latency.{late_bytes, late_line};
-ghost use Rattle.toxic_defs.specs.DrawnNumbers.{GivesNext};
 ghost use Rattle.toxic_defs.specs.EndRule.{ended};
 ghost use Rattle.toxic_defs.specs.Limits.{greatest_attribute};
 

@@ -1,5 +1,5 @@
 //! A limit of bytes.
-ghost use Rattle.std.specs.Prelude.{◌≡◌, nat_lt, if◌then◌else◌, Some, None, length, take};
+ghost use Rattle.std.specs.Prelude.{◌≡◌, take};
 ghost use Rattle.reassembly.specs.LineView.{bytes_of_parts, end_view};
 ghost use Rattle.toxic_defs.specs.EndRule.{ended};
 ghost use Rattle.toxic_defs.specs.LimitData.{limited, next_instant, limited_end};

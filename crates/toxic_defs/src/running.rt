@@ -2,7 +2,7 @@
 ghost use Rattle.std.specs.Prelude.{◌≡◌, ◌≤◌, length, IfOk, IsTrue};
 ghost use Rattle.pcap_records.specs.Instants.{microseconds};
 ghost use Rattle.reassembly.specs.LineLaws.{IsLine};
-ghost use Rattle.toxic_defs.specs.Toxics.{applies, effect, run, chain, fits, IsInRange, AreInRange};
+ghost use Rattle.toxic_defs.specs.Toxics.{effect, run, chain, fits, IsInRange, AreInRange};
 ghost use Rattle.toxic_defs.specs.Limits.{most_toxics};
 ghost use Rattle.toxic_defs.specs.RandomWords.{word_of};
 ghost use Rattle.toxic_defs.specs.EndRule.{ended};

@@ -1,5 +1,5 @@
 //! The slices of a line's chunks, as a slicer and a bandwidth make them: their sizes, and the cuts.
-ghost use Rattle.std.specs.Prelude.{◌≡◌, ◌≤◌, ◌<◌, ◌++◌, [], ◌∷◌, ℕ, ◌+◌, IfOk, OnOk, List};
+ghost use Rattle.std.specs.Prelude.{◌≡◌, ◌≤◌, ◌<◌, ◌++◌, [], ℕ, ◌+◌, IfOk, OnOk};
 ghost use Rattle.reassembly.specs.LineView.{bytes_of_part, bytes_of_parts};
 ghost use Rattle.toxic_defs.specs.RandomWords.{word_of};
 ghost use Rattle.toxic_defs.specs.Limits.{greatest_attribute};

@@ -1,6 +1,6 @@
 //! Toxics: a kind and how often it applies, and whether it applies to a connection.
-ghost use Rattle.std.specs.Prelude.{◌≡◌, nat_le, ◌&&◌, if◌then◌else◌, Some, None};
-ghost use Rattle.toxic_defs.specs.Toxics.{fits, made_toxic, applies, IsInRange};
+ghost use Rattle.std.specs.Prelude.{◌≡◌};
+ghost use Rattle.toxic_defs.specs.Toxics.{made_toxic, applies, IsInRange};
 
 use crate::kinds::Kind;
 use crate::limits::MILLION;

@@ -16,7 +16,7 @@ use Rattle.conn_workers.specs.Contributions.{Contribution, contribution_of}
 use Rattle.time_merge.specs.MergedCapture.{capture_of}
 use Rattle.report.specs.ReportText.{report_text}
 
--- A scenario is seen as its proxies in order. The contributions of all connections, one after another
+-- what each connection contributes, in order of number, under a scenario with its number; a scenario is seen as its proxies in order
 abbrev pub contributions : SeenCapture → ℕ → ℕ × List Proxy → List Contribution
 contributions c seed scenario = map (contribution_of c.ticks seed scenario) (connections (indexed_segments 0 c.packets))
 

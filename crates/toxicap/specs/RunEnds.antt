@@ -1,36 +1,24 @@
 -- How a run ends: a capture, raw or as a dump, is read, and the answers to it are printed or stored; then its exit status, and the
 -- line that it prints on standard error.
-use Rattle.std.specs.Prelude.{◌≡◌, ℕ, ◌+◌, ◌<◌, ◌≤◌, ◌⊎◌, List, ◌++◌, length, take, codes, Result, Ok, Err, IsOk}
-use Rattle.pcap_records.specs.Reading.{capture_limit}
+use Rattle.std.specs.Prelude.{◌≡◌, ℕ, ◌+◌, ◌<◌, ◌⊎◌, List, ◌++◌, length, take, codes, Result, Ok, Err, IsOk}
 use Rattle.run_files.specs.declared.error.RunFault.{RunFault}
-use Rattle.run_files.specs.declared.error.RunFault.TheVariants.{BadHost, CaptureTooLong, Memory, ReadFailed, ShelfFailed, WriteFailed}
+use Rattle.run_files.specs.declared.error.RunFault.TheVariants.{ReadFailed, ShelfFailed, WriteFailed}
 use Rattle.run_files.specs.declared.outputs.Output.{Output}
 use Rattle.run_files.specs.RunFault.{fault_text}
 use Rattle.toxicap.specs.Answering.{AnswersBy}
 use Rattle.run_files.specs.WrittenOutputs.{reports_of}
 use Rattle.run_files.specs.WrittenOutputs.{files_from}
 
--- the reports of what was called for
-abbrev pub reports_called_for : Result (List Output) RunFault → Result (List ℕ) RunFault
-reports_called_for (Ok outputs) = Ok (reports_of outputs)
-reports_called_for (Err fault) = Err fault
-
 -- How a run ends that prints, by what the text that it read calls for, given what it is to be at the reader's end and to have written
--- some bytes.
--- On Ok the reader is at its end, and the reports that were called for were written, whole and once.
--- A failed write comes after all was read, and a first part of the reports was written, not all of them.
--- A failed read and want of memory come within the limit. Any other refusal is what was called for; it comes at the
--- reader's end, or as soon as the text is too long.
-abbrev pub PrintsBy : Result (Unit {0}) RunFault → Result (List ℕ) RunFault → List ℕ → Type 0 → (List ℕ → Type 0) → Type 0
-PrintsBy (Ok _) wanted text AtEnd Wrote = AtEnd × ((reports : List ℕ) × (wanted ≡ Ok reports) × Wrote reports)
+-- some bytes. On Ok the reader is at its end, and the reports that were called for were written, whole and once. A failed write comes
+-- after all was read, and a first part of the reports was written, not all of them. Any other refusal is what was called for, or came
+-- while the text was read.
+abbrev pub PrintsBy : Result (Unit {0}) RunFault → Result (List Output) RunFault → List ℕ → Type 0 → (List ℕ → Type 0) → Type 0
+PrintsBy (Ok _) wanted text AtEnd Wrote = AtEnd × ((outputs : List Output) × (wanted ≡ Ok outputs) × Wrote (reports_of outputs))
 PrintsBy (Err WriteFailed) wanted text AtEnd Wrote =
-    AtEnd × ((reports : List ℕ) × (written : ℕ) × (wanted ≡ Ok reports) × (written < length reports) × Wrote (take written reports))
-PrintsBy (Err ReadFailed) wanted text AtEnd Wrote = length text ≤ capture_limit
-PrintsBy (Err Memory) wanted text AtEnd Wrote = length text ≤ capture_limit
-PrintsBy (Err CaptureTooLong) wanted text AtEnd Wrote = wanted ≡ Err CaptureTooLong
-PrintsBy (Err (ShelfFailed after)) wanted text AtEnd Wrote = ⊥
-PrintsBy (Err (BadHost at)) wanted text AtEnd Wrote = ⊥
-PrintsBy (Err fault) wanted text AtEnd Wrote = AtEnd × (wanted ≡ Err fault)
+    AtEnd × ((outputs : List Output) × (written : ℕ) × (wanted ≡ Ok outputs)
+    × (written < length (reports_of outputs)) × Wrote (take written (reports_of outputs)))
+PrintsBy (Err fault) wanted text AtEnd Wrote = AnswersBy (Err fault) wanted text AtEnd
 
 -- How a run ends that stores: on Ok there were outputs to store; a shelf fails after fewer files than they have; any other refusal
 -- is what was called for, or came while the text was read.

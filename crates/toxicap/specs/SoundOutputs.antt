@@ -9,7 +9,7 @@ use Rattle.run_files.specs.declared.outputs.Output.{Output}
 use Rattle.scenarios.specs.declared.proxies.Proxy.{Proxy}
 use Rattle.toxicap.specs.Rehearsal.{answer}
 
--- behind an instant, each stamp is the one before it or later
+-- after an instant, each stamp is the one before it or later
 abbrev pub NeverFall : ℕ → List Packet → Type 0
 NeverFall at [] = Unit {0}
 NeverFall at (p ∷ ps) = (at ≤ p.stamp) × NeverFall p.stamp ps

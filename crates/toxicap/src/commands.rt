@@ -21,7 +21,7 @@ use std::thread::Threads;
 // What is told of words that are no text.
 const NO_TEXT: &[u8] = b"error: a word of the command line is not text in UTF-8";
 
-/// The whole program on the words behind its name: it reads what they name, the capture from `input` where they name none, rehearses,
+/// The whole program on the arguments after its name: it reads what they name, the capture from `input` where they name none, rehearses,
 /// prints or stores the outputs, tells a refusal on `faults`, and answers the exit status.
 ///
 /// The status is 0, 1 for a refusal, whose line is written with a line feed, and 2 for a fault of the command line, whose text is
@@ -133,7 +133,8 @@ fn write_line<W: Write>(writer: &mut Counted<W>, line: &[u8])
     ensures { WrittenSoFar (text_with_line_feed line.now) (Appends (W.contents writer.old.inner) (W.contents writer.new.inner))
         writer.old.failed writer.new.failed }
 {
-    if write_bytes(writer, line).is_ok() {
-        let _ = write_bytes(writer, b"\n");
-    }
+    let Ok(()) = write_bytes(writer, line) else {
+        return;
+    };
+    write_text(writer, b"\n");
 }

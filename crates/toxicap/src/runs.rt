@@ -5,7 +5,7 @@ ghost use Rattle.command_line.specs.Asking.{IsInRange};
 ghost use Rattle.run_files.specs.declared.error.RunFault.{RunFault};
 ghost use Rattle.toxicap.specs.Answering.{called_for};
 ghost use Rattle.toxicap.specs.Commands.{AnswersInto, RunsBy};
-ghost use Rattle.toxicap.specs.RunEnds.{PrintsBy, StoresBy, reports_called_for, failed_reads, failed_writes};
+ghost use Rattle.toxicap.specs.RunEnds.{failed_reads, failed_writes};
 ghost use Rattle.pcap_records.specs.Agreement.{AgreesUnlessMemory};
 ghost use Rattle.toxicap.specs.Inputs.{AddsHost, IsOfFiles, IsOfHost, cut_at_first, equals_sign, host_written, hosts_from, texts_or_bare};
 ghost use Rattle.run_files.specs.RunFault.{run_refusal};
@@ -64,7 +64,8 @@ pub(crate) fn run_asked<H: Files + Threads + Wait + Sync, R: Read, W: Write>(
     answer_into(rt, alloc, &mut file, writer, asked.out, &texts, &options)
 }
 
-// The answers to a reader's capture, stored in a folder, or without one their reports printed.
+// The answers to a reader's capture, stored in a folder, or without one their reports printed. Nothing is written before they
+// are whole, so every refusal but a failed write leaves the writer as it was.
 fn answer_into<H: Files + Threads + Wait + Sync, R: Read, W: Write>(
     rt: &H,
     alloc: Global,
@@ -85,54 +86,10 @@ fn answer_into<H: Files + Threads + Wait + Sync, R: Read, W: Write>(
     ensures failed_writes { writer.new.failed ≡ writer.old.failed + failed_writes result }
     ensures untouched { IfErr result (λ fault. fault ≢ RunFault.WriteFailed → writer.new ≡ writer.old) }
 {
-    match out {
-        None => print_answers(rt, alloc, reader, writer, texts, options),
-        Some(folder) => store_answers(rt, alloc, reader, folder, texts, options),
-    }
-}
-
-// Reads a capture to its end, rehearses it under scenarios that are still texts, and writes the reports. Nothing is written
-// before they are whole, so every refusal but a failed write leaves the writer as it was.
-fn print_answers<H: Threads + Wait + Sync, R: Read, W: Write>(
-    rt: &H,
-    alloc: Global,
-    reader: &mut Counted<R>,
-    writer: &mut Counted<W>,
-    texts: &[&[u8]],
-    options: &Options,
-) -> Result<(), RunFault>
-    requires reads { reader.old.failed < 2 ^ 64 - 1 }
-    requires writes { writer.old.failed < 2 ^ 64 - 1 }
-    ensures answer { (text : List ℕ)
-        × Consumes (R.remaining reader.old.inner) (R.remaining reader.new.inner) text
-        × PrintsBy result (reports_called_for (called_for options.now.hosts (map (λ t. t.now) texts.now) options.now.seed text)) text
-        (IsAtEnd (R.remaining reader.new.inner))
-        (Appends (W.contents writer.old.inner) (W.contents writer.new.inner)) }
-    ensures failed_reads { reader.new.failed ≡ reader.old.failed + failed_reads result }
-    ensures failed_writes { writer.new.failed ≡ writer.old.failed + failed_writes result }
-    ensures untouched { IfErr result (λ fault. fault ≢ RunFault.WriteFailed → writer.new ≡ writer.old) }
-{
     let outputs = answers(rt, alloc, reader, texts, options)?;
-    print_reports(&outputs, writer)
-}
-
-// Reads a capture to its end, rehearses it under scenarios that are still texts, and stores the outputs in a folder.
-fn store_answers<H: Files + Threads + Wait + Sync, R: Read>(
-    rt: &H,
-    alloc: Global,
-    reader: &mut Counted<R>,
-    folder: &str,
-    texts: &[&[u8]],
-    options: &Options,
-) -> Result<(), RunFault>
-    requires { reader.old.failed < 2 ^ 64 - 1 }
-    ensures answer { (text : List ℕ)
-        × Consumes (R.remaining reader.old.inner) (R.remaining reader.new.inner) text
-        × StoresBy result (called_for options.now.hosts (map (λ t. t.now) texts.now) options.now.seed text) text (IsAtEnd (R.remaining reader.new.inner)) }
-    ensures failed_reads { reader.new.failed ≡ reader.old.failed + failed_reads result }
-    ensures no_write { failed_writes result ≡ 0 }
-{
-    let outputs = answers(rt, alloc, reader, texts, options)?;
+    let Some(folder) = out else {
+        return print_reports(&outputs, writer);
+    };
     let mut shelf = Folder::new(alloc, rt, folder)?;
     store_all(alloc, &outputs, &mut shelf)?;
     Ok(())
@@ -141,12 +98,12 @@ fn store_answers<H: Files + Threads + Wait + Sync, R: Read>(
 // A scenario without proxies.
 const BARE: &[u8] = b"[]";
 
-/// The hosts of a command line, each `NAME=ADDR`, cut at its first `=`.
-///
-/// # Errors
-/// [`RunFault::BadHost`] for the first that has no `=` or is refused by the list; [`RunFault::Memory`].
+// The hosts of a command line, each `NAME=ADDR`, cut at its first `=`.
+//
+// # Errors
+// [`RunFault::BadHost`] for the first that has no `=` or is refused by the list; [`RunFault::Memory`].
 #[tactic(auto, unfolding(crate::specs::Inputs::hosts_from))]
-pub(crate) fn read_hosts(alloc: Global, written: &[&str]) -> Result<Hosts, RunFault>
+fn read_hosts(alloc: Global, written: &[&str]) -> Result<Hosts, RunFault>
     ensures exact { AgreesUnlessMemory run_refusal (λ hosts. hosts) result (hosts_from [] (map (λ host. host.now) written.now)) }
     ensures of_host { IfErr result IsOfHost }
 {
@@ -171,19 +128,19 @@ fn add_host(hosts: &mut Hosts, at: usize, written: &str) -> Result<(), RunFault>
     }
 }
 
-// What stands before the first `=` of a text, and behind it.
+// What stands before the first `=` of a text, and after it.
 fn cut_at_equals(text: &str) -> Option<(&str, &str)>
     ensures { option_map (λ parts. (parts.0.now, parts.1.now)) result ≡ cut_at_first equals_sign text.now }
 {
     text.split_once('=')
 }
 
-/// The bytes of the scenario files, in order; without one, those of a scenario without proxies.
-///
-/// # Errors
-/// [`RunFault::ReadFailed`] for the first that cannot be opened or read, [`RunFault::CaptureTooLong`] for one that is longer than a capture may be;
-/// [`RunFault::Memory`].
-pub(crate) fn read_files<H: Files>(
+// The bytes of the scenario files, in order.
+//
+// # Errors
+// [`RunFault::ReadFailed`] for the first that cannot be opened or read, [`RunFault::CaptureTooLong`] for one that is longer than
+// a capture may be; [`RunFault::Memory`].
+fn read_files<H: Files>(
     rt: &H,
     alloc: Global,
     paths: &[&str],
@@ -208,8 +165,8 @@ fn read_file<H: Files>(rt: &H, alloc: Global, path: &str) -> Result<Vec<u8>, Run
     load(alloc, &mut Counted::new(file))
 }
 
-/// The texts of the scenarios of files; without one, the text of a scenario without proxies.
-pub(crate) fn texts_of<'a>(alloc: Global, files: &'a [Vec<u8>]) -> Result<Vec<&'a [u8]>, AllocError>
+// The texts of the scenarios of files; without one, the text of a scenario without proxies.
+fn texts_of<'a>(alloc: Global, files: &'a [Vec<u8>]) -> Result<Vec<&'a [u8]>, AllocError>
     ensures { IfOk result (λ texts. map (λ t. t.now) texts.items ≡ texts_or_bare (map (λ f. f.items) files.now)) }
 {
     let mut texts = Vec::new(alloc);

@@ -7,8 +7,7 @@ use Rattle.reassembly.specs.declared.line_parts.LinePart.{LinePart}
 use Rattle.toxic_defs.specs.Bandwidth.{ceiling, bandwidth_leaves, part_at}
 use Rattle.toxic_defs.specs.Slices.{IsFilled}
 use Rattle.toxic_defs.proofs.Parts.{length_marked, rest_there, front_there}
-use Rattle.toxic_defs.proofs.Owed.{owed_of, owed_part}
-use Rattle.toxic_defs.proofs.ChargedFronts.{fronts, charged_there, own_small, leaves_there}
+use Rattle.toxic_defs.proofs.ChargedParts.{owed_of, owed_part, fronts, charged_there, own_small, leaves_there}
 use Rattle.toxic_defs.proofs.bandwidth.charge_parts.Goals as goal
 
 -- what the wire has to do with one part more

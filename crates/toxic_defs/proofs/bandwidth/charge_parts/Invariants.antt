@@ -3,7 +3,7 @@ use Rattle.pcap_records.specs.Instants.{horizon, microseconds}
 use Rattle.reassembly.specs.LineView.{bytes_of_parts}
 use Rattle.toxic_defs.specs.Bandwidth.{bandwidth_leaves, charged}
 use Rattle.toxic_defs.specs.Slices.{AreFilled}
-use Rattle.toxic_defs.proofs.Owed.{owed_of}
+use Rattle.toxic_defs.proofs.ChargedParts.{owed_of}
 use Rattle.toxic_defs.proofs.bandwidth.charge_parts.Given as goal
 
 abbrev pub invariant-loop-part : goal.invariant-loop-part

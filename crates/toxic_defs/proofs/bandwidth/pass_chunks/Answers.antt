@@ -2,7 +2,7 @@ use Rattle.std.proofs.Common.{[], sym, ap, ◌∙◌}
 use Rattle.pcap_records.specs.Instants.{horizon, microseconds}
 use Rattle.reassembly.specs.LineView.{bytes_of_parts}
 use Rattle.toxic_defs.specs.Bandwidth.{bandwidth_leaves, settled_parts}
-use Rattle.toxic_defs.proofs.Settling.{settles}
+use Rattle.toxic_defs.proofs.ChargedParts.{settles}
 use Rattle.toxic_defs.proofs.bandwidth.pass_chunks.Goals as goal
 
 pub returns : goal.returns

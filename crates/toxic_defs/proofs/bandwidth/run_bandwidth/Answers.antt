@@ -2,7 +2,7 @@ use Rattle.std.proofs.Common.{◌≡◌, ℕ, arith, ap, ◌∙◌}
 use Rattle.reassembly.specs.LineView.{bytes_of_parts}
 use Rattle.toxic_defs.specs.Slices.{sliced}
 use Rattle.toxic_defs.specs.Bandwidth.{piece_size}
-use Rattle.toxic_defs.proofs.SliceLaws.{length-sliced}
+use Rattle.toxic_defs.proofs.DelayingLaws.{length-sliced}
 use Rattle.toxic_defs.proofs.bandwidth.run_bandwidth.Goals as goal
 
 pub pass_chunks-requires-clause-short : goal.pass_chunks-requires-clause-short

@@ -9,8 +9,7 @@ use Rattle.toxic_defs.specs.Latency.{latency_leaves, drawn_delay}
 use Rattle.toxic_defs.specs.DrawnNumbers.{GivesNext}
 use Rattle.toxic_defs.specs.declared.drawn_numbers.Spread.{Spread}
 use Rattle.toxic_defs.proofs.Parts.{rest_there, front_there}
-use Rattle.toxic_defs.proofs.MovedParts.{written_there, along_part}
-use Rattle.toxic_defs.proofs.LateChunks.{leaves_one_more, leaves_no_more, count_one_more, count_no_more}
+use Rattle.toxic_defs.proofs.MovedParts.{written_there, along_part, leaves_one_more, leaves_no_more, count_one_more, count_no_more}
 use Rattle.toxic_defs.proofs.latency.delay_chunks.Goals.{then-begins_chunk, else-begins_chunk}
 use Rattle.toxic_defs.proofs.latency.delay_chunks.Goals as goal
 

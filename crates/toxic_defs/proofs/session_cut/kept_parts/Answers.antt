@@ -1,5 +1,5 @@
 use Rattle.std.proofs.Common.{arith}
-use Rattle.toxic_defs.proofs.KeptParts.{lost_more, kept_up_to}
+use Rattle.toxic_defs.proofs.FirstBytes.{lost_more, kept_up_to}
 use Rattle.toxic_defs.proofs.session_cut.kept_parts.Goals as goal
 
 pub parts-preserved : goal.parts-preserved

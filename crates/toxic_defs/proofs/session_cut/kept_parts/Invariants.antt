@@ -1,5 +1,5 @@
 use Rattle.std.proofs.Common.{◌≤◌, length}
-use Rattle.toxic_defs.proofs.KeptParts.{AreLost}
+use Rattle.toxic_defs.proofs.FirstBytes.{AreLost}
 use Rattle.toxic_defs.proofs.session_cut.kept_parts.Given as goal
 
 abbrev pub invariant-parts : goal.invariant-parts

@@ -9,8 +9,7 @@ use Rattle.toxic_defs.specs.DelayedBytes.{begins}
 use Rattle.toxic_defs.specs.Slicer.{paced, slicer_leaves}
 use Rattle.toxic_defs.specs.Slices.{IsFilled}
 use Rattle.toxic_defs.proofs.Parts.{rest_there, front_there}
-use Rattle.toxic_defs.proofs.MovedParts.{written_there, along_part}
-use Rattle.toxic_defs.proofs.PacedChunks.{slice_leaves, slice_next, same_leaves, same_next}
+use Rattle.toxic_defs.proofs.MovedParts.{written_there, along_part, slice_leaves, slice_next, same_leaves, same_next}
 use Rattle.toxic_defs.proofs.slicer.pace_chunks.Goals.{then-part, else-part}
 use Rattle.toxic_defs.proofs.slicer.pace_chunks.Goals as goal
 

@@ -14,10 +14,10 @@ use Rattle.conn_table.specs.Connections.{connections, beginnings, begins}
 use Rattle.conn_table.specs.IndexedConnections.{indexed_connections, indexed_connection_of, without_indices, IndexedConnectionsAgree}
 use Rattle.conn_table.specs.Partials.{packets_between, segments_between}
 use Rattle.conn_table.specs.Tables.{table_in, conn_in}
+use Rattle.conn_table.proofs.RangeSteps.{length-packets_between}
 use Rattle.reassembly.specs.RecordedView.{IsConnOf, IsConnectionOf, ConnectionsAreOfCapture, ConnsAreOfCapture}
 use Rattle.conn_workers.specs.DeliveryRows.{connections_of}
 use Rattle.conn_workers.specs.CaptureTables.{whole_table, whole_connections}
-use Rattle.conn_workers.proofs.SeenPackets.{length-seen_packets}
 
 pub conns_are : (c : CaptureView) → (whole_table c).conns ≡ map (conn_in c) (whole_connections c)
 unfolding table_in
@@ -65,14 +65,12 @@ few_beginnings segs =
 
 pub few_connections : (c : CaptureView) → length (whole_connections c) ≤ length c.records
 few_connections c =
-    let packets : List Packet = (contents_of c).packets in
+    let packets : length (contents_of c).packets ≡ length c.records = length-map c.records (packet_of c.bytes) in
     omega (
       arith,
       few_beginnings (segments_between c 0 (length c.records) 0),
       few_segments (packets_between c 0 (length c.records) 0),
-      ap length (all_packets c),
-      length-seen_packets packets,
-      length-map c.records (packet_of c.bytes),
+      length-packets_between c 0 (length c.records) 0 (omega arith) (omega (arith, packets)),
     )
 
 pub few_conns : (c : CaptureView) → length (whole_table c).conns ≤ length c.records

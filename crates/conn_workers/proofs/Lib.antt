@@ -1,4 +1,5 @@
 mod Meetings
+mod SeenPackets
 mod RowLemmas
 pub mod TableConnections
 mod DeliverySteps

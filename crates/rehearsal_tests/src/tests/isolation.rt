@@ -1,6 +1,8 @@
 //! One connection beside others: what they meet is nothing to it.
-use super::toxics::{file_of, output_of, toxic};
+use super::rehearsed::{output_of, proxy_with, toxic};
+use std::process::Abort;
 use std::test::Fail;
+use toxicap::Output;
 use worked_sessions::sessions::{
     ACK, CLIENT, PSH, RecordedSegment, SECOND_CLIENT, SERVER, SYN, file, put, put_field, segment,
 };
@@ -14,86 +16,92 @@ fn connections() -> [RecordedSegment<'static>; 3] {
     ]
 }
 
-// The last line of a report, with the line feed before it.
-fn last_line(report: &[u8]) -> &[u8] {
-    match report
-        .windows(3)
-        .position(|text| text == b"\n1 ".as_slice())
-    {
-        Some(at) => &report[at..],
-        None => &[],
+// One of a report's lines.
+fn line_of(report: &[u8], number: usize) -> &str {
+    match str::from_utf8(report) {
+        Ok(text) => text.lines().nth(number).unwrap_or(""),
+        Err(_) => "",
     }
 }
 
-// The toxics that another connection meets change nothing of a connection.
+// Two outputs have the same capture, of this length, the same line at this place of their reports, and lines with these starts.
+fn check_beside(
+    rt: &impl Abort,
+    row: &str,
+    (one, other): (&Output, &Output),
+    len: usize,
+    same_line: usize,
+    starts: &[(usize, &str, &str)],
+) {
+    let (a, b) = (one.report.as_slice(), other.report.as_slice());
+    let mut good = one.capture.as_slice() == other.capture.as_slice()
+        && one.capture.as_slice().len() == len
+        && line_of(a, same_line) == line_of(b, same_line);
+    for (line, of_one, of_other) in starts {
+        good = good
+            && line_of(a, *line).starts_with(*of_one)
+            && line_of(b, *line).starts_with(*of_other);
+    }
+    assert!(rt; good, "{row}");
+}
+
+// The toxics that another connection meets change nothing of a connection. Both captures are alike, since the other connection has no
+// bytes.
 #[test]
 fn other_connections_do_not_matter(rt: HostRuntime) -> Result<(), Fail> {
-    let alloc = rt.alloc();
-    let bytes = file(alloc, true, &connections())?;
-    let late = toxic(alloc, "latency", "\"latency\":100,\"jitter\":50")?;
-    let first = file_of(alloc, &late)?;
-    let held = toxic(alloc, "timeout", "\"timeout\":0")?;
-    let second = format!(in alloc;
+    let bytes = file(rt.alloc(), true, &connections())?;
+    let late = toxic(rt.alloc(), "latency", "\"latency\":100,\"jitter\":50")?;
+    let held = toxic(rt.alloc(), "timeout", "\"timeout\":0")?;
+    let both = format!(in rt.alloc();
         "[{{\"name\":\"web\",\"upstream\":\"10.0.0.2:80\",\"toxics\":[{late}]}},{{\"name\":\"other\",\"upstream\":\"10.0.0.3:40001\",\"toxics\":[{held}]}}]"
     )?;
-    let a = output_of(&rt, alloc, &bytes, &first)?;
-    let b = output_of(&rt, alloc, &bytes, &second)?;
-    assert_eq!(rt; a.capture.as_slice().len(), 516);
-    // Both connections are written alike, since the other one has no bytes: its segments stand first, and those of connection 1 behind.
-    assert_eq!(rt; a.capture.as_slice(), b.capture.as_slice());
-    let line = last_line(a.report.as_slice());
-    assert!(rt; line.starts_with(b"\n1 10.0.0.1:40000 > 10.0.0.2:80 proxy 0 up 2/2/0 open max "));
-    assert_eq!(rt; line, last_line(b.report.as_slice()));
-    assert!(rt;
-        contains(
-            a.report.as_slice(),
-            b"\n0 10.0.0.1:40000 > 10.0.0.3:40001 proxy - up "
-        )
-    );
-    assert!(rt;
-        contains(
-            b.report.as_slice(),
-            b"\n0 10.0.0.1:40000 > 10.0.0.3:40001 proxy 1 up "
-        )
+    let alone = output_of(&rt, rt.alloc(), &bytes, &proxy_with(rt.alloc(), &late)?)?;
+    let beside = output_of(&rt, rt.alloc(), &bytes, &both)?;
+    let line = "1 10.0.0.1:40000 > 10.0.0.2:80 proxy 0 up 2/2/0 open max ";
+    let unmet = "0 10.0.0.1:40000 > 10.0.0.3:40001 proxy - up ";
+    let met = "0 10.0.0.1:40000 > 10.0.0.3:40001 proxy 1 up ";
+    let starts = [(2, unmet, met), (3, line, line)];
+    check_beside(
+        &rt,
+        "another connection",
+        (&alone, &beside),
+        516,
+        3,
+        &starts,
     );
     Ok(())
-}
-
-// Whether a text has a part.
-fn contains(text: &[u8], part: &[u8]) -> bool {
-    text.windows(part.len().max(1)).any(|found| found == part)
-}
-
-// A report behind its first line, with the line feed before it.
-fn behind_the_first_line(report: &[u8]) -> &[u8] {
-    match report.iter().position(|byte| *byte == b'\n') {
-        Some(at) => &report[at..],
-        None => &[],
-    }
 }
 
 // A packet of no connection changes the report's first line, which counts it, and nothing else.
 #[test]
 fn a_packet_of_no_connection(rt: HostRuntime) -> Result<(), Fail> {
-    let alloc = rt.alloc();
     let [other, opening, data] = connections();
-    let bytes = file(alloc, true, &[other, opening, data])?;
-    let mut longer = file(alloc, true, &[other, opening])?;
-    for number in [1, 150_000, 2, 2] {
-        put_field(&mut longer, true, number)?;
-    }
+    let bytes = file(rt.alloc(), true, &[other, opening, data])?;
+    let mut longer = file(rt.alloc(), true, &[other, opening])?;
+    put_field(&mut longer, true, 1)?;
+    put_field(&mut longer, true, 150_000)?;
+    put_field(&mut longer, true, 2)?;
+    put_field(&mut longer, true, 2)?;
     longer.extend_from_slice(b"zz")?;
     put(&mut longer, true, &data)?;
-    let late = toxic(alloc, "latency", "\"latency\":100,\"jitter\":50")?;
-    let text = file_of(alloc, &late)?;
-    let without = output_of(&rt, alloc, &bytes, &text)?;
-    let beside = output_of(&rt, alloc, &longer, &text)?;
-    let counted = b"scenario 0 records 4 rest 0 segment 3 short 1 notipv4 0 ";
-    assert!(rt; beside.report.as_slice().starts_with(counted));
-    assert_eq!(rt; beside.capture.as_slice(), without.capture.as_slice());
-    assert_eq!(rt;
-        behind_the_first_line(beside.report.as_slice()),
-        behind_the_first_line(without.report.as_slice())
+    let late = toxic(rt.alloc(), "latency", "\"latency\":100,\"jitter\":50")?;
+    let scenario = proxy_with(rt.alloc(), &late)?;
+    let without = output_of(&rt, rt.alloc(), &bytes, &scenario)?;
+    let beside = output_of(&rt, rt.alloc(), &longer, &scenario)?;
+    let starts = [(
+        0,
+        "scenario 0 records 3 rest 0 segment 3 short 0 notipv4 0 ",
+        "scenario 0 records 4 rest 0 segment 3 short 1 notipv4 0 ",
+    )];
+    check_beside(
+        &rt,
+        "the table's line",
+        (&without, &beside),
+        516,
+        1,
+        &starts,
     );
+    check_beside(&rt, "connection 0", (&without, &beside), 516, 2, &starts);
+    check_beside(&rt, "connection 1", (&without, &beside), 516, 3, &starts);
     Ok(())
 }

@@ -1,130 +1,96 @@
 //! Rehearsals under every plan: what one worker gives of one range is what any number of workers gives of any ranges.
-use super::rehearsals::{repeated, scenario_of};
-use scenarios::Scenario;
-use std::alloc::Global;
+use super::connections::repeated;
+use super::rehearsed::{proxy_with, rehearsed_by, same, scenario_of, toxic, under_every_plan};
+use std::alloc::AllocGlobal;
 use std::process::Abort;
 use std::sync::Wait;
 use std::test::Fail;
 use std::thread::Threads;
-use toxicap::{Gate, Outputs, Phase, Plan, Through, rehearse};
+use toxicap::{Output, Phase};
 use worked_sessions::gates::{Counting, Holding};
 use worked_sessions::sessions::{file, session};
 
-const WORKERS: [u32; 4] = [1, 2, 4, 16];
-
-const CUTS: [u32; 4] = [1, 2, 3, 4096];
-
-// The outputs are the others, byte for byte.
-fn check_same(rt: &impl Abort, outputs: &Outputs, others: &Outputs) {
-    assert_eq!(rt; outputs.as_slice().len(), others.as_slice().len());
-    for (output, other) in outputs.as_slice().iter().zip(others.as_slice()) {
-        assert_eq!(rt; output.capture.as_slice(), other.capture.as_slice());
-        assert_eq!(rt; output.report.as_slice(), other.report.as_slice());
-    }
-}
-
-// The outputs of a rehearsal by so many workers, range by range of a cut, who pass a gate.
-fn rehearsed_by<R: Threads + Wait + Sync, G: Gate>(
-    rt: &R,
-    alloc: Global,
-    bytes: &[u8],
-    scenarios: &[Scenario],
-    seed: u64,
-    (workers, cut): (u32, u32),
-    gate: &G,
-) -> Result<Outputs, Fail> {
-    let plan = Plan::new(workers, cut).ok_or("no such plan")?;
-    Ok(rehearse(rt, alloc, bytes, scenarios, seed, plan, gate)?)
-}
-
-// The outputs of a rehearsal, which are the same by 1, 2, 4 and 16 workers, in ranges of 1, 2, 3 and 4,096 records.
-pub fn under_every_plan<R: Abort + Threads + Wait + Sync>(
-    rt: &R,
-    alloc: Global,
-    bytes: &[u8],
-    scenarios: &[Scenario],
-    seed: u64,
-) -> Result<Outputs, Fail> {
-    let wanted = rehearsed_by(rt, alloc, bytes, scenarios, seed, (1, 4096), &Through)?;
-    'workers: for workers in WORKERS {
-        'cuts: for cut in CUTS {
-            let outputs = rehearsed_by(
-                rt,
-                alloc,
-                bytes,
-                scenarios,
-                seed,
-                (workers, cut),
-                &Through,
-            )?;
-            check_same(rt, &outputs, &wanted);
-        }
-    }
-    Ok(wanted)
-}
-
-// Job 0 of a phase waits until job 1 of it has passed, so two threads have done jobs: the outputs are those of one.
-#[test]
-fn a_job_held_in_each_phase(rt: HostRuntime) -> Result<(), Fail> {
+// Job 0 of this phase waits until job 1 of it has passed, so two threads have done jobs: the outputs are those of one.
+fn check_held(
+    rt: &(impl Abort + AllocGlobal + Threads + Wait + Sync),
+    row: &str,
+    phase: Phase,
+) -> Result<(), Fail> {
     let bytes = file(rt.alloc(), true, &repeated())?;
     let scenarios = [scenario_of(rt.alloc(), "[]")?];
-    let wanted = under_every_plan(&rt, rt.alloc(), &bytes, &scenarios, 0)?;
-    for phase in [Phase::Ranges, Phase::Lines, Phase::Jobs] {
-        let gate = Holding::new(phase);
-        let outputs = rehearsed_by(&rt, rt.alloc(), &bytes, &scenarios, 0, (2, 3), &gate)?;
-        check_same(&rt, &outputs, &wanted);
-        assert!(rt; !gate.gave_up());
-    }
+    let wanted = under_every_plan(rt, rt.alloc(), &bytes, &scenarios)?;
+    let gate = Holding::new(phase);
+    let outputs = rehearsed_by(rt, rt.alloc(), &bytes, &scenarios, (2, 3), &gate)?;
+    let good = same(&outputs, &wanted) && !gate.gave_up();
+    assert!(rt; good, "{row}");
     Ok(())
 }
 
-// Six records of two connections, in ranges of four, under three scenarios.
 #[test]
-fn jobs_of_each_phase(rt: HostRuntime) -> Result<(), Fail> {
+fn a_job_held_in_each_phase(rt: HostRuntime) -> Result<(), Fail> {
+    check_held(&rt, "a range held", Phase::Ranges)?;
+    check_held(&rt, "a recorded line held", Phase::Lines)?;
+    check_held(&rt, "a delivery held", Phase::Jobs)
+}
+
+// So many jobs of this phase pass its gate, whose numbers have this sum: six records of two connections, in ranges of four, under
+// three scenarios.
+fn check_jobs(
+    rt: &(impl Abort + AllocGlobal + Threads + Wait + Sync),
+    row: &str,
+    phase: Phase,
+    (jobs, numbers): (u64, u64),
+) -> Result<(), Fail> {
     let bytes = file(rt.alloc(), true, &repeated())?;
     let scenarios = [
         scenario_of(rt.alloc(), "[]")?,
         scenario_of(rt.alloc(), "[]")?,
         scenario_of(rt.alloc(), "[]")?,
     ];
-    let phases = [
-        (Phase::Ranges, 2, 1),
-        (Phase::Lines, 2, 1),
-        (Phase::Jobs, 6, 15),
-    ];
-    for (phase, jobs, numbers) in phases {
-        let gate = Counting::new(phase);
-        let outputs = rehearsed_by(&rt, rt.alloc(), &bytes, &scenarios, 0, (4, 4), &gate)?;
-        assert_eq!(rt; outputs.as_slice().len(), 3);
-        assert_eq!(rt; gate.passed(), jobs);
-        assert_eq!(rt; gate.numbers(), numbers);
-    }
+    let gate = Counting::new(phase);
+    let outputs = rehearsed_by(rt, rt.alloc(), &bytes, &scenarios, (4, 4), &gate)?;
+    let good = outputs.as_slice().len() == 3 && gate.passed() == jobs && gate.numbers() == numbers;
+    assert!(rt; good, "{row}");
     Ok(())
+}
+
+#[test]
+fn jobs_of_each_phase(rt: HostRuntime) -> Result<(), Fail> {
+    check_jobs(&rt, "ranges", Phase::Ranges, (2, 1))?;
+    check_jobs(&rt, "recorded lines", Phase::Lines, (2, 1))?;
+    check_jobs(&rt, "deliveries", Phase::Jobs, (6, 15))
+}
+
+// An output of the plain session: its report begins and ends so.
+fn check_report(rt: &impl Abort, outputs: &[Output], number: usize, begin: &str, end: &str) {
+    let good = match outputs.get(number) {
+        Some(output) => {
+            let report = output.report.as_slice();
+            output.capture.as_slice().len() == 449
+                && report.starts_with(begin.as_bytes())
+                && report.ends_with(end.as_bytes())
+        }
+        None => false,
+    };
+    assert!(rt; good, "{begin}");
 }
 
 // The scenarios' outputs stand in the scenarios' order, whoever made them.
 #[test]
 fn scenarios_in_order_under_every_plan(rt: HostRuntime) -> Result<(), Fail> {
     let bytes = file(rt.alloc(), true, &session())?;
-    let late =
-        "[{\"name\":\"web\",\"upstream\":\"10.0.0.2:80\",\"toxics\":[{\"type\":\"latency\",\"stream\":\"upstream\",\"attributes\":{\"latency\":100}}]}]";
+    let late = toxic(rt.alloc(), "latency", "\"latency\":100")?;
+    let late = proxy_with(rt.alloc(), &late)?;
     let scenarios = [
         scenario_of(rt.alloc(), "[]")?,
-        scenario_of(rt.alloc(), late)?,
+        scenario_of(rt.alloc(), &late)?,
         scenario_of(rt.alloc(), "[]")?,
     ];
-    let outputs = under_every_plan(&rt, rt.alloc(), &bytes, &scenarios, 0)?;
-    let ends = [
-        "proxy - up 5/5/0 fin+2000 max 0 down 0/0/0 fin+3000 max 0\n",
-        "proxy 0 up 5/5/0 fin+101000 max 100000 down 0/0/0 fin+3000 max 0\n",
-        "proxy - up 5/5/0 fin+2000 max 0 down 0/0/0 fin+3000 max 0\n",
-    ];
-    for (number, (output, end)) in outputs.as_slice().iter().zip(ends).enumerate() {
-        let begin = format!(in rt.alloc(); "scenario {number} records 7 ")?;
-        let report = output.report.as_slice();
-        assert!(rt; report.starts_with(begin.as_bytes()), "{number}");
-        assert!(rt; report.ends_with(end.as_bytes()), "{number}");
-        assert_eq!(rt; output.capture.as_slice().len(), 449);
-    }
+    let outputs = under_every_plan(&rt, rt.alloc(), &bytes, &scenarios)?;
+    let plain = "proxy - up 5/5/0 fin+2000 max 0 down 0/0/0 fin+3000 max 0\n";
+    let slow = "proxy 0 up 5/5/0 fin+101000 max 100000 down 0/0/0 fin+3000 max 0\n";
+    check_report(&rt, outputs.as_slice(), 0, "scenario 0 records 7 ", plain);
+    check_report(&rt, outputs.as_slice(), 1, "scenario 1 records 7 ", slow);
+    check_report(&rt, outputs.as_slice(), 2, "scenario 2 records 7 ", plain);
     Ok(())
 }

@@ -1,10 +1,6 @@
 //! A program over the library, as a user would write one: it reads a capture from standard input, rehearses it under one
-//! scenario without proxies, and writes the output capture to standard output. Beside it stand the tests over the public calls of
-//! all crates, with values from outside.
+//! scenario without proxies, and writes the output capture to standard output.
 #![tactic(auto)]
-
-#[cfg(test)]
-mod tests;
 
 use anyhow::{Context, Result};
 use scenarios::{Hosts, read_scenario};

@@ -6,7 +6,6 @@ mod connections;
 mod dumps;
 mod isolation;
 mod limits;
-mod pieces;
 mod plans;
 mod readers;
 mod rehearsed;

@@ -5,4 +5,5 @@ mod joining;
 mod merging;
 mod range_tables;
 mod tables;
+mod told_jobs;
 mod workers;

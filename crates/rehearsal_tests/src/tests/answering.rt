@@ -5,10 +5,9 @@ use scenarios::Hosts;
 use std::alloc::{AllocError, AllocGlobal, Global};
 use std::process::Abort;
 use std::sync::Wait;
-use std::test::Fail;
 use std::thread::Threads;
-use toxicap::{Counted, Options, Output, Outputs, Plan, RunFault, answers, fault_line, undump};
-use worked_sessions::sessions::{file, session};
+use toxicap::{Counted, Options, Output, Outputs, Plan, RunFault, answers, fault_line};
+use worked_sessions::sessions::PLAIN_SESSION;
 use worked_sessions::written_frames::{OPENING, session_written};
 
 // A disabled proxy, and an enabled one after it, for the server of the plain session.
@@ -19,21 +18,23 @@ const REFUSED_LINE: &str =
     "0 10.0.0.1:40000 > 10.0.0.2:80 proxy 0 up 0/5/0 refused max 0 down 0/0/0 refused max 0\n";
 
 // The server's answer to an opening that its proxy refuses, with its record header.
-const RESET: &str = "01000000 00000000 36000000 36000000 020000000001 020000000002 0800
-    45000028 00004000 400626ce 0a000002 0a000001 00509c40 00000000 000003e9 5014ffff fb540000";
+const RESET: [u8; 70] = [
+    0x01, 0x00, 0x00, 0x00, 0x00, 0x00, 0x00, 0x00, 0x36, 0x00, 0x00, 0x00, 0x36, 0x00, 0x00, 0x00,
+    0x02, 0x00, 0x00, 0x00, 0x00, 0x01, 0x02, 0x00, 0x00, 0x00, 0x00, 0x02, 0x08, 0x00, 0x45, 0x00,
+    0x00, 0x28, 0x00, 0x00, 0x40, 0x00, 0x40, 0x06, 0x26, 0xce, 0x0a, 0x00, 0x00, 0x02, 0x0a, 0x00,
+    0x00, 0x01, 0x00, 0x50, 0x9c, 0x40, 0x00, 0x00, 0x00, 0x00, 0x00, 0x00, 0x03, 0xe9, 0x50, 0x14,
+    0xff, 0xff, 0xfb, 0x54, 0x00, 0x00,
+];
 
 // The first proxy for the server is met, though it is disabled and another one stands after it.
 #[test]
-fn a_disabled_proxy_refuses(rt: HostRuntime) -> Result<(), Fail> {
-    let bytes = file(rt.alloc(), true, &session())?;
-    let reset = undump(rt.alloc(), RESET.as_bytes())?;
-    let parts: [(usize, &[u8]); 2] = [(40, OPENING.as_slice()), (94, &reset)];
+fn a_disabled_proxy_refuses(rt: HostRuntime) {
     check_file(
         &rt,
         "a disabled proxy",
-        (&bytes, BOTH),
-        (164, &parts, REFUSED_LINE),
-    )
+        (&PLAIN_SESSION, BOTH),
+        (164, &[(40, &OPENING), (94, &RESET)], REFUSED_LINE),
+    );
 }
 
 // What a capture's text answers under the texts of scenarios, with one known host, `web` at 10.0.0.2.
@@ -56,30 +57,31 @@ fn answered<R: Threads + Wait + Sync>(
     answers(rt, alloc, &mut Counted::new(text), texts, &options)
 }
 
-// An output has this capture, and its report ends so.
-fn is_output(output: &Output, capture: &[u8], end: &str) -> bool {
-    output.capture.as_slice() == capture && output.report.as_slice().ends_with(end.as_bytes())
+// Whether an output's capture has this length and ends so, and its report ends so.
+fn is_output(output: &Output, len: usize, last: &[u8], end: &str) -> bool {
+    let capture = output.capture.as_slice();
+    capture.len() == len
+        && capture.ends_with(last)
+        && output.report.as_slice().ends_with(end.as_bytes())
 }
 
-// The text of the plain session answers two outputs under `[]` and a disabled proxy for the host `web`.
-fn check_answer(
-    rt: &(impl Abort + AllocGlobal + Threads + Wait + Sync),
-    row: &str,
+// Whether a text of the plain session answers two outputs under `[]` and a disabled proxy for the host `web`.
+fn is_answered<R: Threads + Wait + Sync>(
+    rt: &R,
+    alloc: Global,
     text: &[u8],
-    refused: &[u8],
-) -> Result<(), Fail> {
+) -> Result<bool, RunFault> {
     let named = b"[{\"name\":\"a\",\"upstream\":\"web:80\",\"enabled\":false}]";
     let texts = [b"[]".as_slice(), named.as_slice()];
-    let outputs = answered(rt, rt.alloc(), text, &texts)?;
-    let written = session_written(rt.alloc())?;
-    let good = match outputs.as_slice() {
+    let outputs = answered(rt, alloc, text, &texts)?;
+    let written = session_written(alloc)?;
+    Ok(match outputs.as_slice() {
         [bare, met] => {
-            is_output(bare, &written, PLAIN_REPORT) && is_output(met, refused, REFUSED_LINE)
+            is_output(bare, 449, &written, PLAIN_REPORT)
+                && is_output(met, 164, &RESET, REFUSED_LINE)
         }
         _ => false,
-    };
-    assert!(rt; good, "{row}");
-    Ok(())
+    })
 }
 
 // The hexadecimal digits of some bytes.
@@ -91,18 +93,37 @@ fn dump(alloc: Global, bytes: &[u8]) -> Result<String, AllocError> {
     Ok(text)
 }
 
+fn is_answered_dumped<R: Threads + Wait + Sync>(rt: &R, alloc: Global) -> Result<bool, RunFault> {
+    let text = dump(alloc, &PLAIN_SESSION)?;
+    is_answered(rt, alloc, text.as_bytes())
+}
+
 #[test]
-fn scenarios_of_a_dump_in_order(rt: HostRuntime) -> Result<(), Fail> {
-    let bytes = file(rt.alloc(), true, &session())?;
-    let dump = dump(rt.alloc(), &bytes)?;
-    let written = session_written(rt.alloc())?;
-    let mut refused = written[..written.len().min(94)].to_vec(rt.alloc())?;
-    refused.extend_from_slice(&undump(rt.alloc(), RESET.as_bytes())?)?;
-    check_answer(&rt, "a capture", &bytes, &refused)?;
-    check_answer(&rt, "its dump", dump.as_bytes(), &refused)?;
-    let none = answered(&rt, rt.alloc(), &bytes, &[])?;
-    assert!(rt; none.as_slice().is_empty());
-    Ok(())
+fn scenarios_of_a_dump_in_order(rt: HostRuntime) {
+    let capture = is_answered(&rt, rt.alloc(), &PLAIN_SESSION) == Ok(true);
+    let dump = is_answered_dumped(&rt, rt.alloc()) == Ok(true);
+    assert!(rt; capture, "a capture");
+    assert!(rt; dump, "its dump");
+}
+
+// Whether a capture's text under texts of scenarios is refused with this line; where the line is empty, it answers no output.
+fn is_told<R: Threads + Wait + Sync>(
+    rt: &R,
+    alloc: Global,
+    text: &[u8],
+    texts: &[&[u8]],
+    line: &str,
+) -> Result<bool, AllocError> {
+    match answered(rt, alloc, text, texts) {
+        Ok(outputs) => Ok(line == "" && outputs.as_slice().is_empty()),
+        Err(fault) => Ok(fault_line(alloc, &fault)?.as_str() == line),
+    }
+}
+
+#[test]
+fn no_scenario_gives_no_output(rt: HostRuntime) {
+    let good = is_told(&rt, rt.alloc(), &PLAIN_SESSION, &[], "") == Ok(true);
+    assert!(rt; good);
 }
 
 // A capture's text under two texts of scenarios, of which the first is `[]`, is refused with this line.
@@ -111,63 +132,55 @@ fn check_refused(
     text: &str,
     second: &str,
     line: &str,
-) -> Result<(), Fail> {
+) {
     let texts = [b"[]".as_slice(), second.as_bytes()];
-    let good = match answered(rt, rt.alloc(), text.as_bytes(), &texts) {
-        Ok(_) => false,
-        Err(fault) => fault_line(rt.alloc(), &fault)?.as_str() == line,
-    };
+    let good = is_told(rt, rt.alloc(), text.as_bytes(), &texts, line) == Ok(true);
     assert!(rt; good, "{line}");
-    Ok(())
 }
 
 // The dump's fault, then the first scenario's, then the capture's.
 #[test]
-fn the_first_refusal_counts(rt: HostRuntime) -> Result<(), Fail> {
+fn the_first_refusal_counts(rt: HostRuntime) {
     let unknown = "[{\"name\":\"a\",\"upstream\":\"redis:80\"}]";
     let toxic =
         "[{\"name\":\"a\",\"upstream\":\"web:80\"},{\"name\":\"b\",\"upstream\":\"web:80\",\"toxics\":[{}]}]";
-    check_refused(&rt, "d4 zz", unknown, "refused 55 BadDump at 3")?;
+    check_refused(&rt, "d4 zz", unknown, "refused 55 BadDump at 3");
     check_refused(
         &rt,
         "d4c3",
         unknown,
         "refused 15 UnknownHost scenario 1 proxy 0",
-    )?;
+    );
     check_refused(
         &rt,
         "d4c3",
         toxic,
         "refused 12 BadMember scenario 1 proxy 1 toxic 0",
-    )?;
-    check_refused(&rt, "d4c3", "{}", "refused 11 NotArray scenario 1")?;
-    check_refused(&rt, "d4c3", "[]", "refused 1 ShortHeader")
+    );
+    check_refused(&rt, "d4c3", "{}", "refused 11 NotArray scenario 1");
+    check_refused(&rt, "d4c3", "[]", "refused 1 ShortHeader");
 }
 
-// So many texts `[]` and one more after them are refused with this line: all are read before they are too many, and the capture is
-// looked at last.
+// So many texts `[]` and one more after them are refused with this line.
 fn check_many(
     rt: &(impl Abort + AllocGlobal + Threads + Wait + Sync),
-    many: u32,
+    many: usize,
     last: &str,
     line: &str,
-) -> Result<(), Fail> {
-    let mut texts = Vec::new(rt.alloc());
-    for _ in 0..many {
-        texts.push(b"[]".as_slice())?;
+) {
+    let mut texts = [b"[]".as_slice(); 258];
+    if many < texts.len() {
+        texts[many] = last.as_bytes();
     }
-    texts.push(last.as_bytes())?;
-    let good = match answered(rt, rt.alloc(), b"d4c3", &texts) {
-        Ok(_) => false,
-        Err(fault) => fault_line(rt.alloc(), &fault)?.as_str() == line,
-    };
+    let some = &texts[..texts.len().min(many.saturating_add(1))];
+    let good = is_told(rt, rt.alloc(), b"d4c3", some, line) == Ok(true);
     assert!(rt; good, "{line}");
-    Ok(())
 }
 
+// All texts are read before they are too many, and the capture is looked at last.
 #[test]
-fn too_many_texts(rt: HostRuntime) -> Result<(), Fail> {
-    check_many(&rt, 255, "[]", "refused 1 ShortHeader")?;
-    check_many(&rt, 256, "[]", "refused 22 TooManyScenarios")?;
-    check_many(&rt, 257, "[", "refused 10 NotJson scenario 257")
+fn too_many_texts(rt: HostRuntime) {
+    check_many(&rt, 255, "[]", "refused 1 ShortHeader");
+    check_many(&rt, 256, "[]", "refused 22 TooManyScenarios");
+    check_many(&rt, 257, "[", "refused 10 NotJson scenario 257");
 }

@@ -1,6 +1,5 @@
 //! Which connections a capture has, and which segments are of none.
 use super::rehearsed::check;
-use std::test::Fail;
 use worked_sessions::sessions::{
     ACK, CLIENT, PSH, RecordedSegment, SECOND_CLIENT, SERVER, SYN, segment,
 };
@@ -19,7 +18,7 @@ pub fn repeated() -> [RecordedSegment<'static>; 6] {
 
 // The second SYN ACK has the sequence number 0 and acknowledges 9001.
 #[test]
-fn repeated_opening_and_second_session(rt: HostRuntime) -> Result<(), Fail> {
+fn repeated_opening_and_second_session(rt: HostRuntime) {
     check(
         &rt,
         "repeated opening and second session",
@@ -31,7 +30,7 @@ fn repeated_opening_and_second_session(rt: HostRuntime) -> Result<(), Fail> {
 }
 
 #[test]
-fn clients_in_turn(rt: HostRuntime) -> Result<(), Fail> {
+fn clients_in_turn(rt: HostRuntime) {
     let segments = [
         segment((1, 0), CLIENT, SERVER, SYN, (1000, 0), b""),
         segment((2, 0), SECOND_CLIENT, SERVER, SYN, (2000, 0), b""),
@@ -48,7 +47,7 @@ fn clients_in_turn(rt: HostRuntime) -> Result<(), Fail> {
 }
 
 #[test]
-fn an_unopened_pair_first(rt: HostRuntime) -> Result<(), Fail> {
+fn an_unopened_pair_first(rt: HostRuntime) {
     let segments = [
         segment((1, 0), SERVER, CLIENT, ACK, (7000, 1), b""),
         segment((2, 0), SECOND_CLIENT, SERVER, SYN, (2000, 0), b""),
@@ -65,7 +64,7 @@ fn an_unopened_pair_first(rt: HostRuntime) -> Result<(), Fail> {
 }
 
 #[test]
-fn openings_from_both_sides(rt: HostRuntime) -> Result<(), Fail> {
+fn openings_from_both_sides(rt: HostRuntime) {
     let segments = [
         segment((1, 0), CLIENT, SERVER, SYN, (1000, 0), b""),
         segment((1, 100_000), SERVER, CLIENT, SYN, (1000, 0), b""),
@@ -81,7 +80,7 @@ fn openings_from_both_sides(rt: HostRuntime) -> Result<(), Fail> {
 }
 
 #[test]
-fn unopened_segments_and_same_ends(rt: HostRuntime) -> Result<(), Fail> {
+fn unopened_segments_and_same_ends(rt: HostRuntime) {
     let segments = [
         segment((1, 0), SERVER, CLIENT, PSH + ACK, (7000, 1), b"z"),
         segment((1, 100_000), CLIENT, SERVER, SYN, (1000, 0), b""),

@@ -1,8 +1,9 @@
 //! One connection beside others: what they meet is nothing to it.
-use super::rehearsed::{output_of, proxy_with, toxic};
+use super::rehearsed::{Wanted, check_file};
+use std::alloc::{AllocError, AllocGlobal, Global};
 use std::process::Abort;
-use std::test::Fail;
-use toxicap::Output;
+use std::sync::Wait;
+use std::thread::Threads;
 use worked_sessions::sessions::{
     ACK, CLIENT, PSH, RecordedSegment, SECOND_CLIENT, SERVER, SYN, file, put, put_field, segment,
 };
@@ -16,92 +17,94 @@ fn connections() -> [RecordedSegment<'static>; 3] {
     ]
 }
 
-// One of a report's lines.
-fn line_of(report: &[u8], number: usize) -> &str {
-    match str::from_utf8(report) {
-        Ok(text) => text.lines().nth(number).unwrap_or(""),
-        Err(_) => "",
+// Their file, with a packet of two bytes among them or without it.
+fn capture(alloc: Global, packet: bool) -> Result<Vec<u8>, AllocError> {
+    let [other, opening, data] = connections();
+    let mut bytes = file(alloc, true, &[other, opening])?;
+    if packet {
+        for number in [1, 150_000, 2, 2] {
+            put_field(&mut bytes, true, number)?;
+        }
+        bytes.extend_from_slice(b"zz")?;
     }
+    put(&mut bytes, true, &data)?;
+    Ok(bytes)
 }
 
-// Two outputs have the same capture, of this length, the same line at this place of their reports, and lines with these starts.
+// The connections' output under a scenario's text, with a packet of two bytes among them or without it.
 fn check_beside(
-    rt: &impl Abort,
+    rt: &(impl Abort + AllocGlobal + Threads + Wait + Sync),
     row: &str,
-    (one, other): (&Output, &Output),
-    len: usize,
-    same_line: usize,
-    starts: &[(usize, &str, &str)],
+    (packet, scenario): (bool, &str),
+    wanted: Wanted<'_>,
 ) {
-    let (a, b) = (one.report.as_slice(), other.report.as_slice());
-    let mut good = one.capture.as_slice() == other.capture.as_slice()
-        && one.capture.as_slice().len() == len
-        && line_of(a, same_line) == line_of(b, same_line);
-    for (line, of_one, of_other) in starts {
-        good = good
-            && line_of(a, *line).starts_with(*of_one)
-            && line_of(b, *line).starts_with(*of_other);
-    }
-    assert!(rt; good, "{row}");
+    let bytes = capture(rt.alloc(), packet).expect(rt, "memory");
+    check_file(rt, row, (&bytes, scenario), wanted);
 }
 
-// The toxics that another connection meets change nothing of a connection. Both captures are alike, since the other connection has no
-// bytes.
+// A proxy for the second connection's server alone, and beside one for that of the first.
+const ONE_PROXY: &str =
+    "[{\"name\":\"web\",\"upstream\":\"10.0.0.2:80\",\"toxics\":[{\"type\":\"latency\",\"stream\":\"upstream\",\"attributes\":{\"latency\":100,\"jitter\":50}}]}]";
+
+const TWO_PROXIES: &str =
+    "[{\"name\":\"web\",\"upstream\":\"10.0.0.2:80\",\"toxics\":[{\"type\":\"latency\",\"stream\":\"upstream\",\"attributes\":{\"latency\":100,\"jitter\":50}}]},{\"name\":\"other\",\"upstream\":\"10.0.0.3:40001\",\"toxics\":[{\"type\":\"timeout\",\"stream\":\"upstream\",\"attributes\":{\"timeout\":0}}]}]";
+
+// What is written of the second connection: its opening, from the client, from the server and from the client, and its bytes, which leave
+// after 73 ms, as a calculation apart from the program has it.
+const SECOND: [(usize, &[u8]); 5] = [
+    (234, &[1, 0, 0, 0, 0xa0, 0x86, 1, 0]),
+    (234 + 42, &[10, 0, 0, 1, 10, 0, 0, 2]),
+    (304 + 42, &[10, 0, 0, 2, 10, 0, 0, 1]),
+    (374 + 42, &[10, 0, 0, 1, 10, 0, 0, 2]),
+    (444, &[1, 0, 0, 0, 0x68, 0x2a, 4, 0]),
+];
+
+// The toxics that another connection meets change nothing of a connection.
 #[test]
-fn other_connections_do_not_matter(rt: HostRuntime) -> Result<(), Fail> {
-    let bytes = file(rt.alloc(), true, &connections())?;
-    let late = toxic(rt.alloc(), "latency", "\"latency\":100,\"jitter\":50")?;
-    let held = toxic(rt.alloc(), "timeout", "\"timeout\":0")?;
-    let both = format!(in rt.alloc();
-        "[{{\"name\":\"web\",\"upstream\":\"10.0.0.2:80\",\"toxics\":[{late}]}},{{\"name\":\"other\",\"upstream\":\"10.0.0.3:40001\",\"toxics\":[{held}]}}]"
-    )?;
-    let alone = output_of(&rt, rt.alloc(), &bytes, &proxy_with(rt.alloc(), &late)?)?;
-    let beside = output_of(&rt, rt.alloc(), &bytes, &both)?;
-    let line = "1 10.0.0.1:40000 > 10.0.0.2:80 proxy 0 up 2/2/0 open max ";
-    let unmet = "0 10.0.0.1:40000 > 10.0.0.3:40001 proxy - up ";
-    let met = "0 10.0.0.1:40000 > 10.0.0.3:40001 proxy 1 up ";
-    let starts = [(2, unmet, met), (3, line, line)];
+fn other_connections_do_not_matter(rt: HostRuntime) {
     check_beside(
         &rt,
-        "another connection",
-        (&alone, &beside),
-        516,
-        3,
-        &starts,
+        "another connection without a proxy",
+        (false, ONE_PROXY),
+        (
+            516,
+            &SECOND,
+            "scenario 0 records 3 rest 0 segment 3 short 0 notipv4 0 badipv4 0 fragment 0 nottcp 0 cut 0 badtcp 0 sameends 0\nconnections 2 unopened 0\n0 10.0.0.1:40000 > 10.0.0.3:40001 proxy - up 0/0/0 open max 0 down 0/0/0 open max 0\n1 10.0.0.1:40000 > 10.0.0.2:80 proxy 0 up 2/2/0 open max 73000 down 0/0/0 open max 0\n",
+        ),
     );
-    Ok(())
+    check_beside(
+        &rt,
+        "another connection that is held",
+        (false, TWO_PROXIES),
+        (
+            516,
+            &SECOND,
+            "scenario 0 records 3 rest 0 segment 3 short 0 notipv4 0 badipv4 0 fragment 0 nottcp 0 cut 0 badtcp 0 sameends 0\nconnections 2 unopened 0\n0 10.0.0.1:40000 > 10.0.0.3:40001 proxy 1 up 0/0/0 open max 0 down 0/0/0 open max 0\n1 10.0.0.1:40000 > 10.0.0.2:80 proxy 0 up 2/2/0 open max 73000 down 0/0/0 open max 0\n",
+        ),
+    );
 }
 
 // A packet of no connection changes the report's first line, which counts it, and nothing else.
 #[test]
-fn a_packet_of_no_connection(rt: HostRuntime) -> Result<(), Fail> {
-    let [other, opening, data] = connections();
-    let bytes = file(rt.alloc(), true, &[other, opening, data])?;
-    let mut longer = file(rt.alloc(), true, &[other, opening])?;
-    put_field(&mut longer, true, 1)?;
-    put_field(&mut longer, true, 150_000)?;
-    put_field(&mut longer, true, 2)?;
-    put_field(&mut longer, true, 2)?;
-    longer.extend_from_slice(b"zz")?;
-    put(&mut longer, true, &data)?;
-    let late = toxic(rt.alloc(), "latency", "\"latency\":100,\"jitter\":50")?;
-    let scenario = proxy_with(rt.alloc(), &late)?;
-    let without = output_of(&rt, rt.alloc(), &bytes, &scenario)?;
-    let beside = output_of(&rt, rt.alloc(), &longer, &scenario)?;
-    let starts = [(
-        0,
-        "scenario 0 records 3 rest 0 segment 3 short 0 notipv4 0 ",
-        "scenario 0 records 4 rest 0 segment 3 short 1 notipv4 0 ",
-    )];
+fn a_packet_of_no_connection(rt: HostRuntime) {
     check_beside(
         &rt,
-        "the table's line",
-        (&without, &beside),
-        516,
-        1,
-        &starts,
+        "a packet of no connection",
+        (true, TWO_PROXIES),
+        (
+            516,
+            &SECOND,
+            "scenario 0 records 4 rest 0 segment 3 short 1 notipv4 0 badipv4 0 fragment 0 nottcp 0 cut 0 badtcp 0 sameends 0\nconnections 2 unopened 0\n0 10.0.0.1:40000 > 10.0.0.3:40001 proxy 1 up 0/0/0 open max 0 down 0/0/0 open max 0\n1 10.0.0.1:40000 > 10.0.0.2:80 proxy 0 up 2/2/0 open max 73000 down 0/0/0 open max 0\n",
+        ),
     );
-    check_beside(&rt, "connection 0", (&without, &beside), 516, 2, &starts);
-    check_beside(&rt, "connection 1", (&without, &beside), 516, 3, &starts);
-    Ok(())
+    check_beside(
+        &rt,
+        "the same under one proxy",
+        (true, ONE_PROXY),
+        (
+            516,
+            &SECOND,
+            "scenario 0 records 4 rest 0 segment 3 short 1 notipv4 0 badipv4 0 fragment 0 nottcp 0 cut 0 badtcp 0 sameends 0\nconnections 2 unopened 0\n0 10.0.0.1:40000 > 10.0.0.3:40001 proxy - up 0/0/0 open max 0 down 0/0/0 open max 0\n1 10.0.0.1:40000 > 10.0.0.2:80 proxy 0 up 2/2/0 open max 73000 down 0/0/0 open max 0\n",
+        ),
+    );
 }

@@ -1,39 +1,50 @@
 //! The limits of plans, and of the number of scenarios.
-use super::rehearsed::scenario_of;
+use super::rehearsed::scenarios_of;
+use std::alloc::{AllocGlobal, Global};
 use std::process::Abort;
-use std::test::Fail;
-use toxicap::{Output, Plan, RunFault, Through, rehearse};
-use worked_sessions::sessions::{file, session};
+use std::sync::Wait;
+use std::thread::Threads;
+use toxicap::{Plan, RunFault, Through, rehearse};
+use worked_sessions::sessions::PLAIN_SESSION;
 use worked_sessions::written_frames::session_written;
 
-// So many outputs, each with this capture.
-fn check_outputs(rt: &impl Abort, outputs: &[Output], many: usize, written: &[u8]) {
-    let mut good = outputs.len() == many;
-    for output in outputs {
-        good = good && output.capture.as_slice() == written;
+// How many outputs a capture has under so many scenarios, each with the plain session's capture.
+fn outputs_under<R: Threads + Wait + Sync>(
+    rt: &R,
+    alloc: Global,
+    bytes: &[u8],
+    many: usize,
+) -> Result<usize, RunFault> {
+    let texts = ["[]"; 257];
+    let scenarios = scenarios_of(alloc, &texts[..texts.len().min(many)])?;
+    let plan = Plan::new(16, 1).ok_or(RunFault::Memory)?;
+    let outputs = rehearse(rt, alloc, bytes, &scenarios, 7, plan, &Through)?;
+    let written = session_written(alloc)?;
+    for output in outputs.as_slice() {
+        if output.capture.as_slice() != written.as_slice() {
+            return Ok(usize::MAX);
+        }
     }
+    Ok(outputs.as_slice().len())
+}
+
+// A capture under so many scenarios has so many outputs, or is refused.
+fn check_scenarios(
+    rt: &(impl Abort + AllocGlobal + Threads + Wait + Sync),
+    bytes: &[u8],
+    many: usize,
+    wanted: Result<usize, RunFault>,
+) {
+    let good = outputs_under(rt, rt.alloc(), bytes, many) == wanted;
     assert!(rt; good, "{many} scenarios");
 }
 
 #[test]
-fn too_many_scenarios_and_none(rt: HostRuntime) -> Result<(), Fail> {
-    let plan = Plan::new(16, 1).ok_or("a plan")?;
-    let mut many = Vec::new(rt.alloc());
-    for _ in 0..257 {
-        many.push(scenario_of(rt.alloc(), "[]")?)?;
-    }
-    let most = &many[..many.len().min(256)];
-    let refused = rehearse(&rt, rt.alloc(), &[], &many, 0, plan, &Through);
-    assert!(rt; matches!(refused, Err(RunFault::TooManyScenarios)));
-    let refused = rehearse(&rt, rt.alloc(), &[], most, 0, plan, &Through);
-    assert!(rt; matches!(refused, Err(RunFault::ShortHeader)));
-    let bytes = file(rt.alloc(), true, &session())?;
-    let written = session_written(rt.alloc())?;
-    let none = rehearse(&rt, rt.alloc(), &bytes, &[], 7, plan, &Through)?;
-    check_outputs(&rt, none.as_slice(), 0, &written);
-    let all = rehearse(&rt, rt.alloc(), &bytes, most, 7, plan, &Through)?;
-    check_outputs(&rt, all.as_slice(), 256, &written);
-    Ok(())
+fn too_many_scenarios_and_none(rt: HostRuntime) {
+    check_scenarios(&rt, b"", 257, Err(RunFault::TooManyScenarios));
+    check_scenarios(&rt, b"", 256, Err(RunFault::ShortHeader));
+    check_scenarios(&rt, &PLAIN_SESSION, 256, Ok(256));
+    check_scenarios(&rt, &PLAIN_SESSION, 0, Ok(0));
 }
 
 // Whether there is a plan of so many workers and ranges of so many records, and tells them.

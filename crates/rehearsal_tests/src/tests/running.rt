@@ -4,11 +4,10 @@ ghost use Rattle.std.specs.Prelude.{◌<◌, ◌-◌, ◌^◌};
 use super::readers::Pieces;
 use super::writers::Sips;
 use scenarios::Hosts;
-use std::alloc::AllocGlobal;
+use std::alloc::{AllocGlobal, Global};
 use std::io::{Read, Write};
 use std::process::Abort;
 use std::sync::Wait;
-use std::test::Fail;
 use std::thread::Threads;
 use toxicap::{Counted, Options, Outputs, Plan, RunFault, answers, print_reports, undump};
 
@@ -70,15 +69,14 @@ fn check_header(
     rt: &(impl Abort + AllocGlobal + Threads + Wait + Sync),
     dump: &str,
     wanted: (Result<(), RunFault>, &str),
-) -> Result<(), Fail> {
-    let bytes = undump(rt.alloc(), dump.as_bytes())?;
+) {
+    let bytes = undump(rt.alloc(), dump.as_bytes()).expect(rt, "a dump");
     check_run(rt, dump, dump.as_bytes(), wanted);
     check_run(rt, dump, &bytes, wanted);
-    Ok(())
 }
 
 #[test]
-fn headers(rt: HostRuntime) -> Result<(), Fail> {
+fn headers(rt: HostRuntime) {
     let little = "d4c3b2a1 02000400 00000000 00000000 ffff0000 01000000\n";
     let big = "a1b2c3d4 00020004 00000000 00000000 0000ffff 00000001";
     let short = "d4c3b2a1 02000400 00000000 00000000 ffff0000 010000";
@@ -87,21 +85,21 @@ fn headers(rt: HostRuntime) -> Result<(), Fail> {
     let little_nanos = "4d3cb2a1 02000400 00000000 00000000 ffff0000 01000000";
     let version = "d4c3b2a1 02000300 00000000 00000000 ffff0000 01000000";
     let link = "d4c3b2a1 02000400 00000000 00000000 ffff0000 71000000";
-    check_header(&rt, little, (Ok(()), EMPTY_REPORT))?;
-    check_header(&rt, big, (Ok(()), EMPTY_REPORT))?;
-    check_header(&rt, short, (Err(RunFault::ShortHeader), ""))?;
-    check_header(&rt, unknown, (Err(RunFault::BadMagic), ""))?;
-    check_header(&rt, nanos, (Err(RunFault::BadMagic), ""))?;
-    check_header(&rt, little_nanos, (Err(RunFault::BadMagic), ""))?;
-    check_header(&rt, version, (Err(RunFault::BadVersion), ""))?;
+    check_header(&rt, little, (Ok(()), EMPTY_REPORT));
+    check_header(&rt, big, (Ok(()), EMPTY_REPORT));
+    check_header(&rt, short, (Err(RunFault::ShortHeader), ""));
+    check_header(&rt, unknown, (Err(RunFault::BadMagic), ""));
+    check_header(&rt, nanos, (Err(RunFault::BadMagic), ""));
+    check_header(&rt, little_nanos, (Err(RunFault::BadMagic), ""));
+    check_header(&rt, version, (Err(RunFault::BadVersion), ""));
     check_header(&rt, link, (Err(RunFault::BadLink), ""))
 }
 
 // An unknown magic number whose first byte is the digit 4 makes a broken dump.
 #[test]
-fn starts_that_read_as_a_dump(rt: HostRuntime) -> Result<(), Fail> {
+fn starts_that_read_as_a_dump(rt: HostRuntime) {
+    let digit = b"4\xcd\xb2\xa1\x02\x00\x04\x00";
     let dump = "34cdb2a1 02000400 00000000 00000000 ffff0000 01000000";
-    let bytes = undump(rt.alloc(), dump.as_bytes())?;
     check_run(
         &rt,
         "its dump",
@@ -111,7 +109,7 @@ fn starts_that_read_as_a_dump(rt: HostRuntime) -> Result<(), Fail> {
     check_run(
         &rt,
         "digit 4",
-        &bytes,
+        digit,
         (Err(RunFault::BadDump { at: 1 }), ""),
     );
     check_run(&rt, "nothing", b"", (Err(RunFault::ShortHeader), ""));
@@ -127,34 +125,36 @@ fn starts_that_read_as_a_dump(rt: HostRuntime) -> Result<(), Fail> {
         STORED_RUN.as_bytes(),
         (Ok(()), STORED_REPORT),
     );
-    Ok(())
 }
 
 // A header and one record header of this length field, with so many zeros after it.
+fn record_of(alloc: Global, len: &str, zeros: usize) -> Result<Vec<u8>, RunFault> {
+    let dump = format!(in alloc;
+        "d4c3b2a1 02000400 00000000 00000000 ffff0000 01000000 00000000 00000000 {len} {len}"
+    )?;
+    let mut bytes = undump(alloc, dump.as_bytes())?;
+    bytes.extend_from_slice(&vec![in alloc; 0u8; zeros]?)?;
+    Ok(bytes)
+}
+
 fn check_record(
     rt: &(impl Abort + AllocGlobal + Threads + Wait + Sync),
     (len, zeros): (&str, usize),
     wanted: (Result<(), RunFault>, &str),
-) -> Result<(), Fail> {
-    let dump = format!(in rt.alloc();
-        "d4c3b2a1 02000400 00000000 00000000 ffff0000 01000000 00000000 00000000 {len} {len}"
-    )?;
-    let mut bytes = undump(rt.alloc(), dump.as_bytes())?;
-    let packet = vec![in rt.alloc(); 0u8; zeros]?;
-    bytes.extend_from_slice(&packet)?;
+) {
+    let bytes = record_of(rt.alloc(), len, zeros).expect(rt, "a record");
     check_run(rt, len, &bytes, wanted);
-    Ok(())
 }
 
 #[test]
-fn longest_record(rt: HostRuntime) -> Result<(), Fail> {
+fn longest_record(rt: HostRuntime) {
     let announced =
         "scenario 0 records 0 rest 16 segment 0 short 0 notipv4 0 badipv4 0 fragment 0 nottcp 0 cut 0 badtcp 0 sameends 0\nconnections 0 unopened 0\n";
     let whole =
         "scenario 0 records 1 rest 0 segment 0 short 0 notipv4 1 badipv4 0 fragment 0 nottcp 0 cut 0 badtcp 0 sameends 0\nconnections 0 unopened 0\n";
     let too_long = RunFault::RecordTooLong { at: 0 };
-    check_record(&rt, ("00000400", 0), (Ok(()), announced))?;
-    check_record(&rt, ("01000400", 0), (Err(too_long), ""))?;
+    check_record(&rt, ("00000400", 0), (Ok(()), announced));
+    check_record(&rt, ("01000400", 0), (Err(too_long), ""));
     check_record(&rt, ("00000400", 262_144), (Ok(()), whole))
 }
 

@@ -1,32 +1,27 @@
 //! Sessions through toxics, with values from outside.
-use super::rehearsed::{check_pieces, check_through, toxic};
+use super::rehearsed::{check_pieces, check_through};
 use std::alloc::AllocGlobal;
 use std::process::Abort;
 use std::sync::Wait;
-use std::test::Fail;
 use std::thread::Threads;
 use worked_sessions::sessions::{
     ACK, CLIENT, Host, PSH, RST, RecordedSegment, SERVER, SYN, segment, session,
 };
 
-// The plain session through a toxic on upstream: where its output has this length and these parts, its report this line's end.
+// The plain session through a toxic on upstream gives such an output.
 fn check_session(
     rt: &(impl Abort + AllocGlobal + Threads + Wait + Sync),
-    (kind, attributes): (&str, &str),
+    toxic: (&str, &str),
     len: usize,
     parts: &[(usize, &[u8])],
-    line: &str,
-) -> Result<(), Fail> {
-    let toxics = toxic(rt.alloc(), kind, attributes)?;
-    let end = format!(in rt.alloc();
-        "connections 1 unopened 0\n0 10.0.0.1:40000 > 10.0.0.2:80 proxy 0 {line}\n"
-    )?;
-    check_through(rt, &toxics, &session(), &toxics, (len, parts, &end))
+    end: &str,
+) {
+    check_through(rt, toxic.1, &session(), toxic, (len, parts, end));
 }
 
 // The server's FIN comes before the client's bytes, which acknowledge it then: it acknowledges 1001, they and the client's FIN 5002.
 #[test]
-fn the_plain_session_under_latency(rt: HostRuntime) -> Result<(), Fail> {
+fn the_plain_session_under_latency(rt: HostRuntime) {
     check_session(
         &rt,
         ("latency", "\"latency\":100,\"jitter\":0"),
@@ -36,77 +31,77 @@ fn the_plain_session_under_latency(rt: HostRuntime) -> Result<(), Fail> {
             (304 + 58, &[0, 0, 0x13, 0x8a]),
             (379 + 58, &[0, 0, 0x13, 0x8a]),
         ],
-        "up 5/5/0 fin+101000 max 100000 down 0/0/0 fin+3000 max 0",
+        "connections 1 unopened 0\n0 10.0.0.1:40000 > 10.0.0.2:80 proxy 0 up 5/5/0 fin+101000 max 100000 down 0/0/0 fin+3000 max 0\n",
     )
 }
 
 #[test]
-fn the_plain_session_under_a_limit(rt: HostRuntime) -> Result<(), Fail> {
+fn the_plain_session_under_a_limit(rt: HostRuntime) {
     check_session(
         &rt,
         ("limit_data", "\"bytes\":5"),
         449,
         &[],
-        "up 5/5/0 fin+2000 max 0 down 0/0/0 fin+3000 max 0",
-    )?;
+        "connections 1 unopened 0\n0 10.0.0.1:40000 > 10.0.0.2:80 proxy 0 up 5/5/0 fin+2000 max 0 down 0/0/0 fin+3000 max 0\n",
+    );
     check_session(
         &rt,
         ("limit_data", "\"bytes\":4"),
         448,
         &[],
-        "up 4/5/0 close+1000 max 0 down 0/0/0 close+1000 max 0",
-    )?;
+        "connections 1 unopened 0\n0 10.0.0.1:40000 > 10.0.0.2:80 proxy 0 up 4/5/0 close+1000 max 0 down 0/0/0 close+1000 max 0\n",
+    );
     check_session(
         &rt,
         ("limit_data", "\"bytes\":0"),
         374,
         &[],
-        "up 0/5/0 close+1000 max 0 down 0/0/0 close+1000 max 0",
+        "connections 1 unopened 0\n0 10.0.0.1:40000 > 10.0.0.2:80 proxy 0 up 0/5/0 close+1000 max 0 down 0/0/0 close+1000 max 0\n",
     )
 }
 
 #[test]
-fn the_plain_session_under_other_endings(rt: HostRuntime) -> Result<(), Fail> {
+fn the_plain_session_under_other_endings(rt: HostRuntime) {
     check_session(
         &rt,
         ("timeout", "\"timeout\":0"),
         304,
         &[],
-        "up 0/5/0 open max 0 down 0/0/0 fin+3000 max 0",
-    )?;
+        "connections 1 unopened 0\n0 10.0.0.1:40000 > 10.0.0.2:80 proxy 0 up 0/5/0 open max 0 down 0/0/0 fin+3000 max 0\n",
+    );
     check_session(
         &rt,
         ("timeout", "\"timeout\":1"),
         374,
         &[],
-        "up 0/5/0 close+1000 max 0 down 0/0/0 close+1000 max 0",
-    )?;
+        "connections 1 unopened 0\n0 10.0.0.1:40000 > 10.0.0.2:80 proxy 0 up 0/5/0 close+1000 max 0 down 0/0/0 close+1000 max 0\n",
+    );
     check_session(
         &rt,
         ("reset_peer", "\"timeout\":0"),
         374,
         &[],
-        "up 0/5/0 reset+0 max 0 down 0/0/0 reset+0 max 0",
-    )?;
+        "connections 1 unopened 0\n0 10.0.0.1:40000 > 10.0.0.2:80 proxy 0 up 0/5/0 reset+0 max 0 down 0/0/0 reset+0 max 0\n",
+    );
     check_session(
         &rt,
         ("slow_close", "\"delay\":2"),
         449,
         &[],
-        "up 5/5/0 fin+4000 max 0 down 0/0/0 fin+3000 max 0",
+        "connections 1 unopened 0\n0 10.0.0.1:40000 > 10.0.0.2:80 proxy 0 up 5/5/0 fin+4000 max 0 down 0/0/0 fin+3000 max 0\n",
     )
 }
 
 // A reset cuts what is still under way.
 #[test]
-fn a_reset_under_latency(rt: HostRuntime) -> Result<(), Fail> {
+fn a_reset_under_latency(rt: HostRuntime) {
     let [first, answer, third, data, ..] = session();
     let reset = segment((1, 2000), SERVER, CLIENT, RST, (5001, 0), b"");
     check_through(
         &rt,
         "a reset under latency",
         &[first, answer, third, data, reset],
-        &toxic(rt.alloc(), "latency", "\"latency\":100")?,
+        ("latency", "\"latency\":100"),
         (
             374,
             &[],
@@ -126,7 +121,7 @@ fn data(micros: u32, seq: u32, payload: &[u8]) -> RecordedSegment<'_> {
 }
 
 #[test]
-fn pieces_of_bandwidth(rt: HostRuntime) -> Result<(), Fail> {
+fn pieces_of_bandwidth(rt: HostRuntime) {
     let long = [b'x'; 250];
     check_pieces(
         &rt,
@@ -136,9 +131,9 @@ fn pieces_of_bandwidth(rt: HostRuntime) -> Result<(), Fail> {
             data(1000, 1001, &long),
             data(2000, 1251, b"0123456789"),
         ],
-        &toxic(rt.alloc(), "bandwidth", "\"rate\":1")?,
+        ("", "bandwidth", "\"rate\":1"),
         &[(101_000, 100), (201_000, 100), (251_000, 50), (261_000, 10)],
-    )?;
+    );
     check_pieces(
         &rt,
         "no rounding for each chunk",
@@ -148,18 +143,18 @@ fn pieces_of_bandwidth(rt: HostRuntime) -> Result<(), Fail> {
             data(1001, 1002, b"b"),
             data(1002, 1003, b"c"),
         ],
-        &toxic(rt.alloc(), "bandwidth", "\"rate\":3")?,
+        ("", "bandwidth", "\"rate\":3"),
         &[(1334, 1), (1667, 1), (2000, 1)],
     )
 }
 
 #[test]
-fn slices_one_after_another(rt: HostRuntime) -> Result<(), Fail> {
+fn slices_one_after_another(rt: HostRuntime) {
     check_pieces(
         &rt,
         "slices of one byte",
         &[opening(), data(1000, 1001, b"ab"), data(1005, 1003, b"c")],
-        &toxic(rt.alloc(), "slicer", "\"average_size\":1,\"delay\":10")?,
+        ("", "slicer", "\"average_size\":1,\"delay\":10"),
         &[(1000, 1), (1010, 1), (1020, 1)],
     )
 }
@@ -180,27 +175,15 @@ const IDLE: &str =
 
 // The seventh toxic of a direction, on connection 3.
 #[test]
-fn drawn_delays_and_sizes(rt: HostRuntime) -> Result<(), Fail> {
-    let late = toxic(rt.alloc(), "latency", "\"latency\":100,\"jitter\":50")?;
+fn drawn_delays_and_sizes(rt: HostRuntime) {
+    let (a, b) = (data(1000, 1001, b"a"), data(5000, 1002, b"b"));
     check_pieces(
         &rt,
         "drawn delays",
-        &[
-            other(1),
-            other(2),
-            other(3),
-            opening(),
-            data(1000, 1001, b"a"),
-            data(5000, 1002, b"b"),
-        ],
-        &format!(in rt.alloc(); "{IDLE}{late}")?,
+        &[other(1), other(2), other(3), opening(), a, b],
+        (IDLE, "latency", "\"latency\":100,\"jitter\":50"),
         &[(101_000, 1), (101_000, 1)],
-    )?;
-    let sliced = toxic(
-        rt.alloc(),
-        "slicer",
-        "\"average_size\":3,\"size_variation\":1,\"delay\":10",
-    )?;
+    );
     check_pieces(
         &rt,
         "drawn sizes",
@@ -211,7 +194,11 @@ fn drawn_delays_and_sizes(rt: HostRuntime) -> Result<(), Fail> {
             opening(),
             data(1000, 1001, b"hello"),
         ],
-        &format!(in rt.alloc(); "{IDLE}{sliced}")?,
+        (
+            IDLE,
+            "slicer",
+            "\"average_size\":3,\"size_variation\":1,\"delay\":10",
+        ),
         &[(1000, 2), (1010, 3)],
-    )
+    );
 }

@@ -1,23 +1,21 @@
 //! How the program refuses: the order of refusals, faults of the command line, help, and words that cannot be had.
-use super::commands::check;
+use super::commands::{check, make_file, remove_file};
 use super::readers::Pieces;
 use super::running::{STORED_REPORT, STORED_RUN};
 use super::writers::{RefusesOnce, Sips};
-use std::alloc::AllocGlobal;
-use std::fs;
+use std::alloc::{AllocGlobal, Global};
 use std::io::{Error, ErrorKind};
 use std::process::Abort;
 use std::rt::Files;
 use std::sync::Wait;
-use std::test::Fail;
 use std::thread::Threads;
 use toxicap::{Counted, command, refuse_words};
 
 // What is refused first: hosts, files of scenarios, the capture's bytes, its dump, scenarios, the capture, and then the folder.
 #[test]
-fn the_order_of_refusals(rt: HostRuntime) -> Result<(), Fail> {
-    fs::write(&rt, "broken.json", "[")?;
-    fs::write(&rt, "broken.txt", "d4c")?;
+fn the_order_of_refusals(rt: HostRuntime) {
+    make_file(&rt, "broken.json", b"[");
+    make_file(&rt, "broken.txt", b"d4c");
     let host = [
         "--capture",
         "none",
@@ -71,9 +69,8 @@ fn the_order_of_refusals(rt: HostRuntime) -> Result<(), Fail> {
         stored,
         (1, "", "refused 60 ShelfFailed after 0\n"),
     );
-    fs::remove_file(&rt, "broken.json")?;
-    fs::remove_file(&rt, "broken.txt")?;
-    Ok(())
+    remove_file(&rt, "broken.json");
+    remove_file(&rt, "broken.txt");
 }
 
 #[test]
@@ -86,12 +83,21 @@ fn statuses(rt: HostRuntime) {
     check(&rt, &["-V"], b"unread", (0, "toxicap 1.0.0\n", ""));
 }
 
-// The program under these words, with a reader and writers that fail: its status, what it wrote, what it told and how often that failed.
+// A writer that takes so many bytes a call, and so many calls.
+fn sips(alloc: Global, (most, calls): (usize, u32)) -> Sips {
+    Sips {
+        taken: Vec::new(alloc),
+        most,
+        calls,
+    }
+}
+
+// The program under these words, with a reader that fails, and with writers that take so many bytes a call and so many calls: its status, how
+// much it wrote, what it told, and how often that failed.
 fn check_failing(
     rt: &(impl Abort + AllocGlobal + Files + Threads + Wait + Sync),
     words: &[&str],
-    mut output: Counted<Sips>,
-    mut faults: Counted<Sips>,
+    (output, faults): ((usize, u32), (usize, u32)),
     (status, written, told, failed): (u8, usize, &str, u64),
 ) {
     let mut input = Counted::new(Pieces {
@@ -99,6 +105,8 @@ fn check_failing(
         most: 1,
         calls: 1,
     });
+    let mut output = Counted::new(sips(rt.alloc(), output));
+    let mut faults = Counted::new(sips(rt.alloc(), faults));
     let ended = command(rt, rt.alloc(), words, &mut input, &mut output, &mut faults);
     let good = ended == status
         && faults.failed() == failed
@@ -107,29 +115,14 @@ fn check_failing(
     assert!(rt; good, "{words:?}");
 }
 
-// A writer that takes so many bytes a call, and so many calls.
-fn sips(rt: &impl AllocGlobal, most: usize, calls: u32) -> Counted<Sips> {
-    Counted::new(Sips {
-        taken: Vec::new(rt.alloc()),
-        most,
-        calls,
-    })
-}
-
 // A write that fails on standard error ends the line there, and leaves the status as it is; help that cannot be written is refused.
 #[test]
 fn texts_that_cannot_be_written(rt: HostRuntime) {
-    let cut = (2, 0, "error: inv", 1);
+    let once = (10, 1);
+    check_failing(&rt, &[], (once, once), (1, 0, "refused 61", 1));
+    check_failing(&rt, &["--cut=0"], (once, once), (2, 0, "error: inv", 1));
     let lost = (1, 100, "refused 62 WriteFailed\n", 0);
-    check_failing(
-        &rt,
-        &[],
-        sips(&rt, 1, 1),
-        sips(&rt, 10, 1),
-        (1, 0, "refused 61", 1),
-    );
-    check_failing(&rt, &["--cut=0"], sips(&rt, 1, 1), sips(&rt, 10, 1), cut);
-    check_failing(&rt, &["--help"], sips(&rt, 100, 1), sips(&rt, 100, 9), lost);
+    check_failing(&rt, &["--help"], ((100, 1), (100, 9)), lost);
 }
 
 // A report whose first write takes nothing is refused, and no write is tried again.

@@ -1,17 +1,17 @@
 //! Tests over the public calls of all crates, with values from outside.
+mod answering;
+mod captures;
 mod commands;
+mod connections;
 mod dumps;
-mod edges;
 mod isolation;
-mod large_captures;
 mod limits;
-mod pieces;
 mod plans;
-mod proxies;
-mod rehearsals;
-mod runs;
+mod readers;
+mod rehearsed;
+mod running;
 mod shelves;
-mod statuses;
 mod streams;
 mod toxics;
 mod usage;
+mod writers;

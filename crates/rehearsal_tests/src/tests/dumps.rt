@@ -1,78 +1,99 @@
 //! Dumps, and the lines of faults.
+use std::alloc::AllocGlobal;
+use std::process::Abort;
 use toxicap::{RunFault, fault_line, is_dump, undump};
+
+// A dump's bytes, or the place of its fault.
+fn check_dump(rt: &(impl Abort + AllocGlobal), text: &str, wanted: Result<&[u8], usize>) {
+    let good = match (undump(rt.alloc(), text.as_bytes()), wanted) {
+        (Ok(bytes), Ok(wanted)) => bytes.as_slice() == wanted,
+        (Err(RunFault::BadDump { at }), Err(place)) => at == place,
+        _ => false,
+    };
+    assert!(rt; good, "{text:?}");
+}
 
 #[test]
 fn dumps(rt: HostRuntime) {
-    let bytes: &[u8] = &[0x1a, 0xc3];
-    let whole: [&[u8]; 4] = [b"1ac3", b"1A\nc3", b"1 a\tC\r\n3 ", b"\n\n 1aC3"];
-    for text in whole {
-        assert_eq!(rt;
-            undump(rt.alloc(), text).expect(&rt, "a dump").as_slice(),
-            bytes
-        );
-    }
-    assert!(rt;
-        undump(rt.alloc(), b" \t\r\n")
-            .expect(&rt, "a dump of nothing")
-            .is_empty()
-    );
+    check_dump(&rt, "D4\nc3", Ok(&[0xd4, 0xc3]));
+    check_dump(&rt, "1 a\tC\r\n3 ", Ok(&[0x1a, 0xc3]));
+    check_dump(&rt, "\n\n 1aC3", Ok(&[0x1a, 0xc3]));
+    check_dump(&rt, " \t\r\n", Ok(&[]));
+    check_dump(&rt, "d4c", Err(3));
+    check_dump(&rt, "d4 zz", Err(3));
+    check_dump(&rt, "d4 c\n", Err(5));
+    check_dump(&rt, "d4cz", Err(3));
+    check_dump(&rt, "d4\x0bc3", Err(2));
+    check_dump(&rt, "0x", Err(1));
+}
 
-    let broken: [(&[u8], usize); 6] = [
-        (b"d4c", 3),
-        (b"d4 zz", 3),
-        (b"d4 c\n", 5),
-        (b"d4cz", 3),
-        (b"d4\x0bc3", 2),
-        (b"0x", 1),
-    ];
-    for (text, place) in broken {
-        assert_eq!(rt;
-            undump(rt.alloc(), text),
-            Err(RunFault::BadDump { at: place })
-        );
-    }
+// Whether a text that begins so is read as a dump.
+fn check_start(rt: &impl Abort, text: &[u8], wanted: bool) {
+    let good = is_dump(text) == wanted;
+    assert!(rt; good, "{text:?}");
 }
 
 #[test]
 fn first_byte_of_a_dump(rt: HostRuntime) {
-    let dumps: [&[u8]; 4] = [b"0", b"9x", b"a1b2cd34", b"F "];
-    for text in dumps {
-        assert!(rt; is_dump(text));
-    }
-    let others: [&[u8]; 6] = [b"", b" d4", b"g", b"/", b"\xd4\xc3", b"\xa1\xb2"];
-    for text in others {
-        assert!(rt; !is_dump(text));
-    }
+    check_start(&rt, b"0", true);
+    check_start(&rt, b"9x", true);
+    check_start(&rt, b"a1b2cd34", true);
+    check_start(&rt, b"F ", true);
+    check_start(&rt, b"", false);
+    check_start(&rt, b" d4", false);
+    check_start(&rt, b"g", false);
+    check_start(&rt, b"/", false);
+    check_start(&rt, b"\xd4\xc3", false);
+    check_start(&rt, b"\xa1\xb2", false);
+}
+
+// What is told of a fault.
+fn check_line(rt: &(impl Abort + AllocGlobal), fault: RunFault, wanted: &str) {
+    let good = match fault_line(rt.alloc(), &fault) {
+        Ok(line) => line.as_str() == wanted,
+        Err(_) => false,
+    };
+    assert!(rt; good, "{wanted}");
 }
 
 #[test]
 fn lines_of_faults(rt: HostRuntime) {
-    let lines = [
-        (RunFault::ShortHeader, "refused 1 ShortHeader"),
-        (RunFault::BadMagic, "refused 2 BadMagic"),
-        (RunFault::BadVersion, "refused 3 BadVersion"),
-        (RunFault::BadLink, "refused 4 BadLink"),
-        (
-            RunFault::RecordTooLong { at: 0 },
-            "refused 5 RecordTooLong at 0",
-        ),
-        (
-            RunFault::RecordTooLong { at: 4294967295 },
-            "refused 5 RecordTooLong at 4294967295",
-        ),
-        (RunFault::CaptureTooLong, "refused 6 CaptureTooLong"),
-        (RunFault::TooManyScenarios, "refused 22 TooManyScenarios"),
-        (RunFault::Memory, "refused 40 Memory"),
-        (RunFault::BadDump { at: 30 }, "refused 55 BadDump at 30"),
-        (RunFault::ReadFailed, "refused 61 ReadFailed"),
-        (RunFault::WriteFailed, "refused 62 WriteFailed"),
-    ];
-    for (fault, line) in lines {
-        assert_eq!(rt;
-            fault_line(rt.alloc(), &fault)
-                .expect(&rt, "memory")
-                .as_str(),
-            line
-        );
-    }
+    check_line(&rt, RunFault::ShortHeader, "refused 1 ShortHeader");
+    check_line(&rt, RunFault::BadMagic, "refused 2 BadMagic");
+    check_line(&rt, RunFault::BadVersion, "refused 3 BadVersion");
+    check_line(&rt, RunFault::BadLink, "refused 4 BadLink");
+    check_line(
+        &rt,
+        RunFault::RecordTooLong { at: 0 },
+        "refused 5 RecordTooLong at 0",
+    );
+    check_line(
+        &rt,
+        RunFault::RecordTooLong { at: 4294967295 },
+        "refused 5 RecordTooLong at 4294967295",
+    );
+    check_line(&rt, RunFault::CaptureTooLong, "refused 6 CaptureTooLong");
+    check_line(
+        &rt,
+        RunFault::TooManyScenarios,
+        "refused 22 TooManyScenarios",
+    );
+    check_line(
+        &rt,
+        RunFault::BadHost { at: 1 },
+        "refused 23 BadHost host 1",
+    );
+    check_line(&rt, RunFault::Memory, "refused 40 Memory");
+    check_line(
+        &rt,
+        RunFault::BadDump { at: 30 },
+        "refused 55 BadDump at 30",
+    );
+    check_line(
+        &rt,
+        RunFault::ShelfFailed { after: 3 },
+        "refused 60 ShelfFailed after 3",
+    );
+    check_line(&rt, RunFault::ReadFailed, "refused 61 ReadFailed");
+    check_line(&rt, RunFault::WriteFailed, "refused 62 WriteFailed");
 }

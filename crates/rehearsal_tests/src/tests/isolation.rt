@@ -1,6 +1,9 @@
 //! One connection beside others: what they meet is nothing to it.
-use super::toxics::{file_of, output_of, toxic};
-use std::test::Fail;
+use super::rehearsed::{Wanted, check_file};
+use std::alloc::{AllocError, AllocGlobal, Global};
+use std::process::Abort;
+use std::sync::Wait;
+use std::thread::Threads;
 use worked_sessions::sessions::{
     ACK, CLIENT, PSH, RecordedSegment, SECOND_CLIENT, SERVER, SYN, file, put, put_field, segment,
 };
@@ -14,86 +17,94 @@ fn connections() -> [RecordedSegment<'static>; 3] {
     ]
 }
 
-// The last line of a report, with the line feed before it.
-fn last_line(report: &[u8]) -> &[u8] {
-    match report
-        .windows(3)
-        .position(|text| text == b"\n1 ".as_slice())
-    {
-        Some(at) => &report[at..],
-        None => &[],
+// Their file, with a packet of two bytes among them or without it.
+fn capture(alloc: Global, packet: bool) -> Result<Vec<u8>, AllocError> {
+    let [other, opening, data] = connections();
+    let mut bytes = file(alloc, true, &[other, opening])?;
+    if packet {
+        for number in [1, 150_000, 2, 2] {
+            put_field(&mut bytes, true, number)?;
+        }
+        bytes.extend_from_slice(b"zz")?;
     }
+    put(&mut bytes, true, &data)?;
+    Ok(bytes)
 }
+
+// The connections' output under a scenario's text, with a packet of two bytes among them or without it.
+fn check_beside(
+    rt: &(impl Abort + AllocGlobal + Threads + Wait + Sync),
+    row: &str,
+    (packet, scenario): (bool, &str),
+    wanted: Wanted<'_>,
+) {
+    let bytes = capture(rt.alloc(), packet).expect(rt, "memory");
+    check_file(rt, row, (&bytes, scenario), wanted);
+}
+
+// A proxy for the second connection's server alone, and beside one for that of the first.
+const ONE_PROXY: &str =
+    "[{\"name\":\"web\",\"upstream\":\"10.0.0.2:80\",\"toxics\":[{\"type\":\"latency\",\"stream\":\"upstream\",\"attributes\":{\"latency\":100,\"jitter\":50}}]}]";
+
+const TWO_PROXIES: &str =
+    "[{\"name\":\"web\",\"upstream\":\"10.0.0.2:80\",\"toxics\":[{\"type\":\"latency\",\"stream\":\"upstream\",\"attributes\":{\"latency\":100,\"jitter\":50}}]},{\"name\":\"other\",\"upstream\":\"10.0.0.3:40001\",\"toxics\":[{\"type\":\"timeout\",\"stream\":\"upstream\",\"attributes\":{\"timeout\":0}}]}]";
+
+// What is written of the second connection: its opening, from the client, from the server and from the client, and its bytes, which leave
+// after 73 ms, as a calculation apart from the program has it.
+const SECOND: [(usize, &[u8]); 5] = [
+    (234, &[1, 0, 0, 0, 0xa0, 0x86, 1, 0]),
+    (234 + 42, &[10, 0, 0, 1, 10, 0, 0, 2]),
+    (304 + 42, &[10, 0, 0, 2, 10, 0, 0, 1]),
+    (374 + 42, &[10, 0, 0, 1, 10, 0, 0, 2]),
+    (444, &[1, 0, 0, 0, 0x68, 0x2a, 4, 0]),
+];
 
 // The toxics that another connection meets change nothing of a connection.
 #[test]
-fn other_connections_do_not_matter(rt: HostRuntime) -> Result<(), Fail> {
-    let alloc = rt.alloc();
-    let bytes = file(alloc, true, &connections())?;
-    let late = toxic(alloc, "latency", "\"latency\":100,\"jitter\":50")?;
-    let first = file_of(alloc, &late)?;
-    let held = toxic(alloc, "timeout", "\"timeout\":0")?;
-    let second = format!(in alloc;
-        "[{{\"name\":\"web\",\"upstream\":\"10.0.0.2:80\",\"toxics\":[{late}]}},{{\"name\":\"other\",\"upstream\":\"10.0.0.3:40001\",\"toxics\":[{held}]}}]"
-    )?;
-    let a = output_of(&rt, alloc, &bytes, &first)?;
-    let b = output_of(&rt, alloc, &bytes, &second)?;
-    assert_eq!(rt; a.capture.as_slice().len(), 516);
-    // Both connections are written alike, since the other one has no bytes: its segments stand first, and those of connection 1 behind.
-    assert_eq!(rt; a.capture.as_slice(), b.capture.as_slice());
-    let line = last_line(a.report.as_slice());
-    assert!(rt; line.starts_with(b"\n1 10.0.0.1:40000 > 10.0.0.2:80 proxy 0 up 2/2/0 open max "));
-    assert_eq!(rt; line, last_line(b.report.as_slice()));
-    assert!(rt;
-        contains(
-            a.report.as_slice(),
-            b"\n0 10.0.0.1:40000 > 10.0.0.3:40001 proxy - up "
-        )
+fn other_connections_do_not_matter(rt: HostRuntime) {
+    check_beside(
+        &rt,
+        "another connection without a proxy",
+        (false, ONE_PROXY),
+        (
+            516,
+            &SECOND,
+            "scenario 0 records 3 rest 0 segment 3 short 0 notipv4 0 badipv4 0 fragment 0 nottcp 0 cut 0 badtcp 0 sameends 0\nconnections 2 unopened 0\n0 10.0.0.1:40000 > 10.0.0.3:40001 proxy - up 0/0/0 open max 0 down 0/0/0 open max 0\n1 10.0.0.1:40000 > 10.0.0.2:80 proxy 0 up 2/2/0 open max 73000 down 0/0/0 open max 0\n",
+        ),
     );
-    assert!(rt;
-        contains(
-            b.report.as_slice(),
-            b"\n0 10.0.0.1:40000 > 10.0.0.3:40001 proxy 1 up "
-        )
+    check_beside(
+        &rt,
+        "another connection that is held",
+        (false, TWO_PROXIES),
+        (
+            516,
+            &SECOND,
+            "scenario 0 records 3 rest 0 segment 3 short 0 notipv4 0 badipv4 0 fragment 0 nottcp 0 cut 0 badtcp 0 sameends 0\nconnections 2 unopened 0\n0 10.0.0.1:40000 > 10.0.0.3:40001 proxy 1 up 0/0/0 open max 0 down 0/0/0 open max 0\n1 10.0.0.1:40000 > 10.0.0.2:80 proxy 0 up 2/2/0 open max 73000 down 0/0/0 open max 0\n",
+        ),
     );
-    Ok(())
-}
-
-// Whether a text has a part.
-fn contains(text: &[u8], part: &[u8]) -> bool {
-    text.windows(part.len().max(1)).any(|found| found == part)
-}
-
-// A report behind its first line, with the line feed before it.
-fn behind_the_first_line(report: &[u8]) -> &[u8] {
-    match report.iter().position(|byte| *byte == b'\n') {
-        Some(at) => &report[at..],
-        None => &[],
-    }
 }
 
 // A packet of no connection changes the report's first line, which counts it, and nothing else.
 #[test]
-fn a_packet_of_no_connection(rt: HostRuntime) -> Result<(), Fail> {
-    let alloc = rt.alloc();
-    let [other, opening, data] = connections();
-    let bytes = file(alloc, true, &[other, opening, data])?;
-    let mut longer = file(alloc, true, &[other, opening])?;
-    for number in [1, 150_000, 2, 2] {
-        put_field(&mut longer, true, number)?;
-    }
-    longer.extend_from_slice(b"zz")?;
-    put(&mut longer, true, &data)?;
-    let late = toxic(alloc, "latency", "\"latency\":100,\"jitter\":50")?;
-    let text = file_of(alloc, &late)?;
-    let without = output_of(&rt, alloc, &bytes, &text)?;
-    let beside = output_of(&rt, alloc, &longer, &text)?;
-    let counted = b"scenario 0 records 4 rest 0 segment 3 short 1 notipv4 0 ";
-    assert!(rt; beside.report.as_slice().starts_with(counted));
-    assert_eq!(rt; beside.capture.as_slice(), without.capture.as_slice());
-    assert_eq!(rt;
-        behind_the_first_line(beside.report.as_slice()),
-        behind_the_first_line(without.report.as_slice())
+fn a_packet_of_no_connection(rt: HostRuntime) {
+    check_beside(
+        &rt,
+        "a packet of no connection",
+        (true, TWO_PROXIES),
+        (
+            516,
+            &SECOND,
+            "scenario 0 records 4 rest 0 segment 3 short 1 notipv4 0 badipv4 0 fragment 0 nottcp 0 cut 0 badtcp 0 sameends 0\nconnections 2 unopened 0\n0 10.0.0.1:40000 > 10.0.0.3:40001 proxy 1 up 0/0/0 open max 0 down 0/0/0 open max 0\n1 10.0.0.1:40000 > 10.0.0.2:80 proxy 0 up 2/2/0 open max 73000 down 0/0/0 open max 0\n",
+        ),
     );
-    Ok(())
+    check_beside(
+        &rt,
+        "the same under one proxy",
+        (true, ONE_PROXY),
+        (
+            516,
+            &SECOND,
+            "scenario 0 records 4 rest 0 segment 3 short 1 notipv4 0 badipv4 0 fragment 0 nottcp 0 cut 0 badtcp 0 sameends 0\nconnections 2 unopened 0\n0 10.0.0.1:40000 > 10.0.0.3:40001 proxy - up 0/0/0 open max 0 down 0/0/0 open max 0\n1 10.0.0.1:40000 > 10.0.0.2:80 proxy 0 up 2/2/0 open max 73000 down 0/0/0 open max 0\n",
+        ),
+    );
 }

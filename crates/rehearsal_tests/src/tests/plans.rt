@@ -1,130 +1,106 @@
 //! Rehearsals under every plan: what one worker gives of one range is what any number of workers gives of any ranges.
-use super::rehearsals::{repeated, scenario_of};
-use scenarios::Scenario;
-use std::alloc::Global;
+use super::connections::repeated;
+use super::rehearsed::{rehearsed_by, same, scenarios_of, under_every_plan};
+use std::alloc::{AllocGlobal, Global};
 use std::process::Abort;
 use std::sync::Wait;
-use std::test::Fail;
 use std::thread::Threads;
-use toxicap::{Gate, Outputs, Phase, Plan, Through, rehearse};
+use toxicap::{Gate, Output, Phase, RunFault, Through};
 use worked_sessions::gates::{Counting, Holding};
-use worked_sessions::sessions::{file, session};
+use worked_sessions::sessions::{PLAIN_SESSION, file};
 
-const WORKERS: [u32; 4] = [1, 2, 4, 16];
-
-const CUTS: [u32; 4] = [1, 2, 3, 4096];
-
-// The outputs are the others, byte for byte.
-fn check_same(rt: &impl Abort, outputs: &Outputs, others: &Outputs) {
-    assert_eq!(rt; outputs.as_slice().len(), others.as_slice().len());
-    for (output, other) in outputs.as_slice().iter().zip(others.as_slice()) {
-        assert_eq!(rt; output.capture.as_slice(), other.capture.as_slice());
-        assert_eq!(rt; output.report.as_slice(), other.report.as_slice());
-    }
-}
-
-// The outputs of a rehearsal by so many workers, range by range of a cut, who pass a gate.
-fn rehearsed_by<R: Threads + Wait + Sync, G: Gate>(
+// Whether the outputs by two workers who pass a gate are those of one who passes none.
+fn is_same_past<R: Threads + Wait + Sync, G: Gate>(
     rt: &R,
     alloc: Global,
-    bytes: &[u8],
-    scenarios: &[Scenario],
-    seed: u64,
-    (workers, cut): (u32, u32),
     gate: &G,
-) -> Result<Outputs, Fail> {
-    let plan = Plan::new(workers, cut).ok_or("no such plan")?;
-    Ok(rehearse(rt, alloc, bytes, scenarios, seed, plan, gate)?)
+) -> Result<bool, RunFault> {
+    let bytes = file(alloc, true, &repeated())?;
+    let scenarios = scenarios_of(alloc, &["[]"])?;
+    let wanted = rehearsed_by(rt, alloc, &bytes, &scenarios, (1, 4096), &Through)?;
+    let outputs = rehearsed_by(rt, alloc, &bytes, &scenarios, (2, 3), gate)?;
+    Ok(same(outputs.as_slice(), wanted.as_slice()))
 }
 
-// The outputs of a rehearsal, which are the same by 1, 2, 4 and 16 workers, in ranges of 1, 2, 3 and 4,096 records.
-pub fn under_every_plan<R: Abort + Threads + Wait + Sync>(
+// Job 0 of this phase waits until job 1 of it has passed, so two threads have done jobs.
+fn check_held(rt: &(impl Abort + AllocGlobal + Threads + Wait + Sync), row: &str, phase: Phase) {
+    let gate = Holding::new(phase);
+    let good = is_same_past(rt, rt.alloc(), &gate) == Ok(true) && !gate.gave_up();
+    assert!(rt; good, "{row}");
+}
+
+#[test]
+fn a_job_held_in_each_phase(rt: HostRuntime) {
+    check_held(&rt, "a range held", Phase::Ranges);
+    check_held(&rt, "a recorded line held", Phase::Lines);
+    check_held(&rt, "a delivery held", Phase::Jobs);
+}
+
+// How many outputs three scenarios have of six records of two connections, in ranges of four, by workers who pass a gate.
+fn outputs_past<R: Threads + Wait + Sync, G: Gate>(
     rt: &R,
     alloc: Global,
-    bytes: &[u8],
-    scenarios: &[Scenario],
-    seed: u64,
-) -> Result<Outputs, Fail> {
-    let wanted = rehearsed_by(rt, alloc, bytes, scenarios, seed, (1, 4096), &Through)?;
-    'workers: for workers in WORKERS {
-        'cuts: for cut in CUTS {
-            let outputs = rehearsed_by(
-                rt,
-                alloc,
-                bytes,
-                scenarios,
-                seed,
-                (workers, cut),
-                &Through,
-            )?;
-            check_same(rt, &outputs, &wanted);
+    gate: &G,
+) -> Result<usize, RunFault> {
+    let bytes = file(alloc, true, &repeated())?;
+    let scenarios = scenarios_of(alloc, &["[]", "[]", "[]"])?;
+    let outputs = rehearsed_by(rt, alloc, &bytes, &scenarios, (4, 4), gate)?;
+    Ok(outputs.as_slice().len())
+}
+
+// So many jobs of this phase pass its gate, and their numbers have this sum.
+fn check_jobs(
+    rt: &(impl Abort + AllocGlobal + Threads + Wait + Sync),
+    row: &str,
+    phase: Phase,
+    (jobs, numbers): (u64, u64),
+) {
+    let gate = Counting::new(phase);
+    let three = outputs_past(rt, rt.alloc(), &gate) == Ok(3);
+    let good = three && gate.passed() == jobs && gate.numbers() == numbers;
+    assert!(rt; good, "{row}");
+}
+
+#[test]
+fn jobs_of_each_phase(rt: HostRuntime) {
+    check_jobs(&rt, "ranges", Phase::Ranges, (2, 1));
+    check_jobs(&rt, "recorded lines", Phase::Lines, (2, 1));
+    check_jobs(&rt, "deliveries", Phase::Jobs, (6, 15));
+}
+
+// Whether an output of the plain session has a report that begins and ends so.
+fn is_report(output: &Output, begin: &str, end: &str) -> bool {
+    let report = output.report.as_slice();
+    output.capture.as_slice().len() == 449
+        && report.starts_with(begin.as_bytes())
+        && report.ends_with(end.as_bytes())
+}
+
+const LATE: &str =
+    "[{\"name\":\"web\",\"upstream\":\"10.0.0.2:80\",\"toxics\":[{\"type\":\"latency\",\"stream\":\"upstream\",\"attributes\":{\"latency\":100}}]}]";
+
+// Whether the plain session under three scenarios, of which the second has a proxy, has its outputs in the scenarios' order, under every
+// plan.
+fn are_in_order<R: Threads + Wait + Sync>(rt: &R, alloc: Global) -> Result<bool, RunFault> {
+    let scenarios = scenarios_of(alloc, &["[]", LATE, "[]"])?;
+    let outputs = rehearsed_by(rt, alloc, &PLAIN_SESSION, &scenarios, (1, 4096), &Through)?;
+    let plain = "proxy - up 5/5/0 fin+2000 max 0 down 0/0/0 fin+3000 max 0\n";
+    let slow = "proxy 0 up 5/5/0 fin+101000 max 100000 down 0/0/0 fin+3000 max 0\n";
+    let in_order = match outputs.as_slice() {
+        [first, second, third] => {
+            is_report(first, "scenario 0 records 7 ", plain)
+                && is_report(second, "scenario 1 records 7 ", slow)
+                && is_report(third, "scenario 2 records 7 ", plain)
         }
-    }
-    Ok(wanted)
-}
-
-// Job 0 of a phase waits until job 1 of it has passed, so two threads have done jobs: the outputs are those of one.
-#[test]
-fn a_job_held_in_each_phase(rt: HostRuntime) -> Result<(), Fail> {
-    let bytes = file(rt.alloc(), true, &repeated())?;
-    let scenarios = [scenario_of(rt.alloc(), "[]")?];
-    let wanted = under_every_plan(&rt, rt.alloc(), &bytes, &scenarios, 0)?;
-    for phase in [Phase::Ranges, Phase::Lines, Phase::Jobs] {
-        let gate = Holding::new(phase);
-        let outputs = rehearsed_by(&rt, rt.alloc(), &bytes, &scenarios, 0, (2, 3), &gate)?;
-        check_same(&rt, &outputs, &wanted);
-        assert!(rt; !gate.gave_up());
-    }
-    Ok(())
-}
-
-// Six records of two connections, in ranges of four, under three scenarios.
-#[test]
-fn jobs_of_each_phase(rt: HostRuntime) -> Result<(), Fail> {
-    let bytes = file(rt.alloc(), true, &repeated())?;
-    let scenarios = [
-        scenario_of(rt.alloc(), "[]")?,
-        scenario_of(rt.alloc(), "[]")?,
-        scenario_of(rt.alloc(), "[]")?,
-    ];
-    let phases = [
-        (Phase::Ranges, 2, 1),
-        (Phase::Lines, 2, 1),
-        (Phase::Jobs, 6, 15),
-    ];
-    for (phase, jobs, numbers) in phases {
-        let gate = Counting::new(phase);
-        let outputs = rehearsed_by(&rt, rt.alloc(), &bytes, &scenarios, 0, (4, 4), &gate)?;
-        assert_eq!(rt; outputs.as_slice().len(), 3);
-        assert_eq!(rt; gate.passed(), jobs);
-        assert_eq!(rt; gate.numbers(), numbers);
-    }
-    Ok(())
+        _ => false,
+    };
+    let always = under_every_plan(rt, alloc, &PLAIN_SESSION, &scenarios, outputs.as_slice())?;
+    Ok(in_order && always)
 }
 
 // The scenarios' outputs stand in the scenarios' order, whoever made them.
 #[test]
-fn scenarios_in_order_under_every_plan(rt: HostRuntime) -> Result<(), Fail> {
-    let bytes = file(rt.alloc(), true, &session())?;
-    let late =
-        "[{\"name\":\"web\",\"upstream\":\"10.0.0.2:80\",\"toxics\":[{\"type\":\"latency\",\"stream\":\"upstream\",\"attributes\":{\"latency\":100}}]}]";
-    let scenarios = [
-        scenario_of(rt.alloc(), "[]")?,
-        scenario_of(rt.alloc(), late)?,
-        scenario_of(rt.alloc(), "[]")?,
-    ];
-    let outputs = under_every_plan(&rt, rt.alloc(), &bytes, &scenarios, 0)?;
-    let ends = [
-        "proxy - up 5/5/0 fin+2000 max 0 down 0/0/0 fin+3000 max 0\n",
-        "proxy 0 up 5/5/0 fin+101000 max 100000 down 0/0/0 fin+3000 max 0\n",
-        "proxy - up 5/5/0 fin+2000 max 0 down 0/0/0 fin+3000 max 0\n",
-    ];
-    for (number, (output, end)) in outputs.as_slice().iter().zip(ends).enumerate() {
-        let begin = format!(in rt.alloc(); "scenario {number} records 7 ")?;
-        let report = output.report.as_slice();
-        assert!(rt; report.starts_with(begin.as_bytes()), "{number}");
-        assert!(rt; report.ends_with(end.as_bytes()), "{number}");
-        assert_eq!(rt; output.capture.as_slice().len(), 449);
-    }
-    Ok(())
+fn scenarios_in_order_under_every_plan(rt: HostRuntime) {
+    let good = are_in_order(&rt, rt.alloc()) == Ok(true);
+    assert!(rt; good);
 }

@@ -1,13 +1,13 @@
 //! The files of a rehearsal on shelves: one that fails, one in memory, and folders.
 ghost use Rattle.std.specs.Prelude.{◌≡◌, ◌≤◌};
 
-use std::alloc::{AllocError, Global};
+use std::alloc::{AllocError, AllocGlobal, Global};
+use std::fs;
 use std::process::Abort;
-use std::test::Fail;
-use std::{env, fs, process};
+use std::rt::Files;
 use toxicap::{
-    Folder, MemoryFile, MemoryShelf, Output, Outputs, Shelf, ShelfError, StoreFault, Values,
-    store_all,
+    Folder, MemoryFile, MemoryShelf, Output, Outputs, RunFault, Shelf, ShelfError, StoreFault,
+    Values, store_all,
 };
 
 // The files of two outputs, in the order in which they are stored.
@@ -33,12 +33,14 @@ fn two_outputs(alloc: Global) -> Result<Outputs, AllocError> {
     Ok(Values::of(outputs))
 }
 
-fn check_files(rt: &impl Abort, files: &[MemoryFile], wanted: &[(&str, &[u8])]) {
-    assert_eq!(rt; files.len(), wanted.len());
+// Whether a shelf's files have these names and bytes.
+fn are_files(files: &[MemoryFile], wanted: &[(&str, &[u8])]) -> bool {
     for (file, (name, bytes)) in files.iter().zip(wanted) {
-        assert_eq!(rt; file.name(), *name);
-        assert_eq!(rt; file.bytes(), *bytes, "{name}");
+        if file.name() != *name || file.bytes() != *bytes {
+            return false;
+        }
     }
+    files.len() == wanted.len()
 }
 
 /// Keeps files in memory, but for the one that comes after so many calls: whoever tries again gets rid of it.
@@ -84,106 +86,143 @@ impl Shelf for FailsOnce {
     }
 }
 
-// A file that is not taken is not tried again, and none is put behind it.
+// Whether two outputs to a shelf that fails at its put after so many put the first files on it, and none after the failed one.
+fn fails_after(alloc: Global, after: u64, first: &[(&str, &[u8])]) -> Result<bool, AllocError> {
+    let outputs = two_outputs(alloc)?;
+    let mut shelf = FailsOnce::new(alloc, after);
+    let stored = store_all(alloc, &outputs, &mut shelf);
+    let refused = stored == Err(StoreFault::ShelfFailed { after })
+        && shelf.failed == 1
+        && shelf.calls_before == u64::MAX;
+    let all = stored == Ok(()) && shelf.failed == 0 && first.len() == FILES.len();
+    Ok((refused || all) && are_files(shelf.kept.files(), first))
+}
+
+fn check_failing(rt: &(impl Abort + AllocGlobal), after: u64, first: &[(&str, &[u8])]) {
+    let good = fails_after(rt.alloc(), after, first) == Ok(true);
+    assert!(rt; good, "{after}");
+}
+
+// A file that is not taken is not tried again.
 #[test]
-fn a_shelf_that_fails_once(rt: HostRuntime) -> Result<(), Fail> {
-    let outputs = two_outputs(rt.alloc())?;
-    for after in 0..4u64 {
-        let mut shelf = FailsOnce::new(rt.alloc(), after);
-        let stored = store_all(rt.alloc(), &outputs, &mut shelf);
-        assert_eq!(rt; stored, Err(StoreFault::ShelfFailed { after }));
-        assert_eq!(rt; shelf.failed, 1);
-        assert_eq!(rt; shelf.calls_before, u64::MAX, "a put after the failed one");
-        let first = FILES.get(..after as usize).ok_or("so many files")?;
-        check_files(&rt, shelf.kept.files(), first);
+fn a_shelf_that_fails_once(rt: HostRuntime) {
+    let [a, b, c, d] = FILES;
+    check_failing(&rt, 0, &[]);
+    check_failing(&rt, 1, &[a]);
+    check_failing(&rt, 2, &[a, b]);
+    check_failing(&rt, 3, &[a, b, c]);
+    check_failing(&rt, 4, &[a, b, c, d]);
+}
+
+// A shelf with the files of 10,001 empty outputs.
+fn many_files(alloc: Global) -> Result<Vec<MemoryFile>, RunFault> {
+    let mut outputs = Vec::new(alloc);
+    for _ in 0..10_001 {
+        outputs.push(output(alloc, b"", b"")?)?;
     }
-    let mut shelf = FailsOnce::new(rt.alloc(), 4);
-    assert_eq!(rt; store_all(rt.alloc(), &outputs, &mut shelf), Ok(()));
-    assert_eq!(rt; shelf.failed, 0);
-    check_files(&rt, shelf.kept.files(), &FILES);
-    Ok(())
+    let mut shelf = MemoryShelf::new(alloc);
+    store_all(alloc, &Values::of(outputs), &mut shelf)?;
+    Ok(shelf.into_files())
+}
+
+// Whether the file at this place has this name.
+fn is_named(files: &[MemoryFile], place: usize, name: &str) -> bool {
+    match files.get(place) {
+        Some(file) => file.name() == name,
+        None => false,
+    }
 }
 
 // A number has four digits at least, and more where it needs them.
 #[test]
-fn names_of_files(rt: HostRuntime) -> Result<(), Fail> {
-    let mut outputs = Vec::new(rt.alloc());
-    for _ in 0..10_001 {
-        outputs.push(output(rt.alloc(), b"", b"")?)?;
-    }
-    let mut shelf = MemoryShelf::new(rt.alloc());
-    store_all(rt.alloc(), &Values::of(outputs), &mut shelf)?;
-    let files = shelf.into_files();
-    assert_eq!(rt; files.len(), 20_002);
-    for (place, name) in [
-        (18, "0009.pcap"),
-        (21, "0010.txt"),
-        (511, "0255.txt"),
-        (19_998, "9999.pcap"),
-        (20_001, "10000.txt"),
-    ] {
-        assert_eq!(rt; files.get(place).ok_or("a file")?.name(), name);
-    }
-    Ok(())
+fn names_of_files(rt: HostRuntime) {
+    let files = many_files(rt.alloc()).expect(&rt, "memory");
+    let good = is_named(&files, 18, "0009.pcap")
+        && is_named(&files, 21, "0010.txt")
+        && is_named(&files, 511, "0255.txt")
+        && is_named(&files, 19_998, "9999.pcap")
+        && is_named(&files, 20_001, "10000.txt");
+    assert!(rt; good);
 }
 
 #[test]
-fn a_shelf_in_memory(rt: HostRuntime) -> Result<(), Fail> {
+fn a_shelf_in_memory(rt: HostRuntime) {
     let mut shelf = MemoryShelf::new(rt.alloc());
-    shelf.put("one", b"1")?;
-    shelf.put("one", b"\x00")?;
-    assert_eq!(rt; shelf.failed(), 0);
-    check_files(&rt, shelf.files(), &[("one", b"1"), ("one", b"\x00")]);
-    Ok(())
+    let first = shelf.put("one", b"1") == Ok(());
+    let second = shelf.put("one", b"\x00") == Ok(());
+    let good = are_files(shelf.files(), &[("one", b"1"), ("one", b"\x00")]);
+    assert!(rt; first && second && good && shelf.failed() == 0);
 }
 
-#[test]
-fn a_folder(rt: HostRuntime) -> Result<(), Fail> {
-    let temporary = env::temp_dir(&rt)?.into_string();
-    let number = process::id(rt.process());
-    let path = format!(in rt.alloc(); "{temporary}/toxicap-files-{number}")?;
-    let outputs = two_outputs(rt.alloc())?;
+// Whether a folder with this path takes two outputs, or fails at once and counts that.
+fn is_stored<F: Files>(
+    files: &F,
+    alloc: Global,
+    path: &str,
+    wanted: Result<(), StoreFault>,
+) -> Result<bool, AllocError> {
+    let outputs = two_outputs(alloc)?;
+    let mut folder = Folder::new(alloc, files, path)?;
+    let stored = store_all(alloc, &outputs, &mut folder);
+    Ok(stored == wanted && folder.failed() == u64::from(wanted.is_err()))
+}
 
-    // While the folder is not there, no file can be made.
-    let mut folder = Folder::new(rt.alloc(), &rt, &path)?;
-    assert_eq!(rt;
-        store_all(rt.alloc(), &outputs, &mut folder),
-        Err(StoreFault::ShelfFailed { after: 0 })
-    );
-    assert_eq!(rt; folder.failed(), 1);
+fn check_store(
+    rt: &(impl Abort + AllocGlobal + Files),
+    path: &str,
+    wanted: Result<(), StoreFault>,
+) {
+    let good = is_stored(rt, rt.alloc(), path, wanted) == Ok(true);
+    assert!(rt; good, "{path}");
+}
 
-    fs::create_dir(&rt, path.as_str())?;
-    let longer = format!(in rt.alloc(); "{path}/0001.txt")?;
-    fs::write(&rt, longer.as_str(), "an older file, which is replaced")?;
-    assert_eq!(rt; store_all(rt.alloc(), &outputs, &mut folder), Ok(()));
-    assert_eq!(rt; folder.failed(), 1);
+// A folder has these files.
+fn check_stored(rt: &(impl Abort + AllocGlobal + Files), path: &str) {
     for (name, bytes) in FILES {
-        let file = format!(in rt.alloc(); "{path}/{name}")?;
-        assert_eq!(rt; fs::read(&rt, file.as_str())?.as_slice(), bytes, "{name}");
+        let file = format!(in rt.alloc(); "{path}/{name}").expect(rt, "memory");
+        let good = match fs::read(rt, file.as_str()) {
+            Ok(found) => found.as_slice() == bytes,
+            Err(_) => false,
+        };
+        assert!(rt; good, "{name}");
     }
-    assert_eq!(rt; fs::read_dir(&rt, path.as_str())?.count(), FILES.len());
-    fs::remove_dir_all(&rt, path.as_str())?;
-    Ok(())
 }
 
-// What is no name of a file in the folder, and a path that is none.
+// A folder with an older file in it.
+fn make_folder(rt: &(impl Abort + AllocGlobal + Files), path: &str) {
+    let older = format!(in rt.alloc(); "{path}/0001.txt").expect(rt, "memory");
+    fs::create_dir(rt, path).expect(rt, "a folder");
+    fs::write(rt, older.as_str(), "an older file, which is replaced").expect(rt, "a file");
+}
+
+// While the folder is not there, no file can be made; an older file is replaced.
 #[test]
-fn names_that_a_folder_refuses(rt: HostRuntime) -> Result<(), Fail> {
-    let path = env::temp_dir(&rt)?.into_string();
-    let long = "toxicap-name-".repeat(rt.alloc(), 20)?;
-    for name in [
-        "",
-        ".",
-        "..",
-        "../toxicap-name",
-        "toxicap\0name",
-        long.as_str(),
-    ] {
-        let mut folder = Folder::new(rt.alloc(), &rt, &path)?;
-        assert_eq!(rt; folder.put(name, b""), Err(ShelfError), "{name}");
-        assert_eq!(rt; folder.failed(), 1, "{name}");
-    }
-    let mut nowhere = Folder::new(rt.alloc(), &rt, "")?;
-    assert_eq!(rt; nowhere.put("toxicap-name", b""), Err(ShelfError));
-    Ok(())
+fn a_folder(rt: HostRuntime) {
+    check_store(&rt, "files", Err(StoreFault::ShelfFailed { after: 0 }));
+    make_folder(&rt, "files");
+    check_store(&rt, "files", Ok(()));
+    check_stored(&rt, "files");
+    let many = fs::read_dir(&rt, "files").expect(&rt, "a folder").count();
+    assert!(rt; many == FILES.len());
+    fs::remove_dir_all(&rt, "files").expect(&rt, "removed");
+}
+
+// What is no name of a file in the folder of this path, or a path that is none.
+fn check_no_name(rt: &(impl Abort + AllocGlobal + Files), path: &str, name: &str) {
+    let mut folder = Folder::new(rt.alloc(), rt, path).expect(rt, "memory");
+    let refused = folder.put(name, b"") == Err(ShelfError);
+    assert!(rt; refused && folder.failed() == 1, "{name:?}");
+}
+
+#[test]
+fn names_that_a_folder_refuses(rt: HostRuntime) {
+    let long =
+        "toxicap-name-toxicap-name-toxicap-name-toxicap-name-toxicap-name-toxicap-name-toxicap-name-toxicap-name-toxicap-name-toxicap-name-toxicap-name-toxicap-name-toxicap-name-toxicap-name-toxicap-name-toxicap-name-toxicap-name-toxicap-name-toxicap-name-toxicap-name-";
+    check_no_name(&rt, ".", "");
+    check_no_name(&rt, ".", ".");
+    check_no_name(&rt, ".", "..");
+    check_no_name(&rt, ".", "../toxicap-name");
+    check_no_name(&rt, ".", "toxicap\0name");
+    check_no_name(&rt, ".", long);
+    check_no_name(&rt, "", "toxicap-name");
 }

@@ -1,215 +1,166 @@
 //! How the program refuses: the order of refusals, faults of the command line, help, and words that cannot be had.
-use super::commands::{check, ended, refused};
-use super::edges::Sips;
-use std::fs;
+use super::commands::{check, make_file, remove_file};
+use super::readers::Pieces;
+use super::running::{STORED_REPORT, STORED_RUN};
+use super::writers::{RefusesOnce, Sips};
+use std::alloc::{AllocGlobal, Global};
 use std::io::{Error, ErrorKind};
-use std::test::Fail;
+use std::process::Abort;
+use std::rt::Files;
+use std::sync::Wait;
+use std::thread::Threads;
 use toxicap::{Counted, command, refuse_words};
-use worked_sessions::sessions::{file, session};
 
 // What is refused first: hosts, files of scenarios, the capture's bytes, its dump, scenarios, the capture, and then the folder.
 #[test]
-fn the_order_of_refusals(rt: HostRuntime) -> Result<(), Fail> {
-    fs::write(&rt, "broken.json", "[")?;
-    fs::write(&rt, "broken.txt", "d4c")?;
-    let rows: [(&[&str], &str); 6] = [
-        (
-            &[
-                "--capture",
-                "none",
-                "--scenario",
-                "none",
-                "--host",
-                "x",
-                "--out",
-                "none",
-            ],
-            "refused 23 BadHost host 0",
-        ),
-        (
-            &[
-                "--capture",
-                "broken.txt",
-                "--scenario",
-                "none",
-                "--out",
-                "none",
-            ],
-            "refused 61 ReadFailed",
-        ),
-        (
-            &[
-                "--capture",
-                "none",
-                "--scenario",
-                "broken.json",
-                "--out",
-                "none",
-            ],
-            "refused 61 ReadFailed",
-        ),
-        (
-            &[
-                "--capture",
-                "broken.txt",
-                "--scenario",
-                "broken.json",
-                "--out",
-                "none",
-            ],
-            "refused 55 BadDump at 3",
-        ),
-        (
-            &["--scenario", "broken.json", "--out", "none"],
-            "refused 10 NotJson scenario 0",
-        ),
-        (&["--out", "none"], "refused 1 ShortHeader"),
+fn the_order_of_refusals(rt: HostRuntime) {
+    make_file(&rt, "broken.json", b"[");
+    make_file(&rt, "broken.txt", b"d4c");
+    let host = [
+        "--capture",
+        "none",
+        "--scenario",
+        "none",
+        "--host",
+        "x",
+        "--out",
+        "none",
     ];
-    for (words, line) in rows {
-        refused(&rt, words, b"", line)?;
-    }
-    fs::remove_file(&rt, "broken.json")?;
-    fs::remove_file(&rt, "broken.txt")?;
-    Ok(())
-}
-
-// A path where nothing is, and a folder, which opens and cannot be read.
-#[test]
-fn paths_that_cannot_be_read(rt: HostRuntime) -> Result<(), Fail> {
-    let bytes = file(rt.alloc(), true, &session())?;
-    for path in ["nothing here", ".", ""] {
-        refused(&rt, &["--capture", path], &bytes, "refused 61 ReadFailed")?;
-        refused(&rt, &["--scenario", path], &bytes, "refused 61 ReadFailed")?;
-    }
-    Ok(())
-}
-
-#[test]
-fn faults_of_the_command_line(rt: HostRuntime) -> Result<(), Fail> {
-    let rows: [&[&str]; 15] = [
-        &["--seed", "1", "--seed", "2"],
-        &["--capture", "a", "--capture", "b"],
-        &["--out", "a", "--out", "b"],
-        &["--workers", "0"],
-        &["--workers", "x"],
-        &["--cut", "0"],
-        &["--cut", "1048577"],
-        &["--seed", "-1"],
-        &["--seed", "1.5"],
-        &["--seed", "18446744073709551616"],
-        &["--seeds", "1"],
-        &["--capture"],
-        &["session.pcap"],
-        &["-x"],
-        &[""],
+    check(&rt, &host, b"", (1, "", "refused 23 BadHost host 0\n"));
+    let scenario = [
+        "--capture",
+        "broken.txt",
+        "--scenario",
+        "none",
+        "--out",
+        "none",
     ];
-    for words in rows {
-        let (status, written, told) = ended(&rt, words, b"unread")?;
-        assert_eq!(rt; status, 2, "{words:?}");
-        assert_eq!(rt; written.as_str(), "", "{words:?}");
-        assert!(rt; told.starts_with("error: "), "{words:?}");
-        assert!(rt;
-            told.ends_with("For more information, try '--help'.\n"),
-            "{words:?}"
-        );
-    }
-    let workers =
-        "error: invalid value '17' for '--workers <N>': 17 is not in 1..=16\n\nFor more information, try '--help'.\n";
-    check(&rt, &["--workers", "17"], b"unread", (2, "", workers))?;
+    check(&rt, &scenario, b"", (1, "", "refused 61 ReadFailed\n"));
+    let capture = [
+        "--capture",
+        "none",
+        "--scenario",
+        "broken.json",
+        "--out",
+        "none",
+    ];
+    check(&rt, &capture, b"", (1, "", "refused 61 ReadFailed\n"));
+    let dump = [
+        "--capture",
+        "broken.txt",
+        "--scenario",
+        "broken.json",
+        "--out",
+        "none",
+    ];
+    check(&rt, &dump, b"", (1, "", "refused 55 BadDump at 3\n"));
+    let json = ["--scenario", "broken.json", "--out", "none"];
+    check(&rt, &json, b"", (1, "", "refused 10 NotJson scenario 0\n"));
     check(
         &rt,
-        &["--seed", "18446744073709551615"],
+        &["--out", "none"],
         b"",
         (1, "", "refused 1 ShortHeader\n"),
-    )
+    );
+    let stored = STORED_RUN.as_bytes();
+    check(
+        &rt,
+        &["--out", "none"],
+        stored,
+        (1, "", "refused 60 ShelfFailed after 0\n"),
+    );
+    remove_file(&rt, "broken.json");
+    remove_file(&rt, "broken.txt");
 }
 
 #[test]
-fn help_and_version(rt: HostRuntime) -> Result<(), Fail> {
-    let (status, help, told) = ended(&rt, &["--help"], b"unread")?;
-    assert_eq!(rt; status, 0);
-    assert_eq!(rt; told.as_str(), "");
-    let options = [
-        "--capture <PATH>",
-        "--scenario <PATH>",
-        "--host <NAME=ADDR>",
-        "--seed <N>",
-        "--workers <N>",
-        "--cut <N>",
-        "--out <DIR>",
-    ];
-    for option in options {
-        assert!(rt; help.contains(option), "{option}");
-    }
-    for part in [
-        "[default: standard input]",
-        "[default: 0]",
-        "[default: 1]",
-        "[default: 4096]",
-        "Exit status:",
-        "Examples:",
-    ] {
-        assert!(rt; help.contains(part), "{part}");
-    }
-    for line in help.lines() {
-        assert!(rt; line.len() < 80, "{line}");
-    }
-
-    check(&rt, &["-V"], b"unread", (0, "toxicap 1.0.0\n", ""))?;
-    let (status, version, told) = ended(&rt, &["--version"], b"unread")?;
-    assert_eq!(rt; status, 0);
-    assert_eq!(rt; told.as_str(), "");
-    assert!(rt; version.starts_with("toxicap 1.0.0\n"));
-    for form in ["pcap 2.4", "Ethernet", "IPv4", "TCP", "JSON"] {
-        assert!(rt; version.contains(form), "{form}");
-    }
-    Ok(())
+fn statuses(rt: HostRuntime) {
+    check(&rt, &[], STORED_RUN.as_bytes(), (0, STORED_REPORT, ""));
+    check(&rt, &[], b"", (1, "", "refused 1 ShortHeader\n"));
+    let workers =
+        "error: invalid value '17' for '--workers <N>': 17 is not in 1..=16\n\nFor more information, try '--help'.\n";
+    check(&rt, &["--workers", "17"], b"unread", (2, "", workers));
+    check(&rt, &["-V"], b"unread", (0, "toxicap 1.0.0\n", ""));
 }
 
-#[test]
-fn help_that_cannot_be_written(rt: HostRuntime) -> Result<(), Fail> {
-    let mut output = Counted::new(Sips {
-        taken: Vec::new(rt.alloc()),
-        most: 100,
+// A writer that takes so many bytes a call, and so many calls.
+fn sips(alloc: Global, (most, calls): (usize, u32)) -> Sips {
+    Sips {
+        taken: Vec::new(alloc),
+        most,
+        calls,
+    }
+}
+
+// The program under these words, with a reader that fails, and with writers that take so many bytes a call and so many calls: its status, how
+// much it wrote, what it told, and how often that failed.
+fn check_failing(
+    rt: &(impl Abort + AllocGlobal + Files + Threads + Wait + Sync),
+    words: &[&str],
+    (output, faults): ((usize, u32), (usize, u32)),
+    (status, written, told, failed): (u8, usize, &str, u64),
+) {
+    let mut input = Counted::new(Pieces {
+        rest: b"d4",
+        most: 1,
         calls: 1,
     });
+    let mut output = Counted::new(sips(rt.alloc(), output));
+    let mut faults = Counted::new(sips(rt.alloc(), faults));
+    let ended = command(rt, rt.alloc(), words, &mut input, &mut output, &mut faults);
+    let good = ended == status
+        && faults.failed() == failed
+        && output.into_inner().taken.len() == written
+        && faults.into_inner().taken.as_slice() == told.as_bytes();
+    assert!(rt; good, "{words:?}");
+}
+
+// A write that fails on standard error ends the line there, and leaves the status as it is; help that cannot be written is refused.
+#[test]
+fn texts_that_cannot_be_written(rt: HostRuntime) {
+    let once = (10, 1);
+    check_failing(&rt, &[], (once, once), (1, 0, "refused 61", 1));
+    check_failing(&rt, &["--cut=0"], (once, once), (2, 0, "error: inv", 1));
+    let lost = (1, 100, "refused 62 WriteFailed\n", 0);
+    check_failing(&rt, &["--help"], ((100, 1), (100, 9)), lost);
+}
+
+// A report whose first write takes nothing is refused, and no write is tried again.
+#[test]
+fn an_output_that_refuses_once(rt: HostRuntime) {
+    let mut output = Counted::new(RefusesOnce {
+        taken: Vec::new(rt.alloc()),
+        calls_before: 0,
+        takes_nothing: true,
+    });
+    let mut input = Counted::new(STORED_RUN.as_bytes());
     let mut faults = Counted::new(Vec::new(rt.alloc()));
-    let words = ["--help"];
+    let words: [&str; 0] = [];
     let status = command(
         &rt,
         rt.alloc(),
         &words,
-        &mut Counted::new(b"".as_slice()),
+        &mut input,
         &mut output,
         &mut faults,
     );
-    assert_eq!(rt; status, 1);
-    assert_eq!(rt; output.into_inner().taken.len(), 100);
-    assert_eq!(rt;
-        faults.into_inner().as_slice(),
-        b"refused 62 WriteFailed\n".as_slice()
-    );
-    Ok(())
+    let refused = status == 1 && output.into_inner().taken.is_empty();
+    let told = faults.into_inner().as_slice() == b"refused 62 WriteFailed\n".as_slice();
+    assert!(rt; refused && told);
 }
 
-// A command line that cannot be had: there is no memory for it, or a word of it is no text.
+// A command line that cannot be had for this cause: its status, and what is told.
+fn check_words(rt: &(impl Abort + AllocGlobal), cause: ErrorKind, status: u8, told: &str) {
+    let mut faults = Counted::new(Vec::new(rt.alloc()));
+    let ended = refuse_words(rt.alloc(), &Error::from(cause), &mut faults);
+    let good = ended == status && faults.into_inner().as_slice() == told.as_bytes();
+    assert!(rt; good, "{told}");
+}
+
+// There is no memory for it, or a word of it is no text.
 #[test]
-fn words_that_cannot_be_had(rt: HostRuntime) -> Result<(), Fail> {
-    let rows = [
-        (ErrorKind::OutOfMemory, 1, "refused 40 Memory\n"),
-        (
-            ErrorKind::InvalidData,
-            2,
-            "error: a word of the command line is not text in UTF-8\n",
-        ),
-    ];
-    for (kind, status, told) in rows {
-        let mut faults = Counted::new(Vec::new(rt.alloc()));
-        assert_eq!(rt;
-            refuse_words(rt.alloc(), &Error::from(kind), &mut faults),
-            status
-        );
-        assert_eq!(rt; faults.into_inner().as_slice(), told.as_bytes());
-    }
-    Ok(())
+fn words_that_cannot_be_had(rt: HostRuntime) {
+    let no_text = "error: a word of the command line is not text in UTF-8\n";
+    check_words(&rt, ErrorKind::OutOfMemory, 1, "refused 40 Memory\n");
+    check_words(&rt, ErrorKind::InvalidData, 2, no_text);
 }

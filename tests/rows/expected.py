@@ -1,0 +1,294 @@
+#!/usr/bin/env python3
+"""The wanted report and captures of a row, worked out apart from the program: docs/RULES.md said again, byte by byte and without care
+for time. It was written from those rules alone and shares nothing with the program's text.
+
+    tests/rows/expected.py FOLDER   writes FOLDER/report and FOLDER/0000.hex, 0001.hex .. (or .sha256 for those above 4,000 bytes)
+
+It reads FOLDER/segments (through tests/capture.awk), FOLDER/segments.awk or FOLDER/dump, FOLDER/arguments and the scenario files that these
+name. It refuses nothing: a row that is refused has its line written by hand."""
+import hashlib, json, pathlib, re, struct, subprocess, sys
+
+MILLION, HORIZON, M32, M64 = 10**6, 2**32 * 10**6, 2**32, 2**64
+FIN, SYN, RST, PSH, ACK = 1, 2, 4, 8, 16
+CLASSES = 'segment short notipv4 badipv4 fragment nottcp cut badtcp sameends'.split()
+
+
+def classify(p):
+    """Its class and, of a segment, its fields."""
+    if len(p) < 14: return 'short', None
+    if p[12:14] != b'\x08\x00': return 'notipv4', None
+    ihl, total = (4 * (p[14] & 15), int.from_bytes(p[16:18], 'big')) if len(p) >= 34 else (0, 0)
+    if len(p) < 34 or p[14] >> 4 != 4 or ihl < 20 or total < ihl: return 'badipv4', None
+    if int.from_bytes(p[20:22], 'big') & 0x3fff: return 'fragment', None
+    if p[23] != 6: return 'nottcp', None
+    if total > len(p) - 14: return 'cut', None
+    t = p[14 + ihl:14 + total]
+    if len(t) < 20 or not 20 <= 4 * (t[12] >> 4) <= len(t): return 'badtcp', None
+    sport, dport, seq, ack = struct.unpack('>HHII', t[:12])
+    frm, to = (p[26:30], sport), (p[30:34], dport)
+    if frm == to: return 'sameends', None
+    return 'segment', dict(mac_from=p[6:12], mac_to=p[:6], frm=frm, to=to, seq=seq, flags=t[13], payload=t[4 * (t[12] >> 4):])
+
+
+def read(b):
+    """Records with their stamps, and the rest."""
+    e = '<' if b[:4] == b'\xd4\xc3\xb2\xa1' else '>'
+    records, at = [], 24
+    while at + 16 <= len(b):
+        sec, usec, n, _ = struct.unpack(e + 'IIII', b[at:at + 16])
+        if at + 16 + n > len(b): break
+        records.append((min(sec * MILLION + usec, HORIZON), b[at + 16:at + 16 + n]))
+        at += 16 + n
+    return records, len(b) - at
+
+
+def connections(segments):
+    """Connections with their members, and how many segments are of none."""
+    last, conns, open_now, unopened = {}, [], {}, 0
+    for s in segments:
+        pair = frozenset((s['frm'], s['to']))
+        if s['flags'] & (SYN | ACK | RST) == SYN:
+            opening = (s['frm'], s['seq'])
+            if last.get(pair) != opening:
+                open_now[pair] = dict(number=len(conns), client=s['frm'], server=s['to'], first=s, opened=s['at'], members=[])
+                conns.append(open_now[pair])
+            last[pair] = opening
+        if pair in open_now: open_now[pair]['members'].append(s)
+        else: unopened += 1
+    return conns, unopened
+
+
+def recorded(conn, sender, base, members, reset):
+    """A side's line: (bytes as (instant, byte, starts), end), and how many bytes are lost. An end is None or (kind, instant)."""
+    value, fins = {}, []
+    if base is not None:
+        for s in members:
+            if s['frm'] != sender: continue
+            start = (s['seq'] + bool(s['flags'] & SYN) - base - 1 + 2**31) % M32 - 2**31
+            for i, byte in enumerate(s['payload']):
+                if start + i >= 0: value.setdefault(start + i, (byte, s['at']))
+            if s['flags'] & FIN and start + len(s['payload']) >= 0: fins.append((start + len(s['payload']), s['at']))
+    n = 0
+    while n in value: n += 1
+    if fins: n = min(n, fins[0][0])
+    line, now = [], None
+    for x in range(n):
+        byte, at = value[x]
+        instant = max(now, at) if now is not None else at
+        line.append((instant, byte, instant != now))
+        now = instant
+    end = ('reset', reset) if reset is not None else None
+    if fins and fins[0][0] == n: end = ('fin', max(fins[0][1], now) if line else fins[0][1])
+    return (line, end), sum(1 for x in value if x >= n)
+
+
+def word(seed, stream, k):
+    inc = (2 * stream + 1) % M64
+    state = ((seed + inc) * 6364136223846793005 + inc) % M64
+    for _ in range(k): state = (state * 6364136223846793005 + inc) % M64
+    folded, turn = ((state >> 18 ^ state) >> 27) % M32, state >> 59
+    return (folded >> turn | folded << (32 - turn)) % M32
+
+
+def later(at, micros): return min(at + micros, HORIZON)
+
+
+def chunks(line):
+    found = []
+    for instant, byte, starts in line:
+        if starts: found.append((instant, []))
+        found[-1][1].append(byte)
+    return found
+
+
+def joined(pieces): return [(at, byte, i == 0) for at, data in pieces for i, byte in enumerate(data)]
+
+
+def through(toxic, line, end, opened, draw):
+    """A line through a toxic that applies. `draw` gives the words."""
+    a = lambda name: (toxic.get('attributes') or {}).get(name, 0)
+    kind = toxic['type']
+    if kind == 'latency':
+        now, out = 0, []
+        for j, (at, data) in enumerate(chunks(line)):
+            delay = max(0, a('latency') - a('jitter') + draw(1 + j) % (2 * a('jitter') + 1))
+            now = max(now, later(at, 1000 * delay))
+            out.append((now, data))
+        line = joined(out)
+    elif kind == 'bandwidth':
+        rate, ends, place, now = a('rate'), [], 0, 0
+        for at, data in chunks(line):
+            for i in range(0, len(data), 100 * rate):
+                piece = data[i:i + 100 * rate]
+                place += len(piece)
+                e = place - 1
+                instant = max(later(line[y][0], -(-(e - y + 1) * 1000 // rate)) for y in range(e + 1))
+                ends.append((instant, piece))
+        line = joined(ends)
+    elif kind == 'slicer':
+        slices, k = [], 0
+        for at, data in chunks(line):
+            while data:
+                size = a('average_size') - a('size_variation') + draw(1 + k) % (2 * a('size_variation') + 1)
+                slices.append((at, data[:size]))
+                data = data[size:]
+                k += 1
+        line = joined([(max(later(slices[j][0], (k - j) * a('delay')) for j in range(k + 1)), data) for k, (_, data) in enumerate(slices)])
+    elif kind == 'limit_data':
+        if len(line) > a('bytes'): line, end = line[:a('bytes')], ('close', line[a('bytes')][0])
+    elif kind == 'timeout':
+        line, end = [], ('close', later(opened, 1000 * a('timeout'))) if a('timeout') else None
+    elif kind == 'reset_peer':
+        c = later(opened, 1000 * a('timeout'))
+        line = [b for b in line if b[0] < c]
+        if not (end and end[1] < c): end = ('reset', c)
+    elif kind == 'slow_close':
+        if end and end[0] in ('fin', 'close'): end = (end[0], later(end[1], 1000 * a('delay')))
+    if end and line and end[1] < line[-1][0]: end = (end[0], line[-1][0])
+    return line, end
+
+
+def cut(lines):
+    ends = [end for _, end in lines if end and end[0] in ('close', 'reset')]
+    out = []
+    if ends:
+        c = min(at for _, at in ends)
+        kind = next(kind for kind, at in ends if at == c)
+        lines = [([b for b in line if b[0] <= c], end if end and end[1] <= c else (kind, c)) for line, end in lines]
+    for line, end in lines:
+        out.append(([b for b in line if b[0] < HORIZON], end if end and end[1] < HORIZON else None))
+    return out
+
+
+def sum16(b):
+    total = sum(struct.unpack('>%dH' % ((len(b) + 1) // 2), b + b'\0' * (len(b) % 2)))
+    return 65535 - (total and (total - 1) % 65535 + 1)
+
+
+def frame(conn, client, seq, ack, flags, data=b''):
+    f = conn['first']
+    ends = (f['mac_from'], f['mac_to'], f['frm'], f['to']) if client else (f['mac_to'], f['mac_from'], f['to'], f['frm'])
+    mac_from, mac_to, frm, to = ends
+    ip = struct.pack('>HHHHBBH', 0x4500, 40 + len(data), 0, 0x4000, 64, 6, 0) + frm[0] + to[0]
+    ip = ip[:10] + struct.pack('>H', sum16(ip)) + ip[12:]
+    tcp = struct.pack('>HHIIBBHHH', frm[1], to[1], seq % M32, ack % M32, 0x50, flags, 65535, 0, 0) + bytes(data)
+    seen = frm[0] + to[0] + struct.pack('>BBH', 0, 6, len(tcp))
+    tcp = tcp[:16] + struct.pack('>H', sum16(seen + tcp)) + tcp[18:]
+    return mac_to + mac_from + b'\x08\x00' + ip + tcp
+
+
+def written(conn, x, y, delivered, refused):
+    """The segments of a connection: (key, frame)."""
+    o, c = conn['opened'], conn['number']
+    if o >= HORIZON: return []
+    out = [((o, c, 0, 0), frame(conn, True, x, 0, SYN))]
+    if refused: return out + [((o, c, 0, 1), frame(conn, False, 0, x + 1, RST | ACK))]
+    out += [((o, c, 0, 1), frame(conn, False, y, x + 1, SYN | ACK)), ((o, c, 0, 2), frame(conn, True, x + 1, y + 1, ACK))]
+    for turn, mine, its in ((1, 0, 1), (2, 1, 0)):
+        base, peer = ((x, y), (y, x))[mine]
+        line, end = delivered[mine]
+        heard_line, heard_end = delivered[its]
+        def ack(at):
+            got = sum(1 for b in heard_line if b[0] < at)
+            return peer + 1 + got + bool(heard_end and heard_end[0] in ('fin', 'close') and heard_end[1] < at)
+        place = sent = 0
+        for at, data in chunks(line):
+            for i in range(0, len(data), 1460):
+                piece = data[i:i + 1460]
+                flags = ACK | (PSH if i + 1460 >= len(data) else 0)
+                out.append(((at, c, turn, place), frame(conn, turn == 1, base + 1 + sent, ack(at), flags, bytes(piece))))
+                place, sent = place + 1, sent + len(piece)
+        if end:
+            flags = RST | ACK if end[0] == 'reset' else FIN | ACK
+            out.append(((end[1], c, turn, place), frame(conn, turn == 1, base + 1 + sent, ack(end[1]), flags)))
+    return out
+
+
+def told(line, before, lost, opened, refused):
+    (bytes_now, end), (bytes_before, _) = line, before
+    what = 'refused' if refused else 'open' if not end else '%s+%d' % (end[0], end[1] - opened)
+    late = max([a[0] - b[0] for a, b in zip(bytes_now, bytes_before)], default=0)
+    return '%d/%d/%d %s max %d' % (len(bytes_now), len(bytes_before), lost, what, late)
+
+
+def peer(end): return '%d.%d.%d.%d:%d' % (*end[0], end[1])
+
+
+def rehearse(b, scenario, number, seed, hosts):
+    """The report and the capture of a scenario."""
+    records, rest = read(b)
+    counts, segments, now = dict.fromkeys(CLASSES, 0), [], 0
+    for stamp, packet in records:
+        now = max(now, stamp)
+        kind, fields = classify(packet)
+        counts[kind] += 1
+        if fields: segments.append(dict(fields, at=now))
+    conns, unopened = connections(segments)
+    report = ['scenario %d records %d rest %d ' % (number, len(records), rest) + ' '.join('%s %d' % (k, counts[k]) for k in CLASSES)]
+    report.append('connections %d unopened %d' % (len(conns), unopened))
+    everything = []
+    for conn in conns:
+        c, o = conn['number'], conn['opened']
+        members, reset = [], None
+        for s in conn['members']:
+            if s['flags'] & RST:
+                reset = s['at']
+                break
+            members.append(s)
+        x = conn['first']['seq']
+        y = next((s['seq'] for s in members if s['frm'] == conn['server'] and s['flags'] & (SYN | ACK) == SYN | ACK), None)
+        sides = [recorded(conn, conn['client'], x, members, reset), recorded(conn, conn['server'], y, members, reset)]
+        met = next((i for i, p in enumerate(scenario) if upstream(p, hosts) == peer(conn['server'])), None)
+        refused = met is not None and scenario[met].get('enabled') is False
+        lines = [line for line, _ in sides]
+        if met is not None:
+            for d, name in enumerate(('upstream', 'downstream')):
+                toxics = [t for t in scenario[met].get('toxics') or [] if (t.get('stream') or 'downstream') == name]
+                for t, toxic in enumerate(toxics):
+                    draw = lambda k: word(seed, number * 2**30 + c * 16 + d * 8 + t, k)
+                    ppm = toxic.get('toxicity_ppm', MILLION * toxic.get('toxicity', 1))
+                    if draw(0) % MILLION < ppm: lines[d] = through(toxic, *lines[d], o, draw)
+        lines = [([], None), ([], None)] if refused else cut(lines)
+        everything += written(conn, x, y or 0, lines, refused)
+        both = [told(lines[d], sides[d][0], sides[d][1], o, refused) for d in (0, 1)]
+        report.append('%d %s > %s proxy %s up %s down %s' % (c, peer(conn['client']), peer(conn['server']), '-' if met is None else met, *both))
+    out = bytes.fromhex('d4c3b2a1020004000000000000000000ffff000001000000')
+    for key, f in sorted(everything):
+        if key[0] < HORIZON: out += struct.pack('<IIII', *divmod(key[0], MILLION), len(f), len(f)) + f
+    return '\n'.join(report) + '\n', out
+
+
+def upstream(proxy, hosts):
+    host, port = proxy['upstream'].rsplit(':', 1)
+    return '%s:%d' % (hosts.get(host, host), int(port))
+
+
+def main():
+    row = pathlib.Path(sys.argv[1])
+    tests = pathlib.Path(__file__).resolve().parent.parent
+    if (row / 'dump').exists(): text = (row / 'dump').read_text()
+    else:
+        segments = (row / 'segments').read_bytes() if (row / 'segments').exists() else subprocess.run(['awk', '-f', row / 'segments.awk'], input=b'', capture_output=True, check=True).stdout
+        text = subprocess.run(['awk', '-f', tests / 'capture.awk'], input=segments, capture_output=True, check=True).stdout.decode()
+    capture = bytes.fromhex(''.join(text.split()))
+    arguments = (row / 'arguments').read_text().split() if (row / 'arguments').exists() else []
+    options = [(arguments[i], arguments[i + 1]) for i in range(0, len(arguments), 2)]
+    seed = int(dict(options).get('--seed', 0))
+    hosts = dict(value.split('=') for name, value in options if name == '--host')
+    scenarios = [json.loads((row / value).read_text()) for name, value in options if name == '--scenario'] or [[]]
+    reports = ''
+    for number, scenario in enumerate(scenarios):
+        report, out = rehearse(capture, scenario, number, seed, hosts)
+        reports += report
+        if len(out) > 4000: (row / f'{number:04}.sha256').write_text(hashlib.sha256(out).hexdigest() + '\n')
+        else:
+            records, at = [out[:24].hex(' ', 4)], 24
+            while at < len(out):
+                n = int.from_bytes(out[at + 8:at + 12], 'little')
+                records.append(out[at:at + 16].hex(' ', 4) + ' ' + re.sub('(.{108})', r'\1 ', out[at + 16:at + 16 + n].hex(), count=1).strip())
+                at += 16 + n
+            (row / f'{number:04}.hex').write_text('\n'.join(records) + '\n')
+    (row / 'report').write_text(reports)
+
+
+main()

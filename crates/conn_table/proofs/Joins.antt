@@ -20,8 +20,16 @@ joins_agree c from mid to carry first second within =
     let l : List IndexedSegment = segments_between c from mid carry in
     let r : List IndexedSegment = segments_between c mid to next in
     let whole = segments_between-append c from mid to carry first second (omega (arith, length-map c.records (packet_of c.bytes))) in
-    rw (kept_of-marked c [] l, kept_of-marked c [] r, marked_behind-kept c l r, whole, marked_after-append [] l r, map-append (marked_in c) (marked_after [] l) (marked_after l r),
-      packets_between-append c from mid to carry first second, counts_of-append (packets_between c from mid carry) (packets_between c mid to next)) refl
+    rw (
+      kept_of-marked c [] l,
+      kept_of-marked c [] r,
+      marked_behind-kept c l r,
+      whole,
+      marked_after-append [] l r,
+      map-append (marked_in c) (marked_after [] l) (marked_after l r),
+      packets_between-append c from mid to carry first second,
+      counts_of-append (packets_between c from mid carry) (packets_between c mid to next),
+    ) refl
 
 -- ---- by pairs
 

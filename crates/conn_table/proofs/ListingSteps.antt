@@ -147,4 +147,3 @@ IsGrown-pair old new p false is apart found pairs lasts entries = record {
   marks = rw (pairs, entries) (marks-more_pairs old.pairs.keys p old.entries.items is.groups);
   kept = λ g q at. rw pairs (slice_get-append old.pairs.keys (p ∷ []) g q at);
 }
-

@@ -1,5 +1,5 @@
 -- Numbers of options, as std parses their texts.
-use Rattle.std.proofs.Common.{◌≡◌, ◌^◌, ◌&&◌, ℕ, Bool, true, false, refl, sym, List, [], ◌∷◌, length, Option, Some, None, option_and_then, Result, Ok, Err, true≢false, nat_lt, lt-ltb, ltb-true}
+use Rattle.std.proofs.Common.{◌≡◌, ◌^◌, ◌&&◌, ℕ, Bool, true, false, refl, List, [], ◌∷◌, length, Option, Some, None, option_and_then, Result, Ok, Err, nat_lt, lt-ltb, ltb-true}
 use Rattle.std.proofs.lemmas.Bool.{and_parts}
 use Rattle.std.specs.List.{list_all}
 use Rattle.std.specs.Char.{digit_value}

@@ -4,6 +4,7 @@ use Rattle.std.specs.List.{enumerate_from, range_with_len}
 use Rattle.std.proofs.lemmas.Nat.{div_below}
 use Rattle.std.proofs.lemmas.List.{length-map}
 use Rattle.std.proofs.lemmas.List.FromFn.{length-enumerate_from, get_or-enumerate_from}
+use Rattle.pcap_records.proofs.Lists.{listed}
 use Rattle.pcap_records.specs.CaptureView.{CaptureView, contents_of}
 use Rattle.conn_table.specs.SeenCapture.{seen_capture}
 use Rattle.conn_table.specs.IndexedConnections.{IndexedConnection, without_indices, IndexedConnectionsAgree}
@@ -13,7 +14,7 @@ use Rattle.conn_workers.specs.Contributions.{contribution}
 use Rattle.conn_workers.specs.DeliveryRows.{connections_of, delivery_of, deliveries}
 use Rattle.conn_workers.specs.CaptureTables.{whole_table, whole_connections}
 use Rattle.conn_workers.specs.Recordings.{RecordingView, recording_in, recordings_of, no_recording, recorded_delivery, recorded_deliveries, no_delivery}
-use Rattle.conn_workers.proofs.RowLemmas.{length-rows, some_columns, at_place, rows_alike, listed}
+use Rattle.conn_workers.proofs.RowLemmas.{length-rows, some_columns, at_place, rows_alike}
 use Rattle.conn_workers.proofs.TableConnections.{connections_are, conns_are}
 
 -- of the table's connection and what is recorded of it, or of the connection

@@ -1,5 +1,4 @@
 mod Meetings
-mod SeenPackets
 mod RowLemmas
 pub mod TableConnections
 mod DeliverySteps

@@ -1,5 +1,5 @@
 -- The proxy that a connection meets, by its number in the scenario.
-use Rattle.std.proofs.Common.{◌≡◌, ℕ, ◌+◌, ◌<◌, ◌≤◌, Bool, find, List, [], ◌∷◌, length, get_or, position, Option, Some, None, option_map, refl, ap, ◌∙◌, arith}
+use Rattle.std.proofs.Common.{◌≡◌, ℕ, ◌+◌, ◌<◌, ◌≤◌, Bool, find, List, [], ◌∷◌, length, get_or, position, Some, None, option_map, refl, ap, ◌∙◌, arith}
 use Rattle.std.specs.List.{enumerate_from, position_or_len, slice_get}
 use Rattle.std.proofs.lemmas.Grind.{common_steps}
 use Rattle.std.proofs.lemmas.List.Folds.{find_at}

@@ -1,16 +1,11 @@
 -- Lists that are laid out row by row.
 use Rattle.std.proofs.Common.{◌≡◌, ◌<◌, ◌≤◌, ℕ, zero, suc, ◌+◌, ◌*◌, ◌/◌, ◌%◌, List, [], ◌∷◌, map, length, get_or, Some, refl, sym, ap, ap₂, ◌∙◌, arith}
-use Rattle.std.specs.List.{range_with_len, enumerate_from, slice_get}
+use Rattle.std.specs.List.{enumerate_from, slice_get}
 use Rattle.std.proofs.Math.Nat.{suc-mul, mul-le-mul_right}
 use Rattle.std.proofs.lemmas.Nat.{div-add-mod', div_below, mod_below}
 use Rattle.std.proofs.lemmas.List.{length-append, length-map, get_or-map, get_or_append_left, get_or-append-add}
-use Rattle.std.proofs.lemmas.List.FromFn.{fill_by_all}
 use Rattle.std.proofs.lemmas.Option.{slice_get-get_or, slice_get_within, get_or_from_slice_get}
 use Rattle.conn_workers.specs.DeliveryRows.{rows}
-
--- the elements at all places are the list
-pub listed : {V : Type 0} (xs : List V) (n : ℕ) (d : V) → length xs ≡ n → map (λ j. get_or xs j d) (range_with_len 0 n) ≡ xs
-listed xs n d len = sym (fill_by_all (λ j. get_or xs j d) xs n d len (λ k below. refl))
 
 -- where a place is within rows, they have columns
 pub some_columns : (j rows columns : ℕ) → j < rows * columns → 0 < columns

@@ -1,9 +1,10 @@
 -- The connections of a capture's table.
-use Rattle.std.proofs.Common.{◌≡◌, ◌<◌, ◌≤◌, ℕ, zero, suc, ◌-◌, Bool, true, false, List, [], ◌∷◌, map, filter, length, get_or, Option, Some, None, refl, ap, ◌∙◌, arith, if◌then◌else◌}
+use Rattle.std.proofs.Common.{◌≡◌, ◌<◌, ◌≤◌, ℕ, suc, ◌-◌, List, [], ◌∷◌, map, length, get_or, Option, Some, None, refl, ap, ◌∙◌, arith}
 use Rattle.std.specs.List.{AllByRecursion, enumerate_from, filter_map, cons_option}
 use Rattle.std.proofs.lemmas.List.{length-map, take_all, get_or-map, get_or_default}
 use Rattle.std.proofs.lemmas.List.Sums.{count_by-le-length, length-filter}
 use Rattle.std.proofs.lemmas.List.FromFn.{length-enumerate_from}
+use Rattle.pcap_records.proofs.Lists.{all_at}
 use Rattle.pcap_records.specs.Reading.{Packet}
 use Rattle.pcap_records.specs.CaptureView.{CaptureView, contents_of, packet_of}
 use Rattle.conn_table.specs.declared.conns.Conn.{Conn}
@@ -13,11 +14,10 @@ use Rattle.conn_table.specs.Connections.{connections, beginnings, begins}
 use Rattle.conn_table.specs.IndexedConnections.{indexed_connections, indexed_connection_of, without_indices, IndexedConnectionsAgree}
 use Rattle.conn_table.specs.Partials.{packets_between, segments_between}
 use Rattle.conn_table.specs.Tables.{table_in, conn_in}
-use Rattle.reassembly.specs.RecordedView.{IsConnOf, IsConnectionOf}
-use Rattle.reassembly.specs.RecordedView.{ConnectionsAreOfCapture, ConnsAreOfCapture}
+use Rattle.conn_table.proofs.RangeSteps.{length-packets_between}
+use Rattle.reassembly.specs.RecordedView.{IsConnOf, IsConnectionOf, ConnectionsAreOfCapture, ConnsAreOfCapture}
 use Rattle.conn_workers.specs.DeliveryRows.{connections_of}
 use Rattle.conn_workers.specs.CaptureTables.{whole_table, whole_connections}
-use Rattle.conn_workers.proofs.SeenPackets.{length-seen_packets}
 
 pub conns_are : (c : CaptureView) → (whole_table c).conns ≡ map (conn_in c) (whole_connections c)
 unfolding table_in
@@ -65,14 +65,12 @@ few_beginnings segs =
 
 pub few_connections : (c : CaptureView) → length (whole_connections c) ≤ length c.records
 few_connections c =
-    let packets : List Packet = (contents_of c).packets in
+    let packets : length (contents_of c).packets ≡ length c.records = length-map c.records (packet_of c.bytes) in
     omega (
       arith,
       few_beginnings (segments_between c 0 (length c.records) 0),
       few_segments (packets_between c 0 (length c.records) 0),
-      ap length (all_packets c),
-      length-seen_packets packets,
-      length-map c.records (packet_of c.bytes),
+      length-packets_between c 0 (length c.records) 0 (omega arith) (omega (arith, packets)),
     )
 
 pub few_conns : (c : CaptureView) → length (whole_table c).conns ≤ length c.records
@@ -88,11 +86,6 @@ pub record StandsAt {A : Type 0} (xs : List A) (i : ℕ) : Type 0 where
 stands_at : {A : Type 0} (xs : List A) (i : ℕ) → i < length xs → StandsAt xs i
 stands_at [] i within = absurd (omega (arith, within))
 stands_at (x ∷ xs) i within = record { item = get_or (x ∷ xs) i x; read = λ d. get_or_default (x ∷ xs) i d x within }
-
-all_at : {A : Type 0} (P : A → Type 0) (xs : List A) (i : ℕ) (d : A) → AllByRecursion P xs → i < length xs → P (get_or xs i d)
-all_at P [] i d all within = absurd (omega (arith, within))
-all_at P (x ∷ xs) zero d all within = all.0
-all_at P (x ∷ xs) (suc i) d all within = all_at P xs i d all.1 (omega (arith, within))
 
 module _ (c : CaptureView) (conns : List Conn) (shown : conns ≡ (whole_table c).conns) (i : ℕ) (within : i < length conns) where
   mapped : conns ≡ map (conn_in c) (whole_connections c)

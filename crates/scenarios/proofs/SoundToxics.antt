@@ -2,7 +2,7 @@
 use Rattle.std.proofs.Common.{◌≡◌, ℕ, ◌<◌, Bool, true, false, nat_le, List, [], ◌∷◌, ◌++◌, length, Some, None, option_and_then, if◌then◌else◌, Ok, refl, subst, arith, length-append}
 use Rattle.std.proofs.lemmas.Bool.{leb-false}
 use Rattle.std.proofs.lemmas.Option.{none-some, same_Some}
-use Rattle.std.specs.List.{AllByRecursion}
+use Rattle.pcap_records.proofs.Lists.{all_push}
 use Rattle.serde_json.specs.Data.{Data, Items, no_items, item}
 use Rattle.toxic_defs.specs.declared.kinds.Kind.{Kind}
 use Rattle.toxic_defs.specs.Limits.{most_toxics}
@@ -49,12 +49,8 @@ toxic_fits read d t is =
 
 -- ---- the toxics of both directions
 
-one_more_in_range : (toxics : List RatedKind) (toxic : RatedKind) → AllByRecursion IsInRange toxics → IsInRange toxic → AllByRecursion IsInRange (toxics ++ toxic ∷ [])
-one_more_in_range [] toxic are is = (is, tt)
-one_more_in_range (t ∷ toxics) toxic are is = (are.0, one_more_in_range toxics toxic are.1 is)
-
 one_more : (toxics : List RatedKind) (toxic : RatedKind) → AreSoundToxics toxics → length toxics < most_toxics → IsInRange toxic → AreSoundToxics (toxics ++ toxic ∷ [])
-one_more toxics toxic are room is = record { few = omega (arith, length-append toxics (toxic ∷ [])); in_range = one_more_in_range toxics toxic are.in_range is }
+one_more toxics toxic are room is = record { few = omega (arith, length-append toxics (toxic ∷ [])); in_range = all_push IsInRange toxics toxic are.in_range is }
 
 BothSound : ToxicsRead → Type 0
 BothSound read = AreSoundToxics read.up × AreSoundToxics read.down

@@ -1,5 +1,5 @@
 //! The proxies of a scenario.
-ghost use Rattle.std.specs.Prelude.{◌≡◌, ◌<◌, ◌≤◌, [], ℕ, length, option_map, IfOk};
+ghost use Rattle.std.specs.Prelude.{◌≡◌, ◌<◌, ◌≤◌, [], length, option_map, IfOk};
 ghost use Rattle.serde_json.specs.View.{view, items_view};
 ghost use Rattle.pcap_records.specs.Agreement.{AgreesUnlessMemory};
 ghost use Rattle.scenarios.specs.Refusals.{refusal};

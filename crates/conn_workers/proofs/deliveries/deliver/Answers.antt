@@ -2,7 +2,7 @@ use Rattle.std.proofs.Common.{◌*◌, length, sym, ap, ◌∙◌, arith}
 use Rattle.std.proofs.lemmas.Result.{IfOk-weaker}
 use Rattle.pcap_records.specs.Instants.{microseconds}
 use Rattle.conn_workers.specs.Recordings.{recorded_deliveries, no_delivery}
-use Rattle.conn_workers.proofs.RowLemmas.{listed}
+use Rattle.pcap_records.proofs.Lists.{listed}
 use Rattle.conn_workers.proofs.TableConnections.{few_conns}
 use Rattle.conn_workers.proofs.DeliverySteps.{deliveries_are, all_recordings, as_many, length-recorded_deliveries}
 use Rattle.conn_workers.proofs.deliveries.deliver.Goals as goal

@@ -5,5 +5,4 @@ mod joining;
 mod merging;
 mod range_tables;
 mod tables;
-mod told_jobs;
 mod workers;

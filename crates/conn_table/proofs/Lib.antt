@@ -1,6 +1,7 @@
-mod GroupingFilters
+pub mod Peers
+pub mod GroupingFilters
 mod GroupingOrder
-mod GroupingPairs
+pub mod GroupingPairs
 mod GroupingBeginnings
 mod GroupingMembers
 mod GroupingUnopened
@@ -8,12 +9,12 @@ mod GroupingForms
 mod CountingSteps
 mod ListingSteps
 mod MarkSteps
-mod RangeSteps
+pub mod RangeSteps
 mod JoinSteps
 mod PartialSteps
 mod GrowthSteps
 mod Growths
 mod Joins
 mod TableForms
-mod TableSoundness
+pub mod TableSoundness
 mod Sides

@@ -1,6 +1,6 @@
 -- What contracts see of the code's classes and segments.
-use Rattle.std.specs.Prelude.{◌≡◌}
-use Rattle.frame_headers.specs.Frame.{FrameClass, short, not_ipv4, bad_ipv4, fragment, not_tcp, cut, bad_tcp, same_ends, segment, SegmentFields}
+use Rattle.std.specs.Prelude.{◌≡◌, ◌≤◌, ◌<◌, ℕ, ◌+◌, ◌^◌, List, length}
+use Rattle.frame_headers.specs.Frame.{FrameClass, short, not_ipv4, bad_ipv4, fragment, not_tcp, cut, bad_tcp, same_ends, segment, SegmentFields, payload_offset}
 use Rattle.frame_headers.specs.declared.classes.Class.{Class}
 use Rattle.frame_headers.specs.declared.classes.Class.TheVariants as classes
 use Rattle.frame_headers.specs.declared.classes.Segment.{Segment}
@@ -29,6 +29,17 @@ fields_of_segment s = record {
   flags = s.flags;
   payload = s.payload.now;
 }
+
+-- a segment's payload lies in the frame at the segment's offset, and 16 bits tell how long it is
+pub record IsPayloadIn (frame : List ℕ) (s : Segment) : Type 0 where
+  pub offset : s.offset ≡ payload_offset frame
+  pub within : s.offset + length s.payload.now ≤ length frame
+  pub short : length s.payload.now < 2 ^ 16
+
+-- a segment, where the answer is one, has its payload there
+abbrev pub HasPayloadIn : List ℕ → Class → Type 0
+HasPayloadIn frame (classes.Segment s) = IsPayloadIn frame s
+HasPayloadIn frame c = Unit {0}
 
 -- a segment, where the answer is one, has these fields
 abbrev pub HasFields : Class → SegmentFields → Type 0

@@ -1,8 +1,9 @@
--- What a captured Ethernet frame is, and the fields of the TCP segment in it. A frame is the list of its bytes, and each
--- field is the number at the place where its standard puts it.
+-- What a captured Ethernet frame is, and the fields of the TCP segment in it. A frame is the list of its bytes, and
+-- each field is the number at the place where its standard puts it.
 use Rattle.std.specs.Prelude.{ℕ, ◌+◌, ◌-◌, ◌*◌, ◌/◌, ◌%◌, List, length, drop, slice_index, slice_range, Bool, ◌||◌, ◌&&◌, not, nat_lt, ◌==◌, if◌then◌else◌}
 use Rattle.byteorder.specs.Endian.{big_number}
 use Rattle.frame_headers.specs.declared.peers.Peer.{Peer}
+use Rattle.frame_headers.specs.Layout.{mac_len, link_len, type_len, ipv4_type, ipv4_len, total_len_at, fragment_at, protocol_at, source_at, destination_at, tcp_protocol, tcp_len, to_port_at, seq_at, ack_at, data_offset_at, flags_at}
 
 -- the number in the n bytes from a place on, the highest byte first
 abbrev pub number_at : ℕ → ℕ → List ℕ → ℕ
@@ -10,15 +11,11 @@ number_at n place bytes = big_number n (drop place bytes)
 
 -- Ethernet II: the receiver's address and the sender's, 6 bytes each, and the type of what follows.
 
--- the bytes of the Ethernet header
-abbrev pub link_len : ℕ
-link_len = 14
-
 -- the type of what follows
 abbrev pub link_type : List ℕ → ℕ
-link_type frame = number_at 2 (link_len - 2) frame
+link_type frame = number_at 2 (link_len - type_len) frame
 
--- what follows: an IPv4 datagram, where the type says so, and whatever stands behind it
+-- what follows: an IPv4 datagram, where the type says so, and whatever stands after it
 abbrev pub datagram : List ℕ → List ℕ
 datagram frame = drop link_len frame
 
@@ -28,9 +25,9 @@ is_short frame = nat_lt (length frame) link_len
 
 -- another type than IPv4's
 abbrev pub is_not_ipv4 : List ℕ → Bool
-is_not_ipv4 frame = not (link_type frame == 0x0800)
+is_not_ipv4 frame = not (link_type frame == ipv4_type)
 
--- IPv4 (RFC 791 section 3.1). `ip` is a datagram and whatever stands behind it.
+-- IPv4 (RFC 791 section 3.1). `ip` is a datagram and whatever stands after it.
 
 abbrev pub version : List ℕ → ℕ
 version ip = slice_index ip 0 / 16
@@ -41,30 +38,31 @@ header_len ip = 4 * (slice_index ip 0 % 16)
 
 -- the bytes of the whole datagram
 abbrev pub total_len : List ℕ → ℕ
-total_len ip = number_at 2 2 ip
+total_len ip = number_at 2 total_len_at ip
 
 -- the flag that more fragments follow, and the fragment's offset: all but the two highest bits of their 16, which are
 -- reserved and "don't fragment"
 abbrev pub fragment_bits : List ℕ → ℕ
-fragment_bits ip = number_at 2 6 ip % 16384
+fragment_bits ip = number_at 2 fragment_at ip % 16384
 
 abbrev pub protocol : List ℕ → ℕ
-protocol ip = slice_index ip 9
+protocol ip = slice_index ip protocol_at
 
 abbrev pub source : List ℕ → ℕ
-source ip = number_at 4 12 ip
+source ip = number_at 4 source_at ip
 
 abbrev pub destination : List ℕ → ℕ
-destination ip = number_at 4 16 ip
+destination ip = number_at 4 destination_at ip
 
--- what the datagram carries: from the end of its header to its total length. What stands behind is padding.
+-- what the datagram carries: from the end of its header to its total length. What stands after is padding.
 abbrev pub ip_payload : List ℕ → List ℕ
 ip_payload ip = slice_range ip (header_len ip) (total_len ip)
 
 -- no whole IPv4 header, or one that contradicts itself
 abbrev pub is_bad_ipv4 : List ℕ → Bool
 is_bad_ipv4 ip =
-    nat_lt (length ip) 20 || not (version ip == 4) || nat_lt (header_len ip) 20 || nat_lt (total_len ip) (header_len ip)
+    nat_lt (length ip) ipv4_len || not (version ip == 4) || nat_lt (header_len ip) ipv4_len
+    || nat_lt (total_len ip) (header_len ip)
 
 -- more fragments follow, or the offset is not 0
 abbrev pub is_fragment : List ℕ → Bool
@@ -72,7 +70,7 @@ is_fragment ip = not (fragment_bits ip == 0)
 
 -- another protocol than TCP's
 abbrev pub is_not_tcp : List ℕ → Bool
-is_not_tcp ip = not (protocol ip == 6)
+is_not_tcp ip = not (protocol ip == tcp_protocol)
 
 -- the capture holds only a part of the datagram
 abbrev pub is_cut : List ℕ → Bool
@@ -82,11 +80,12 @@ is_cut ip = nat_lt (length ip) (total_len ip)
 
 -- the bytes of the TCP header, which tells the number of its 32-bit words
 abbrev pub data_offset : List ℕ → ℕ
-data_offset tcp = 4 * (slice_index tcp 12 / 16)
+data_offset tcp = 4 * (slice_index tcp data_offset_at / 16)
 
 -- no whole TCP header, or one that contradicts itself
 abbrev pub is_bad_tcp : List ℕ → Bool
-is_bad_tcp tcp = nat_lt (length tcp) 20 || nat_lt (data_offset tcp) 20 || nat_lt (length tcp) (data_offset tcp)
+is_bad_tcp tcp =
+    nat_lt (length tcp) tcp_len || nat_lt (data_offset tcp) tcp_len || nat_lt (length tcp) (data_offset tcp)
 
 -- the peers of a segment: each an IPv4 address and a TCP port
 
@@ -94,7 +93,7 @@ abbrev pub sender : List ℕ → Peer
 sender ip = record { addr = source ip; port = number_at 2 0 (ip_payload ip) }
 
 abbrev pub receiver : List ℕ → Peer
-receiver ip = record { addr = destination ip; port = number_at 2 2 (ip_payload ip) }
+receiver ip = record { addr = destination ip; port = number_at 2 to_port_at (ip_payload ip) }
 
 -- a segment from a peer to itself
 abbrev pub is_same_ends : List ℕ → Bool
@@ -104,7 +103,7 @@ is_same_ends ip = (sender ip).addr == (receiver ip).addr && (sender ip).port == 
 abbrev pub payload_of : List ℕ → List ℕ
 payload_of tcp = slice_range tcp (data_offset tcp) (length tcp)
 
--- where the payload lies in a segment's frame: behind the headers of Ethernet, IPv4 and TCP
+-- where the payload lies in a segment's frame: after the headers of Ethernet, IPv4 and TCP
 abbrev pub payload_offset : List ℕ → ℕ
 payload_offset frame = link_len + header_len (datagram frame) + data_offset (ip_payload (datagram frame))
 
@@ -149,13 +148,13 @@ pub record SegmentFields : Type 0 where
 -- the fields of the segment in a frame of that class
 unfoldable pub segment_fields : List ℕ → SegmentFields
 segment_fields frame = record {
-  mac_from = slice_range frame 6 12;
-  mac_to = slice_range frame 0 6;
+  mac_from = slice_range frame mac_len (mac_len + mac_len);
+  mac_to = slice_range frame 0 mac_len;
   from = sender (datagram frame);
   to = receiver (datagram frame);
-  seq = number_at 4 4 (ip_payload (datagram frame));
-  ack = number_at 4 8 (ip_payload (datagram frame));
-  flags = slice_index (ip_payload (datagram frame)) 13;
+  seq = number_at 4 seq_at (ip_payload (datagram frame));
+  ack = number_at 4 ack_at (ip_payload (datagram frame));
+  flags = slice_index (ip_payload (datagram frame)) flags_at;
   payload = payload_of (ip_payload (datagram frame));
 }
 

@@ -2,14 +2,15 @@
 use Rattle.std.specs.Prelude.{◌≡◌, ◌≢◌, ℕ, ◌+◌, ◌<◌, ◌≤◌, ◌^◌, List, ◌++◌, length, drop, slice_range}
 use Rattle.std.specs.List.{AllByRecursion}
 use Rattle.frame_headers.specs.Frame.{SegmentFields, datagram, frame_class, segment_fields, segment, payload_offset}
-use Rattle.frame_headers.specs.Headers.{headers, headers_len, payload_limit}
+use Rattle.frame_headers.specs.Layout.{mac_len, ipv4_len, headers_len, payload_limit}
+use Rattle.frame_headers.specs.Headers.{headers}
 use Rattle.frame_headers.specs.Sum.{sum16, tcp_sum}
 use Rattle.frame_headers.specs.declared.written.Header.{Header}
 
 -- the fields of a header lie in the ranges of their types
 pub record IsHeader (h : Header) : Type 0 where
-  pub mac_from : length h.mac_from ≡ 6
-  pub mac_to : length h.mac_to ≡ 6
+  pub mac_from : length h.mac_from ≡ mac_len
+  pub mac_to : length h.mac_to ≡ mac_len
   pub from_addr : h.from.addr < 2 ^ 32
   pub from_port : h.from.port < 2 ^ 16
   pub to_addr : h.to.addr < 2 ^ 32
@@ -31,11 +32,11 @@ fields_with h bytes = record {
   payload = bytes;
 }
 
--- the checksums of the IPv4 header and of TCP in a frame with this header are right: each sum over what it covers, itself
--- among it, is all ones, so its complement is 0
+-- the checksums of the IPv4 header and of TCP in a frame with this header are right: each sum over what it covers,
+-- itself among it, is all ones, so its complement is 0
 pub record SumsToNothing (h : Header) (frame : List ℕ) : Type 0 where
-  pub ipv4 : sum16 (slice_range (datagram frame) 0 20) ≡ 0
-  pub tcp : tcp_sum h.from.addr h.to.addr (drop 20 (datagram frame)) ≡ 0
+  pub ipv4 : sum16 (slice_range (datagram frame) 0 ipv4_len) ≡ 0
+  pub tcp : tcp_sum h.from.addr h.to.addr (drop ipv4_len (datagram frame)) ≡ 0
 
 -- a frame is read as a segment with this header and payload; the class needs peers that differ
 pub record IsReadBack (h : Header) (bytes frame : List ℕ) : Type 0 where
@@ -48,12 +49,13 @@ pub record IsReadBack (h : Header) (bytes frame : List ℕ) : Type 0 where
 abbrev pub HeadersAreSound : Type 0
 HeadersAreSound =
     (h : Header) (bytes : List ℕ) → IsHeader h → length bytes ≤ payload_limit
-    → (length (headers h bytes) ≡ headers_len) × SumsToNothing h (headers h bytes ++ bytes) × IsReadBack h bytes (headers h bytes ++ bytes)
+    → (length (headers h bytes) ≡ headers_len) × SumsToNothing h (headers h bytes ++ bytes)
+    × IsReadBack h bytes (headers h bytes ++ bytes)
 
 -- the fields of a captured segment fit their places in written headers, and its peers differ
 pub record FieldsFit (f : SegmentFields) : Type 0 where
-  pub mac_from : length f.mac_from ≡ 6
-  pub mac_to : length f.mac_to ≡ 6
+  pub mac_from : length f.mac_from ≡ mac_len
+  pub mac_to : length f.mac_to ≡ mac_len
   pub from_addr : f.from.addr < 2 ^ 32
   pub from_port : f.from.port < 2 ^ 16
   pub to_addr : f.to.addr < 2 ^ 32
@@ -62,12 +64,15 @@ pub record FieldsFit (f : SegmentFields) : Type 0 where
   pub differ : f.from ≢ f.to
 
 abbrev pub SegmentsFit : Type 0
-SegmentsFit = (frame : List ℕ) → AllByRecursion (λ b. b < 256) frame → frame_class frame ≡ segment → FieldsFit (segment_fields frame)
+SegmentsFit =
+    (frame : List ℕ) → AllByRecursion (λ b. b < 256) frame → frame_class frame ≡ segment → FieldsFit (segment_fields frame)
 
--- a segment's payload lies in its frame, behind the three headers
+-- a segment's payload lies in its frame, after the three headers
 pub record IsPayloadInPlace (frame : List ℕ) : Type 0 where
   pub within : payload_offset frame + length (segment_fields frame).payload ≤ length frame
-  pub bytes : slice_range frame (payload_offset frame) (payload_offset frame + length (segment_fields frame).payload) ≡ (segment_fields frame).payload
+  pub bytes :
+      slice_range frame (payload_offset frame) (payload_offset frame + length (segment_fields frame).payload)
+      ≡ (segment_fields frame).payload
 
 abbrev pub PayloadsAreInPlace : Type 0
 PayloadsAreInPlace = (frame : List ℕ) → frame_class frame ≡ segment → IsPayloadInPlace frame

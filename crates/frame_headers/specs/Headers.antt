@@ -1,25 +1,19 @@
--- The 54 bytes of headers of a TCP segment that is written: Ethernet II, IPv4 and TCP without options.
+-- The headers of a TCP segment that is written: Ethernet II, IPv4 and TCP without options.
 use Rattle.std.specs.Prelude.{ℕ, ◌+◌, List, length, ◌++◌}
 use Rattle.byteorder.specs.Endian.{big_bytes}
 use Rattle.frame_headers.specs.Sum.{sum16, tcp_sum}
+pub use Rattle.frame_headers.specs.Layout.{headers_len, payload_limit}
+use Rattle.frame_headers.specs.Layout.{ipv4_type, ipv4_len, tcp_len}
 use Rattle.frame_headers.specs.declared.written.Header.{Header}
-
--- the bytes of these headers
-abbrev pub headers_len : ℕ
-headers_len = 54
-
--- the most bytes of payload behind them, so that the datagram fits an Ethernet frame of 1,500 bytes
-abbrev pub payload_limit : ℕ
-payload_limit = 1460
 
 -- Ethernet II: the receiver's address, the sender's, and the type IPv4
 abbrev pub ethernet : Header → List ℕ
-ethernet h = (h.mac_to ++ h.mac_from) ++ big_bytes 2 0x0800
+ethernet h = (h.mac_to ++ h.mac_from) ++ big_bytes 2 ipv4_type
 
 -- what IPv4 (RFC 791 section 3.1) says of a datagram alone, before n bytes: version 4 and 5 words of header, the total
 -- length, no identification, "don't fragment" and no offset
 abbrev pub ipv4_lengths : ℕ → List ℕ
-ipv4_lengths n = ((big_bytes 2 0x4500 ++ big_bytes 2 (20 + n)) ++ big_bytes 2 0) ++ big_bytes 2 0x4000
+ipv4_lengths n = ((big_bytes 2 0x4500 ++ big_bytes 2 (ipv4_len + n)) ++ big_bytes 2 0) ++ big_bytes 2 0x4000
 
 -- what it says of the way: 64 hops and TCP's protocol number, the checksum, source and destination
 abbrev pub ipv4_route : ℕ → Header → List ℕ
@@ -51,4 +45,4 @@ tcp h payload = tcp_with (tcp_sum h.from.addr h.to.addr (tcp_with 0 h ++ payload
 
 -- the headers before a payload
 unfoldable pub headers : Header → List ℕ → List ℕ
-headers h payload = (ethernet h ++ ipv4 h (20 + length payload)) ++ tcp h payload
+headers h payload = (ethernet h ++ ipv4 h (tcp_len + length payload)) ++ tcp h payload

@@ -1,4 +1,5 @@
 pub mod Flags
+pub mod Layout
 pub mod Frame
 pub mod Class
 pub mod Sum

@@ -2,6 +2,7 @@
 -- 791 section 3.1), and TCP's, which covers a pseudo header too (RFC 9293 section 3.1).
 use Rattle.std.specs.Prelude.{ℕ, ◌+◌, ◌-◌, ◌*◌, ◌%◌, List, [], ◌∷◌, ◌++◌, length, ◌==◌, if◌then◌else◌}
 use Rattle.byteorder.specs.Endian.{big_bytes}
+use Rattle.frame_headers.specs.Layout.{tcp_protocol}
 
 -- the sum of the 16-bit words, the high byte of each first; an odd last byte is padded with a zero byte
 abbrev pub words_sum : List ℕ → ℕ
@@ -19,7 +20,7 @@ sum16 bytes = 65535 - folded_sum (words_sum bytes)
 
 -- the pseudo header before n bytes of TCP: the two addresses, a zero byte, TCP's protocol number and n
 abbrev pub pseudo_header : ℕ → ℕ → ℕ → List ℕ
-pseudo_header from to n = ((big_bytes 4 from ++ big_bytes 4 to) ++ big_bytes 2 6) ++ big_bytes 2 n
+pseudo_header from to n = ((big_bytes 4 from ++ big_bytes 4 to) ++ big_bytes 2 tcp_protocol) ++ big_bytes 2 n
 
 -- the checksum of a TCP header and payload as they stand, between two addresses
 unfoldable pub tcp_sum : ℕ → ℕ → List ℕ → ℕ

@@ -1,23 +1,16 @@
 //! Which class a captured frame has, and the fields of the TCP segment in it.
-ghost use Rattle.std.specs.Prelude.{◌≡◌, ◌+◌, ◌≤◌, length, slice_range};
-ghost use Rattle.frame_headers.specs.Class.{frame_class_of, HasFields, fields_of_segment};
+ghost use Rattle.std.specs.Prelude.{◌≡◌, ◌+◌, ◌≤◌, ◌<◌, ◌^◌, length, slice_range};
+ghost use Rattle.frame_headers.specs.Class.{frame_class_of, HasFields, HasPayloadIn, IsPayloadIn, fields_of_segment};
 ghost use Rattle.frame_headers.specs.Frame.{frame_class, segment_fields, datagram, header_len, total_len, is_not_ipv4, is_bad_ipv4, is_fragment, is_bad_tcp, ip_payload, data_offset};
 
 use crate::flag_bits::Flags;
+use crate::layout::{
+    ACK_AT, DATA_OFFSET_AT, DESTINATION_AT, FLAGS_AT, FRAGMENT_AT, IPV4_LEN, IPV4_TYPE, LINK_LEN,
+    MAC_LEN, PROTOCOL_AT, SEQ_AT, SOURCE_AT, TCP_LEN, TCP_PROTOCOL, TO_PORT_AT, TOTAL_LEN_AT,
+    TYPE_LEN,
+};
 use crate::peers::Peer;
 use byteorder::{BigEndian, ByteOrder};
-
-// The bytes of an Ethernet II header: two addresses and the type of what follows.
-const LINK_LEN: usize = 14;
-
-// The type of a frame that carries an IPv4 datagram.
-const IPV4: u16 = 0x0800;
-
-// The protocol number of TCP in an IPv4 header.
-const TCP: u8 = 6;
-
-// The least bytes of an IPv4 header, and of a TCP header.
-const LEAST_HEADER: usize = 20;
 
 /// What a captured Ethernet frame is: the first of these that holds of it. Checksums play no part, because a capture of
 /// outgoing packets commonly holds unfilled ones.
@@ -48,9 +41,9 @@ pub enum Class<'a> {
 #[derive(Clone, Copy, Debug, PartialEq, Eq)]
 pub struct Segment<'a> {
     /// The sender's Ethernet address.
-    pub mac_from: [u8; 6],
+    pub mac_from: [u8; MAC_LEN],
     /// The receiver's Ethernet address.
-    pub mac_to: [u8; 6],
+    pub mac_to: [u8; MAC_LEN],
     /// The sender.
     pub from: Peer,
     /// The receiver.
@@ -63,6 +56,8 @@ pub struct Segment<'a> {
     pub flags: Flags,
     /// The bytes from the end of the TCP header to the datagram's total length, a slice of the frame.
     pub payload: &'a [u8],
+    /// Where the payload begins in the frame: how many bytes the headers of Ethernet, IPv4 and TCP take.
+    pub offset: u16,
 }
 
 /// The class of a captured frame, and a segment's fields. It takes no memory, and every list of bytes has a class.
@@ -71,6 +66,7 @@ pub struct Segment<'a> {
 pub fn classify(packet: &[u8]) -> Class<'_>
     ensures class { frame_class_of result ≡ frame_class packet.now }
     ensures segment { HasFields result (segment_fields packet.now) }
+    ensures payload { HasPayloadIn packet.now result }
 {
     if packet.len() < LINK_LEN {
         return Class::Short;
@@ -78,14 +74,14 @@ pub fn classify(packet: &[u8]) -> Class<'_>
     if is_not_ipv4(packet) {
         return Class::NotIpv4;
     }
-    let ip = behind_link(packet);
+    let ip = after_link(packet);
     if is_bad_ipv4(ip) {
         return Class::BadIpv4;
     }
     if is_fragment(ip) {
         return Class::Fragment;
     }
-    if ip[9] != TCP {
+    if ip[PROTOCOL_AT] != TCP_PROTOCOL {
         return Class::NotTcp;
     }
     if ip.len() < total_len(ip) {
@@ -107,11 +103,11 @@ fn is_not_ipv4(packet: &[u8]) -> bool
     requires { LINK_LEN ≤ length packet.now }
     ensures { result ≡ is_not_ipv4 packet.now }
 {
-    BigEndian::read_u16(&packet[LINK_LEN - 2..]) != IPV4
+    BigEndian::read_u16(&packet[LINK_LEN - TYPE_LEN..]) != IPV4_TYPE
 }
 
 // What follows the Ethernet header.
-pub(crate) fn behind_link(packet: &[u8]) -> &[u8]
+pub(crate) fn after_link(packet: &[u8]) -> &[u8]
     requires { LINK_LEN ≤ length packet.now }
     ensures { result.now ≡ datagram packet.now }
 {
@@ -120,7 +116,7 @@ pub(crate) fn behind_link(packet: &[u8]) -> &[u8]
 
 // The bytes of an IPv4 header.
 fn header_len(ip: &[u8]) -> usize
-    requires { LEAST_HEADER ≤ length ip.now }
+    requires { IPV4_LEN ≤ length ip.now }
     ensures { result ≡ header_len ip.now }
 {
     4 * usize::from(ip[0] % 16)
@@ -128,43 +124,44 @@ fn header_len(ip: &[u8]) -> usize
 
 // The bytes of a whole IPv4 datagram.
 fn total_len(ip: &[u8]) -> usize
-    requires { LEAST_HEADER ≤ length ip.now }
-    ensures { result ≡ total_len ip.now }
+    requires { IPV4_LEN ≤ length ip.now }
+    ensures value { result ≡ total_len ip.now }
+    ensures small { result < 2 ^ 16 }
 {
-    usize::from(BigEndian::read_u16(&ip[2..]))
+    usize::from(BigEndian::read_u16(&ip[TOTAL_LEN_AT..]))
 }
 
 // Whether there is no whole IPv4 header, or one that contradicts itself.
 fn is_bad_ipv4(ip: &[u8]) -> bool
     ensures { result ≡ is_bad_ipv4 ip.now }
 {
-    ip.len() < LEAST_HEADER
+    ip.len() < IPV4_LEN
         || ip[0] / 16 != 4
-        || header_len(ip) < LEAST_HEADER
+        || header_len(ip) < IPV4_LEN
         || total_len(ip) < header_len(ip)
 }
 
 // Whether a datagram is a fragment: more of them follow, or its offset is not 0.
 fn is_fragment(ip: &[u8]) -> bool
-    requires { LEAST_HEADER ≤ length ip.now }
+    requires { IPV4_LEN ≤ length ip.now }
     ensures { result ≡ is_fragment ip.now }
 {
-    BigEndian::read_u16(&ip[6..]) % 0x4000 != 0
+    BigEndian::read_u16(&ip[FRAGMENT_AT..]) % 0x4000 != 0
 }
 
 // The bytes of a TCP header.
 fn data_offset(tcp: &[u8]) -> usize
-    requires { LEAST_HEADER ≤ length tcp.now }
+    requires { TCP_LEN ≤ length tcp.now }
     ensures { result ≡ data_offset tcp.now }
 {
-    4 * usize::from(tcp[12] / 16)
+    4 * usize::from(tcp[DATA_OFFSET_AT] / 16)
 }
 
 // Whether there is no whole TCP header, or one that contradicts itself.
 fn is_bad_tcp(tcp: &[u8]) -> bool
     ensures { result ≡ is_bad_tcp tcp.now }
 {
-    tcp.len() < LEAST_HEADER || data_offset(tcp) < LEAST_HEADER || tcp.len() < data_offset(tcp)
+    tcp.len() < TCP_LEN || data_offset(tcp) < TCP_LEN || tcp.len() < data_offset(tcp)
 }
 
 // The fields of the segment in a frame, whose datagram is `ip` and whose TCP bytes are `tcp`.
@@ -172,37 +169,41 @@ fn is_bad_tcp(tcp: &[u8]) -> bool
 #[tactic(auto, unfolding(crate::specs::Frame::segment_fields))]
 fn segment_in<'a>(packet: &[u8], ip: &[u8], tcp: &'a [u8]) -> Segment<'a>
     requires datagram { ip.now ≡ datagram packet.now }
-    requires ipv4 { LEAST_HEADER ≤ length ip.now }
+    requires ipv4 { IPV4_LEN ≤ length ip.now }
     requires whole { total_len ip.now ≤ length ip.now }
     requires carried { tcp.now ≡ ip_payload ip.now }
-    requires tcp { LEAST_HEADER ≤ length tcp.now }
+    requires tcp { TCP_LEN ≤ length tcp.now }
     requires offset { data_offset tcp.now ≤ length tcp.now }
-    ensures { fields_of_segment result ≡ segment_fields packet.now }
+    requires within { LINK_LEN + header_len ip.now + length tcp.now ≤ length packet.now }
+    requires short { length tcp.now < 2 ^ 16 }
+    ensures fields { fields_of_segment result ≡ segment_fields packet.now }
+    ensures payload { IsPayloadIn packet.now result }
 {
     Segment {
-        mac_from: mac_at(packet, 6),
+        mac_from: mac_at(packet, MAC_LEN),
         mac_to: mac_at(packet, 0),
         from: Peer {
-            addr: BigEndian::read_u32(&ip[12..]),
+            addr: BigEndian::read_u32(&ip[SOURCE_AT..]),
             port: BigEndian::read_u16(tcp),
         },
         to: Peer {
-            addr: BigEndian::read_u32(&ip[16..]),
-            port: BigEndian::read_u16(&tcp[2..]),
+            addr: BigEndian::read_u32(&ip[DESTINATION_AT..]),
+            port: BigEndian::read_u16(&tcp[TO_PORT_AT..]),
         },
-        seq: BigEndian::read_u32(&tcp[4..]),
-        ack: BigEndian::read_u32(&tcp[8..]),
-        flags: Flags::of(tcp[13]),
+        seq: BigEndian::read_u32(&tcp[SEQ_AT..]),
+        ack: BigEndian::read_u32(&tcp[ACK_AT..]),
+        flags: Flags::of(tcp[FLAGS_AT]),
         payload: &tcp[data_offset(tcp)..],
+        offset: (LINK_LEN + header_len(ip) + data_offset(tcp)) as u16,
     }
 }
 
 // The Ethernet address at a place of a frame.
 fn mac_at(packet: &[u8], at: usize) -> [u8; 6]
-    requires { at + 6 ≤ length packet.now }
-    ensures { result ≡ slice_range packet.now at (at + 6) }
+    requires { at + MAC_LEN ≤ length packet.now }
+    ensures { result ≡ slice_range packet.now at (at + MAC_LEN) }
 {
-    let mut mac = [0; 6];
-    mac.copy_from_slice(&packet[at..at + 6]);
+    let mut mac = [0; MAC_LEN];
+    mac.copy_from_slice(&packet[at..at + MAC_LEN]);
     mac
 }

@@ -5,6 +5,7 @@
 mod classes;
 mod flag_bits;
 pub mod laws;
+mod layout;
 mod peers;
 mod places;
 mod sums;
@@ -12,7 +13,8 @@ mod written;
 
 pub use classes::{Class, Segment, classify};
 pub use flag_bits::Flags;
+pub use layout::{HEADERS_LEN, PAYLOAD_LIMIT};
 pub use peers::Peer;
 pub use places::{PayloadPlace, payload_place};
 pub use sums::{checksum, tcp_checksum};
-pub use written::{HEADERS_LEN, Header, PAYLOAD_LIMIT, put_headers};
+pub use written::{Header, put_headers};

@@ -2,10 +2,8 @@
 ghost use Rattle.std.specs.Prelude.{◌≡◌, ◌+◌, ◌≤◌, length};
 ghost use Rattle.frame_headers.specs.Sum.{folded_sum, words_sum, sum16, tcp_sum};
 
+use crate::layout::TCP_PROTOCOL;
 use byteorder::{BigEndian, ByteOrder};
-
-// TCP's protocol number in an IPv4 header.
-const TCP: u64 = 6;
 
 /// The Internet checksum of the bytes as they stand (RFC 1071): the complement of the one's complement sum of their
 /// 16-bit words, the high byte of each first. An odd last byte is padded with a zero byte. Of bytes that hold their own
@@ -24,7 +22,7 @@ pub fn tcp_checksum(from: u32, to: u32, tcp: &[u8]) -> u16
     requires { length tcp.now ≤ 65535 }
     ensures { result ≡ tcp_sum from to tcp.now }
 {
-    let pseudo = u64::from(from) + u64::from(to) + TCP + tcp.len() as u64;
+    let pseudo = u64::from(from) + u64::from(to) + u64::from(TCP_PROTOCOL) + tcp.len() as u64;
     !add_words(pseudo, tcp)
 }
 

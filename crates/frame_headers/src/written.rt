@@ -1,26 +1,25 @@
 //! The headers of frames that are written.
 ghost use Rattle.std.specs.Prelude.{◌≡◌, ℕ, ◌+◌, ◌≤◌, ◌++◌, length, drop};
 ghost use Rattle.frame_headers.specs.HeaderLaws.{IsHeader, IsReadBack, SumsToNothing};
-ghost use Rattle.frame_headers.specs.Headers.{ethernet, headers, headers_len, ipv4, ipv4_lengths, ipv4_route, ipv4_with, payload_limit, tcp, tcp_numbers, tcp_state, tcp_with};
+ghost use Rattle.frame_headers.specs.Layout.{link_len, ipv4_len, tcp_len, headers_len, payload_limit};
+ghost use Rattle.frame_headers.specs.Headers.{ethernet, headers, ipv4, ipv4_lengths, ipv4_route, ipv4_with, tcp, tcp_numbers, tcp_state, tcp_with};
 
 use crate::flag_bits::Flags;
+use crate::layout::{
+    ACK_AT, DATA_OFFSET_AT, DESTINATION_AT, FRAGMENT_AT, IPV4_LEN, IPV4_SUM_AT, IPV4_TYPE, LINK_LEN, MAC_LEN,
+    SEQ_AT, SOURCE_AT, TCP_LEN, TCP_SUM_AT, TO_PORT_AT, TOTAL_LEN_AT, TYPE_LEN,
+};
 use crate::peers::Peer;
 use crate::sums::{checksum, tcp_checksum};
 use byteorder::{BigEndian, ByteOrder};
-
-/// The bytes of the headers of a written segment: Ethernet II, IPv4 and TCP, neither with options.
-pub const HEADERS_LEN: usize = 54;
-
-/// The most payload bytes of a written segment.
-pub const PAYLOAD_LIMIT: usize = 1460;
 
 /// The fields of a TCP segment that is written, and of the headers that carry it.
 #[derive(Clone, Copy, Debug, PartialEq, Eq)]
 pub struct Header {
     /// The sender's Ethernet address.
-    pub mac_from: [u8; 6],
+    pub mac_from: [u8; MAC_LEN],
     /// The receiver's Ethernet address.
-    pub mac_to: [u8; 6],
+    pub mac_to: [u8; MAC_LEN],
     /// The sender.
     pub from: Peer,
     /// The receiver.
@@ -33,7 +32,7 @@ pub struct Header {
     pub flags: Flags,
 }
 
-/// Writes the 54 bytes of headers before a payload that is in place already: Ethernet II, IPv4 (RFC 791 section 3.1) and
+/// Writes the headers before a payload that is in place already: Ethernet II, IPv4 (RFC 791 section 3.1) and
 /// TCP (RFC 9293 section 3.1), neither with options, both checksums filled. A frame has at most 1,460 bytes of payload.
 /// `classify` reads the same fields back where the two peers differ.
 pub fn put_headers(frame: &mut [u8], header: &Header)
@@ -58,54 +57,54 @@ fn write_headers(frame: &mut [u8], header: &Header)
     requires small { length frame.old ≤ headers_len + payload_limit }
     ensures { frame.new ≡ headers header.now (drop headers_len frame.old) ++ drop headers_len frame.old }
 {
-    let tcp_len = (frame.len() - 34) as u16;
+    let segment_len = (frame.len() - (LINK_LEN + IPV4_LEN)) as u16;
     put_ethernet(frame, header);
-    put_ipv4(&mut frame[14..], header, tcp_len);
-    put_tcp(&mut frame[34..], header);
+    put_ipv4(&mut frame[LINK_LEN..], header, segment_len);
+    put_tcp(&mut frame[LINK_LEN + IPV4_LEN..], header);
 }
 
 // Writes the Ethernet header.
 fn put_ethernet(frame: &mut [u8], header: &Header)
-    requires { 14 ≤ length frame.old }
-    ensures { frame.new ≡ ethernet header.now ++ drop 14 frame.old }
+    requires { link_len ≤ length frame.old }
+    ensures { frame.new ≡ ethernet header.now ++ drop link_len frame.old }
 {
-    frame[..6].copy_from_slice(&header.mac_to);
-    frame[6..12].copy_from_slice(&header.mac_from);
-    BigEndian::write_u16(&mut frame[12..], 0x0800);
+    frame[..MAC_LEN].copy_from_slice(&header.mac_to);
+    frame[MAC_LEN..2 * MAC_LEN].copy_from_slice(&header.mac_from);
+    BigEndian::write_u16(&mut frame[LINK_LEN - TYPE_LEN..], IPV4_TYPE);
 }
 
 // Writes the IPv4 header before a number of TCP bytes.
 #[tactic(auto, unfolding(crate::specs::Headers::ipv4))]
-fn put_ipv4(head: &mut [u8], header: &Header, tcp_len: u16)
-    requires room { 20 ≤ length head.old }
-    requires small { tcp_len ≤ 20 + payload_limit }
-    ensures { head.new ≡ ipv4 header.now tcp_len ++ drop 20 head.old }
+fn put_ipv4(head: &mut [u8], header: &Header, segment_len: u16)
+    requires room { ipv4_len ≤ length head.old }
+    requires small { segment_len ≤ tcp_len + payload_limit }
+    ensures { head.new ≡ ipv4 header.now segment_len ++ drop ipv4_len head.old }
 {
-    fill_ipv4(head, header, tcp_len);
-    let sum = checksum(&head[..20]);
-    BigEndian::write_u16(&mut head[10..], sum);
+    fill_ipv4(head, header, segment_len);
+    let sum = checksum(&head[..IPV4_LEN]);
+    BigEndian::write_u16(&mut head[IPV4_SUM_AT..], sum);
 }
 
 // Writes the IPv4 header with 0 in the place of its checksum.
-fn fill_ipv4(head: &mut [u8], header: &Header, tcp_len: u16)
-    requires room { 20 ≤ length head.old }
-    requires small { tcp_len ≤ 20 + payload_limit }
-    ensures { head.new ≡ ipv4_with 0 header.now tcp_len ++ drop 20 head.old }
+fn fill_ipv4(head: &mut [u8], header: &Header, segment_len: u16)
+    requires room { ipv4_len ≤ length head.old }
+    requires small { segment_len ≤ tcp_len + payload_limit }
+    ensures { head.new ≡ ipv4_with 0 header.now segment_len ++ drop ipv4_len head.old }
 {
-    fill_lengths(head, tcp_len);
+    fill_lengths(head, segment_len);
     fill_route(&mut head[8..], header);
 }
 
 // Writes what IPv4 says of a datagram alone: version and lengths, no identification, "don't fragment".
-fn fill_lengths(head: &mut [u8], tcp_len: u16)
+fn fill_lengths(head: &mut [u8], segment_len: u16)
     requires room { 8 ≤ length head.old }
-    requires small { tcp_len ≤ 20 + payload_limit }
-    ensures { head.new ≡ ipv4_lengths tcp_len ++ drop 8 head.old }
+    requires small { segment_len ≤ tcp_len + payload_limit }
+    ensures { head.new ≡ ipv4_lengths segment_len ++ drop 8 head.old }
 {
     BigEndian::write_u16(head, 0x4500);
-    BigEndian::write_u16(&mut head[2..], 20 + tcp_len);
+    BigEndian::write_u16(&mut head[TOTAL_LEN_AT..], IPV4_LEN as u16 + segment_len);
     BigEndian::write_u16(&mut head[4..], 0);
-    BigEndian::write_u16(&mut head[6..], 0x4000);
+    BigEndian::write_u16(&mut head[FRAGMENT_AT..], 0x4000);
 }
 
 // Writes what IPv4 says of a datagram's way: 64 hops and TCP's protocol number, the checksum's place, both addresses.
@@ -122,22 +121,22 @@ fn fill_route(head: &mut [u8], header: &Header)
 // Writes the TCP header before the payload.
 #[tactic(auto, unfolding(crate::specs::Headers::tcp))]
 fn put_tcp(head: &mut [u8], header: &Header)
-    requires room { 20 ≤ length head.old }
-    requires small { length head.old ≤ 20 + payload_limit }
-    ensures { head.new ≡ tcp header.now (drop 20 head.old) ++ drop 20 head.old }
+    requires room { tcp_len ≤ length head.old }
+    requires small { length head.old ≤ tcp_len + payload_limit }
+    ensures { head.new ≡ tcp header.now (drop tcp_len head.old) ++ drop tcp_len head.old }
 {
     fill_tcp(head, header);
     let sum = tcp_checksum(header.from.addr, header.to.addr, head);
-    BigEndian::write_u16(&mut head[16..], sum);
+    BigEndian::write_u16(&mut head[TCP_SUM_AT..], sum);
 }
 
 // Writes the TCP header with 0 in the place of its checksum.
 fn fill_tcp(head: &mut [u8], header: &Header)
-    requires { 20 ≤ length head.old }
-    ensures { head.new ≡ tcp_with 0 header.now ++ drop 20 head.old }
+    requires { tcp_len ≤ length head.old }
+    ensures { head.new ≡ tcp_with 0 header.now ++ drop tcp_len head.old }
 {
     fill_numbers(head, header);
-    fill_state(&mut head[12..], header.flags);
+    fill_state(&mut head[DATA_OFFSET_AT..], header.flags);
 }
 
 // Writes the ports and the two numbers of a TCP header.
@@ -146,12 +145,13 @@ fn fill_numbers(head: &mut [u8], header: &Header)
     ensures { head.new ≡ tcp_numbers header.now ++ drop 12 head.old }
 {
     BigEndian::write_u16(head, header.from.port);
-    BigEndian::write_u16(&mut head[2..], header.to.port);
-    BigEndian::write_u32(&mut head[4..], header.seq);
-    BigEndian::write_u32(&mut head[8..], header.ack);
+    BigEndian::write_u16(&mut head[TO_PORT_AT..], header.to.port);
+    BigEndian::write_u32(&mut head[SEQ_AT..], header.seq);
+    BigEndian::write_u32(&mut head[ACK_AT..], header.ack);
 }
 
-// Writes the rest of a TCP header: 5 words of header and the flags, the widest window, the checksum's place, no urgent bytes.
+// Writes the rest of a TCP header: 5 words of header and the flags, the widest window, the checksum's place, and no
+// urgent bytes.
 fn fill_state(head: &mut [u8], flags: Flags)
     requires { 8 ≤ length head.old }
     ensures { head.new ≡ tcp_state 0 flags ++ drop 8 head.old }

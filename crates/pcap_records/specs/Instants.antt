@@ -1,10 +1,17 @@
--- Instants: whole ticks from 0 to a horizon, and the greatest stamp so far.
-use Rattle.std.specs.Prelude.{◌≡◌, ◌≤◌, ℕ, ◌+◌, ◌*◌, ◌^◌, min, max, List, [], ◌∷◌, length, map, take}
+-- Time: the ticks that instants count; instants, whole ticks from 0 to a horizon; the greatest stamp so far.
+use Rattle.std.specs.Prelude.{◌≡◌, ◌≤◌, ℕ, ◌+◌, ◌*◌, ◌/◌, ◌^◌, min, max, List, [], ◌∷◌, length, map, take}
 use Rattle.std.specs.List.{range_with_len, slice_range}
 
 -- the ticks of a second where instants count microseconds
 abbrev pub microseconds : ℕ
 microseconds = 1000000
+
+-- the ticks of a millisecond and of a microsecond, where a second has so many
+abbrev pub millisecond : ℕ → ℕ
+millisecond ticks = ticks / 1000
+
+abbrev pub microsecond : ℕ → ℕ
+microsecond ticks = ticks / 1000000
 
 -- the horizon, past which no instant lies: the first whose seconds no field of 32 bits holds
 abbrev pub horizon : ℕ → ℕ

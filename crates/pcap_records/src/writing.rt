@@ -4,9 +4,9 @@ ghost use Rattle.pcap_records.specs.Instants.{horizon, microseconds};
 ghost use Rattle.pcap_records.specs.Reading.{packet_limit};
 ghost use Rattle.pcap_records.specs.Writing.{file_header, record_header, record_bytes};
 
-use crate::front::RECORD_HEADER_LEN;
 use crate::heading::FILE_HEADER_LEN;
 use crate::moment::Moment;
+use crate::reader::RECORD_HEADER_LEN;
 use byteorder::{ByteOrder, LittleEndian};
 use std::alloc::AllocError;
 
@@ -43,9 +43,10 @@ pub fn write_record(out: &mut Vec<u8>, at: Moment, packet: &[u8]) -> Result<(), 
     out.extend_from_slice(packet)
 }
 
-// The header of a record: seconds, microseconds, and the packet's length twice.
+/// The header of the record of a packet of `len` bytes, at an instant before the horizon: its seconds, the ticks over
+/// these, and the packet's length twice.
 #[tactic(auto, unfolding(crate::specs::Writing::record_header))]
-fn record_header_bytes(at: Moment, len: u32) -> [u8; RECORD_HEADER_LEN]
+pub fn record_header_bytes(at: Moment, len: u32) -> [u8; RECORD_HEADER_LEN]
     requires { at < horizon microseconds }
     ensures { result ≡ record_header microseconds at len }
 {

@@ -1,5 +1,5 @@
 -- What contracts see of a `Line`: its bytes one by one, its end, and the ticks of a second.
-use Rattle.std.specs.Prelude.{ℕ, Bool, false, List, [], ◌∷◌, map}
+use Rattle.std.specs.Prelude.{◌≡◌, ℕ, Bool, false, List, [], ◌∷◌, map, Option, Some, None}
 use Rattle.std.specs.List.{flat_map}
 use Rattle.pcap_records.specs.Instants.{microseconds}
 use Rattle.reassembly.specs.RecordedLines.{LineByte, Line, End, live, fin, close, reset}
@@ -31,6 +31,20 @@ end_view ends.Live = live
 end_view (ends.Fin at) = fin at
 end_view (ends.Close at) = close at
 end_view (ends.Reset at) = reset at
+
+-- the instant of an end, if it has one
+abbrev pub end_instant : End → Option ℕ
+end_instant live = None
+end_instant (fin at) = Some at
+end_instant (close at) = Some at
+end_instant (reset at) = Some at
+
+-- an end of the same kind, at an instant to which R relates its own
+abbrev pub IsMovedBy : (ℕ → ℕ → Type 0) → End → End → Type 0
+IsMovedBy R live moved = moved ≡ live
+IsMovedBy R (fin at) moved = (m : ℕ) × R at m × (moved ≡ fin m)
+IsMovedBy R (close at) moved = (m : ℕ) × R at m × (moved ≡ close m)
+IsMovedBy R (reset at) moved = (m : ℕ) × R at m × (moved ≡ reset m)
 
 abbrev pub line_of : List LinePart → code.End → Line
 line_of parts end = record { bytes = bytes_of_parts parts; end = end_view end }

@@ -31,6 +31,33 @@ pub enum End {
     Reset(Moment),
 }
 
+impl End {
+    ghost use Rattle.reassembly.specs.LineView.{end_view, end_instant, IsMovedBy};
+
+    /// Its instant, if it has one.
+    pub fn at(self) -> Option<Moment>
+        ensures { result ≡ end_instant (end_view self) }
+    {
+        match self {
+            End::Live => None,
+            End::Fin(at) | End::Close(at) | End::Reset(at) => Some(at),
+        }
+    }
+
+    /// The same end at another instant: what `f` gives for its own.
+    pub fn map<F: FnOnce(Moment) -> Moment>(self, f: F) -> End
+        requires { F.IsAlwaysCallable f }
+        ensures { IsMovedBy (F.post f) (end_view self) (end_view result) }
+    {
+        match self {
+            End::Live => End::Live,
+            End::Fin(at) => End::Fin(f(at)),
+            End::Close(at) => End::Close(f(at)),
+            End::Reset(at) => End::Reset(f(at)),
+        }
+    }
+}
+
 /// A line: the bytes of its parts in turn, each at its part's instant, and its end. Contracts see the bytes one by one.
 #[derive(Debug, Drop)]
 pub struct Line<'a> {

@@ -10,7 +10,7 @@ use Rattle.reassembly.specs.RecordedLines.{LineByte}
 use Rattle.reassembly.specs.LineView.{bytes_of_part, bytes_of_parts, bytes_with_mark, bytes_without_mark}
 use Rattle.reassembly.specs.declared.line_parts.LinePart.{LinePart}
 use Rattle.report.specs.ReportText.{longest_delay}
-use Rattle.report.specs.declared.delays.Place.{Place}
+use Rattle.report.specs.declared.sides.Place.{Place}
 
 -- ---- instants
 

@@ -1,4 +1,3 @@
 pub mod ByteRuns
 pub mod PartBytes
-pub mod SeenPackets
-pub mod Joins
+pub mod SeenCounts

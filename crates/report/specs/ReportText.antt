@@ -82,8 +82,8 @@ front_text number client server proxy =
 -- the connection of a number between a client and a server
 unfoldable pub connection_text : ℕ → Peer → Peer → RecordedConnection → DeliveredConnection → List ℕ
 connection_text number client server r d =
-    decimal number ++ (codes " " ++ (peer_text client ++ (codes " > " ++ (peer_text server ++ (codes " proxy " ++ (proxy_text d.proxy
-    ++ (codes " up " ++ (side_text r.opened d.refused r.up d.up ++ (codes " down " ++ (side_text r.opened d.refused r.down d.down ++ codes "\n"))))))))))
+    front_text number client server d.proxy
+    ++ (codes " up " ++ (side_text r.opened d.refused r.up d.up ++ (codes " down " ++ (side_text r.opened d.refused r.down d.down ++ codes "\n"))))
 
 -- ---- a report
 

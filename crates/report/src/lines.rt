@@ -5,8 +5,8 @@ ghost use Rattle.toxic_defs.specs.DeliveredLines.{delivered_view};
 ghost use Rattle.report.specs.ReportText.{peer_text, proxy_text, front_text, connection_text};
 ghost use Rattle.report.specs.ShortLines.{AreShort};
 
-use crate::report_text::ReportText;
 use crate::sides::push_side;
+use crate::texts::{ReportText, push, push_number, push_told};
 use conn_table::Conn;
 use frame_headers::Peer;
 use reassembly::Recorded;
@@ -21,6 +21,7 @@ pub(crate) const LINE_ROOM: usize = 112;
 ///
 /// # Errors
 /// A growth was refused.
+#[tactic(auto, unfolding(crate::specs::ReportText::connection_text))]
 pub fn line(
     alloc: Global,
     conn: &Conn,
@@ -31,80 +32,62 @@ pub fn line(
     requires delivered { AreShort delivered.now.up.line delivered.now.down.line }
     ensures { IfOk result (λ text. text ≡ connection_text conn.now.number conn.now.client conn.now.server (recorded_view recorded.now) (delivered_view delivered.now)) }
 {
-    let mut text = ReportText::with_room(alloc, LINE_ROOM)?;
-    push_line(&mut text, conn, recorded, delivered)?;
-    Ok(text)
-}
-
-/// Appends the line of a connection, as [`line`] gives it, to a text.
-///
-/// # Errors
-/// A growth was refused; the text may then hold a part of the line.
-#[tactic(auto, unfolding(crate::specs::ReportText::connection_text))]
-pub fn push_line(
-    text: &mut ReportText,
-    conn: &Conn,
-    recorded: &Recorded<'_>,
-    delivered: &Delivered<'_>,
-) -> Result<(), AllocError>
-    requires recorded { AreShort recorded.now.up.line recorded.now.down.line }
-    requires delivered { AreShort delivered.now.up.line delivered.now.down.line }
-    ensures { OnOk result (text.new ≡ text.old ++ connection_text conn.now.number conn.now.client conn.now.server (recorded_view recorded.now) (delivered_view delivered.now)) }
-{
+    let mut text = Vec::with_capacity(alloc, LINE_ROOM)?;
     let opened = recorded.opened;
     let refused = delivered.refused;
-    push_front(text, conn, delivered.proxy)?;
-    text.push(" up ")?;
+    push_front(&mut text, conn, delivered.proxy)?;
+    push(&mut text, " up ")?;
     push_side(
-        text,
+        &mut text,
         opened,
         refused,
         &recorded.up,
         recorded.up_lost,
         &delivered.up,
     )?;
-    text.push(" down ")?;
+    push(&mut text, " down ")?;
     push_side(
-        text,
+        &mut text,
         opened,
         refused,
         &recorded.down,
         recorded.down_lost,
         &delivered.down,
     )?;
-    text.push("\n")
+    push(&mut text, "\n")?;
+    Ok(ReportText::of(text))
 }
 
 // Appends a connection's number and peers, and the proxy that it met.
-fn push_front(text: &mut ReportText, conn: &Conn, proxy: Option<u32>) -> Result<(), AllocError>
-    ensures { OnOk result (text.new ≡ text.old ++ front_text conn.now.number conn.now.client conn.now.server proxy) }
+fn push_front(text: &mut Vec<u8>, conn: &Conn, proxy: Option<u32>) -> Result<(), AllocError>
+    ensures { OnOk result (text.new.items ≡ text.old.items ++ front_text conn.now.number conn.now.client conn.now.server proxy) }
 {
-    text.push_number(u64::from(conn.number))?;
-    text.push(" ")?;
+    push_number(text, u64::from(conn.number))?;
+    push(text, " ")?;
     push_peer(text, conn.client)?;
-    text.push(" > ")?;
+    push(text, " > ")?;
     push_peer(text, conn.server)?;
-    text.push(" proxy ")?;
+    push(text, " proxy ")?;
     push_proxy(text, proxy)
 }
 
 // Appends a peer, as `a.b.c.d:port`.
-fn push_peer(text: &mut ReportText, peer: Peer) -> Result<(), AllocError>
-    ensures { OnOk result (text.new ≡ text.old ++ peer_text peer) }
+fn push_peer(text: &mut Vec<u8>, peer: Peer) -> Result<(), AllocError>
+    ensures { OnOk result (text.new.items ≡ text.old.items ++ peer_text peer) }
 {
-    text.push_number(u64::from(peer.addr / (1 << 24)))?;
-    text.push_told(".", u64::from(peer.addr / (1 << 16) % 256))?;
-    text.push_told(".", u64::from(peer.addr / 256 % 256))?;
-    text.push_told(".", u64::from(peer.addr % 256))?;
-    text.push_told(":", u64::from(peer.port))
+    push_number(text, u64::from(peer.addr / (1 << 24)))?;
+    push_told(text, ".", u64::from(peer.addr / (1 << 16) % 256))?;
+    push_told(text, ".", u64::from(peer.addr / 256 % 256))?;
+    push_told(text, ".", u64::from(peer.addr % 256))?;
+    push_told(text, ":", u64::from(peer.port))
 }
 
 // Appends the number of the proxy that was met.
-fn push_proxy(text: &mut ReportText, proxy: Option<u32>) -> Result<(), AllocError>
-    ensures { OnOk result (text.new ≡ text.old ++ proxy_text proxy) }
+fn push_proxy(text: &mut Vec<u8>, proxy: Option<u32>) -> Result<(), AllocError>
+    ensures { OnOk result (text.new.items ≡ text.old.items ++ proxy_text proxy) }
 {
     match proxy {
-        Some(number) => text.push_number(u64::from(number)),
-        None => text.push("-"),
+        Some(number) => push_number(text, u64::from(number)),
+        None => push(text, "-"),
     }
 }

@@ -6,7 +6,7 @@ ghost use Rattle.conn_table.specs.ClassCounts.{counts_of};
 ghost use Rattle.report.specs.ReportText.{heading_text, first_classes_text, other_classes_text, counts_text_of, counts_text, connections_text, report_text};
 
 use crate::lines::LINE_ROOM;
-use crate::report_text::ReportText;
+use crate::texts::{ReportText, push, push_told};
 use conn_table::{Counts, Table};
 use pcap_records::Capture;
 use std::alloc::{AllocError, Global};
@@ -41,31 +41,28 @@ pub fn report(
         table.unopened(),
     )?;
     for line in lines {
-        text.push_text(line)?;
+        text.extend_from_slice(line.as_slice())?;
     }
-    Ok(text)
+    Ok(ReportText::of(text))
 }
 
-/// The first two lines of a report, with room for the lines of so many connections, which [`crate::push_line`] appends.
-///
-/// # Errors
-/// A growth was refused.
+// The first two lines of a report, with room for the lines of so many connections.
 #[tactic(auto, unfolding(crate::specs::ReportText::counts_text))]
-pub fn open_report(
+fn open_report(
     alloc: Global,
     scenario: u32,
     capture: &Capture<'_>,
     counts: Counts,
     connections: usize,
     unopened: u64,
-) -> Result<ReportText, AllocError>
+) -> Result<Vec<u8>, AllocError>
     requires { counts ≡ counts_of (seen_capture (contents_of capture.now)).packets }
-    ensures { IfOk result (λ text. text ≡ counts_text scenario (seen_capture (contents_of capture.now)) ++ connections_text connections unopened) }
+    ensures { IfOk result (λ text. text.items ≡ counts_text scenario (seen_capture (contents_of capture.now)) ++ connections_text connections unopened) }
 {
     let room = connections
         .saturating_mul(LINE_ROOM)
         .saturating_add(HEAD_ROOM);
-    let mut text = ReportText::with_room(alloc, room)?;
+    let mut text = Vec::with_capacity(alloc, room)?;
     let records = capture.records().len();
     push_counts(&mut text, scenario, records, capture.rest(), counts)?;
     push_connections(&mut text, connections, unopened)?;
@@ -74,65 +71,65 @@ pub fn open_report(
 
 // Appends the line of counts.
 fn push_counts(
-    text: &mut ReportText,
+    text: &mut Vec<u8>,
     scenario: u32,
     records: usize,
     rest: u32,
     counts: Counts,
 ) -> Result<(), AllocError>
-    ensures { OnOk result (text.new ≡ text.old ++ counts_text_of scenario records rest counts) }
+    ensures { OnOk result (text.new.items ≡ text.old.items ++ counts_text_of scenario records rest counts) }
 {
     push_heading(text, scenario, records, rest)?;
     push_first_classes(text, counts)?;
     push_other_classes(text, counts)
 }
 
-// Appends the scenario's number, and how many records and bytes behind them the capture has.
+// Appends the scenario's number, and how many records and bytes after them the capture has.
 fn push_heading(
-    text: &mut ReportText,
+    text: &mut Vec<u8>,
     scenario: u32,
     records: usize,
     rest: u32,
 ) -> Result<(), AllocError>
-    ensures { OnOk result (text.new ≡ text.old ++ heading_text scenario records rest) }
+    ensures { OnOk result (text.new.items ≡ text.old.items ++ heading_text scenario records rest) }
 {
-    text.push_told("scenario ", u64::from(scenario))?;
-    text.push_told(" records ", records as u64)?;
-    text.push_told(" rest ", u64::from(rest))
+    push_told(text, "scenario ", u64::from(scenario))?;
+    push_told(text, " records ", records as u64)?;
+    push_told(text, " rest ", u64::from(rest))
 }
 
 // Appends how many packets are of each of the first four classes.
-fn push_first_classes(text: &mut ReportText, counts: Counts) -> Result<(), AllocError>
-    ensures { OnOk result (text.new ≡ text.old ++ first_classes_text counts) }
+fn push_first_classes(text: &mut Vec<u8>, counts: Counts) -> Result<(), AllocError>
+    ensures { OnOk result (text.new.items ≡ text.old.items ++ first_classes_text counts) }
 {
-    text.push_told(" segment ", u64::from(counts.segment))?;
-    text.push_told(" short ", u64::from(counts.short))?;
-    text.push_told(" notipv4 ", u64::from(counts.not_ipv4))?;
-    text.push_told(" badipv4 ", u64::from(counts.bad_ipv4))
+    push_told(text, " segment ", u64::from(counts.segment))?;
+    push_told(text, " short ", u64::from(counts.short))?;
+    push_told(text, " notipv4 ", u64::from(counts.not_ipv4))?;
+    push_told(text, " badipv4 ", u64::from(counts.bad_ipv4))
 }
 
 // Appends how many packets are of each of the other five.
-fn push_other_classes(text: &mut ReportText, counts: Counts) -> Result<(), AllocError>
-    ensures { OnOk result (text.new ≡ text.old ++ other_classes_text counts) }
+fn push_other_classes(text: &mut Vec<u8>, counts: Counts) -> Result<(), AllocError>
+    ensures { OnOk result (text.new.items ≡ text.old.items ++ other_classes_text counts) }
 {
-    text.push_told(" fragment ", u64::from(counts.fragment))?;
-    text.push_told(" nottcp ", u64::from(counts.not_tcp))?;
-    text.push_told(" cut ", u64::from(counts.cut))?;
-    text.push_told(" badtcp ", u64::from(counts.bad_tcp))?;
-    text.push_told(" sameends ", u64::from(counts.same_ends))?;
-    text.push("\n")
+    push_told(text, " fragment ", u64::from(counts.fragment))?;
+    push_told(text, " nottcp ", u64::from(counts.not_tcp))?;
+    push_told(text, " cut ", u64::from(counts.cut))?;
+    push_told(text, " badtcp ", u64::from(counts.bad_tcp))?;
+    push_told(text, " sameends ", u64::from(counts.same_ends))?;
+    push(text, "\n")
 }
 
 // Appends how many connections and unopened segments there are.
 #[tactic(auto, unfolding(crate::specs::ReportText::connections_text))]
 fn push_connections(
-    text: &mut ReportText,
+    text: &mut Vec<u8>,
     connections: usize,
     unopened: u64,
 ) -> Result<(), AllocError>
-    ensures { OnOk result (text.new ≡ text.old ++ connections_text connections unopened) }
+    ensures { OnOk result (text.new.items ≡ text.old.items ++ connections_text connections unopened) }
 {
-    text.push_told("connections ", connections as u64)?;
-    text.push_told(" unopened ", unopened)?;
-    text.push("\n")
+    push_told(text, "connections ", connections as u64)?;
+    push_told(text, " unopened ", unopened)?;
+    push(text, "\n")
 }

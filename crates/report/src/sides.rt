@@ -1,19 +1,17 @@
 //! What a report tells of one direction of a connection.
-ghost use Rattle.std.specs.Prelude.{◌≡◌, ◌++◌, ◌-◌, ◌<◌, ◌^◌, length, OnOk};
-ghost use Rattle.reassembly.specs.LineView.{end_view};
-ghost use Rattle.report.specs.ReportText.{end_text, end_word, side_text};
+ghost use Rattle.std.specs.Prelude.{◌≡◌, ◌++◌, ◌+◌, ◌-◌, ◌<◌, ◌≤◌, ◌==◌, ◌^◌, max, length, if◌then◌else◌, OnOk};
+ghost use Rattle.reassembly.specs.LineView.{bytes_of_parts, end_view};
+ghost use Rattle.report.specs.ReportText.{end_text, end_word, longest_delay, side_text};
 
-use crate::byte_counts::byte_count;
-use crate::delays::longest_delay;
-use crate::report_text::ReportText;
+use crate::texts::{push, push_number, push_told};
 use pcap_records::Moment;
-use reassembly::{End, Line};
+use reassembly::{End, Line, LinePart};
 use std::alloc::AllocError;
 
 /// Appends the number of delivered, of recorded and of lost bytes of a direction, how it ends, and the longest delay. Instants are
 /// told in ticks since the connection was opened.
 pub(crate) fn push_side(
-    text: &mut ReportText,
+    text: &mut Vec<u8>,
     opened: Moment,
     refused: bool,
     recorded: &Line<'_>,
@@ -22,48 +20,115 @@ pub(crate) fn push_side(
 ) -> Result<(), AllocError>
     requires recorded { length recorded.now.line.bytes < 2 ^ 32 }
     requires delivered { length delivered.now.line.bytes < 2 ^ 32 }
-    ensures { OnOk result (text.new ≡ text.old ++ side_text opened refused (record { line = recorded.now.line; lost = lost }) delivered.now.line) }
+    ensures { OnOk result (text.new.items ≡ text.old.items ++ side_text opened refused (record { line = recorded.now.line; lost = lost }) delivered.now.line) }
 {
     let sent = recorded.parts();
     let came = delivered.parts();
-    text.push_number(byte_count(came))?;
-    text.push_told("/", byte_count(sent))?;
-    text.push_told("/", lost)?;
-    text.push(" ")?;
+    push_number(text, byte_count(came))?;
+    push_told(text, "/", byte_count(sent))?;
+    push_told(text, "/", lost)?;
+    push(text, " ")?;
     push_end_word(text, refused, opened, &delivered.end())?;
-    text.push_told(" max ", longest_delay(sent, came))
+    push_told(text, " max ", longest_delay(sent, came))
 }
 
 // Appends how a direction ends, or that it was refused.
 fn push_end_word(
-    text: &mut ReportText,
+    text: &mut Vec<u8>,
     refused: bool,
     opened: Moment,
     end: &End,
 ) -> Result<(), AllocError>
-    ensures { OnOk result (text.new ≡ text.old ++ end_word refused opened (end_view end.now)) }
+    ensures { OnOk result (text.new.items ≡ text.old.items ++ end_word refused opened (end_view end.now)) }
 {
     if refused {
-        return text.push("refused");
+        return push(text, "refused");
     }
     push_end(text, opened, end)
 }
 
 // Appends an end, with its ticks since the connection was opened.
-fn push_end(text: &mut ReportText, opened: Moment, end: &End) -> Result<(), AllocError>
-    ensures { OnOk result (text.new ≡ text.old ++ end_text opened (end_view end.now)) }
+fn push_end(text: &mut Vec<u8>, opened: Moment, end: &End) -> Result<(), AllocError>
+    ensures { OnOk result (text.new.items ≡ text.old.items ++ end_text opened (end_view end.now)) }
 {
     match end {
-        End::Live => text.push("open"),
-        End::Fin(at) => text.push_told("fin+", ticks_since(opened, *at)),
-        End::Close(at) => text.push_told("close+", ticks_since(opened, *at)),
-        End::Reset(at) => text.push_told("reset+", ticks_since(opened, *at)),
+        End::Live => push(text, "open"),
+        End::Fin(at) => push_told(text, "fin+", ticks_since(opened, *at)),
+        End::Close(at) => push_told(text, "close+", ticks_since(opened, *at)),
+        End::Reset(at) => push_told(text, "reset+", ticks_since(opened, *at)),
     }
 }
 
-// How many ticks an instant is behind another one.
+// How many ticks an instant is after another one.
 fn ticks_since(opened: Moment, at: Moment) -> u64
     ensures { result ≡ at - opened }
 {
     at.count().saturating_sub(opened.count())
+}
+
+// How many bytes the parts of a line have.
+fn byte_count(parts: &[LinePart<'_>]) -> u64
+    requires { length (bytes_of_parts parts.now) < 2 ^ 32 }
+    ensures { result ≡ length (bytes_of_parts parts.now) }
+{
+    let mut count = 0;
+    for part in parts {
+        count += part.bytes.len() as u64;
+    }
+    count
+}
+
+// A place in the parts of a line: the number of a part, and how many of its bytes are passed.
+#[derive(Clone, Copy)]
+struct Place {
+    part: usize,
+    passed: usize,
+}
+
+// The longest that a byte was held back, in ticks: each delivered byte against the recorded byte at the same position, over runs
+// of bytes that lie in one part of either line.
+fn longest_delay(recorded: &[LinePart<'_>], delivered: &[LinePart<'_>]) -> u64
+    ensures { result ≡ longest_delay (bytes_of_parts recorded.now) (bytes_of_parts delivered.now) }
+{
+    let mut longest = 0;
+    let mut from = Place { part: 0, passed: 0 };
+    let mut to = Place { part: 0, passed: 0 };
+    'runs: while from.part < recorded.len() && to.part < delivered.len() {
+        let sent = &recorded[from.part];
+        let came = &delivered[to.part];
+        let run = (sent.bytes.len() - from.passed).min(came.bytes.len() - to.passed);
+        longest = longer(longest, run, sent.at, came.at);
+        from = place_after(from, sent.bytes.len(), run);
+        to = place_after(to, came.bytes.len(), run);
+    }
+    longest
+}
+
+// The longest delay, where one so long was seen and then bytes, if there are any, that were sent and came at these instants.
+fn longer(longest: u64, run: usize, sent: Moment, came: Moment) -> u64
+    ensures { result ≡ max longest (if run == 0 then 0 else came - sent) }
+{
+    if run == 0 {
+        return longest;
+    }
+    longest.max(came.count().saturating_sub(sent.count()))
+}
+
+// The place a run of bytes further on, in a part that has so many bytes: in the next part where none is left.
+fn place_after(place: Place, len: usize, run: usize) -> Place
+    requires within { place.passed + run ≤ len }
+    requires few { place.part + 1 < 2 ^ 64 }
+    ensures { result ≡ (if place.passed + run == len then record { part = place.part + 1; passed = 0 } else record { part = place.part; passed = place.passed + run }) }
+{
+    if place.passed + run == len {
+        Place {
+            part: place.part + 1,
+            passed: 0,
+        }
+    } else {
+        Place {
+            part: place.part,
+            passed: place.passed + run,
+        }
+    }
 }

@@ -10,12 +10,13 @@ use Rattle.segment_writer.specs.declared.framed.Framed.{Framed}
 use Rattle.segment_writer.specs.contracts.framed.SegKeyOrd.TheImpl.{ghosts}
 use Rattle.segment_writer.specs.contracts.framed.SegKeyOrd.TheImpl.Laws.{total-law}
 use Rattle.segment_writer.specs.WrittenSegments.{is_key_below, insert_by_key, sorted_by_key}
+use Rattle.segment_writer.specs.KeyLaws.{NoneLower, NeverFalls, SortedNeverFalls}
 use Rattle.segment_writer.specs.KeyOrder.{RisesFrom, RisingIsSorted, PartsAreSortedFirst}
 use Rattle.segment_writer.proofs.Sorting.{NoneBelow, Ordered, only_one, none_below-chain, not_below-ties}
 
 -- ---- the derived order of keys is that of the definition
 
-last_test : (b c : Bool) → is_lt (cond b Less (cond c Equal Greater)) ≡ b
+pub last_test : (b c : Bool) → is_lt (cond b Less (cond c Equal Greater)) ≡ b
 last_test true c = refl
 last_test false true = refl
 last_test false false = refl
@@ -25,10 +26,10 @@ next_test true c o = refl
 next_test false true o = refl
 next_test false false o = refl
 
-then_test : (m n : ℕ) (o : Ordering) (t : Bool) → is_lt o ≡ t → is_lt (ordering_then (nat_cmp m n) o) ≡ (nat_lt m n || (m == n && t))
+pub then_test : (m n : ℕ) (o : Ordering) (t : Bool) → is_lt o ≡ t → is_lt (ordering_then (nat_cmp m n) o) ≡ (nat_lt m n || (m == n && t))
 then_test m n o t h = next_test (nat_lt m n) (m == n) o ∙ ap (λ u. nat_lt m n || (m == n && u)) h
 
-derived_is_lower : (a b : SegKey) → is_lt (ghosts.cmp a b) ≡ is_key_below a b
+pub derived_is_lower : (a b : SegKey) → is_lt (ghosts.cmp a b) ≡ is_key_below a b
 derived_is_lower a b = then_test a.moment b.moment _ _ (then_test a.conn b.conn _ _ (then_test a.turn b.turn _ _ (last_test (nat_lt a.place b.place) (a.place == b.place))))
 
 -- whether a segment's key is lower
@@ -41,7 +42,7 @@ derived_is_below = λ i x y. derived_is_lower x.key y.key i
 pub below_order : IsStrictWeakOrder below
 below_order = subst IsStrictWeakOrder derived_is_below (ranks_by total-law (λ (x : Framed). x.key))
 
--- ---- `in_order` sorts, and keeps what ties in its order
+-- ---- putting in order sorts, and keeps what ties in its order
 
 none_below-insert_by_key : (z x : Framed) (ys : List Framed) → below x z ≡ false → NoneBelow below z ys → NoneBelow below z (insert_by_key x ys)
 none_below-insert_by_key z x [] h none = (h, tt)
@@ -90,7 +91,24 @@ filter-sorted_by_key z (x ∷ xs) = filter-insert_by_key z x (sorted_by_key xs) 
 pub sorted_by_key-only : (xs ys : List Framed) → Ordered below ys → IsStableBy below xs ys → ys ≡ sorted_by_key xs
 sorted_by_key-only xs ys ordered stable = only_one below below_order ys (sorted_by_key xs) ordered (ordered-sorted_by_key xs) (λ z. stable z ∙ sym (filter-sorted_by_key z xs))
 
+pub is_ordered : (xs : List Framed) → sorted_by_key xs ≡ xs → Ordered below xs
+is_ordered xs e = subst (λ (ys : List Framed). Ordered below ys) e (ordered-sorted_by_key xs)
+
+pub is_sorted : (xs : List Framed) → Ordered below xs → sorted_by_key xs ≡ xs
+is_sorted xs ordered = sym (sorted_by_key-only xs xs ordered (λ z. refl))
+
 -- ---- laws
+
+none_lower : (z : Framed) (xs : List Framed) → NoneBelow below z xs → NoneLower z.key xs
+none_lower z [] none = tt
+none_lower z (x ∷ xs) none = (none.0, none_lower z xs none.1)
+
+never_falls : (xs : List Framed) → Ordered below xs → NeverFalls xs
+never_falls [] ordered = tt
+never_falls (x ∷ xs) ordered = (none_lower x xs ordered.0, never_falls xs ordered.1)
+
+pub sorted_never_falls : SortedNeverFalls
+sorted_never_falls xs = never_falls (sorted_by_key xs) (ordered-sorted_by_key xs)
 
 ordered-rising : (x : Framed) (ys : List Framed) → RisesFrom x.key ys → NoneBelow below x ys × Ordered below ys
 ordered-rising x [] rise = (tt, tt)
@@ -102,7 +120,7 @@ ordered-rising x (y ∷ ys) rise =
 pub rising_is_sorted : RisingIsSorted
 unfolding sorted_by_key
 rising_is_sorted [] rise = refl
-rising_is_sorted (x ∷ xs) rise = sym (sorted_by_key-only (x ∷ xs) (x ∷ xs) (ordered-rising x xs rise) (λ z. refl))
+rising_is_sorted (x ∷ xs) rise = is_sorted (x ∷ xs) (ordered-rising x xs rise)
 
 pub parts_are_sorted_first : PartsAreSortedFirst
 parts_are_sorted_first xs ys =

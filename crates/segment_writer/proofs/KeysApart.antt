@@ -7,9 +7,8 @@ use Rattle.segment_writer.specs.KeyOrder.{RisesFrom, AreRising}
 use Rattle.segment_writer.specs.KeyLaws.{same_key, times, HasNoKeyTwice, KeysRise, AreNumbered, KeysStandOnce}
 use Rattle.segment_writer.specs.declared.framed.SegKey.{SegKey}
 use Rattle.segment_writer.specs.declared.framed.Framed.{Framed}
-use Rattle.segment_writer.proofs.Sorting.{Ordered}
-use Rattle.segment_writer.proofs.InOrder.{below, ordered-sorted_by_key}
-use Rattle.segment_writer.proofs.JoinSteps.{below_itself}
+use Rattle.segment_writer.proofs.Sorting.{Ordered, not_below_itself}
+use Rattle.segment_writer.proofs.InOrder.{below, below_order, ordered-sorted_by_key}
 use Rattle.segment_writer.proofs.KeyTimes.{same_conn, same_turn, same_place, times-sorted, times-filter, apart, one_alone}
 
 -- ---- a turn
@@ -158,7 +157,7 @@ strictly x y ys up once = by (is_key_below x.key y.key) refl
     by : (b : Bool) → is_key_below x.key y.key ≡ b → is_key_below x.key y.key ≡ true
     by true e = e
     by false e =
-        let itself = same_of x.key x.key (below_itself x) (below_itself x) in
+        let itself = same_of x.key x.key (not_below_itself below below_order x) (not_below_itself below below_order x) in
         let other = same_of x.key y.key e up in
         let twice : times x.key (x ∷ y ∷ ys) ≡ 1 + (1 + times x.key ys) =
         ap₂ (λ (u v : Bool). if u then 1 + (if v then 1 + times x.key ys else times x.key ys) else (if v then 1 + times x.key ys else times x.key ys)) itself other in

@@ -7,11 +7,9 @@ pub mod SentClimb
 pub mod TurnSteps
 pub mod Sorting
 pub mod InOrder
-pub mod JoinSteps
+pub mod MergedLists
 pub mod WholeSegments
 pub mod OneOrderLaw
 pub mod KeyTimes
 pub mod KeysApart
-pub mod Evaluated
-mod KeySorts
 mod AnyOrder

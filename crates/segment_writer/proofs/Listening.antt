@@ -10,9 +10,9 @@ use Rattle.reassembly.specs.RecordedLines.{LineByte, End, live}
 use Rattle.reassembly.specs.LineView.{bytes_without_mark, bytes_with_mark, bytes_of_part, bytes_of_parts}
 use Rattle.reassembly.specs.declared.line_parts.LinePart.{LinePart}
 use Rattle.segment_writer.specs.TimelyLines.{Climbs}
-use Rattle.segment_writer.specs.PiecePlaces.{has_none}
-use Rattle.segment_writer.specs.HeardBytes.{bytes_before, IsHeard}
-use Rattle.segment_writer.specs.declared.hearing.Heard.{Heard}
+use Rattle.segment_writer.specs.LinePlaces.{has_none}
+use Rattle.segment_writer.specs.LinePlaces.{bytes_before, IsHeard}
+use Rattle.segment_writer.specs.declared.turns.Heard.{Heard}
 use Rattle.segment_writer.proofs.PartBytes.{length-marked}
 
 -- ---- lists of bytes

@@ -5,7 +5,7 @@ use Rattle.reassembly.specs.RecordedLines.{LineByte}
 use Rattle.reassembly.specs.LineView.{bytes_without_mark, bytes_with_mark, bytes_of_parts}
 use Rattle.reassembly.specs.declared.line_parts.LinePart.{LinePart}
 use Rattle.segment_writer.specs.FirstPieces.{run, piece_size, values, first_instant}
-use Rattle.segment_writer.specs.PiecePlaces.{left_at, IsInside, IsPlace, has_none, goes_on}
+use Rattle.segment_writer.specs.LinePlaces.{left_at, IsInside, IsPlace, has_none, goes_on}
 use Rattle.segment_writer.specs.declared.places.Cursor.{Cursor}
 
 -- ---- bytes of one part

@@ -7,7 +7,7 @@ use Rattle.reassembly.specs.LineView.{bytes_with_mark, bytes_of_parts}
 use Rattle.reassembly.specs.declared.line_parts.LinePart.{LinePart}
 use Rattle.segment_writer.specs.WrittenSegments.{is_chunk_border}
 use Rattle.segment_writer.specs.FirstPieces.{run, piece_size, values}
-use Rattle.segment_writer.specs.PiecePlaces.{left_at, IsInside, IsPlace, goes_on}
+use Rattle.segment_writer.specs.LinePlaces.{left_at, IsInside, IsPlace, goes_on}
 use Rattle.segment_writer.specs.declared.places.Cursor.{Cursor}
 use Rattle.segment_writer.proofs.PartBytes.{mark, length-marked, inside_is, left_is, piece_size-marked, taken-marked, run-part_on}
 

@@ -3,16 +3,18 @@ use Rattle.std.proofs.Common.{◌≡◌, ◌≤◌, ◌<◌, ℕ, ◌+◌, ◌-�
 use Rattle.std.proofs.lemmas.List.{drop_all, length-map}
 use borrow.Rule.Slice.PartMut.{put_mid}
 use Rattle.pcap_records.specs.Instants.{microseconds}
+use Rattle.pcap_records.specs.Reading.{record_header_len}
 use Rattle.pcap_records.specs.Writing.{record_header, record_bytes}
-use Rattle.frame_headers.specs.Flags.{ack_flag}
-use Rattle.frame_headers.specs.Headers.{headers, payload_limit}
+use Rattle.frame_headers.specs.Flags.{psh_flag, ack_flag}
+use Rattle.frame_headers.specs.Headers.{headers}
+use Rattle.frame_headers.specs.Layout.{headers_len, payload_limit}
 use Rattle.frame_headers.specs.declared.written.Header.{Header}
 use Rattle.reassembly.specs.RecordedLines.{LineByte}
 use Rattle.reassembly.specs.LineView.{bytes_of_parts}
 use Rattle.reassembly.specs.declared.line_parts.LinePart.{LinePart}
 use Rattle.segment_writer.specs.WrittenSegments.{SentSegment, is_chunk_border}
 use Rattle.segment_writer.specs.FirstPieces.{run, piece_size, values, first_instant, first_of}
-use Rattle.segment_writer.specs.PiecePlaces.{left_at, IsPlace}
+use Rattle.segment_writer.specs.LinePlaces.{left_at, IsPlace}
 use Rattle.segment_writer.specs.Senders.{header_with, frame_with, framed_by, piece_segment}
 use Rattle.segment_writer.specs.declared.framed.SegKey.{SegKey}
 use Rattle.segment_writer.specs.declared.framed.Framed.{Framed}
@@ -22,53 +24,57 @@ use Rattle.segment_writer.proofs.PartBytes.{mark, inside_is, left_is, first_inst
 
 -- ---- the headers are written into a record
 
+-- the length of a record with no payload
+abbrev pub whole_len : ℕ
+whole_len = record_header_len + headers_len
+
 abbrev behind_header : List ℕ → List ℕ
-behind_header xs = take (length xs - 16) (drop 16 xs)
+behind_header xs = take (length xs - record_header_len) (drop record_header_len xs)
 
-behind_is : (xs : List ℕ) → behind_header xs ≡ drop 16 xs
-behind_is xs = take_all (length xs - 16) (drop 16 xs) (omega (arith, length-drop 16 xs))
+behind_is : (xs : List ℕ) → behind_header xs ≡ drop record_header_len xs
+behind_is xs = take_all (length xs - record_header_len) (drop record_header_len xs) (omega (arith, length-drop record_header_len xs))
 
-frame_behind : (xs : List ℕ) → drop 54 (behind_header xs) ≡ drop 70 xs
-frame_behind xs = ap (drop 54) (behind_is xs) ∙ drop-drop 54 16 xs
+frame_behind : (xs : List ℕ) → drop headers_len (behind_header xs) ≡ drop whole_len xs
+frame_behind xs = ap (drop headers_len) (behind_is xs) ∙ drop-drop headers_len record_header_len xs
 
-pub headers_len_is : (h : Header) (xs frame : List ℕ) → 70 ≤ length xs → length frame ≡ length (behind_header xs) → frame ≡ headers h (drop 54 (behind_header xs)) ++ drop 54 (behind_header xs) → length (headers h (drop 70 xs)) ≡ 54
+pub headers_len_is : (h : Header) (xs frame : List ℕ) → whole_len ≤ length xs → length frame ≡ length (behind_header xs) → frame ≡ headers h (drop headers_len (behind_header xs)) ++ drop headers_len (behind_header xs) → length (headers h (drop whole_len xs)) ≡ headers_len
 headers_len_is h xs frame room same is =
-    let whole = ap length (is ∙ ap (λ ys. headers h ys ++ ys) (frame_behind xs)) ∙ length-append (headers h (drop 70 xs)) (drop 70 xs) in
-    omega (arith, length-drop 70 xs, length-drop 16 xs, ap length (behind_is xs))
+    let whole = ap length (is ∙ ap (λ ys. headers h ys ++ ys) (frame_behind xs)) ∙ length-append (headers h (drop whole_len xs)) (drop whole_len xs) in
+    omega (arith, length-drop whole_len xs, length-drop record_header_len xs, ap length (behind_is xs))
 
-pub closed_is : (h : Header) (xs frame : List ℕ) → frame ≡ headers h (drop 54 (behind_header xs)) ++ drop 54 (behind_header xs) → put_mid 16 (length xs - 16) xs frame ≡ take 16 xs ++ (headers h (drop 70 xs) ++ drop 70 xs)
+pub closed_is : (h : Header) (xs frame : List ℕ) → frame ≡ headers h (drop headers_len (behind_header xs)) ++ drop headers_len (behind_header xs) → put_mid record_header_len (length xs - record_header_len) xs frame ≡ take record_header_len xs ++ frame_with h (drop whole_len xs)
 closed_is h xs frame is =
-    let nothing : drop (length xs - 16) (drop 16 xs) ≡ [] = drop_all (length xs - 16) (drop 16 xs) (omega (arith, length-drop 16 xs)) in
-    ap (put_mid 16 (length xs - 16) xs) (is ∙ ap (λ ys. headers h ys ++ ys) (frame_behind xs))
-    ∙ rw (nothing, append-nil (headers h (drop 70 xs) ++ drop 70 xs)) refl
+    let nothing : drop (length xs - record_header_len) (drop record_header_len xs) ≡ [] = drop_all (length xs - record_header_len) (drop record_header_len xs) (omega (arith, length-drop record_header_len xs)) in
+    ap (put_mid record_header_len (length xs - record_header_len) xs) (is ∙ ap (λ ys. headers h ys ++ ys) (frame_behind xs))
+    ∙ rw (nothing, append-nil (headers h (drop whole_len xs) ++ drop whole_len xs)) refl
 
 -- ---- a record that was opened, filled with its payload and closed
 
-length-record_header : (at n : ℕ) → length (record_header microseconds at n) ≡ 16
+length-record_header : (at n : ℕ) → length (record_header microseconds at n) ≡ record_header_len
 unfolding record_header
 length-record_header at n = refl
 
 abbrev pub opened_record : ℕ → ℕ → List ℕ
-opened_record at n = record_header microseconds at n ++ replicate 54 0
+opened_record at n = record_header microseconds at n ++ replicate headers_len 0
 
-length-opened : (at n : ℕ) → length (opened_record at n) ≡ 70
-length-opened at n = length-append (record_header microseconds at n) (replicate 54 0) ∙ ap (λ k. k + 54) (length-record_header at n)
+length-opened : (at n : ℕ) → length (opened_record at n) ≡ whole_len
+length-opened at n = length-append (record_header microseconds at n) (replicate headers_len 0) ∙ ap (λ k. k + headers_len) (length-record_header at n)
 
-pub length-filled : (at n : ℕ) (payload : List ℕ) → length (opened_record at n ++ payload) ≡ 70 + length payload
+pub length-filled : (at n : ℕ) (payload : List ℕ) → length (opened_record at n ++ payload) ≡ whole_len + length payload
 length-filled at n payload = length-append (opened_record at n) payload ∙ ap (λ k. k + length payload) (length-opened at n)
 
 -- a slice that was written over, in the vector that holds it
 written_over : (n : ℕ) (new old : List ℕ) → length new ≡ length old → n ≡ length old → take n (new ++ drop (length new) old) ≡ new
 written_over n new old same count = ap (λ k. take k (new ++ drop (length new) old)) (let e : n ≡ length new = omega arith in e) ∙ take_at new (drop (length new) old) (length new) refl
 
-pub record_is : (h : Header) (at len : ℕ) (xs payload : List ℕ) → xs ≡ opened_record at (54 + len) ++ payload → length payload ≡ len → length (headers h (drop 70 xs)) ≡ 54
-    → take 16 xs ++ (headers h (drop 70 xs) ++ drop 70 xs) ≡ record_bytes microseconds at (frame_with h payload)
+pub record_is : (h : Header) (at len : ℕ) (xs payload : List ℕ) → xs ≡ opened_record at (headers_len + len) ++ payload → length payload ≡ len → length (headers h (drop whole_len xs)) ≡ headers_len
+    → take record_header_len xs ++ frame_with h (drop whole_len xs) ≡ record_bytes microseconds at (frame_with h payload)
 record_is h at len xs payload is count room =
-    let back : drop 70 xs ≡ payload = ap (drop 70) is ∙ drop_at (opened_record at (54 + len)) payload 70 (length-opened at (54 + len)) in
-    let front : take 16 xs ≡ record_header microseconds at (54 + len) =
-    ap (take 16) (is ∙ append_assoc (record_header microseconds at (54 + len)) (replicate 54 0) payload) ∙ take_at (record_header microseconds at (54 + len)) (replicate 54 0 ++ payload) 16 (length-record_header at (54 + len)) in
-    let size : 54 + len ≡ length (headers h payload ++ payload) = omega (arith, length-append (headers h payload) payload, room, ap (λ ys. length (headers h ys)) back, count) in
-    ap (λ ys. take 16 xs ++ (headers h ys ++ ys)) back ∙ ap (λ ys. ys ++ (headers h payload ++ payload)) (front ∙ ap (record_header microseconds at) size)
+    let back : drop whole_len xs ≡ payload = ap (drop whole_len) is ∙ drop_at (opened_record at (headers_len + len)) payload whole_len (length-opened at (headers_len + len)) in
+    let front : take record_header_len xs ≡ record_header microseconds at (headers_len + len) =
+    ap (take record_header_len) (is ∙ append_assoc (record_header microseconds at (headers_len + len)) (replicate headers_len 0) payload) ∙ take_at (record_header microseconds at (headers_len + len)) (replicate headers_len 0 ++ payload) record_header_len (length-record_header at (headers_len + len)) in
+    let size : headers_len + len ≡ length (headers h payload ++ payload) = omega (arith, length-append (headers h payload) payload, room, ap (λ ys. length (headers h ys)) back, count) in
+    ap (λ ys. take record_header_len xs ++ frame_with h ys) back ∙ ap (λ ys. ys ++ (headers h payload ++ payload)) (front ∙ ap (record_header microseconds at) size)
 
 -- ---- pieces
 
@@ -100,8 +106,8 @@ first_instant-place parts c p ps e place =
 -- ---- segments
 
 -- a vector with an opened record and its payload, of which a slice was closed
-pub made_is : (h : Header) (at len vec_len : ℕ) (old slice new made payload : List ℕ) → old ≡ opened_record at (54 + len) ++ payload → length payload ≡ len → slice ≡ old → length slice ≡ vec_len
-    → new ≡ take 16 slice ++ (headers h (drop 70 slice) ++ drop 70 slice) → length (headers h (drop 70 slice)) ≡ 54 → length new ≡ length slice
+pub made_is : (h : Header) (at len vec_len : ℕ) (old slice new made payload : List ℕ) → old ≡ opened_record at (headers_len + len) ++ payload → length payload ≡ len → slice ≡ old → length slice ≡ vec_len
+    → new ≡ take record_header_len slice ++ frame_with h (drop whole_len slice) → length (headers h (drop whole_len slice)) ≡ headers_len → length new ≡ length slice
     → made ≡ take vec_len (new ++ drop (length new) old) → made ≡ record_bytes microseconds at (frame_with h payload)
 made_is h at len vec_len old slice new made payload is count same size closed room kept made_of =
     let same_len : length slice ≡ length old = ap length same in
@@ -115,13 +121,13 @@ framed_is s place sent key bytes moment conn turn at_place is =
 
 pub piece_is : (s : Sender) (own : List LinePart) (from after : Cursor) (len seq ack place at flags : ℕ) (border : Bool) (h : Header) (key : SegKey) (bytes : List ℕ)
     → at ≡ first_instant (left_at own from) → len ≡ piece_size payload_limit (left_at own from) → left_at own after ≡ drop len (left_at own from)
-    → border ≡ is_chunk_border (left_at own after) → flags ≡ (if border then 24 else ack_flag) → h ≡ header_with s seq ack flags
+    → border ≡ is_chunk_border (left_at own after) → flags ≡ (if border then psh_flag + ack_flag else ack_flag) → h ≡ header_with s seq ack flags
     → bytes ≡ record_bytes microseconds at (frame_with h (values (take len (left_at own from))))
     → key.moment ≡ at → key.conn ≡ s.conn → key.turn ≡ s.turn → key.place ≡ place
     → ◌≡◌ {A = Framed} (record { key = key; bytes = bytes }) (framed_by s (place, piece_segment seq ack (first_of payload_limit (left_at own from))))
 piece_is s own from after len seq ack place at flags border h key bytes at_is len_is left border_is flags_are header is moment conn turn at_place =
     let sent : SentSegment = piece_segment seq ack (first_of payload_limit (left_at own from)) in
-    let flags' : flags ≡ sent.flags = flags_are ∙ ap (λ (b : Bool). if b then 24 else ack_flag) (border_is ∙ ap is_chunk_border (left ∙ ap (λ n. drop n (left_at own from)) len_is)) in
+    let flags' : flags ≡ sent.flags = flags_are ∙ ap (λ (b : Bool). if b then psh_flag + ack_flag else ack_flag) (border_is ∙ ap is_chunk_border (left ∙ ap (λ n. drop n (left_at own from)) len_is)) in
     let header' : h ≡ header_with s seq ack sent.flags = header ∙ ap (header_with s seq ack) flags' in
     framed_is s place sent key bytes (moment ∙ at_is) conn turn at_place
     (is ∙ (λ i. record_bytes microseconds (at_is i) (frame_with (header' i) (values (take (len_is i) (left_at own from))))))

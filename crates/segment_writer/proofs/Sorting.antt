@@ -19,7 +19,7 @@ module _ {X : Type 0} (lt : X → X → Bool) where
     below_itself true h = h refl
     below_itself false h = refl
 
-    not_below_itself : (x : X) → lt x x ≡ false
+    pub not_below_itself : (x : X) → lt x x ≡ false
     not_below_itself x = below_itself (lt x x) (o.one_way x x)
 
     -- what a filter keeps first is not below x

@@ -2,7 +2,7 @@
 use Rattle.std.proofs.Common.{◌≡◌, ◌≤◌, ◌<◌, ℕ, ◌+◌, ◌%◌, ◌^◌, List, [], ◌∷◌, ◌++◌, length, take, drop, Option, Some, None, refl, sym, ap, ◌∙◌, subst, arith, append-nil, append_assoc, length-drop}
 use Rattle.std.proofs.lemmas.List.{drop_all, take-append-drop}
 use Rattle.pcap_records.specs.Instants.{horizon, microseconds}
-use Rattle.frame_headers.specs.Headers.{payload_limit}
+use Rattle.frame_headers.specs.Layout.{payload_limit}
 use Rattle.reassembly.specs.RecordedLines.{LineByte, Line, End}
 use Rattle.reassembly.specs.LineView.{bytes_of_parts, end_view, line_of}
 use Rattle.reassembly.specs.declared.line_parts.LinePart.{LinePart}
@@ -10,14 +10,14 @@ use Rattle.reassembly.specs.declared.line_parts.End as code
 use Rattle.segment_writer.specs.WrittenSegments.{WrittenSide, SentSegment, Piece, opening_segment, pieces, segments_sent_from, end_segments, sequence_number, acknowledgment_number, end_numbers_before, sequence_space}
 use Rattle.segment_writer.specs.TimelyLines.{Climbs, IsTimely}
 use Rattle.segment_writer.specs.FirstPieces.{piece_size, values, first_instant, first_of}
-use Rattle.segment_writer.specs.PiecePlaces.{left_at, IsPlace}
-use Rattle.segment_writer.specs.HeardBytes.{bytes_before, IsHeard}
+use Rattle.segment_writer.specs.LinePlaces.{left_at, IsPlace}
+use Rattle.segment_writer.specs.LinePlaces.{bytes_before, IsHeard}
 use Rattle.segment_writer.specs.Senders.{own_side, peer_side, framed_by, piece_segment, ending_segments, line_written}
 use Rattle.segment_writer.specs.declared.framed.Framed.{Framed}
 use Rattle.segment_writer.specs.declared.places.Cursor.{Cursor}
-use Rattle.segment_writer.specs.declared.hearing.Heard.{Heard}
+use Rattle.segment_writer.specs.declared.turns.Heard.{Heard}
 use Rattle.segment_writer.specs.declared.senders.Sender.{Sender}
-use Rattle.segment_writer.specs.declared.endings.Ending.{Ending}
+use Rattle.segment_writer.specs.declared.turns.Ending.{Ending}
 use Rattle.segment_writer.proofs.PieceCuts.{first_piece}
 use Rattle.segment_writer.proofs.RecordSteps.{piece_within, length-piece, first_instant-place}
 use Rattle.segment_writer.proofs.PartBytes.{inside_is, length-left}

@@ -3,7 +3,7 @@ use Rattle.std.proofs.Common.{◌≡◌, ◌≤◌, ◌<◌, inl, inr, ℕ, ◌+
 use Rattle.std.proofs.lemmas.Bool.{cases_lt, lt-ltb, le-ltb, eq-eqb}
 use Rattle.std.proofs.lemmas.List.Elements.{filter-append}
 use Rattle.pcap_records.specs.Instants.{horizon, microseconds}
-use Rattle.frame_headers.specs.Headers.{payload_limit}
+use Rattle.frame_headers.specs.Layout.{payload_limit}
 use Rattle.reassembly.specs.RecordedLines.{LineByte, Line, End}
 use Rattle.reassembly.specs.LineLaws.{IsInChunks, GoesOn, IsNotBefore, last_instant}
 use Rattle.segment_writer.specs.WrittenSegments.{WrittenConnection, SentSegment, frame_bytes, is_key_below, sorted_by_key, opening_turn, up_turn, down_turn, segments_before_horizon, written_segments}
@@ -12,8 +12,7 @@ use Rattle.segment_writer.specs.TimelyLines.{Climbs, IsTimely, LinesAreTimely}
 use Rattle.segment_writer.specs.Senders.{client_in, server_in, own_side, peer_side, line_written, opening_by, opening_written}
 use Rattle.segment_writer.specs.declared.framed.Framed.{Framed}
 use Rattle.segment_writer.specs.declared.senders.Sender.{Sender}
-use Rattle.segment_writer.proofs.InOrder.{rising_is_sorted, parts_are_sorted_first, ordered-sorted_by_key}
-use Rattle.segment_writer.proofs.JoinSteps.{is_sorted}
+use Rattle.segment_writer.proofs.InOrder.{is_sorted, rising_is_sorted, parts_are_sorted_first, ordered-sorted_by_key}
 use Rattle.segment_writer.proofs.SentClimb.{SentClimbs, written_from, written_next, written_late, line_climbs}
 
 -- ---- lines of the rule are timely

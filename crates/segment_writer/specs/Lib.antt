@@ -3,8 +3,7 @@ pub mod WrittenConnections
 pub mod KeyOrder
 pub mod TimelyLines
 pub mod FirstPieces
-pub mod PiecePlaces
-pub mod HeardBytes
+pub mod LinePlaces
 pub mod Senders
 pub mod KeyLaws
 pub mod SentRows

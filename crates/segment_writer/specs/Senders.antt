@@ -10,11 +10,11 @@ use Rattle.reassembly.specs.RecordedLines.{Line}
 use Rattle.segment_writer.specs.WrittenSegments.{WrittenSide, WrittenConnection, Piece, SentSegment, segments_sent_by, segments_before_horizon, sequence_space, sequence_number, acknowledgment_number, opening_segment}
 use Rattle.segment_writer.specs.declared.framed.Framed.{Framed}
 use Rattle.segment_writer.specs.declared.senders.Sender.{Sender}
-use Rattle.segment_writer.specs.declared.endings.Ending.{Ending}
+use Rattle.segment_writer.specs.declared.turns.Ending.{Ending}
 
 -- ---- who sends
 
--- the client of a connection in a turn, and its server
+-- the client of a connection in a turn
 abbrev pub client_in : WrittenConnection → ℕ → Sender
 client_in c turn = record {
   conn = c.number;
@@ -27,17 +27,22 @@ client_in c turn = record {
   peer_base = c.server.base;
 }
 
-abbrev pub server_in : WrittenConnection → ℕ → Sender
-server_in c turn = record {
-  conn = c.number;
+-- who answers a sender, in a turn
+abbrev pub peer_in : Sender → ℕ → Sender
+peer_in s turn = record {
+  conn = s.conn;
   turn = turn;
-  mac_from = c.server.host.mac;
-  mac_to = c.client.host.mac;
-  from = c.server.host.peer;
-  to = c.client.host.peer;
-  base = c.server.base;
-  peer_base = c.client.base;
+  mac_from = s.mac_to;
+  mac_to = s.mac_from;
+  from = s.to;
+  to = s.from;
+  base = s.peer_base;
+  peer_base = s.base;
 }
+
+-- its server
+abbrev pub server_in : WrittenConnection → ℕ → Sender
+server_in c turn = peer_in (client_in c turn) turn
 
 -- a sender's own side with a line, and its peer's
 abbrev pub own_side : Sender → Line → WrittenSide
@@ -79,7 +84,7 @@ piece_segment seq ack p = record {
   payload = p.bytes;
 }
 
--- the segment of an end, behind n bytes
+-- the segment of an end, after n bytes
 abbrev pub ending_segments : WrittenSide → WrittenSide → ℕ → Option Ending → List SentSegment
 ending_segments own peer n None = []
 ending_segments own peer n (Some e) = record { at = e.at; seq = sequence_number own n; ack = acknowledgment_number peer e.at; flags = e.flags; payload = [] } ∷ []

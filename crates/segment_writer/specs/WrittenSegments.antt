@@ -4,7 +4,8 @@ use Rattle.std.specs.List.{enumerate_from}
 use Rattle.pcap_records.specs.Instants.{horizon}
 use Rattle.pcap_records.specs.Writing.{record_bytes}
 use Rattle.frame_headers.specs.Flags
-use Rattle.frame_headers.specs.Headers.{headers, payload_limit}
+use Rattle.frame_headers.specs.Headers.{headers}
+use Rattle.frame_headers.specs.Layout.{payload_limit}
 use Rattle.frame_headers.specs.declared.peers.Peer.{Peer}
 use Rattle.frame_headers.specs.declared.written.Header.{Header}
 use Rattle.segment_writer.specs.declared.framed.SegKey.{SegKey}

@@ -6,14 +6,16 @@ ghost use Rattle.reassembly.specs.RecordedView.{recorded_view};
 ghost use Rattle.toxic_defs.specs.DeliveredLines.{delivered_view};
 ghost use Rattle.segment_writer.specs.WrittenConnections.{written_connection};
 ghost use Rattle.segment_writer.specs.WrittenSegments.{written_segments};
-ghost use Rattle.segment_writer.specs.Senders.{line_written};
+ghost use Rattle.segment_writer.specs.Senders.{line_written, opening_written};
 ghost use Rattle.segment_writer.specs.TimelyLines.{IsTimely};
 
-use crate::openings::opening_segments;
-use crate::seg_lists::SegList;
-use crate::senders::{Sender, client_in, server_in};
+use crate::framed::{Framed, SegList};
+use crate::records::bare_framed;
+use crate::senders::{Numbers, Sender, client_in, peer_in};
 use crate::turns::line_segments;
 use conn_table::Conn;
+use frame_headers::Flags;
+use pcap_records::Moment;
 use reassembly::{Line, Recorded};
 use std::alloc::{AllocError, Global};
 use toxic_defs::Delivered;
@@ -34,15 +36,17 @@ pub fn segments(
     requires down { IsLine delivered.now.down.line }
     ensures { IfOk result (λ list. list ≡ written_segments microseconds (written_connection conn.now.number conn.now.client conn.now.server (recorded_view recorded.now) (delivered_view delivered.now))) }
 {
+    let opener = client_in(conn, recorded, 0);
+    let answerer = peer_in(&opener, 0);
     let opening = opening_segments(
         alloc,
-        &client_in(conn, recorded, 0),
-        &server_in(conn, recorded, 0),
+        &opener,
+        &answerer,
         recorded.opened,
         delivered.refused,
     )?;
     let client = client_in(conn, recorded, 1);
-    let server = server_in(conn, recorded, 2);
+    let server = peer_in(&client, 2);
     let ups = turn(alloc, &client, &delivered.up, &delivered.down)?;
     let downs = turn(alloc, &server, &delivered.down, &delivered.up)?;
     let begun = SegList::join(alloc, SegList::of(opening), ups)?;
@@ -71,4 +75,40 @@ fn turn(
         &peer_end,
     )?;
     Ok(SegList::of(list))
+}
+
+// SYN, SYN ACK and ACK (RFC 9293 section 3.5), or SYN and RST ACK where the connection is refused. At the horizon there are none.
+fn opening_segments(
+    alloc: Global,
+    client: &Sender,
+    server: &Sender,
+    at: Moment,
+    refused: bool,
+) -> Result<Vec<Framed>, AllocError>
+    ensures { IfOk result (λ list. list.items ≡ opening_written refused client.now server.now at) }
+{
+    let mut list = Vec::new(alloc);
+    if !at.is_before_horizon() {
+        return Ok(list);
+    }
+    let syn = numbers(client.base, 0, 0);
+    list.push(bare_framed(alloc, client, at, syn, Flags::SYN)?)?;
+    let client_next = client.base.wrapping_add(1);
+    if refused {
+        let refusal = numbers(0, client_next, 1);
+        list.push(bare_framed(alloc, server, at, refusal, Flags::RST.with(Flags::ACK))?)?;
+        return Ok(list);
+    }
+    let answer = numbers(server.base, client_next, 1);
+    list.push(bare_framed(alloc, server, at, answer, Flags::SYN.with(Flags::ACK))?)?;
+    let third = numbers(client_next, server.base.wrapping_add(1), 2);
+    list.push(bare_framed(alloc, client, at, third, Flags::ACK)?)?;
+    Ok(list)
+}
+
+// The numbers of a segment in the first turn.
+fn numbers(seq: u32, ack: u32, place: u32) -> Numbers
+    ensures { result ≡ record { seq = seq; ack = ack; place = place } }
+{
+    Numbers { seq, ack, place }
 }

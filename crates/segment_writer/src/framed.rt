@@ -1,8 +1,14 @@
-//! Written segments, and their order in a capture.
-use pcap_records::Moment;
+//! Written segments, their order in a capture, and lists of them.
+ghost use Rattle.std.specs.Prelude.{◌≡◌, ◌++◌, [], List, not, IfOk};
+ghost use Rattle.segment_writer.specs.WrittenSegments.{is_key_below, sorted_by_key};
+ghost use Rattle.segment_writer.specs.declared.framed.Framed.{Framed};
+
+use itertools::Itertools;
+use pcap_records::{Moment, Values};
+use std::alloc::{AllocError, Global};
 use std::marker::Model;
 
-/// The place of a written segment in an output capture. Segments are ordered by moment, then by connection, turn and place.
+/// The key of a written segment. A capture has segments in order of key: by moment, then by connection, turn and place.
 #[derive(Clone, Copy, Debug, PartialEq, Eq, PartialOrd, Ord)]
 pub struct SegKey {
     /// When the segment is written.
@@ -16,49 +22,83 @@ pub struct SegKey {
 }
 
 /// The bytes of a record.
-#[derive(Debug, Drop)]
-pub struct RecordBytes {
-    bytes: Vec<u8>,
-}
-
-impl Model for RecordBytes {
-    ghost use Rattle.std.specs.Prelude.{ℕ, List};
-
-    ghost Value = { List ℕ };
-
-    ghost view = { λ r. r.bytes.items };
-}
-
-impl RecordBytes {
-    ghost use Rattle.std.specs.Prelude.{◌≡◌};
-
-    // The bytes of a vector.
-    pub(crate) fn of(bytes: Vec<u8>) -> RecordBytes
-        ensures { result ≡ bytes.items }
-    {
-        RecordBytes { bytes }
-    }
-
-    /// The bytes.
-    pub fn as_slice(&self) -> &[u8]
-        ensures { result.now ≡ self.now }
-    {
-        &self.bytes
-    }
-
-    /// The bytes as a `Vec`.
-    pub fn into_vec(self) -> Vec<u8>
-        ensures { result.items ≡ self }
-    {
-        self.bytes
-    }
-}
+pub type RecordBytes = Values<u8>;
 
 /// A written segment: its key, and the bytes of its record.
 #[derive(Debug, Drop)]
 pub struct Framed {
-    /// Where the segment stands.
+    /// What it is ordered by.
     pub key: SegKey,
     /// The record that is written of it, header and frame.
     pub bytes: RecordBytes,
+}
+
+/// Written segments, one after another.
+#[derive(Debug, Drop)]
+pub struct SegList {
+    list: Vec<Framed>,
+}
+
+impl Model for SegList {
+    ghost Value = { List Framed };
+
+    ghost view = { λ l. l.list.items };
+}
+
+impl SegList {
+    /// No segments.
+    pub fn empty(alloc: Global) -> SegList
+        ensures { result ≡ [] }
+    {
+        SegList {
+            list: Vec::new(alloc),
+        }
+    }
+
+    // The segments of a vector.
+    pub(crate) fn of(list: Vec<Framed>) -> SegList
+        ensures { result ≡ list.items }
+    {
+        SegList { list }
+    }
+
+    /// The segments.
+    pub fn as_slice(&self) -> &[Framed]
+        ensures { result.now ≡ self.now }
+    {
+        &self.list
+    }
+
+    /// The segments as a `Vec`.
+    pub fn into_vec(self) -> Vec<Framed>
+        ensures { result.items ≡ self }
+    {
+        let SegList { list } = self;
+        list
+    }
+
+    /// The segments of two lists in order, in order: of their first segments that of the lower key comes first.
+    ///
+    /// # Errors
+    /// A growth was refused; the lists are then dropped.
+    pub fn join(alloc: Global, left: SegList, right: SegList) -> Result<SegList, AllocError>
+        requires left { sorted_by_key left ≡ left }
+        requires right { sorted_by_key right ≡ right }
+        ensures { IfOk result (λ list. list ≡ sorted_by_key (left ++ right)) }
+    {
+        let merged = left.into_vec().into_iter().merge_by(
+            right.into_vec(),
+            |a, b|
+                ensures { result ≡ not (is_key_below b.now.key a.now.key) }
+            { !is_key_below(&b.key, &a.key) },
+        );
+        Ok(SegList::of(merged.collect(alloc)?))
+    }
+}
+
+// Whether a key is lower than another.
+fn is_key_below(a: &SegKey, b: &SegKey) -> bool
+    ensures { result ≡ is_key_below a.now b.now }
+{
+    a < b
 }

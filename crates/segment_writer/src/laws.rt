@@ -1,7 +1,9 @@
-//! Theorems about the definitions of this crate. Each function does nothing: its contract is the theorem.
+//! Theorems about the definitions of this crate, and worked rows of them. Each function does nothing: its contract is the theorem, or
+//! is evaluated.
 ghost use Rattle.segment_writer.specs.FirstPieces.{FirstPiece};
 ghost use Rattle.segment_writer.specs.KeyLaws.{KeysRise, KeysStandOnce, OnceInAnyOrder, OneOrder, SortedKeepsAll, SortedNeverFalls};
 ghost use Rattle.segment_writer.specs.KeyOrder.{PartsAreSortedFirst, RisingIsSorted};
+ghost use Rattle.segment_writer.specs.SentRows.{LaterSent, CrossingSent, TurnsInOrder, RefusedInOrder, NoneAtHorizon, PiecesCut};
 ghost use Rattle.segment_writer.specs.TimelyLines.{LinesAreTimely};
 
 /// Segments whose keys rise are in order already.
@@ -53,4 +55,16 @@ pub fn sorted_keeps_all()
 /// Where no key stands twice, none does in another order of the segments.
 pub fn once_in_any_order()
     ensures { OnceInAnyOrder }
+{}
+
+fn sent_rows()
+    ensures later { LaterSent }
+    ensures crossing { CrossingSent }
+    ensures pieces { PiecesCut }
+{}
+
+fn order_rows()
+    ensures turns { TurnsInOrder }
+    ensures refused { RefusedInOrder }
+    ensures horizon { NoneAtHorizon }
 {}

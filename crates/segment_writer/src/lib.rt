@@ -2,20 +2,12 @@
 #![tactic(auto)]
 
 mod connection_segments;
-mod endings;
 mod framed;
-mod hearing;
 pub mod laws;
-mod openings;
 mod places;
 mod records;
-mod rows;
-mod seg_lists;
 mod senders;
-mod sorted_lists;
 mod turns;
 
 pub use connection_segments::segments;
-pub use framed::{Framed, RecordBytes, SegKey};
-pub use seg_lists::SegList;
-pub use sorted_lists::in_order;
+pub use framed::{Framed, RecordBytes, SegKey, SegList};

@@ -1,10 +1,10 @@
 //! Places in a line's parts, and the pieces that begin there. Parts without bytes count for nothing.
 ghost use Rattle.std.specs.Prelude.{◌≡◌, ◌≤◌, ◌<◌, ◌+◌, ◌++◌, ◌∷◌, length, drop, take, IfOk, OnOk};
-ghost use Rattle.frame_headers.specs.Headers.{payload_limit};
+ghost use Rattle.frame_headers.specs.Layout.{payload_limit};
 ghost use Rattle.reassembly.specs.LineView.{bytes_of_parts};
 ghost use Rattle.segment_writer.specs.WrittenSegments.{is_chunk_border};
 ghost use Rattle.segment_writer.specs.FirstPieces.{piece_size, values};
-ghost use Rattle.segment_writer.specs.PiecePlaces.{left_at, goes_on, IsPlace};
+ghost use Rattle.segment_writer.specs.LinePlaces.{left_at, goes_on, IsPlace};
 
 use frame_headers::PAYLOAD_LIMIT;
 use reassembly::LinePart;

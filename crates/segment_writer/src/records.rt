@@ -1,37 +1,23 @@
 //! The records of segments, each made in one exact growth.
 ghost use Rattle.std.specs.Prelude.{◌≡◌, ◌≤◌, ◌<◌, ◌+◌, ◌++◌, length, drop, take, replicate, IfOk, if◌then◌else◌};
 ghost use Rattle.pcap_records.specs.Instants.{horizon, microseconds};
+ghost use Rattle.pcap_records.specs.Reading.{record_header_len};
 ghost use Rattle.pcap_records.specs.Writing.{record_header};
 ghost use Rattle.frame_headers.specs.Flags.{psh_flag, ack_flag};
-ghost use Rattle.frame_headers.specs.Headers.{headers, headers_len, payload_limit};
+ghost use Rattle.frame_headers.specs.Headers.{headers};
+ghost use Rattle.frame_headers.specs.Layout.{headers_len, payload_limit};
 ghost use Rattle.segment_writer.specs.WrittenSegments.{opening_segment};
 ghost use Rattle.segment_writer.specs.FirstPieces.{first_instant, first_of, piece_size};
-ghost use Rattle.segment_writer.specs.PiecePlaces.{left_at, IsPlace};
-ghost use Rattle.segment_writer.specs.Senders.{framed_by, piece_segment};
+ghost use Rattle.segment_writer.specs.LinePlaces.{left_at, IsPlace};
+ghost use Rattle.segment_writer.specs.Senders.{frame_with, framed_by, piece_segment};
 
-use crate::framed::{Framed, RecordBytes};
+use crate::framed::Framed;
 use crate::places::{Cursor, copy_piece, is_border, part_at};
 use crate::senders::{Numbers, Sender, header_with, key_at};
-use byteorder::{ByteOrder, LittleEndian};
 use frame_headers::{Flags, HEADERS_LEN, Header, put_headers};
-use pcap_records::{Moment, RECORD_HEADER_LEN};
+use pcap_records::{Moment, RECORD_HEADER_LEN, Values, record_header_bytes};
 use reassembly::LinePart;
 use std::alloc::{AllocError, Global};
-
-// The header of a record: seconds, microseconds, and the frame's length twice.
-#[tactic(auto, unfolding(pcap_records::specs::Writing::record_header))]
-fn record_header_bytes(at: Moment, len: u32) -> [u8; RECORD_HEADER_LEN]
-    requires { at < horizon microseconds }
-    ensures { result ≡ record_header microseconds at len }
-{
-    let mut header = [0; RECORD_HEADER_LEN];
-    let fields: &mut [u8] = &mut header;
-    LittleEndian::write_u32(fields, (at.count() / Moment::SECOND) as u32);
-    LittleEndian::write_u32(&mut fields[4..], (at.count() % Moment::SECOND) as u32);
-    LittleEndian::write_u32(&mut fields[8..], len);
-    LittleEndian::write_u32(&mut fields[12..], len);
-    header
-}
 
 // The header of a record whose frame has `len` bytes of payload, and room for the frame: 0 in place of its headers.
 fn open_record(alloc: Global, at: Moment, len: usize) -> Result<Vec<u8>, AllocError>
@@ -48,10 +34,10 @@ fn open_record(alloc: Global, at: Moment, len: usize) -> Result<Vec<u8>, AllocEr
 
 // Writes the headers of a record's frame, whose payload is in place.
 fn close_record(bytes: &mut [u8], header: &Header)
-    requires room { 70 ≤ length bytes.old }
-    requires small { length bytes.old ≤ 1530 }
-    ensures len { length (headers header.now (drop 70 bytes.old)) ≡ 54 }
-    ensures bytes { bytes.new ≡ take 16 bytes.old ++ (headers header.now (drop 70 bytes.old) ++ drop 70 bytes.old) }
+    requires room { record_header_len + headers_len ≤ length bytes.old }
+    requires small { length bytes.old ≤ record_header_len + headers_len + payload_limit }
+    ensures len { length (headers header.now (drop (record_header_len + headers_len) bytes.old)) ≡ headers_len }
+    ensures bytes { bytes.new ≡ take record_header_len bytes.old ++ frame_with header.now (drop (record_header_len + headers_len) bytes.old) }
 {
     put_headers(&mut bytes[RECORD_HEADER_LEN..], header);
 }
@@ -83,7 +69,7 @@ pub(crate) fn bare_framed(
     close_record(&mut bytes, &header);
     Ok(Framed {
         key: key_at(sender, at, numbers.place),
-        bytes: RecordBytes::of(bytes),
+        bytes: Values::of(bytes),
     })
 }
 
@@ -112,7 +98,7 @@ pub(crate) fn piece_framed(
     close_record(&mut bytes, &header);
     let framed = Framed {
         key: key_at(sender, at, numbers.place),
-        bytes: RecordBytes::of(bytes),
+        bytes: Values::of(bytes),
     };
     Ok((framed, after))
 }

@@ -3,7 +3,7 @@ ghost use Rattle.std.specs.Prelude.{◌≡◌};
 ghost use Rattle.reassembly.specs.RecordedView.{recorded_view};
 ghost use Rattle.toxic_defs.specs.DeliveredLines.{DeliveredConnection};
 ghost use Rattle.segment_writer.specs.WrittenConnections.{written_connection};
-ghost use Rattle.segment_writer.specs.Senders.{client_in, server_in, header_with};
+ghost use Rattle.segment_writer.specs.Senders.{client_in, peer_in, header_with};
 
 use crate::framed::SegKey;
 use conn_table::Conn;
@@ -50,21 +50,21 @@ pub(crate) fn client_in(conn: &Conn, recorded: &Recorded<'_>, turn: u8) -> Sende
     }
 }
 
-/// The server of a connection, in a turn.
-pub(crate) fn server_in(conn: &Conn, recorded: &Recorded<'_>, turn: u8) -> Sender
-    ensures { (d : DeliveredConnection) → result ≡ server_in (written_connection conn.now.number conn.now.client conn.now.server (recorded_view recorded.now) d) turn }
+/// Who answers a sender, in a turn.
+pub(crate) fn peer_in(sender: &Sender, turn: u8) -> Sender
+    ensures { result ≡ peer_in sender.now turn }
 {
-    let mac_from = recorded.mac_server;
-    let mac_to = recorded.mac_client;
+    let mac_from = sender.mac_to;
+    let mac_to = sender.mac_from;
     Sender {
-        conn: conn.number,
+        conn: sender.conn,
         turn,
         mac_from,
         mac_to,
-        from: conn.server,
-        to: conn.client,
-        base: recorded.server_base.unwrap_or(0),
-        peer_base: recorded.client_base,
+        from: sender.to,
+        to: sender.from,
+        base: sender.peer_base,
+        peer_base: sender.base,
     }
 }
 

@@ -1,17 +1,19 @@
-//! The segments of a line, in one pass over its parts and those of the peer's line.
-ghost use Rattle.std.specs.Prelude.{◌≡◌, ◌≤◌, ◌<◌, ◌+◌, ◌%◌, true, false, IfOk};
+//! The segments of a line, in one pass over its parts and those of the peer's line, and the numbers that say what was delivered of
+//! the peer's line before an instant (RFC 9293 section 3.4).
+ghost use Rattle.std.specs.Prelude.{◌≡◌, ◌≤◌, ◌<◌, ◌+◌, ◌%◌, ◌||◌, true, false, ℕ, length, nat_lt, IfOk};
 ghost use Rattle.pcap_records.specs.Instants.{horizon, microseconds};
-ghost use Rattle.reassembly.specs.LineView.{line_of, end_view};
-ghost use Rattle.segment_writer.specs.WrittenSegments.{end_numbers_before, sequence_space};
-ghost use Rattle.segment_writer.specs.TimelyLines.{IsTimely};
-ghost use Rattle.segment_writer.specs.Senders.{line_written};
+ghost use Rattle.reassembly.specs.LineView.{bytes_of_parts, line_of, end_view};
+ghost use Rattle.reassembly.specs.RecordedLines.{live};
+ghost use Rattle.segment_writer.specs.WrittenSegments.{WrittenSide, end_numbers_before, end_segments, sequence_space};
+ghost use Rattle.segment_writer.specs.TimelyLines.{Climbs, IsTimely};
+ghost use Rattle.segment_writer.specs.LinePlaces.{has_none, bytes_before, IsHeard};
+ghost use Rattle.segment_writer.specs.Senders.{ending_segments, line_written};
 
-use crate::endings::ending_of;
 use crate::framed::Framed;
-use crate::hearing::{Heard, acknowledgment, hear, sequence_number};
 use crate::places::{Cursor, next_filled, part_at, piece_len};
 use crate::records::{bare_framed, piece_framed};
 use crate::senders::{Numbers, Sender};
+use frame_headers::Flags;
 use pcap_records::Moment;
 use reassembly::{End, LinePart};
 use std::alloc::{AllocError, Global};
@@ -68,10 +70,10 @@ fn is_late(at: Moment) -> bool
     ensures late { result ≡ true → horizon microseconds ≤ at }
     ensures early { result ≡ false → at < horizon microseconds }
 {
-    at.count() >= Moment::HORIZON
+    !at.is_before_horizon()
 }
 
-// The numbers of a segment behind so many bytes, when so much of the peer's line was heard.
+// The numbers of a segment after so many bytes, when so much of the peer's line was heard.
 fn numbers_at(
     sender: &Sender,
     sent: u32,
@@ -88,5 +90,84 @@ fn numbers_at(
         seq: sequence_number(sender.base, sent),
         ack: acknowledgment(sender.peer_base, heard.bytes, peer_end, at),
         place,
+    }
+}
+
+// The parts of a line that were heard, and how many bytes they have.
+#[derive(Clone, Copy)]
+struct Heard {
+    part: usize,
+    bytes: u32,
+}
+
+// What is heard of a line before `at`, of which so much was heard before.
+fn hear(parts: &[LinePart<'_>], heard: Heard, at: Moment) -> Heard
+    requires short { length (bytes_of_parts parts.now) < sequence_space }
+    requires climbs { Climbs 0 (bytes_of_parts parts.now) live }
+    requires heard { IsHeard parts.now heard at }
+    ensures heard { IsHeard parts.now result at }
+    ensures all { result.bytes ≡ bytes_before at (bytes_of_parts parts.now) }
+{
+    let mut part = heard.part;
+    let mut bytes = heard.bytes;
+    while part < parts.len() && is_before(&part_at(parts, part), at) {
+        bytes += part_at(parts, part).bytes.len() as u32;
+        part += 1;
+    }
+    Heard { part, bytes }
+}
+
+// Whether each byte of a part is before an instant.
+fn is_before(part: &LinePart<'_>, at: Moment) -> bool
+    ensures { result ≡ (has_none part.now.bytes.now || nat_lt part.now.at at) }
+{
+    part.bytes.is_empty() || part.at.is_before(at)
+}
+
+// How many numbers an end takes up before an instant.
+fn end_numbers(end: &End, at: Moment) -> u32
+    ensures { result ≡ end_numbers_before at (end_view end.now) }
+{
+    match end {
+        End::Fin(ended) | End::Close(ended) => u32::from(ended.is_before(at)),
+        End::Live | End::Reset(_) => 0,
+    }
+}
+
+// The number of what comes after `len` bytes of a side.
+fn sequence_number(base: u32, len: u32) -> u32
+    ensures { result ≡ (base + 1 + len) % sequence_space }
+{
+    base.wrapping_add(1).wrapping_add(len)
+}
+
+// The number that acknowledges so many bytes of a side, and its end where that was before an instant.
+fn acknowledgment(base: u32, bytes: u32, end: &End, at: Moment) -> u32
+    ensures { result ≡ (base + 1 + bytes + end_numbers_before at (end_view end.now)) % sequence_space }
+{
+    sequence_number(base, bytes).wrapping_add(end_numbers(end, at))
+}
+
+// When a line ends, and the flags that say how.
+#[derive(Clone, Copy)]
+struct Ending {
+    at: Moment,
+    flags: Flags,
+}
+
+// FIN for a FIN and a close, RST for a reset, nothing for a line that does not end.
+fn ending_of(end: &End) -> Option<Ending>
+    ensures { (own peer : WrittenSide) (n : ℕ) → end_segments own peer n (end_view end.now) ≡ ending_segments own peer n result }
+{
+    match end {
+        End::Live => None,
+        End::Fin(at) | End::Close(at) => Some(Ending {
+            at: *at,
+            flags: Flags::FIN.with(Flags::ACK),
+        }),
+        End::Reset(at) => Some(Ending {
+            at: *at,
+            flags: Flags::RST.with(Flags::ACK),
+        }),
     }
 }

@@ -1,3 +1,3 @@
 pub mod WalkedLists
-pub mod ListedOrder
+pub mod KeyedOrder
 pub mod KeySources

@@ -1,2 +1,2 @@
 pub mod MergedCapture
-pub mod ListedKeys
+pub mod KeyedSegments

@@ -1,9 +1,6 @@
 //! One capture of many lists of written segments.
 #![tactic(auto)]
 
-mod listed_keys;
-mod merged;
 mod merging;
 
-pub use merged::Merged;
-pub use merging::merge;
+pub use merging::{Merged, merge};

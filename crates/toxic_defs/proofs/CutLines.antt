@@ -1,4 +1,4 @@
--- What the session cut leaves of a line.
+-- What the session cut leaves of a line, and of lines that are made of recorded bytes.
 use Rattle.std.proofs.Common.{◌≡◌, ◌≤◌, ◌<◌, ℕ, ◌+◌, min, Bool, true, false, cond, List, [], ◌∷◌, length, nat_le, nat_lt, Option, Some, None, refl, sym, ap, ◌∙◌, subst, arith}
 use Rattle.std.proofs.Math.Nat.{le_trans, le_refl}
 use Rattle.std.proofs.lemmas.Bool.{ltb-true, ltb-false, le-ltb}
@@ -7,12 +7,11 @@ use Rattle.std.proofs.lemmas.List.Sums.{length-filter, count_by-le-length}
 use Rattle.pcap_records.specs.Instants.{horizon}
 use Rattle.reassembly.specs.RecordedLines.{LineByte, Line, End, live, fin, close, reset}
 use Rattle.reassembly.specs.LineLaws.{IsInChunks, last_instant, IsNotBefore, IsLine}
-use Rattle.toxic_defs.specs.SessionCut.{closing_end, first_closing, is_after, line_up_to, line_before, cut_line}
-use Rattle.toxic_defs.specs.Closings.{cut_limit}
-use Rattle.toxic_defs.specs.CutLaws.{IsBefore, CutLinesAreLines, FirstBytesStay, CutLinesEndInTime, CutEndsAreNotEarly}
-use Rattle.toxic_defs.proofs.FirstBytes.{bytes_before, up_to, first_stay, before_in_chunks, chunks_go_on, last_not_later, all_before, last_within}
-
--- ---- ends
+use Rattle.toxic_defs.specs.EndRule.{is_before}
+use Rattle.toxic_defs.specs.SessionCut.{closing_end, first_closing, is_after, line_up_to, line_before, cut_line, cut_limit}
+use Rattle.toxic_defs.specs.Laws.{IsBefore, CutLinesAreLines, FirstBytesStay, CutLinesEndInTime, CutEndsAreNotEarly, DelaysFront, AreUpTo, RecordedLinesDelay, CutLinesDelay}
+use Rattle.toxic_defs.proofs.FirstBytes.{before_short, bytes_before, up_to, first_stay, before_in_chunks, chunks_go_on, last_not_later, all_before, last_within, taken_all}
+use Rattle.toxic_defs.proofs.KeptBytes.{itself, taken}
 
 pub not_before_weaker : (a b : ℕ) (e : End) → a ≤ b → IsNotBefore b e → IsNotBefore a e
 not_before_weaker a b live h g = tt
@@ -55,50 +54,31 @@ no_instant (close at) = omega arith
 no_instant (reset at) = omega arith
 
 -- the horizon takes an end away or leaves it as it is
-end_stays : (limit at : ℕ) (f : Line) → IsNotBefore at f.end → IsNotBefore at (line_before limit f).end
-end_stays limit at f h = by_end f.end h
+end_stays : (limit at : ℕ) (e : End) → IsNotBefore at e → IsNotBefore at (cond (is_before limit e) e live)
+end_stays limit at e h = by_test (is_before limit e)
   where
-    by_end : (e : End) → IsNotBefore at e → IsNotBefore at (line_before limit (record { bytes = f.bytes; end = e })).end
-    by_end live g = tt
-    by_end (fin m) g = by_test (nat_lt m limit)
-      where
-        by_test : (t : Bool) → IsNotBefore at (cond t (fin m) live)
-        by_test true = g
-        by_test false = tt
-    by_end (close m) g = by_test (nat_lt m limit)
-      where
-        by_test : (t : Bool) → IsNotBefore at (cond t (close m) live)
-        by_test true = g
-        by_test false = tt
-    by_end (reset m) g = by_test (nat_lt m limit)
-      where
-        by_test : (t : Bool) → IsNotBefore at (cond t (reset m) live)
-        by_test true = g
-        by_test false = tt
+    by_test : (t : Bool) → IsNotBefore at (cond t e live)
+    by_test true = h
+    by_test false = tt
 
-end_in_time : (limit : ℕ) (bytes : List LineByte) (e : End) → IsBefore limit (line_before limit (record { bytes = bytes; end = e })).end
-end_in_time limit bytes live = tt
-end_in_time limit bytes (fin at) = by_test (nat_lt at limit) refl
+is_early : (limit : ℕ) (e : End) → is_before limit e ≡ true → IsBefore limit e
+is_early limit live h = tt
+is_early limit (fin at) h = ltb-true at limit h
+is_early limit (close at) h = ltb-true at limit h
+is_early limit (reset at) h = ltb-true at limit h
+
+end_in_time : (limit : ℕ) (e : End) → IsBefore limit (cond (is_before limit e) e live)
+end_in_time limit e = by_test (is_before limit e) refl
   where
-    by_test : (t : Bool) → nat_lt at limit ≡ t → IsBefore limit (cond t (fin at) live)
-    by_test true e = ltb-true at limit e
-    by_test false e = tt
-end_in_time limit bytes (close at) = by_test (nat_lt at limit) refl
-  where
-    by_test : (t : Bool) → nat_lt at limit ≡ t → IsBefore limit (cond t (close at) live)
-    by_test true e = ltb-true at limit e
-    by_test false e = tt
-end_in_time limit bytes (reset at) = by_test (nat_lt at limit) refl
-  where
-    by_test : (t : Bool) → nat_lt at limit ≡ t → IsBefore limit (cond t (reset at) live)
-    by_test true e = ltb-true at limit e
-    by_test false e = tt
+    by_test : (t : Bool) → is_before limit e ≡ t → IsBefore limit (cond t e live)
+    by_test true h = is_early limit e h
+    by_test false h = tt
 
 pub cut_lines_end_in_time : CutLinesEndInTime
 unfolding cut_line
 cut_lines_end_in_time ticks up down f =
     let g : Line = line_up_to (first_closing (closing_end up.end) (closing_end down.end)) f in
-    record { bytes = all_before (horizon ticks) g.bytes; ends = end_in_time (horizon ticks) g.bytes g.end }
+    record { bytes = all_before (horizon ticks) g.bytes; ends = end_in_time (horizon ticks) g.end }
 
 up_to_not_early : (opened : ℕ) (c : Option (ℕ × End)) (f : Line) → AreClosings opened c → IsNotBefore opened f.end → IsNotBefore opened (line_up_to c f).end
 up_to_not_early opened None f hc h = h
@@ -112,16 +92,9 @@ pub cut_ends_are_not_early : CutEndsAreNotEarly
 unfolding cut_line
 cut_ends_are_not_early ticks opened up down f hu hd hf =
     let c : Option (ℕ × End) = first_closing (closing_end up.end) (closing_end down.end) in
-    end_stays (horizon ticks) opened (line_up_to c f) (up_to_not_early opened c f (both_is opened up down hu hd) hf)
+    end_stays (horizon ticks) opened (line_up_to c f).end (up_to_not_early opened c f (both_is opened up down hu hd) hf)
 
 -- ---- lines
-
-pub before_short : (limit : ℕ) (bytes : List LineByte) → length (bytes_before limit bytes) ≤ length bytes
-before_short limit bytes =
-    let p : LineByte → Bool = λ b. nat_lt b.at limit in
-    let n = length-filter p bytes in
-    let m = count_by-le-length p bytes in
-    omega (arith, n, m)
 
 before_ends : (limit : ℕ) (bytes : List LineByte) (e : End) → IsInChunks bytes → IsNotBefore (last_instant 0 bytes) e → IsNotBefore (last_instant 0 (bytes_before limit bytes)) e
 before_ends limit bytes e g h = not_before_weaker (last_instant 0 (bytes_before limit bytes)) (last_instant 0 bytes) e (last_not_later limit 0 bytes (chunks_go_on bytes g)) h
@@ -129,7 +102,7 @@ before_ends limit bytes e g h = not_before_weaker (last_instant 0 (bytes_before 
 line_before_is : (limit : ℕ) (f : Line) → IsLine f → IsLine (line_before limit f)
 line_before_is limit f h = record {
   chunks = before_in_chunks limit f.bytes h.chunks;
-  ends = before_ends limit f.bytes (line_before limit f).end h.chunks (end_stays limit (last_instant 0 f.bytes) f h.ends);
+  ends = before_ends limit f.bytes (line_before limit f).end h.chunks (end_stays limit (last_instant 0 f.bytes) f.end h.ends);
   short = let n = before_short limit f.bytes in let m = h.short in omega (arith, n, m);
 }
 
@@ -196,3 +169,20 @@ cut_made limit c f g end hb he hg =
     let b : g.bytes ≡ made.bytes = hb ∙ sym (cut_bytes limit c f) in
     let e : g.end ≡ made.end = hg ∙ ap (λ x. (line_before limit (record { bytes = []; end = x })).end) (he ∙ up_to_end c f) in
     ap (λ (bs : List LineByte). let r : Line = record { bytes = bs; end = g.end } in r) b ∙ ap (λ (x : End). let r : Line = record { bytes = made.bytes; end = x } in r) e
+
+-- ---- recorded bytes
+
+pub recorded_lines_delay : RecordedLinesDelay
+recorded_lines_delay ticks opened f line in_time ends = record { line = line; in_time = in_time; bytes = itself f.bytes; ends = ends }
+
+pub cut_lines_delay : CutLinesDelay
+cut_lines_delay ticks opened recorded up down f hu hd g =
+    let cut : Line = cut_line ticks up down f in
+    let n : ℕ = length cut.bytes in
+    let first = sym (first_bytes_stay ticks up down f g.line) in
+    record {
+      line = cut_lines_are_lines ticks up down f g.line;
+      in_time = subst (AreUpTo (horizon ticks)) first (taken_all (λ b. b.at ≤ horizon ticks) n f.bytes g.in_time);
+      bytes = subst (λ (bs : List LineByte). DelaysFront bs recorded) first (taken n f.bytes recorded g.bytes);
+      ends = cut_ends_are_not_early ticks opened up down f hu hd g.ends;
+    }

@@ -1,14 +1,57 @@
--- What a toxic does to the bytes of a line.
-use Rattle.std.proofs.Common.{◌≤◌, ℕ, List, [], length, take, arith}
-use Rattle.std.proofs.Math.Nat.{le_refl}
+-- Bytes that are the first of others, none earlier than there; and what a toxic keeps of a line's bytes.
+use Rattle.std.proofs.Common.{◌≤◌, ◌<◌, ℕ, zero, suc, List, [], ◌∷◌, length, take, map, get_or, refl, sym, ap, ◌∙◌, subst, arith, nat_lt}
+use Rattle.std.proofs.Math.Nat.{le_trans, le_refl}
+use Rattle.std.proofs.lemmas.List.{length-take}
 use Rattle.reassembly.specs.RecordedLines.{LineByte}
 use Rattle.reassembly.specs.LineLaws.{IsInChunks}
-use Rattle.toxic_defs.specs.ToxicLaws.{DelaysFront, AreUpTo}
-use Rattle.toxic_defs.proofs.DelayedFronts.{itself, taken, taken_all, taken_in_chunks, taken_short, before_front, before_all}
-use Rattle.toxic_defs.proofs.FirstBytes.{bytes_before, before_in_chunks}
-use Rattle.toxic_defs.proofs.CutLines.{before_short}
+use Rattle.reassembly.proofs.MappedLists.{all_filter}
+use Rattle.toxic_defs.specs.Laws.{DelaysFront, AreFrom, values_of, DelayedBytesAreTheFirst, AreUpTo}
+use Rattle.toxic_defs.proofs.FirstBytes.{bytes_before, first_stay, chunks_go_on, before_short, before_in_chunks, taken_all, taken_in_chunks}
 
--- it makes chunks of them, of no more bytes, none past a limit or earlier than it was
+pub itself : (bytes : List LineByte) → DelaysFront bytes bytes
+itself [] = tt
+itself (b ∷ bytes) = (refl, le_refl b.at, itself bytes)
+
+pub in_turn : (xs ys zs : List LineByte) → DelaysFront xs ys → DelaysFront ys zs → DelaysFront xs zs
+in_turn [] ys zs f g = tt
+in_turn (x ∷ xs) [] zs f g = absurd f
+in_turn (x ∷ xs) (y ∷ ys) [] f g = absurd g
+in_turn (x ∷ xs) (y ∷ ys) (z ∷ zs) f g = (f.0 ∙ g.0, le_trans g.1 f.1, in_turn xs ys zs f.2 g.2)
+
+-- ---- the first n bytes
+
+pub taken : (n : ℕ) (xs ys : List LineByte) → DelaysFront xs ys → DelaysFront (take n xs) ys
+taken zero xs ys f = tt
+taken (suc n) [] ys f = tt
+taken (suc n) (x ∷ xs) [] f = absurd f
+taken (suc n) (x ∷ xs) (y ∷ ys) f = (f.0, f.1, taken n xs ys f.2)
+
+-- ---- the bytes before an instant are some of the first
+
+pub before_front : (limit : ℕ) (xs ys : List LineByte) → IsInChunks xs → DelaysFront xs ys → DelaysFront (bytes_before limit xs) ys
+before_front limit xs ys g f = subst (λ (bs : List LineByte). DelaysFront bs ys) (sym (first_stay limit 0 xs (chunks_go_on xs g))) (taken (length (bytes_before limit xs)) xs ys f)
+
+-- ---- instants
+
+pub from_recorded : (opened : ℕ) (xs ys : List LineByte) → DelaysFront xs ys → AreFrom opened ys → AreFrom opened xs
+from_recorded opened [] ys f h = tt
+from_recorded opened (x ∷ xs) [] f h = absurd f
+from_recorded opened (x ∷ xs) (y ∷ ys) f h = (le_trans h.0 f.1, from_recorded opened xs ys f.2 h.1)
+
+pub instant_from : (opened n : ℕ) (bytes : List LineByte) → n < length bytes → AreFrom opened bytes → opened ≤ get_or (map (λ b. b.at) bytes) n 0
+instant_from opened n [] lt h = absurd (omega arith)
+instant_from opened zero (b ∷ bytes) lt h = h.0
+instant_from opened (suc n) (b ∷ bytes) lt h = instant_from opened n bytes (omega arith) h.1
+
+-- ---- values
+
+pub the_first : DelayedBytesAreTheFirst
+the_first [] recorded f = refl
+the_first (b ∷ bytes) [] f = absurd f
+the_first (b ∷ bytes) (was ∷ recorded) f = ap (λ v. v ∷ values_of bytes) f.0 ∙ ap (λ vs. was.value ∷ vs) (the_first bytes recorded f.2)
+
+-- ---- what a toxic does: chunks, of no more bytes, none past a limit or earlier than it was
+
 pub record KeepsBytes (limit : ℕ) (before after : List LineByte) : Type 0 where
   pub chunks : IsInChunks after
   pub short : length after ≤ length before
@@ -24,7 +67,7 @@ none_keeps limit bytes = record { chunks = tt; short = omega arith; in_time = λ
 pub take_keeps : (limit n : ℕ) (bytes : List LineByte) → IsInChunks bytes → KeepsBytes limit bytes (take n bytes)
 take_keeps limit n bytes g = record {
   chunks = taken_in_chunks n bytes g;
-  short = taken_short n bytes;
+  short = let e = length-take n bytes in omega (arith, e);
   in_time = taken_all (λ b. b.at ≤ limit) n bytes;
   delays = λ h. taken n bytes bytes (itself bytes);
 }
@@ -33,6 +76,6 @@ pub before_keeps : (limit at : ℕ) (bytes : List LineByte) → IsInChunks bytes
 before_keeps limit at bytes g = record {
   chunks = before_in_chunks at bytes g;
   short = before_short at bytes;
-  in_time = before_all (λ b. b.at ≤ limit) at bytes g;
+  in_time = all_filter (λ (b : LineByte). b.at ≤ limit) (λ b. nat_lt b.at at) bytes;
   delays = λ h. before_front at bytes bytes g (itself bytes);
 }

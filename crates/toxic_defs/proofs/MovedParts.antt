@@ -1,14 +1,16 @@
--- Bytes at other instants, as parts have them.
-use Rattle.std.proofs.Common.{◌≡◌, ◌<◌, ℕ, suc, ◌+◌, Bool, true, false, cond, ◌&&◌, nat_lt, List, [], ◌∷◌, ◌++◌, length, take, drop, get_or, set, refl, sym, ap, ◌∙◌, arith, append_assoc}
-use Rattle.std.proofs.lemmas.List.{append-nil, take_more, take_more_set, drop_more, drop-set-lt, drop-drop, get_or-drop}
+-- Bytes at other instants, as parts have them, and one part more under latency and under a slicer.
+use Rattle.std.proofs.Common.{◌≡◌, ◌<◌, ℕ, suc, ◌+◌, Bool, true, false, cond, ◌&&◌, nat_lt, List, [], ◌∷◌, ◌++◌, length, take, drop, get_or, set, refl, sym, ap, ◌∙◌, arith, append_assoc, min, max, ◌≤◌, ◌-◌, ◌*◌}
+use Rattle.std.proofs.lemmas.List.{append-nil, take_more_set, length_push}
 use Rattle.std.proofs.lemmas.Bool.{lt-ltb, false≢true}
 use Rattle.std.proofs.lemmas.List.Concat.{flat_map-append}
 use Rattle.reassembly.specs.RecordedLines.{LineByte}
 use Rattle.reassembly.specs.LineView.{bytes_of_part, bytes_of_parts, bytes_with_mark, bytes_without_mark}
 use Rattle.reassembly.specs.declared.line_parts.LinePart.{LinePart}
-use Rattle.toxic_defs.specs.DelayedBytes.{begins, at_instant, along, moved}
-
--- ---- where chunks begin
+use Rattle.toxic_defs.specs.DelayedBytes.{begins, at_instant, along, moved, latest}
+use Rattle.toxic_defs.specs.Latency.{latency_leaves}
+use Rattle.toxic_defs.specs.Slicer.{paced, slicer_leaves}
+use Rattle.toxic_defs.proofs.Parts.{front_there}
+use Rattle.toxic_defs.proofs.Latest.{latest-push, latest-along}
 
 pub begins-append : (xs ys : List LineByte) → begins (xs ++ ys) ≡ begins xs ++ begins ys
 begins-append [] ys = refl
@@ -58,31 +60,6 @@ along_part g before at s (b ∷ bytes) =
 
 -- ---- a pass over parts in place
 
--- the part at a place that is not written yet
-pub read_there : (parts initial : List LinePart) (i : ℕ) (d : LinePart) → i < length parts → drop i parts ≡ drop i initial
-    → drop i initial ≡ get_or parts i d ∷ drop (i + 1) parts
-read_there parts initial i d lt rest = sym rest ∙ drop_more parts i d lt
-
-pub rest_there : (parts initial : List LinePart) (i : ℕ) (q : LinePart) → drop i parts ≡ drop i initial → drop (i + 1) (set parts i q) ≡ drop (i + 1) initial
-rest_there parts initial i q rest = drop-set-lt (i + 1) parts i q (omega arith) ∙ sym (drop-drop 1 i parts) ∙ ap (drop 1) rest ∙ drop-drop 1 i initial
-
--- the parts in front, with that part
-pub taken_there : (parts initial : List LinePart) (i : ℕ) (d : LinePart) → i < length parts → i < length initial → drop i parts ≡ drop i initial
-    → take (i + 1) initial ≡ take i initial ++ get_or parts i d ∷ []
-taken_there parts initial i d lt lt' rest =
-    let e : i + 0 ≡ i = omega arith in
-    let same : get_or initial i d ≡ get_or parts i d =
-    ap (λ n. get_or initial n d) (sym e) ∙ sym (get_or-drop i initial 0 d) ∙ ap (λ (ps : List LinePart). get_or ps 0 d) (read_there parts initial i d lt rest) in
-    take_more initial i d lt' ∙ ap (λ (q : LinePart). take i initial ++ q ∷ []) same
-
--- and their bytes
-pub front_there : (parts initial : List LinePart) (i : ℕ) (d : LinePart) → i < length parts → i < length initial → drop i parts ≡ drop i initial
-    → bytes_of_parts (take (i + 1) initial) ≡ bytes_of_parts (take i initial) ++ bytes_of_part (get_or parts i d)
-front_there parts initial i d lt lt' rest =
-    let p : LinePart = get_or parts i d in
-    ap bytes_of_parts (taken_there parts initial i d lt lt' rest) ∙ flat_map-append bytes_of_part (take i initial) (p ∷ [])
-    ∙ ap (λ bs. bytes_of_parts (take i initial) ++ bs) (append-nil (bytes_of_part p))
-
 -- the bytes in front once more than that part was written
 pub written_there : (parts initial : List LinePart) (i : ℕ) (d q : LinePart) (leaves : List LineByte → ℕ) → i < length parts → i < length initial → drop i parts ≡ drop i initial
     → bytes_of_parts (take i parts) ≡ moved leaves (bytes_of_parts (take i initial)) → bytes_of_part q ≡ along leaves (bytes_of_parts (take i initial)) (bytes_of_part (get_or parts i d))
@@ -92,9 +69,9 @@ written_there parts initial i d q leaves lt lt' rest done step =
     let p : LinePart = get_or parts i d in
     ap bytes_of_parts (take_more_set parts i q lt) ∙ flat_map-append bytes_of_part (take i parts) (q ∷ [])
     ∙ ap (λ bs. bytes_of_parts (take i parts) ++ bs) (append-nil (bytes_of_part q) ∙ step) ∙ ap (λ bs. bs ++ along leaves front (bytes_of_part p)) done
-    ∙ sym (moved-append leaves front (bytes_of_part p)) ∙ ap (moved leaves) (sym (front_there parts initial i d lt lt' rest))
+    ∙ sym (moved-append leaves front (bytes_of_part p)) ∙ ap (moved leaves) (sym (front_there parts initial i d lt' rest))
 
--- ---- chunks in front
+-- ---- one part more
 
 -- a part that begins a chunk
 pub begins_one_more : (front : List LineByte) (at : ℕ) (s : Bool) (bytes : List ℕ) → (s && nat_lt 0 (length bytes)) ≡ true
@@ -119,3 +96,75 @@ begins_no_more front at s bytes h = begins-append front (bytes_with_mark at s by
     none true (b ∷ bytes) h =
         let some : 0 < suc (length bytes) = omega arith in
         absurd (false≢true (sym h ∙ lt-ltb 0 (suc (length bytes)) some))
+
+-- ---- a part more under latency
+
+pub leaves_one_more : (limit : ℕ) (delay : ℕ → ℕ) (front : List LineByte) (at : ℕ) (s : Bool) (bytes : List ℕ) → (s && nat_lt 0 (length bytes)) ≡ true
+    → latency_leaves limit delay (front ++ bytes_with_mark at s bytes) ≡ max (latency_leaves limit delay front) (min (at + delay (length (begins front))) limit)
+leaves_one_more limit delay front at s bytes h =
+    let f : ℕ → ℕ → ℕ = λ j x. min (x + delay j) limit in
+    ap (latest f) (begins_one_more front at s bytes h) ∙ latest-push f (begins front) at
+
+pub leaves_no_more : (limit : ℕ) (delay : ℕ → ℕ) (front : List LineByte) (at : ℕ) (s : Bool) (bytes : List ℕ) → (s && nat_lt 0 (length bytes)) ≡ false
+    → latency_leaves limit delay (front ++ bytes_with_mark at s bytes) ≡ latency_leaves limit delay front
+leaves_no_more limit delay front at s bytes h = ap (latest (λ j x. min (x + delay j) limit)) (begins_no_more front at s bytes h)
+
+pub count_one_more : (front : List LineByte) (at : ℕ) (s : Bool) (bytes : List ℕ) → (s && nat_lt 0 (length bytes)) ≡ true
+    → length (begins (front ++ bytes_with_mark at s bytes)) ≡ length (begins front) + 1
+count_one_more front at s bytes h = ap length (begins_one_more front at s bytes h) ∙ length_push (begins front) at
+
+pub count_no_more : (front : List LineByte) (at : ℕ) (s : Bool) (bytes : List ℕ) → (s && nat_lt 0 (length bytes)) ≡ false
+    → length (begins (front ++ bytes_with_mark at s bytes)) ≡ length (begins front)
+count_no_more front at s bytes h = ap length (begins_no_more front at s bytes h)
+
+-- ---- a part more under a slicer
+
+paced-push : (limit gap : ℕ) (ats : List ℕ) (at : ℕ) → paced limit gap (length ats) (ats ++ at ∷ []) ≡ max (paced limit gap (length ats) ats) (min at limit)
+paced-push limit gap ats at =
+    let n : ℕ = length ats in
+    let e : at + (n - n) * gap ≡ at = zero_gap n in
+    latest-push (λ j x. min (x + (n - j) * gap) limit) ats at ∙ ap (λ x. max (paced limit gap n ats) (min x limit)) e
+  where
+    zero_gap : (n : ℕ) → at + (n - n) * gap ≡ at
+    zero_gap n = let e : n - n ≡ 0 = omega arith in rw e (omega arith)
+
+-- a gap more, for each of some slices
+paced-later : (limit gap k at : ℕ) (ats : List ℕ) → length (at ∷ ats) ≤ k + 1 → paced limit gap (k + 1) (at ∷ ats) ≡ min (paced limit gap k (at ∷ ats) + gap) limit
+paced-later limit gap k at ats le =
+    latest-along (λ q. min (q + gap) limit) (λ a b. omega arith) (λ j x. min (x + (k - j) * gap) limit) (λ j x. min (x + (k + 1 - j) * gap) limit) 0 at ats (k + 1) (omega arith)
+    (λ j x lt.
+    let one : k + 1 - j ≡ suc (k - j) = omega arith in
+    rw one (omega arith))
+
+-- so behind the last
+paced-next : (limit gap : ℕ) (ats : List ℕ) (at : ℕ) → paced limit gap (length ats + 1) (ats ++ at ∷ []) ≡ min (paced limit gap (length ats) (ats ++ at ∷ []) + gap) limit
+paced-next limit gap [] at = paced-later limit gap 0 at [] (omega arith)
+paced-next limit gap (x ∷ ats) at =
+    let n : length (ats ++ at ∷ []) ≡ length ats + 1 = length_push ats at in
+    paced-later limit gap (suc (length ats)) x (ats ++ at ∷ []) (omega arith)
+
+-- ---- by parts
+
+pub slice_leaves : (limit gap : ℕ) (front : List LineByte) (at : ℕ) (s : Bool) (bytes : List ℕ) → (s && nat_lt 0 (length bytes)) ≡ true
+    → slicer_leaves limit gap (front ++ bytes_with_mark at s bytes) ≡ max (paced limit gap (length (begins front)) (begins front)) (min at limit)
+slice_leaves limit gap front at s bytes h =
+    let e : length (begins front) + 1 - 1 ≡ length (begins front) = omega arith in
+    ap (λ ats. paced limit gap (length ats - 1) ats) (begins_one_more front at s bytes h) ∙ ap (λ n. paced limit gap (n - 1) (begins front ++ at ∷ [])) (length_push (begins front) at)
+    ∙ ap (λ n. paced limit gap n (begins front ++ at ∷ [])) e ∙ paced-push limit gap (begins front) at
+
+pub slice_next : (limit gap : ℕ) (front : List LineByte) (at : ℕ) (s : Bool) (bytes : List ℕ) → (s && nat_lt 0 (length bytes)) ≡ true
+    → paced limit gap (length (begins (front ++ bytes_with_mark at s bytes))) (begins (front ++ bytes_with_mark at s bytes))
+    ≡ min (slicer_leaves limit gap (front ++ bytes_with_mark at s bytes) + gap) limit
+slice_next limit gap front at s bytes h =
+    let there = begins_one_more front at s bytes h in
+    let e : length (begins front) + 1 - 1 ≡ length (begins front) = omega arith in
+    let n = length_push (begins front) at in
+    rw (there, n, e) (paced-next limit gap (begins front) at)
+
+pub same_leaves : (limit gap : ℕ) (front : List LineByte) (at : ℕ) (s : Bool) (bytes : List ℕ) → (s && nat_lt 0 (length bytes)) ≡ false
+    → slicer_leaves limit gap (front ++ bytes_with_mark at s bytes) ≡ slicer_leaves limit gap front
+same_leaves limit gap front at s bytes h = ap (λ ats. paced limit gap (length ats - 1) ats) (begins_no_more front at s bytes h)
+
+pub same_next : (limit gap : ℕ) (front : List LineByte) (at : ℕ) (s : Bool) (bytes : List ℕ) → (s && nat_lt 0 (length bytes)) ≡ false
+    → paced limit gap (length (begins (front ++ bytes_with_mark at s bytes))) (begins (front ++ bytes_with_mark at s bytes)) ≡ paced limit gap (length (begins front)) (begins front)
+same_next limit gap front at s bytes h = ap (λ ats. paced limit gap (length ats) ats) (begins_no_more front at s bytes h)

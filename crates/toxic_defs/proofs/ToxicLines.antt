@@ -1,25 +1,24 @@
--- What toxics make of lines.
-use Rattle.std.proofs.Common.{◌≡◌, ◌≤◌, ◌<◌, ℕ, zero, suc, ◌+◌, ◌*◌, ◌^◌, Bool, true, false, cond, List, [], ◌∷◌, ◌++◌, length, take, drop, map, nat_lt, get_or, Some, None, refl, sym, ap, ◌∙◌, subst, arith}
+-- What toxics make of lines, and what is delivered of a connection.
+use Rattle.std.proofs.Common.{◌≡◌, ◌≤◌, ◌<◌, ℕ, zero, suc, ◌+◌, ◌*◌, ◌^◌, Bool, true, false, cond, List, [], ◌∷◌, ◌++◌, length, take, drop, map, nat_lt, get_or, Some, None, refl, sym, ap, ◌∙◌, subst, arith, Option}
 use Rattle.std.proofs.lemmas.Bool.{ltb-true}
 use Rattle.std.proofs.lemmas.List.{drop_more, take_more, drop_all, take_all}
 use Rattle.std.proofs.lemmas.Bool.Decides.{nat_tests}
-use Rattle.pcap_records.specs.Instants.{horizon}
-use Rattle.reassembly.specs.RecordedLines.{LineByte, Line, End, live, fin, close, reset}
-use Rattle.reassembly.specs.LineLaws.{IsInChunks, last_instant, IsNotBefore, IsLine}
+use Rattle.pcap_records.specs.Instants.{horizon, millisecond}
+use Rattle.reassembly.specs.RecordedLines.{LineByte, Line, End, live, fin, close, reset, RecordedConnection, empty_line}
+use Rattle.reassembly.specs.LineLaws.{IsInChunks, last_instant, IsNotBefore, IsLine, LiesBetween}
 use Rattle.toxic_defs.specs.RandomWords.{word_of}
-use Rattle.toxic_defs.specs.EndRule.{not_before, ended}
-use Rattle.toxic_defs.specs.DelayedBytes.{millisecond}
-use Rattle.toxic_defs.specs.EndingToxics.{limited_end, is_before, slow_end}
-use Rattle.toxic_defs.specs.Toxics.{RatedKind, IsInRange, applies, after, effect, run, chain_from, chain}
-use Rattle.toxic_defs.specs.ToxicLaws.{ToxicsKeepLines, ChainsKeepLines, AreInRange, NoneApplies, IdleChainsChangeNothing, AreFrom, Delays, ToxicsDelay, ChainsDelay}
-use Rattle.toxic_defs.specs.declared.keys.Key.{Key}
+use Rattle.toxic_defs.specs.EndRule.{not_before, ended, is_before}
+use Rattle.toxic_defs.specs.LimitData.{limited_end}
+use Rattle.toxic_defs.specs.SlowClose.{slow_end}
+use Rattle.toxic_defs.specs.Toxics.{RatedKind, IsInRange, applies, after, effect, run, chain_from, chain, AreInRange}
+use Rattle.toxic_defs.specs.Laws.{ToxicsKeepLines, ChainsKeepLines, NoneApplies, IdleChainsChangeNothing, AreFrom, Delays, ToxicsDelay, ChainsDelay, DelaysRecorded, DeliveredIsRecorded}
+use Rattle.toxic_defs.specs.declared.words.Key.{Key}
 use Rattle.toxic_defs.specs.declared.kinds.Kind.{Kind}
 use Rattle.toxic_defs.specs.declared.kinds.Kind.TheVariants.{Latency, Bandwidth, SlowClose, Timeout, ResetPeer, Slicer, LimitData}
-use Rattle.toxic_defs.proofs.DelayedFronts.{in_turn, from_recorded, instant_from}
-use Rattle.toxic_defs.proofs.KeptBytes.{KeepsBytes, same_keeps, none_keeps, take_keeps, before_keeps}
+use Rattle.toxic_defs.specs.DeliveredLines.{connection_by_cut, connection_by_proxy, delivered_connection}
+use Rattle.toxic_defs.proofs.KeptBytes.{in_turn, from_recorded, instant_from, KeepsBytes, same_keeps, none_keeps, take_keeps, before_keeps}
 use Rattle.toxic_defs.proofs.DelayingLaws.{late_keeps, rated_keeps, paced_keeps}
-
--- ---- the rule of ends
+use Rattle.toxic_defs.proofs.CutLines.{recorded_lines_delay, cut_lines_delay}
 
 end_stays_behind : (at : ℕ) (e : End) → IsNotBefore at (not_before at e)
 end_stays_behind at live = tt
@@ -180,3 +179,38 @@ chain_end ticks opened seed s c d t toxics f whole le done = sym (ap (λ ts. cha
 
 pub range_end : (t : ℕ) (toxics : List RatedKind) → length toxics ≤ t → AreInRange (take t toxics) → AreInRange toxics
 range_end t toxics le h = subst AreInRange (take_all t toxics le) h
+
+-- ---- what is delivered of a connection
+
+as_recorded : (ticks opened : ℕ) (f : Line) → IsLine f → LiesBetween opened (horizon ticks) f → Delays ticks opened f.bytes f
+as_recorded ticks opened f line between = recorded_lines_delay ticks opened f line between.to between.ends
+
+through : (ticks seed s c d opened : ℕ) (toxics : List RatedKind) (f : Line) → AreInRange toxics → opened ≤ horizon ticks → IsLine f → LiesBetween opened (horizon ticks) f
+    → Delays ticks opened f.bytes (chain ticks toxics opened seed s c d f)
+through ticks seed s c d opened toxics f ranges early line between =
+    chains_delay ticks toxics opened seed s c d f.bytes f ranges early between.from (as_recorded ticks opened f line between)
+
+-- two lines, cut
+cut : (ticks opened : ℕ) (proxy : Option ℕ) (r : RecordedConnection) (up down : Line) → Delays ticks r.opened r.up.line.bytes up → Delays ticks r.opened r.down.line.bytes down
+    → DelaysRecorded ticks r (connection_by_cut ticks proxy up down)
+cut ticks opened proxy r up down is_up is_down = record {
+  up = cut_lines_delay ticks r.opened r.up.line.bytes up down up is_up.ends is_down.ends is_up;
+  down = cut_lines_delay ticks r.opened r.down.line.bytes up down down is_up.ends is_down.ends is_down;
+}
+
+-- a line without bytes
+nothing : (ticks opened : ℕ) (recorded : List LineByte) → Delays ticks opened recorded empty_line
+nothing ticks opened recorded = record { line = record { chunks = tt; ends = tt; short = omega arith }; in_time = tt; bytes = tt; ends = tt }
+
+pub delivered_is_recorded : DeliveredIsRecorded
+unfolding delivered_connection
+delivered_is_recorded ticks seed s c None r ranges is =
+    cut ticks r.opened None r r.up.line r.down.line (as_recorded ticks r.opened r.up.line is.up is.up_between) (as_recorded ticks r.opened r.down.line is.down is.down_between)
+delivered_is_recorded ticks seed s c (Some met) r ranges is = by met.enabled
+  where
+    by : (b : Bool) → DelaysRecorded ticks r (connection_by_proxy b ticks seed s c met r)
+    by true =
+        cut ticks r.opened (Some met.number) r (chain ticks met.up r.opened seed s c 0 r.up.line) (chain ticks met.down r.opened seed s c 1 r.down.line)
+        (through ticks seed s c 0 r.opened met.up r.up.line ranges.0 is.opened is.up is.up_between)
+        (through ticks seed s c 1 r.opened met.down r.down.line ranges.1 is.opened is.down is.down_between)
+    by false = record { up = nothing ticks r.opened r.up.line.bytes; down = nothing ticks r.opened r.down.line.bytes }

@@ -1,5 +1,5 @@
 -- What a text calls for, by what its parts answer.
-use Rattle.std.proofs.Common.{◌≡◌, ℕ, ◌<◌, ◌≤◌, Bool, true, false, ◌==◌, nat_lt, [], List, length, count_by, Option, Some, None, IfSome, Result, Ok, Err, refl, IfErr, position, if◌then◌else◌, ◌%◌, arith}
+use Rattle.std.proofs.Common.{◌≡◌, ℕ, ◌<◌, ◌≤◌, Bool, true, false, ◌==◌, nat_lt, [], ◌∷◌, ◌++◌, List, length, count_by, Option, Some, None, IfSome, Result, Ok, Err, refl, subst, IfErr, position, if◌then◌else◌, ◌%◌, arith}
 use Rattle.std.proofs.lemmas.Bool.{lt-ltb, le-ltb, ltb-false}
 use Rattle.hex.specs.Hex.{is_hex_digit}
 use Rattle.pcap_records.specs.declared.fault.CaptureFault.{CaptureFault}
@@ -8,18 +8,25 @@ use Rattle.pcap_records.specs.Agreement.{Refuses, Agrees, AgreesUnlessMemory}
 use Rattle.pcap_records.specs.Reading.{capture_limit, reading}
 use Rattle.conn_table.specs.SeenCapture.{SeenCapture}
 use Rattle.scenarios.specs.Refusals.{after}
+use Rattle.scenarios.specs.Populate.{scenario}
+use Rattle.scenarios.specs.declared.error.Refusal.{Refusal}
 use Rattle.scenarios.specs.declared.hosts.KnownHost.{KnownHost}
 use Rattle.scenarios.specs.declared.proxies.Proxy.{Proxy}
-use Rattle.toxicap.specs.declared.outputs.Output.{Output}
-use Rattle.toxicap.specs.declared.faults.RunFault.{RunFault}
-use Rattle.toxicap.specs.declared.faults.RunFault.TheVariants.{BadHost, CaptureTooLong, TooManyScenarios, Memory, BadDump, ReadFailed, ShelfFailed, WriteFailed}
-use Rattle.toxicap.specs.Answering.{capture_bytes_of, answer_under, called_for, scenarios_from, IsOfText, AnswersBy}
-use Rattle.toxicap.specs.Dumps.{is_dump, is_foreign, dumped_bytes, dump_reading, dump_reading_from}
-use Rattle.toxicap.specs.Loading.{StopsLoading}
+use Rattle.run_files.specs.declared.outputs.Output.{Output}
+use Rattle.run_files.specs.declared.error.RunFault.{RunFault}
+use Rattle.run_files.specs.declared.error.RunFault.TheVariants.{BadHost, CaptureTooLong, TooManyScenarios, Memory, BadDump, ReadFailed, ShelfFailed, WriteFailed}
+use Rattle.toxicap.specs.Answering.{capture_bytes_of, answer_under, called_for, numbered, scenarios_from, IsOfText, AnswersBy}
+use Rattle.run_files.specs.Dumps.{is_dump, is_foreign, dumped_bytes, dump_reading, dump_reading_from}
+use Rattle.run_files.specs.Streams.{StopsLoading}
+use Rattle.toxicap.specs.RunEnds.{failed_reads}
 use Rattle.toxicap.specs.Rehearsal.{answer, answer_to, scenario_limit, seen_file}
-use Rattle.toxicap.specs.RunFault.{run_fault, run_refusal}
+use Rattle.run_files.specs.RunFault.{run_fault, run_refusal}
 
 -- ---- what a text calls for is no fault of a reader or a writer
+
+of_after : {A B : Type 0} (first : Result A RunFault) (next : A → Result B RunFault) → IfErr first IsOfText → ((a : A) → IfErr (next a) IsOfText) → IfErr (after first next) IsOfText
+of_after (Ok a) next own rest = rest a
+of_after (Err fault) next own rest = own
 
 of_capture_fault : (f : CaptureFault) → IsOfText (run_fault f)
 of_capture_fault of_capture.ShortHeader = tt
@@ -54,20 +61,23 @@ of_dump text = by (position is_foreign text)
     by (Some at) = tt
     by None = odd (count_by is_hex_digit text % 2 == 1)
 
-pub of_capture_bytes : (text : List ℕ) → IfErr (capture_bytes_of text) IsOfText
+of_capture_bytes : (text : List ℕ) → IfErr (capture_bytes_of text) IsOfText
 of_capture_bytes text = by (is_dump text)
   where
     by : (b : Bool) → IfErr (if b then dump_reading text else Ok text) IsOfText
     by true = of_dump text
     by false = tt
 
--- what agrees with such a wanted value tells such a fault
-pub of_agreed : {B : Type 0} (fault : RunFault) (wanted : Result B RunFault) → Refuses (run_refusal fault) wanted → IfErr wanted IsOfText → IsOfText fault
-of_agreed ReadFailed wanted is each = rw is at each
-of_agreed WriteFailed wanted is each = rw is at each
-of_agreed (ShelfFailed after) wanted is each = rw is at each
-of_agreed (BadHost at) wanted is each = rw is at each
-of_agreed _ wanted is each = tt
+of_numbered : (number : ℕ) (r : Result (List Proxy) Refusal) → IfErr (numbered number r) IsOfText
+of_numbered number (Ok proxies) = tt
+of_numbered number (Err refusal) = tt
+
+of_scenarios : (hosts : List KnownHost) (earlier : List (List Proxy)) (texts : List (List ℕ)) → IfErr (scenarios_from hosts earlier texts) IsOfText
+unfolding scenarios_from
+of_scenarios hosts earlier [] = tt
+of_scenarios hosts earlier (text ∷ texts) =
+    of_after (numbered (length earlier) (scenario hosts text)) (λ proxies. scenarios_from hosts (earlier ++ proxies ∷ []) texts)
+    (of_numbered (length earlier) (scenario hosts text)) (λ proxies. of_scenarios hosts (earlier ++ proxies ∷ []) texts)
 
 -- ---- the end of loading
 
@@ -85,18 +95,40 @@ module _ (hosts : List KnownHost) (texts : List (List ℕ)) (seed : ℕ) where
   stopped Memory text old new AtEnd h = h.0
   stopped _ text old new AtEnd h = absurd h
 
+  of_called : (text : List ℕ) → IfErr (called_for hosts texts seed text) IsOfText
+  unfolding called_for
+  of_called text = by (nat_lt capture_limit (length text))
+    where
+      of_bytes : (bytes : List ℕ) → IfErr (answer_under hosts texts seed bytes) IsOfText
+      of_bytes bytes = of_after (scenarios_from hosts [] texts) (λ scenarios. answer bytes scenarios seed) (of_scenarios hosts [] texts) (λ scenarios. of_answer bytes scenarios seed)
+
+      by : (b : Bool) → IfErr (if b then Err CaptureTooLong else after (capture_bytes_of text) (answer_under hosts texts seed)) IsOfText
+      by true = tt
+      by false = of_after (capture_bytes_of text) (answer_under hosts texts seed) (of_capture_bytes text) of_bytes
+
+  -- so no such fault is what was called for
+  never : {A : Type 0} {fault : RunFault} (text : List ℕ) → called_for hosts texts seed text ≡ Err fault → (IsOfText fault → ⊥) → A
+  never text is other = absurd (other (subst (λ wanted. IfErr wanted IsOfText) is (of_called text)))
+
   -- what agrees with what was called for is its answer
   pub answered : (result : Result (List Output) RunFault) (text : List ℕ) (AtEnd : Type 0) → length text ≤ capture_limit → AtEnd
-      → AgreesUnlessMemory run_refusal (λ (outputs : List Output). outputs) result (called_for hosts texts seed text) → IfErr result IsOfText
+      → AgreesUnlessMemory run_refusal (λ (outputs : List Output). outputs) result (called_for hosts texts seed text)
       → AnswersBy result (called_for hosts texts seed text) text AtEnd
-  answered (Ok outputs) text AtEnd within at_end is own = (at_end, is)
-  answered (Err Memory) text AtEnd within at_end is own = within
-  answered (Err ReadFailed) text AtEnd within at_end is own = absurd own
-  answered (Err WriteFailed) text AtEnd within at_end is own = absurd own
-  answered (Err (ShelfFailed after)) text AtEnd within at_end is own = absurd own
-  answered (Err (BadHost at)) text AtEnd within at_end is own = absurd own
-  answered (Err CaptureTooLong) text AtEnd within at_end is own = is
-  answered (Err _) text AtEnd within at_end is own = (at_end, is)
+  answered (Ok outputs) text AtEnd within at_end is = (at_end, is)
+  answered (Err Memory) text AtEnd within at_end is = within
+  answered (Err ReadFailed) text AtEnd within at_end is = never text is (λ own. own)
+  answered (Err WriteFailed) text AtEnd within at_end is = never text is (λ own. own)
+  answered (Err (ShelfFailed after)) text AtEnd within at_end is = never text is (λ own. own)
+  answered (Err (BadHost at)) text AtEnd within at_end is = never text is (λ own. own)
+  answered (Err CaptureTooLong) text AtEnd within at_end is = is
+  answered (Err _) text AtEnd within at_end is = (at_end, is)
+
+  -- and no read has failed
+  pub none_read : (result : Result (List Output) RunFault) (text : List ℕ)
+      → AgreesUnlessMemory run_refusal (λ (outputs : List Output). outputs) result (called_for hosts texts seed text) → failed_reads result ≡ 0
+  none_read (Ok outputs) text is = refl
+  none_read (Err ReadFailed) text is = never text is (λ own. own)
+  none_read (Err _) text is = refl
 
   -- a text that calls for outputs is within the limit
   pub within : (text : List ℕ) (outputs : List Output) → called_for hosts texts seed text ≡ Ok outputs → length text ≤ capture_limit
@@ -107,50 +139,3 @@ module _ (hosts : List KnownHost) (texts : List (List ℕ)) (seed : ℕ) where
           → (if b then Err CaptureTooLong else after (capture_bytes_of text) (answer_under hosts texts seed)) ≡ Ok outputs → length text ≤ capture_limit
       by true test is = cc
       by false test is = omega (arith, ltb-false capture_limit (length text) test)
-
--- ---- steps one behind another
-
--- the text is within the limit, and its bytes are these
-pub with_bytes : (hosts : List KnownHost) (texts : List (List ℕ)) (seed : ℕ) (text bytes : List ℕ) → length text ≤ capture_limit → capture_bytes_of text ≡ Ok bytes
-    → called_for hosts texts seed text ≡ answer_under hosts texts seed bytes
-unfolding called_for
-with_bytes hosts texts seed text bytes within is = rw (le-ltb capture_limit (length text) within, is) refl
-
--- a first step that refuses
-pub refused_first : {A B : Type 0} (fault : RunFault) (first : Result A RunFault) (next : A → Result B RunFault) → Refuses (run_refusal fault) first
-    → IfSome (run_refusal fault) (λ refused. after first next ≡ Err refused)
-refused_first fault first next is = by (run_refusal fault) is
-  where
-    by : (o : Option RunFault) → Refuses o first → IfSome o (λ refused. after first next ≡ Err refused)
-    by (Some refused) same = rw same refl
-    by None same = tt
-
-pub refused_unless_memory : {A B : Type 0} (fault : RunFault) (first : Result A RunFault) (next : A → Result B RunFault)
-    → IfSome (run_refusal fault) (λ refused. first ≡ Err refused) → IfSome (run_refusal fault) (λ refused. after first next ≡ Err refused)
-refused_unless_memory fault first next is = by (run_refusal fault) is
-  where
-    by : (o : Option RunFault) → IfSome o (λ refused. first ≡ Err refused) → IfSome o (λ refused. after first next ≡ Err refused)
-    by (Some refused) same = rw same refl
-    by None same = tt
-
--- where a dump is broken nothing else is called for
-pub refused_bytes : (hosts : List KnownHost) (texts : List (List ℕ)) (seed : ℕ) (fault : RunFault) (text : List ℕ) → length text ≤ capture_limit
-    → Refuses (run_refusal fault) (capture_bytes_of text) → IfSome (run_refusal fault) (λ refused. called_for hosts texts seed text ≡ Err refused)
-unfolding called_for
-refused_bytes hosts texts seed fault text within is = rw (le-ltb capture_limit (length text) within) (refused_first fault (capture_bytes_of text) (answer_under hosts texts seed) is)
-
--- what a rehearsal answers is what was called for
-pub rehearsed : (hosts : List KnownHost) (texts : List (List ℕ)) (seed : ℕ) (bytes : List ℕ) (scenarios : List (List Proxy)) (result : Result (List Output) RunFault)
-    → scenarios_from hosts [] texts ≡ Ok scenarios → Agrees run_refusal (λ (outputs : List Output). outputs) result (answer bytes scenarios seed)
-    → AgreesUnlessMemory run_refusal (λ (outputs : List Output). outputs) result (answer_under hosts texts seed bytes)
-rehearsed hosts texts seed bytes scenarios (Ok outputs) read is = rw (read, is) refl
-rehearsed hosts texts seed bytes scenarios (Err fault) read is = rw read (by (run_refusal fault) is)
-  where
-    by : (o : Option RunFault) → Refuses o (answer bytes scenarios seed) → IfSome o (λ refused. answer bytes scenarios seed ≡ Err refused)
-    by (Some refused) same = same
-    by None same = tt
-
-pub rehearsed_of_text : (result : Result (List Output) RunFault) (bytes : List ℕ) (scenarios : List (List Proxy)) (seed : ℕ)
-    → Agrees run_refusal (λ (outputs : List Output). outputs) result (answer bytes scenarios seed) → IfErr result IsOfText
-rehearsed_of_text (Ok outputs) bytes scenarios seed is = tt
-rehearsed_of_text (Err fault) bytes scenarios seed is = of_agreed fault (answer bytes scenarios seed) is (of_answer bytes scenarios seed)

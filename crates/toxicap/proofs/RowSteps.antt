@@ -12,7 +12,7 @@ module _ {R C V : Type 0} (f : R → C → V) (rs : List R) (cs : List C) (i : �
   width : length (map (f (get_or rs i d)) cs) ≡ length cs
   width = length-map cs (f (get_or rs i d))
 
-  -- the next row, what is left behind it, and that it is there
+  -- the next row, what is left after it, and that it is there
   pub row_taken : take (length cs) (rows f (drop i rs) cs) ≡ map (f (get_or rs i d)) cs
   row_taken = ap (take (length cs)) first_and_rest ∙ take_at (map (f (get_or rs i d)) cs) (rows f (drop (i + 1) rs) cs) (length cs) width
 
@@ -38,8 +38,8 @@ takes_one {X} xs i x left is =
     let within : i < length xs = omega (arith, length-drop i xs, ap length is) in
     let both : get_or xs i x ∷ drop (i + 1) xs ≡ x ∷ left = sym (drop_more xs i x within) ∙ is in
     let first : get_or xs i x ≡ x = cc in
-    let behind : left ≡ drop (i + 1) xs = cc in
-    record { taken = take_more xs i x within ∙ ap (λ (y : X). take i xs ++ y ∷ []) first; rest = behind }
+    let others : left ≡ drop (i + 1) xs = cc in
+    record { taken = take_more xs i x within ∙ ap (λ (y : X). take i xs ++ y ∷ []) first; rest = others }
 
 -- so is what is mapped from it
 pub mapped_push : {A B : Type 0} (f : A → B) (xs : List A) (i : ℕ) (x : A) → take (i + 1) xs ≡ take i xs ++ x ∷ [] → map f (take i xs) ++ f x ∷ [] ≡ map f (take (i + 1) xs)

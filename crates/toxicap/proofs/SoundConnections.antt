@@ -1,7 +1,7 @@
 -- The connections of a file of bytes: their numbers fit their fields, and their ends differ.
 use Rattle.std.proofs.Common.{◌≡◌, ◌<◌, ℕ, zero, suc, ◌+◌, ◌^◌, Bool, true, false, not, List, [], ◌∷◌, ◌++◌, map, filter, drop, find, Some, None, option_map, unwrap_or, Ok, refl, sym, ap, subst, arith, if◌then◌else◌}
-use Rattle.std.specs.List.{AllByRecursion, enumerate_from, zip, flat_map, filter_map, cons_option, take_while}
-use Rattle.std.proofs.lemmas.List.Sums.{take_while-cons}
+use Rattle.std.specs.List.{AllByRecursion, enumerate_from, zip, flat_map, filter_map, cons_option, prefix_len, take_while}
+use Rattle.std.proofs.lemmas.List.Elements.{All-drop, All-filter, All-from_recursion, All-take, recursion_from_All}
 use Rattle.pcap_records.specs.Instants.{instants}
 use Rattle.pcap_records.specs.Reading.{Heading, Packet, Reading, reading}
 use Rattle.pcap_records.specs.Grammar.{RawRecord, Splits, raw_bytes, packet_of_raw, ReadingsSplit}
@@ -16,18 +16,11 @@ use Rattle.toxicap.specs.SoundOutputs.{AreBytes}
 -- ---- lists
 
 module _ {X : Type 0} (P : X → Type 0) where
-  pub all-filter : (q : X → Bool) (xs : List X) → AllByRecursion P xs → AllByRecursion P (filter q xs)
-  all-filter q [] all = tt
-  all-filter q (x ∷ xs) all = by (q x) (all-filter q xs all.1)
-    where
-      by : (b : Bool) → AllByRecursion P (filter q xs) → AllByRecursion P (if b then x ∷ filter q xs else filter q xs)
-      by true rest = (all.0, rest)
-      by false rest = rest
+  all-filter : (q : X → Bool) (xs : List X) → AllByRecursion P xs → AllByRecursion P (filter q xs)
+  all-filter q xs all = recursion_from_All P (filter q xs) (All-filter q P xs (All-from_recursion P xs all))
 
   all-drop : (n : ℕ) (xs : List X) → AllByRecursion P xs → AllByRecursion P (drop n xs)
-  all-drop zero xs all = all
-  all-drop (suc n) [] all = tt
-  all-drop (suc n) (x ∷ xs) all = all-drop n xs all.1
+  all-drop n xs all = recursion_from_All P (drop n xs) (All-drop P n xs (All-from_recursion P xs all))
 
   all-left : (xs ys : List X) → AllByRecursion P (xs ++ ys) → AllByRecursion P xs
   all-left [] ys all = tt
@@ -38,12 +31,7 @@ module _ {X : Type 0} (P : X → Type 0) where
   all-right (x ∷ xs) ys all = all-right xs ys all.1
 
   all-take_while : (q : X → Bool) (xs : List X) → AllByRecursion P xs → AllByRecursion P (take_while q xs)
-  all-take_while q [] all = tt
-  all-take_while q (x ∷ xs) all = rw (take_while-cons q x xs) (by (q x) (all-take_while q xs all.1))
-    where
-      by : (b : Bool) → AllByRecursion P (take_while q xs) → AllByRecursion P (if b then x ∷ take_while q xs else [])
-      by true rest = (all.0, rest)
-      by false rest = tt
+  all-take_while q xs all = recursion_from_All P (take_while q xs) (All-take P (prefix_len q xs) xs (All-from_recursion P xs all))
 
 -- ---- segments
 

@@ -7,7 +7,8 @@ use Rattle.pcap_records.specs.Reading.{packet_limit}
 use Rattle.pcap_records.specs.Writing.{record_bytes}
 use Rattle.frame_headers.specs.Flags
 use Rattle.frame_headers.specs.HeaderLaws.{IsHeader, HeadersAreSound}
-use Rattle.frame_headers.specs.Headers.{headers, payload_limit}
+use Rattle.frame_headers.specs.Headers.{headers}
+use Rattle.frame_headers.specs.Layout.{payload_limit}
 use Rattle.frame_headers.specs.declared.written.Header.{Header}
 use Rattle.segment_writer.specs.declared.framed.Framed.{Framed}
 use Rattle.reassembly.specs.RecordedLines.{LineByte, End, live, fin, close, reset}

@@ -5,8 +5,8 @@ use Rattle.std.specs.declared.option.Option.{Option}
 use Rattle.std.specs.Io.KnownBytes.{Appends}
 use Rattle.std.proofs.KnownBytes.{Appends-trans}
 use Rattle.std.proofs.lemmas.List.{take_at, take-append-le}
-use Rattle.toxicap.specs.declared.faults.RunFault.{RunFault}
-use Rattle.toxicap.specs.Runs.{text_with_line_feed, WrittenSoFar}
+use Rattle.run_files.specs.declared.error.RunFault.{RunFault}
+use Rattle.toxicap.specs.RunEnds.{text_with_line_feed, WrittenSoFar}
 
 -- a first part of the line, not all of it, was written
 pub line_stopped : (old new : Option (List ℕ)) (line : List ℕ) (before after : ℕ)
@@ -21,33 +21,22 @@ line_stopped old new line before after part failed =
       failed,
     )
 
--- the line was written, and then perhaps its line feed
-pub line_written : (second : Result (Unit {0}) RunFault) (old mid new : Option (List ℕ)) (line : List ℕ) (before between after : ℕ)
-    → Appends old mid line → between ≡ before
-    → OnOk second (Appends mid new (codes "\n")) → OnOk second (after ≡ between)
-    → OnErr second ((written : ℕ) × (written < 1) × Appends mid new (take written (codes "\n"))) → OnErr second (after ≡ between + 1)
+-- the line was written, and its line feed as far as the writes go
+pub line_written : (old mid new : Option (List ℕ)) (line : List ℕ) (before between after : ℕ)
+    → Appends old mid line → between ≡ before → WrittenSoFar (codes "\n") (Appends mid new) between after
     → WrittenSoFar (text_with_line_feed line) (Appends old new) before after
-line_written (Ok done) old mid new line before between after first same whole none part failed =
-    inl (Appends-trans old mid new line (codes "\n") first whole, omega arith)
-line_written (Err fault) old mid new line before between after first same whole none part failed =
+line_written old mid new line before between after first same second = elim second [
+  | inl whole ↦ inl (Appends-trans old mid new line (codes "\n") first whole.0, whole.1 ∙ same)
+  | inr part ↦
     let nothing : part.0 ≡ 0 = omega (arith, part.1) in
     let rest : Appends mid new (take 0 (codes "\n")) = subst (λ n. Appends mid new (take n (codes "\n"))) nothing part.2 in
-    let both = Appends-trans old mid new line (take 0 (codes "\n")) first rest in
     inr (
       length line,
       omega (arith, length-append line (codes "\n")),
-      subst (Appends old new) (append-nil line ∙ sym (take_at line (codes "\n") (length line) refl)) both,
-      omega arith,
+      subst (Appends old new) (append-nil line ∙ sym (take_at line (codes "\n") (length line) refl)) (Appends-trans old mid new line (take 0 (codes "\n")) first rest),
+      omega (arith, part.3, same),
     )
-
--- what a clause says of a call that went well, and of one that failed
-pub OnOk-at : {P : Type 0} (r : Result (Unit {0}) RunFault) → is_ok r ≡ true → OnOk r P → P
-OnOk-at (Ok done) went h = h
-OnOk-at (Err fault) went h = absurd cc
-
-pub OnErr-at : {P : Type 0} (r : Result (Unit {0}) RunFault) → is_ok r ≡ false → OnErr r P → P
-OnErr-at (Ok done) went h = absurd cc
-OnErr-at (Err fault) went h = h
+]
 
 -- a text was written, as far as the writes go
 pub text_written : (r : Result (Unit {0}) RunFault) (text : List ℕ) (Wrote : List ℕ → Type 0) (before after : ℕ)

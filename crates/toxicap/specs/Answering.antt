@@ -3,13 +3,13 @@ use Rattle.std.specs.Prelude.{◌≡◌, ℕ, ◌≤◌, nat_lt, if◌then◌els
 use Rattle.pcap_records.specs.Reading.{capture_limit}
 use Rattle.scenarios.specs.Refusals.{after}
 use Rattle.scenarios.specs.Populate.{scenario}
-use Rattle.scenarios.specs.declared.causes.Refusal.{Refusal}
+use Rattle.scenarios.specs.declared.error.Refusal.{Refusal}
 use Rattle.scenarios.specs.declared.hosts.KnownHost.{KnownHost}
 use Rattle.scenarios.specs.declared.proxies.Proxy.{Proxy}
-use Rattle.toxicap.specs.declared.faults.RunFault.{RunFault}
-use Rattle.toxicap.specs.declared.faults.RunFault.TheVariants.{BadHost, BadScenario, CaptureTooLong, Memory, ReadFailed, ShelfFailed, WriteFailed}
-use Rattle.toxicap.specs.declared.outputs.Output.{Output}
-use Rattle.toxicap.specs.Dumps.{is_dump, dump_reading}
+use Rattle.run_files.specs.declared.error.RunFault.{RunFault}
+use Rattle.run_files.specs.declared.error.RunFault.TheVariants.{BadHost, BadScenario, CaptureTooLong, Memory, ReadFailed, ShelfFailed, WriteFailed}
+use Rattle.run_files.specs.declared.outputs.Output.{Output}
+use Rattle.run_files.specs.Dumps.{is_dump, dump_reading}
 use Rattle.toxicap.specs.Rehearsal.{answer}
 
 -- the bytes of a capture: those of the dump where the text is taken for one, and else the text
@@ -21,7 +21,7 @@ abbrev pub numbered : ℕ → Result (List Proxy) Refusal → Result (List Proxy
 numbered number (Ok proxies) = Ok proxies
 numbered number (Err refusal) = Err (BadScenario number refusal)
 
--- the scenarios of some texts, behind those read earlier, or the first refusal
+-- the scenarios of some texts, after those read earlier, or the first refusal
 unfoldable pub scenarios_from : List KnownHost → List (List Proxy) → List (List ℕ) → Result (List (List Proxy)) RunFault
 scenarios_from hosts earlier [] = Ok earlier
 scenarios_from hosts earlier (text ∷ texts) =
@@ -31,7 +31,7 @@ scenarios_from hosts earlier (text ∷ texts) =
 abbrev pub answer_under : List KnownHost → List (List ℕ) → ℕ → List ℕ → Result (List Output) RunFault
 answer_under hosts texts seed bytes = after (scenarios_from hosts [] texts) (λ scenarios. answer bytes scenarios seed)
 
--- What a text calls for, or the first refusal: it is too long, its dump is broken, a scenario is refused, or the rehearsal is
+-- What a text calls for, or the first refusal: it is too long, its dump is broken, a scenario is refused, or the rehearsal is.
 unfoldable pub called_for : List KnownHost → List (List ℕ) → ℕ → List ℕ → Result (List Output) RunFault
 called_for hosts texts seed text =
     if nat_lt capture_limit (length text) then Err CaptureTooLong else after (capture_bytes_of text) (answer_under hosts texts seed)

@@ -1,18 +1,30 @@
 -- How the program ends on a command line.
+--
+-- The order of refusals, each told only where none before it came:
+--   1. a fault of the command line, status 2: nothing is read or written but what tells it (`ProgramEnds`);
+--   2. a host (`RefusesInputs`, in Inputs: `hosts_asked`);
+--   3. a scenario file that cannot be opened or read, or is too long (`RefusesInputs`, in Inputs: `IsOfFiles`);
+--   4. the capture, from a named file or standard input: it cannot be opened or read, or is too long (`called_for`, in Answering);
+--   5. its dump is broken (`capture_bytes_of`, in Answering);
+--   6. a scenario is refused, the first in order (`scenarios_from`, in Answering);
+--   7. there are too many scenarios (`answer`, in Rehearsal);
+--   8. the capture's own faults, in the order of `reading` (pcap_records, Reading);
+--   9. a write of the reports, or a file of the folder, fails (`PrintsBy` and `StoresBy`, in RunEnds).
+-- Want of memory comes where a growth was refused, anywhere among them. No clause can say what a named file holds, so that 3 comes
+-- before 4 is proved where the capture is standard input, and tested where it is a file.
 use Rattle.std.specs.Prelude.{◌≡◌, ◌≢◌, IfErr, ℕ, ◌<◌, ◌⊎◌, List, length, take, Option, Some, None, Result, Ok, Err}
 use Rattle.std.specs.Borrow.{Bor}
 use Rattle.std.specs.String.{string_bytes}
 use Rattle.scenarios.specs.declared.hosts.KnownHost.{KnownHost}
 use Rattle.command_line.specs.declared.asked.Asked.{Asked}
-use Rattle.command_line.specs.declared.asked.Stop.{Stop}
-use Rattle.command_line.specs.declared.asked.Stop.TheVariants as stop
-use Rattle.toxicap.specs.declared.faults.RunFault.{RunFault}
-use Rattle.toxicap.specs.declared.faults.RunFault.TheVariants.{Memory, WriteFailed}
-use Rattle.toxicap.specs.declared.outputs.Output.{Output}
+use Rattle.command_line.specs.declared.error.Stop.{Stop}
+use Rattle.command_line.specs.declared.error.Stop.TheVariants as stop
+use Rattle.run_files.specs.declared.error.RunFault.{RunFault}
+use Rattle.run_files.specs.declared.error.RunFault.TheVariants.{Memory, WriteFailed}
+use Rattle.run_files.specs.declared.outputs.Output.{Output}
 use Rattle.toxicap.specs.Answering.{called_for}
 use Rattle.toxicap.specs.Inputs.{RefusesInputs, TakesInputs}
-use Rattle.toxicap.specs.RunEnds.{PrintsBy, StoresBy, failed_reads, failed_writes, reports_called_for}
-use Rattle.toxicap.specs.Runs.{Tells, WrittenSoFar, status_of, usage_status}
+use Rattle.toxicap.specs.RunEnds.{PrintsBy, StoresBy, Tells, WrittenSoFar, failed_reads, failed_writes, status_of, usage_status}
 
 -- What is said of standard input and output over a run: that input was not read, that a text was read of it while so many reads failed,
 -- that it is at its end;
@@ -36,7 +48,7 @@ pub record FaultStream : Type 1 where
 -- the answers to a text are printed on standard output, or they are stored in a folder and nothing is printed
 abbrev pub AnswersInto : Option (Bor (List ℕ)) → Result (Unit {0}) RunFault → Result (List Output) RunFault → List ℕ → Type 0 → Type 0
     → (List ℕ → Type 0) → Type 0
-AnswersInto None outcome wanted text AtEnd Unwritten Wrote = PrintsBy outcome (reports_called_for wanted) text AtEnd Wrote
+AnswersInto None outcome wanted text AtEnd Unwritten Wrote = PrintsBy outcome wanted text AtEnd Wrote
 AnswersInto (Some folder) outcome wanted text AtEnd Unwritten Wrote = StoresBy outcome wanted text AtEnd × Unwritten
 
 -- the text is read of standard input, or of a file, of which no clause can say what it holds, and input is not read

@@ -1,21 +1,19 @@
 -- What a command line names: hosts, and scenario files.
-use Rattle.std.specs.Prelude.{◌≡◌, ℕ, ◌<◌, ◌==◌, List, [], ◌∷◌, ◌++◌, length, map, codes, Option, Some, None, option_map, option_and_then, if◌then◌else◌, Result, Ok, Err, IsOk}
-use Rattle.scenarios.specs.HostLists.{host_for}
+use Rattle.std.specs.Prelude.{◌≡◌, ℕ, ◌+◌, ◌<◌, ◌==◌, List, [], ◌∷◌, ◌++◌, length, map, take, drop, position, codes, Option, Some, None, option_map, option_and_then, Result, Ok, Err, IsOk}
+use Rattle.scenarios.specs.Hosts.{host_for}
 use Rattle.scenarios.specs.Refusals.{with}
 use Rattle.scenarios.specs.declared.hosts.KnownHost.{KnownHost}
 use Rattle.command_line.specs.declared.asked.Asked.{Asked}
-use Rattle.toxicap.specs.declared.faults.RunFault.{RunFault}
-use Rattle.toxicap.specs.declared.faults.RunFault.TheVariants.{BadHost, CaptureTooLong, Memory, ReadFailed}
+use Rattle.run_files.specs.declared.error.RunFault.{RunFault}
+use Rattle.run_files.specs.declared.error.RunFault.TheVariants.{BadHost, CaptureTooLong, Memory, ReadFailed}
 
 -- the text of a scenario without proxies
 abbrev pub bare_text : List ℕ
 bare_text = codes "[]"
 
--- what stands before the first place of a byte, and behind it
+-- what stands before the first place of a byte, and after it
 abbrev pub cut_at_first : ℕ → List ℕ → Option (List ℕ × List ℕ)
-cut_at_first byte [] = None
-cut_at_first byte (x ∷ rest) =
-    if x == byte then Some ([], rest) else option_map (λ parts. (x ∷ parts.0, parts.1)) (cut_at_first byte rest)
+cut_at_first byte text = option_map (λ at. (take at text, drop (at + 1) text)) (position (λ b. b == byte) text)
 
 abbrev pub equals_sign : ℕ
 equals_sign = 61
@@ -24,7 +22,7 @@ equals_sign = 61
 abbrev pub host_written : List KnownHost → List ℕ → Option KnownHost
 host_written hosts written = option_and_then (λ parts. host_for hosts parts.0 parts.1) (cut_at_first equals_sign written)
 
--- the hosts of a command line, behind those that are known; the first that makes none is refused with its place
+-- the hosts of a command line, after those that are known; the first that makes none is refused with its place
 unfoldable pub hosts_from : List KnownHost → List (List ℕ) → Result (List KnownHost) RunFault
 hosts_from hosts [] = Ok hosts
 hosts_from hosts (written ∷ rest) =

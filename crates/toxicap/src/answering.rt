@@ -1,26 +1,32 @@
 //! From the text of a capture and the texts of scenarios to what each scenario answers.
-ghost use Rattle.std.specs.Prelude.{◌≡◌, ℕ, ◌+◌, ◌-◌, ◌^◌, ◌<◌, ◌≤◌, [], List, length, map, IfErr};
+ghost use Rattle.std.specs.Prelude.{◌≡◌, ℕ, ◌+◌, ◌-◌, ◌^◌, ◌<◌, ◌≤◌, [], List, length, map};
 ghost use Rattle.std.specs.Io.KnownBytes.{Consumes, IsAtEnd};
-ghost use Rattle.pcap_records.specs.Agreement.{AgreesUnlessMemory};
+ghost use Rattle.pcap_records.specs.Agreement.{Agrees, AgreesUnlessMemory};
 ghost use Rattle.pcap_records.specs.Reading.{capture_limit};
 ghost use Rattle.scenarios.specs.Populate.{scenario};
-ghost use Rattle.toxicap.specs.Answering.{AnswersBy, IsOfText, answer_under, called_for, numbered, scenarios_from};
+ghost use Rattle.toxicap.specs.Answering.{AnswersBy, answer_under, called_for, capture_bytes_of, numbered, scenarios_from};
 ghost use Rattle.toxicap.specs.RunEnds.{failed_reads};
-ghost use Rattle.toxicap.specs.RunFault.{run_refusal};
+ghost use Rattle.run_files.specs.RunFault.{run_refusal};
 
-use crate::counted::Counted;
-use crate::dumps::capture_bytes;
-use crate::faults::RunFault;
-use crate::loading::load;
-use crate::options::Options;
-use crate::outputs::Outputs;
 use crate::rehearsal::rehearse;
-use job_matrix::Through;
+use job_matrix::{Plan, Through};
+use run_files::{Counted, Outputs, RunFault, is_dump, load, undump};
 use scenarios::{Hosts, Scenario, ScenarioFault, read_scenario};
 use std::alloc::Global;
 use std::io::Read;
 use std::sync::Wait;
 use std::thread::Threads;
+
+/// What a rehearsal is told beside its capture and its scenarios.
+#[derive(Debug, Drop)]
+pub struct Options {
+    /// The hosts that upstreams may name.
+    pub hosts: Hosts,
+    /// What random words are drawn from.
+    pub seed: u64,
+    /// How the work is spread: no answer depends on it.
+    pub plan: Plan,
+}
 
 /// Reads a capture to its end and rehearses it under scenarios that are still texts, each a JSON array of proxies in
 /// Toxiproxy's form. Where the capture's first byte is a hexadecimal digit, its bytes are a dump of it.
@@ -60,11 +66,24 @@ fn answer_to_text<H: Threads + Wait + Sync>(
     options: &Options,
 ) -> Result<Outputs, RunFault>
     requires { length text.items ≤ capture_limit }
-    ensures exact { AgreesUnlessMemory run_refusal (λ outputs. outputs) result (called_for options.now.hosts (map (λ t. t.now) texts.now) options.now.seed text.items) }
-    ensures of_text { IfErr result IsOfText }
+    ensures { AgreesUnlessMemory run_refusal (λ outputs. outputs) result (called_for options.now.hosts (map (λ t. t.now) texts.now) options.now.seed text.items) }
 {
     let bytes = capture_bytes(alloc, text)?;
     answer_to_bytes(rt, alloc, &bytes, texts, options)
+}
+
+// The bytes of the capture that a text holds: those of the dump where the text is taken for one,
+// and else the text as it is, which is not copied.
+//
+// # Errors
+// Those of [`undump`].
+fn capture_bytes(alloc: Global, text: Vec<u8>) -> Result<Vec<u8>, RunFault>
+    ensures { Agrees run_refusal (λ bytes. bytes.items) result (capture_bytes_of text.items) }
+{
+    if is_dump(&text) {
+        return undump(alloc, &text);
+    }
+    Ok(text)
 }
 
 // The answer to a capture's bytes.
@@ -75,8 +94,7 @@ fn answer_to_bytes<H: Threads + Wait + Sync>(
     texts: &[&[u8]],
     options: &Options,
 ) -> Result<Outputs, RunFault>
-    ensures exact { AgreesUnlessMemory run_refusal (λ outputs. outputs) result (answer_under options.now.hosts (map (λ t. t.now) texts.now) options.now.seed bytes.now) }
-    ensures of_text { IfErr result IsOfText }
+    ensures { AgreesUnlessMemory run_refusal (λ outputs. outputs) result (answer_under options.now.hosts (map (λ t. t.now) texts.now) options.now.seed bytes.now) }
 {
     let scenarios = read_texts(alloc, texts, &options.hosts)?;
     rehearse(
@@ -93,8 +111,7 @@ fn answer_to_bytes<H: Threads + Wait + Sync>(
 // The scenarios of some texts.
 #[tactic(auto, unfolding(crate::specs::Answering::scenarios_from))]
 fn read_texts(alloc: Global, texts: &[&[u8]], hosts: &Hosts) -> Result<Vec<Scenario>, RunFault>
-    ensures exact { AgreesUnlessMemory run_refusal (λ v. v.items) result (scenarios_from hosts.now [] (map (λ t. t.now) texts.now)) }
-    ensures of_text { IfErr result IsOfText }
+    ensures { AgreesUnlessMemory run_refusal (λ v. v.items) result (scenarios_from hosts.now [] (map (λ t. t.now) texts.now)) }
 {
     let mut scenarios = Vec::with_capacity(alloc, texts.len())?;
     for (number, text) in texts.iter().enumerate() {
@@ -106,8 +123,7 @@ fn read_texts(alloc: Global, texts: &[&[u8]], hosts: &Hosts) -> Result<Vec<Scena
 
 // The scenario of a text with its number.
 fn read_text(alloc: Global, number: usize, text: &[u8], hosts: &Hosts) -> Result<Scenario, RunFault>
-    ensures exact { AgreesUnlessMemory run_refusal (λ s. s) result (numbered number (scenario hosts.now text.now)) }
-    ensures of_text { IfErr result IsOfText }
+    ensures { AgreesUnlessMemory run_refusal (λ s. s) result (numbered number (scenario hosts.now text.now)) }
 {
     match read_scenario(alloc, text, hosts) {
         Ok(scenario) => Ok(scenario),

@@ -4,16 +4,13 @@ ghost use Rattle.std.specs.IoError.{error_kind};
 ghost use Rattle.std.specs.Io.KnownBytes.{Appends, Consumes, IsAtEnd};
 ghost use Rattle.command_line.specs.Asking.{ReadsAs};
 ghost use Rattle.command_line.specs.declared.asked.Asked.{Asked};
-ghost use Rattle.command_line.specs.declared.asked.Stop.{Stop};
+ghost use Rattle.command_line.specs.declared.error.Stop.{Stop};
 ghost use Rattle.toxicap.specs.Commands.{ProgramEnds};
-ghost use Rattle.toxicap.specs.Runs.{no_text, status_of, text_with_line_feed, usage_status, Tells, WrittenSoFar};
+ghost use Rattle.toxicap.specs.RunEnds.{no_text, status_of, text_with_line_feed, usage_status, Tells, WrittenSoFar};
 
-use crate::counted::Counted;
-use crate::fault_lines::fault_line;
-use crate::faults::RunFault;
-use crate::printing::write_bytes;
-use crate::running::run_asked;
-use command_line::{Stop, read_words};
+use crate::runs::run_asked;
+use command_line::{Stop, read_arguments};
+use run_files::{Counted, RunFault, fault_line, write_bytes};
 use std::alloc::Global;
 use std::convert::AsStr;
 use std::io::{Error, ErrorKind, Read, Write};
@@ -24,7 +21,7 @@ use std::thread::Threads;
 // What is told of words that are no text.
 const NO_TEXT: &[u8] = b"error: a word of the command line is not text in UTF-8";
 
-/// The whole program on the words behind its name: it reads what they name, the capture from `input` where they name none, rehearses,
+/// The whole program on the arguments after its name: it reads what they name, the capture from `input` where they name none, rehearses,
 /// prints or stores the outputs, tells a refusal on `faults`, and answers the exit status.
 ///
 /// The status is 0, 1 for a refusal, whose line is written with a line feed, and 2 for a fault of the command line, whose text is
@@ -68,7 +65,7 @@ pub fn command<H: Files + Threads + Wait + Sync, S: AsStr, I: Read, O: Write, E:
           now = faults.new.failed;
         }) }
 {
-    match read_words(alloc, words) {
+    match read_arguments(alloc, words) {
         Ok(asked) => {
             let outcome = run_asked(rt, alloc, &asked, input, output);
             report_outcome(alloc, outcome, faults)
@@ -136,7 +133,8 @@ fn write_line<W: Write>(writer: &mut Counted<W>, line: &[u8])
     ensures { WrittenSoFar (text_with_line_feed line.now) (Appends (W.contents writer.old.inner) (W.contents writer.new.inner))
         writer.old.failed writer.new.failed }
 {
-    if write_bytes(writer, line).is_ok() {
-        let _ = write_bytes(writer, b"\n");
-    }
+    let Ok(()) = write_bytes(writer, line) else {
+        return;
+    };
+    write_text(writer, b"\n");
 }

@@ -1,5 +1,6 @@
 //! Tests of boards, trays, workers, ranges, deliveries and merging.
 mod boards;
+mod checks;
 mod deliveries;
 mod joining;
 mod merging;

@@ -2,12 +2,14 @@
 ghost use Rattle.std.specs.Prelude.{◌≡◌, ◌≤◌, length, IfOk};
 ghost use Rattle.conn_workers.specs.CaptureTables.{whole_table};
 
+use super::checks::check;
 use conn_table::laws::tables_agree;
 use conn_table::{Partial, Table, finish};
 use conn_workers::{Delivery, deliver};
 use job_matrix::{Gate, Phase, Plan, Through};
 use pcap_records::{Capture, Moment, read_capture};
 use scenarios::{Hosts, Scenario, read_scenario};
+use segment_writer::Framed;
 use std::alloc::{AllocError, Global};
 use std::process::Abort;
 use std::test::Fail;
@@ -98,156 +100,195 @@ fn delivered<R: Threads + Sync, G: Gate>(
     Ok(deliveries.into_vec())
 }
 
-// That a delivery has these numbers, so many segments and this line.
-fn check(
-    rt: &impl Abort,
-    delivery: &Delivery,
-    scenario: u32,
-    conn: u32,
+// Whether the delivery at a place of a list has these numbers, so many segments and this line.
+fn is_delivery(
+    deliveries: &[Delivery],
+    place: usize,
+    numbers: (u32, u32),
     segments: usize,
     line: &str,
-) {
-    assert_eq!(rt; delivery.scenario, scenario);
-    assert_eq!(rt; delivery.conn, conn);
-    assert_eq!(rt; delivery.segments.as_slice().len(), segments);
-    assert_eq!(rt; delivery.line.as_slice(), line.as_bytes());
+) -> bool {
+    match deliveries.get(place) {
+        Some(delivery) => {
+            (delivery.scenario, delivery.conn) == numbers
+                && delivery.segments.as_slice().len() == segments
+                && delivery.line.as_slice() == line.as_bytes()
+        }
+        None => false,
+    }
 }
 
-// That two deliveries have the same segments and the same line.
-fn check_same(rt: &impl Abort, left: &Delivery, right: &Delivery) {
-    assert_eq!(rt;
-        left.segments.as_slice().len(),
-        right.segments.as_slice().len()
-    );
-    for (a, b) in left
-        .segments
-        .as_slice()
-        .iter()
-        .zip(right.segments.as_slice())
-    {
-        assert_eq!(rt; a.key, b.key);
-        assert_eq!(rt; a.bytes.as_slice(), b.bytes.as_slice());
+// Whether two written segments are the same.
+fn is_same_segment(left: &Framed, right: &Framed) -> bool {
+    left.key == right.key && left.bytes.as_slice() == right.bytes.as_slice()
+}
+
+// Whether the second deliveries of two lists have the same segments and the same line.
+fn have_same_second(left: &[Delivery], right: &[Delivery]) -> bool {
+    let (Some(left), Some(right)) = (left.get(1), right.get(1)) else {
+        return false;
+    };
+    let (ours, theirs) = (left.segments.as_slice(), right.segments.as_slice());
+    let mut same = ours.len() == theirs.len();
+    for (one, other) in ours.iter().zip(theirs) {
+        same = same && is_same_segment(one, other);
     }
-    assert_eq!(rt; left.line.as_slice(), right.line.as_slice());
+    same && left.line.as_slice() == right.line.as_slice()
+}
+
+// That so many workers give a row for each of two scenarios.
+fn check_rows<R: Abort + Threads + Sync>(
+    rt: &R,
+    alloc: Global,
+    scenarios: &[Scenario],
+    workers: u32,
+) -> Result<(), Fail>
+    requires { length scenarios.now ≤ 256 }
+{
+    let bytes = file(alloc, true, &segments())?;
+    let made = delivered(rt, alloc, &bytes, scenarios, workers, &Through)?;
+    let first = is_delivery(&made, 0, (0, 0), 3, FIRST_LINE);
+    let second = is_delivery(&made, 1, (0, 1), 4, SECOND_LINE);
+    check(rt, "the first row", first && second);
+    let third = is_delivery(&made, 2, (1, 0), 3, FIRST_LINE);
+    let fourth = is_delivery(&made, 3, (1, 1), 2, REFUSED_LINE);
+    check(rt, "the second row", third && fourth && made.len() == 4);
+    Ok(())
 }
 
 #[test]
 fn a_row_for_each_scenario(rt: HostRuntime) -> Result<(), Fail> {
-    let bytes = file(rt.alloc(), true, &segments())?;
-    let scenarios = [
-        scenario(rt.alloc(), &[])?,
-        scenario(rt.alloc(), &[DISABLED])?,
-    ];
-    for workers in [1, 2, 4, 16] {
-        let deliveries = delivered(&rt, rt.alloc(), &bytes, &scenarios, workers, &Through)?;
-        assert_eq!(rt; deliveries.len(), 4);
-        let wanted = [
-            (0, 0, 3, FIRST_LINE),
-            (0, 1, 4, SECOND_LINE),
-            (1, 0, 3, FIRST_LINE),
-            (1, 1, 2, REFUSED_LINE),
-        ];
-        for (delivery, (scenario, conn, segments, line)) in deliveries.iter().zip(wanted) {
-            check(&rt, delivery, scenario, conn, segments, line);
-        }
-    }
+    let alloc = rt.alloc();
+    let scenarios = [scenario(alloc, &[])?, scenario(alloc, &[DISABLED])?];
+    check_rows(&rt, alloc, &scenarios, 1)?;
+    check_rows(&rt, alloc, &scenarios, 2)?;
+    check_rows(&rt, alloc, &scenarios, 4)?;
+    check_rows(&rt, alloc, &scenarios, 16)?;
     Ok(())
+}
+
+// Whether a written segment of connection 1 has this instant, turn, place and length.
+fn is_segment(framed: Option<&Framed>, micros: u64, turn: u8, place: u32, len: usize) -> bool {
+    match framed {
+        Some(framed) => {
+            framed.key.moment.count() == micros
+                && framed.key.conn == 1
+                && framed.key.turn == turn
+                && framed.key.place == place
+                && framed.bytes.as_slice().len() == len
+        }
+        None => false,
+    }
 }
 
 #[test]
 fn segments_of_a_connection(rt: HostRuntime) -> Result<(), Fail> {
-    let bytes = file(rt.alloc(), true, &segments())?;
-    let scenarios = [scenario(rt.alloc(), &[DELAYED])?];
-    let deliveries = delivered(&rt, rt.alloc(), &bytes, &scenarios, 2, &Through)?;
-    let delivery = deliveries.get(1).ok_or("no second delivery")?;
-    check(&rt, delivery, 0, 1, 4, DELAYED_LINE);
-    let wanted = [
-        (1_100_000, 0, 0, 70),
-        (1_100_000, 0, 1, 70),
-        (1_100_000, 0, 2, 70),
-        (1_273_000, 1, 0, 72),
-    ];
-    for (segment, (moment, turn, place, len)) in delivery.segments.as_slice().iter().zip(wanted) {
-        assert_eq!(rt; segment.key.moment.count(), moment);
-        assert_eq!(rt; segment.key.conn, 1);
-        assert_eq!(rt; segment.key.turn, turn);
-        assert_eq!(rt; segment.key.place, place);
-        assert_eq!(rt; segment.bytes.as_slice().len(), len);
-    }
+    let alloc = rt.alloc();
+    let bytes = file(alloc, true, &segments())?;
+    let scenarios = [scenario(alloc, &[DELAYED])?];
+    let made = delivered(&rt, alloc, &bytes, &scenarios, 2, &Through)?;
+    let told = is_delivery(&made, 1, (0, 1), 4, DELAYED_LINE);
+    check(&rt, "the delivery", told);
+    let delivery = made.get(1).ok_or("no second delivery")?;
+    let list = delivery.segments.as_slice();
+    check(&rt, "SYN", is_segment(list.first(), 1_100_000, 0, 0, 70));
+    check(&rt, "SYN ACK", is_segment(list.get(1), 1_100_000, 0, 1, 70));
+    check(&rt, "ACK", is_segment(list.get(2), 1_100_000, 0, 2, 70));
+    check(&rt, "data", is_segment(list.get(3), 1_273_000, 1, 0, 72));
     Ok(())
 }
 
-// Neither what the other connection meets nor a further record changes what a connection contributes.
+// That by so many workers neither what the other connection meets nor a further record changes what a connection contributes.
+fn check_isolated<R: Abort + Threads + Sync>(
+    rt: &R,
+    alloc: Global,
+    workers: u32,
+) -> Result<(), Fail> {
+    let bytes = file(alloc, true, &segments())?;
+    let longer = with_another_record(alloc)?;
+    let alone = [scenario(alloc, &[DELAYED])?];
+    let beside = [scenario(alloc, &[DELAYED, SILENT])?];
+    let first = delivered(rt, alloc, &bytes, &alone, workers, &Through)?;
+    let second = delivered(rt, alloc, &bytes, &beside, workers, &Through)?;
+    let third = delivered(rt, alloc, &longer, &alone, workers, &Through)?;
+    let own = is_delivery(&first, 1, (0, 1), 4, DELAYED_LINE);
+    check(rt, "its own", own);
+    check(rt, "beside another", have_same_second(&first, &second));
+    check(rt, "with a record more", have_same_second(&first, &third));
+    let other = is_delivery(&first, 0, (0, 0), 3, FIRST_LINE);
+    check(rt, "the other one", other);
+    let met = second.first().ok_or("no delivery")?;
+    let begins = b"0 10.0.0.1:40000 > 10.0.0.3:40001 proxy 1 ";
+    check(rt, "met", met.line.as_slice().starts_with(begins));
+    Ok(())
+}
+
 #[test]
 fn connections_are_isolated(rt: HostRuntime) -> Result<(), Fail> {
-    let bytes = file(rt.alloc(), true, &segments())?;
-    let longer = with_another_record(rt.alloc())?;
-    let alone = [scenario(rt.alloc(), &[DELAYED])?];
-    let beside = [scenario(rt.alloc(), &[DELAYED, SILENT])?];
-    for workers in [1, 2, 16] {
-        let first = delivered(&rt, rt.alloc(), &bytes, &alone, workers, &Through)?;
-        let second = delivered(&rt, rt.alloc(), &bytes, &beside, workers, &Through)?;
-        let third = delivered(&rt, rt.alloc(), &longer, &alone, workers, &Through)?;
-        let own = first.get(1).ok_or("no second delivery")?;
-        check(&rt, own, 0, 1, 4, DELAYED_LINE);
-        check_same(&rt, own, second.get(1).ok_or("no second delivery")?);
-        check_same(&rt, own, third.get(1).ok_or("no second delivery")?);
-        let other = first.first().ok_or("no delivery")?;
-        check(&rt, other, 0, 0, 3, FIRST_LINE);
-        let met = second.first().ok_or("no delivery")?;
-        assert!(rt; !met.line.as_slice().is_empty());
-        assert!(rt;
-            met.line
-                .as_slice()
-                .starts_with(b"0 10.0.0.1:40000 > 10.0.0.3:40001 proxy 1 ")
-        );
-    }
+    check_isolated(&rt, rt.alloc(), 1)?;
+    check_isolated(&rt, rt.alloc(), 2)?;
+    check_isolated(&rt, rt.alloc(), 16)?;
     Ok(())
 }
 
 #[test]
 fn nothing_is_delivered_of_nothing(rt: HostRuntime) -> Result<(), Fail> {
-    let empty = file(rt.alloc(), true, &[])?;
-    let bytes = file(rt.alloc(), true, &segments())?;
-    let scenarios = [scenario(rt.alloc(), &[])?];
-    assert!(rt; delivered(&rt, rt.alloc(), &empty, &scenarios, 16, &Through)?.is_empty());
-    assert!(rt; delivered(&rt, rt.alloc(), &bytes, &[], 2, &Through)?.is_empty());
+    let alloc = rt.alloc();
+    let empty = file(alloc, true, &[])?;
+    let bytes = file(alloc, true, &segments())?;
+    let scenarios = [scenario(alloc, &[])?];
+    let none = delivered(&rt, alloc, &empty, &scenarios, 16, &Through)?;
+    check(&rt, "no connection", none.is_empty());
+    let none = delivered(&rt, alloc, &bytes, &[], 2, &Through)?;
+    check(&rt, "no scenario", none.is_empty());
     Ok(())
 }
 
 // Job 0 of a phase waits until job 1 of it has passed: one thread alone would give up.
+fn check_held<R: Abort + Threads + Sync>(rt: &R, alloc: Global, phase: Phase) -> Result<(), Fail> {
+    let bytes = file(alloc, true, &segments())?;
+    let scenarios = [scenario(alloc, &[])?];
+    let gate = Holding::new(phase);
+    let made = delivered(rt, alloc, &bytes, &scenarios, 2, &gate)?;
+    check(rt, "held", !gate.gave_up());
+    let first = is_delivery(&made, 0, (0, 0), 3, FIRST_LINE);
+    let second = is_delivery(&made, 1, (0, 1), 4, SECOND_LINE);
+    check(rt, "deliveries", first && second && made.len() == 2);
+    Ok(())
+}
+
 #[test]
 fn two_workers_in_each_phase(rt: HostRuntime) -> Result<(), Fail> {
-    let bytes = file(rt.alloc(), true, &segments())?;
-    let scenarios = [scenario(rt.alloc(), &[])?];
-    for phase in [Phase::Lines, Phase::Jobs] {
-        let gate = Holding::new(phase);
-        let deliveries = delivered(&rt, rt.alloc(), &bytes, &scenarios, 2, &gate)?;
-        assert!(rt; !gate.gave_up());
-        assert_eq!(rt; deliveries.len(), 2);
-        let first = deliveries.first().ok_or("no delivery")?;
-        check(&rt, first, 0, 0, 3, FIRST_LINE);
-        let second = deliveries.get(1).ok_or("no second delivery")?;
-        check(&rt, second, 0, 1, 4, SECOND_LINE);
-    }
+    check_held(&rt, rt.alloc(), Phase::Lines)?;
+    check_held(&rt, rt.alloc(), Phase::Jobs)?;
+    Ok(())
+}
+
+// That so many jobs of a phase, with this sum of their numbers, are done for three scenarios.
+fn check_jobs<R: Abort + Threads + Sync>(
+    rt: &R,
+    alloc: Global,
+    phase: Phase,
+    jobs: u64,
+    numbers: u64,
+) -> Result<(), Fail> {
+    let bytes = file(alloc, true, &segments())?;
+    let scenarios = [
+        scenario(alloc, &[])?,
+        scenario(alloc, &[DELAYED])?,
+        scenario(alloc, &[SILENT])?,
+    ];
+    let gate = Counting::new(phase);
+    let made = delivered(rt, alloc, &bytes, &scenarios, 4, &gate)?;
+    let counted = gate.passed() == jobs && gate.numbers() == numbers;
+    check(rt, "jobs of a phase", counted && made.len() == 6);
     Ok(())
 }
 
 // Lines are made once for each connection, deliveries once for each connection and scenario.
 #[test]
 fn jobs_of_each_phase(rt: HostRuntime) -> Result<(), Fail> {
-    let bytes = file(rt.alloc(), true, &segments())?;
-    let scenarios = [
-        scenario(rt.alloc(), &[])?,
-        scenario(rt.alloc(), &[DELAYED])?,
-        scenario(rt.alloc(), &[SILENT])?,
-    ];
-    for (phase, jobs, numbers) in [(Phase::Lines, 2, 1), (Phase::Jobs, 6, 15)] {
-        let gate = Counting::new(phase);
-        let deliveries = delivered(&rt, rt.alloc(), &bytes, &scenarios, 4, &gate)?;
-        assert_eq!(rt; deliveries.len(), 6);
-        assert_eq!(rt; gate.passed(), jobs);
-        assert_eq!(rt; gate.numbers(), numbers);
-    }
+    check_jobs(&rt, rt.alloc(), Phase::Lines, 2, 1)?;
+    check_jobs(&rt, rt.alloc(), Phase::Jobs, 6, 15)?;
     Ok(())
 }

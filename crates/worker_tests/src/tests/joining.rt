@@ -2,6 +2,7 @@
 ghost use Rattle.std.specs.Prelude.{◌≡◌, All, IfOk, OnOk};
 ghost use Rattle.segment_writer.specs.WrittenSegments.{sorted_by_key};
 
+use super::checks::check;
 use super::merging::written;
 use super::tables::falling;
 use pcap_records::read_capture;
@@ -48,64 +49,78 @@ fn joined(alloc: Global, left: SegList, right: SegList) -> Result<Vec<u8>, Alloc
     Ok(bytes)
 }
 
-// Of each frame of the two connections, all at one instant: the last byte of the sender's address.
-fn senders(alloc: Global, bytes: &[u8]) -> Result<Vec<u8>, Fail> {
+// Whether the frames of a capture are all at one instant and sent by these hosts, of each of which the last byte of its address
+// is told.
+fn are_sent_by(alloc: Global, bytes: &[u8], hosts: &[u8]) -> Result<bool, Fail> {
     let capture = read_capture(alloc, bytes)?;
-    let mut senders = Vec::new(alloc);
-    for (place, record) in capture.records().iter().enumerate() {
-        if record.stamp.count() != 5_000_000 {
-            Err("another instant")?;
-        }
-        let sender = capture.packet(place).get(29).ok_or("no sender")?;
-        senders.push(*sender)?;
+    let mut right = capture.records().len() == hosts.len();
+    for ((place, record), host) in capture.records().iter().enumerate().zip(hosts) {
+        let sender = capture.packet(place).get(29);
+        right = right && record.stamp.count() == 5_000_000 && sender == Some(host);
     }
-    Ok(senders)
+    Ok(right)
+}
+
+// The two connections' lists, in this order or the other, give one capture.
+fn check_order(rt: &impl Abort, alloc: Global, turned: bool) -> Result<(), Fail> {
+    let mut lists = lists_of(rt, alloc, &falling())?;
+    let second = take_last(&mut lists)?;
+    let first = take_last(&mut lists)?;
+    let bytes = if turned {
+        joined(alloc, second, first)?
+    } else {
+        joined(alloc, first, second)?
+    };
+    let sent = are_sent_by(alloc, &bytes, &[1, 2, 1, 3, 2, 3, 3])?;
+    check(rt, "two lists", sent && bytes.len() == 515);
+    Ok(())
 }
 
 #[test]
 fn two_connections_in_either_order(rt: HostRuntime) -> Result<(), Fail> {
-    for turned in [false, true] {
-        let mut lists = lists_of(&rt, rt.alloc(), &falling())?;
-        let second = take_last(&mut lists)?;
-        let first = take_last(&mut lists)?;
-        let bytes = if turned {
-            joined(rt.alloc(), second, first)?
-        } else {
-            joined(rt.alloc(), first, second)?
-        };
-        assert_eq!(rt; bytes.len(), 515);
-        assert_eq!(rt;
-            senders(rt.alloc(), &bytes)?.as_slice(),
-            [1, 2, 1, 3, 2, 3, 3].as_slice()
-        );
-    }
+    check_order(&rt, rt.alloc(), false)?;
+    check_order(&rt, rt.alloc(), true)?;
     Ok(())
 }
 
-// A connection of which nothing is written, since all of it is at the horizon.
-#[test]
-fn an_empty_list_on_either_side(rt: HostRuntime) -> Result<(), Fail> {
+// The list of a connection of which nothing is written, since all of it is at the horizon.
+fn nothing_written(rt: &impl Abort, alloc: Global) -> Result<SegList, Fail>
+    ensures { IfOk result (λ list. sorted_by_key list ≡ list) }
+{
     let last = (u32::MAX, u32::MAX);
     let never = [
         segment(last, CLIENT, SERVER, SYN, (1000, 0), b""),
         segment(last, CLIENT, SERVER, PSH + ACK, (1001, 0), b"a"),
     ];
-    for (connection, length) in [(0, 234), (1, 305)] {
-        for turned in [false, true] {
-            let mut lists = lists_of(&rt, rt.alloc(), &falling())?;
-            if connection == 0 {
-                let _second = take_last(&mut lists)?;
-            }
-            let list = take_last(&mut lists)?;
-            let empty = take_last(&mut lists_of(&rt, rt.alloc(), &never)?)?;
-            assert!(rt; empty.as_slice().is_empty());
-            let bytes = if turned {
-                joined(rt.alloc(), empty, list)?
-            } else {
-                joined(rt.alloc(), list, empty)?
-            };
-            assert_eq!(rt; bytes.len(), length);
-        }
+    let mut lists = lists_of(rt, alloc, &never)?;
+    take_last(&mut lists)
+}
+
+// That a list of one of the two connections, the first if told so, is itself when it is joined with an empty one on either side.
+fn check_empty(rt: &impl Abort, alloc: Global, first: bool, len: usize) -> Result<(), Fail> {
+    let mut lists = lists_of(rt, alloc, &falling())?;
+    if first {
+        let _second = take_last(&mut lists)?;
     }
+    let list = take_last(&mut lists)?;
+    let empty = nothing_written(rt, alloc)?;
+    check(rt, "an empty list", empty.as_slice().is_empty());
+    let bytes = joined(alloc, list, empty)?;
+    check(rt, "an empty list on the right", bytes.len() == len);
+
+    let mut lists = lists_of(rt, alloc, &falling())?;
+    if first {
+        let _second = take_last(&mut lists)?;
+    }
+    let list = take_last(&mut lists)?;
+    let bytes = joined(alloc, nothing_written(rt, alloc)?, list)?;
+    check(rt, "an empty list on the left", bytes.len() == len);
+    Ok(())
+}
+
+#[test]
+fn an_empty_list_on_either_side(rt: HostRuntime) -> Result<(), Fail> {
+    check_empty(&rt, rt.alloc(), true, 234)?;
+    check_empty(&rt, rt.alloc(), false, 305)?;
     Ok(())
 }

@@ -5,6 +5,7 @@ ghost use Rattle.segment_writer.specs.KeyLaws.{HasNoKeyTwice};
 ghost use Rattle.segment_writer.specs.WrittenSegments.{sorted_by_key};
 ghost use Rattle.time_merge.specs.MergedCapture.{all_segments};
 
+use super::checks::check;
 use conn_table::laws::tables_agree;
 use conn_table::{Partial, Table, finish};
 use pcap_records::{Capture, Moment, read_capture};
@@ -100,17 +101,25 @@ fn merged(
     let capture = read_capture(alloc, &bytes)?;
     let in_turn = captured(alloc, written(rt, alloc, &capture)?)?;
     let turned = captured(alloc, backwards(written(rt, alloc, &capture)?))?;
-    assert_eq!(rt; turned.as_slice(), in_turn.as_slice());
+    check(rt, "turned", turned.as_slice() == in_turn.as_slice());
     let spaced = captured(
         alloc,
         among_empty_ones(alloc, written(rt, alloc, &capture)?)?,
     )?;
-    assert_eq!(rt; spaced.as_slice(), in_turn.as_slice());
+    check(rt, "spaced", spaced.as_slice() == in_turn.as_slice());
     Ok(in_turn)
 }
 
-// Of each frame of a capture: its stamp, the last byte of its sender's address, its flags and the length of its payload.
-fn frames(alloc: Global, bytes: &[u8]) -> Result<Vec<(u64, u8, u8, usize)>, Fail> {
+// A frame as a test wants it: its stamp, the last byte of its sender's address, its flags and the length of its payload.
+type WantedFrame = (u64, u8, u8, usize);
+
+// That the frames of a capture are these.
+fn check_frames(
+    rt: &impl Abort,
+    alloc: Global,
+    bytes: &[u8],
+    wanted: &[WantedFrame],
+) -> Result<(), Fail> {
     let capture = read_capture(alloc, bytes)?;
     let mut frames = Vec::new(alloc);
     for (place, record) in capture.records().iter().enumerate() {
@@ -124,7 +133,8 @@ fn frames(alloc: Global, bytes: &[u8]) -> Result<Vec<(u64, u8, u8, usize)>, Fail
             packet.len().saturating_sub(54),
         ))?;
     }
-    Ok(frames)
+    check(rt, "frames", frames.as_slice() == wanted);
+    Ok(())
 }
 
 #[test]
@@ -133,18 +143,20 @@ fn nothing_to_merge(rt: HostRuntime) -> Result<(), Fail> {
         0xd4, 0xc3, 0xb2, 0xa1, 2, 0, 4, 0, 0, 0, 0, 0, 0, 0, 0, 0, 0xff, 0xff, 0, 0, 1, 0, 0, 0,
     ];
     let none = captured(rt.alloc(), Vec::new(rt.alloc()))?;
-    assert_eq!(rt; none.as_slice(), stated.as_slice());
+    check(&rt, "no list", none.as_slice() == stated.as_slice());
     let three = among_empty_ones(rt.alloc(), Vec::new(rt.alloc()))?;
     let of_empty_ones = captured(rt.alloc(), three)?;
-    assert_eq!(rt; of_empty_ones.as_slice(), stated.as_slice());
+    let same = of_empty_ones.as_slice() == stated.as_slice();
+    check(&rt, "empty lists", same);
     Ok(())
 }
 
 #[test]
 fn the_plain_session(rt: HostRuntime) -> Result<(), Fail> {
     let written = merged(&rt, rt.alloc(), &session())?;
-    assert_eq!(rt; written.len(), 449);
-    assert_eq!(rt; written.as_slice(), session_written(rt.alloc())?.as_slice());
+    let wanted = session_written(rt.alloc())?;
+    let same = written.as_slice() == wanted.as_slice();
+    check(&rt, "449 bytes", same && written.len() == 449);
     Ok(())
 }
 
@@ -165,7 +177,7 @@ fn connections_in_order_of_number(rt: HostRuntime) -> Result<(), Fail> {
         data,
     ];
     let bytes = merged(&rt, rt.alloc(), &segments)?;
-    assert_eq!(rt; bytes.len(), 515);
+    check(&rt, "length", bytes.len() == 515);
     let at = 5_000_000;
     let wanted = [
         (at, 1, SYN, 0),
@@ -176,8 +188,7 @@ fn connections_in_order_of_number(rt: HostRuntime) -> Result<(), Fail> {
         (at, 3, ACK, 0),
         (at, 3, PSH + ACK, 1),
     ];
-    assert_eq!(rt; frames(rt.alloc(), &bytes)?.as_slice(), wanted.as_slice());
-    Ok(())
+    check_frames(&rt, rt.alloc(), &bytes, &wanted)
 }
 
 // At one instant the client's line comes before the server's, and the pieces of a chunk in turn.
@@ -208,6 +219,5 @@ fn turns_and_places_at_one_instant(rt: HostRuntime) -> Result<(), Fail> {
         (second, 2, PSH + ACK, 1),
         (second, 3, PSH + ACK, 1),
     ];
-    assert_eq!(rt; frames(rt.alloc(), &bytes)?.as_slice(), wanted.as_slice());
-    Ok(())
+    check_frames(&rt, rt.alloc(), &bytes, &wanted)
 }

@@ -1,7 +1,8 @@
 //! Connection tables with values from outside: of whole captures, of ranges, and of ranges joined from the left and the right.
 ghost use Rattle.std.specs.Prelude.{◌≡◌, ◌≤◌, length, IfOk};
 
-use conn_table::{Member, Partial, Table, finish};
+use super::checks::check;
+use conn_table::{Conn, Member, Partial, Table, finish};
 use frame_headers::{Flags, Peer};
 use pcap_records::{Capture, read_capture};
 use std::alloc::{AllocError, Global};
@@ -75,29 +76,34 @@ fn from_right(
 // A connection as a test wants it: its client, and the numbers of its members' records.
 pub(super) type Wanted = (Host, &'static [u32]);
 
-// That a table has these connections, numbered in turn, and so many unopened segments.
-pub(super) fn check(
-    rt: &impl Abort,
-    alloc: Global,
-    table: &Table,
-    wanted: &[Wanted],
-    unopened: u64,
-) -> Result<(), AllocError> {
-    assert_eq!(rt; table.conns().len(), wanted.len());
-    assert_eq!(rt; table.unopened(), unopened);
-    for ((conn, (client, members)), number) in table.conns().iter().zip(wanted).zip(0_u32..) {
-        assert_eq!(rt; conn.number, number);
-        assert_eq!(rt; conn.client, peer(*client));
-        let indices: Vec<u32> = conn
-            .members
-            .as_slice()
-            .iter()
-            .map(|member| member.index)
-            .collect(alloc)?;
-        assert_eq!(rt; indices.as_slice(), *members);
-        assert_eq!(rt; Some(conn.opening), members.first().copied());
+// Whether a connection has this number, this client and these members.
+fn is_wanted(conn: &Conn, number: u32, wanted: &Wanted) -> bool {
+    let (client, members) = wanted;
+    let listed = conn.members.as_slice();
+    let same = listed
+        .iter()
+        .zip(members.iter())
+        .all(|(member, index)| member.index == *index);
+    let opened = members.first().copied() == Some(conn.opening);
+    conn.number == number
+        && conn.client == peer(*client)
+        && listed.len() == members.len()
+        && same
+        && opened
+}
+
+// Whether a table has these connections, numbered in turn, and so many unopened segments.
+fn is_table(table: &Table, wanted: &[Wanted], unopened: u64) -> bool {
+    let mut right = table.conns().len() == wanted.len() && table.unopened() == unopened;
+    for ((conn, wanted), number) in table.conns().iter().zip(wanted).zip(0_u32..) {
+        right = right && is_wanted(conn, number, wanted);
     }
-    Ok(())
+    right
+}
+
+// That a table has these connections, numbered in turn, and so many unopened segments.
+pub(super) fn check_table(rt: &impl Abort, table: &Table, wanted: &[Wanted], unopened: u64) {
+    check(rt, "a table", is_table(table, wanted, unopened));
 }
 
 // An opening that is sent again, and a second session of the same pair.
@@ -132,13 +138,20 @@ pub(super) fn falling() -> [RecordedSegment<'static>; 3] {
 
 pub(super) const FALLING: [Wanted; 2] = [(CLIENT, &[0]), (SECOND_CLIENT, &[1, 2])];
 
-// That all members of a table have this instant.
-pub(super) fn check_instants(rt: &impl Abort, table: &Table, micros: u64) {
+// Whether all members of a table have this instant.
+fn has_instants(table: &Table, micros: u64) -> bool {
+    let mut right = true;
     for conn in table.conns() {
         let members = conn.members.as_slice();
-        assert_eq!(rt; conn.opened.count(), micros);
-        assert!(rt; members.iter().all(|member| member.at.count() == micros));
+        let all = members.iter().all(|member| member.at.count() == micros);
+        right = right && all && conn.opened.count() == micros;
     }
+    right
+}
+
+// That all members of a table have this instant.
+pub(super) fn check_instants(rt: &impl Abort, table: &Table, micros: u64) {
+    check(rt, "instants of a table", has_instants(table, micros));
 }
 
 #[test]
@@ -151,14 +164,8 @@ fn an_unopened_pair_first(rt: HostRuntime) -> Result<(), Fail> {
     let bytes = file(rt.alloc(), true, &segments)?;
     let capture = read_capture(rt.alloc(), &bytes)?;
     let table = whole(rt.alloc(), &capture)?;
-    check(
-        &rt,
-        rt.alloc(),
-        &table,
-        &[(SECOND_CLIENT, &[1]), (CLIENT, &[2])],
-        1,
-    )?;
-    assert_eq!(rt; table.counts().segment, 3);
+    check_table(&rt, &table, &[(SECOND_CLIENT, &[1]), (CLIENT, &[2])], 1);
+    check(&rt, "counts", table.counts().segment == 3);
     Ok(())
 }
 
@@ -171,56 +178,67 @@ fn openings_from_both_sides(rt: HostRuntime) -> Result<(), Fail> {
     let bytes = file(rt.alloc(), false, &segments)?;
     let capture = read_capture(rt.alloc(), &bytes)?;
     let table = whole(rt.alloc(), &capture)?;
-    check(
-        &rt,
-        rt.alloc(),
-        &table,
-        &[(CLIENT, &[0]), (SERVER, &[1])],
-        0,
-    )?;
-    assert_eq!(rt;
-        table.conns().last().map(|conn| conn.server),
-        Some(peer(CLIENT))
-    );
+    check_table(&rt, &table, &[(CLIENT, &[0]), (SERVER, &[1])], 0);
+    let last = table.conns().last().ok_or("no connection")?;
+    check(&rt, "the last server", last.server == peer(CLIENT));
+    Ok(())
+}
+
+// That ranges of so many records give this table, joined from the left and from the right.
+fn check_cut(
+    rt: &impl Abort,
+    alloc: Global,
+    capture: &Capture<'_>,
+    cut: usize,
+    wanted: &[Wanted],
+) -> Result<(), Fail> {
+    let left = from_left(alloc, capture, cut)?;
+    check_table(rt, &left, wanted, 0);
+    let right = finish(alloc, from_right(alloc, capture, 0, cut)?)?;
+    check_table(rt, &right, wanted, 0);
     Ok(())
 }
 
 #[test]
 fn a_repeated_opening_by_every_cut(rt: HostRuntime) -> Result<(), Fail> {
-    let bytes = file(rt.alloc(), true, &repeated())?;
-    let capture = read_capture(rt.alloc(), &bytes)?;
-    check(&rt, rt.alloc(), &whole(rt.alloc(), &capture)?, &REPEATED, 0)?;
-    for cut in [1, 2, 3, 4096] {
-        let left = from_left(rt.alloc(), &capture, cut)?;
-        check(&rt, rt.alloc(), &left, &REPEATED, 0)?;
-        let right = finish(rt.alloc(), from_right(rt.alloc(), &capture, 0, cut)?)?;
-        check(&rt, rt.alloc(), &right, &REPEATED, 0)?;
-    }
+    let alloc = rt.alloc();
+    let bytes = file(alloc, true, &repeated())?;
+    let capture = read_capture(alloc, &bytes)?;
+    check_table(&rt, &whole(alloc, &capture)?, &REPEATED, 0);
+    check_cut(&rt, alloc, &capture, 1, &REPEATED)?;
+    check_cut(&rt, alloc, &capture, 2, &REPEATED)?;
+    check_cut(&rt, alloc, &capture, 3, &REPEATED)?;
+    check_cut(&rt, alloc, &capture, 4096, &REPEATED)?;
     Ok(())
 }
 
 #[test]
-fn a_range_alone_and_behind_another(rt: HostRuntime) -> Result<(), Fail> {
+fn a_range_alone_and_after_another(rt: HostRuntime) -> Result<(), Fail> {
     let alloc = rt.alloc();
     let bytes = file(alloc, true, &repeated())?;
     let capture = read_capture(alloc, &bytes)?;
-    assert_eq!(rt; capture.records().len(), 6);
+    if capture.records().len() != 6 {
+        return Err("six records".into());
+    }
     let alone = finish(alloc, partial(alloc, &capture, 1, 3)?)?;
-    check(&rt, alloc, &alone, &[(CLIENT, &[1, 2])], 0)?;
+    check_table(&rt, &alone, &[(CLIENT, &[1, 2])], 0);
     let first = partial(alloc, &capture, 0, 1)?;
-    let behind = Partial::join(first, partial(alloc, &capture, 1, 3)?)?;
-    check(
-        &rt,
-        alloc,
-        &finish(alloc, behind)?,
-        &[(CLIENT, &[0, 1, 2])],
-        0,
-    )?;
+    let after = Partial::join(first, partial(alloc, &capture, 1, 3)?)?;
+    let both = finish(alloc, after)?;
+    check_table(&rt, &both, &[(CLIENT, &[0, 1, 2])], 0);
     let empty = partial(alloc, &capture, 3, 3)?;
     let half = Partial::join(partial(alloc, &capture, 0, 3)?, empty)?;
     let all = Partial::join(half, partial(alloc, &capture, 3, 6)?)?;
-    check(&rt, alloc, &finish(alloc, all)?, &REPEATED, 0)?;
+    check_table(&rt, &finish(alloc, all)?, &REPEATED, 0);
     Ok(())
+}
+
+// Whether a member is a segment of the side, at this instant, with this sequence number and so many bytes.
+fn is_member(member: &Member, from_client: bool, micros: u64, seq: u32, len: u16) -> bool {
+    member.from_client == from_client
+        && member.at.count() == micros
+        && member.seq == seq
+        && member.len == len
 }
 
 #[test]
@@ -228,39 +246,54 @@ fn what_a_member_tells(rt: HostRuntime) -> Result<(), Fail> {
     let bytes = file(rt.alloc(), true, &repeated())?;
     let capture = read_capture(rt.alloc(), &bytes)?;
     let table = whole(rt.alloc(), &capture)?;
-    assert_eq!(rt;
-        table.conns().first().map(|conn| conn.opened.count()),
-        Some(1_000_000)
-    );
-    let members = table.conns().first().map(|conn| conn.members.as_slice());
-    let answer: Option<&Member> = members.and_then(|members| members.get(2));
-    assert_eq!(rt; answer.map(|answer| answer.from_client), Some(false));
-    assert_eq!(rt; answer.map(|answer| answer.seq), Some(5000));
-    assert_eq!(rt; answer.map(|answer| answer.len), Some(0));
-    let last: Option<&Member> = members.and_then(|members| members.get(3));
-    assert_eq!(rt; last.map(|last| last.from_client), Some(true));
-    assert_eq!(rt;
-        last.map(|last| last.flags),
-        Some(Flags::PSH.with(Flags::ACK))
-    );
-    assert_eq!(rt; last.map(|last| last.at.count()), Some(1_700_000));
+    let conn = table.conns().first().ok_or("no connection")?;
+    check(&rt, "opened", conn.opened.count() == 1_000_000);
+    let answer: &Member = conn.members.as_slice().get(2).ok_or("no answer")?;
+    let told = is_member(answer, false, 1_600_000, 5000, 0);
+    check(&rt, "the answer", told);
+    let last: &Member = conn.members.as_slice().get(3).ok_or("no data")?;
+    let told = is_member(last, true, 1_700_000, 1001, 1);
+    check(&rt, "the data", told);
+    let flags = last.flags == Flags::PSH.with(Flags::ACK);
+    check(&rt, "flags", flags);
     // A file header, four record headers, and four times the 54 bytes of headers.
-    assert_eq!(rt; last.map(|last| last.start), Some(24 + 4 * 16 + 4 * 54));
-    assert_eq!(rt; last.map(|last| last.len), Some(1));
-    assert_eq!(rt; bytes.get(24 + 4 * 16 + 4 * 54).copied(), Some(b'h'));
+    let start = 24 + 4 * 16 + 4 * 54;
+    check(&rt, "its place", last.start == start);
+    check(&rt, "its byte", bytes.get(start as usize) == Some(&b'h'));
     Ok(())
 }
 
 #[test]
 fn instants_where_stamps_fall_back(rt: HostRuntime) -> Result<(), Fail> {
-    let bytes = file(rt.alloc(), true, &falling())?;
-    let capture = read_capture(rt.alloc(), &bytes)?;
-    for table in [
-        whole(rt.alloc(), &capture)?,
-        from_left(rt.alloc(), &capture, 1)?,
-    ] {
-        check(&rt, rt.alloc(), &table, &FALLING, 0)?;
-        check_instants(&rt, &table, 5_000_000);
+    let alloc = rt.alloc();
+    let bytes = file(alloc, true, &falling())?;
+    let capture = read_capture(alloc, &bytes)?;
+    let one = whole(alloc, &capture)?;
+    check_table(&rt, &one, &FALLING, 0);
+    check_instants(&rt, &one, 5_000_000);
+    let three = from_left(alloc, &capture, 1)?;
+    check_table(&rt, &three, &FALLING, 0);
+    check_instants(&rt, &three, 5_000_000);
+    Ok(())
+}
+
+// Whether a table has a hundred connections of forty members, each opened by the record of its own number.
+fn has_hundred(table: &Table) -> bool {
+    let conns = table.conns();
+    let each = conns.iter().all(|conn| conn.members.as_slice().len() == 40
+        && conn.opening == conn.number);
+    conns.len() == 100 && table.unopened() == 0 && table.counts().segment == 4000 && each
+}
+
+// Appends a segment from each of a hundred clients to the server.
+fn put_round(bytes: &mut Vec<u8>, round: u32, flags: u8, seq: u32) -> Result<(), AllocError> {
+    for port in 40_000..40_100_u16 {
+        let client = Host { port, ..CLIENT };
+        put(
+            bytes,
+            true,
+            &segment((round, 0), client, SERVER, flags, (seq, 0), b""),
+        )?;
     }
     Ok(())
 }
@@ -270,31 +303,16 @@ fn instants_where_stamps_fall_back(rt: HostRuntime) -> Result<(), Fail> {
 fn thousands_of_records(rt: HostRuntime) -> Result<(), Fail> {
     let alloc = rt.alloc();
     let mut bytes = header(alloc, true)?;
-    for round in 0..40_u32 {
-        for port in 40_000..40_100_u16 {
-            let client = Host { port, ..CLIENT };
-            let flags = if round < 2 { SYN } else { ACK };
-            let seq = if round < 2 { 1000 } else { 1001 };
-            put(
-                &mut bytes,
-                true,
-                &segment((round, 0), client, SERVER, flags, (seq, 0), b""),
-            )?;
-        }
+    put_round(&mut bytes, 0, SYN, 1000)?;
+    put_round(&mut bytes, 1, SYN, 1000)?;
+    for round in 2..40_u32 {
+        put_round(&mut bytes, round, ACK, 1001)?;
     }
     let capture = read_capture(alloc, &bytes)?;
-    for table in [
-        whole(alloc, &capture)?,
-        from_left(alloc, &capture, 64)?,
-        finish(alloc, from_right(alloc, &capture, 0, 512)?)?,
-    ] {
-        assert_eq!(rt; table.conns().len(), 100);
-        assert_eq!(rt; table.unopened(), 0);
-        assert_eq!(rt; table.counts().segment, 4000);
-        for conn in table.conns() {
-            assert_eq!(rt; conn.members.as_slice().len(), 40);
-            assert_eq!(rt; conn.opening, conn.number);
-        }
-    }
+    check(&rt, "one range", has_hundred(&whole(alloc, &capture)?));
+    let left = from_left(alloc, &capture, 64)?;
+    check(&rt, "from the left", has_hundred(&left));
+    let right = finish(alloc, from_right(alloc, &capture, 0, 512)?)?;
+    check(&rt, "from the right", has_hundred(&right));
     Ok(())
 }

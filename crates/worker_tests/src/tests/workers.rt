@@ -1,8 +1,13 @@
 //! Works that several workers do: the values, the gate before each job, and that more than one thread does jobs.
-use job_matrix::{Phase, Through, Work, work_all};
-use std::alloc::AllocError;
+ghost use Rattle.std.specs.Prelude.{◌≤◌, ◌^◌};
+
+use super::checks::check;
+use job_matrix::{Gate, Phase, Through, Work, work_all};
+use std::alloc::{AllocError, Global};
+use std::process::Abort;
 use std::sync::atomic::{AtomicU64, Ordering};
 use std::test::Fail;
+use std::thread::Threads;
 use worked_sessions::gates::{Counting, Holding, wait_for};
 
 // Three times a job's number and one more, but for one job, which finds no memory.
@@ -55,35 +60,52 @@ impl Work for Meeting {
     }
 }
 
+// Whether values are those of the tripled jobs, so many of them.
+fn are_tripled(values: &[u64], count: usize) -> bool {
+    let right = values.iter().zip(0_u64..).all(|(value, job)| *value
+        == job.saturating_mul(3).saturating_add(1));
+    right && values.len() == count
+}
+
+// That so many workers give the values of so many jobs.
+fn check_tripled<R: Abort + Threads + Sync>(
+    rt: &R,
+    alloc: Global,
+    workers: u64,
+    count: u64,
+) -> Result<(), Fail>
+    requires workers { 1 ≤ workers × workers ≤ 16 }
+    requires count { count ≤ 2 ^ 32 }
+{
+    let work = Tripled { refused: None };
+    let values = work_all(rt, alloc, count, workers, Phase::Jobs, &Through, &work)?;
+    check(rt, "values", are_tripled(values.as_slice(), count as usize));
+    Ok(())
+}
+
 #[test]
 fn values_by_one_two_and_sixteen_workers(rt: HostRuntime) -> Result<(), Fail> {
-    let work = Tripled { refused: None };
-    'plans: for workers in [1, 2, 16] {
-        let values = work_all(&rt, rt.alloc(), 300, workers, Phase::Jobs, &Through, &work)?;
-        assert_eq!(rt; values.as_slice().len(), 300);
-        'values: for (job, value) in values.as_slice().iter().enumerate() {
-            assert_eq!(rt; *value, 3 * job as u64 + 1);
-        }
-    }
+    check_tripled(&rt, rt.alloc(), 1, 300)?;
+    check_tripled(&rt, rt.alloc(), 2, 300)?;
+    check_tripled(&rt, rt.alloc(), 16, 300)?;
+    check_tripled(&rt, rt.alloc(), 2, 0)?;
     Ok(())
 }
 
-#[test]
-fn work_without_jobs(rt: HostRuntime) -> Result<(), Fail> {
-    let work = Tripled { refused: None };
-    let values = work_all(&rt, rt.alloc(), 0, 2, Phase::Ranges, &Through, &work)?;
-    assert!(rt; values.into_vec().is_empty());
-    Ok(())
-}
-
-#[test]
-fn want_of_memory_in_one_job(rt: HostRuntime) -> Result<(), Fail> {
+// That so many workers find no memory where one of five jobs finds none.
+fn check_refused<R: Abort + Threads + Sync>(rt: &R, alloc: Global, workers: u64)
+    requires { 1 ≤ workers × workers ≤ 16 }
+{
     let work = Tripled { refused: Some(3) };
-    'plans: for workers in [1, 2, 16] {
-        let answer = work_all(&rt, rt.alloc(), 5, workers, Phase::Jobs, &Through, &work);
-        assert!(rt; answer.is_err());
-    }
-    Ok(())
+    let answer = work_all(rt, alloc, 5, workers, Phase::Jobs, &Through, &work);
+    check(rt, "want of memory", answer.is_err());
+}
+
+#[test]
+fn want_of_memory_in_one_job(rt: HostRuntime) {
+    check_refused(&rt, rt.alloc(), 1);
+    check_refused(&rt, rt.alloc(), 2);
+    check_refused(&rt, rt.alloc(), 16);
 }
 
 #[test]
@@ -91,8 +113,8 @@ fn job_held_until_the_next_has_passed(rt: HostRuntime) -> Result<(), Fail> {
     let work = Tripled { refused: None };
     let gate = Holding::new(Phase::Jobs);
     let values = work_all(&rt, rt.alloc(), 4, 2, Phase::Jobs, &gate, &work)?;
-    assert_eq!(rt; values.as_slice(), [1, 4, 7, 10].as_slice());
-    assert!(rt; !gate.gave_up());
+    check(&rt, "values", are_tripled(values.as_slice(), 4));
+    check(&rt, "held", !gate.gave_up());
     Ok(())
 }
 
@@ -104,8 +126,9 @@ fn two_jobs_that_wait_for_each_other(rt: HostRuntime) -> Result<(), Fail> {
         gave_up: AtomicU64::new(0),
     };
     let values = work_all(&rt, rt.alloc(), 2, 2, Phase::Jobs, &Through, &work)?;
-    assert_eq!(rt; values.as_slice(), [0, 1].as_slice());
-    assert_eq!(rt; work.gave_up.load(Ordering::SeqCst), 0);
+    check(&rt, "values", values.as_slice() == [0, 1].as_slice());
+    let met = work.gave_up.load(Ordering::SeqCst) == 0;
+    check(&rt, "they met", met);
     Ok(())
 }
 
@@ -114,7 +137,58 @@ fn each_job_passes_the_gate_of_its_phase(rt: HostRuntime) -> Result<(), Fail> {
     let work = Tripled { refused: None };
     let gate = Counting::new(Phase::Lines);
     let _values = work_all(&rt, rt.alloc(), 10, 3, Phase::Lines, &gate, &work)?;
-    assert_eq!(rt; gate.passed(), 10);
-    assert_eq!(rt; gate.numbers(), 45);
+    check(&rt, "passed", gate.passed() == 10);
+    check(&rt, "numbers", gate.numbers() == 45);
+    Ok(())
+}
+
+// A gate and a work of eight jobs, which count in lanes of eight bits how often each job has passed the gate, and was done. A job
+// that is done before it has passed finds no memory.
+#[derive(Drop)]
+struct Lanes {
+    passed: AtomicU64,
+    done: AtomicU64,
+}
+
+impl Gate for Lanes {
+    fn pass(&self, phase: Phase, job: u64) {
+        if phase == Phase::Jobs && job < 8 {
+            self.passed.fetch_add(1 << (8 * job), Ordering::SeqCst);
+        }
+    }
+}
+
+impl Work for Lanes {
+    type Out = u64;
+
+    ghost jobs = { λ work. 8 };
+
+    ghost meaning = { λ work job. job };
+
+    fn value(&self, job: u64) -> Result<u64, AllocError> {
+        if job >= 8 || (self.passed.load(Ordering::SeqCst) >> (8 * job)) % 256 == 0 {
+            return Err(AllocError);
+        }
+        self.done.fetch_add(1 << (8 * job), Ordering::SeqCst);
+        Ok(job)
+    }
+}
+
+// A body that passes the gate after the job, or does a job twice, keeps every clause: it fails here.
+#[test]
+fn each_job_passes_the_gate_first_and_is_done_once(rt: HostRuntime) -> Result<(), Fail> {
+    let lanes = Lanes {
+        passed: AtomicU64::new(0),
+        done: AtomicU64::new(0),
+    };
+    let values = work_all(&rt, rt.alloc(), 8, 3, Phase::Jobs, &lanes, &lanes)?;
+    check(&rt, "values", values.as_slice().len() == 8);
+    let once = 0x0101_0101_0101_0101;
+    check(
+        &rt,
+        "passed once",
+        lanes.passed.load(Ordering::SeqCst) == once,
+    );
+    check(&rt, "done once", lanes.done.load(Ordering::SeqCst) == once);
     Ok(())
 }

@@ -7,5 +7,5 @@ use Rattle.report.proofs.reports.report.Given as goal
 
 abbrev pub invariant-loop-line : goal.invariant-loop-line
 invariant-loop-line l =
-    l.text ≡ (counts_text l.scenario (seen_capture (contents_of l.capture)) ++ connections_text l.connections l.table.unopened)
+    l.text.items ≡ (counts_text l.scenario (seen_capture (contents_of l.capture)) ++ connections_text l.connections l.table.unopened)
     ++ flat_map (λ line. line) (take l.line-index l.lines)

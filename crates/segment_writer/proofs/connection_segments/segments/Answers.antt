@@ -4,7 +4,7 @@ use Rattle.reassembly.specs.RecordedView.{recorded_view}
 use Rattle.toxic_defs.specs.DeliveredLines.{DeliveredConnection, delivered_view}
 use Rattle.segment_writer.specs.WrittenConnections.{written_connection}
 use Rattle.segment_writer.specs.WrittenSegments.{WrittenConnection, sorted_by_key}
-use Rattle.segment_writer.specs.Senders.{client_in, server_in, line_written, opening_written}
+use Rattle.segment_writer.specs.Senders.{client_in, server_in, peer_in, line_written, opening_written}
 use Rattle.segment_writer.proofs.WholeSegments.{lines_are_timely, line_sorted, opening_sorted, sorted_twice, segments_are}
 use Rattle.segment_writer.proofs.connection_segments.segments.Goals as goal
 
@@ -24,8 +24,10 @@ pub join-requires-clause-left : goal.join-requires-clause-left
 join-requires-clause-left c =
     let d : DeliveredConnection = delivered_view c.args.delivered.now in
     let w : WrittenConnection = written_connection c.args.conn.now.number c.args.conn.now.client c.args.conn.now.server (recorded_view c.args.recorded.now) d in
+    let opener = c.client_in-opener.ensures d in
+    let answerer = c.peer_in-answerer.ensures ∙ ap (λ s. peer_in s 0) opener in
     let is : c.of.result ≡ opening_written w.refused (client_in w 0) (server_in w 0) w.opened =
-    c.of.ensures ∙ c.in_ok-opening.ensures ∙ (λ i. opening_written w.refused (c.client_in.ensures d i) (c.server_in.ensures d i) w.opened) in
+    c.of.ensures ∙ c.in_ok-opening.ensures ∙ (λ i. opening_written w.refused (opener i) (answerer i) w.opened) in
     ap sorted_by_key is ∙ opening_sorted w.refused w w.opened ∙ sym is
 
 pub join-requires-clause-right : goal.join-requires-clause-right
@@ -47,10 +49,13 @@ pub returns : goal.returns
 returns c =
     let d : DeliveredConnection = delivered_view c.args.delivered.now in
     let w : WrittenConnection = written_connection c.args.conn.now.number c.args.conn.now.client c.args.conn.now.server (recorded_view c.args.recorded.now) d in
+    let opener = c.client_in-opener.ensures d in
+    let answerer = c.peer_in-answerer.ensures ∙ ap (λ s. peer_in s 0) opener in
     let opening : c.of.result ≡ opening_written w.refused (client_in w 0) (server_in w 0) w.opened =
-    c.of.ensures ∙ c.in_ok-opening.ensures ∙ (λ i. opening_written w.refused (c.client_in.ensures d i) (c.server_in.ensures d i) w.opened) in
+    c.of.ensures ∙ c.in_ok-opening.ensures ∙ (λ i. opening_written w.refused (opener i) (answerer i) w.opened) in
     let ups : c.in_ok-ups.ups ≡ line_written (client_in w 1) w.client.line w.server.line = c.in_ok-ups.ensures ∙ ap (λ s. line_written s w.client.line w.server.line) (c.client_in-client.ensures d) in
-    let downs : c.in_ok-downs.downs ≡ line_written (server_in w 2) w.server.line w.client.line = c.in_ok-downs.ensures ∙ ap (λ s. line_written s w.server.line w.client.line) (c.server_in-server.ensures d) in
+    let server = c.peer_in-server.ensures ∙ ap (λ s. peer_in s 2) (c.client_in-client.ensures d) in
+    let downs : c.in_ok-downs.downs ≡ line_written (server_in w 2) w.server.line w.client.line = c.in_ok-downs.ensures ∙ ap (λ s. line_written s w.server.line w.client.line) server in
     let begun : c.in_ok-begun.begun ≡ sorted_by_key (opening_written w.refused (client_in w 0) (server_in w 0) w.opened ++ line_written (client_in w 1) w.client.line w.server.line) =
     c.in_ok-begun.ensures ∙ (λ i. sorted_by_key (opening i ++ ups i)) in
     IfOk-weaker c.join-2.result _ _ (λ list h. h ∙ (λ i. sorted_by_key (begun i ++ downs i)) ∙ segments_are w (lines_are_timely _ c.requires.down)) c.join-2.ensures

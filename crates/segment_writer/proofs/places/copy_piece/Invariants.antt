@@ -1,6 +1,6 @@
 use Rattle.std.proofs.Common.{◌≡◌, ◌≤◌, ◌++◌, length, take, drop}
 use Rattle.segment_writer.specs.FirstPieces.{values}
-use Rattle.segment_writer.specs.PiecePlaces.{left_at, IsPlace}
+use Rattle.segment_writer.specs.LinePlaces.{left_at, IsPlace}
 use Rattle.segment_writer.proofs.places.copy_piece.Given as goal
 
 abbrev pub invariant-loop-left : goal.invariant-loop-left

@@ -1,5 +1,5 @@
 use Rattle.std.proofs.Common.{◌∙◌, sym, refl, arith}
-use Rattle.frame_headers.specs.Headers.{payload_limit}
+use Rattle.frame_headers.specs.Layout.{payload_limit}
 use Rattle.segment_writer.proofs.PlaceSteps.{size_begins, size_goes_on}
 use Rattle.segment_writer.proofs.places.piece_len.Goals as goal
 

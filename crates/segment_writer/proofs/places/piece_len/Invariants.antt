@@ -1,8 +1,8 @@
 use Rattle.std.proofs.Common.{◌≡◌, ◌≤◌, length, drop, ◌+◌, ◌-◌, min}
-use Rattle.frame_headers.specs.Headers.{payload_limit}
+use Rattle.frame_headers.specs.Layout.{payload_limit}
 use Rattle.reassembly.specs.LineView.{bytes_of_parts}
 use Rattle.segment_writer.specs.FirstPieces.{piece_size, run}
-use Rattle.segment_writer.specs.PiecePlaces.{left_at}
+use Rattle.segment_writer.specs.LinePlaces.{left_at}
 use Rattle.segment_writer.proofs.places.piece_len.Given as goal
 
 abbrev pub invariant-loop-len : goal.invariant-loop-len

@@ -1,7 +1,7 @@
 use Rattle.std.proofs.Common.{◌∙◌, ◌≤◌, ◌+◌, ◌++◌, length, take, ap, arith}
-use Rattle.frame_headers.specs.Headers.{payload_limit}
+use Rattle.frame_headers.specs.Layout.{headers_len, payload_limit}
 use Rattle.segment_writer.specs.FirstPieces.{values}
-use Rattle.segment_writer.specs.PiecePlaces.{left_at}
+use Rattle.segment_writer.specs.LinePlaces.{left_at}
 use Rattle.segment_writer.proofs.RecordSteps.{length-filled, made_is, piece_is, piece_within, piece_limited, length-piece, first_instant-place}
 use Rattle.segment_writer.proofs.records.piece_framed.Goals as goal
 
@@ -16,14 +16,14 @@ copy_piece-requires-clause-within c = omega (arith, c.requires.len, piece_within
 pub close_record-requires-clause-room : goal.close_record-requires-clause-room
 close_record-requires-clause-room c =
     let payload = values (take c.args.len (left_at c.args.own.now c.args.from)) in
-    let len = ap length (c.deref_mut.ensures.value ∙ c.in_ok-after.ensures.bytes ∙ ap (λ xs. xs ++ payload) c.in_ok-bytes.ensures) ∙ length-filled c.part_at-at.result.at (54 + c.args.len) payload in
+    let len = ap length (c.deref_mut.ensures.value ∙ c.in_ok-after.ensures.bytes ∙ ap (λ xs. xs ++ payload) c.in_ok-bytes.ensures) ∙ length-filled c.part_at-at.result.at (headers_len + c.args.len) payload in
     omega (arith, len)
 
 pub close_record-requires-clause-small : goal.close_record-requires-clause-small
 close_record-requires-clause-small c =
     let left = left_at c.args.own.now c.args.from in
     let payload = values (take c.args.len left) in
-    let len = ap length (c.deref_mut.ensures.value ∙ c.in_ok-after.ensures.bytes ∙ ap (λ xs. xs ++ payload) c.in_ok-bytes.ensures) ∙ length-filled c.part_at-at.result.at (54 + c.args.len) payload in
+    let len = ap length (c.deref_mut.ensures.value ∙ c.in_ok-after.ensures.bytes ∙ ap (λ xs. xs ++ payload) c.in_ok-bytes.ensures) ∙ length-filled c.part_at-at.result.at (headers_len + c.args.len) payload in
     let within : c.args.len ≤ length left = omega (arith, c.requires.len, piece_within payload_limit left) in
     omega (arith, len, length-piece c.args.len left within, c.requires.len, piece_limited payload_limit left)
 

@@ -2,8 +2,8 @@ use Rattle.std.proofs.Common.{rules, true, refl}
 use Rattle.std.proofs.lemmas.Iterator.{YieldsList-from_slice, YieldsList-from_map_by}
 use Rattle.std.proofs.lemmas.Iterator.Consumers.{YieldsList-from_enumerate, YieldsList-at}
 use Rattle.std.proofs.lemmas.Result.{IfOk-weaker}
-use Rattle.time_merge.specs.ListedKeys.{keys_left}
-use Rattle.time_merge.proofs.ListedOrder.{derived_order}
+use Rattle.time_merge.specs.KeyedSegments.{keyed_left}
+use Rattle.time_merge.proofs.KeyedOrder.{derived_order}
 use Rattle.time_merge.proofs.KeySources.{keys_of_list, keys_of_lists, run_gives, all_sorted, gave_all, gave_in_order}
 use Rattle.time_merge.proofs.merging.merged_keys.Goals as goal
 
@@ -11,7 +11,7 @@ pub returns-clause-all : goal.returns-clause-all
 returns-clause-all c =
     let run = c.in_ok-kmerge.ensures.items in
     let sources = run_gives c.args.lists.now run
-    (YieldsList-from_map_by _ keys_left keys_of_list
+    (YieldsList-from_map_by _ keyed_left keys_of_list
     (YieldsList-at c.map-sources.ensures.source (YieldsList-from_enumerate (YieldsList-at c.enumerate.ensures.source (YieldsList-from_slice c.args.lists.now (cc))) c.enumerate.ensures.count))
     c.map-sources.ensures.closure (λ x r q k. search rules)) in
     let all = run.3 (keys_of_lists c.args.lists.now) sources in
@@ -21,7 +21,7 @@ pub returns-clause-sorted : goal.returns-clause-sorted
 returns-clause-sorted c =
     let run = c.in_ok-kmerge.ensures.in_order in
     let sources = run_gives c.args.lists.now run
-    (YieldsList-from_map_by _ keys_left keys_of_list
+    (YieldsList-from_map_by _ keyed_left keys_of_list
     (YieldsList-at c.map-sources.ensures.source (YieldsList-from_enumerate (YieldsList-at c.enumerate.ensures.source (YieldsList-from_slice c.args.lists.now (cc))) c.enumerate.ensures.count))
     c.map-sources.ensures.closure (λ x r q k. search rules)) in
     let in_order = run.3 derived_order (keys_of_lists c.args.lists.now) sources (all_sorted c.sorted_never_falls.ensures c.args.lists.now c.requires) in

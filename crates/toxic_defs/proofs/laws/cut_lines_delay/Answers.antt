@@ -1,4 +1,4 @@
-use Rattle.toxic_defs.proofs.CutDelays.{cut_lines_delay}
+use Rattle.toxic_defs.proofs.CutLines.{cut_lines_delay}
 use Rattle.toxic_defs.proofs.laws.cut_lines_delay.Goals as goal
 
 pub returns : goal.returns

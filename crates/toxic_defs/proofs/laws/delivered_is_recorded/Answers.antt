@@ -1,4 +1,4 @@
-use Rattle.toxic_defs.proofs.DeliveredDelays.{delivered_is_recorded}
+use Rattle.toxic_defs.proofs.ToxicLines.{delivered_is_recorded}
 use Rattle.toxic_defs.proofs.laws.delivered_is_recorded.Goals as goal
 
 pub returns : goal.returns

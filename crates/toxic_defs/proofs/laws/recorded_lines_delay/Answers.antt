@@ -1,4 +1,4 @@
-use Rattle.toxic_defs.proofs.CutDelays.{recorded_lines_delay}
+use Rattle.toxic_defs.proofs.CutLines.{recorded_lines_delay}
 use Rattle.toxic_defs.proofs.laws.recorded_lines_delay.Goals as goal
 
 pub returns : goal.returns

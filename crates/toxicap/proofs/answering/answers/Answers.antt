@@ -1,6 +1,6 @@
-use Rattle.std.proofs.Common.{map}
+use Rattle.std.proofs.Common.{map, arith}
 use Rattle.std.proofs.lemmas.Result.{err_from_is_err_and}
-use Rattle.toxicap.proofs.AnswerSteps.{stopped, answered}
+use Rattle.toxicap.proofs.AnswerSteps.{stopped, answered, none_read}
 use Rattle.toxicap.proofs.answering.answers.Goals as goal
 
 -- loading stopped, after some text
@@ -18,5 +18,11 @@ returns-clause-answer g c =
     let options = c.args.options.now in (
       c.in_ok-text.text.items,
       loaded.lost,
-      answered options.hosts (map (λ t. t.now) c.args.texts.now) options.seed c.answer_to_text.result c.in_ok-text.text.items _ loaded.within loaded.at_end c.answer_to_text.ensures.exact c.answer_to_text.ensures.of_text,
+      answered options.hosts (map (λ t. t.now) c.args.texts.now) options.seed c.answer_to_text.result c.in_ok-text.text.items _ loaded.within loaded.at_end c.answer_to_text.ensures,
     )
+
+-- no read has failed
+pub returns-clause-failed : goal.returns-clause-failed
+returns-clause-failed g c =
+    let options = c.args.options.now in
+    omega (arith, c.in_ok-text.ensures.none_failed, none_read options.hosts (map (λ t. t.now) c.args.texts.now) options.seed c.answer_to_text.result c.in_ok-text.text.items c.answer_to_text.ensures)

@@ -1,0 +1,75 @@
+-- Where the fields of a frame's headers stand: Ethernet II, IPv4 (RFC 791 section 3.1) and TCP (RFC 9293 section 3.1).
+-- A place is counted from the first byte of its own header.
+use Rattle.std.specs.Prelude.{ℕ, ◌+◌, ◌-◌}
+
+-- ---- Ethernet II: the receiver's address, the sender's, and the type of what follows
+
+abbrev pub mac_len : ℕ
+mac_len = 6
+
+-- the bytes of the Ethernet header, which the type of what follows ends
+abbrev pub link_len : ℕ
+link_len = 14
+
+abbrev pub type_len : ℕ
+type_len = 2
+
+-- the type of a frame that carries an IPv4 datagram
+abbrev pub ipv4_type : ℕ
+ipv4_type = 0x0800
+
+-- ---- IPv4
+
+-- the bytes of a header with no options: the least that one has
+abbrev pub ipv4_len : ℕ
+ipv4_len = 20
+
+abbrev pub total_len_at : ℕ
+total_len_at = 2
+
+abbrev pub fragment_at : ℕ
+fragment_at = 6
+
+abbrev pub protocol_at : ℕ
+protocol_at = 9
+
+abbrev pub source_at : ℕ
+source_at = 12
+
+abbrev pub destination_at : ℕ
+destination_at = 16
+
+-- the protocol number of TCP
+abbrev pub tcp_protocol : ℕ
+tcp_protocol = 6
+
+-- ---- TCP: the sender's port begins the header
+
+-- the bytes of a header with no options: the least that one has
+abbrev pub tcp_len : ℕ
+tcp_len = 20
+
+abbrev pub to_port_at : ℕ
+to_port_at = 2
+
+abbrev pub seq_at : ℕ
+seq_at = 4
+
+abbrev pub ack_at : ℕ
+ack_at = 8
+
+abbrev pub data_offset_at : ℕ
+data_offset_at = 12
+
+abbrev pub flags_at : ℕ
+flags_at = 13
+
+-- ---- what is written
+
+-- the bytes of the headers of a written segment, neither IPv4's nor TCP's with options
+abbrev pub headers_len : ℕ
+headers_len = link_len + ipv4_len + tcp_len
+
+-- the most bytes of payload after them, so that the datagram fits an Ethernet frame of 1,500 bytes
+abbrev pub payload_limit : ℕ
+payload_limit = 1500 - ipv4_len - tcp_len

@@ -1,0 +1,33 @@
+//! Texts: how words and numbers are appended.
+ghost use Rattle.std.specs.Prelude.{◌≡◌, ◌++◌, OnOk};
+ghost use Rattle.std.specs.Fmt.{decimal};
+
+use itoa::Buffer;
+use pcap_records::Values;
+use std::alloc::AllocError;
+
+/// The text of a report, or of a part of it: ASCII, each of its lines ended by LF.
+pub type ReportText = Values<u8>;
+
+/// Appends words.
+pub(crate) fn push(text: &mut Vec<u8>, words: &str) -> Result<(), AllocError>
+    ensures { OnOk result (text.new.items ≡ text.old.items ++ words.now) }
+{
+    text.extend_from_slice(words.as_bytes())?;
+    Ok(())
+}
+
+/// Appends a number.
+pub(crate) fn push_number(text: &mut Vec<u8>, number: u64) -> Result<(), AllocError>
+    ensures { OnOk result (text.new.items ≡ text.old.items ++ decimal number) }
+{
+    push(text, Buffer::new().format(number))
+}
+
+/// Appends words and a number.
+pub(crate) fn push_told(text: &mut Vec<u8>, words: &str, number: u64) -> Result<(), AllocError>
+    ensures { OnOk result (text.new.items ≡ text.old.items ++ (words.now ++ decimal number)) }
+{
+    push(text, words)?;
+    push_number(text, number)
+}

@@ -1,0 +1,191 @@
+-- What the wire has to do, in parts of 1/rate tick, part by part, and chunks that leave as one.
+use Rattle.std.proofs.Common.{◌≡◌, ◌≤◌, ◌<◌, ◌⊎◌, inl, inr, ℕ, suc, ◌+◌, ◌-◌, ◌*◌, ◌/◌, min, max, Bool, false, List, [], ◌∷◌, ◌++◌, length, sym, ap, ◌∙◌, arith, append_assoc, take, drop, get_or, set, true, cond, Some, None, unwrap_or, refl}
+use Rattle.std.proofs.Math.Nat.{add-mul-div_right, mul-le-mul}
+use Rattle.std.proofs.lemmas.List.{map-append, length_push, append-nil, length-map, length-append, take_more, take_more_set}
+use Rattle.std.proofs.lemmas.List.Folds.{length-flat_map-take}
+use Rattle.std.proofs.lemmas.List.Elements.{All-tail, All-cons}
+use Rattle.reassembly.specs.RecordedLines.{LineByte}
+use Rattle.reassembly.specs.LineView.{bytes_with_mark, bytes_without_mark, bytes_of_part, bytes_of_parts}
+use Rattle.reassembly.specs.declared.line_parts.LinePart.{LinePart}
+use Rattle.toxic_defs.specs.DelayedBytes.{latest, instants_of, at_instant, along}
+use Rattle.toxic_defs.specs.Bandwidth.{ceiling, bandwidth_leaves, part_at, charged, joined, settled, going_on, settled_parts}
+use Rattle.toxic_defs.specs.Slices.{IsFilled, AreFilled}
+use Rattle.toxic_defs.proofs.Latest.{latest-push, latest-along, ceiling-mono}
+use Rattle.toxic_defs.proofs.Parts.{length_marked, same_there}
+use Rattle.toxic_defs.proofs.MovedParts.{along-append}
+use Rattle.toxic_defs.proofs.DelayingLaws.{leaving, joined_is}
+
+ceiling-add : (at m d : ℕ) → 0 < d → ceiling (d * at + m) d ≡ at + ceiling m d
+ceiling-add at m d some =
+    let e : d * at + m + (d - 1) ≡ m + (d - 1) + at * d = omega arith in
+    let q : (m + (d - 1) + at * d) / d ≡ (m + (d - 1)) / d + at = add-mul-div_right (m + (d - 1)) at some in
+    rw (e, q) (omega arith)
+
+ceiling-max : (limit a b d : ℕ) → 0 < d → min (ceiling (max a b) d) limit ≡ max (min (ceiling a d) limit) (min (ceiling b d) limit)
+ceiling-max limit a b d some = by (le_or_le a b)
+  where
+    le_or_le : (a b : ℕ) → (a ≤ b) ⊎ (b ≤ a)
+    le_or_le a b = grind arith
+
+    by : (a ≤ b) ⊎ (b ≤ a) → min (ceiling (max a b) d) limit ≡ max (min (ceiling a d) limit) (min (ceiling b d) limit)
+    by (inl le) = let e : max a b ≡ b = omega arith in let m = ceiling-mono a b d some le in rw e (omega (arith, m))
+    by (inr le) = let e : max a b ≡ a = omega arith in let m = ceiling-mono b a d some le in rw e (omega (arith, m))
+
+-- ---- owed
+
+abbrev pub owed : ℕ → ℕ → ℕ → List ℕ → ℕ
+owed rate ticks n ats = latest (λ y at. rate * at + (n - y) * ticks) ats
+
+-- by the last of some bytes
+abbrev pub owed_of : ℕ → ℕ → List LineByte → ℕ
+owed_of rate ticks bytes = owed rate ticks (length bytes) (instants_of bytes)
+
+bandwidth-owed : (limit ticks rate n at : ℕ) (ats : List ℕ) → 0 < rate
+    → latest (λ y x. min (x + ceiling ((n - y) * ticks) rate) limit) (at ∷ ats) ≡ min (ceiling (owed rate ticks n (at ∷ ats)) rate) limit
+bandwidth-owed limit ticks rate n at ats some =
+    latest-along (λ q. min (ceiling q rate) limit) (λ a b. ceiling-max limit a b rate some) (λ y x. rate * x + (n - y) * ticks) (λ y x. min (x + ceiling ((n - y) * ticks) rate) limit) 0 at ats
+    (length (at ∷ ats)) (omega arith) (λ y x lt. ap (λ q. min q limit) (sym (ceiling-add x ((n - y) * ticks) rate some)))
+
+-- bytes leave when what is owed by the last one is done
+pub leaves_owed : (limit ticks rate : ℕ) (bytes : List LineByte) → 0 < rate → 0 < length bytes → bandwidth_leaves limit ticks rate bytes ≡ min (ceiling (owed_of rate ticks bytes) rate) limit
+leaves_owed limit ticks rate [] some filled = absurd (omega arith)
+leaves_owed limit ticks rate (b ∷ bytes) some filled = bandwidth-owed limit ticks rate (length (b ∷ bytes)) b.at (instants_of bytes) some
+
+-- one byte more
+owed-later : (rate ticks n at : ℕ) (ats : List ℕ) → length (at ∷ ats) ≤ n → owed rate ticks (n + 1) (at ∷ ats) ≡ owed rate ticks n (at ∷ ats) + ticks
+owed-later rate ticks n at ats le =
+    latest-along (λ q. q + ticks) (λ a b. omega arith) (λ y x. rate * x + (n - y) * ticks) (λ y x. rate * x + (n + 1 - y) * ticks) 0 at ats n (omega arith)
+    (λ y x lt. let one : n + 1 - y ≡ suc (n - y) = omega arith in rw one (omega arith))
+
+owed-push : (rate ticks : ℕ) (ats : List ℕ) (at : ℕ) → owed rate ticks (length ats + 1) (ats ++ at ∷ []) ≡ max (owed rate ticks (length ats) ats) (rate * at) + ticks
+owed-push rate ticks [] at = omega arith
+owed-push rate ticks (x ∷ ats) at =
+    let n : ℕ = length (x ∷ ats) in
+    let one : n + 1 - n ≡ 1 = omega arith in
+    let push = latest-push (λ y z. rate * z + (n + 1 - y) * ticks) (x ∷ ats) at in
+    let later = owed-later rate ticks n x ats (omega arith) in
+    push ∙ rw (later, one) (omega arith)
+
+pub owed_more : (rate ticks : ℕ) (front : List LineByte) (b : LineByte) → owed_of rate ticks (front ++ b ∷ []) ≡ max (owed_of rate ticks front) (rate * b.at) + ticks
+owed_more rate ticks front b =
+    let ats : List ℕ = instants_of front in
+    let e : instants_of (front ++ b ∷ []) ≡ ats ++ b.at ∷ [] = map-append (λ (x : LineByte). x.at) front (b ∷ []) in
+    let n : length (front ++ b ∷ []) ≡ length ats + 1 = length_push front b ∙ ap (λ k. k + 1) (sym (length-map front (λ (x : LineByte). x.at))) in
+    let m : length ats ≡ length front = length-map front (λ (x : LineByte). x.at) in
+    rw (n, e) (owed-push rate ticks ats b.at) ∙ ap (λ k. max (owed rate ticks k ats) (rate * b.at) + ticks) m
+
+-- bytes that are there before the wire is free
+owed_run : (rate ticks at : ℕ) (front : List LineByte) (bytes : List ℕ) → rate * at ≤ owed_of rate ticks front
+    → owed_of rate ticks (front ++ bytes_without_mark at bytes) ≡ owed_of rate ticks front + length bytes * ticks
+owed_run rate ticks at front [] le = rw (append-nil front) (omega arith)
+owed_run rate ticks at front (b ∷ bytes) le =
+    let x : LineByte = record { value = b; at = at; starts = false } in
+    let one : owed_of rate ticks (front ++ x ∷ []) ≡ max (owed_of rate ticks front) (rate * at) + ticks = owed_more rate ticks front x in
+    let le' : rate * at ≤ owed_of rate ticks (front ++ x ∷ []) = rw one (omega arith) in
+    let rest = owed_run rate ticks at (front ++ x ∷ []) bytes le' in
+    ap (owed_of rate ticks) (sym (append_assoc front (x ∷ []) (bytes_without_mark at bytes))) ∙ rest ∙ rw one (omega arith)
+
+-- a whole part in one step
+pub owed_part : (rate ticks at : ℕ) (s : Bool) (front : List LineByte) (bytes : List ℕ) → 0 < length bytes
+    → owed_of rate ticks (front ++ bytes_with_mark at s bytes) ≡ max (owed_of rate ticks front) (rate * at) + length bytes * ticks
+owed_part rate ticks at s front [] some = absurd (omega arith)
+owed_part rate ticks at s front (b ∷ bytes) some =
+    let x : LineByte = record { value = b; at = at; starts = s } in
+    let one : owed_of rate ticks (front ++ x ∷ []) ≡ max (owed_of rate ticks front) (rate * at) + ticks = owed_more rate ticks front x in
+    let le : rate * at ≤ owed_of rate ticks (front ++ x ∷ []) = rw one (omega arith) in
+    let rest = owed_run rate ticks at (front ++ x ∷ []) bytes le in
+    ap (owed_of rate ticks) (sym (append_assoc front (x ∷ []) (bytes_without_mark at bytes))) ∙ rest ∙ rw one (omega arith)
+
+pub fronts : (parts initial : List LinePart) (i : ℕ) (d : LinePart) → i < length initial → drop i parts ≡ drop i initial
+    → length (bytes_of_parts (take i initial)) + length (get_or parts i d).bytes.now ≤ length (bytes_of_parts initial)
+fronts parts initial i d lt rest =
+    let p : LinePart = get_or initial i d in
+    let n = length-flat_map-take bytes_of_part initial i d lt in
+    let m : length (bytes_of_part p) ≡ length p.bytes.now = length_marked p.at p.starts p.bytes.now in
+    let same : get_or parts i d ≡ p = sym (same_there parts initial i d rest) in
+    rw same (omega (arith, n, m))
+
+-- ---- charged
+
+charged-append : (leaves : List LineByte → ℕ) (before : List LineByte) (xs ys : List LinePart)
+    → charged leaves before (xs ++ ys) ≡ charged leaves before xs ++ charged leaves (before ++ bytes_of_parts xs) ys
+charged-append leaves before [] ys = ap (λ bs. charged leaves bs ys) (sym (append-nil before))
+charged-append leaves before (p ∷ xs) ys =
+    let next : List LineByte = before ++ bytes_of_part p in
+    ap (λ ps. part_at (leaves next) p ∷ ps)
+    (charged-append leaves next xs ys ∙ ap (λ bs. charged leaves next xs ++ charged leaves bs ys) (append_assoc before (bytes_of_part p) (bytes_of_parts xs)))
+
+pub charged_there : (leaves : List LineByte → ℕ) (parts initial : List LinePart) (i at : ℕ) (d : LinePart) → i < length parts → i < length initial → drop i parts ≡ drop i initial
+    → take i parts ≡ charged leaves [] (take i initial) → at ≡ leaves (bytes_of_parts (take i initial) ++ bytes_of_part (get_or parts i d))
+    → take (i + 1) (set parts i (part_at at (get_or parts i d))) ≡ charged leaves [] (take (i + 1) initial)
+charged_there leaves parts initial i at d lt lt' rest done e =
+    let p : LinePart = get_or parts i d in
+    let q : LinePart = part_at at p in
+    let taken : take (i + 1) initial ≡ take i initial ++ p ∷ [] = take_more initial i d lt' ∙ ap (λ (x : LinePart). take i initial ++ x ∷ []) (same_there parts initial i d rest) in
+    take_more_set parts i q lt ∙ ap (λ (ps : List LinePart). ps ++ q ∷ []) done ∙ ap (λ t. charged leaves [] (take i initial) ++ part_at t p ∷ []) e
+    ∙ sym (charged-append leaves [] (take i initial) (p ∷ [])) ∙ ap (charged leaves []) (sym taken)
+
+-- ---- numbers
+
+-- no instant and no rate is greater
+pub own_small : (rate at : ℕ) → rate ≤ 1000000 → at < 18446744073709551616 → rate * at ≤ 1000000 * 18446744073709551616
+own_small rate at le lt = let le' : at ≤ 18446744073709551616 = omega arith in mul-le-mul le le'
+
+-- when a part after others leaves, by what was owed before
+pub leaves_there : (limit rate at : ℕ) (s : Bool) (front : List LineByte) (bytes : List ℕ) → 0 < rate → 0 < length bytes
+    → bandwidth_leaves limit 1000 rate (front ++ bytes_with_mark at s bytes) ≡ min (ceiling (max (rate * at) (owed_of rate 1000 front) + 1000 * length bytes) rate) limit
+leaves_there limit rate at s front bytes some filled =
+    let n = length_marked at s bytes in
+    let m = length-append front (bytes_with_mark at s bytes) in
+    let e : max (owed_of rate 1000 front) (rate * at) + length bytes * 1000 ≡ max (rate * at) (owed_of rate 1000 front) + 1000 * length bytes = omega arith in
+    leaves_owed limit 1000 rate (front ++ bytes_with_mark at s bytes) some (omega (arith, n, m)) ∙ ap (λ q. min (ceiling q rate) limit) (owed_part rate 1000 at s front bytes filled ∙ e)
+
+-- ---- chunks that leave as one: all bytes of a part leave with the last one
+
+settled_part : (leaves : List LineByte → ℕ) (before : List LineByte) (at : ℕ) (x : LineByte) (bytes : List ℕ) (behind : List LineByte)
+    → settled (along leaves before (x ∷ bytes_without_mark at bytes) ++ behind)
+    ≡ bytes_with_mark (leaving (leaves (before ++ x ∷ bytes_without_mark at bytes)) (settled behind)) x.starts (x.value ∷ bytes) ++ settled behind
+settled_part leaves before at x [] behind = ap (λ b. b ∷ settled behind) (joined_is (at_instant (leaves (before ++ x ∷ [])) x) (settled behind))
+settled_part leaves before at x (b ∷ bytes) behind =
+    let y : LineByte = record { value = b; at = at; starts = false } in
+    let rest = settled_part leaves (before ++ x ∷ []) at y bytes behind in
+    let same : (before ++ x ∷ []) ++ (y ∷ bytes_without_mark at bytes) ≡ before ++ x ∷ y ∷ bytes_without_mark at bytes = append_assoc before (x ∷ []) (y ∷ bytes_without_mark at bytes) in
+    let first : LineByte = at_instant (leaves (before ++ x ∷ [])) x in
+    ap (λ bs. joined first bs ∷ bs) (rest ∙ ap (λ bs. bytes_with_mark (leaving (leaves bs) (settled behind)) false (b ∷ bytes) ++ settled behind) same)
+
+-- ---- by parts
+
+leaving_parts : (at : ℕ) (parts : List LinePart) → AreFilled parts → leaving at (bytes_of_parts parts) ≡ unwrap_or (going_on parts) at
+leaving_parts at [] filled = refl
+leaving_parts at (p ∷ parts) filled = by p.starts p.at p.bytes.now (filled 0 p (omega arith))
+  where
+    by : (s : Bool) (own : ℕ) (bytes : List ℕ) → 0 < length bytes → leaving at (bytes_with_mark own s bytes ++ bytes_of_parts parts) ≡ unwrap_or (cond s None (Some own)) at
+    by s own [] h = absurd (omega arith)
+    by true own (b ∷ bytes) h = refl
+    by false own (b ∷ bytes) h = refl
+
+charged_filled : (leaves : List LineByte → ℕ) (before : List LineByte) (parts : List LinePart) → AreFilled parts → AreFilled (settled_parts (charged leaves before parts))
+charged_filled leaves before [] filled = filled
+charged_filled leaves before (p ∷ parts) filled =
+    All-cons IsFilled _ _ (filled 0 p (omega arith)) (charged_filled leaves (before ++ bytes_of_part p) parts (All-tail IsFilled p parts filled))
+
+one_more : (leaves : List LineByte → ℕ) (before : List LineByte) (at : ℕ) (s : Bool) (bytes : List ℕ) (rest : List LineByte) (parts : List LinePart) → 0 < length bytes → AreFilled parts
+    → settled (along leaves (before ++ bytes_with_mark at s bytes) rest) ≡ bytes_of_parts parts
+    → settled (along leaves before (bytes_with_mark at s bytes ++ rest))
+    ≡ bytes_with_mark (unwrap_or (going_on parts) (leaves (before ++ bytes_with_mark at s bytes))) s bytes ++ bytes_of_parts parts
+one_more leaves before at s [] rest parts some filled e = absurd (omega arith)
+one_more leaves before at s (b ∷ bytes) rest parts some filled e =
+    let x : LineByte = record { value = b; at = at; starts = s } in
+    let part : List LineByte = bytes_with_mark at s (b ∷ bytes) in
+    ap settled (along-append leaves before part rest) ∙ settled_part leaves before at x bytes (along leaves (before ++ part) rest)
+    ∙ ap (λ bs. bytes_with_mark (leaving (leaves (before ++ part)) bs) s (b ∷ bytes) ++ bs) e
+    ∙ ap (λ t. bytes_with_mark t s (b ∷ bytes) ++ bytes_of_parts parts) (leaving_parts (leaves (before ++ part)) parts filled)
+
+pub settles : (leaves : List LineByte → ℕ) (before : List LineByte) (parts : List LinePart) → AreFilled parts
+    → settled (along leaves before (bytes_of_parts parts)) ≡ bytes_of_parts (settled_parts (charged leaves before parts))
+settles leaves before [] filled = refl
+settles leaves before (p ∷ parts) filled =
+    let rest : AreFilled parts = All-tail IsFilled p parts filled in
+    let next : List LineByte = before ++ bytes_of_part p in
+    one_more leaves before p.at p.starts p.bytes.now (bytes_of_parts parts) (settled_parts (charged leaves next parts)) (filled 0 p (omega arith)) (charged_filled leaves next parts rest)
+    (settles leaves next parts rest)

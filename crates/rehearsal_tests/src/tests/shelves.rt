@@ -194,7 +194,7 @@ fn a_folder(rt: HostRuntime) {
     fs::remove_dir_all(&rt, "files").expect(&rt, "removed");
 }
 
-// What is no name of a file in the folder of this path, or a path that is none.
+// No file in the folder of this path can have this name.
 fn check_no_name(rt: &(impl Abort + AllocGlobal + Files), path: &str, name: &str) {
     let mut folder = Folder::new(rt.alloc(), rt, path).expect(rt, "memory");
     let refused = folder.put(name, b"") == Err(ShelfError);

@@ -1,5 +1,6 @@
 -- Numbers of options, as std parses their texts.
 use Rattle.std.proofs.Common.{◌≡◌, ◌^◌, ◌&&◌, ℕ, Bool, true, false, refl, sym, List, [], ◌∷◌, length, Option, Some, None, option_and_then, Result, Ok, Err, true≢false, nat_lt, lt-ltb, ltb-true}
+use Rattle.std.proofs.lemmas.Bool.{and_parts}
 use Rattle.std.specs.List.{list_all}
 use Rattle.std.specs.Char.{digit_value}
 use Rattle.std.specs.Str.Parse.{AllDigits, ParsesUnsigned, digits_value, without_leading_plus}
@@ -13,14 +14,10 @@ digits_pass : (ds : List ℕ) → AllDigits 10 ds → list_all (λ d. nat_lt (di
 digits_pass [] h = refl
 digits_pass (d ∷ ds) h = rw (lt-ltb (digit_value d) 10 h.0) (digits_pass ds h.1)
 
-both : (a b : Bool) → (a && b) ≡ true → (a ≡ true) × (b ≡ true)
-both true b e = (refl, e)
-both false b e = absurd (true≢false (sym e))
-
 digits_from : (ds : List ℕ) → list_all (λ d. nat_lt (digit_value d) 10) ds ≡ true → AllDigits 10 ds
 digits_from [] e = tt
 digits_from (d ∷ ds) e =
-    let parts = both _ _ e in
+    let parts = and_parts _ _ e in
     (ltb-true _ _ parts.0, digits_from ds parts.1)
 
 abbrev passes : ℕ → List ℕ → Bool
@@ -38,8 +35,8 @@ number_read E G width only text None gives = go (passes (2 ^ width) (without_lea
     go : (b : Bool) → passes (2 ^ width) (without_leading_plus text) ≡ b → None ≡ number_below (2 ^ width) text
     go false t = rw t refl
     go true t =
-        let outer = both _ _ t in
-        let inner = both _ _ outer.0 in
+        let outer = and_parts _ _ t in
+        let inner = and_parts _ _ outer.0 in
         absurd (only text (Err gives.0) gives.1 ((ltb-true _ _ inner.0, digits_from (without_leading_plus text) inner.1), ltb-true _ _ outer.1))
 
 -- the number that is got of the matches is the one that their rows ask for

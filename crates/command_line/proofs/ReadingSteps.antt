@@ -6,8 +6,8 @@ use Rattle.clap.specs.declared.error.Error.{Error}
 use Rattle.clap.proofs.OnLiterals.{clap_on_literals}
 use Rattle.command_line.specs.OptionTable.{program_options}
 use Rattle.command_line.specs.Asking.{ReadsAs, StopsFor, faults_in, matches_in}
-use Rattle.command_line.specs.declared.asked.Stop.{Stop}
-use Rattle.command_line.specs.declared.asked.Stop.TheVariants.{Shown, Usage, Memory}
+use Rattle.command_line.specs.declared.error.Stop.{Stop}
+use Rattle.command_line.specs.declared.error.Stop.TheVariants.{Shown, Usage, Memory}
 
 options_are_simple : is_simple program_options ≡ true
 unfolding clap_on_literals
@@ -18,26 +18,26 @@ unfolding clap_on_literals
 options_are_free = refl
 
 -- the matches of a parse, and its faults, are those of the definition
-pub matched : (a : App) (words : List Text) (m : ArgMatches) → a ≡ program_options → HasMatchesOf a words m → rows_of (found_of m) ≡ matches_in words
+pub matched : (a : App) (arguments : List Text) (m : ArgMatches) → a ≡ program_options → HasMatchesOf a arguments m → rows_of (found_of m) ≡ matches_in arguments
 unfolding matches_in
-matched a words m is has = ((rw is at has) options_are_simple).0
+matched a arguments m is has = ((rw is at has) options_are_simple).0
 
-pub faultless : (a : App) (words : List Text) → a ≡ program_options → (is_simple_and_free a ≡ true → fault_of a words ≡ []) → faults_in words ≡ []
+pub faultless : (a : App) (arguments : List Text) → a ≡ program_options → (is_simple_and_free a ≡ true → fault_of a arguments ≡ []) → faults_in arguments ≡ []
 unfolding faults_in
-faultless a words is has = (rw is at has) options_are_free
+faultless a arguments is has = (rw is at has) options_are_free
 
-pub faulty : (a : App) (words : List Text) (e : Error) → a ≡ program_options → (is_simple_and_free a ≡ true → HasKind (fault_of a words) e) → HasKind (faults_in words) e
+pub faulty : (a : App) (arguments : List Text) (e : Error) → a ≡ program_options → (is_simple_and_free a ≡ true → HasKind (fault_of a arguments) e) → HasKind (faults_in arguments) e
 unfolding faults_in
-faulty a words e is has = (rw is at has) options_are_free
+faulty a arguments e is has = (rw is at has) options_are_free
 
 -- a fault of clap's is shown, told, or want of memory
-pub stopped : (words : List Text) (e : Error) (stop : Stop) → HasKind (faults_in words) e → StopsFor (kind_of e) stop → ReadsAs words (Err stop)
-stopped words e (Shown text) (inl memory) is =
+pub stopped : (arguments : List Text) (e : Error) (stop : Stop) → HasKind (faults_in arguments) e → StopsFor (kind_of e) stop → ReadsAs arguments (Err stop)
+stopped arguments e (Shown text) (inl memory) is =
     absurd (elim (rw memory at is) [
       | inl help ↦ cc
       | inr version ↦ cc
     ])
-stopped words e (Shown text) (inr among) is = (kind_of e, among, is)
-stopped words e (Usage text) (inl memory) is = absurd (is.0 memory)
-stopped words e (Usage text) (inr among) is = (kind_of e, among, is.1)
-stopped words e Memory has is = tt
+stopped arguments e (Shown text) (inr among) is = (kind_of e, among, is)
+stopped arguments e (Usage text) (inl memory) is = absurd (is.0 memory)
+stopped arguments e (Usage text) (inr among) is = (kind_of e, among, is.1)
+stopped arguments e Memory has is = tt

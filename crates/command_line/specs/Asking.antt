@@ -1,4 +1,4 @@
--- What the words of a command line ask for. How words are read as options with values is clap's own definition.
+-- What the arguments of a command line ask for. How arguments are read as options with values is clap's own definition.
 use Rattle.std.specs.Prelude.{◌≡◌, ◌≢◌, ℕ, ◌≤◌, ◌^◌, ◌⊎◌, ◌&&◌, nat_le, nat_lt, List, [], length, map, Option, Some, None, option_map, option_and_then, unwrap_or, codes, if◌then◌else◌, Result, Ok, Err}
 use Rattle.std.specs.List.{list_all}
 use Rattle.std.specs.Char.{digit_value}
@@ -6,20 +6,21 @@ use Rattle.std.specs.Str.Parse.{digits_value, without_leading_plus}
 use Rattle.clap.specs.Words.{Kinds, Row, Text, IsAmong, all_of, fault_of, first_of, matches_of, one_of}
 use Rattle.clap.specs.declared.error.ErrorKind.{ErrorKind}
 use Rattle.clap.specs.declared.error.ErrorKind.TheVariants.{DisplayHelp, DisplayVersion, OutOfMemory}
-use Rattle.command_line.specs.OptionTable.{program_options}
+use Rattle.command_line.specs.OptionTable.{most_workers, most_cut, default_workers, default_cut, program_options}
 use Rattle.command_line.specs.declared.asked.Asked.{Asked}
-use Rattle.command_line.specs.declared.asked.Stop.{Stop}
-use Rattle.command_line.specs.declared.asked.Stop.TheVariants.{Shown, Usage, Memory}
+use Rattle.command_line.specs.declared.error.Stop.{Stop}
+use Rattle.command_line.specs.declared.error.Stop.TheVariants.{Shown, Usage, Memory}
 
 -- the numbers of a plan are in range
 abbrev pub IsInRange : Asked → Type 0
-IsInRange asked = (1 ≤ asked.workers) × (asked.workers ≤ 16) × (1 ≤ asked.cut) × (asked.cut ≤ 2 ^ 20)
+IsInRange asked = (1 ≤ asked.workers) × (asked.workers ≤ most_workers) × (1 ≤ asked.cut) × (asked.cut ≤ most_cut)
 
 -- the number that a text is in decimal, if it is one below a bound
 abbrev pub number_below : ℕ → Text → Option ℕ
 number_below bound text =
     let digits = without_leading_plus text in
-    if nat_lt 0 (length digits) && list_all (λ d. nat_lt (digit_value d) 10) digits && nat_lt (digits_value 10 digits) bound
+    if nat_lt 0 (length digits) && list_all (λ d. nat_lt (digit_value d) 10) digits
+    && nat_lt (digits_value 10 digits) bound
     then Some (digits_value 10 digits) else None
 
 -- a number from 1 to `most`, and else the default
@@ -40,28 +41,28 @@ pub record Asks (rows : List Row) (asked : Asked) : Type 0 where
   pub scenarios : map (λ path. path.now) asked.scenarios.items ≡ values_of (codes "scenario") rows
   pub hosts : map (λ host. host.now) asked.hosts.items ≡ values_of (codes "host") rows
   pub seed : asked.seed ≡ unwrap_or (number_of (2 ^ 64) (codes "seed") rows) 0
-  pub workers : asked.workers ≡ number_to 16 1 (number_of (2 ^ 32) (codes "workers") rows)
-  pub cut : asked.cut ≡ number_to (2 ^ 20) 4096 (number_of (2 ^ 32) (codes "cut") rows)
+  pub workers : asked.workers ≡ number_to most_workers default_workers (number_of (2 ^ 32) (codes "workers") rows)
+  pub cut : asked.cut ≡ number_to most_cut default_cut (number_of (2 ^ 32) (codes "cut") rows)
   pub out : option_map (λ path. path.now) asked.out ≡ first_of (codes "out") rows
 
 -- what a kind of fault asks for: the help or the version
 abbrev pub AsksText : ErrorKind → Type 0
 AsksText kind = (kind ≡ DisplayHelp) ⊎ (kind ≡ DisplayVersion)
 
--- the kinds of fault that words have, and their matches
+-- the kinds of fault that arguments have, and their matches
 unfoldable pub faults_in : List Text → Kinds
-faults_in words = fault_of program_options words
+faults_in arguments = fault_of program_options arguments
 
 unfoldable pub matches_in : List Text → List Row
-matches_in words = matches_of program_options words
+matches_in arguments = matches_of program_options arguments
 
--- How words are read. Words without a fault ask for what their matches do; a text is shown or a fault told where clap's definition has
--- one of that kind; memory may be wanted for any words.
+-- How arguments are read. Arguments without a fault ask for what their matches do; a text is shown or a fault told
+-- where clap's definition has one of that kind; memory may be wanted for any arguments.
 abbrev pub ReadsAs : List Text → Result Asked Stop → Type 0
-ReadsAs words (Ok asked) = IsInRange asked × (faults_in words ≡ []) × Asks (matches_in words) asked
-ReadsAs words (Err (Shown text)) = (kind : ErrorKind) × IsAmong kind (faults_in words) × AsksText kind
-ReadsAs words (Err (Usage text)) = (kind : ErrorKind) × IsAmong kind (faults_in words) × (AsksText kind → ⊥)
-ReadsAs words (Err Memory) = Unit {0}
+ReadsAs arguments (Ok asked) = IsInRange asked × (faults_in arguments ≡ []) × Asks (matches_in arguments) asked
+ReadsAs arguments (Err (Shown text)) = (kind : ErrorKind) × IsAmong kind (faults_in arguments) × AsksText kind
+ReadsAs arguments (Err (Usage text)) = (kind : ErrorKind) × IsAmong kind (faults_in arguments) × (AsksText kind → ⊥)
+ReadsAs arguments (Err Memory) = Unit {0}
 
 -- how a fault of clap's stops a command line
 abbrev pub StopsFor : ErrorKind → Stop → Type 0

@@ -4,6 +4,26 @@ use Rattle.clap.specs.Words.{App, Rule, Text, new_app, new_rule, with_rule}
 use Rattle.clap.specs.declared.builder.ArgAction.TheVariants.{Set, Append}
 use Rattle.clap.specs.declared.builder.ValueParser.TheVariants.{Unsigned}
 
+-- the greatest number of workers, and of records of a range that one worker reads
+abbrev pub most_workers : ℕ
+most_workers = 16
+
+abbrev pub most_cut : ℕ
+most_cut = 2 ^ 20
+
+-- what stands for a number that is not told, and the same as clap takes it
+abbrev pub default_workers : ℕ
+default_workers = 1
+
+abbrev pub default_workers_text : Text
+default_workers_text = codes "1"
+
+abbrev pub default_cut : ℕ
+default_cut = 4096
+
+abbrev pub default_cut_text : Text
+default_cut_text = codes "4096"
+
 -- an option with a value, which may stand once
 abbrev pub option_rule : Text → Rule
 option_rule name = record (new_rule name) { long = Some name; value_names = 1; action = Some Set }
@@ -14,9 +34,10 @@ repeated_rule name = record (option_rule name) { action = Some Append }
 
 -- one whose value is a number between two bounds
 abbrev pub number_rule : Text → ℕ → ℕ → Text → Rule
-number_rule name least most default = record (option_rule name) { parser = Some (Unsigned least most); defaults = default ∷ [] }
+number_rule name least most default =
+    record (option_rule name) { parser = Some (Unsigned least most); defaults = default ∷ [] }
 
--- a command line of the words behind the program's name, with a version
+-- a command line of the arguments after the program's name, with a version
 abbrev pub bare_app : App
 bare_app =
     let bare = new_app (codes "toxicap") in
@@ -24,12 +45,15 @@ bare_app =
 
 abbrev pub path_options : App
 path_options =
-    with_rule (with_rule (with_rule bare_app (option_rule (codes "capture"))) (repeated_rule (codes "scenario"))) (repeated_rule (codes "host"))
+    with_rule (with_rule (with_rule bare_app
+    (option_rule (codes "capture")))
+    (repeated_rule (codes "scenario")))
+    (repeated_rule (codes "host"))
 
 abbrev pub program_options : App
 program_options =
     with_rule (with_rule (with_rule (with_rule path_options
     (number_rule (codes "seed") 0 (2 ^ 64 - 1) (codes "0")))
-    (number_rule (codes "workers") 1 16 (codes "1")))
-    (number_rule (codes "cut") 1 (2 ^ 20) (codes "4096")))
+    (number_rule (codes "workers") 1 most_workers default_workers_text))
+    (number_rule (codes "cut") 1 most_cut default_cut_text))
     (option_rule (codes "out"))

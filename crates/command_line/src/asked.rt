@@ -1,8 +1,14 @@
-//! What a command line asks for, and why it may ask for no run.
-ghost use Rattle.std.specs.Prelude.{◌≡◌};
+//! What the arguments of a command line ask for.
+ghost use Rattle.std.specs.Prelude.{◌≡◌, ◌≤◌, [], map, option_map, unwrap_or, IfOk};
+ghost use Rattle.clap.specs.Words.{found_of, kind_of, rows_of};
+ghost use Rattle.command_line.specs.Asking.{Asks, IsInRange, ReadsAs, StopsFor, number_to};
 
-use std::alloc::{AllocError, AllocFailed};
-use thiserror::Error;
+use crate::error::Stop;
+use crate::options::{DEFAULT_CUT, DEFAULT_WORKERS, MOST_CUT, MOST_WORKERS, program};
+use clap::error::ErrorKind;
+use clap::{ArgMatches, Error};
+use std::alloc::{AllocError, Global};
+use std::convert::AsStr;
 
 /// What a command line asks for.
 #[derive(Debug, Drop)]
@@ -23,36 +29,72 @@ pub struct Asked<'a> {
     pub out: Option<&'a str>,
 }
 
-/// Why a command line asks for no run.
-#[derive(Debug, Drop, Error)]
-pub enum Stop {
-    /// It asks for a text, as `--help` does.
-    #[error("{0}")]
-    Shown(String),
-    /// It has a fault, which the text tells.
-    #[error("{0}")]
-    Usage(String),
-    /// Memory was refused.
-    #[error("out of memory")]
-    Memory,
-}
-
-impl From<AllocError> for Stop {
-    ghost use Rattle.command_line.specs.declared.asked.Stop.TheVariants.{Memory};
-
-    ghost from_gives = { λ _ r. r ≡ Memory };
-
-    fn from(_refused: AllocError) -> Stop {
-        Stop::Memory
+/// Reads the arguments of a command line, which stand after the program's name.
+///
+/// # Errors
+/// [`Stop::Shown`] where the arguments ask for the help or for the version; [`Stop::Usage`] where they have a fault: an unknown
+/// option, an argument that is no option, an option without its value, one that stands twice and may not, a number that is not
+/// valid or out of range; [`Stop::Memory`].
+pub fn read_arguments<'a, S: AsStr>(alloc: Global, arguments: &'a [S]) -> Result<Asked<'a>, Stop>
+    ensures { ReadsAs (map S.text arguments.entry.now) result }
+{
+    match program(alloc)?.try_get_matches_from(arguments) {
+        Ok(matches) => Ok(asked_in(alloc, &matches)?),
+        Err(error) => Err(stop_of(alloc, &error)),
     }
 }
 
-impl<T: Drop> From<AllocFailed<T>> for Stop {
-    ghost use Rattle.command_line.specs.declared.asked.Stop.TheVariants.{Memory};
+// What the arguments ask for, as clap found it.
+fn asked_in<'a>(alloc: Global, matches: &ArgMatches<'a>) -> Result<Asked<'a>, AllocError>
+    ensures range { IfOk result IsInRange }
+    ensures asks { IfOk result (Asks (rows_of (found_of matches.now))) }
+{
+    Ok(Asked {
+        capture: matches.get_str("capture"),
+        scenarios: copy_of(alloc, matches.get_strs("scenario"))?,
+        hosts: copy_of(alloc, matches.get_strs("host"))?,
+        seed: matches.get_one::<u64>("seed").unwrap_or(0),
+        workers: from_one(matches.get_one("workers"), MOST_WORKERS, DEFAULT_WORKERS),
+        cut: from_one(matches.get_one("cut"), MOST_CUT, DEFAULT_CUT),
+        out: matches.get_str("out"),
+    })
+}
 
-    ghost from_gives = { λ _ r. r ≡ Memory };
+// A number from 1 to `most`, or the default. clap has tested the number by then; it is tested again, so that callers
+// can rely on it without a theorem about clap's tests.
+fn from_one(number: Option<u32>, most: u32, default: u32) -> u32
+    requires { (1 ≤ default) × (default ≤ most) }
+    ensures range { (1 ≤ result) × (result ≤ most) }
+    ensures is { result ≡ number_to most default number }
+{
+    match number {
+        Some(number) if 1 <= number && number <= most => number,
+        _ => default,
+    }
+}
 
-    fn from(_refused: AllocFailed<T>) -> Stop {
-        Stop::Memory
+// A copy of the values of an option that may be repeated.
+fn copy_of<'a>(alloc: Global, found: Option<&[&'a str]>) -> Result<Vec<&'a str>, AllocError>
+    ensures { IfOk result (λ copy. map (λ value. value.now) copy.items
+        ≡ unwrap_or (option_map (λ values. map (λ value. value.now) values.now) found.entry) []) }
+{
+    let mut copy = Vec::new(alloc);
+    if let Some(values) = found {
+        copy.extend_from_slice(values)?;
+    }
+    Ok(copy)
+}
+
+// What an answer of clap's is: a text that was asked for, a fault, or want of memory, also for the text.
+fn stop_of(alloc: Global, error: &Error) -> Stop
+    ensures { StopsFor (kind_of error.now) result }
+{
+    if error.kind() == ErrorKind::OutOfMemory {
+        return Stop::Memory;
+    }
+    match error.to_string(alloc) {
+        Ok(text) if error.use_stderr() => Stop::Usage(text),
+        Ok(text) => Stop::Shown(text),
+        Err(_) => Stop::Memory,
     }
 }

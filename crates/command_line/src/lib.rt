@@ -1,12 +1,12 @@
-//! The command line of `toxicap`: its options, what the words behind the program's name ask for, and the texts of `--help`,
-//! `--version` and of a fault.
+//! The command line of `toxicap`: its options, what the arguments after the program's name ask for, and the texts of
+//! `--help`, `--version` and of a fault.
 //!
 //! It stands apart from the crate `toxicap`, so that a check there need not load `clap`.
 #![tactic(auto)]
 
 mod asked;
+mod error;
 mod options;
-mod reading;
 
-pub use asked::{Asked, Stop};
-pub use reading::read_words;
+pub use asked::{Asked, read_arguments};
+pub use error::Stop;

@@ -7,6 +7,22 @@ use clap::builder::ValueParser;
 use clap::{Arg, ArgAction, Command};
 use std::alloc::{AllocError, Global};
 
+/// The greatest number of workers.
+pub(crate) const MOST_WORKERS: u32 = 16;
+
+/// The greatest number of records of a range that one worker reads.
+pub(crate) const MOST_CUT: u32 = 1 << 20;
+
+/// How many workers there are where none are told, and the same as clap takes it.
+pub(crate) const DEFAULT_WORKERS: u32 = 1;
+
+const DEFAULT_WORKERS_TEXT: &str = "1";
+
+/// How many records a range has where no number is told, and the same as clap takes it.
+pub(crate) const DEFAULT_CUT: u32 = 4096;
+
+const DEFAULT_CUT_TEXT: &str = "4096";
+
 const ABOUT: &str = "\
 Replays the TCP sessions of a packet capture through Toxiproxy's toxics. Each
 scenario, a list of proxies with their toxics, is answered with the capture of
@@ -114,7 +130,8 @@ fn number<'a>(
         .default_value(default)
 }
 
-// The program without its options: words behind its name, its version, and what stands around the options in the help.
+// The program without its options: arguments after its name, its version, and what stands around the options in the
+// help.
 fn bare<'a>(alloc: Global) -> Command<'a>
     ensures { app_of result ≡ bare_app }
 {
@@ -142,7 +159,14 @@ pub(crate) fn program<'a>(alloc: Global) -> Result<Command<'a>, AllocError>
 {
     with_inputs(alloc)?
         .arg(number(alloc, "seed", SEED, 0, u64::MAX, "0"))?
-        .arg(number(alloc, "workers", WORKERS, 1, 16, "1"))?
-        .arg(number(alloc, "cut", CUT, 1, 1 << 20, "4096"))?
+        .arg(number(
+            alloc,
+            "workers",
+            WORKERS,
+            1,
+            MOST_WORKERS as u64,
+            DEFAULT_WORKERS_TEXT,
+        ))?
+        .arg(number(alloc, "cut", CUT, 1, MOST_CUT as u64, DEFAULT_CUT_TEXT))?
         .arg(option(alloc, "out", "DIR", OUT))
 }

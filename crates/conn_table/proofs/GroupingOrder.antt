@@ -43,7 +43,7 @@ at_next {s = s} cut = record {
   rising = (omega arith, cut.rising.1);
 }
 
--- behind the next segment
+-- after the next segment
 pub behind_next : {n : ℕ} {all earlier : List IndexedSegment} {s : IndexedSegment} {later : List IndexedSegment} → IsSplitAt n all earlier (s ∷ later) → IsSplitAt (s.index + 1) all (earlier ++ s ∷ []) later
 behind_next {earlier = earlier} {s = s} {later = later} cut = record {
   whole = cut.whole ∙ sym (append_assoc earlier (s ∷ []) later);

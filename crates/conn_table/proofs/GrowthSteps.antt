@@ -23,7 +23,7 @@ number_or (Some c) = c.number
 abbrev here_of : MarkedKept → Option Current
 here_of m = Some (record { number = 0; from_low = is_from_low m.kept })
 
--- no more is known of a pair behind a segment that begins none of its connections
+-- no more is known of a pair after a segment that begins none of its connections
 pub current_of-push_other : (p : Pair) (ms : List MarkedKept) (m : MarkedKept) → (m.begins && same_pair m.kept.pair p) ≡ false → current_of p (ms ++ m ∷ []) ≡ current_of p ms
 current_of-push_other p [] m other = rw other refl
 current_of-push_other p (x ∷ ms) m other = rw (current_of-push_other p ms m other) refl

@@ -14,13 +14,10 @@ use Rattle.conn_table.specs.IndexedSegments.{same_pair}
 use Rattle.conn_table.specs.Partials.{MarkedKept}
 use Rattle.conn_table.specs.Tables.{member_from, conn_with, conns_from, unopened_after}
 use Rattle.conn_table.specs.Listings.{pair_at, segment_of, mark_of, IsListing}
-use Rattle.conn_table.specs.Growing.{grown_at, current_of, HasGrown}
+use Rattle.conn_table.specs.Growing.{grown_at, current_of, marks_to, HasGrown}
 use Rattle.conn_table.proofs.Peers.{same_pair-itself}
 use Rattle.conn_table.proofs.ListingSteps.{pairs_apart}
 use Rattle.conn_table.proofs.GrowthSteps.{count, count-le, length-conns_from, current_of-push_other, current_of-push_same, current_of-count, is_opened-current, conns_from-push_beginning, conns_from-push_unopened, conns_from-push_member, unopened_after-push, unopened-le}
-
-abbrev pub marks_to : Listing → ℕ → List MarkedKept
-marks_to l n = map (mark_of l.pairs.keys) (take n l.entries.items)
 
 -- the entry at a place, whose group has a pair
 pub record IsEntryAt (l : Listing) (n : ℕ) (e : Entry) : Type 0 where

@@ -1,4 +1,4 @@
--- A listing behind another: the groups of its pairs, and its segments one after another.
+-- A listing after another: the groups of its pairs, and its segments one after another.
 use Rattle.std.proofs.Common.{◌≡◌, ◌<◌, ◌≤◌, ℕ, zero, suc, ◌+◌, List, [], ◌∷◌, ◌++◌, length, map, take, drop, get_or, slice_get, Option, Some, refl, sym, ap, subst, ◌∙◌, arith}
 use Rattle.std.proofs.lemmas.List.{length-map, append_assoc, append-nil, map_push, drop_more, drop_all, take_more}
 use Rattle.std.proofs.lemmas.Option.{slice_get_within, get_or_from_slice_get}

@@ -1,7 +1,7 @@
 pub mod Peers
 pub mod GroupingFilters
 mod GroupingOrder
-pub mod GroupingPairs
+mod GroupingPairs
 mod GroupingBeginnings
 mod GroupingMembers
 mod GroupingUnopened

@@ -108,7 +108,7 @@ counts-few c from to carry k ordered within =
     let len = length-packets_between c from to carry ordered (omega (arith, length-packets c)) in
     omega (arith, count_at-le-length k (packets_between c from to carry), len)
 
--- the segments behind one record more: there is one more where the packet is a segment
+-- the segments after one record more: there is one more where the packet is a segment
 abbrev pub segment_list : Bool → IndexedSegment → List IndexedSegment
 segment_list is s = cond is (s ∷ []) []
 

@@ -13,7 +13,7 @@ use Rattle.conn_table.proofs.GroupingForms.{groupings_agree}
 
 -- ---- segments
 
-abbrev pub HasTwoPeers : IndexedSegment → Type 0
+abbrev HasTwoPeers : IndexedSegment → Type 0
 HasTwoPeers s = same_peer s.timed.fields.from s.timed.fields.to ≡ false
 
 segments_have : (n : ℕ) (ts : List ℕ) (ps : List Packet) → AllByRecursion HasTwoPeers (filter_map indexed_segment (enumerate_from n (map seen_packet (zip ts ps))))

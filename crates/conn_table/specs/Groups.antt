@@ -1,4 +1,5 @@
--- A partial read by pairs: for each pair of its range, in the order of its first segment, its segments split before each beginning.
+-- A partial read by pairs: for each pair of its range, in the order of its first segment, its segments split before each
+-- beginning.
 use Rattle.std.specs.Prelude.{◌≡◌, ℕ, List, [], ◌∷◌, map, filter, not, if◌then◌else◌}
 use Rattle.pcap_records.specs.CaptureView.{CaptureView}
 use Rattle.frame_headers.specs.declared.peers.Peer.{Peer}
@@ -27,7 +28,7 @@ runs_of (m ∷ ms) = if m.begins then [] ∷ before_first_run m.kept (runs_of ms
 abbrev pub groups_of : List MarkedKept → List (Pair × List (List KeptSegment))
 groups_of marked = map (λ p. (p, runs_of (filter (λ m. same_pair m.kept.pair p) marked))) (pairs_of marked)
 
--- ---- what it has to do with the filters
+-- ---- by the filters
 
 -- segments, each with the mark whether the filters of them all say that it begins a connection
 abbrev pub marked_by_filters : (IndexedSegment → KeptSegment) → List IndexedSegment → List MarkedKept
@@ -37,7 +38,8 @@ marked_by_filters kept segs = map (λ s. record { begins = begins segs s; kept =
 abbrev pub GroupsAgree : Type 0
 GroupsAgree =
     (c : CaptureView) (from to carry : ℕ)
-    → groups_of (partial_in c from to carry).marked ≡ groups_of (marked_by_filters (kept_in c) (segments_between c from to carry))
+    → groups_of (partial_in c from to carry).marked
+    ≡ groups_of (marked_by_filters (kept_in c) (segments_between c from to carry))
 
 -- ---- a worked row
 
@@ -59,7 +61,8 @@ second_client = record { addr = 0x0a000003; port = 40001 }
 abbrev pub server : Peer
 server = record { addr = 0x0a000002; port = 80 }
 
--- a segment before each opening of its pair, another pair's opening, an opening, the same sent again, and one with another number
+-- a segment before each opening of its pair, another pair's opening, an opening, the same sent again, and one with another
+-- number
 abbrev pub row : List IndexedSegment
 row =
     row_segment 0 server client 16 7000 ∷ row_segment 1 second_client server 2 2000 ∷ row_segment 2 client server 2 1000

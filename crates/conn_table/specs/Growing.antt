@@ -21,17 +21,25 @@ grown_at (suc n) x (c ∷ cs) = c ∷ grown_at n x cs
 -- a place further on where one more connection stands before it, or this place where there is none
 abbrev pub further : Option Current → Bool → Option Current → Option Current
 further None begins here = here
-further (Some c) begins here = Some (record { number = if begins then suc c.number else c.number; from_low = c.from_low })
+further (Some c) begins here =
+    Some (record { number = if begins then suc c.number else c.number; from_low = c.from_low })
 
 -- the last connection of a pair among those that some marked segments begin
 abbrev pub current_of : Pair → List MarkedKept → Option Current
 current_of p [] = None
 current_of p (m ∷ ms) =
-    further (current_of p ms) m.begins (if m.begins && same_pair m.kept.pair p then Some (record { number = 0; from_low = is_from_low m.kept }) else None)
+    further (current_of p ms) m.begins
+    (if m.begins && same_pair m.kept.pair p then Some (record { number = 0; from_low = is_from_low m.kept }) else None)
 
--- what has grown of a listing's first segments: the connections, for each group its last one, and how many segments are unopened
+-- the marks of a listing's first n segments
+abbrev pub marks_to : Listing → ℕ → List MarkedKept
+marks_to l n = map (mark_of l.pairs.keys) (take n l.entries.items)
+
+-- what has grown of a listing's first segments: the connections, for each group its last one, and how many segments are
+-- unopened
 pub record HasGrown (listing : Listing) (n : ℕ) (g : Growth) : Type 0 where
-  pub conns : g.conns.items ≡ conns_from 0 (map (mark_of listing.pairs.keys) (take n listing.entries.items))
-  pub unopened : g.unopened ≡ unopened_after [] (map (mark_of listing.pairs.keys) (take n listing.entries.items))
+  pub conns : g.conns.items ≡ conns_from 0 (marks_to listing n)
+  pub unopened : g.unopened ≡ unopened_after [] (marks_to listing n)
   pub each : length g.current.items ≡ length listing.pairs.keys
-  pub current : (q : ℕ) → q < length listing.pairs.keys → slice_get g.current.items q ≡ Some (current_of (pair_at listing.pairs.keys q) (map (mark_of listing.pairs.keys) (take n listing.entries.items)))
+  pub current : (q : ℕ) → q < length listing.pairs.keys
+      → slice_get g.current.items q ≡ Some (current_of (pair_at listing.pairs.keys q) (marks_to listing n))

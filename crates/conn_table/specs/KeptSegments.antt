@@ -22,18 +22,18 @@ is_from_low k = k.member.from_client
 
 -- ---- in a capture
 
--- the place of the packet of record i, and its bytes
+-- where the packet of record i begins in the file, and its bytes
 abbrev pub packet_start : CaptureView → ℕ → ℕ
 packet_start c i = option_map_or (λ r. r.start) (slice_get c.records i) 0
 
 abbrev pub frame_at : CaptureView → ℕ → List ℕ
 frame_at c i = unwrap_or (packet_at c i) []
 
--- the place in the file of the payload of record i's segment
+-- where the payload of record i's segment begins in the file
 abbrev pub payload_start : CaptureView → ℕ → ℕ
 payload_start c i = packet_start c i + payload_offset (frame_at c i)
 
--- what is kept of a segment whose payload begins at a place of the file
+-- what is kept of a segment whose payload begins there
 abbrev pub kept_at : ℕ → IndexedSegment → KeptSegment
 kept_at start s = record {
   pair = pair_of_segment s;
@@ -60,7 +60,8 @@ kept_in c s = kept_at (payload_start c s.index) s
 
 -- SYN, and neither ACK nor RST
 abbrev pub opens : KeptSegment → Bool
-opens k = has_flag k.member.flags syn_flag && not (has_flag k.member.flags ack_flag) && not (has_flag k.member.flags rst_flag)
+opens k =
+    has_flag k.member.flags syn_flag && not (has_flag k.member.flags ack_flag) && not (has_flag k.member.flags rst_flag)
 
 -- what a repeated opening has in common with the one before: its sender and its sequence number
 abbrev pub opening_of : KeptSegment → Opening

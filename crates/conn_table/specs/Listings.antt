@@ -21,7 +21,7 @@ pair_at pairs g = get_or pairs g nowhere
 abbrev pub segment_with : Pair → Entry → KeptSegment
 segment_with p e = record { pair = p; member = e.member }
 
--- the same, where its group's pair is the one at its place
+-- the same, where its pair is that of its group's number
 abbrev pub segment_of : List Pair → Entry → KeptSegment
 segment_of pairs e = segment_with (pair_at pairs e.group) e
 
@@ -36,7 +36,8 @@ pub record IsListing (l : Listing) : Type 0 where
   pub groups : All (λ e. e.group < length l.pairs.keys) l.entries.items
   pub apart : IsUnique same_pair l.pairs
   pub each : length l.lasts.items ≡ length l.pairs.keys
-  pub last : (g : ℕ) → g < length l.pairs.keys → slice_get l.lasts.items g ≡ Some (last_opening (kept_of (marks_of l)) (pair_at l.pairs.keys g))
+  pub last : (g : ℕ) → g < length l.pairs.keys
+      → slice_get l.lasts.items g ≡ Some (last_opening (kept_of (marks_of l)) (pair_at l.pairs.keys g))
 
 -- the groups are those of the pairs, one by one
 abbrev pub AreGroupsOf : List Pair → List ℕ → List Pair → Type 0

@@ -71,16 +71,16 @@ counts_sum a b = record {
 abbrev pub kept_of : List MarkedKept → List KeptSegment
 kept_of marked = map (λ m. m.kept) marked
 
--- a kept segment with the mark whether it begins a connection behind those that stand earlier
+-- a kept segment with the mark whether it begins a connection after those that stand earlier
 abbrev pub mark_behind : List KeptSegment → KeptSegment → MarkedKept
 mark_behind earlier k = record { begins = begins_behind earlier k; kept = k }
 
--- kept segments, marked anew behind those that stand earlier
+-- kept segments, marked anew after those that stand earlier
 unfoldable pub marked_behind : List KeptSegment → List KeptSegment → List MarkedKept
 marked_behind earlier [] = []
 marked_behind earlier (k ∷ ks) = mark_behind earlier k ∷ marked_behind (earlier ++ k ∷ []) ks
 
--- the right's segments behind the left's, marked as they begin connections there
+-- the right's segments after the left's, marked as they begin connections there
 unfoldable pub joined : PartialView → PartialView → PartialView
 joined left right = record {
   from = left.from;

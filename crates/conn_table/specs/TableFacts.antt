@@ -12,10 +12,11 @@ use Rattle.conn_table.specs.Tables.{table_in}
 use Rattle.conn_table.specs.declared.conns.Member.{Member}
 use Rattle.conn_table.specs.declared.conns.Conn.{Conn}
 
--- a segment's payload lies in the file, at its place
+-- a segment's payload lies in the file where it is kept to begin
 pub record IsPlaced (c : CaptureView) (s : IndexedSegment) : Type 0 where
   pub within : payload_start c s.index + length s.timed.fields.payload ≤ length c.bytes
-  pub bytes : slice_range c.bytes (payload_start c s.index) (payload_start c s.index + length s.timed.fields.payload) ≡ s.timed.fields.payload
+  pub bytes : slice_range c.bytes (payload_start c s.index) (payload_start c s.index + length s.timed.fields.payload)
+      ≡ s.timed.fields.payload
 
 abbrev pub PayloadsArePlaced : Type 0
 PayloadsArePlaced =
@@ -49,4 +50,5 @@ pub record HasSides (c : Connection) : Type 0 where
   pub later : AllByRecursion (HasSide c) c.later
 
 abbrev pub MembersHaveSides : Type 0
-MembersHaveSides = (n carry : ℕ) (packets : List Packet) → AllByRecursion HasSides (connections (indexed_segments n (seen_packets carry packets)))
+MembersHaveSides =
+    (n carry : ℕ) (packets : List Packet) → AllByRecursion HasSides (connections (indexed_segments n (seen_packets carry packets)))

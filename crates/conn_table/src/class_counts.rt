@@ -10,7 +10,7 @@ pub struct Counts {
     pub short: u32,
     /// Frames of another type than IPv4's.
     pub not_ipv4: u32,
-    /// Frames whose IPv4 header is none.
+    /// Frames with an IPv4 header that is not valid.
     pub bad_ipv4: u32,
     /// Fragments of datagrams.
     pub fragment: u32,
@@ -18,7 +18,7 @@ pub struct Counts {
     pub not_tcp: u32,
     /// Datagrams of which the file holds only a part.
     pub cut: u32,
-    /// Datagrams whose TCP header is none.
+    /// Datagrams with a TCP header that is not valid.
     pub bad_tcp: u32,
     /// Segments from a peer to itself.
     pub same_ends: u32,

@@ -34,7 +34,7 @@ pub struct Member {
     pub index: u32,
     /// The sequence number.
     pub seq: u32,
-    /// The place in the file of the payload's first byte.
+    /// Where the payload begins in the file.
     pub start: u32,
     /// How many bytes the payload has.
     pub len: u16,

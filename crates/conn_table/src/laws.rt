@@ -40,7 +40,7 @@ pub fn tables_agree()
     ensures { TablesAgree }
 {}
 
-/// The payload of each segment lies in the file at the place that is kept of it, and the bytes there are its payload.
+/// The payload of each segment lies in the file where its member says, and the bytes there are its payload.
 pub fn payloads_are_placed()
     ensures { PayloadsArePlaced }
 {

@@ -29,7 +29,7 @@ impl Opening {
 pub(crate) struct Entry {
     /// The member that it is where its pair's lower peer is the client.
     pub(crate) member: Member,
-    /// The place of its pair in the listing.
+    /// The number of its pair, in the order of the pairs' first segments.
     pub(crate) group: u32,
     /// Whether it begins a connection.
     pub(crate) begins: bool,
@@ -113,11 +113,11 @@ impl Listing {
         ensures kept { OnOk result ((g : ℕ) (p : Pair)
             → slice_get self.old.pairs.keys g ≡ Some p → slice_get self.new.pairs.keys g ≡ Some p) }
     {
-        let (place, is_new) = self.pairs.insert_full(pair)?;
+        let (group, is_new) = self.pairs.insert_full(pair)?;
         if is_new {
             self.lasts.push(None)?;
         }
-        Ok(place as u32)
+        Ok(group as u32)
     }
 
     // Lists one segment more, with the mark whether it begins a connection.
@@ -128,7 +128,8 @@ impl Listing {
         ensures pairs { OnOk result (self.new.pairs ≡ self.old.pairs) }
         ensures len { OnOk result (length self.new.entries.items ≡ length self.old.entries.items + 1) }
         ensures marks { OnOk result (marks_of self.new
-            ≡ marks_of self.old ++ mark_behind (kept_of (marks_of self.old)) (segment_of self.old.pairs.keys entry) ∷ []) }
+            ≡ marks_of self.old
+            ++ mark_behind (kept_of (marks_of self.old)) (segment_of self.old.pairs.keys entry) ∷ []) }
     {
         let begins = self.takes_opening(&entry);
         self.entries.push(Entry { begins, ..entry })?;
@@ -139,7 +140,8 @@ impl Listing {
     fn takes_opening(&mut self, entry: &Entry) -> bool
         requires listing { IsListing self.old }
         requires group { entry.now.group < length self.old.pairs.keys }
-        ensures begins { result ≡ begins_behind (kept_of (marks_of self.old)) (segment_of self.old.pairs.keys entry.now) }
+        ensures begins { result
+            ≡ begins_behind (kept_of (marks_of self.old)) (segment_of self.old.pairs.keys entry.now) }
         ensures pairs { self.new.pairs ≡ self.old.pairs }
         ensures entries { self.new.entries.items ≡ self.old.entries.items }
         ensures lasts { self.new.lasts.items
@@ -195,8 +197,10 @@ impl Listing {
         requires next { IsListing next.now }
         requires few { length self.old.pairs.keys + length next.now.pairs.keys < 2 ^ 31 }
         ensures listing { OnOk result (IsListing self.new) }
-        ensures len { OnOk result (length self.new.entries.items ≡ length self.old.entries.items + length next.now.entries.items) }
-        ensures grown { OnOk result (length self.new.pairs.keys ≤ length self.old.pairs.keys + length next.now.pairs.keys) }
+        ensures len { OnOk result (length self.new.entries.items
+            ≡ length self.old.entries.items + length next.now.entries.items) }
+        ensures grown { OnOk result (length self.new.pairs.keys
+            ≤ length self.old.pairs.keys + length next.now.pairs.keys) }
         ensures marks { OnOk result (marks_of self.new
             ≡ marks_of self.old ++ marked_behind (kept_of (marks_of self.old)) (kept_of (marks_of next.now))) }
     {

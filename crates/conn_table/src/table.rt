@@ -115,8 +115,8 @@ impl Growth {
         })
     }
 
-    // Takes the segment at place `at`, where those before it have been taken. A connection that it begins gets room for so many
-    // members.
+    // Takes the segment that the listing has at `at`, where those before it have been taken. A connection that it begins gets room
+    // for so many members.
     pub(crate) fn take(
         &mut self,
         alloc: Global,
@@ -161,7 +161,8 @@ impl Growth {
         ensures conns { OnOk result (self.new.conns.items
             ≡ self.old.conns.items ++ conn_with (length self.old.conns.items) (segment_with pair entry.now) [] ∷ []) }
         ensures current { OnOk result (self.new.current.items
-            ≡ set self.old.current.items entry.now.group (Some (record { number = length self.old.conns.items; from_low = entry.now.member.from_client }))) }
+            ≡ set self.old.current.items entry.now.group
+            (Some (record { number = length self.old.conns.items; from_low = entry.now.member.from_client }))) }
         ensures unopened { OnOk result (self.new.unopened ≡ self.old.unopened) }
     {
         let number = self.conns.len() as u32;
@@ -199,8 +200,8 @@ pub(crate) fn rooms_of(alloc: Global, listing: &Listing) -> Result<Vec<u32>, All
         if entry.begins {
             current[group] = Some(rooms.len());
             rooms.push(1)?;
-        } else if let Some(place) = current[group]
-            && let Some(room) = rooms.get_mut(place)
+        } else if let Some(number) = current[group]
+            && let Some(room) = rooms.get_mut(number)
         {
             *room = room.saturating_add(1);
         }

@@ -6,7 +6,7 @@ ghost use Rattle.toxic_defs.specs.DeliveredLines.{met_view};
 ghost use Rattle.toxic_defs.specs.Limits.{most_toxics};
 ghost use Rattle.conn_workers.specs.CaptureTables.{whole_table};
 ghost use Rattle.conn_workers.specs.DeliveryRows.{scenario_limit};
-ghost use Rattle.conn_workers.specs.MetProxies.{met_proxy};
+ghost use Rattle.conn_workers.specs.MetProxies.{met_of, met_proxy};
 ghost use Rattle.conn_workers.specs.Recordings.{recorded_delivery};
 
 use crate::deliveries::Delivery;
@@ -17,7 +17,7 @@ use pcap_records::Capture;
 use reassembly::laws::{connections_are_of_capture, conns_are_of_capture};
 use reassembly::{Recorded, lines};
 use report::line;
-use scenarios::Scenario;
+use scenarios::{Proxy, Scenario};
 use segment_writer::segments;
 use std::alloc::{AllocError, Global};
 use std::marker::Model;
@@ -101,6 +101,7 @@ impl<'w, 'v, 'a> Work for ContributionJobs<'w, 'v, 'a> {
     ghost meaning = { λ w job.
         get_or (recorded_deliveries microseconds w.seed w.recordings.now w.scenarios.now) job no_delivery };
 
+    #[tactic(auto, using(crate::proofs::DeliverySteps::job_is))]
     fn value(&self, job: u64) -> Result<Delivery, AllocError> {
         let count = self.recordings.len() as u64;
         let number = job / count;
@@ -134,6 +135,20 @@ fn delivery(
     })
 }
 
+// What a connection meets of a proxy with its number.
+fn met_of(number: u32, proxy: &Proxy) -> MetProxy<'_>
+    ensures met { met_view result ≡ met_of (number, proxy.now) }
+    ensures up { result.up.now ≡ proxy.now.up }
+    ensures down { result.down.now ≡ proxy.now.down }
+{
+    MetProxy {
+        number,
+        enabled: proxy.enabled,
+        up: proxy.up.as_slice(),
+        down: proxy.down.as_slice(),
+    }
+}
+
 // The proxy of a scenario that a connection to a server meets: the first that stands before it.
 fn met_proxy(scenario: &Scenario, server: Peer) -> Option<MetProxy<'_>>
     ensures met { option_map met_view result ≡ met_proxy server scenario.now }
@@ -141,11 +156,5 @@ fn met_proxy(scenario: &Scenario, server: Peer) -> Option<MetProxy<'_>>
     ensures few_down { IfSome result (λ m. length m.down.now ≤ most_toxics) }
 {
     let number = scenario.proxy_of(server)?;
-    let proxy = &scenario.proxies()[number as usize];
-    Some(MetProxy {
-        number,
-        enabled: proxy.enabled,
-        up: proxy.up.as_slice(),
-        down: proxy.down.as_slice(),
-    })
+    Some(met_of(number, &scenario.proxies()[number as usize]))
 }

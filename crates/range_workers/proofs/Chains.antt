@@ -1,14 +1,11 @@
 -- Ranges that follow one another, and the join of their partials.
-use Rattle.std.proofs.Common.{◌≡◌, ◌<◌, ◌≤◌, ℕ, ◌+◌, ◌-◌, max, List, [], ◌∷◌, ◌++◌, map, length, get_or, take, drop, refl, sym, ap, ◌∙◌, subst, arith}
+use Rattle.std.proofs.Common.{◌≡◌, ◌<◌, ◌≤◌, ℕ, ◌+◌, List, [], ◌∷◌, ◌++◌, map, length, get_or, refl, sym, ap, ◌∙◌, subst, arith}
 use Rattle.std.specs.List.{range_with_len}
-use Rattle.std.proofs.Math.Seq.{take-add}
-use Rattle.std.proofs.lemmas.List.{map-append, append_assoc, length-map}
+use Rattle.std.proofs.lemmas.List.{append_assoc, length-map}
 use Rattle.std.proofs.lemmas.List.Elements.{All-nil, All-cons}
-use Rattle.pcap_records.specs.Instants.{greatest}
-use Rattle.pcap_records.specs.Reading.{Packet}
-use Rattle.pcap_records.specs.CaptureView.{CaptureView, contents_of, stamps_between}
+use Rattle.pcap_records.specs.CaptureView.{CaptureView}
 use Rattle.pcap_records.proofs.Lists.{listed}
-use Rattle.conn_table.specs.Partials.{partial_in, carried, JoinsAgree}
+use Rattle.conn_table.specs.Partials.{partial_in, JoinsAgree}
 use Rattle.range_workers.specs.declared.ranges.Range.{Range}
 use Rattle.range_workers.specs.Ranges.{range_in, AreRanges, IsWithin, AreWithin}
 use Rattle.range_workers.specs.RangePartials.{partial_of, partials_of, no_partial, AreAdjacentFrom, AreAdjacent, joined_to, joined_all}
@@ -27,7 +24,7 @@ range_before : (c : CaptureView) (cut from : ℕ) (r : Range) (rs : List Range)
 range_before c cut from r [] is within none = absurd none
 range_before c cut from r (s ∷ rs) is within rest = (is, within, rest)
 
--- Where ranges stand that any ranges from a record on complete, one more stands and any from the record behind it complete them.
+-- Where ranges stand that any ranges from a record on complete, one more stands and any from the record after it complete them.
 pub one_more : (c : CaptureView) (cut from to : ℕ) (rs more : List Range) (r : Range)
     → ((rest : List Range) → AreRanges c cut from rest → AreRanges c cut 0 (rs ++ rest))
     → r ≡ range_in c from to → to ≡ from + cut → to < length c.records → more ≡ rs ++ r ∷ []

@@ -6,7 +6,7 @@ use Rattle.pcap_records.specs.Instants.{greatest}
 use Rattle.conn_table.specs.IndexedSegments.{TimedSegment, same_peer}
 use Rattle.reassembly.specs.Positions.{effective_members, is_reset, covers, bearer, is_covered, arrival_at, available_at, reach, first_gap}
 use Rattle.reassembly.specs.RecordedLines.{End, fin, fin_segment, fin_position, line_length, byte_at, end_at, reset_or_live, sent_by, side_of, recorded_side, is_counted_fin}
-use Rattle.reassembly.proofs.MappedLists.{all_found, all_weaker, all_filter, all_take_while}
+use Rattle.pcap_records.proofs.Lists.{all_found, all_weaker, all_filter, all_take_while}
 use Rattle.reassembly.proofs.Chunks.{all_mapped, available-le, length_before-le}
 use Rattle.reassembly.specs.LineLaws.{IsNotBefore, IsBetween, LiesBetween, RecordedSidesLieBetween}
 

@@ -16,7 +16,7 @@ use Rattle.reassembly.specs.MemberSpans.{segment_span}
 use Rattle.reassembly.specs.LineLaws.{GoesOn, IsInChunks, last_instant, IsNotBefore, IsLine, InstantsRise, HasShortPayload, RecordedSidesAreLines}
 use Rattle.reassembly.proofs.Walks.{latest_below-more}
 use Rattle.reassembly.proofs.Joining.{available_is}
-use Rattle.reassembly.proofs.MappedLists.{all_found, all_filter, all_take_while}
+use Rattle.pcap_records.proofs.Lists.{all_found, all_filter, all_take_while}
 
 -- ---- instants
 

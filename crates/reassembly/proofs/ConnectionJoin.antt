@@ -21,7 +21,8 @@ use Rattle.reassembly.specs.MemberSpans.{IsInFile, span_at, member_span, member_
 use Rattle.reassembly.specs.SideLines.{fin_of, segment_fin, IsSideOf}
 use Rattle.reassembly.specs.RecordedView.{IsRecorded, IsConnectionOf, IsOfMembers, reset_end, other_end}
 use Rattle.std.proofs.lemmas.Simd.{map-map}
-use Rattle.reassembly.proofs.MappedLists.{take_while-map, filter-map, find-map, map_same, filter_same, find_same, all_weaker, and_both, all_map, all_filter, all_take_while}
+use Rattle.pcap_records.proofs.Lists.{all_weaker, all_map, all_filter, all_take_while}
+use Rattle.reassembly.proofs.MappedLists.{take_while-map, filter-map, find-map, map_same, filter_same, find_same, and_both}
 use Rattle.reassembly.proofs.RecordedSegments.{IsHeard, heard}
 
 abbrev segments : IndexedConnection → List IndexedSegment

@@ -6,7 +6,7 @@ use Rattle.std.proofs.lemmas.Bool.{cases_lt, false≢true}
 use Rattle.std.proofs.lemmas.List.Sums.{sum_by-cons, sum_by-append}
 use Rattle.reassembly.specs.Spans.{Span, TimedByte, limit, end_of, first_byte, AreOrdered}
 use Rattle.reassembly.specs.SideLines.{IsFront, len_of}
-use Rattle.reassembly.proofs.SpanBytes.{inner_byte, byte_in-past, byte_in-within, first_byte-before, first_byte-past, AreOrdered-bounds, AreOrdered-down, AreOrdered-up}
+use Rattle.reassembly.proofs.SpanBytes.{inner_byte, byte_in-past, byte_in-within, first_byte-before, first_byte-past, AreOrdered-bounds, AreOrdered-down, ordered_up}
 use Rattle.reassembly.proofs.Walks.{range_append}
 
 -- ---- the sum of the lengths
@@ -124,7 +124,7 @@ front_within ps stop n o f = within_by ps limit stop n o f
         let h : n ≤ high = below ps high n o f.covered in
         let all : n + (high - n) ≡ high = omega arith in
         let zero_to : 0 + high ≡ high = omega arith in
-        let is = count_is (first_byte ps) ps 0 high (AreOrdered-up 0 ps high (0 + high) o (omega arith)) (λ x a. refl) in
+        let is = count_is (first_byte ps) ps 0 high (ordered_up 0 ps high (0 + high) o (omega arith)) (λ x a. refl) in
         let split = count_split (covered (first_byte ps)) 0 n (high - n) in
         let is' = rw (← all) at is in
         omega (arith, is', split, count_all (covered (first_byte ps)) 0 n (λ x a b. f.covered x (omega arith)))

@@ -3,7 +3,7 @@ use Rattle.std.proofs.Common.{◌≡◌, ℕ, zero, suc, List, [], ◌∷◌, ta
 use Rattle.std.specs.Option.{option_or}
 use Rattle.reassembly.specs.declared.patches.Patch.{Patch}
 use Rattle.reassembly.specs.Spans.{span_of, spans, byte_in, first_byte, layered_byte, AreNear}
-use Rattle.reassembly.proofs.SpanBytes.{or-assoc}
+use Rattle.pcap_records.proofs.Lists.{option_or-assoc}
 
 pub near_take : (n : ℕ) (ps : List Patch) → AreNear (spans ps) → AreNear (spans (take n ps))
 near_take zero ps near = tt
@@ -19,7 +19,7 @@ pub first_byte-halves : (n : ℕ) (ps : List Patch) (x : ℕ) → layered_byte (
 first_byte-halves zero ps x = refl
 first_byte-halves (suc n) [] x = refl
 first_byte-halves (suc n) (p ∷ ps) x =
-    or-assoc (byte_in (span_of p) x) (first_byte (spans (take n ps)) x) (first_byte (spans (drop n ps)) x) ∙ ap (λ o. option_or (byte_in (span_of p) x) o) (first_byte-halves n ps x)
+    option_or-assoc (byte_in (span_of p) x) (first_byte (spans (take n ps)) x) (first_byte (spans (drop n ps)) x) ∙ ap (λ o. option_or (byte_in (span_of p) x) o) (first_byte-halves n ps x)
 
 -- two parts that were gathered, laid over one another
 pub gathered_same : (ps earlier later left right upper lower : List Patch) (n : ℕ) → earlier ≡ take n ps → later ≡ drop n ps

@@ -14,7 +14,7 @@ use Rattle.reassembly.specs.RecordedLines.{LineByte, End, RecordedSide, fin_segm
 use Rattle.reassembly.specs.Spans.{Span, TimedByte, limit, byte_in, first_byte, AreOrdered}
 use Rattle.reassembly.specs.SideLines.{value_of, instant_of, latest_below, line_byte, line_bytes, IsFront, stop_of, end_by, len_of, side_by, segment_fin}
 use Rattle.reassembly.specs.MemberSpans.{span_at, segment_span}
-use Rattle.reassembly.proofs.SpanBytes.{byte_in-before, byte_in-past, byte_in-within, first_byte-past, AreOrdered-up}
+use Rattle.reassembly.proofs.SpanBytes.{byte_in-before, byte_in-past, byte_in-within, first_byte-past, ordered_up}
 use Rattle.reassembly.proofs.Walks.{latest_below-more, latest_below-none}
 use Rattle.reassembly.proofs.Counting.{covered, count_is, count_all, count_split, ordered_to}
 
@@ -182,7 +182,7 @@ lost_is base ms ps n o e all =
     let end : ℕ = reach base ms in
     let within : n ≤ end = passes (covered g) end n (is_below_reach base ms) all in
     let to_end : AreOrdered 0 ps end = ordered_to ps 0 limit end o (omega arith) (λ x a. e x ∙ within_reach base ms x a) in
-    let whole = count_is g ps 0 end (AreOrdered-up 0 ps end (0 + end) to_end (omega arith)) (λ x a. sym (e x)) in
+    let whole = count_is g ps 0 end (ordered_up 0 ps end (0 + end) to_end (omega arith)) (λ x a. sym (e x)) in
     let sum_is : n + (end - n) ≡ end = omega arith in
     let whole' = rw (← sum_is) at whole in
     let split = count_split (covered g) 0 n (end - n) in

@@ -10,7 +10,7 @@ use Rattle.reassembly.specs.Positions.{members_of, client_of, server_of, client_
 use Rattle.reassembly.specs.RecordedLines.{RecordedConnection, recorded_connection}
 use Rattle.reassembly.specs.LineLaws.{HasShortPayload, IsLine}
 use Rattle.reassembly.specs.RecordedView.{IsConnectionOf}
-use Rattle.reassembly.proofs.MappedLists.{all_weaker, all_map}
+use Rattle.pcap_records.proofs.Lists.{all_weaker, all_map}
 use Rattle.reassembly.proofs.RecordedSegments.{IsHeard}
 use Rattle.reassembly.proofs.ConnectionJoin.{all_heard}
 use Rattle.reassembly.proofs.Chunks.{recorded_sides_are_lines}

@@ -37,30 +37,6 @@ pub filter_same : {A : Type 0} (p q : A → Bool) (xs : List A) → AllByRecursi
 filter_same p q [] all = refl
 filter_same p q (x ∷ xs) all = ap (λ b. cond b (x ∷ filter p xs) (filter p xs)) all.0 ∙ ap (λ l. cond (q x) (x ∷ l) l) (filter_same p q xs all.1)
 
-pub all_weaker : {A : Type 0} (P Q : A → Type 0) → ((x : A) → P x → Q x) → (xs : List A) → AllByRecursion P xs → AllByRecursion Q xs
-all_weaker P Q f [] all = tt
-all_weaker P Q f (x ∷ xs) all = (f x all.0, all_weaker P Q f xs all.1)
-
-pub all_map : {A B : Type 0} (P : B → Type 0) (f : A → B) (xs : List A) → AllByRecursion (λ x. P (f x)) xs → AllByRecursion P (map f xs)
-all_map P f [] all = tt
-all_map P f (x ∷ xs) all = (all.0, all_map P f xs all.1)
-
-pub all_filter : {A : Type 0} (P : A → Type 0) (p : A → Bool) (xs : List A) → AllByRecursion P xs → AllByRecursion P (filter p xs)
-all_filter P p [] all = tt
-all_filter {A} P p (x ∷ xs) all = step (p x) (filter p xs) (all_filter P p xs all.1)
-  where
-    step : (b : Bool) (ys : List A) → AllByRecursion P ys → AllByRecursion P (cond b (x ∷ ys) ys)
-    step true ys rest = (all.0, rest)
-    step false ys rest = rest
-
-pub all_take_while : {A : Type 0} (P : A → Type 0) (p : A → Bool) (xs : List A) → AllByRecursion P xs → AllByRecursion P (take_while p xs)
-all_take_while P p [] all = tt
-all_take_while {A} P p (x ∷ xs) all = rw (take_while-cons p x xs) (step (p x) (take_while p xs) (all_take_while P p xs all.1))
-  where
-    step : (b : Bool) (ys : List A) → AllByRecursion P ys → AllByRecursion P (cond b (x ∷ ys) [])
-    step true ys rest = (all.0, rest)
-    step false ys rest = tt
-
 pub find_same : {A : Type 0} (p q : A → Bool) (xs : List A) → AllByRecursion (λ x. p x ≡ q x) xs → find p xs ≡ find q xs
 find_same p q [] all = refl
 find_same p q (x ∷ xs) all = ap (λ b. cond b (Some x) (find p xs)) all.0 ∙ ap (λ o. cond (q x) (Some x) o) (find_same p q xs all.1)
@@ -68,11 +44,3 @@ find_same p q (x ∷ xs) all = ap (λ b. cond b (Some x) (find p xs)) all.0 ∙ 
 pub and_both : {A : Type 0} (P Q R : A → Type 0) → ((a : A) → P a → Q a → R a) → (xs : List A) → AllByRecursion P xs → AllByRecursion Q xs → AllByRecursion R xs
 and_both P Q R f [] p q = tt
 and_both P Q R f (x ∷ xs) p q = (f x p.0 q.0, and_both P Q R f xs p.1 q.1)
-
-pub all_found : {A : Type 0} (P : A → Type 0) (test : A → Bool) (xs : List A) (x : A) → AllByRecursion P xs → find test xs ≡ Some x → P x
-all_found P test [] x all is = absurd cc
-all_found P test (y ∷ ys) x all is = by (test y) is (all_found P test ys x all.1)
-  where
-    by : (b : Bool) → cond b (Some y) (find test ys) ≡ Some x → (find test ys ≡ Some x → P x) → P x
-    by true same later = let e : y ≡ x = cc in rw (← e) all.0
-    by false same later = later same

@@ -1,7 +1,7 @@
 -- Each connection of a capture's segments is recorded in the capture, between two peers.
 use Rattle.std.proofs.Common.{◌≡◌, ◌≤◌, ◌<◌, ℕ, zero, suc, ◌+◌, ◌-◌, ◌&&◌, Bool, true, false, cond, List, [], ◌∷◌, map, filter, length, take, drop, slice_range, nat_lt, nat_le, slice_get, Option, Some, None, option_map, refl, sym, ap, ◌∙◌, subst, arith, zero-add, add-zero, if◌then◌else◌}
 use Rattle.std.specs.Option.{unwrap_or}
-use Rattle.std.specs.List.{AllByRecursion, filter_map, cons_option, enumerate_from, last_or, zip, range_with_len}
+use Rattle.std.specs.List.{AllByRecursion, filter_map, cons_option, enumerate_from, zip, range_with_len}
 use Rattle.std.proofs.Math.Nat.{le_trans, le_refl}
 use Rattle.std.proofs.lemmas.Bool.{eqb-true, and_parts, ltb-true}
 use Rattle.std.proofs.lemmas.List.{length-map}
@@ -9,18 +9,19 @@ use Rattle.std.proofs.lemmas.Option.{slice_get_within}
 use Rattle.pcap_records.specs.CaptureView.{CaptureView, contents_of, packet_of}
 use Rattle.pcap_records.specs.Reading.{Packet}
 use Rattle.pcap_records.specs.Instants.{greatest, greatest_so_far, instants}
-use Rattle.frame_headers.specs.Frame.{FrameClass, segment, frame_class, segment_fields}
+use Rattle.frame_headers.specs.Frame.{segment, frame_class, segment_fields}
 use Rattle.conn_table.specs.SeenCapture.{seen_packet, seen_packets}
 use Rattle.conn_table.specs.IndexedSegments.{IndexedSegment, is_segment, indexed_segment, indexed_segments, same_pair, pair_of, pair_of_segment}
 use Rattle.conn_table.specs.Connections.{last_of, of_one_pair, begins, beginnings, beginning_of, is_at, later_members}
 use Rattle.conn_table.specs.IndexedConnections.{IndexedConnection, indexed_connection_of, indexed_connections}
 use Rattle.conn_table.specs.KeptSegments.{frame_at}
 use Rattle.conn_table.specs.Tables.{conn_in}
-use Rattle.conn_table.proofs.Peers.{one_pair-is, same_pair-itself}
+use Rattle.conn_table.proofs.Peers.{class_is, one_pair-is, same_pair-itself}
 use Rattle.reassembly.specs.RecordedView.{IsRecorded, IsConnectionOf, IsConnOf, ConnectionsAreOfCapture, ConnsAreOfCapture}
 use Rattle.reassembly.specs.LineLaws.{InstantsRise}
 use Rattle.conn_table.specs.Partials.{segments_between}
-use Rattle.reassembly.proofs.MappedLists.{all_filter, all_weaker, and_both}
+use Rattle.pcap_records.proofs.Lists.{all_filter, all_weaker}
+use Rattle.reassembly.proofs.MappedLists.{and_both}
 
 -- ---- segments
 
@@ -42,10 +43,6 @@ StandsAt all n ps = (k : ℕ) (p : Packet) → slice_get ps k ≡ Some p → sli
 stands_behind : (all : List Packet) (n : ℕ) (p : Packet) (ps : List Packet) → StandsAt all n (p ∷ ps) → StandsAt all (n + 1) ps
 stands_behind all n p ps at k q e = let next : n + 1 + k ≡ n + suc k = omega arith in ap (slice_get all) next ∙ at (suc k) q e
 
-is_segment-true : (k : FrameClass) → is_segment k ≡ true → k ≡ segment
-is_segment-true segment h = refl
-is_segment-true k h = absurd cc
-
 recorded_from : (c : CaptureView) (n : ℕ) (ats : List ℕ) (ps : List Packet) → StandsAt (contents_of c).packets n ps
     → AllByRecursion (IsRecorded c) (filter_map indexed_segment (enumerate_from n (map seen_packet (zip ats ps))))
 recorded_from c n [] ps e = tt
@@ -62,7 +59,7 @@ recorded_from c n (at ∷ ats) (p ∷ ps) e =
     by_class true t frame within rest = (
       record {
         within = within;
-        class = ap frame_class frame ∙ is_segment-true (frame_class p.bytes) t;
+        class = ap frame_class frame ∙ class_is (frame_class p.bytes) t;
         fields = ap segment_fields (sym frame);
       },
       rest,

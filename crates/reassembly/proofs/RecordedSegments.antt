@@ -1,7 +1,6 @@
 -- The segments of a connection of a capture: where their payloads lie, and which side sent each.
 use Rattle.std.proofs.Common.{◌≡◌, ◌≤◌, ℕ, ◌+◌, ◌-◌, not, true, List, [], length, take, drop, slice_range, slice_get, Some, option_map, sym, ap, ◌∙◌, subst, arith, length-take, length-drop, get_or}
 use Rattle.std.specs.Option.{option_map_or, unwrap_or}
-use Rattle.std.proofs.lemmas.List.{drop-take, take-take, drop-drop}
 use Rattle.std.proofs.lemmas.Option.{slice_get-map, slice_get-get_or}
 use Rattle.pcap_records.specs.declared.capture.Record.{Record}
 use Rattle.pcap_records.specs.CaptureView.{CaptureView, IsSoundCapture, packet_of}
@@ -11,25 +10,12 @@ use Rattle.frame_headers.specs.Frame.{segment_fields, payload_offset}
 use Rattle.conn_table.specs.IndexedSegments.{IndexedSegment, same_peer}
 use Rattle.conn_table.specs.Connections.{of_one_pair}
 use Rattle.conn_table.specs.KeptSegments.{packet_start, frame_at, payload_start}
+use Rattle.conn_table.specs.TableFacts.{IsPlaced}
+use Rattle.conn_table.proofs.TableSoundness.{placed_part}
 use Rattle.conn_table.proofs.Peers.{peers_differ, other_sender}
 use Rattle.reassembly.specs.RecordedView.{IsRecorded}
 
 -- ---- payloads
-
-part : (d n : ℕ) (xs : List ℕ) → d ≤ n → drop d (take n xs) ≡ take (n - d) (drop d xs)
-part d n xs within =
-    let whole : n ≡ d + (n - d) = omega arith in
-    let e = drop-take d (n - d) xs in
-    rw (← whole) at e
-
-part_of_part : (bytes : List ℕ) (start len off n : ℕ) → off + n ≤ length (take len (drop start bytes))
-    → slice_range bytes (start + off) (start + off + n) ≡ slice_range (take len (drop start bytes)) off (off + n)
-part_of_part bytes start len off n within =
-    let limit = length-take len (drop start bytes) in
-    let left : start + off + n - (start + off) ≡ n = omega arith in
-    let right : off + n - off ≡ n = omega arith in
-    ap (λ k. take k (drop (start + off) bytes)) left ∙ ap (take n) (sym (drop-drop off start bytes)) ∙ sym (take-take n (len - off) (drop off (drop start bytes)) (omega arith))
-    ∙ ap (take n) (sym (part off len (drop start bytes) (omega arith))) ∙ ap (λ k. take k (drop off (take len (drop start bytes)))) (sym right)
 
 frame_is : (c : CaptureView) (i : ℕ) (r : Record) → slice_get c.records i ≡ Some r → frame_at c i ≡ take r.len (drop r.start c.bytes)
 frame_is c i r e =
@@ -45,10 +31,6 @@ pub record IsHeard (c : CaptureView) (client server : Peer) (s : IndexedSegment)
   pub in_file : payload_start c s.index + length s.timed.fields.payload ≤ length c.bytes
   pub payload : slice_range c.bytes (payload_start c s.index) (payload_start c s.index + length s.timed.fields.payload) ≡ s.timed.fields.payload
   pub server_sent : same_peer s.timed.fields.from server ≡ not (same_peer s.timed.fields.from client)
-
-pub record IsPlaced (c : CaptureView) (s : IndexedSegment) : Type 0 where
-  pub in_file : payload_start c s.index + length s.timed.fields.payload ≤ length c.bytes
-  pub payload : slice_range c.bytes (payload_start c s.index) (payload_start c s.index + length s.timed.fields.payload) ≡ s.timed.fields.payload
 
 placed : (ticks : ℕ) (c : CaptureView) (s : IndexedSegment) → IsSoundCapture ticks c.bytes c.records → PayloadsAreInPlace → IsRecorded c s → IsPlaced c s
 placed ticks c s sound law rec =
@@ -71,9 +53,9 @@ placed ticks c s sound law rec =
     let P : List ℕ → Type 0 = λ bs. (packet_start c i + off + length bs ≤ length c.bytes) in
     let Q : List ℕ → Type 0 = λ bs. slice_range c.bytes (packet_start c i + off) (packet_start c i + off + length bs) ≡ bs in
     record {
-      in_file = subst P (sym same) (omega (arith, within_file.ends, length-drop r.start c.bytes));
-      payload = subst Q (sym same)
-          (ap (λ k. slice_range c.bytes (k + off) (k + off + n)) start ∙ part_of_part c.bytes r.start r.len off n fits ∙ ap (λ f. slice_range f off (off + n)) (sym is) ∙ place.bytes);
+      within = subst P (sym same) (omega (arith, within_file.ends, length-drop r.start c.bytes));
+      bytes = subst Q (sym same)
+          (ap (λ k. slice_range c.bytes (k + off) (k + off + n)) start ∙ placed_part c.bytes r.start r.len off n fits within_file.ends ∙ ap (λ f. slice_range f off (off + n)) (sym is) ∙ place.bytes);
     }
 
 pub heard : (ticks : ℕ) (c : CaptureView) (b s : IndexedSegment) → IsSoundCapture ticks c.bytes c.records → PayloadsAreInPlace → IsRecorded c b → IsRecorded c s → of_one_pair b s ≡ true
@@ -81,7 +63,7 @@ pub heard : (ticks : ℕ) (c : CaptureView) (b s : IndexedSegment) → IsSoundCa
 heard ticks c b s sound law rec_b rec paired =
     let p = placed ticks c s sound law rec in
     record {
-      in_file = p.in_file;
-      payload = p.payload;
+      in_file = p.within;
+      payload = p.bytes;
       server_sent = other_sender b.timed.fields.from b.timed.fields.to s.timed.fields.from s.timed.fields.to (rw rec_b.fields (peers_differ (frame_at c b.index) rec_b.class)) paired;
     }

@@ -4,6 +4,7 @@ use Rattle.std.specs.Option.{option_or}
 use Rattle.std.proofs.lemmas.Bool.{le-leb, lt-leb, cases_lt}
 use Rattle.std.proofs.lemmas.List.{get_or-take, get_or-drop}
 use Rattle.std.proofs.lemmas.Option.{slice_get-get_or, slice_get_past}
+use Rattle.pcap_records.proofs.Lists.{option_or-assoc}
 use Rattle.reassembly.specs.Spans.{Span, TimedByte, end_of, byte_in, first_byte, front_of, back_of, with_bytes, unless_empty, AreOrdered}
 
 -- the byte of a span that covers position x
@@ -67,10 +68,6 @@ back-all n p h =
 
 -- ---- lists of spans
 
-pub or-assoc : (a b c : Option TimedByte) → option_or (option_or a b) c ≡ option_or a (option_or b c)
-or-assoc None b c = refl
-or-assoc (Some v) b c = refl
-
 pub or-none : (a : Option TimedByte) → option_or a None ≡ a
 or-none None = refl
 or-none (Some v) = refl
@@ -78,7 +75,7 @@ or-none (Some v) = refl
 pub first_byte-append : (ps qs : List Span) (x : ℕ) → first_byte (ps ++ qs) x ≡ option_or (first_byte ps x) (first_byte qs x)
 first_byte-append [] qs x = refl
 first_byte-append (p ∷ ps) qs x =
-    ap (λ o. option_or (byte_in p x) o) (first_byte-append ps qs x) ∙ sym (or-assoc (byte_in p x) (first_byte ps x) (first_byte qs x))
+    ap (λ o. option_or (byte_in p x) o) (first_byte-append ps qs x) ∙ sym (option_or-assoc (byte_in p x) (first_byte ps x) (first_byte qs x))
 
 pub first_byte-one : (p : Span) (x : ℕ) → first_byte (p ∷ []) x ≡ byte_in p x
 first_byte-one p x = or-none (byte_in p x)
@@ -96,9 +93,9 @@ pub AreOrdered-bounds : (low : ℕ) (ps : List Span) (high : ℕ) → AreOrdered
 AreOrdered-bounds low [] high o = o
 AreOrdered-bounds low (p ∷ ps) high o = let h : end_of p ≤ high = AreOrdered-bounds (end_of p) ps high o.2 in omega arith
 
-pub AreOrdered-up : (low : ℕ) (ps : List Span) (high high' : ℕ) → AreOrdered low ps high → high ≤ high' → AreOrdered low ps high'
-AreOrdered-up low [] high high' o h = omega arith
-AreOrdered-up low (p ∷ ps) high high' o h = (o.0, o.1, AreOrdered-up (end_of p) ps high high' o.2 h)
+pub ordered_up : (low : ℕ) (ps : List Span) (high high' : ℕ) → AreOrdered low ps high → high ≤ high' → AreOrdered low ps high'
+ordered_up low [] high high' o h = omega arith
+ordered_up low (p ∷ ps) high high' o h = (o.0, o.1, ordered_up (end_of p) ps high high' o.2 h)
 
 pub AreOrdered-down : (low low' : ℕ) (ps : List Span) (high : ℕ) → AreOrdered low ps high → low' ≤ low → AreOrdered low' ps high
 AreOrdered-down low low' [] high o h = omega arith

@@ -171,7 +171,7 @@ part_near g stop n latest out rest w p ps e part is =
     rw is (omega (arith, length-take (stop - p.from) p.bytes))
 
 pub walk_at : (g : ℕ → Option TimedByte) (stop n latest : ℕ) (out : List LineByte) (rest : List Span) → Walk g stop n latest out rest
-    → (p : Span) (ps : List Span) → rest ≡ p ∷ ps → (from : ℕ) → from ≡ first_from rest → from ≡ n → n < stop
+    → (p : Span) (ps : List Span) → rest ≡ p ∷ ps → (from : ℕ) → from ≡ first_from rest → from ≤ n → n < stop
     → (part : Span) → part ≡ front_of stop p → (now : ℕ) → now ≡ max latest part.at → (starts : Bool) → starts ≡ (n == 0 || not (now == latest))
     → (len : ℕ) → len ≡ end_of part → (new : List LineByte) → new ≡ out ++ bytes_with_mark now starts part.bytes
     → Walk g stop len now new ps
@@ -179,7 +179,8 @@ walk_at g stop n latest out rest w p ps e from is at_n before part part_is now n
     let w' = rw e at w in
     let is' = rw e at is in
     let now_is' = rw part_is at now_is in
-    let from_n : p.from ≡ n = sym is' ∙ at_n in
+    let o = w'.rest_from in
+    let from_n : p.from ≡ n = omega (arith, is', at_n, o.0) in
     rw (new_is, len_is, part_is) (walk_more g stop n latest out p ps w' from_n before now starts now_is' starts_is)
 
 pub walk_begin : (g : ℕ → Option TimedByte) (stop latest : ℕ) (out : List LineByte) (rest : List Span) → AreOrdered 0 rest limit → ((x : ℕ) → g x ≡ first_byte rest x)

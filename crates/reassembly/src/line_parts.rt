@@ -1,5 +1,5 @@
 //! Lines: the bytes of one direction of a connection with their instants, as slices, and how the direction ends.
-ghost use Rattle.std.specs.Prelude.{◌≡◌, ◌++◌, [], ◌∷◌, IfOk, OnOk};
+ghost use Rattle.std.specs.Prelude.{◌≡◌, ◌++◌, IfOk, OnOk};
 ghost use Rattle.reassembly.specs.LineView.{bytes_of_parts, bytes_with_mark};
 
 use pcap_records::Moment;

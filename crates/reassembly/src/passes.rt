@@ -84,6 +84,7 @@ fn greater(a: usize, b: usize) -> usize
 }
 
 // The ordered patches with the late ones under them.
+#[tactic(auto, using(crate::proofs::SpanBytes::ordered_up))]
 fn settle<'a>(
     alloc: Global,
     whole: Vec<Patch<'a>>,

@@ -1,5 +1,5 @@
 //! Patches: bytes from a position on, as a slice, with the instant at which they were captured.
-ghost use Rattle.std.specs.Prelude.{◌≡◌, ◌+◌, ◌-◌, ◌≤◌, ◌<◌, [], ◌∷◌, ◌++◌, length, drop, IfOk, OnOk, max, min};
+ghost use Rattle.std.specs.Prelude.{◌≡◌, ◌+◌, ◌≤◌, ◌<◌, [], ◌∷◌, ◌++◌, length, drop, OnOk};
 ghost use Rattle.reassembly.specs.Spans.{span_of, spans, end_of, front_of, back_of, unless_empty, limit};
 
 use pcap_records::Moment;

@@ -1,5 +1,5 @@
 //! The positions of members' payloads and FINs (RFC 9293 section 3.4).
-ghost use Rattle.std.specs.Prelude.{◌≡◌, ◌≤◌, ◌<◌, ◌+◌, ◌-◌, length, find, position, option_map, IfSome, not};
+ghost use Rattle.std.specs.Prelude.{◌≡◌, ◌≤◌, ◌<◌, ◌+◌, ◌^◌, length, find, position, option_map, IfSome};
 ghost use Rattle.reassembly.specs.Positions.{sequence_space};
 ghost use Rattle.reassembly.specs.Spans.{span_of, end_of, limit};
 ghost use Rattle.reassembly.specs.MemberSpans.{IsInFile, member_position, member_span, members_before_reset, is_reset_member, is_server_answer};
@@ -36,7 +36,7 @@ pub(crate) fn shifted_end(base: u32, member: &Member) -> usize
 // How many bytes a member's payload has.
 fn len_of(member: &Member) -> usize
     ensures exact { result ≡ member.now.len }
-    ensures short { result < 65536 }
+    ensures short { result < 2 ^ 16 }
 {
     let len = member.len;
     usize::from(len)

@@ -1,5 +1,5 @@
 //! One side of a connection, from its members: its line up to the first gap or to the FIN that counts, and how many bytes lie after.
-ghost use Rattle.std.specs.Prelude.{◌≡◌, ◌+◌, ◌<◌, ◌==◌, ◌||◌, [], not, ℕ, length, drop, max, find, option_map, sum_by, IfOk, All};
+ghost use Rattle.std.specs.Prelude.{◌≡◌, ◌<◌, ◌==◌, ◌||◌, [], not, length, drop, find, option_map, sum_by, IfOk, All};
 ghost use Rattle.reassembly.specs.LineView.{bytes_of_parts, end_view};
 ghost use Rattle.reassembly.specs.MemberSpans.{IsInFile, is_fin_member, own_members};
 ghost use Rattle.reassembly.specs.SideLines.{IsFront, IsSideOf, end_by, fin_of, first_from, latest_below, len_of, line_bytes, side_by, side_view, stop_of};
@@ -56,18 +56,14 @@ pub(crate) struct CountedFin {
 fn first_fin(base: u32, client: bool, members: &[Member]) -> Option<CountedFin>
     ensures { result ≡ option_map (fin_of base) (find (is_fin_member base) (own_members client members.now)) }
 {
-    'search: for member in members {
-        if member.from_client == client && member.flags.has(Flags::FIN) {
-            let end = shifted_end(base, member);
-            if end >= ORIGIN {
-                return Some(CountedFin {
-                    position: end - ORIGIN,
-                    at: member.at,
-                });
-            }
-        }
-    }
-    None
+    members
+        .iter()
+        .filter(|m| m.from_client == client)
+        .find(|m| m.flags.has(Flags::FIN) && shifted_end(base, m) >= ORIGIN)
+        .map(|m| CountedFin {
+            position: shifted_end(base, m).saturating_sub(ORIGIN),
+            at: m.at,
+        })
 }
 
 /// No position reaches it.
@@ -188,5 +184,5 @@ fn from_at(patches: &[Patch], i: usize) -> usize
 fn starts_chunk(position: usize, at: Moment, before: Moment) -> bool
     ensures { result ≡ (position == 0 || not (at == before)) }
 {
-    position == 0 || at.count() != before.count()
+    position == 0 || at != before
 }

@@ -1,4 +1,4 @@
--- What the wire has to do, in parts of 1/rate tick, part by part, and chunks that leave as one.
+-- What the wire has to do, in units of 1/rate tick, part by part, and chunks that leave as one.
 use Rattle.std.proofs.Common.{◌≡◌, ◌≤◌, ◌<◌, ◌⊎◌, inl, inr, ℕ, suc, ◌+◌, ◌-◌, ◌*◌, ◌/◌, min, max, Bool, false, List, [], ◌∷◌, ◌++◌, length, sym, ap, ◌∙◌, arith, append_assoc, take, drop, get_or, set, true, cond, Some, None, unwrap_or, refl}
 use Rattle.std.proofs.Math.Nat.{add-mul-div_right, mul-le-mul}
 use Rattle.std.proofs.lemmas.List.{map-append, length_push, append-nil, length-map, length-append, take_more, take_more_set}

@@ -3,13 +3,12 @@ use Rattle.std.proofs.Common.{◌≡◌, ◌≤◌, ◌<◌, ℕ, ◌+◌, min, 
 use Rattle.std.proofs.Math.Nat.{le_trans, le_refl}
 use Rattle.std.proofs.lemmas.Bool.{ltb-true, ltb-false, le-ltb}
 use Rattle.std.proofs.lemmas.Bool.Decides.{nat_tests}
-use Rattle.std.proofs.lemmas.List.Sums.{length-filter, count_by-le-length}
 use Rattle.pcap_records.specs.Instants.{horizon}
 use Rattle.reassembly.specs.RecordedLines.{LineByte, Line, End, live, fin, close, reset}
 use Rattle.reassembly.specs.LineLaws.{IsInChunks, last_instant, IsNotBefore, IsLine}
 use Rattle.toxic_defs.specs.EndRule.{is_before}
 use Rattle.toxic_defs.specs.SessionCut.{closing_end, first_closing, is_after, line_up_to, line_before, cut_line, cut_limit}
-use Rattle.toxic_defs.specs.Laws.{IsBefore, CutLinesAreLines, FirstBytesStay, CutLinesEndInTime, CutEndsAreNotEarly, DelaysFront, AreUpTo, RecordedLinesDelay, CutLinesDelay}
+use Rattle.toxic_defs.specs.Laws.{IsBefore, CutLinesAreLines, FirstBytesStay, CutLinesEndInTime, CutEndsAreNotEarly, DelaysFirst, AreUpTo, RecordedLinesDelay, CutLinesDelay}
 use Rattle.toxic_defs.proofs.FirstBytes.{before_short, bytes_before, up_to, first_stay, before_in_chunks, chunks_go_on, last_not_later, all_before, last_within, taken_all}
 use Rattle.toxic_defs.proofs.KeptBytes.{itself, taken}
 
@@ -183,6 +182,6 @@ cut_lines_delay ticks opened recorded up down f hu hd g =
     record {
       line = cut_lines_are_lines ticks up down f g.line;
       in_time = subst (AreUpTo (horizon ticks)) first (taken_all (λ b. b.at ≤ horizon ticks) n f.bytes g.in_time);
-      bytes = subst (λ (bs : List LineByte). DelaysFront bs recorded) first (taken n f.bytes recorded g.bytes);
+      bytes = subst (λ (bs : List LineByte). DelaysFirst bs recorded) first (taken n f.bytes recorded g.bytes);
       ends = cut_ends_are_not_early ticks opened up down f hu hd g.ends;
     }

@@ -6,8 +6,8 @@ use Rattle.reassembly.specs.LineLaws.{GoesOn, IsInChunks}
 use Rattle.pcap_records.specs.Instants.{horizon, millisecond, microsecond}
 use Rattle.toxic_defs.specs.DelayedBytes.{at_instant, begins, latest, moved}
 use Rattle.toxic_defs.specs.Slices.{sliced}
-use Rattle.toxic_defs.specs.Bandwidth.{joined, settled, bandwidth_leaves, piece_size, rated_bytes}
-use Rattle.toxic_defs.specs.Laws.{DelaysFront, AreUpTo}
+use Rattle.toxic_defs.specs.Bandwidth.{joined, settled, bandwidth_leaves, rated_size, rated_bytes}
+use Rattle.toxic_defs.specs.Laws.{DelaysFirst, AreUpTo}
 use Rattle.toxic_defs.specs.Slicer.{paced, slice_size, paced_bytes}
 use Rattle.toxic_defs.specs.Latency.{drawn_delay, late_bytes}
 use Rattle.toxic_defs.proofs.FirstBytes.{chunks_go_on}
@@ -44,7 +44,7 @@ marked_up_to limit [] bytes m up = tt
 marked_up_to limit (c ∷ cut) [] m up = absurd m
 marked_up_to limit (c ∷ cut) (b ∷ bytes) m up = (rw m.1 up.0, marked_up_to limit cut bytes m.3 up.1)
 
-marked_front : (cut bytes : List LineByte) → OnlyMarked cut bytes → DelaysFront cut bytes
+marked_front : (cut bytes : List LineByte) → OnlyMarked cut bytes → DelaysFirst cut bytes
 marked_front [] bytes m = tt
 marked_front (c ∷ cut) [] m = absurd m
 marked_front (c ∷ cut) (b ∷ bytes) m = (m.0, rw m.1 (le_refl b.at), marked_front cut bytes m.3)
@@ -134,11 +134,11 @@ pub length-settled : (bytes : List LineByte) → length (settled bytes) ≡ leng
 length-settled [] = refl
 length-settled (b ∷ bytes) = ap suc (length-settled bytes)
 
-settled_later : (last : ℕ) (bytes : List LineByte) → NeverFalls last bytes → DelaysFront (settled bytes) bytes
+settled_later : (last : ℕ) (bytes : List LineByte) → NeverFalls last bytes → DelaysFirst (settled bytes) bytes
 settled_later last [] never = tt
 settled_later last (b ∷ bytes) never = (joined_value b (settled bytes), (settled_goes b bytes never.1).later, settled_later b.at bytes never.1)
 
-pub settled_front : (bytes : List LineByte) → NeverFalls 0 bytes → DelaysFront (settled bytes) bytes
+pub settled_front : (bytes : List LineByte) → NeverFalls 0 bytes → DelaysFirst (settled bytes) bytes
 settled_front bytes never = settled_later 0 bytes never
 
 joined_up_to : (limit : ℕ) (b : LineByte) (bytes : List LineByte) → b.at ≤ limit → AreUpTo limit bytes → (joined b bytes).at ≤ limit
@@ -209,6 +209,6 @@ rate_keeps limit ticks rate some bytes go =
 pub rated_keeps : (ticks rate : ℕ) (bytes : List LineByte) → 0 < rate → IsInChunks bytes → KeepsBytes (horizon ticks) bytes (rated_bytes ticks rate bytes)
 rated_keeps ticks rate bytes some go =
     let limit : ℕ = horizon ticks in
-    let pieces : List LineByte = sliced (piece_size rate) 0 0 bytes in
-    let cut : KeepsBytes limit bytes pieces = sliced_keeps limit (piece_size rate) bytes go in
-    both_keep limit bytes pieces (rated_bytes ticks rate bytes) cut (rate_keeps limit (millisecond ticks) rate some pieces cut.chunks)
+    let slices : List LineByte = sliced (rated_size rate) 0 0 bytes in
+    let cut : KeepsBytes limit bytes slices = sliced_keeps limit (rated_size rate) bytes go in
+    both_keep limit bytes slices (rated_bytes ticks rate bytes) cut (rate_keeps limit (millisecond ticks) rate some slices cut.chunks)

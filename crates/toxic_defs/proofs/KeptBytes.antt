@@ -5,14 +5,14 @@ use Rattle.std.proofs.lemmas.List.{length-take}
 use Rattle.reassembly.specs.RecordedLines.{LineByte}
 use Rattle.reassembly.specs.LineLaws.{IsInChunks}
 use Rattle.reassembly.proofs.MappedLists.{all_filter}
-use Rattle.toxic_defs.specs.Laws.{DelaysFront, AreFrom, values_of, DelayedBytesAreTheFirst, AreUpTo}
+use Rattle.toxic_defs.specs.Laws.{DelaysFirst, AreFrom, values_of, DelayedBytesAreTheFirst, AreUpTo}
 use Rattle.toxic_defs.proofs.FirstBytes.{bytes_before, first_stay, chunks_go_on, before_short, before_in_chunks, taken_all, taken_in_chunks}
 
-pub itself : (bytes : List LineByte) → DelaysFront bytes bytes
+pub itself : (bytes : List LineByte) → DelaysFirst bytes bytes
 itself [] = tt
 itself (b ∷ bytes) = (refl, le_refl b.at, itself bytes)
 
-pub in_turn : (xs ys zs : List LineByte) → DelaysFront xs ys → DelaysFront ys zs → DelaysFront xs zs
+pub in_turn : (xs ys zs : List LineByte) → DelaysFirst xs ys → DelaysFirst ys zs → DelaysFirst xs zs
 in_turn [] ys zs f g = tt
 in_turn (x ∷ xs) [] zs f g = absurd f
 in_turn (x ∷ xs) (y ∷ ys) [] f g = absurd g
@@ -20,7 +20,7 @@ in_turn (x ∷ xs) (y ∷ ys) (z ∷ zs) f g = (f.0 ∙ g.0, le_trans g.1 f.1, i
 
 -- ---- the first n bytes
 
-pub taken : (n : ℕ) (xs ys : List LineByte) → DelaysFront xs ys → DelaysFront (take n xs) ys
+pub taken : (n : ℕ) (xs ys : List LineByte) → DelaysFirst xs ys → DelaysFirst (take n xs) ys
 taken zero xs ys f = tt
 taken (suc n) [] ys f = tt
 taken (suc n) (x ∷ xs) [] f = absurd f
@@ -28,12 +28,12 @@ taken (suc n) (x ∷ xs) (y ∷ ys) f = (f.0, f.1, taken n xs ys f.2)
 
 -- ---- the bytes before an instant are some of the first
 
-pub before_front : (limit : ℕ) (xs ys : List LineByte) → IsInChunks xs → DelaysFront xs ys → DelaysFront (bytes_before limit xs) ys
-before_front limit xs ys g f = subst (λ (bs : List LineByte). DelaysFront bs ys) (sym (first_stay limit 0 xs (chunks_go_on xs g))) (taken (length (bytes_before limit xs)) xs ys f)
+pub before_front : (limit : ℕ) (xs ys : List LineByte) → IsInChunks xs → DelaysFirst xs ys → DelaysFirst (bytes_before limit xs) ys
+before_front limit xs ys g f = subst (λ (bs : List LineByte). DelaysFirst bs ys) (sym (first_stay limit 0 xs (chunks_go_on xs g))) (taken (length (bytes_before limit xs)) xs ys f)
 
 -- ---- instants
 
-pub from_recorded : (opened : ℕ) (xs ys : List LineByte) → DelaysFront xs ys → AreFrom opened ys → AreFrom opened xs
+pub from_recorded : (opened : ℕ) (xs ys : List LineByte) → DelaysFirst xs ys → AreFrom opened ys → AreFrom opened xs
 from_recorded opened [] ys f h = tt
 from_recorded opened (x ∷ xs) [] f h = absurd f
 from_recorded opened (x ∷ xs) (y ∷ ys) f h = (le_trans h.0 f.1, from_recorded opened xs ys f.2 h.1)
@@ -56,7 +56,7 @@ pub record KeepsBytes (limit : ℕ) (before after : List LineByte) : Type 0 wher
   pub chunks : IsInChunks after
   pub short : length after ≤ length before
   pub in_time : AreUpTo limit before → AreUpTo limit after
-  pub delays : AreUpTo limit before → DelaysFront after before
+  pub delays : AreUpTo limit before → DelaysFirst after before
 
 pub same_keeps : (limit : ℕ) (bytes : List LineByte) → IsInChunks bytes → KeepsBytes limit bytes bytes
 same_keeps limit bytes g = record { chunks = g; short = le_refl (length bytes); in_time = λ h. h; delays = λ h. itself bytes }

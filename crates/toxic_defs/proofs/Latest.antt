@@ -102,7 +102,7 @@ rate_of limit ticks rate n y at = min (at + ceiling ((n - y) * ticks) rate) limi
 pushed_instants : (front : List LineByte) (b : LineByte) → instants_of (front ++ b ∷ []) ≡ instants_of front ++ b.at ∷ []
 pushed_instants front b = map-append (λ x. x.at) front (b ∷ [])
 
--- a byte leaves not before the ones in front of it
+-- a byte leaves not before the earlier ones
 pub rate_rises : (limit ticks rate : ℕ) → 0 < rate → (front : List LineByte) (b : LineByte) → bandwidth_leaves limit ticks rate front ≤ bandwidth_leaves limit ticks rate (front ++ b ∷ [])
 rate_rises limit ticks rate some front b =
     let n = length_push front b in

@@ -6,7 +6,7 @@ use Rattle.reassembly.specs.RecordedLines.{LineByte}
 use Rattle.reassembly.specs.LineLaws.{GoesOn, IsInChunks}
 use Rattle.toxic_defs.specs.DelayedBytes.{begins, along, moved}
 use Rattle.toxic_defs.specs.Bandwidth.{bandwidth_leaves}
-use Rattle.toxic_defs.specs.Laws.{DelaysFront, AreUpTo}
+use Rattle.toxic_defs.specs.Laws.{DelaysFirst, AreUpTo}
 use Rattle.toxic_defs.proofs.MovedParts.{begins-append}
 use Rattle.toxic_defs.proofs.Latest.{LeavesInTurn, rate_rises, rate_own}
 
@@ -26,7 +26,7 @@ begins_with before b s = begins-append before (b ∷ []) ∙ ap (λ t. begins be
 begins_same : (before : List LineByte) (b : LineByte) → b.starts ≡ false → begins (before ++ b ∷ []) ≡ begins before
 begins_same before b s = begins-append before (b ∷ []) ∙ ap (λ t. begins before ++ cond t (b.at ∷ []) []) s ∙ append-nil (begins before)
 
--- behind a chunk that left by the instants of the chunks so far
+-- after a chunk that left by the instants of the chunks so far
 chunks_go : (limit : ℕ) (g : List ℕ → ℕ) → LeavesInTurn limit g → (before bytes : List LineByte) (last : ℕ) → GoesOn last bytes → GoesOn (g (begins before)) (along (λ bs. g (begins bs)) before bytes)
 chunks_go limit g turn before [] last go = tt
 chunks_go limit g turn before (b ∷ bytes) last go = (by_start b.starts refl, (λ s. ap g (begins_same before b s)), chunks_go limit g turn (before ++ b ∷ []) bytes b.at go.2)
@@ -40,7 +40,7 @@ chunks_move limit g turn [] go = tt
 chunks_move limit g turn (b ∷ bytes) go = (go.0, chunks_go limit g turn (b ∷ []) bytes b.at go.1)
 
 not_early : (limit : ℕ) (g : List ℕ → ℕ) → LeavesInTurn limit g → (before bytes : List LineByte) (last : ℕ) → GoesOn last bytes → last ≤ g (begins before) → AreUpTo limit bytes
-    → DelaysFront (along (λ bs. g (begins bs)) before bytes) bytes
+    → DelaysFirst (along (λ bs. g (begins bs)) before bytes) bytes
 not_early limit g turn before [] last go le up = tt
 not_early limit g turn before (b ∷ bytes) last go le up =
     let own : b.at ≤ g (begins (before ++ b ∷ [])) = by_start b.starts refl in
@@ -50,7 +50,7 @@ not_early limit g turn before (b ∷ bytes) last go le up =
     by_start true s = rw (begins_with before b s) (turn.own (begins before) b.at up.0)
     by_start false s = let same : b.at ≡ last = go.1 s in rw (begins_same before b s, same) le
 
-pub moved_not_early : (limit : ℕ) (g : List ℕ → ℕ) → LeavesInTurn limit g → (bytes : List LineByte) → GoesOn 0 bytes → AreUpTo limit bytes → DelaysFront (moved (λ bs. g (begins bs)) bytes) bytes
+pub moved_not_early : (limit : ℕ) (g : List ℕ → ℕ) → LeavesInTurn limit g → (bytes : List LineByte) → GoesOn 0 bytes → AreUpTo limit bytes → DelaysFirst (moved (λ bs. g (begins bs)) bytes) bytes
 moved_not_early limit g turn bytes go up = not_early limit g turn [] bytes 0 go (omega arith) up
 
 -- ---- bytes at a rate
@@ -67,11 +67,11 @@ rate_goes limit ticks rate some before (b ∷ bytes) = (rate_rises limit ticks r
 pub rate_never_falls : (limit ticks rate : ℕ) → 0 < rate → (bytes : List LineByte) → NeverFalls 0 (moved (bandwidth_leaves limit ticks rate) bytes)
 rate_never_falls limit ticks rate some bytes = rate_goes limit ticks rate some [] bytes
 
-rate_not_early : (limit ticks rate : ℕ) (before bytes : List LineByte) → AreUpTo limit bytes → DelaysFront (along (bandwidth_leaves limit ticks rate) before bytes) bytes
+rate_not_early : (limit ticks rate : ℕ) (before bytes : List LineByte) → AreUpTo limit bytes → DelaysFirst (along (bandwidth_leaves limit ticks rate) before bytes) bytes
 rate_not_early limit ticks rate before [] up = tt
 rate_not_early limit ticks rate before (b ∷ bytes) up = (refl, rate_own limit ticks rate before b up.0, rate_not_early limit ticks rate (before ++ b ∷ []) bytes up.1)
 
-pub rated_not_early : (limit ticks rate : ℕ) (bytes : List LineByte) → AreUpTo limit bytes → DelaysFront (moved (bandwidth_leaves limit ticks rate) bytes) bytes
+pub rated_not_early : (limit ticks rate : ℕ) (bytes : List LineByte) → AreUpTo limit bytes → DelaysFirst (moved (bandwidth_leaves limit ticks rate) bytes) bytes
 rated_not_early limit ticks rate bytes up = rate_not_early limit ticks rate [] bytes up
 
 -- the first byte still starts a chunk

@@ -60,7 +60,7 @@ along_part g before at s (b ∷ bytes) =
 
 -- ---- a pass over parts in place
 
--- the bytes in front once more than that part was written
+-- the bytes up to a part, once it is written
 pub written_there : (parts initial : List LinePart) (i : ℕ) (d q : LinePart) (leaves : List LineByte → ℕ) → i < length parts → i < length initial → drop i parts ≡ drop i initial
     → bytes_of_parts (take i parts) ≡ moved leaves (bytes_of_parts (take i initial)) → bytes_of_part q ≡ along leaves (bytes_of_parts (take i initial)) (bytes_of_part (get_or parts i d))
     → bytes_of_parts (take (i + 1) (set parts i q)) ≡ moved leaves (bytes_of_parts (take (i + 1) initial))
@@ -136,7 +136,7 @@ paced-later limit gap k at ats le =
     let one : k + 1 - j ≡ suc (k - j) = omega arith in
     rw one (omega arith))
 
--- so behind the last
+-- so after the last
 paced-next : (limit gap : ℕ) (ats : List ℕ) (at : ℕ) → paced limit gap (length ats + 1) (ats ++ at ∷ []) ≡ min (paced limit gap (length ats) (ats ++ at ∷ []) + gap) limit
 paced-next limit gap [] at = paced-later limit gap 0 at [] (omega arith)
 paced-next limit gap (x ∷ ats) at =

@@ -1,4 +1,4 @@
--- Bandwidth: each chunk in pieces of 100 milliseconds, which leave when the wire has taken their last byte.
+-- Bandwidth: each chunk in slices of 100 milliseconds, which leave when the wire has taken their last byte.
 use Rattle.std.specs.Prelude.{ℕ, ◌+◌, ◌-◌, ◌*◌, ◌/◌, min, if◌then◌else◌, List, [], ◌∷◌, ◌++◌, length, Option, Some, None, unwrap_or}
 use Rattle.pcap_records.specs.Instants.{horizon, millisecond}
 use Rattle.reassembly.specs.RecordedLines.{LineByte, Line}
@@ -26,17 +26,17 @@ abbrev pub settled : List LineByte → List LineByte
 settled [] = []
 settled (b ∷ bytes) = joined b (settled bytes) ∷ settled bytes
 
--- how many milliseconds a piece takes
-abbrev pub piece_time : ℕ
-piece_time = 100
+-- how many milliseconds a slice takes
+abbrev pub slice_time : ℕ
+slice_time = 100
 
 -- a rate is in KB a second, which are bytes a millisecond
-abbrev pub piece_size : ℕ → ℕ → ℕ
-piece_size rate k = piece_time * rate
+abbrev pub rated_size : ℕ → ℕ → ℕ
+rated_size rate k = slice_time * rate
 
 abbrev pub rated_bytes : ℕ → ℕ → List LineByte → List LineByte
 rated_bytes ticks rate bytes =
-    settled (moved (bandwidth_leaves (horizon ticks) (millisecond ticks) rate) (sliced (piece_size rate) 0 0 bytes))
+    settled (moved (bandwidth_leaves (horizon ticks) (millisecond ticks) rate) (sliced (rated_size rate) 0 0 bytes))
 
 -- a line under a bandwidth
 abbrev pub rated_line : ℕ → ℕ → Line → Line

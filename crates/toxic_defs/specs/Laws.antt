@@ -64,10 +64,10 @@ IdleChainsChangeNothing = (ticks : ℕ) (toxics : List RatedKind) (opened seed s
 -- ---- what was recorded
 
 -- bytes are the first of others, and none is earlier than it was there
-abbrev pub DelaysFront : List LineByte → List LineByte → Type 0
-DelaysFront [] recorded = Unit {0}
-DelaysFront (b ∷ bytes) [] = ⊥
-DelaysFront (b ∷ bytes) (was ∷ recorded) = (b.value ≡ was.value) × (was.at ≤ b.at) × DelaysFront bytes recorded
+abbrev pub DelaysFirst : List LineByte → List LineByte → Type 0
+DelaysFirst [] recorded = Unit {0}
+DelaysFirst (b ∷ bytes) [] = ⊥
+DelaysFirst (b ∷ bytes) (was ∷ recorded) = (b.value ≡ was.value) × (was.at ≤ b.at) × DelaysFirst bytes recorded
 
 -- no byte is past a limit
 abbrev pub AreUpTo : ℕ → List LineByte → Type 0
@@ -81,7 +81,7 @@ AreFrom opened bytes = AllByRecursion (λ b. opened ≤ b.at) bytes
 pub record Delays (ticks opened : ℕ) (recorded : List LineByte) (f : Line) : Type 0 where
   pub line : IsLine f
   pub in_time : AreUpTo (horizon ticks) f.bytes
-  pub bytes : DelaysFront f.bytes recorded
+  pub bytes : DelaysFirst f.bytes recorded
   pub ends : IsNotBefore opened f.end
 
 -- the recorded line itself is one
@@ -110,7 +110,7 @@ abbrev pub values_of : List LineByte → List ℕ
 values_of bytes = map (λ b. b.value) bytes
 
 abbrev pub DelayedBytesAreTheFirst : Type 0
-DelayedBytesAreTheFirst = (bytes recorded : List LineByte) → DelaysFront bytes recorded → values_of bytes ≡ take (length bytes) (values_of recorded)
+DelayedBytesAreTheFirst = (bytes recorded : List LineByte) → DelaysFirst bytes recorded → values_of bytes ≡ take (length bytes) (values_of recorded)
 
 -- ---- what is delivered
 

@@ -105,7 +105,7 @@ SizesAreDrawn =
     run microseconds (rated 1000000 (Slicer 3 1 10)) known_key 0 hello
     ≡ line_with (byte 104 1000 true ∷ byte 101 1000 false ∷ byte 108 1010 true ∷ byte 108 1010 false ∷ byte 111 1010 false ∷ []) (fin 2000)
 
--- pieces of 100 bytes and more: a chunk leaves whole when its last byte does, 1000 microseconds a byte at 1 KB a second
+-- slices of 100 bytes and more: a chunk leaves whole when its last byte does, 1000 microseconds a byte at 1 KB a second
 abbrev pub RateDelays : Type 0
 RateDelays = run microseconds (rated 1000000 (Bandwidth 1)) known_key 0 (two_chunks 1000 1500 live) ≡ two_chunks 2000 3000 live
 
@@ -117,7 +117,7 @@ ChainInTurn =
     chain microseconds (rated 1000000 (Latency 1 0) ∷ rated 0 (Timeout 0) ∷ rated 1000000 (LimitData 4) ∷ []) 0 42 0 3 0 hello
     ≡ line_with (byte 104 2000 true ∷ byte 101 2000 false ∷ byte 108 2000 false ∷ byte 108 2000 false ∷ []) (close 2000)
 
--- the toxic's number is part of its key: the seventh toxic draws the known words
+-- the toxic's number belongs to its key: the seventh toxic draws the known words
 abbrev pub ChainCounts : Type 0
 ChainCounts =
     chain microseconds (rated 0 (Timeout 0) ∷ rated 0 (Timeout 0) ∷ rated 0 (Timeout 0) ∷ rated 0 (Timeout 0) ∷ rated 0 (Timeout 0) ∷ rated 0 (Timeout 0) ∷ rated 161784 (Latency 100 50) ∷ rated 0 (Timeout 0) ∷ []) 0 42 0 3 0
@@ -160,9 +160,9 @@ LatencyStopsAtHorizon = late_bytes microseconds no_numbers 1000000000 0 (chunk 0
 abbrev pub RateIsExact : Type 0
 RateIsExact = rated_bytes microseconds 3 (chunk 0 1000 ++ chunk 0 1001 ++ chunk 0 1002) ≡ chunk 0 1334 ++ chunk 0 1667 ++ chunk 0 2000
 
--- at 1 KB a second pieces have 100 bytes or what is left of their chunk
-abbrev pub PiecesOfChunks : Type 0
-PiecesOfChunks = rated_bytes microseconds 1 (chunk 249 1000 ++ chunk 9 2000) ≡ chunk 99 101000 ++ chunk 99 201000 ++ chunk 49 251000 ++ chunk 9 261000
+-- at 1 KB a second slices have 100 bytes or what is left of their chunk
+abbrev pub RatedSlices : Type 0
+RatedSlices = rated_bytes microseconds 1 (chunk 249 1000 ++ chunk 9 2000) ≡ chunk 99 101000 ++ chunk 99 201000 ++ chunk 49 251000 ++ chunk 9 261000
 
 -- slices of one byte, each 10 microseconds after the one before
 abbrev pub SlicesInTurn : Type 0

@@ -1,4 +1,4 @@
-//! A limited bandwidth: chunks in pieces that leave when the wire has taken their last byte.
+//! A limited bandwidth: chunks in slices that leave when the wire has taken their last byte.
 ghost use Rattle.std.specs.Prelude.{◌≡◌, ◌≤◌, ◌<◌, ◌^◌, [], length, IfOk};
 ghost use Rattle.pcap_records.specs.Instants.{horizon, microseconds, millisecond};
 ghost use Rattle.reassembly.specs.LineLaws.{IsLine};
@@ -18,11 +18,11 @@ use std::alloc::{AllocError, Global};
 /// The ticks of a millisecond. A rate is in bytes a millisecond.
 const MILLISECOND: u128 = Moment::MILLISECOND as u128;
 
-/// How many milliseconds a piece takes.
-const PIECE: u64 = 100;
+/// How many milliseconds a slice takes.
+const SLICE: u64 = 100;
 
-/// A line under a bandwidth of `rate` KB a second, of 1000 bytes each: each chunk in pieces of what passes in 100
-/// milliseconds, each of which leaves when its last byte has passed. The pieces share the bytes.
+/// A line under a bandwidth of `rate` KB a second, of 1000 bytes each: each chunk in slices of what passes in 100
+/// milliseconds, each of which leaves when its last byte has passed. The slices share the bytes.
 pub(crate) fn run_bandwidth<'a>(
     alloc: Global,
     line: Line<'a>,
@@ -36,10 +36,10 @@ pub(crate) fn run_bandwidth<'a>(
 {
     let end = line.end();
     let parts = line.into_parts();
-    let sizes = Sizes::same((PIECE * rate) as usize);
-    let mut pieces = slice_parts(alloc, &parts, sizes)?;
-    pass_chunks(&mut pieces, rate);
-    Ok(finished(pieces, &end))
+    let sizes = Sizes::same((SLICE * rate) as usize);
+    let mut slices = slice_parts(alloc, &parts, sizes)?;
+    pass_chunks(&mut slices, rate);
+    Ok(finished(slices, &end))
 }
 
 // Moves chunks, in place, to the instants at which their last bytes have passed.
@@ -49,20 +49,22 @@ fn pass_chunks(parts: &mut [LinePart<'_>], rate: u64)
     requires filled { AreFilled parts.old }
     requires short { length (bytes_of_parts parts.old) < 2 ^ 32 }
     ensures { bytes_of_parts parts.new
-        ≡ settled (moved (bandwidth_leaves (horizon microseconds) (millisecond microseconds) rate) (bytes_of_parts parts.old)) }
+        ≡ settled (moved (bandwidth_leaves (horizon microseconds) (millisecond microseconds) rate)
+        (bytes_of_parts parts.old)) }
 {
     charge_parts(parts, rate);
     settle_chunks(parts);
 }
 
-// Moves each part, in place, to the instant at which its last byte has passed. What the wire has to do is counted in parts of
-// 1/rate microsecond, so that nothing is rounded on the way.
+// Moves each part, in place, to the instant at which its last byte has passed. What the wire has to do is counted in
+// units of 1/rate microsecond, so that nothing is rounded on the way.
 fn charge_parts(parts: &mut [LinePart<'_>], rate: u64)
     requires some { 0 < rate }
     requires rate { rate ≤ greatest_rate }
     requires filled { AreFilled parts.old }
     requires short { length (bytes_of_parts parts.old) < 2 ^ 32 }
-    ensures { parts.new ≡ charged (bandwidth_leaves (horizon microseconds) (millisecond microseconds) rate) [] parts.old }
+    ensures { parts.new
+        ≡ charged (bandwidth_leaves (horizon microseconds) (millisecond microseconds) rate) [] parts.old }
 {
     let rate = u128::from(rate);
     let mut busy = 0;
@@ -79,11 +81,11 @@ fn settle_chunks(parts: &mut [LinePart<'_>])
     ensures { parts.new ≡ settled_parts parts.old }
 {
     let mut count = parts.len();
-    let mut behind = None;
+    let mut next = None;
     'parts: while count > 0 {
         count -= 1;
         let part = &mut parts[count];
-        part.at = behind.unwrap_or(part.at);
-        behind = if part.starts { None } else { Some(part.at) };
+        part.at = next.unwrap_or(part.at);
+        next = if part.starts { None } else { Some(part.at) };
     }
 }

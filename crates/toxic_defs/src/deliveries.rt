@@ -39,10 +39,10 @@ pub struct MetProxy<'p> {
     pub down: &'p [Toxic],
 }
 
-/// What is delivered of a connection by the proxy that it meets: each recorded line through the toxics of its direction,
-/// and then both under the session cut; the recorded lines, cut, where none is met. A disabled proxy refuses the
-/// connection, and both lines are empty. Random words are drawn by the seed and the numbers `s` of the scenario and `c` of
-/// the connection. The parts' bytes are slices of those that were recorded.
+/// What is delivered of a connection by the proxy that it meets: each recorded line through the toxics of its
+/// direction, and then both under the session cut; the recorded lines, cut, where none is met. A disabled proxy refuses
+/// the connection, and both lines are empty. Random words are drawn by the seed and the numbers `s` of the scenario and
+/// `c` of the connection. The parts' bytes are slices of those that were recorded.
 ///
 /// # Errors
 /// A growth was refused.

@@ -6,8 +6,8 @@ ghost use Rattle.toxic_defs.specs.declared.words.Key.{Key as KeyOf};
 
 use crate::words::{Draws, Key};
 
-/// Numbers from 0 to twice a spread, by the words of a key in turn from word 1 on. Without a spread each is 0, and no word is
-/// drawn.
+/// Numbers from 0 to twice a spread, by the words of a key in turn from word 1 on. Without a spread each is 0, and no
+/// word is drawn.
 #[derive(Drop)]
 pub(crate) struct Spread {
     draws: Option<Draws>,

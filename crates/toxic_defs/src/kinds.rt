@@ -4,7 +4,8 @@ ghost use Rattle.toxic_defs.specs.Toxics.{fits};
 
 use crate::limits::{GREATEST_ATTRIBUTE, GREATEST_LIMIT, GREATEST_RATE};
 
-/// What a toxic does, and its attributes: numbers of any size, of which [`fits`](Kind::fits) tells whether they are in range.
+/// What a toxic does, and its attributes: numbers of any size, of which [`fits`](Kind::fits) tells whether they are in
+/// range.
 #[derive(Clone, Copy, Debug, PartialEq, Eq)]
 pub enum Kind {
     /// Delays each chunk by `latency` milliseconds, more or less by a random number up to `jitter`.
@@ -28,8 +29,8 @@ pub enum Kind {
     ResetPeer {
         timeout: u64,
     },
-    /// Cuts chunks into slices of `average_size` bytes, more or less by a random number up to `size_variation`, that leave
-    /// `delay` microseconds apart.
+    /// Cuts chunks into slices of `average_size` bytes, more or less by a random number up to `size_variation`, that
+    /// leave `delay` microseconds apart.
     Slicer {
         average_size: u64,
         size_variation: u64,
@@ -42,8 +43,8 @@ pub enum Kind {
 }
 
 impl Kind {
-    /// Whether each attribute is in its range: `rate` 1 to 10^6, `average_size` 1 to 10^9 and `size_variation` below it,
-    /// `bytes` 0 to 10^12, and all others 0 to 10^9.
+    /// Whether each attribute is in its range: `rate` 1 to 10^6, `average_size` 1 to 10^9 and `size_variation` below
+    /// it, `bytes` 0 to 10^12, and all others 0 to 10^9.
     pub fn fits(&self) -> bool
         ensures { result ≡ fits self.now }
     {

@@ -2,14 +2,14 @@
 ghost use Rattle.toxic_defs.specs.Laws.{CutLinesAreLines, FirstBytesStay, CutLinesEndInTime, CutEndsAreNotEarly, ToxicsKeepLines, ChainsKeepLines, IdleChainsChangeNothing};
 ghost use Rattle.toxic_defs.specs.Laws.{RecordedLinesDelay, ToxicsDelay, ChainsDelay, CutLinesDelay, DelayedBytesAreTheFirst, DeliveredIsRecorded};
 
-/// What the session cut leaves of a line is a line: a chunk starts with the first byte, instants never fall, the bytes of a chunk
-/// have one instant, an end is not before the last byte, and there are fewer than 2^32 bytes.
+/// What the session cut leaves of a line is a line: a chunk starts with the first byte, instants never fall, the bytes
+/// of a chunk have one instant, an end is not before the last byte, and there are fewer than 2^32 bytes.
 pub fn cut_lines_are_lines()
     ensures { CutLinesAreLines }
 {}
 
-/// The bytes that the session cut leaves of a line are its first ones, each at its instant: none is delivered before it was
-/// recorded.
+/// The bytes that the session cut leaves of a line are its first ones, each at its instant: none is delivered before it
+/// was recorded.
 pub fn first_bytes_stay()
     ensures { FirstBytesStay }
 {}
@@ -35,14 +35,14 @@ pub fn idle_chains_change_nothing()
     ensures { IdleChainsChangeNothing }
 {}
 
-/// A recorded line is made of recorded bytes: they are the first ones that were recorded, none is earlier than it was recorded,
-/// and the end is not before the connection's opening.
+/// A recorded line is made of recorded bytes: they are the first ones that were recorded, none is earlier than it was
+/// recorded, and the end is not before the connection's opening.
 pub fn recorded_lines_delay()
     ensures { RecordedLinesDelay }
 {}
 
-/// What toxics make of a line that is made of recorded bytes is one too: what is delivered is a prefix of what was recorded, no
-/// byte is delivered before it was recorded, and no end is before the opening.
+/// What toxics make of a line that is made of recorded bytes is one too: what is delivered is a prefix of what was
+/// recorded, no byte is delivered before it was recorded, and no end is before the opening.
 pub fn toxics_delay()
     ensures toxic { ToxicsDelay }
     ensures chain { ChainsDelay }
@@ -58,9 +58,9 @@ pub fn delayed_bytes_are_the_first()
     ensures { DelayedBytesAreTheFirst }
 {}
 
-/// What is delivered of a connection, in either direction and whatever proxy it meets: the first bytes that were recorded,
-/// none before it was recorded, and no end before the opening. The recorded lines are as those of captures are: no byte is
-/// before the opening or past the horizon.
+/// What is delivered of a connection, in either direction and whatever proxy it meets: the first bytes that were
+/// recorded, none before it was recorded, and no end before the opening. The recorded lines are as those of captures
+/// are: no byte is before the opening or past the horizon.
 pub fn delivered_is_recorded()
     ensures { DeliveredIsRecorded }
 {}

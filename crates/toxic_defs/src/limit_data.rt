@@ -8,7 +8,8 @@ use crate::end_rule::finished;
 use pcap_records::Moment;
 use reassembly::{End, Line, LinePart};
 
-/// The first bytes of a line: one with more than `most` is closed when the next one would have come. It takes no memory.
+/// The first bytes of a line: one with more than `most` is closed when the next one would have come. It takes no
+/// memory.
 pub(crate) fn run_limit_data<'a>(line: Line<'a>, most: u64) -> Line<'a>
     ensures { result.line ≡ ended (limited most line.entry.line) }
 {

@@ -1,6 +1,6 @@
 //! Worked rows of words, toxics and the session cut: each function does nothing, and its contract is evaluated.
 ghost use Rattle.toxic_defs.specs.Rows.{KnownWords, WordDecides, BordersFit, OthersDoNot, MillionIsAll, LimitCloses, TimeoutCloses, PeerResets, ClosesLater, DelaysAreDrawn, SizesAreDrawn, RateDelays, ChainInTurn, ChainCounts};
-ghost use Rattle.toxic_defs.specs.Rows.{LatencyDelays, NoneOvertakes, LatencyStopsAtHorizon, RateIsExact, PiecesOfChunks, SlicesInTurn, DrawnSizes};
+ghost use Rattle.toxic_defs.specs.Rows.{LatencyDelays, NoneOvertakes, LatencyStopsAtHorizon, RateIsExact, RatedSlices, SlicesInTurn, DrawnSizes};
 ghost use Rattle.toxic_defs.specs.Rows.{CloseEndsBoth, EarlierResetCuts, LiveCutsNothing, TieStays, FinStays, NothingAtHorizon, AllBeforeHorizon};
 
 #[tactic(auto, unfolding(crate::specs::SessionCut::cut_line))]
@@ -19,7 +19,7 @@ fn delay_rows()
     ensures none_overtakes { NoneOvertakes }
     ensures at_horizon { LatencyStopsAtHorizon }
     ensures rate { RateIsExact }
-    ensures pieces { PiecesOfChunks }
+    ensures slices { RatedSlices }
     ensures turns { SlicesInTurn }
     ensures sizes { DrawnSizes }
 {}

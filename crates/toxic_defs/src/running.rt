@@ -21,8 +21,8 @@ use pcap_records::Moment;
 use reassembly::Line;
 use std::alloc::{AllocError, Global};
 
-/// What the toxics of a direction make of a line of a connection that was opened at an instant, each of the line that the one
-/// before gave. Toxic `t` draws the words of the key with that number.
+/// What the toxics of a direction make of a line of a connection that was opened at an instant, each of the line that
+/// the one before gave. Toxic `t` draws the words of the key with that number.
 ///
 /// # Errors
 /// A growth was refused.
@@ -50,7 +50,8 @@ pub fn chain<'a>(
     Ok(line)
 }
 
-/// What a toxic makes of a line of a connection that was opened at an instant. One that does not apply leaves it as it is.
+/// What a toxic makes of a line of a connection that was opened at an instant. One that does not apply leaves it as it
+/// is.
 ///
 /// # Errors
 /// A growth was refused.

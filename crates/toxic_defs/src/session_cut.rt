@@ -15,8 +15,8 @@ struct Closing {
     end: End,
 }
 
-/// Two lines of a connection under the session cut: the first close or reset of either ends both, so that bytes after it
-/// are lost and an end after it becomes that one. Nothing is delivered at the horizon. It takes no memory.
+/// Two lines of a connection under the session cut: the first close or reset of either ends both, so that bytes after
+/// it are lost and an end after it becomes that one. Nothing is delivered at the horizon. It takes no memory.
 pub fn cut_both<'a>(up: Line<'a>, down: Line<'a>) -> (Line<'a>, Line<'a>)
     requires up { IsLine up.line }
     requires down { IsLine down.line }
@@ -108,8 +108,8 @@ fn cut_limit(closing: &Option<Closing>) -> Moment
     }
 }
 
-/// How many parts of a line there are up to the last with a byte before an instant. The parts after it are passed from the
-/// back.
+/// How many parts of a line there are up to the last with a byte before an instant. The parts after it are passed from
+/// the back.
 pub(crate) fn kept_parts(parts: &[LinePart<'_>], limit: Moment) -> usize
     requires { IsInChunks (bytes_of_parts parts.now) }
     ensures { bytes_of_parts (take result parts.now)

@@ -12,7 +12,8 @@ use reassembly::LinePart;
 use std::alloc::{AllocError, Global};
 use std::slice;
 
-/// How many bytes the slices of a line have, one after another: a least number, and a number that is drawn for each above it.
+/// How many bytes the slices of a line have, one after another: a least number, and a number that is drawn for each
+/// above it.
 #[derive(Drop)]
 pub(crate) struct Sizes {
     least: usize,
@@ -58,8 +59,8 @@ impl Sizes {
     }
 }
 
-/// The parts of a line with its chunks cut into slices: each starts a chunk, and has the next size or what is left of its chunk.
-/// The slices share the bytes.
+/// The parts of a line with its chunks cut into slices: each starts a chunk, and has the next size or what is left of
+/// its chunk. The slices share the bytes.
 pub(crate) fn slice_parts<'a>(
     alloc: Global,
     parts: &[LinePart<'a>],
@@ -79,7 +80,8 @@ pub(crate) fn slice_parts<'a>(
     Ok(slices)
 }
 
-// Cuts a part, of which the first `left` bytes may go on with the slice before, and tells how many bytes the last slice lacks.
+// Cuts a part, of which the first `left` bytes may go on with the slice before, and tells how many bytes the last slice
+// lacks.
 fn slice_part<'a>(
     slices: &mut Vec<LinePart<'a>>,
     part: &LinePart<'a>,
@@ -118,7 +120,8 @@ fn slice_part<'a>(
 
 // Adds a part.
 fn add_part<'a>(parts: &mut Vec<LinePart<'a>>, part: &LinePart<'a>) -> Result<(), AllocError>
-    ensures added { OnOk result (bytes_of_parts parts.new.items ≡ bytes_of_parts parts.old.items ++ bytes_of_part part.now) }
+    ensures added { OnOk result
+        (bytes_of_parts parts.new.items ≡ bytes_of_parts parts.old.items ++ bytes_of_part part.now) }
     ensures filled { AreFilled parts.old.items → IsFilled part.now → AreFilled parts.new.items }
 {
     parts.extend_from_slice(slice::from_ref(part))?;

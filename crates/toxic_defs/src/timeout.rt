@@ -8,7 +8,8 @@ use crate::end_rule::finished;
 use pcap_records::Moment;
 use reassembly::{End, Line};
 
-/// A line without its bytes, closed at an instant; it is never closed where the time until then is 0. It takes no memory.
+/// A line without its bytes, closed at an instant; it is never closed where the time until then is 0. It takes no
+/// memory.
 pub(crate) fn run_timeout<'a>(line: Line<'a>, time: u64, at: Moment) -> Line<'a>
     ensures { result.line ≡ ended (timed_out time at) }
 {

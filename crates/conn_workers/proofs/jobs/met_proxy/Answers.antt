@@ -8,6 +8,6 @@ returns-in_err-number-clause-met c =
 
 pub returns-clause-met : goal.returns-clause-met
 returns-clause-met c =
-    rw (c.as_slice.ensures, c.as_slice-2.ensures)
+    rw c.met_of.ensures.met
     (sym (met_some c.args.server c.args.scenario.now c.in_ok-number.number c.index-proxies-number.result
     (sym c.proxy_of.ensures ∙ c.in_ok-number.was) (c.index-proxies-number.is ∙ ap (λ ps. get_or ps c.in_ok-number.number c.index-proxies-number.result) c.proxies.ensures.list)))

@@ -1,4 +1,4 @@
-use Rattle.std.proofs.Common.{◌≡◌, ◌<◌, ◌+◌, length, max, refl, sym, ap, ap₂, ◌∙◌, arith}
+use Rattle.std.proofs.Common.{◌≡◌, ◌<◌, ◌+◌, length, max, sym, ap, ap₂, ◌∙◌, arith}
 use Rattle.range_workers.specs.Ranges.{range_in}
 use Rattle.range_workers.specs.declared.ranges.Range.{Range}
 use Rattle.conn_table.proofs.RangeSteps.{carried-append}

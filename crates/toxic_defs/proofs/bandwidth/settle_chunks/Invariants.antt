@@ -7,7 +7,7 @@ invariant-parts l = record {
   within : l.count ≤ length l.parts;
   front : take l.count l.parts ≡ take l.count l.initial.parts;
   settled : drop l.count l.parts ≡ settled_parts (drop l.count l.initial.parts);
-  behind : l.behind ≡ going_on (drop l.count l.parts);
+  next : l.next ≡ going_on (drop l.count l.parts);
 }
 
 abbrev pub decreases-parts : goal.decreases-parts

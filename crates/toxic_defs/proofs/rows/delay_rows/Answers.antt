@@ -1,5 +1,5 @@
 use Rattle.std.proofs.Common.{refl}
 use Rattle.toxic_defs.proofs.rows.delay_rows.Goals as goal
 
-pub returns-clause-pieces : goal.returns-clause-pieces
-returns-clause-pieces c = refl
+pub returns-clause-slices : goal.returns-clause-slices
+returns-clause-slices c = refl

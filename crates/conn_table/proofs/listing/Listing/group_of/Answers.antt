@@ -8,7 +8,7 @@ use Rattle.conn_table.proofs.listing.Listing.group_of.Goals as goal
 
 grown : (c : goal.Joined-is_new) → IsGrown c.args.self.now c.if-is_new.self
 grown c =
-    let told = c.in_ok-place.ensures in
+    let told = c.in_ok-group.ensures in
     let there : Bool = list_any (same_pair c.args.pair) c.args.self.now.pairs.keys in
     elim c.if-is_new.branch [
       | then-is_new+in_ok-push w ↦

@@ -1,0 +1,28 @@
+//! Why a command line asks for no run.
+use std::alloc::AllocError;
+use thiserror::Error;
+
+/// Why a command line asks for no run.
+#[derive(Debug, Drop, Error)]
+pub enum Stop {
+    /// It asks for a text, as `--help` does.
+    #[error("{0}")]
+    Shown(String),
+    /// It has a fault, which the text tells.
+    #[error("{0}")]
+    Usage(String),
+    /// Memory was refused.
+    #[error("out of memory")]
+    Memory,
+}
+
+impl From<AllocError> for Stop {
+    ghost use Rattle.std.specs.Prelude.{◌≡◌};
+    ghost use Rattle.command_line.specs.declared.error.Stop.TheVariants.{Memory};
+
+    ghost from_gives = { λ _ r. r ≡ Memory };
+
+    fn from(_refused: AllocError) -> Stop {
+        Stop::Memory
+    }
+}

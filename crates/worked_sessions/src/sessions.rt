@@ -149,7 +149,7 @@ pub fn session() -> [RecordedSegment<'static>; 7] {
     ]
 }
 
-/// The plain session: seven recorded frames of one connection, written by a program that is none of this project. Its
+/// The plain session: seven recorded frames of one connection, written by a program of another project. Its
 /// fields have the lowest byte first; the records end at 94, 164, 234, 309, 379, 449 and 519.
 #[rattlefmt::skip]
 pub const PLAIN_SESSION: [u8; 519] = [

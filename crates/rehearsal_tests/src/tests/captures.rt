@@ -58,6 +58,21 @@ fn the_plain_session(rt: HostRuntime) {
     );
 }
 
+// The session's file without its last byte: the last record, an acknowledgment, is torn.
+#[test]
+fn a_torn_last_record(rt: HostRuntime) {
+    check_file(
+        &rt,
+        "a torn last record",
+        (&PLAIN_SESSION[..518], "[]"),
+        (
+            449,
+            &PLAIN_WRITTEN,
+            "scenario 0 records 6 rest 69 segment 6 short 0 notipv4 0 badipv4 0 fragment 0 nottcp 0 cut 0 badtcp 0 sameends 0\nconnections 1 unopened 0\n0 10.0.0.1:40000 > 10.0.0.2:80 proxy - up 5/5/0 fin+2000 max 0 down 0/0/0 fin+3000 max 0\n",
+        ),
+    );
+}
+
 #[test]
 fn an_empty_capture(rt: HostRuntime) {
     check(

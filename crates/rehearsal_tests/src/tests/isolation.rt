@@ -1,25 +1,18 @@
 //! One connection beside others: what they meet is nothing to it.
-use super::rehearsed::{Wanted, check_file};
+use super::rehearsed::{Wanted, is_wanted};
 use std::alloc::{AllocError, AllocGlobal, Global};
 use std::process::Abort;
 use std::sync::Wait;
 use std::thread::Threads;
 use worked_sessions::sessions::{
-    ACK, CLIENT, PSH, RecordedSegment, SECOND_CLIENT, SERVER, SYN, file, put, put_field, segment,
+    ACK, CLIENT, PSH, SECOND_CLIENT, SERVER, SYN, file, put, put_field, segment,
 };
 
-// The openings of two connections of one client, and two bytes of the second.
-fn connections() -> [RecordedSegment<'static>; 3] {
-    [
-        segment((1, 0), CLIENT, SECOND_CLIENT, SYN, (1000, 0), b""),
-        segment((1, 100_000), CLIENT, SERVER, SYN, (2000, 0), b""),
-        segment((1, 200_000), CLIENT, SERVER, PSH + ACK, (2001, 0), b"ab"),
-    ]
-}
-
-// Their file, with a packet of two bytes among them or without it.
+// The openings of two connections of one client, and two bytes of the second, with a packet of two bytes among them or without it.
 fn capture(alloc: Global, packet: bool) -> Result<Vec<u8>, AllocError> {
-    let [other, opening, data] = connections();
+    let other = segment((1, 0), CLIENT, SECOND_CLIENT, SYN, (1000, 0), b"");
+    let opening = segment((1, 100_000), CLIENT, SERVER, SYN, (2000, 0), b"");
+    let data = segment((1, 200_000), CLIENT, SERVER, PSH + ACK, (2001, 0), b"ab");
     let mut bytes = file(alloc, true, &[other, opening])?;
     if packet {
         for number in [1, 150_000, 2, 2] {
@@ -39,7 +32,8 @@ fn check_beside(
     wanted: Wanted<'_>,
 ) {
     let bytes = capture(rt.alloc(), packet).expect(rt, "memory");
-    check_file(rt, row, (&bytes, scenario), wanted);
+    let good = is_wanted(rt, rt.alloc(), (&bytes, scenario), wanted);
+    assert!(rt; good, "{row}");
 }
 
 // A proxy for the second connection's server alone, and beside one for that of the first.

@@ -79,28 +79,27 @@ fn is_report(output: &Output, begin: &str, end: &str) -> bool {
 const LATE: &str =
     "[{\"name\":\"web\",\"upstream\":\"10.0.0.2:80\",\"toxics\":[{\"type\":\"latency\",\"stream\":\"upstream\",\"attributes\":{\"latency\":100}}]}]";
 
-// Whether the plain session under three scenarios, of which the second has a proxy, has its outputs in the scenarios' order, under every
-// plan.
-fn are_in_order<R: Threads + Wait + Sync>(rt: &R, alloc: Global) -> Result<bool, RunFault> {
-    let scenarios = scenarios_of(alloc, &["[]", LATE, "[]"])?;
-    let outputs = rehearsed_by(rt, alloc, &PLAIN_SESSION, &scenarios, (1, 4096), &Through)?;
+// Whether outputs are those of the plain session under three scenarios, of which the second has that proxy, in the scenarios' order.
+fn are_in_order(outputs: &[Output]) -> bool {
     let plain = "proxy - up 5/5/0 fin+2000 max 0 down 0/0/0 fin+3000 max 0\n";
     let slow = "proxy 0 up 5/5/0 fin+101000 max 100000 down 0/0/0 fin+3000 max 0\n";
-    let in_order = match outputs.as_slice() {
+    match outputs {
         [first, second, third] => {
             is_report(first, "scenario 0 records 7 ", plain)
                 && is_report(second, "scenario 1 records 7 ", slow)
                 && is_report(third, "scenario 2 records 7 ", plain)
         }
         _ => false,
-    };
-    let always = under_every_plan(rt, alloc, &PLAIN_SESSION, &scenarios, outputs.as_slice())?;
-    Ok(in_order && always)
+    }
 }
 
 // The scenarios' outputs stand in the scenarios' order, whoever made them.
 #[test]
 fn scenarios_in_order_under_every_plan(rt: HostRuntime) {
-    let good = are_in_order(&rt, rt.alloc()) == Ok(true);
+    let texts = ["[]", LATE, "[]"];
+    let good = match under_every_plan(&rt, rt.alloc(), &PLAIN_SESSION, &texts) {
+        Ok(Some(outputs)) => are_in_order(outputs.as_slice()),
+        _ => false,
+    };
     assert!(rt; good);
 }

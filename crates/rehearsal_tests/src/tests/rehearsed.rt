@@ -1,5 +1,5 @@
 //! What a rehearsal gives, the same under every plan, and how it is compared with what is wanted.
-use pcap_records::{Capture, read_capture};
+use pcap_records::read_capture;
 use scenarios::{Hosts, Scenario, read_scenario};
 use std::alloc::{AllocError, AllocGlobal, Global};
 use std::process::Abort;
@@ -66,39 +66,24 @@ pub fn rehearsed_by<R: Threads + Wait + Sync, G: Gate>(
     }
 }
 
-// Whether the outputs of a rehearsal are these by 1, 2, 4 and 16 workers, in ranges of 1, 2, 3 and 4,096 records.
+// The outputs of a capture under scenarios' texts, where they are the same by 1, 2, 4 and 16 workers, in ranges of 1, 2, 3 and 4,096 records.
 pub fn under_every_plan<R: Threads + Wait + Sync>(
     rt: &R,
     alloc: Global,
     bytes: &[u8],
-    scenarios: &[Scenario],
-    wanted: &[Output],
-) -> Result<bool, RunFault> {
+    texts: &[&str],
+) -> Result<Option<Outputs>, RunFault> {
+    let scenarios = scenarios_of(alloc, texts)?;
+    let wanted = rehearsed_by(rt, alloc, bytes, &scenarios, (1, 4096), &Through)?;
     for workers in WORKERS {
         for cut in CUTS {
-            let outputs = rehearsed_by(rt, alloc, bytes, scenarios, (workers, cut), &Through)?;
-            if !same(outputs.as_slice(), wanted) {
-                return Ok(false);
+            let outputs = rehearsed_by(rt, alloc, bytes, &scenarios, (workers, cut), &Through)?;
+            if !same(outputs.as_slice(), wanted.as_slice()) {
+                return Ok(None);
             }
         }
     }
-    Ok(true)
-}
-
-// The one output of a capture under a scenario's text, where it is the same under every plan.
-pub fn output_of<R: Threads + Wait + Sync>(
-    rt: &R,
-    alloc: Global,
-    bytes: &[u8],
-    text: &str,
-) -> Result<Option<Output>, RunFault> {
-    let scenarios = scenarios_of(alloc, &[text])?;
-    let outputs = rehearsed_by(rt, alloc, bytes, &scenarios, (1, 4096), &Through)?;
-    if under_every_plan(rt, alloc, bytes, &scenarios, outputs.as_slice())? {
-        Ok(outputs.into_vec().pop())
-    } else {
-        Ok(None)
-    }
+    Ok(Some(wanted))
 }
 
 // What is wanted of an output: its capture's length, the bytes at some of its places, and the end of its report, which is the whole report
@@ -113,17 +98,28 @@ fn has_at(file: &[u8], place: usize, part: &[u8]) -> bool {
     }
 }
 
-fn is_wanted(output: &Output, (len, parts, end): Wanted<'_>) -> bool {
+// Whether a capture under a scenario's text has one output, which is such, under every plan.
+pub fn is_wanted<R: Threads + Wait + Sync>(
+    rt: &R,
+    alloc: Global,
+    (bytes, scenario): (&[u8], &str),
+    (len, parts, end): Wanted<'_>,
+) -> bool {
+    let outputs = match under_every_plan(rt, alloc, bytes, &[scenario]) {
+        Ok(Some(outputs)) => outputs,
+        _ => return false,
+    };
+    let [output] = outputs.as_slice() else {
+        return false;
+    };
     let (capture, report) = (output.capture.as_slice(), output.report.as_slice());
     for (place, part) in parts {
         if !has_at(capture, *place, part) {
             return false;
         }
     }
-    if end.starts_with("scenario ") && report.len() != end.len() {
-        return false;
-    }
-    capture.len() == len && report.ends_with(end.as_bytes())
+    let whole = !end.starts_with("scenario ") || report.len() == end.len();
+    whole && capture.len() == len && report.ends_with(end.as_bytes())
 }
 
 // A capture's file under a scenario's text gives such an output.
@@ -133,26 +129,8 @@ pub fn check_file(
     (bytes, scenario): (&[u8], &str),
     wanted: Wanted<'_>,
 ) {
-    let good = match output_of(rt, rt.alloc(), bytes, scenario) {
-        Ok(Some(output)) => is_wanted(&output, wanted),
-        _ => false,
-    };
+    let good = is_wanted(rt, rt.alloc(), (bytes, scenario), wanted);
     assert!(rt; good, "{row}");
-}
-
-// Whether recorded segments in a file of a byte order, without a proxy, give such an output.
-fn is_given<R: Threads + Wait + Sync>(
-    rt: &R,
-    alloc: Global,
-    little: bool,
-    segments: &[RecordedSegment<'_>],
-    wanted: Wanted<'_>,
-) -> Result<bool, RunFault> {
-    let bytes = file(alloc, little, segments)?;
-    match output_of(rt, alloc, &bytes, "[]")? {
-        Some(output) => Ok(is_wanted(&output, wanted)),
-        None => Ok(false),
-    }
 }
 
 // Recorded segments in a file of either byte order, without a proxy, give such an output.
@@ -164,23 +142,11 @@ pub fn check(
     parts: &[(usize, &[u8])],
     end: &str,
 ) {
-    let wanted = (len, parts, end);
-    let little = is_given(rt, rt.alloc(), true, segments, wanted) == Ok(true);
-    let big = is_given(rt, rt.alloc(), false, segments, wanted) == Ok(true);
-    assert!(rt; little && big, "{row}");
-}
-
-// The output of recorded segments through some toxics of their server's proxy.
-fn output_through<R: Threads + Wait + Sync>(
-    rt: &R,
-    alloc: Global,
-    segments: &[RecordedSegment<'_>],
-    before: &str,
-    toxic: (&str, &str),
-) -> Result<Option<Output>, RunFault> {
-    let bytes = file(alloc, true, segments)?;
-    let scenario = proxy_with(alloc, before, toxic)?;
-    output_of(rt, alloc, &bytes, &scenario)
+    let little = file(rt.alloc(), true, segments).expect(rt, "memory");
+    let big = file(rt.alloc(), false, segments).expect(rt, "memory");
+    let good = is_wanted(rt, rt.alloc(), (&little, "[]"), (len, parts, end))
+        && is_wanted(rt, rt.alloc(), (&big, "[]"), (len, parts, end));
+    assert!(rt; good, "{row}");
 }
 
 // Recorded segments through a toxic on upstream give such an output.
@@ -191,27 +157,22 @@ pub fn check_through(
     toxic: (&str, &str),
     wanted: Wanted<'_>,
 ) {
-    let good = match output_through(rt, rt.alloc(), segments, "", toxic) {
-        Ok(Some(output)) => is_wanted(&output, wanted),
-        _ => false,
-    };
+    let bytes = file(rt.alloc(), true, segments).expect(rt, "memory");
+    let scenario = proxy_with(rt.alloc(), "", toxic).expect(rt, "memory");
+    let good = is_wanted(rt, rt.alloc(), (&bytes, &scenario), wanted);
     assert!(rt; good, "{row}");
 }
 
-// The instants, in microseconds, and the payloads' lengths of the records that carry payload.
-fn pieces_of(alloc: Global, capture: &Capture<'_>) -> Result<Vec<(u64, u32)>, AllocError> {
+// Whether a capture's records that carry payload have these instants, in microseconds, and payloads of these lengths.
+fn are_pieces(alloc: Global, capture: &[u8], wanted: &[(u64, u32)]) -> Result<bool, RunFault> {
+    let capture = read_capture(alloc, capture)?;
     let mut pieces = Vec::new(alloc);
     for record in capture.records() {
         if record.len > 54 {
             pieces.push((record.stamp.count(), record.len - 54))?;
         }
     }
-    Ok(pieces)
-}
-
-fn are_pieces(alloc: Global, capture: &[u8], wanted: &[(u64, u32)]) -> Result<bool, RunFault> {
-    let capture = read_capture(alloc, capture)?;
-    Ok(pieces_of(alloc, &capture)?.as_slice() == wanted)
+    Ok(pieces.as_slice() == wanted)
 }
 
 // Recorded segments through a toxic on upstream, which stands after some others, are written in pieces of these instants and lengths.
@@ -222,10 +183,13 @@ pub fn check_pieces(
     (before, kind, attributes): (&str, &str, &str),
     wanted: &[(u64, u32)],
 ) {
-    let good = match output_through(rt, rt.alloc(), segments, before, (kind, attributes)) {
-        Ok(Some(output)) => {
-            are_pieces(rt.alloc(), output.capture.as_slice(), wanted) == Ok(true)
-        }
+    let bytes = file(rt.alloc(), true, segments).expect(rt, "memory");
+    let scenario = proxy_with(rt.alloc(), before, (kind, attributes)).expect(rt, "memory");
+    let good = match under_every_plan(rt, rt.alloc(), &bytes, &[&scenario]) {
+        Ok(Some(outputs)) => match outputs.as_slice() {
+            [output] => are_pieces(rt.alloc(), output.capture.as_slice(), wanted) == Ok(true),
+            _ => false,
+        },
         _ => false,
     };
     assert!(rt; good, "{row}");

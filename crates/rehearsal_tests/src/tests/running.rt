@@ -9,7 +9,7 @@ use std::io::{Read, Write};
 use std::process::Abort;
 use std::sync::Wait;
 use std::thread::Threads;
-use toxicap::{Counted, Options, Outputs, Plan, RunFault, answers, print_reports, undump};
+use toxicap::{Counted, Options, Plan, RunFault, answers, print_reports, undump};
 
 // A record of two bytes, and seven bytes of another.
 pub const STORED_RUN: &str = "d4c3b2a1 02000400 00000000 00000000 ffff0000 01000000
@@ -23,22 +23,7 @@ pub const STORED_REPORT: &str =
 const EMPTY_REPORT: &str =
     "scenario 0 records 0 rest 0 segment 0 short 0 notipv4 0 badipv4 0 fragment 0 nottcp 0 cut 0 badtcp 0 sameends 0\nconnections 0 unopened 0\n";
 
-// What a reader's capture answers under one scenario without proxies.
-fn answered<R: Read>(
-    rt: &(impl AllocGlobal + Threads + Wait + Sync),
-    reader: &mut Counted<R>,
-) -> Result<Outputs, RunFault>
-    requires { reader.old.failed < 2 ^ 64 - 1 }
-{
-    let options = Options {
-        hosts: Hosts::new(rt.alloc()),
-        seed: 0,
-        plan: Plan::new(1, 4096).ok_or(RunFault::Memory)?,
-    };
-    answers(rt, rt.alloc(), reader, &[b"[]".as_slice()], &options)
-}
-
-// What is printed of that.
+// What is printed of a reader's capture under one scenario without proxies.
 fn overview<R: Read, W: Write>(
     rt: &(impl AllocGlobal + Threads + Wait + Sync),
     reader: &mut Counted<R>,
@@ -47,7 +32,13 @@ fn overview<R: Read, W: Write>(
     requires reads { reader.old.failed < 2 ^ 64 - 1 }
     requires writes { writer.old.failed < 2 ^ 64 - 1 }
 {
-    print_reports(&answered(rt, reader)?, writer)
+    let options = Options {
+        hosts: Hosts::new(rt.alloc()),
+        seed: 0,
+        plan: Plan::new(1, 4096).ok_or(RunFault::Memory)?,
+    };
+    let outputs = answers(rt, rt.alloc(), reader, &[b"[]".as_slice()], &options)?;
+    print_reports(&outputs, writer)
 }
 
 // A run over a capture's bytes: the report that is written, or the refusal, which writes nothing.

@@ -18,18 +18,15 @@ const FILES: [(&str, &[u8]); 4] = [
     ("0001.txt", b""),
 ];
 
-fn output(alloc: Global, capture: &[u8], report: &[u8]) -> Result<Output, AllocError> {
-    Ok(Output {
-        capture: Values::of(capture.to_vec(alloc)?),
-        report: Values::of(report.to_vec(alloc)?),
-    })
-}
-
 fn two_outputs(alloc: Global) -> Result<Outputs, AllocError> {
     let [a, b, c, d] = FILES;
     let mut outputs = Vec::new(alloc);
-    outputs.push(output(alloc, a.1, b.1)?)?;
-    outputs.push(output(alloc, c.1, d.1)?)?;
+    for (capture, report) in [(a.1, b.1), (c.1, d.1)] {
+        outputs.push(Output {
+            capture: Values::of(capture.to_vec(alloc)?),
+            report: Values::of(report.to_vec(alloc)?),
+        })?;
+    }
     Ok(Values::of(outputs))
 }
 
@@ -86,20 +83,16 @@ impl Shelf for FailsOnce {
     }
 }
 
-// Whether two outputs to a shelf that fails at its put after so many put the first files on it, and none after the failed one.
-fn fails_after(alloc: Global, after: u64, first: &[(&str, &[u8])]) -> Result<bool, AllocError> {
-    let outputs = two_outputs(alloc)?;
-    let mut shelf = FailsOnce::new(alloc, after);
-    let stored = store_all(alloc, &outputs, &mut shelf);
+// Two outputs to a shelf that fails at its put after so many put the first files on it, and none after the failed one.
+fn check_failing(rt: &(impl Abort + AllocGlobal), after: u64, first: &[(&str, &[u8])]) {
+    let outputs = two_outputs(rt.alloc()).expect(rt, "memory");
+    let mut shelf = FailsOnce::new(rt.alloc(), after);
+    let stored = store_all(rt.alloc(), &outputs, &mut shelf);
     let refused = stored == Err(StoreFault::ShelfFailed { after })
         && shelf.failed == 1
         && shelf.calls_before == u64::MAX;
     let all = stored == Ok(()) && shelf.failed == 0 && first.len() == FILES.len();
-    Ok((refused || all) && are_files(shelf.kept.files(), first))
-}
-
-fn check_failing(rt: &(impl Abort + AllocGlobal), after: u64, first: &[(&str, &[u8])]) {
-    let good = fails_after(rt.alloc(), after, first) == Ok(true);
+    let good = (refused || all) && are_files(shelf.kept.files(), first);
     assert!(rt; good, "{after}");
 }
 
@@ -118,7 +111,10 @@ fn a_shelf_that_fails_once(rt: HostRuntime) {
 fn many_files(alloc: Global) -> Result<Vec<MemoryFile>, RunFault> {
     let mut outputs = Vec::new(alloc);
     for _ in 0..10_001 {
-        outputs.push(output(alloc, b"", b"")?)?;
+        outputs.push(Output {
+            capture: Values::of(Vec::new(alloc)),
+            report: Values::of(Vec::new(alloc)),
+        })?;
     }
     let mut shelf = MemoryShelf::new(alloc);
     store_all(alloc, &Values::of(outputs), &mut shelf)?;
@@ -154,25 +150,16 @@ fn a_shelf_in_memory(rt: HostRuntime) {
     assert!(rt; first && second && good && shelf.failed() == 0);
 }
 
-// Whether a folder with this path takes two outputs, or fails at once and counts that.
-fn is_stored<F: Files>(
-    files: &F,
-    alloc: Global,
-    path: &str,
-    wanted: Result<(), StoreFault>,
-) -> Result<bool, AllocError> {
-    let outputs = two_outputs(alloc)?;
-    let mut folder = Folder::new(alloc, files, path)?;
-    let stored = store_all(alloc, &outputs, &mut folder);
-    Ok(stored == wanted && folder.failed() == u64::from(wanted.is_err()))
-}
-
+// A folder with this path takes two outputs, or fails at once and counts that.
 fn check_store(
     rt: &(impl Abort + AllocGlobal + Files),
     path: &str,
     wanted: Result<(), StoreFault>,
 ) {
-    let good = is_stored(rt, rt.alloc(), path, wanted) == Ok(true);
+    let outputs = two_outputs(rt.alloc()).expect(rt, "memory");
+    let mut folder = Folder::new(rt.alloc(), rt, path).expect(rt, "memory");
+    let stored = store_all(rt.alloc(), &outputs, &mut folder);
+    let good = stored == wanted && folder.failed() == u64::from(wanted.is_err());
     assert!(rt; good, "{path}");
 }
 
@@ -207,7 +194,7 @@ fn a_folder(rt: HostRuntime) {
     fs::remove_dir_all(&rt, "files").expect(&rt, "removed");
 }
 
-// What is no name of a file in the folder of this path, or a path that is none.
+// No file in the folder of this path can have this name.
 fn check_no_name(rt: &(impl Abort + AllocGlobal + Files), path: &str, name: &str) {
     let mut folder = Folder::new(rt.alloc(), rt, path).expect(rt, "memory");
     let refused = folder.put(name, b"") == Err(ShelfError);

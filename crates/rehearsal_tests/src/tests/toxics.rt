@@ -1,94 +1,79 @@
 //! Sessions through toxics, with values from outside.
 use super::rehearsed::{check_pieces, check_through};
-use std::alloc::AllocGlobal;
-use std::process::Abort;
-use std::sync::Wait;
-use std::thread::Threads;
 use worked_sessions::sessions::{
     ACK, CLIENT, Host, PSH, RST, RecordedSegment, SERVER, SYN, segment, session,
 };
 
-// The plain session through a toxic on upstream gives such an output.
-fn check_session(
-    rt: &(impl Abort + AllocGlobal + Threads + Wait + Sync),
-    toxic: (&str, &str),
-    len: usize,
-    parts: &[(usize, &[u8])],
-    end: &str,
-) {
-    check_through(rt, toxic.1, &session(), toxic, (len, parts, end));
-}
-
 // The server's FIN comes before the client's bytes, which acknowledge it then: it acknowledges 1001, they and the client's FIN 5002.
 #[test]
 fn the_plain_session_under_latency(rt: HostRuntime) {
-    check_session(
+    check_through(
         &rt,
+        "latency latency 100, jitter 0",
+        &session(),
         ("latency", "\"latency\":100,\"jitter\":0"),
-        449,
-        &[
+        (449, &[
             (234 + 58, &[0, 0, 3, 0xe9]),
             (304 + 58, &[0, 0, 0x13, 0x8a]),
             (379 + 58, &[0, 0, 0x13, 0x8a]),
-        ],
-        "connections 1 unopened 0\n0 10.0.0.1:40000 > 10.0.0.2:80 proxy 0 up 5/5/0 fin+101000 max 100000 down 0/0/0 fin+3000 max 0\n",
+        ], "connections 1 unopened 0\n0 10.0.0.1:40000 > 10.0.0.2:80 proxy 0 up 5/5/0 fin+101000 max 100000 down 0/0/0 fin+3000 max 0\n"),
     )
 }
 
 #[test]
 fn the_plain_session_under_a_limit(rt: HostRuntime) {
-    check_session(
+    check_through(
         &rt,
+        "limit_data bytes 5",
+        &session(),
         ("limit_data", "\"bytes\":5"),
-        449,
-        &[],
-        "connections 1 unopened 0\n0 10.0.0.1:40000 > 10.0.0.2:80 proxy 0 up 5/5/0 fin+2000 max 0 down 0/0/0 fin+3000 max 0\n",
+        (449, &[], "connections 1 unopened 0\n0 10.0.0.1:40000 > 10.0.0.2:80 proxy 0 up 5/5/0 fin+2000 max 0 down 0/0/0 fin+3000 max 0\n"),
     );
-    check_session(
+    check_through(
         &rt,
+        "limit_data bytes 4",
+        &session(),
         ("limit_data", "\"bytes\":4"),
-        448,
-        &[],
-        "connections 1 unopened 0\n0 10.0.0.1:40000 > 10.0.0.2:80 proxy 0 up 4/5/0 close+1000 max 0 down 0/0/0 close+1000 max 0\n",
+        (448, &[], "connections 1 unopened 0\n0 10.0.0.1:40000 > 10.0.0.2:80 proxy 0 up 4/5/0 close+1000 max 0 down 0/0/0 close+1000 max 0\n"),
     );
-    check_session(
+    check_through(
         &rt,
+        "limit_data bytes 0",
+        &session(),
         ("limit_data", "\"bytes\":0"),
-        374,
-        &[],
-        "connections 1 unopened 0\n0 10.0.0.1:40000 > 10.0.0.2:80 proxy 0 up 0/5/0 close+1000 max 0 down 0/0/0 close+1000 max 0\n",
+        (374, &[], "connections 1 unopened 0\n0 10.0.0.1:40000 > 10.0.0.2:80 proxy 0 up 0/5/0 close+1000 max 0 down 0/0/0 close+1000 max 0\n"),
     )
 }
 
 #[test]
 fn the_plain_session_under_other_endings(rt: HostRuntime) {
-    check_session(
+    check_through(
         &rt,
+        "timeout timeout 0",
+        &session(),
         ("timeout", "\"timeout\":0"),
-        304,
-        &[],
-        "connections 1 unopened 0\n0 10.0.0.1:40000 > 10.0.0.2:80 proxy 0 up 0/5/0 open max 0 down 0/0/0 fin+3000 max 0\n",
+        (304, &[], "connections 1 unopened 0\n0 10.0.0.1:40000 > 10.0.0.2:80 proxy 0 up 0/5/0 open max 0 down 0/0/0 fin+3000 max 0\n"),
     );
-    check_session(
+    check_through(
         &rt,
+        "timeout timeout 1",
+        &session(),
         ("timeout", "\"timeout\":1"),
-        374,
-        &[],
-        "connections 1 unopened 0\n0 10.0.0.1:40000 > 10.0.0.2:80 proxy 0 up 0/5/0 close+1000 max 0 down 0/0/0 close+1000 max 0\n",
+        (374, &[], "connections 1 unopened 0\n0 10.0.0.1:40000 > 10.0.0.2:80 proxy 0 up 0/5/0 close+1000 max 0 down 0/0/0 close+1000 max 0\n"),
     );
-    check_session(
+    check_through(
         &rt,
+        "reset_peer timeout 0",
+        &session(),
         ("reset_peer", "\"timeout\":0"),
-        374,
-        &[],
-        "connections 1 unopened 0\n0 10.0.0.1:40000 > 10.0.0.2:80 proxy 0 up 0/5/0 reset+0 max 0 down 0/0/0 reset+0 max 0\n",
+        (374, &[], "connections 1 unopened 0\n0 10.0.0.1:40000 > 10.0.0.2:80 proxy 0 up 0/5/0 reset+0 max 0 down 0/0/0 reset+0 max 0\n"),
     );
-    check_session(
+    check_through(
         &rt,
+        "slow_close delay 2",
+        &session(),
         ("slow_close", "\"delay\":2"),
-        449,
-        &[],
-        "connections 1 unopened 0\n0 10.0.0.1:40000 > 10.0.0.2:80 proxy 0 up 5/5/0 fin+4000 max 0 down 0/0/0 fin+3000 max 0\n",
+        (449, &[], "connections 1 unopened 0\n0 10.0.0.1:40000 > 10.0.0.2:80 proxy 0 up 5/5/0 fin+4000 max 0 down 0/0/0 fin+3000 max 0\n"),
     )
 }
 

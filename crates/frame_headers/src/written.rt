@@ -6,8 +6,8 @@ ghost use Rattle.frame_headers.specs.Headers.{ethernet, headers, ipv4, ipv4_leng
 
 use crate::flag_bits::Flags;
 use crate::layout::{
-    ACK_AT, DATA_OFFSET_AT, DESTINATION_AT, FRAGMENT_AT, IPV4_LEN, IPV4_SUM_AT, IPV4_TYPE, LINK_LEN, MAC_LEN,
-    SEQ_AT, SOURCE_AT, TCP_LEN, TCP_SUM_AT, TO_PORT_AT, TOTAL_LEN_AT, TYPE_LEN,
+    ACK_AT, DATA_OFFSET_AT, DESTINATION_AT, FRAGMENT_AT, IPV4_LEN, IPV4_SUM_AT, IPV4_TYPE,
+    LINK_LEN, MAC_LEN, SEQ_AT, SOURCE_AT, TCP_LEN, TCP_SUM_AT, TO_PORT_AT, TOTAL_LEN_AT, TYPE_LEN,
 };
 use crate::peers::Peer;
 use crate::sums::{checksum, tcp_checksum};

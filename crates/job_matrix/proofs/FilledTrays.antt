@@ -1,5 +1,5 @@
 -- What lies in a tray into which values were put one after another.
-use Rattle.std.proofs.Common.{◌≡◌, ℕ, ◌<◌, ◌++◌, true, List, [], ◌∷◌, length, map, Option, Some, None, slice_get, refl, ◌≢◌, zero, suc, replicate, set, get_or, Result, Ok, Err, IfOk, sym, ap, ◌∙◌, subst, length-set, lt_of_not-le, arith}
+use Rattle.std.proofs.Common.{◌≡◌, ℕ, ◌<◌, ◌++◌, true, List, [], ◌∷◌, length, map, Option, Some, None, slice_get, refl, ◌≢◌, replicate, get_or, Result, Ok, Err, IfOk, sym, ap, ◌∙◌, subst, length-set, lt_of_not-le, arith}
 use Rattle.std.specs.Option.{is_some}
 use Rattle.std.proofs.lemmas.Option.{slice_get_within, slice_get-get_or, get_or_from_slice_get}
 use Rattle.job_matrix.specs.Trays.{Has, IsFree, put_one, put_where, IsRefused, jobs_in, EachJob, AreRight, with_values, put_each, FillsInOrder}
@@ -36,11 +36,6 @@ module _ {V : Type 0} where
       cc
 
 -- ---- values put one after another
-
-module _ {A : Type 0} where
-  pub empty_list : (xs : List A) → length xs ≡ 0 → xs ≡ []
-  empty_list [] none = refl
-  empty_list (x ∷ xs) none = absurd (omega (arith, none))
 
 module _ {V : Type 0} where
   length_where : (found : Option (Option V)) (slots : List (Option V)) (job : ℕ) (value : V) → length (put_where found slots job value) ≡ length slots

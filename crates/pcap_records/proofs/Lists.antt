@@ -4,7 +4,7 @@ use Rattle.std.specs.List.{range_with_len, take_while, find, AllByRecursion}
 use Rattle.std.specs.Option.{option_or}
 use Rattle.std.proofs.lemmas.List.{drop-take}
 use Rattle.std.proofs.lemmas.List.FromFn.{fill_by_all}
-use Rattle.std.proofs.lemmas.List.Elements.{All-from_recursion, recursion_from_All, All-get_or, All-append, All-push, All-take, All-drop, All-filter, All-weaker, All-map}
+use Rattle.std.proofs.lemmas.List.Elements.{All-from_recursion, recursion_from_All, All-get_or, All-append, All-take, All-drop, All-filter, All-weaker, All-map}
 use Rattle.std.proofs.lemmas.List.Sums.{take_while-cons}
 
 -- ---- what holds of each element

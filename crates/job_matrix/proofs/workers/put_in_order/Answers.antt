@@ -1,5 +1,6 @@
 use Rattle.std.proofs.Common.{◌≡◌, [], ℕ, replicate, None, sym, ◌∙◌, append_assoc, append-nil, arith}
-use Rattle.job_matrix.proofs.FilledTrays.{put_each-append, still_free, refused_not_free, all_filled, empty_list}
+use Rattle.std.proofs.lemmas.List.{nil_from_length}
+use Rattle.job_matrix.proofs.FilledTrays.{put_each-append, still_free, refused_not_free, all_filled}
 use Rattle.job_matrix.proofs.workers.put_in_order.Goals as goal
 
 pub loop-job-preserved : goal.loop-job-preserved
@@ -21,6 +22,6 @@ unreachable-requires g c =
 pub unreachable-requires-in_default-finish : goal.unreachable-requires-in_default-finish
 unreachable-requires-in_default-finish g c =
     let rest = c.loop-job.job-iterator.rest in
-    let none : rest.items ≡ [] = empty_list rest.items (omega (arith, c.in-None.ensures.steps.0, rest.ok)) in
+    let none : rest.items ≡ [] = nil_from_length rest.items (omega (arith, c.in-None.ensures.steps.0, rest.ok)) in
     let whole = sym (append-nil c.loop-job.yielded) ∙ (rw none at c.loop-job.invariant.whole) in
     all_filled c.args.count c.loop-job.yielded (rw (← whole) at c.requires) c.in_default-finish.field-0.1 (rw c.loop-job.invariant.filled at c.in_default-finish.ensures.err.1)

@@ -7,7 +7,6 @@ mod flag_bits;
 pub mod laws;
 mod layout;
 mod peers;
-mod places;
 mod sums;
 mod written;
 
@@ -15,6 +14,5 @@ pub use classes::{Class, Segment, classify};
 pub use flag_bits::Flags;
 pub use layout::{HEADERS_LEN, PAYLOAD_LIMIT};
 pub use peers::Peer;
-pub use places::{PayloadPlace, payload_place};
 pub use sums::{checksum, tcp_checksum};
 pub use written::{Header, put_headers};

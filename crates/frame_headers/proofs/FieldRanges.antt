@@ -8,6 +8,7 @@ use Rattle.frame_headers.specs.HeaderLaws.{SegmentsFit}
 use Rattle.frame_headers.specs.declared.peers.Peer.{Peer}
 use Rattle.frame_headers.specs.Frame.{number_at, datagram, ip_payload, sender, receiver, header_len, total_len, segment_fields}
 use Rattle.frame_headers.proofs.SegmentTests.{segment_tests}
+use Rattle.frame_headers.specs.Layout.{link_len}
 
 abbrev IsByte : ℕ → Type 0
 IsByte x = x < 256
@@ -33,9 +34,9 @@ pub segments_fit : SegmentsFit
 unfolding segment_fields
 segments_fit frame are is =
     let told = segment_tests frame is in
-    let long : 14 ≤ length frame = ltb-false (length frame) 14 told.short in
+    let long : link_len ≤ length frame = ltb-false (length frame) link_len told.short in
     let ip : List ℕ = datagram frame in
-    let ip_bytes : AllByRecursion IsByte ip = bytes_left 14 frame are in
+    let ip_bytes : AllByRecursion IsByte ip = bytes_left link_len frame are in
     let tcp : List ℕ = ip_payload ip in
     let tcp_bytes : AllByRecursion IsByte tcp =
     bytes_taken (total_len ip - header_len ip) (drop (header_len ip) ip) (bytes_left (header_len ip) ip ip_bytes) in

@@ -6,6 +6,7 @@ use Rattle.byteorder.specs.Endian.{big_bytes}
 use Rattle.frame_headers.specs.Sum.{tcp_sum}
 use Rattle.frame_headers.specs.Headers.{ethernet, headers, ipv4, tcp, tcp_with}
 use Rattle.frame_headers.specs.declared.written.Header.{Header}
+use Rattle.frame_headers.specs.Layout.{link_len, ipv4_len, headers_len}
 
 -- the part of a list that is written to
 abbrev pub left_from : ℕ → List ℕ → List ℕ
@@ -28,11 +29,11 @@ addresses_put to from xs t f =
     rw (take_at to (drop 6 xs) 6 t, drop_at to (drop 6 xs) 6 t, drop-drop 6 6 xs) (sym (append_assoc to from (drop 12 xs)))
 
 -- the Ethernet header, its addresses written before
-pub ethernet_put : (to from xs ys two : List ℕ) → length to ≡ 6 → length from ≡ 6 → ys ≡ put_mid 6 6 (to ++ drop 6 xs) from → two ≡ big_bytes 2 2048 ++ drop 2 (left_from 12 ys) → put_mid 12 (length ys - 12) ys two ≡ ((to ++ from) ++ big_bytes 2 2048) ++ drop 14 xs
+pub ethernet_put : (to from xs ys two : List ℕ) → length to ≡ 6 → length from ≡ 6 → ys ≡ put_mid 6 6 (to ++ drop 6 xs) from → two ≡ big_bytes 2 2048 ++ drop 2 (left_from 12 ys) → put_mid 12 (length ys - 12) ys two ≡ ((to ++ from) ++ big_bytes 2 2048) ++ drop link_len xs
 ethernet_put to from xs ys two t f e g =
     let len : length (to ++ from) ≡ 12 = omega (arith, length-append to from) in
     rw (g, e, addresses_put to from xs t f, left_from-append (to ++ from) (drop 12 xs) 12 len, put_mid-append (to ++ from) (drop 12 xs) (big_bytes 2 2048 ++ drop 2 (drop 12 xs)) 12 len, drop-drop 2 12 xs)
-    (sym (append_assoc (to ++ from) (big_bytes 2 2048) (drop 14 xs)))
+    (sym (append_assoc (to ++ from) (big_bytes 2 2048) (drop link_len xs)))
 
 -- the TCP header, written with 0 in the place of its checksum before
 pub tcp_put : (h : Header) (xs head two : List ℕ) (sum : ℕ) → head ≡ tcp_with 0 h ++ drop 20 xs → sum ≡ tcp_sum h.from.addr h.to.addr head → two ≡ big_bytes 2 sum ++ drop 2 (left_from 16 head) → put_mid 16 (length head - 16) head two ≡ tcp h (drop 20 xs) ++ drop 20 xs
@@ -47,15 +48,15 @@ unfolding ipv4
 length-ipv4 h n = refl
 
 -- the three headers, one after another
-pub headers_put : (h : Header) (n : ℕ) (xs link ip frame segment : List ℕ) → 54 ≤ length xs → length link ≡ length xs → n ≡ length xs - 34 → link ≡ ethernet h ++ drop 14 xs → ip ≡ ipv4 h n ++ drop 20 (left_from 14 link) → frame ≡ put_mid 14 (length link - 14) link ip → segment ≡ tcp h (drop 20 (left_from 34 frame)) ++ drop 20 (left_from 34 frame) → put_mid 34 (length frame - 34) frame segment ≡ headers h (drop 54 xs) ++ drop 54 xs
+pub headers_put : (h : Header) (n : ℕ) (xs link ip frame segment : List ℕ) → headers_len ≤ length xs → length link ≡ length xs → n ≡ length xs - (link_len + ipv4_len) → link ≡ ethernet h ++ drop link_len xs → ip ≡ ipv4 h n ++ drop 20 (left_from link_len link) → frame ≡ put_mid link_len (length link - link_len) link ip → segment ≡ tcp h (drop 20 (left_from (link_len + ipv4_len) frame)) ++ drop 20 (left_from (link_len + ipv4_len) frame) → put_mid (link_len + ipv4_len) (length frame - (link_len + ipv4_len)) frame segment ≡ headers h (drop headers_len xs) ++ drop headers_len xs
 unfolding headers
 headers_put h n xs link ip frame segment room same count e i f s =
-    let len : length (ethernet h) ≡ 14 = omega (arith, length-append (ethernet h) (drop 14 xs), length-drop 14 xs, ap length e) in
+    let len : length (ethernet h) ≡ link_len = omega (arith, length-append (ethernet h) (drop link_len xs), length-drop link_len xs, ap length e) in
     let head : List ℕ = ethernet h ++ ipv4 h n in
-    let head_len : length head ≡ 34 = omega (arith, length-append (ethernet h) (ipv4 h n), length-ipv4 h n) in
-    let ip_is : ip ≡ ipv4 h n ++ drop 34 xs = i ∙ rw (e, left_from-append (ethernet h) (drop 14 xs) 14 len, drop-drop 20 14 xs) refl in
-    let frame_is : frame ≡ head ++ drop 34 xs =
-    f ∙ rw (ip_is, e, put_mid-append (ethernet h) (drop 14 xs) (ipv4 h n ++ drop 34 xs) 14 len) (sym (append_assoc (ethernet h) (ipv4 h n) (drop 34 xs))) in
-    let segment_is : segment ≡ tcp h (drop 54 xs) ++ drop 54 xs = s ∙ rw (frame_is, left_from-append head (drop 34 xs) 34 head_len, drop-drop 20 34 xs) refl in
-    let number_at : n ≡ 20 + length (drop 54 xs) = omega (arith, length-drop 54 xs) in
-    rw (segment_is, frame_is, put_mid-append head (drop 34 xs) (tcp h (drop 54 xs) ++ drop 54 xs) 34 head_len, number_at) (sym (append_assoc _ (tcp h (drop 54 xs)) (drop 54 xs)))
+    let head_len : length head ≡ (link_len + ipv4_len) = omega (arith, length-append (ethernet h) (ipv4 h n), length-ipv4 h n) in
+    let ip_is : ip ≡ ipv4 h n ++ drop (link_len + ipv4_len) xs = i ∙ rw (e, left_from-append (ethernet h) (drop link_len xs) link_len len, drop-drop 20 link_len xs) refl in
+    let frame_is : frame ≡ head ++ drop (link_len + ipv4_len) xs =
+    f ∙ rw (ip_is, e, put_mid-append (ethernet h) (drop link_len xs) (ipv4 h n ++ drop (link_len + ipv4_len) xs) link_len len) (sym (append_assoc (ethernet h) (ipv4 h n) (drop (link_len + ipv4_len) xs))) in
+    let segment_is : segment ≡ tcp h (drop headers_len xs) ++ drop headers_len xs = s ∙ rw (frame_is, left_from-append head (drop (link_len + ipv4_len) xs) (link_len + ipv4_len) head_len, drop-drop 20 (link_len + ipv4_len) xs) refl in
+    let number_at : n ≡ 20 + length (drop headers_len xs) = omega (arith, length-drop headers_len xs) in
+    rw (segment_is, frame_is, put_mid-append head (drop (link_len + ipv4_len) xs) (tcp h (drop headers_len xs) ++ drop headers_len xs) (link_len + ipv4_len) head_len, number_at) (sym (append_assoc _ (tcp h (drop headers_len xs)) (drop headers_len xs)))

@@ -5,36 +5,30 @@ use Rattle.std.proofs.lemmas.List.{drop-take, take-take, drop-drop}
 use Rattle.frame_headers.specs.HeaderLaws.{IsPayloadInPlace, PayloadsAreInPlace}
 use Rattle.frame_headers.specs.Frame.{segment, version, frame_class, datagram, ip_payload, header_len, total_len, data_offset, segment_fields}
 use Rattle.frame_headers.proofs.SegmentTests.{segment_tests}
+use Rattle.frame_headers.specs.Layout.{link_len}
 
 -- which lengths of a segment's frame, datagram and TCP bytes fit one another
-pub record HasWholeHeaders (frame : List ℕ) : Type 0 where
-  pub link : 14 ≤ length frame
-  pub least_ip : 20 ≤ length (datagram frame)
-  pub header : header_len (datagram frame) ≤ total_len (datagram frame)
-  pub total : total_len (datagram frame) ≤ length (datagram frame)
-  pub carried : length (ip_payload (datagram frame)) ≡ total_len (datagram frame) - header_len (datagram frame)
-  pub least_tcp : 20 ≤ length (ip_payload (datagram frame))
-  pub offset : data_offset (ip_payload (datagram frame)) ≤ length (ip_payload (datagram frame))
+record HasWholeHeaders (frame : List ℕ) : Type 0 where
+  link : link_len ≤ length frame
+  header : header_len (datagram frame) ≤ total_len (datagram frame)
+  total : total_len (datagram frame) ≤ length (datagram frame)
+  carried : length (ip_payload (datagram frame)) ≡ total_len (datagram frame) - header_len (datagram frame)
+  offset : data_offset (ip_payload (datagram frame)) ≤ length (ip_payload (datagram frame))
 
-pub HasWholeHeaders-segment : (frame : List ℕ) → frame_class frame ≡ segment → HasWholeHeaders frame
+HasWholeHeaders-segment : (frame : List ℕ) → frame_class frame ≡ segment → HasWholeHeaders frame
 HasWholeHeaders-segment frame is =
     let ip : List ℕ = datagram frame in
     let tcp : List ℕ = ip_payload ip in
     let told = segment_tests frame is in
     let ipv4 = or_parts (nat_lt (length ip) 20 || not (version ip == 4) || nat_lt (header_len ip) 20) (nat_lt (total_len ip) (header_len ip)) told.bad_ipv4 in
-    let ipv4' = or_parts (nat_lt (length ip) 20 || not (version ip == 4)) (nat_lt (header_len ip) 20) ipv4.0 in
-    let ipv4'' = or_parts (nat_lt (length ip) 20) (not (version ip == 4)) ipv4'.0 in
     let tcp4 = or_parts (nat_lt (length tcp) 20 || nat_lt (data_offset tcp) 20) (nat_lt (length tcp) (data_offset tcp)) told.bad_tcp in
-    let tcp4' = or_parts (nat_lt (length tcp) 20) (nat_lt (data_offset tcp) 20) tcp4.0 in
     let header : header_len ip ≤ total_len ip = ltb-false (total_len ip) (header_len ip) ipv4.1 in
     let total : total_len ip ≤ length ip = ltb-false (length ip) (total_len ip) told.cut in
     record {
-      link = ltb-false (length frame) 14 told.short;
-      least_ip = ltb-false (length ip) 20 ipv4''.0;
+      link = ltb-false (length frame) link_len told.short;
       header = header;
       total = total;
       carried = omega (arith, length-take (total_len ip - header_len ip) (drop (header_len ip) ip), length-drop (header_len ip) ip, header, total);
-      least_tcp = ltb-false (length tcp) 20 tcp4'.0;
       offset = ltb-false (length tcp) (data_offset tcp) tcp4.1;
     }
 
@@ -45,7 +39,7 @@ part d n xs within =
     let e = drop-take d (n - d) xs in
     rw (← whole) at e
 
-pub length-payload : (frame : List ℕ) → HasWholeHeaders frame
+length-payload : (frame : List ℕ) → HasWholeHeaders frame
     → length (segment_fields frame).payload ≡ total_len (datagram frame) - header_len (datagram frame) - data_offset (ip_payload (datagram frame))
 unfolding segment_fields
 length-payload frame whole =
@@ -62,17 +56,17 @@ in_place frame whole =
     let t : ℕ = total_len ip in
     let d : ℕ = data_offset tcp in
     let len : length (segment_fields frame).payload ≡ t - h - d = length-payload frame whole in
-    let count : 14 + h + d + (t - h - d) - (14 + h + d) ≡ t - h - d = omega arith in
-    let first : drop (14 + h + d) frame ≡ drop d (drop h ip) = rw (drop-drop d h ip, drop-drop (h + d) 14 frame) (reorder h d frame) in
+    let count : link_len + h + d + (t - h - d) - (link_len + h + d) ≡ t - h - d = omega arith in
+    let first : drop (link_len + h + d) frame ≡ drop d (drop h ip) = rw (drop-drop d h ip, drop-drop (h + d) link_len frame) (reorder h d frame) in
     let cut : drop d tcp ≡ take (t - h - d) (drop d (drop h ip)) = part d (t - h) (drop h ip) (omega (arith, whole.carried, whole.offset)) in
     let all : length tcp - d ≡ t - h - d = omega (arith, whole.carried) in
     record {
-      within = omega (arith, len, length-drop 14 frame, whole.link, whole.total, whole.header, whole.carried, whole.offset);
+      within = omega (arith, len, length-drop link_len frame, whole.link, whole.total, whole.header, whole.carried, whole.offset);
       bytes = rw (len, count, first, all, cut, take-take (t - h - d) (t - h - d) (drop d (drop h ip)) (omega arith)) refl;
     }
   where
-    reorder : (h d : ℕ) (frame : List ℕ) → drop (14 + h + d) frame ≡ drop (14 + (h + d)) frame
-    reorder h d frame = let e : 14 + h + d ≡ 14 + (h + d) = omega arith in rw e refl
+    reorder : (h d : ℕ) (frame : List ℕ) → drop (link_len + h + d) frame ≡ drop (link_len + (h + d)) frame
+    reorder h d frame = let e : link_len + h + d ≡ link_len + (h + d) = omega arith in rw e refl
 
 pub payloads_are_in_place : PayloadsAreInPlace
 payloads_are_in_place frame is = in_place frame (HasWholeHeaders-segment frame is)

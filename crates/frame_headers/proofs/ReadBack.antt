@@ -9,29 +9,30 @@ use Rattle.frame_headers.specs.HeaderLaws.{IsHeader, IsReadBack, SumsToNothing, 
 use Rattle.frame_headers.specs.declared.peers.Peer.{Peer}
 use Rattle.frame_headers.specs.declared.written.Header.{Header}
 use Rattle.frame_headers.proofs.FilledSums.{sum16-ipv4, tcp_sum-tcp}
+use Rattle.frame_headers.specs.Layout.{link_len, ipv4_len, headers_len, payload_limit}
 
 -- what stands at the places of a frame with this header and payload
 record Reads (to from : List ℕ) (h : Header) (bytes frame : List ℕ) : Type 0 where
-  len : length frame ≡ 54 + length bytes
+  len : length frame ≡ headers_len + length bytes
   mac_to : slice_range frame 0 6 ≡ to
   mac_from : slice_range frame 6 12 ≡ from
   link_type : number_at 2 12 frame ≡ 2048
-  first : slice_index (drop 14 frame) 0 ≡ 69
-  total : number_at 2 2 (drop 14 frame) ≡ 40 + length bytes
-  fragment : number_at 2 6 (drop 14 frame) ≡ 16384
-  protocol : slice_index (drop 14 frame) 9 ≡ 6
-  source : number_at 4 12 (drop 14 frame) ≡ h.from.addr
-  destination : number_at 4 16 (drop 14 frame) ≡ h.to.addr
-  ip : slice_range (drop 14 frame) 0 20 ≡ ipv4 h (20 + length bytes)
-  after_ip : drop 20 (drop 14 frame) ≡ drop 34 frame
-  segment : drop 34 frame ≡ tcp h bytes ++ bytes
-  from_port : number_at 2 0 (drop 34 frame) ≡ h.from.port
-  to_port : number_at 2 2 (drop 34 frame) ≡ h.to.port
-  seq : number_at 4 4 (drop 34 frame) ≡ h.seq
-  ack : number_at 4 8 (drop 34 frame) ≡ h.ack
-  offset : slice_index (drop 34 frame) 12 ≡ 80
-  flags : slice_index (drop 34 frame) 13 ≡ h.flags
-  payload : drop 20 (drop 34 frame) ≡ bytes
+  first : slice_index (drop link_len frame) 0 ≡ 69
+  total : number_at 2 2 (drop link_len frame) ≡ 40 + length bytes
+  fragment : number_at 2 6 (drop link_len frame) ≡ 16384
+  protocol : slice_index (drop link_len frame) 9 ≡ 6
+  source : number_at 4 12 (drop link_len frame) ≡ h.from.addr
+  destination : number_at 4 16 (drop link_len frame) ≡ h.to.addr
+  ip : slice_range (drop link_len frame) 0 20 ≡ ipv4 h (20 + length bytes)
+  after_ip : drop 20 (drop link_len frame) ≡ drop (link_len + ipv4_len) frame
+  segment : drop (link_len + ipv4_len) frame ≡ tcp h bytes ++ bytes
+  from_port : number_at 2 0 (drop (link_len + ipv4_len) frame) ≡ h.from.port
+  to_port : number_at 2 2 (drop (link_len + ipv4_len) frame) ≡ h.to.port
+  seq : number_at 4 4 (drop (link_len + ipv4_len) frame) ≡ h.seq
+  ack : number_at 4 8 (drop (link_len + ipv4_len) frame) ≡ h.ack
+  offset : slice_index (drop (link_len + ipv4_len) frame) 12 ≡ 80
+  flags : slice_index (drop (link_len + ipv4_len) frame) 13 ≡ h.flags
+  payload : drop 20 (drop (link_len + ipv4_len) frame) ≡ bytes
 
 -- a frame between two Ethernet addresses
 abbrev frame_between : List ℕ → List ℕ → Header → List ℕ → List ℕ
@@ -49,7 +50,7 @@ six P p (a ∷ b ∷ c ∷ d ∷ []) l = absurd (omega arith)
 six P p (a ∷ b ∷ c ∷ d ∷ e ∷ []) l = absurd (omega arith)
 six P p (a ∷ b ∷ c ∷ d ∷ e ∷ f ∷ g ∷ xs) l = absurd (omega arith)
 
-reads_bytes : (h : Header) (bytes : List ℕ) → IsHeader h → length bytes ≤ 1460 → (a b c d e f i j k l m n : ℕ) → let to : List ℕ = a ∷ b ∷ c ∷ d ∷ e ∷ f ∷ [] in let from : List ℕ = i ∷ j ∷ k ∷ l ∷ m ∷ n ∷ [] in Reads to from h bytes (frame_between to from h bytes)
+reads_bytes : (h : Header) (bytes : List ℕ) → IsHeader h → length bytes ≤ payload_limit → (a b c d e f i j k l m n : ℕ) → let to : List ℕ = a ∷ b ∷ c ∷ d ∷ e ∷ f ∷ [] in let from : List ℕ = i ∷ j ∷ k ∷ l ∷ m ∷ n ∷ [] in Reads to from h bytes (frame_between to from h bytes)
 unfolding ipv4 tcp
 reads_bytes h bytes r small a b c d e f i j k l m n =
     let frame : List ℕ = frame_between (a ∷ b ∷ c ∷ d ∷ e ∷ f ∷ []) (i ∷ j ∷ k ∷ l ∷ m ∷ n ∷ []) h bytes in
@@ -63,7 +64,7 @@ reads_bytes h bytes r small a b c d e f i j k l m n =
       fragment = refl;
       protocol = refl;
       source = big_number-reads_back 4 h.from.addr (drop 30 frame) (omega (arith, r.from_addr));
-      destination = big_number-reads_back 4 h.to.addr (drop 34 frame) (omega (arith, r.to_addr));
+      destination = big_number-reads_back 4 h.to.addr (drop (link_len + ipv4_len) frame) (omega (arith, r.to_addr));
       ip = refl;
       after_ip = refl;
       segment = refl;
@@ -76,7 +77,7 @@ reads_bytes h bytes r small a b c d e f i j k l m n =
       payload = refl;
     }
 
-reads : (h : Header) (bytes : List ℕ) → IsHeader h → length bytes ≤ 1460 → Reads h.mac_to h.mac_from h bytes (headers h bytes ++ bytes)
+reads : (h : Header) (bytes : List ℕ) → IsHeader h → length bytes ≤ payload_limit → Reads h.mac_to h.mac_from h bytes (headers h bytes ++ bytes)
 unfolding headers
 reads h bytes r small =
     six (λ to. Reads to h.mac_from h bytes (frame_between to h.mac_from h bytes)) (λ a b c d e f.
@@ -84,20 +85,20 @@ reads h bytes r small =
     reads_bytes h bytes r small a b c d e f i j k l m n) h.mac_from r.mac_from) h.mac_to r.mac_to
 
 -- the TCP segment reaches to the frame's end
-carried_is : (to from : List ℕ) (h : Header) (bytes frame : List ℕ) → Reads to from h bytes frame → ip_payload (datagram frame) ≡ drop 34 frame
+carried_is : (to from : List ℕ) (h : Header) (bytes frame : List ℕ) → Reads to from h bytes frame → ip_payload (datagram frame) ≡ drop (link_len + ipv4_len) frame
 carried_is to from h bytes frame r =
-    let all : take (40 + length bytes - 20) (drop 34 frame) ≡ drop 34 frame = take_all (40 + length bytes - 20) (drop 34 frame) (omega (arith, length-drop 34 frame, r.len)) in
+    let all : take (40 + length bytes - 20) (drop (link_len + ipv4_len) frame) ≡ drop (link_len + ipv4_len) frame = take_all (40 + length bytes - 20) (drop (link_len + ipv4_len) frame) (omega (arith, length-drop (link_len + ipv4_len) frame, r.len)) in
     rw (r.first, r.total, r.after_ip, all) refl
 
 fields_read : (h : Header) (bytes frame : List ℕ) → Reads h.mac_to h.mac_from h bytes frame → segment_fields frame ≡ fields_with h bytes
 unfolding segment_fields
 fields_read h bytes frame r =
     let tcp_bytes = carried_is h.mac_to h.mac_from h bytes frame r in
-    let all : take (length (drop 34 frame) - 20) bytes ≡ bytes = take_all (length (drop 34 frame) - 20) bytes (omega (arith, length-drop 34 frame, r.len)) in
+    let all : take (length (drop (link_len + ipv4_len) frame) - 20) bytes ≡ bytes = take_all (length (drop (link_len + ipv4_len) frame) - 20) bytes (omega (arith, length-drop (link_len + ipv4_len) frame, r.len)) in
     rw (tcp_bytes, r.mac_to, r.mac_from, r.source, r.destination, r.from_port, r.to_port, r.seq, r.ack, r.flags, r.offset, r.payload, all) refl
 
 -- both sums of written headers
-pub sums_filled : (h : Header) (bytes : List ℕ) → IsHeader h → length bytes ≤ 1460 → SumsToNothing h (headers h bytes ++ bytes)
+pub sums_filled : (h : Header) (bytes : List ℕ) → IsHeader h → length bytes ≤ payload_limit → SumsToNothing h (headers h bytes ++ bytes)
 sums_filled h bytes r small =
     let at = reads h bytes r small in
     record { ipv4 = rw at.ip (sum16-ipv4 h (20 + length bytes)); tcp = rw (at.after_ip, at.segment) (tcp_sum-tcp h bytes) }
@@ -123,24 +124,24 @@ no_test frame a b c d e f g h = rw (a, b, c, d, e, f, g, h) refl
 frame_class_read : (h : Header) (bytes frame : List ℕ) → Reads h.mac_to h.mac_from h bytes frame → h.from ≢ h.to → frame_class frame ≡ segment
 frame_class_read h bytes frame r n =
     let tcp_bytes = carried_is h.mac_to h.mac_from h bytes frame r in
-    let rest = length-drop 14 frame in
-    let tcp_len = length-drop 34 frame in
-    no_test frame (le-ltb (length frame) 14 (omega (arith, r.len))) (rw r.link_type refl)
-    (rw (le-ltb (length (drop 14 frame)) 20 (omega (arith, r.len)), r.first, le-ltb (number_at 2 2 (drop 14 frame)) 20 (omega (arith, r.total))) refl)
+    let rest = length-drop link_len frame in
+    let tcp_len = length-drop (link_len + ipv4_len) frame in
+    no_test frame (le-ltb (length frame) link_len (omega (arith, r.len))) (rw r.link_type refl)
+    (rw (le-ltb (length (drop link_len frame)) 20 (omega (arith, r.len)), r.first, le-ltb (number_at 2 2 (drop link_len frame)) 20 (omega (arith, r.total))) refl)
     (rw r.fragment refl)
     (rw r.protocol refl)
-    (le-ltb (length (drop 14 frame)) (number_at 2 2 (drop 14 frame)) (omega (arith, r.len, r.total)))
-    (rw (tcp_bytes, r.offset, le-ltb (length (drop 34 frame)) 20 (omega (arith, r.len))) refl)
+    (le-ltb (length (drop link_len frame)) (number_at 2 2 (drop link_len frame)) (omega (arith, r.len, r.total)))
+    (rw (tcp_bytes, r.offset, le-ltb (length (drop (link_len + ipv4_len) frame)) 20 (omega (arith, r.len))) refl)
     (rw (tcp_bytes, r.source, r.destination, r.from_port, r.to_port) (differ h.from h.to n))
 
 -- written headers are read back
-pub read_back : (h : Header) (bytes : List ℕ) → IsHeader h → length bytes ≤ 1460 → IsReadBack h bytes (headers h bytes ++ bytes)
+pub read_back : (h : Header) (bytes : List ℕ) → IsHeader h → length bytes ≤ payload_limit → IsReadBack h bytes (headers h bytes ++ bytes)
 read_back h bytes r small =
     let at = reads h bytes r small in
     record { fields = fields_read h bytes (headers h bytes ++ bytes) at; class = frame_class_read h bytes (headers h bytes ++ bytes) at }
 
--- there are 54 bytes of headers
-pub length-headers : (h : Header) (bytes : List ℕ) → IsHeader h → length bytes ≤ 1460 → length (headers h bytes) ≡ 54
+-- how many bytes of headers there are
+pub length-headers : (h : Header) (bytes : List ℕ) → IsHeader h → length bytes ≤ payload_limit → length (headers h bytes) ≡ headers_len
 length-headers h bytes r small =
     let at = reads h bytes r small in
     omega (arith, at.len, length-append (headers h bytes) bytes)

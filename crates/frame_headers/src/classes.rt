@@ -107,7 +107,7 @@ fn is_not_ipv4(packet: &[u8]) -> bool
 }
 
 // What follows the Ethernet header.
-pub(crate) fn after_link(packet: &[u8]) -> &[u8]
+fn after_link(packet: &[u8]) -> &[u8]
     requires { LINK_LEN ≤ length packet.now }
     ensures { result.now ≡ datagram packet.now }
 {

@@ -2,11 +2,12 @@
 use Rattle.std.proofs.Common.{arith, length-drop}
 use Rattle.frame_headers.proofs.ReadBack.{read_back, sums_filled}
 use Rattle.frame_headers.proofs.written.put_headers.Goals as goal
+use Rattle.frame_headers.specs.Layout.{headers_len}
 
 pub returns-clause-sums : goal.returns-clause-sums
 returns-clause-sums c =
-    rw c.write_headers.ensures (sums_filled c.args.header.now _ c.header_fits.ensures (omega (arith, length-drop 54 c.args.frame.now)))
+    rw c.write_headers.ensures (sums_filled c.args.header.now _ c.header_fits.ensures (omega (arith, length-drop headers_len c.args.frame.now)))
 
 pub returns-clause-read : goal.returns-clause-read
 returns-clause-read c =
-    rw c.write_headers.ensures (read_back c.args.header.now _ c.header_fits.ensures (omega (arith, length-drop 54 c.args.frame.now)))
+    rw c.write_headers.ensures (read_back c.args.header.now _ c.header_fits.ensures (omega (arith, length-drop headers_len c.args.frame.now)))

@@ -4,7 +4,7 @@ use Rattle.std.proofs.Math.Nat.{le_trans, le_refl}
 use Rattle.std.proofs.lemmas.List.{length-take}
 use Rattle.reassembly.specs.RecordedLines.{LineByte}
 use Rattle.reassembly.specs.LineLaws.{IsInChunks}
-use Rattle.reassembly.proofs.MappedLists.{all_filter}
+use Rattle.pcap_records.proofs.Lists.{all_filter}
 use Rattle.toxic_defs.specs.Laws.{DelaysFirst, AreFrom, values_of, DelayedBytesAreTheFirst, AreUpTo}
 use Rattle.toxic_defs.proofs.FirstBytes.{bytes_before, first_stay, chunks_go_on, before_short, before_in_chunks, taken_all, taken_in_chunks}
 

@@ -1,6 +1,6 @@
 mod GroupingFilters
 mod GroupingOrder
-mod GroupingPairs
+pub mod GroupingPairs
 mod GroupingBeginnings
 mod GroupingMembers
 mod GroupingUnopened
@@ -16,4 +16,4 @@ mod Growths
 mod Joins
 mod TableForms
 mod TableSoundness
-mod Sides
+pub mod Sides

@@ -5,7 +5,7 @@ use Rattle.std.specs.List.{cons_option}
 use Rattle.std.proofs.lemmas.List.{length-map, get_or-map, map-append, append-nil}
 use Rattle.std.proofs.lemmas.Option.{slice_get-map, slice_get_read}
 use Rattle.pcap_records.specs.Instants.{instants}
-use Rattle.pcap_records.specs.declared.record_place.Record.{Record}
+use Rattle.pcap_records.specs.declared.capture.Record.{Record}
 use Rattle.pcap_records.specs.Reading.{Packet}
 use Rattle.pcap_records.specs.CaptureView.{CaptureView, contents_of, packet_of, packet_at, IsSoundCapture, IsWithinFile}
 use Rattle.frame_headers.specs.Frame.{FrameClass, frame_class, segment, payload_offset}

@@ -39,10 +39,10 @@ last_test false false false false false false true h is = absurd cc
 last_test false false false false false false false true is = absurd cc
 last_test false false false false false false false false is = refl
 
-abbrev HasTwoPeers : IndexedSegment → Type 0
+abbrev pub HasTwoPeers : IndexedSegment → Type 0
 HasTwoPeers s = same_peer s.timed.fields.from s.timed.fields.to ≡ false
 
-two_peers : (frame : List ℕ) → frame_class frame ≡ segment → same_peer (segment_fields frame).from (segment_fields frame).to ≡ false
+pub two_peers : (frame : List ℕ) → frame_class frame ≡ segment → same_peer (segment_fields frame).from (segment_fields frame).to ≡ false
 unfolding frame_class segment_fields
 two_peers frame is =
     last_test (is_short frame) (is_not_ipv4 frame) (is_bad_ipv4 (datagram frame)) (is_fragment (datagram frame)) (is_not_tcp (datagram frame)) (is_cut (datagram frame)) (is_bad_tcp (ip_payload (datagram frame))) (is_same_ends (datagram frame)) is
@@ -77,7 +77,7 @@ from_second x a b differ same =
     let other : same_peer x a ≡ false = ap (λ y. same_peer y a) (same_peer-is x b same) ∙ same_peer-swap a b differ in
     rw (other, same) refl
 
-side_of : (b s : IndexedSegment) → HasTwoPeers b → of_one_pair b s ≡ true → same_peer s.timed.fields.from b.timed.fields.to ≡ not (same_peer s.timed.fields.from b.timed.fields.from)
+pub side_of : (b s : IndexedSegment) → HasTwoPeers b → of_one_pair b s ≡ true → same_peer s.timed.fields.from b.timed.fields.to ≡ not (same_peer s.timed.fields.from b.timed.fields.from)
 side_of b s differ same = by (peer_le s.timed.fields.from s.timed.fields.to) (peer_le b.timed.fields.from b.timed.fields.to) same
   where
     from : Peer

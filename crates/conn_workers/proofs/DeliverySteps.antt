@@ -9,17 +9,16 @@ use Rattle.conn_table.specs.SeenCapture.{seen_capture}
 use Rattle.conn_table.specs.IndexedConnections.{IndexedConnection, without_indices, IndexedConnectionsAgree}
 use Rattle.conn_table.specs.Tables.{conn_in}
 use Rattle.scenarios.specs.declared.proxies.Proxy.{Proxy}
-use Rattle.conn_workers.specs.ConnectionParts.{part}
+use Rattle.conn_workers.specs.Contributions.{contribution}
 use Rattle.conn_workers.specs.DeliveryRows.{connections_of, delivery_of, deliveries}
 use Rattle.conn_workers.specs.CaptureTables.{whole_table, whole_connections}
-use Rattle.conn_workers.specs.Recordings.{RecordingView, recording_in, recordings_of, no_recording}
-use Rattle.conn_workers.specs.RecordedDeliveries.{recorded_delivery, recorded_deliveries, no_delivery}
+use Rattle.conn_workers.specs.Recordings.{RecordingView, recording_in, recordings_of, no_recording, recorded_delivery, recorded_deliveries, no_delivery}
 use Rattle.conn_workers.proofs.RowLemmas.{length-rows, some_columns, at_place, rows_alike, listed}
 use Rattle.conn_workers.proofs.TableConnections.{connections_are, conns_are}
 
 -- of the table's connection and what is recorded of it, or of the connection
 delivery_is : (ticks seed : ℕ) (c : CaptureView) (s : ℕ × List Proxy) (x : IndexedConnection) → recorded_delivery ticks seed s (recording_in c x) ≡ delivery_of ticks seed s (without_indices x)
-unfolding part
+unfolding contribution
 delivery_is ticks seed c s x = refl
 
 pub deliveries_are : IndexedConnectionsAgree → (ticks seed : ℕ) (c : CaptureView) (scenarios : List (List Proxy))

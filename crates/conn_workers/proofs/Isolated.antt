@@ -1,4 +1,4 @@
--- Where deliveries stand, and that a connection's part is its own.
+-- Where deliveries stand, and that a connection's contribution is its own.
 use Rattle.std.proofs.Common.{◌≡◌, ℕ, ◌+◌, ◌*◌, List, length, Some, refl, sym, ap, ap₂, ◌∙◌, arith}
 use Rattle.std.specs.List.{enumerate_from, slice_get}
 use Rattle.std.proofs.lemmas.List.FromFn.{length-enumerate_from}
@@ -7,9 +7,9 @@ use Rattle.conn_table.specs.Connections.{Connection, connection_of, beginnings, 
 use Rattle.reassembly.specs.Positions.{members_of, server_of}
 use Rattle.scenarios.specs.declared.proxies.Proxy.{Proxy}
 use Rattle.conn_workers.specs.MetProxies.{met_proxy}
-use Rattle.conn_workers.specs.ConnectionParts.{part, part_of}
+use Rattle.conn_workers.specs.Contributions.{contribution, contribution_of}
 use Rattle.conn_workers.specs.DeliveryRows.{connections_of, delivery, delivery_of, deliveries}
-use Rattle.conn_workers.specs.DeliveryLaws.{RowsAreWhole, DeliveriesArePlaced, PartsAreIsolated}
+use Rattle.conn_workers.specs.DeliveryLaws.{RowsAreWhole, DeliveriesArePlaced, ContributionsAreIsolated}
 use Rattle.conn_workers.proofs.RowLemmas.{length-rows, cell_found, numbered, number_is}
 
 pub rows_are_whole : RowsAreWhole
@@ -26,11 +26,9 @@ own_number segs number c is =
 pub deliveries_are_placed : DeliveriesArePlaced
 unfolding deliveries
 deliveries_are_placed ticks seed number s r c proxies has =
-    let row : slice_get (enumerate_from 0 r.scenarios) s ≡ Some (s, proxies) =
-    numbered 0 r.scenarios s proxies has.scenario ∙ ap (λ (i : ℕ). let p : ℕ × List Proxy = (i, proxies) in Some p) (let e : 0 + s ≡ s = omega arith in e) in
     let own : c.number ≡ number = own_number (indexed_segments 0 r.seen.packets) number c has.connection in
-    cell_found (delivery_of ticks seed) (enumerate_from 0 r.scenarios) (connections_of r.seen) s number (s, proxies) c row has.connection
-    ∙ ap (λ n. Some (delivery s n (part_of ticks seed (s, proxies) c))) own
+    cell_found (delivery_of ticks seed) (enumerate_from 0 r.scenarios) (connections_of r.seen) s number (s, proxies) c (numbered r.scenarios s proxies has.scenario) has.connection
+    ∙ ap (λ n. Some (delivery s n (contribution_of ticks seed (s, proxies) c))) own
 
 -- ---- isolation
 
@@ -44,12 +42,12 @@ same_connection x y number members =
     let later : x.later ≡ y.later = cc in
     ap (λ n. connection n x.opening x.later) number ∙ ap₂ (connection y.number) opening later
 
-part_is : (ticks seed s : ℕ) (x y : Connection) (a b : List Proxy) → x ≡ y → met_proxy (server_of x) a ≡ met_proxy (server_of y) b → part_of ticks seed (s, a) x ≡ part_of ticks seed (s, b) y
-part_is ticks seed s x y a b same met = ap₂ (λ c m. part ticks c s seed m) same met
+contribution_is : (ticks seed s : ℕ) (x y : Connection) (a b : List Proxy) → x ≡ y → met_proxy (server_of x) a ≡ met_proxy (server_of y) b → contribution_of ticks seed (s, a) x ≡ contribution_of ticks seed (s, b) y
+contribution_is ticks seed s x y a b same met = ap₂ (λ c m. contribution ticks c s seed m) same met
 
-pub parts_are_isolated : PartsAreIsolated
-parts_are_isolated ticks seed number s first second x y a b here there members met =
+pub contributions_are_isolated : ContributionsAreIsolated
+contributions_are_isolated ticks seed number s first second x y a b here there members met =
     let number_here : x.number ≡ number = own_number (indexed_segments 0 first.seen.packets) number x here.connection in
     let number_there : y.number ≡ number = own_number (indexed_segments 0 second.seen.packets) number y there.connection in
-    let same : part_of ticks seed (s, a) x ≡ part_of ticks seed (s, b) y = part_is ticks seed s x y a b (same_connection x y (number_here ∙ sym number_there) members) met in
+    let same : contribution_of ticks seed (s, a) x ≡ contribution_of ticks seed (s, b) y = contribution_is ticks seed s x y a b (same_connection x y (number_here ∙ sym number_there) members) met in
     (same, deliveries_are_placed ticks seed number s first x a here ∙ ap (λ p. Some (delivery s number p)) same ∙ sym (deliveries_are_placed ticks seed number s second y b there))

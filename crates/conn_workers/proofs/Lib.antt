@@ -1,6 +1,6 @@
 mod Meetings
 mod SeenPackets
 mod RowLemmas
-mod TableConnections
+pub mod TableConnections
 mod DeliverySteps
 mod Isolated

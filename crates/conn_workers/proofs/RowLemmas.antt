@@ -69,10 +69,13 @@ module _ {R C D E V : Type 0} (f : R → C → V) (g : R → D → V) (a : E →
 
 -- ---- lists whose elements are numbered
 
-pub numbered : {X : Type 0} (n : ℕ) (xs : List X) (k : ℕ) (x : X) → slice_get xs k ≡ Some x → slice_get (enumerate_from n xs) k ≡ Some (n + k, x)
-numbered n [] k x is = absurd (omega (arith, slice_get_within [] k x is))
-numbered n (y ∷ xs) zero x is = let e : n ≡ n + zero = omega arith in ap₂ (λ i o. let p : ℕ × _ = (i, o) in Some p) e (let same : y ≡ x = cc in same)
-numbered n (y ∷ xs) (suc k) x is = numbered (n + 1) xs k x is ∙ ap (λ i. let p : ℕ × _ = (i, x) in Some p) (let e : n + 1 + k ≡ n + suc k = omega arith in e)
+numbered_from : {X : Type 0} (n : ℕ) (xs : List X) (k : ℕ) (x : X) → slice_get xs k ≡ Some x → slice_get (enumerate_from n xs) k ≡ Some (n + k, x)
+numbered_from n [] k x is = absurd (omega (arith, slice_get_within [] k x is))
+numbered_from n (y ∷ xs) zero x is = let e : n ≡ n + zero = omega arith in ap₂ (λ i o. let p : ℕ × _ = (i, o) in Some p) e (let same : y ≡ x = cc in same)
+numbered_from n (y ∷ xs) (suc k) x is = numbered_from (n + 1) xs k x is ∙ ap (λ i. let p : ℕ × _ = (i, x) in Some p) (let e : n + 1 + k ≡ n + suc k = omega arith in e)
+
+pub numbered : {X : Type 0} (xs : List X) (k : ℕ) (x : X) → slice_get xs k ≡ Some x → slice_get (enumerate_from 0 xs) k ≡ Some (k, x)
+numbered xs k x is = numbered_from 0 xs k x is ∙ ap (λ i. let p : ℕ × _ = (i, x) in Some p) (let e : 0 + k ≡ k = omega arith in e)
 
 -- what is made of numbered elements, and tells their numbers, has its own place for its number
 pub number_is : {X C : Type 0} (f : ℕ × X → C) (number : C → ℕ) → ((p : ℕ × X) → number (f p) ≡ p.0)

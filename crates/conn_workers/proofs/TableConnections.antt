@@ -1,7 +1,8 @@
 -- The connections of a capture's table.
 use Rattle.std.proofs.Common.{◌≡◌, ◌<◌, ◌≤◌, ℕ, zero, suc, ◌-◌, Bool, true, false, List, [], ◌∷◌, map, filter, length, get_or, Option, Some, None, refl, ap, ◌∙◌, arith, if◌then◌else◌}
 use Rattle.std.specs.List.{AllByRecursion, enumerate_from, filter_map, cons_option}
-use Rattle.std.proofs.lemmas.List.{length-map, take_all, get_or-map}
+use Rattle.std.proofs.lemmas.List.{length-map, take_all, get_or-map, get_or_default}
+use Rattle.std.proofs.lemmas.List.Sums.{count_by-le-length, length-filter}
 use Rattle.std.proofs.lemmas.List.FromFn.{length-enumerate_from}
 use Rattle.pcap_records.specs.Reading.{Packet}
 use Rattle.pcap_records.specs.CaptureView.{CaptureView, contents_of, packet_of}
@@ -13,7 +14,7 @@ use Rattle.conn_table.specs.IndexedConnections.{indexed_connections, indexed_con
 use Rattle.conn_table.specs.Partials.{packets_between, segments_between}
 use Rattle.conn_table.specs.Tables.{table_in, conn_in}
 use Rattle.reassembly.specs.RecordedView.{IsConnOf, IsConnectionOf}
-use Rattle.reassembly.specs.CaptureConnections.{ConnectionsAreOfCapture, ConnsAreOfCapture}
+use Rattle.reassembly.specs.RecordedView.{ConnectionsAreOfCapture, ConnsAreOfCapture}
 use Rattle.conn_workers.specs.DeliveryRows.{connections_of}
 use Rattle.conn_workers.specs.CaptureTables.{whole_table, whole_connections}
 use Rattle.conn_workers.proofs.SeenPackets.{length-seen_packets}
@@ -24,28 +25,20 @@ conns_are c = refl
 
 -- ---- against the definition
 
-all_packets : (c : CaptureView) → packets_between c 0 (length c.records) 0 ≡ seen_packets 0 (contents_of c).packets
+pub all_packets : (c : CaptureView) → packets_between c 0 (length c.records) 0 ≡ seen_packets 0 (contents_of c).packets
 all_packets c =
     let packets : List Packet = (contents_of c).packets in
     let len : length packets ≡ length c.records = length-map c.records (packet_of c.bytes) in
     let whole : length c.records - 0 ≡ length c.records = omega arith in
     ap (seen_packets 0) (rw whole (take_all (length c.records) packets (omega (arith, len))))
 
-all_segments : (c : CaptureView) → segments_between c 0 (length c.records) 0 ≡ indexed_segments 0 (seen_packets 0 (contents_of c).packets)
+pub all_segments : (c : CaptureView) → segments_between c 0 (length c.records) 0 ≡ indexed_segments 0 (seen_packets 0 (contents_of c).packets)
 all_segments c = ap (indexed_segments 0) (all_packets c)
 
 pub connections_are : IndexedConnectionsAgree → (c : CaptureView) → map without_indices (whole_connections c) ≡ connections_of (seen_capture (contents_of c))
 connections_are agree c = agree (segments_between c 0 (length c.records) 0) ∙ ap connections (all_segments c)
 
 -- ---- no more than records
-
-fewer : {X : Type 0} (test : X → Bool) (xs : List X) → length (filter test xs) ≤ length xs
-fewer test [] = omega arith
-fewer {X} test (x ∷ xs) = by (test x) (fewer test xs)
-  where
-    by : (b : Bool) → length (filter test xs) ≤ length xs → length (if b then x ∷ filter test xs else filter test xs) ≤ suc (length xs)
-    by true rest = omega (arith, rest)
-    by false rest = omega (arith, rest)
 
 fewer_mapped : {X Y : Type 0} (h : X → Option Y) (xs : List X) → length (filter_map h xs) ≤ length xs
 fewer_mapped h [] = omega arith
@@ -62,7 +55,13 @@ few_segments packets = omega (arith, fewer_mapped indexed_segment (enumerate_fro
 few_beginnings : (segs : List IndexedSegment) → length (indexed_connections segs) ≤ length segs
 unfolding indexed_connections beginnings
 few_beginnings segs =
-    omega (arith, length-map (enumerate_from 0 (beginnings segs)) (indexed_connection_of segs), length-enumerate_from 0 (beginnings segs), fewer (begins segs) segs)
+    omega (
+      arith,
+      length-map (enumerate_from 0 (beginnings segs)) (indexed_connection_of segs),
+      length-enumerate_from 0 (beginnings segs),
+      length-filter (begins segs) segs,
+      count_by-le-length (begins segs) segs,
+    )
 
 pub few_connections : (c : CaptureView) → length (whole_connections c) ≤ length c.records
 few_connections c =
@@ -86,14 +85,9 @@ pub record StandsAt {A : Type 0} (xs : List A) (i : ℕ) : Type 0 where
   pub item : A
   pub read : (d : A) → get_or xs i d ≡ item
 
-same_read : {A : Type 0} (xs : List A) (i : ℕ) (d e : A) → i < length xs → get_or xs i d ≡ get_or xs i e
-same_read [] i d e within = absurd (omega (arith, within))
-same_read (x ∷ xs) zero d e within = refl
-same_read (x ∷ xs) (suc i) d e within = same_read xs i d e (omega (arith, within))
-
 stands_at : {A : Type 0} (xs : List A) (i : ℕ) → i < length xs → StandsAt xs i
 stands_at [] i within = absurd (omega (arith, within))
-stands_at (x ∷ xs) i within = record { item = get_or (x ∷ xs) i x; read = λ d. same_read (x ∷ xs) i d x within }
+stands_at (x ∷ xs) i within = record { item = get_or (x ∷ xs) i x; read = λ d. get_or_default (x ∷ xs) i d x within }
 
 all_at : {A : Type 0} (P : A → Type 0) (xs : List A) (i : ℕ) (d : A) → AllByRecursion P xs → i < length xs → P (get_or xs i d)
 all_at P [] i d all within = absurd (omega (arith, within))

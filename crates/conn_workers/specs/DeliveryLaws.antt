@@ -1,4 +1,4 @@
--- Where each delivery stands, and what it does not hang on.
+-- Where each delivery stands, and what it does not depend on.
 use Rattle.std.specs.Prelude.{◌≡◌, ℕ, ◌+◌, ◌*◌, List, length, Option, Some, slice_get}
 use Rattle.conn_table.specs.SeenCapture.{SeenCapture}
 use Rattle.conn_table.specs.Connections.{Connection}
@@ -6,7 +6,7 @@ use Rattle.reassembly.specs.Positions.{members_of, server_of}
 use Rattle.scenarios.specs.declared.proxies.Proxy.{Proxy}
 use Rattle.conn_workers.specs.declared.deliveries.Delivery.{Delivery}
 use Rattle.conn_workers.specs.MetProxies.{met_proxy}
-use Rattle.conn_workers.specs.ConnectionParts.{part_of}
+use Rattle.conn_workers.specs.Contributions.{contribution_of}
 use Rattle.conn_workers.specs.DeliveryRows.{connections_of, delivery, deliveries}
 
 -- what is seen of a capture, and the scenarios that it is rehearsed under
@@ -32,21 +32,21 @@ abbrev pub delivery_at : ℕ → ℕ → Rehearsed → ℕ → ℕ → Option De
 delivery_at ticks seed r number s =
     slice_get (deliveries ticks seed (connections_of r.seen) r.scenarios) (s * length (connections_of r.seen) + number)
 
--- it has both numbers, and that connection's part under that scenario
+-- it has both numbers, and that connection's contribution under that scenario
 abbrev pub DeliveriesArePlaced : Type 0
 DeliveriesArePlaced =
     (ticks seed number s : ℕ) (r : Rehearsed) (c : Connection) (proxies : List Proxy) → Has r number s c proxies
-    → delivery_at ticks seed r number s ≡ Some (delivery s number (part_of ticks seed (s, proxies) c))
+    → delivery_at ticks seed r number s ≡ Some (delivery s number (contribution_of ticks seed (s, proxies) c))
 
 -- ---- isolation
 
 -- Two captures, or one, in which the connection of one number has the same members at the same instants, and two lists of
 -- scenarios in which it meets the same proxy in scenario s, with its number, its enabled flag and its toxics, or in both
--- none: whatever else they hold, its part is the same, and so is its delivery.
-abbrev pub PartsAreIsolated : Type 0
-PartsAreIsolated =
+-- none: whatever else they hold, its contribution is the same, and so is its delivery.
+abbrev pub ContributionsAreIsolated : Type 0
+ContributionsAreIsolated =
     (ticks seed number s : ℕ) (first second : Rehearsed) (x y : Connection) (a b : List Proxy)
     → Has first number s x a → Has second number s y b
     → members_of x ≡ members_of y → met_proxy (server_of x) a ≡ met_proxy (server_of y) b
-    → (part_of ticks seed (s, a) x ≡ part_of ticks seed (s, b) y)
+    → (contribution_of ticks seed (s, a) x ≡ contribution_of ticks seed (s, b) y)
     × (delivery_at ticks seed first number s ≡ delivery_at ticks seed second number s)

@@ -6,19 +6,23 @@ use Rattle.conn_table.specs.IndexedSegments.{indexed_segments}
 use Rattle.conn_table.specs.Connections.{Connection, connections}
 use Rattle.scenarios.specs.declared.proxies.Proxy.{Proxy}
 use Rattle.conn_workers.specs.declared.deliveries.Delivery.{Delivery}
-use Rattle.conn_workers.specs.ConnectionParts.{Part, part_of}
+use Rattle.conn_workers.specs.Contributions.{Contribution, contribution_of}
+
+-- the greatest number of scenarios of a delivery
+abbrev pub scenario_limit : ℕ
+scenario_limit = 256
 
 -- the connections of what is seen of a capture
 abbrev pub connections_of : SeenCapture → List Connection
 connections_of c = connections (indexed_segments 0 c.packets)
 
--- a part, with the numbers of its scenario and of its connection
-abbrev pub delivery : ℕ → ℕ → Part → Delivery
+-- a contribution, with the numbers of its scenario and of its connection
+abbrev pub delivery : ℕ → ℕ → Contribution → Delivery
 delivery scenario conn p = record { scenario = scenario; conn = conn; segments = p.segments; line = p.line }
 
 -- what a connection contributes to a scenario with its number
 abbrev pub delivery_of : ℕ → ℕ → ℕ × List Proxy → Connection → Delivery
-delivery_of ticks seed (number, proxies) c = delivery number c.number (part_of ticks seed (number, proxies) c)
+delivery_of ticks seed (number, proxies) c = delivery number c.number (contribution_of ticks seed (number, proxies) c)
 
 -- a value for each of rs and each of cs, row by row
 abbrev pub rows : {R C V : Type 0} → (R → C → V) → List R → List C → List V

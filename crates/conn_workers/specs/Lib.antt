@@ -1,9 +1,8 @@
 pub mod MetProxies
-pub mod ConnectionParts
+pub mod Contributions
 pub mod DeliveryRows
 pub mod CaptureTables
 pub mod Recordings
-pub mod RecordedDeliveries
 pub mod DeliveryLaws
 pub use Rattle.pcap_records.specs.Instants
 pub use Rattle.pcap_records.specs.CaptureView

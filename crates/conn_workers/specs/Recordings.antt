@@ -1,5 +1,5 @@
--- What the table of a capture shows of its connections, with what is recorded of them.
-use Rattle.std.specs.Prelude.{List, [], map, None}
+-- What the table of a capture shows of its connections, with what is recorded of them, and what they contribute by that.
+use Rattle.std.specs.Prelude.{List, [], map, None, ℕ}
 use Rattle.pcap_records.specs.CaptureView.{CaptureView}
 use Rattle.frame_headers.specs.declared.peers.Peer.{Peer}
 use Rattle.conn_table.specs.IndexedConnections.{IndexedConnection, without_indices}
@@ -9,6 +9,15 @@ use Rattle.reassembly.specs.LineLaws.{IsLine}
 use Rattle.reassembly.specs.RecordedLines.{RecordedConnection, RecordedSide, recorded_connection, empty_line}
 use Rattle.reassembly.specs.declared.recordings.Recorded.{Recorded}
 use Rattle.conn_workers.specs.CaptureTables.{whole_connections}
+use Rattle.std.specs.List.{enumerate_from}
+use Rattle.toxic_defs.specs.DeliveredLines.{DeliveredConnection, delivered_connection}
+use Rattle.segment_writer.specs.WrittenSegments.{written_segments}
+use Rattle.segment_writer.specs.WrittenConnections.{written_connection}
+use Rattle.report.specs.ReportText.{connection_text}
+use Rattle.scenarios.specs.declared.proxies.Proxy.{Proxy}
+use Rattle.conn_workers.specs.declared.deliveries.Delivery.{Delivery}
+use Rattle.conn_workers.specs.DeliveryRows.{rows}
+use Rattle.conn_workers.specs.MetProxies.{met_proxy}
 
 pub record RecordingView : Type 0 where
   pub conn : Conn
@@ -26,6 +35,26 @@ pub record HasLines (r : Recorded) : Type 0 where
   pub up : IsLine r.up.line
   pub down : IsLine r.down.line
 
+-- ---- what they contribute to scenarios
+
+-- what a connection contributes, by what is delivered of it
+abbrev pub recorded_delivery_by : ℕ → ℕ → RecordingView → DeliveredConnection → Delivery
+recorded_delivery_by ticks number r d = record {
+  scenario = number;
+  conn = r.conn.number;
+  segments = written_segments ticks (written_connection r.conn.number r.conn.client r.conn.server r.recorded d);
+  line = connection_text r.conn.number r.conn.client r.conn.server r.recorded d;
+}
+
+-- the same to a scenario with its number
+abbrev pub recorded_delivery : ℕ → ℕ → ℕ × List Proxy → RecordingView → Delivery
+recorded_delivery ticks seed (number, proxies) r =
+    recorded_delivery_by ticks number r (delivered_connection ticks seed number r.conn.number (met_proxy r.conn.server proxies) r.recorded)
+
+-- what all contribute to all scenarios, row by row
+unfoldable pub recorded_deliveries : ℕ → ℕ → List RecordingView → List (List Proxy) → List Delivery
+recorded_deliveries ticks seed recordings scenarios = rows (recorded_delivery ticks seed) (enumerate_from 0 scenarios) recordings
+
 -- ---- what stands past the last of a list
 
 abbrev pub no_peer : Peer
@@ -39,3 +68,6 @@ no_recording = record {
   conn = record { number = 0; opening = 0; opened = 0; client = no_peer; server = no_peer; members = [] };
   recorded = record { up = no_side; down = no_side; client_base = 0; server_base = None; opened = 0; mac_client = []; mac_server = [] };
 }
+
+abbrev pub no_delivery : Delivery
+no_delivery = record { scenario = 0; conn = 0; segments = []; line = [] }

@@ -1,7 +1,21 @@
-//! What connections contribute to scenarios.
-use job_matrix::Values;
+//! What each connection of a capture contributes to each scenario.
+ghost use Rattle.std.specs.Prelude.{◌≡◌, ◌≤◌, length, IfOk};
+ghost use Rattle.pcap_records.specs.CaptureView.{contents_of};
+ghost use Rattle.pcap_records.specs.Instants.{microseconds};
+ghost use Rattle.conn_table.specs.SeenCapture.{seen_capture};
+ghost use Rattle.conn_workers.specs.DeliveryRows.{scenario_limit, connections_of, deliveries};
+ghost use Rattle.conn_workers.specs.CaptureTables.{whole_table};
+
+use crate::jobs::{ContributionJobs, LineJobs};
+use conn_table::Table;
+use conn_table::laws::indexed_connections_agree;
+use job_matrix::{Gate, Phase, Plan, Values, work_all};
+use pcap_records::Capture;
 use report::ReportText;
+use scenarios::Scenario;
 use segment_writer::SegList;
+use std::alloc::{AllocError, Global};
+use std::thread::Threads;
 
 /// What one connection contributes to one scenario.
 #[derive(Drop)]
@@ -18,3 +32,48 @@ pub struct Delivery {
 
 /// What each connection contributes to each scenario: a row for each scenario, with a delivery for each connection.
 pub type Deliveries = Values<Delivery>;
+
+/// What each connection of a capture contributes to each scenario, scenario by scenario. Workers first make the recorded lines, in
+/// phase `Lines` with one job for each connection, and then the deliveries, in phase `Jobs`: of C connections, job s * C + c makes that
+/// of connection c under scenario s. The answer is the same whatever the plan and the gate.
+///
+/// The table is that of all records of the capture, however it was made, and there are at most 256 scenarios.
+///
+/// # Errors
+/// A growth was refused.
+pub fn deliver<R: Threads + Sync, G: Gate>(
+    rt: &R,
+    alloc: Global,
+    capture: &Capture<'_>,
+    table: &Table,
+    scenarios: &[Scenario],
+    seed: u64,
+    plan: Plan,
+    gate: &G,
+) -> Result<Deliveries, AllocError>
+    requires table { table.now ≡ whole_table capture.now }
+    requires few { length scenarios.now ≤ scenario_limit }
+    ensures { IfOk result (λ v. v ≡ deliveries microseconds seed (connections_of (seen_capture (contents_of capture.now))) scenarios.now) }
+{
+    indexed_connections_agree();
+    let workers = plan.workers() as u64;
+    let conns = table.conns();
+    let records = capture.records();
+    // each connection begins at a record of its own
+    prove!(conns.len() <= records.len());
+    let count = conns.len() as u64;
+    let line_jobs = LineJobs {
+        alloc,
+        capture,
+        conns,
+    };
+    let recordings = work_all(rt, alloc, count, workers, Phase::Lines, gate, &line_jobs)?;
+    let contribution_jobs = ContributionJobs {
+        alloc,
+        recordings: recordings.as_slice(),
+        scenarios,
+        seed,
+    };
+    let jobs = scenarios.len() as u64 * count;
+    work_all(rt, alloc, jobs, workers, Phase::Jobs, gate, &contribution_jobs)
+}

@@ -1,16 +1,12 @@
 //! What each connection of a capture contributes to each scenario, made by workers: its written segments and its line of the
 //! report.
 //!
-//! `deliver` is the call that the crate exists for. `specs/ConnectionParts.antt` says what a connection contributes, and
+//! `deliver` is the call that the crate exists for. `specs/Contributions.antt` says what a connection contributes, and
 //! `specs/DeliveryRows.antt` in what order; `laws` has the theorem that nothing else of a capture or a scenario changes it.
 #![tactic(auto)]
 
 mod deliveries;
-mod delivering;
+mod jobs;
 pub mod laws;
-mod line_jobs;
-mod meeting;
-mod part_jobs;
 
-pub use deliveries::{Deliveries, Delivery};
-pub use delivering::deliver;
+pub use deliveries::{Deliveries, Delivery, deliver};

@@ -1,6 +1,8 @@
 //! Tests over the public calls of the lower crates, with values from outside.
 mod captures;
+mod checks;
 mod frames;
+mod instants;
 mod scenario_files;
 mod toxic_files;
 mod toxics;

@@ -1,7 +1,5 @@
-mod Steps
-mod Places
+pub mod Lists
 mod Passes
-mod Running
-mod Answering
+pub mod Running
 mod Splitting
 mod ReadingBack

@@ -6,7 +6,7 @@ use Rattle.std.proofs.lemmas.Bool.{le-ltb}
 use Rattle.std.proofs.lemmas.List.{append-nil}
 use Rattle.byteorder.specs.Endian.{little_bytes, little_number}
 use Rattle.byteorder.specs.Numbers.{little_number-reads_back}
-use Rattle.pcap_records.specs.declared.order.Order.TheVariants.{Little}
+use Rattle.pcap_records.specs.declared.heading.Order.TheVariants.{Little}
 use Rattle.pcap_records.specs.Instants.{microseconds, horizon, instant}
 use Rattle.pcap_records.specs.Reading.{Heading, Packet, capture_limit, file_heading}
 use Rattle.pcap_records.specs.Grammar.{RawRecord, IsRawRecord, Splits, raw_bytes, packet_of_raw}
@@ -45,7 +45,7 @@ module _ (p : Packet) (is : IsWritable microseconds p) where
   raw_is : IsRawRecord heading_written (raw_of p)
   unfolding heading_written raw_of record_header
   raw_is = record {
-    sixteen = refl;
+    whole_header = refl;
     announced = field_read (length p.bytes) (little_bytes 4 (length p.bytes)) (omega (arith, is.limited));
     limited = is.limited;
   }

@@ -3,14 +3,10 @@ use Rattle.std.proofs.Common.{◌≡◌, ◌≤◌, ◌<◌, ℕ, zero, suc, get
 use Rattle.std.specs.List.{range_with_len, slice_range}
 use Rattle.std.proofs.lemmas.List.FromFn.{length-map-range_with_len}
 use Rattle.std.proofs.lemmas.List.{append-nil, append_assoc, take-map, drop-map, drop_more, drop_all}
-use Rattle.pcap_records.specs.declared.record_place.Record.{Record}
+use Rattle.pcap_records.specs.declared.capture.Record.{Record}
 use Rattle.pcap_records.specs.CaptureView.{packet_of}
 use Rattle.pcap_records.specs.Instants.{greatest, greatest_so_far, instants, CarriedIsWhole}
-
--- a function of the place after, at places from a on
-map_next : (f g : ℕ → ℕ) → ((i : ℕ) → f (i + 1) ≡ g i) → (a n : ℕ) → map f (range_with_len (a + 1) n) ≡ map g (range_with_len a n)
-map_next f g same a zero = refl
-map_next f g same a (suc n) = rw (same a, map_next f g same (a + 1) n) refl
+use Rattle.pcap_records.proofs.Lists.{map_next}
 
 next_greatest : (carry s : ℕ) (stamps : List ℕ) (i : ℕ) → greatest_so_far carry (s ∷ stamps) (i + 1) ≡ greatest_so_far (max carry s) stamps i
 next_greatest carry s stamps i =

@@ -5,17 +5,15 @@ use Rattle.std.proofs.lemmas.List.{append-nil, append_assoc, take-append-drop, d
 use Rattle.std.proofs.lemmas.Bool.Decides.{nat_tests}
 use Rattle.std.proofs.lemmas.Bool.{ltb-true, ltb-false}
 use Rattle.byteorder.specs.Numbers.{big_from-take, little_from-take, big_from-append, little_from-append}
-use Rattle.pcap_records.specs.declared.order.Order.{Order}
-use Rattle.pcap_records.specs.declared.order.Order.TheVariants.{Big, Little}
+use Rattle.pcap_records.specs.declared.heading.Order.{Order}
+use Rattle.pcap_records.specs.declared.heading.Order.TheVariants.{Big, Little}
 use Rattle.pcap_records.specs.declared.fault.CaptureFault.{CaptureFault}
 use Rattle.pcap_records.specs.declared.fault.CaptureFault.TheVariants.{RecordTooLong}
-use Rattle.pcap_records.specs.Reading.{Heading, Packet, Contents, Reading, Front, whole, torn, too_long, number_in, front, first_packet, packet_len, packet_limit, file_heading, records_after, reading}
+use Rattle.pcap_records.specs.Reading.{Heading, Packet, Contents, Reading, NextRecord, whole, torn, too_long, number_in, next_record, first_packet, packet_len, packet_limit, file_heading, records_after, reading}
 use Rattle.pcap_records.specs.Grammar.{RawRecord, IsRawRecord, IsRest, AnnouncesTooMuch, Splits, raw_bytes, packet_of_raw, ReadingsSplit, SplitsAreRead, RefusalsSplit, SplitsAreRefused}
-use Rattle.pcap_records.proofs.Steps.{records_after-front}
-use Rattle.pcap_records.proofs.Passes.{with_front, listed-whole, with_front-none}
-use Rattle.pcap_records.proofs.Answering.{reading-file_heading, reading-bad_header}
+use Rattle.pcap_records.proofs.Passes.{records_after-next, listed_before, listed-whole, listed_before-none, reading-file_heading, reading-bad_header}
 
--- ---- numbers in a front of the bytes
+-- ---- numbers in the first bytes
 
 number_in-take : (o : Order) (n m : ℕ) (bytes : List ℕ) → n ≤ m → number_in o n (take m bytes) ≡ number_in o n bytes
 number_in-take Big n m bytes fits = big_from-take 0 n m bytes (omega arith)
@@ -25,30 +23,30 @@ number_in-append : (o : Order) (n : ℕ) (xs ys : List ℕ) → n ≤ length xs 
 number_in-append Big n xs ys fits = big_from-append n xs ys fits
 number_in-append Little n xs ys fits = little_from-append n xs ys fits
 
--- ---- what each front says
+-- ---- what the next record says
 
-abbrev FrontSays : Heading → List ℕ → Front → Type 0
-FrontSays h bytes torn = IsRest h bytes
-FrontSays h bytes too_long = AnnouncesTooMuch h bytes
-FrontSays h bytes whole = (16 ≤ length bytes) × (packet_len h bytes ≤ packet_limit) × (packet_len h bytes ≤ length bytes - 16)
+abbrev NextSays : Heading → List ℕ → NextRecord → Type 0
+NextSays h bytes torn = IsRest h bytes
+NextSays h bytes too_long = AnnouncesTooMuch h bytes
+NextSays h bytes whole = (16 ≤ length bytes) × (packet_len h bytes ≤ packet_limit) × (packet_len h bytes ≤ length bytes - 16)
 
 by_tests : (a b c : Bool) (h : Heading) (bytes : List ℕ) → nat_lt (length bytes) 16 ≡ a → nat_lt packet_limit (packet_len h bytes) ≡ b → nat_lt (length bytes - 16) (packet_len h bytes) ≡ c
-    → FrontSays h bytes (if a then torn else (if b then too_long else (if c then torn else whole)))
+    → NextSays h bytes (if a then torn else (if b then too_long else (if c then torn else whole)))
 by_tests true b c h bytes short long cut = inl (ltb-true _ _ short)
 by_tests false true c h bytes short long cut = (ltb-false _ _ short, ltb-true _ _ long)
 by_tests false false true h bytes short long cut = inr (ltb-false _ _ long, omega (arith, ltb-true _ _ cut, ltb-false _ _ short))
 by_tests false false false h bytes short long cut = (ltb-false _ _ short, ltb-false _ _ long, ltb-false _ _ cut)
 
-front_says : (h : Heading) (bytes : List ℕ) → FrontSays h bytes (front h bytes)
-unfolding front
-front_says h bytes = by_tests (nat_lt (length bytes) 16) (nat_lt packet_limit (packet_len h bytes)) (nat_lt (length bytes - 16) (packet_len h bytes)) h bytes refl refl refl
+next_says : (h : Heading) (bytes : List ℕ) → NextSays h bytes (next_record h bytes)
+unfolding next_record
+next_says h bytes = by_tests (nat_lt (length bytes) 16) (nat_lt packet_limit (packet_len h bytes)) (nat_lt (length bytes - 16) (packet_len h bytes)) h bytes refl refl refl
 
-says_front : (h : Heading) (bytes : List ℕ) (f : Front) → FrontSays h bytes f → front h bytes ≡ f
-unfolding front
-says_front h bytes torn (inl short) = grind (arith, nat_tests)
-says_front h bytes torn (inr cut) = grind (arith, nat_tests)
-says_front h bytes too_long says = grind (arith, nat_tests)
-says_front h bytes whole says = grind (arith, nat_tests)
+says_next : (h : Heading) (bytes : List ℕ) (f : NextRecord) → NextSays h bytes f → next_record h bytes ≡ f
+unfolding next_record
+says_next h bytes torn (inl short) = grind (arith, nat_tests)
+says_next h bytes torn (inr cut) = grind (arith, nat_tests)
+says_next h bytes too_long says = grind (arith, nat_tests)
+says_next h bytes whole says = grind (arith, nat_tests)
 
 -- ---- every file has one split
 
@@ -59,41 +57,41 @@ pub record Split (h : Heading) (bytes : List ℕ) : Type 0 where
   pub splits : Splits h bytes raws rest
   pub ends : IsRest h rest ⊎ AnnouncesTooMuch h rest
 
--- the record at the front, as a piece
+-- the record at the next_record, as a piece
 first_raw : Heading → List ℕ → RawRecord
 first_raw h bytes = record { header = take 16 bytes; packet = take (packet_len h bytes) (drop 16 bytes) }
 
-first_raw-is : (h : Heading) (bytes : List ℕ) → FrontSays h bytes whole → IsRawRecord h (first_raw h bytes)
+first_raw-is : (h : Heading) (bytes : List ℕ) → NextSays h bytes whole → IsRawRecord h (first_raw h bytes)
 unfolding first_raw
 first_raw-is h bytes says =
     let len : ℕ = packet_len h bytes in
     let announced : packet_len h (take 16 bytes) ≡ len = rw (drop-take 8 8 bytes) (number_in-take h.order 4 8 (drop 8 bytes) (omega arith)) in
     let held : length (take len (drop 16 bytes)) ≡ len = omega (arith, length-take len (drop 16 bytes), length-drop 16 bytes, says.2) in
     record {
-      sixteen = omega (arith, length-take 16 bytes, says.0);
+      whole_header = omega (arith, length-take 16 bytes, says.0);
       announced = announced ∙ sym held;
       limited = rw held says.1;
     }
 
--- a split of what stands behind a whole record
-split_more : (h : Heading) (bytes : List ℕ) → FrontSays h bytes whole → Split h (drop (16 + packet_len h bytes) bytes) → Split h bytes
+-- a split of what stands after a whole record
+split_more : (h : Heading) (bytes : List ℕ) → NextSays h bytes whole → Split h (drop (16 + packet_len h bytes) bytes) → Split h bytes
 unfolding first_raw
-split_more h bytes says behind = record {
-  raws = first_raw h bytes ∷ behind.raws;
-  rest = behind.rest;
+split_more h bytes says after = record {
+  raws = first_raw h bytes ∷ after.raws;
+  rest = after.rest;
   splits = record {
     whole =
         let len : ℕ = packet_len h bytes in
         let apart : (take 16 bytes ++ take len (drop 16 bytes)) ++ drop (16 + len) bytes ≡ bytes =
         rw (← drop-drop len 16 bytes, append_assoc (take 16 bytes) (take len (drop 16 bytes)) (drop len (drop 16 bytes)), take-append-drop len (drop 16 bytes)) (take-append-drop 16 bytes) in
-        let more = behind.splits.whole in
-        sym apart ∙ rw (more, append_assoc (take 16 bytes ++ take len (drop 16 bytes)) (flat_map raw_bytes behind.raws) behind.rest) refl;
-    each = (first_raw-is h bytes says, behind.splits.each);
+        let more = after.splits.whole in
+        sym apart ∙ rw (more, append_assoc (take 16 bytes ++ take len (drop 16 bytes)) (flat_map raw_bytes after.raws) after.rest) refl;
+    each = (first_raw-is h bytes says, after.splits.each);
   };
-  ends = behind.ends;
+  ends = after.ends;
 }
 
-split_by : (f : Front) (n : ℕ) (h : Heading) (bytes : List ℕ) → front h bytes ≡ f → FrontSays h bytes f → length bytes ≤ suc n → ((rest : List ℕ) → length rest ≤ n → Split h rest) → Split h bytes
+split_by : (f : NextRecord) (n : ℕ) (h : Heading) (bytes : List ℕ) → next_record h bytes ≡ f → NextSays h bytes f → length bytes ≤ suc n → ((rest : List ℕ) → length rest ≤ n → Split h rest) → Split h bytes
 split_by torn n h bytes is says fits more = record { raws = []; rest = bytes; splits = record { whole = refl; each = tt }; ends = inl says }
 split_by too_long n h bytes is says fits more = record { raws = []; rest = bytes; splits = record { whole = refl; each = tt }; ends = inr says }
 split_by whole n h bytes is says fits more =
@@ -101,66 +99,66 @@ split_by whole n h bytes is says fits more =
 
 split_within : (n : ℕ) (h : Heading) (bytes : List ℕ) → length bytes ≤ n → Split h bytes
 split_within zero h bytes fits = record { raws = []; rest = bytes; splits = record { whole = refl; each = tt }; ends = inl (inl (omega arith)) }
-split_within (suc n) h bytes fits = split_by (front h bytes) n h bytes refl (front_says h bytes) fits (λ rest less. split_within n h rest less)
+split_within (suc n) h bytes fits = split_by (next_record h bytes) n h bytes refl (next_says h bytes) fits (λ rest less. split_within n h rest less)
 
 pub split_of : (h : Heading) (bytes : List ℕ) → Split h bytes
 split_of h bytes = split_within (length bytes) h bytes (omega arith)
 
 -- ---- a split is read
 
--- a piece's bytes, with others behind them
+-- a piece's bytes, with others after them
 abbrev before : RawRecord → List ℕ → List ℕ
-before p behind = (p.header ++ p.packet) ++ behind
+before p after = (p.header ++ p.packet) ++ after
 
-number_of_raw : (h : Heading) (p : RawRecord) (behind : List ℕ) (n at : ℕ) → IsRawRecord h p → n + at ≤ 16 → number_in h.order n (drop at (before p behind)) ≡ number_in h.order n (drop at p.header)
-number_of_raw h p behind n at is within =
-    let fits : at ≤ length p.header = omega (arith, is.sixteen) in
-    rw (append_assoc p.header p.packet behind, drop-append-le at p.header (p.packet ++ behind) fits)
-    (number_in-append h.order n (drop at p.header) (p.packet ++ behind) (omega (arith, length-drop at p.header, is.sixteen)))
+number_of_raw : (h : Heading) (p : RawRecord) (after : List ℕ) (n at : ℕ) → IsRawRecord h p → n + at ≤ 16 → number_in h.order n (drop at (before p after)) ≡ number_in h.order n (drop at p.header)
+number_of_raw h p after n at is within =
+    let fits : at ≤ length p.header = omega (arith, is.whole_header) in
+    rw (append_assoc p.header p.packet after, drop-append-le at p.header (p.packet ++ after) fits)
+    (number_in-append h.order n (drop at p.header) (p.packet ++ after) (omega (arith, length-drop at p.header, is.whole_header)))
 
-len_of_raw : (h : Heading) (p : RawRecord) (behind : List ℕ) → IsRawRecord h p → packet_len h (before p behind) ≡ length p.packet
-len_of_raw h p behind is = number_of_raw h p behind 4 8 is (omega arith) ∙ is.announced
+len_of_raw : (h : Heading) (p : RawRecord) (after : List ℕ) → IsRawRecord h p → packet_len h (before p after) ≡ length p.packet
+len_of_raw h p after is = number_of_raw h p after 4 8 is (omega arith) ∙ is.announced
 
-packet_of_front : (h : Heading) (p : RawRecord) (behind : List ℕ) → IsRawRecord h p → first_packet h (before p behind) ≡ packet_of_raw h p
-packet_of_front h p behind is =
-    rw (number_of_raw h p behind 4 0 is (omega arith), number_of_raw h p behind 4 4 is (omega arith), len_of_raw h p behind is, append_assoc p.header p.packet behind, drop_at p.header (p.packet ++ behind) 16 is.sixteen, take_at p.packet behind (length p.packet) refl) refl
+packet_of_next : (h : Heading) (p : RawRecord) (after : List ℕ) → IsRawRecord h p → first_packet h (before p after) ≡ packet_of_raw h p
+packet_of_next h p after is =
+    rw (number_of_raw h p after 4 0 is (omega arith), number_of_raw h p after 4 4 is (omega arith), len_of_raw h p after is, append_assoc p.header p.packet after, drop_at p.header (p.packet ++ after) 16 is.whole_header, take_at p.packet after (length p.packet) refl) refl
 
-behind_raw : (h : Heading) (p : RawRecord) (behind : List ℕ) → IsRawRecord h p → drop (16 + packet_len h (before p behind)) (before p behind) ≡ behind
-behind_raw h p behind is =
-    drop_at (p.header ++ p.packet) behind (16 + packet_len h (before p behind)) (omega (arith, length-append p.header p.packet, is.sixteen, len_of_raw h p behind is))
+after_raw : (h : Heading) (p : RawRecord) (after : List ℕ) → IsRawRecord h p → drop (16 + packet_len h (before p after)) (before p after) ≡ after
+after_raw h p after is =
+    drop_at (p.header ++ p.packet) after (16 + packet_len h (before p after)) (omega (arith, length-append p.header p.packet, is.whole_header, len_of_raw h p after is))
 
-front_of_raw : (h : Heading) (p : RawRecord) (behind : List ℕ) → IsRawRecord h p → front h (before p behind) ≡ whole
-front_of_raw h p behind is =
-    let len = len_of_raw h p behind is in
-    let all : length (before p behind) ≡ 16 + length p.packet + length behind = omega (arith, length-append (p.header ++ p.packet) behind, length-append p.header p.packet, is.sixteen) in
-    says_front h (before p behind) whole (omega arith, omega (arith, is.limited), omega arith)
+next_of_raw : (h : Heading) (p : RawRecord) (after : List ℕ) → IsRawRecord h p → next_record h (before p after) ≡ whole
+next_of_raw h p after is =
+    let len = len_of_raw h p after is in
+    let all : length (before p after) ≡ 16 + length p.packet + length after = omega (arith, length-append (p.header ++ p.packet) after, length-append p.header p.packet, is.whole_header) in
+    says_next h (before p after) whole (omega arith, omega (arith, is.limited), omega arith)
 
-with_front-twice : (p : Packet) (ps : List Packet) (read : Result Contents CaptureFault) → with_front (p ∷ []) (with_front ps read) ≡ with_front (p ∷ ps) read
-with_front-twice p ps (Ok c) = refl
-with_front-twice p ps (Err e) = refl
+listed_before-twice : (p : Packet) (ps : List Packet) (read : Result Contents CaptureFault) → listed_before (p ∷ []) (listed_before ps read) ≡ listed_before (p ∷ ps) read
+listed_before-twice p ps (Ok c) = refl
+listed_before-twice p ps (Err e) = refl
 
-read_raw : (h : Heading) (p : RawRecord) (behind : List ℕ) (k : ℕ) → IsRawRecord h p → records_after 0 h k (before p behind) ≡ with_front (packet_of_raw h p ∷ []) (records_after 0 h (k + 1) behind)
-read_raw h p behind k is =
-    let one = listed-whole h [] k (before p behind) (front_of_raw h p behind is) in
-    sym (with_front-none (records_after 0 h k (before p behind))) ∙ (rw (packet_of_front h p behind is, behind_raw h p behind is) at one)
+read_raw : (h : Heading) (p : RawRecord) (after : List ℕ) (k : ℕ) → IsRawRecord h p → records_after 0 h k (before p after) ≡ listed_before (packet_of_raw h p ∷ []) (records_after 0 h (k + 1) after)
+read_raw h p after k is =
+    let one = listed-whole h [] k (before p after) (next_of_raw h p after is) in
+    sym (listed_before-none (records_after 0 h k (before p after))) ∙ (rw (packet_of_next h p after is, after_raw h p after is) at one)
 
 pub read_splits : (h : Heading) (raws : List RawRecord) (rest : List ℕ) (k : ℕ) → AllByRecursion (IsRawRecord h) raws
-    → records_after 0 h k (flat_map raw_bytes raws ++ rest) ≡ with_front (map (packet_of_raw h) raws) (records_after 0 h (k + length raws) rest)
+    → records_after 0 h k (flat_map raw_bytes raws ++ rest) ≡ listed_before (map (packet_of_raw h) raws) (records_after 0 h (k + length raws) rest)
 read_splits h [] rest k each =
     let none : k + 0 ≡ k = omega arith in
-    rw none (sym (with_front-none (records_after 0 h k rest)))
+    rw none (sym (listed_before-none (records_after 0 h k rest)))
 read_splits h (p ∷ raws) rest k each =
     let counts : k + suc (length raws) ≡ k + 1 + length raws = omega arith in
     rw (append_assoc (raw_bytes p) (flat_map raw_bytes raws) rest, read_raw h p (flat_map raw_bytes raws ++ rest) k each.0, read_splits h raws rest (k + 1) each.1, counts)
-    (with_front-twice (packet_of_raw h p) (map (packet_of_raw h) raws) (records_after 0 h (k + 1 + length raws) rest))
+    (listed_before-twice (packet_of_raw h p) (map (packet_of_raw h) raws) (records_after 0 h (k + 1 + length raws) rest))
 
 -- ---- the laws
 
 read_rest : (h : Heading) (k : ℕ) (rest : List ℕ) → IsRest h rest → records_after 0 h k rest ≡ Ok (record { ticks = h.ticks; packets = []; rest = length rest })
-read_rest h k rest ends = rw (records_after-front h k rest, says_front h rest torn ends) refl
+read_rest h k rest ends = rw (records_after-next h k rest, says_next h rest torn ends) refl
 
 read_too_long : (h : Heading) (k : ℕ) (rest : List ℕ) → AnnouncesTooMuch h rest → records_after 0 h k rest ≡ Err (RecordTooLong k)
-read_too_long h k rest ends = rw (records_after-front h k rest, says_front h rest too_long ends) refl
+read_too_long h k rest ends = rw (records_after-next h k rest, says_next h rest too_long ends) refl
 
 pub splits_are_read : SplitsAreRead
 splits_are_read bytes h raws rest is splits ends =

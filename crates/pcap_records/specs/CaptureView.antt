@@ -1,10 +1,10 @@
 -- What contracts see of a `Capture`, and what its faults refuse.
 use Rattle.std.specs.Prelude.{◌≤◌, ◌<◌, ℕ, ◌+◌, ◌^◌, List, map, length, take, drop, Option, Some, None, option_map, slice_get, All}
 use Rattle.std.specs.List.{slice_range}
-use Rattle.pcap_records.specs.declared.order.Order.{Order}
+use Rattle.pcap_records.specs.declared.heading.Order.{Order}
 use Rattle.pcap_records.specs.declared.fault.CaptureFault.{CaptureFault}
 use Rattle.pcap_records.specs.declared.fault.CaptureFault.TheVariants.{CaptureTooLong, ShortHeader, BadMagic, BadVersion, BadLink, RecordTooLong, Memory}
-use Rattle.pcap_records.specs.declared.record_place.Record.{Record}
+use Rattle.pcap_records.specs.declared.capture.Record.{Record}
 use Rattle.pcap_records.specs.Instants.{horizon}
 use Rattle.pcap_records.specs.Reading.{Packet, Contents, Reading, capture_limit, packet_limit}
 

@@ -2,7 +2,7 @@
 use Rattle.std.specs.Prelude.{◌≡◌, ◌≤◌, ◌<◌, ◌⊎◌, ℕ, ◌+◌, List, ◌++◌, length, drop, map, Ok, Err}
 use Rattle.std.specs.List.{flat_map, AllByRecursion}
 use Rattle.pcap_records.specs.declared.fault.CaptureFault.TheVariants.{RecordTooLong}
-use Rattle.pcap_records.specs.Reading.{Heading, Packet, Reading, packet_len, packet_limit, stamp_of, file_heading, reading}
+use Rattle.pcap_records.specs.Reading.{Heading, Packet, Reading, file_header_len, record_header_len, packet_len, packet_limit, stamp_of, file_heading, reading}
 
 -- a record as it lies in the file
 pub record RawRecord : Type 0 where
@@ -12,21 +12,21 @@ pub record RawRecord : Type 0 where
 abbrev pub raw_bytes : RawRecord → List ℕ
 raw_bytes p = p.header ++ p.packet
 
--- sixteen bytes that announce the packet's length, which is within the limit
+-- a whole header that announces the packet's length, which is within the limit
 pub record IsRawRecord (h : Heading) (p : RawRecord) : Type 0 where
-  pub sixteen : length p.header ≡ 16
+  pub whole_header : length p.header ≡ record_header_len
   pub announced : packet_len h p.header ≡ length p.packet
   pub limited : length p.packet ≤ packet_limit
 
 -- bytes with which no record begins whole, and that do not announce too long a packet
 abbrev pub IsRest : Heading → List ℕ → Type 0
-IsRest h bytes = (length bytes < 16) ⊎ ((packet_len h bytes ≤ packet_limit) × (length bytes < 16 + packet_len h bytes))
+IsRest h bytes = (length bytes < record_header_len) ⊎ ((packet_len h bytes ≤ packet_limit) × (length bytes < record_header_len + packet_len h bytes))
 
 -- a whole record header that announces too long a packet
 abbrev pub AnnouncesTooMuch : Heading → List ℕ → Type 0
-AnnouncesTooMuch h bytes = (16 ≤ length bytes) × (packet_limit < packet_len h bytes)
+AnnouncesTooMuch h bytes = (record_header_len ≤ length bytes) × (packet_limit < packet_len h bytes)
 
--- the bytes behind the file header are these records, one after another, and then the rest
+-- the bytes after the file header are these records, one after another, and then the rest
 pub record Splits (h : Heading) (bytes : List ℕ) (raws : List RawRecord) (rest : List ℕ) : Type 0 where
   pub whole : bytes ≡ flat_map raw_bytes raws ++ rest
   pub each : AllByRecursion (IsRawRecord h) raws
@@ -44,13 +44,13 @@ abbrev pub ReadingsSplit : Type 0
 ReadingsSplit =
     (bytes : List ℕ) (r : Reading) → reading bytes ≡ Ok r
     → (h : Heading) × (raws : List RawRecord) × (rest : List ℕ)
-    × ((file_heading bytes ≡ Ok h) × Splits h (drop 24 bytes) raws rest × IsRest h rest × (r ≡ reading_by h raws rest))
+    × ((file_heading bytes ≡ Ok h) × Splits h (drop file_header_len bytes) raws rest × IsRest h rest × (r ≡ reading_by h raws rest))
 
 -- what has a split is read so; hence a file has one split at most
 abbrev pub SplitsAreRead : Type 0
 SplitsAreRead =
     (bytes : List ℕ) (h : Heading) (raws : List RawRecord) (rest : List ℕ)
-    → file_heading bytes ≡ Ok h → Splits h (drop 24 bytes) raws rest → IsRest h rest
+    → file_heading bytes ≡ Ok h → Splits h (drop file_header_len bytes) raws rest → IsRest h rest
     → reading bytes ≡ Ok (reading_by h raws rest)
 
 -- a refusal at record k: k whole records, and then a header that announces too much
@@ -58,11 +58,11 @@ abbrev pub RefusalsSplit : Type 0
 RefusalsSplit =
     (bytes : List ℕ) (h : Heading) (k : ℕ) → file_heading bytes ≡ Ok h → reading bytes ≡ Err (RecordTooLong k)
     → (raws : List RawRecord) × (rest : List ℕ)
-    × ((length raws ≡ k) × Splits h (drop 24 bytes) raws rest × AnnouncesTooMuch h rest)
+    × ((length raws ≡ k) × Splits h (drop file_header_len bytes) raws rest × AnnouncesTooMuch h rest)
 
 -- and the other way round: such a split is refused at its number of records
 abbrev pub SplitsAreRefused : Type 0
 SplitsAreRefused =
     (bytes : List ℕ) (h : Heading) (raws : List RawRecord) (rest : List ℕ)
-    → file_heading bytes ≡ Ok h → Splits h (drop 24 bytes) raws rest → AnnouncesTooMuch h rest
+    → file_heading bytes ≡ Ok h → Splits h (drop file_header_len bytes) raws rest → AnnouncesTooMuch h rest
     → reading bytes ≡ Err (RecordTooLong (length raws))

@@ -3,7 +3,6 @@ pub mod Reading
 pub mod Grammar
 pub mod Agreement
 pub mod CaptureView
-pub mod Front
-pub mod Survey
+pub mod Listed
 pub mod Writing
 pub use Rattle.byteorder.specs.Endian

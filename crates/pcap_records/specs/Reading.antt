@@ -2,8 +2,8 @@
 -- each a header of 16 bytes and a packet, then the rest, which begins with no whole record.
 use Rattle.std.specs.Prelude.{◌==◌, ℕ, zero, suc, ◌+◌, ◌-◌, ◌*◌, ◌^◌, nat_lt, ◌||◌, not, if◌then◌else◌, List, [], ◌∷◌, length, take, drop, Option, Some, None, Result, Ok, Err}
 use Rattle.byteorder.specs.Endian.{big_number, little_number}
-use Rattle.pcap_records.specs.declared.order.Order.{Order}
-use Rattle.pcap_records.specs.declared.order.Order.TheVariants.{Big, Little}
+use Rattle.pcap_records.specs.declared.heading.Order.{Order}
+use Rattle.pcap_records.specs.declared.heading.Order.TheVariants.{Big, Little}
 use Rattle.pcap_records.specs.declared.fault.CaptureFault.{CaptureFault}
 use Rattle.pcap_records.specs.declared.fault.CaptureFault.TheVariants.{CaptureTooLong, ShortHeader, BadMagic, BadVersion, BadLink, RecordTooLong}
 use Rattle.pcap_records.specs.Instants.{microseconds, instant}
@@ -81,9 +81,9 @@ checked_heading (Some h) bytes =
 unfoldable pub file_heading : List ℕ → Result Heading CaptureFault
 file_heading bytes =
     if nat_lt capture_limit (length bytes) then Err CaptureTooLong else
-    (if nat_lt (length bytes) 24 then Err ShortHeader else checked_heading (magic_heading bytes) bytes)
+    (if nat_lt (length bytes) file_header_len then Err ShortHeader else checked_heading (magic_heading bytes) bytes)
 
--- ---- the record at the front of some bytes
+-- ---- the next record: the one with which some bytes begin
 
 -- its header's third field: how long its packet is
 abbrev pub packet_len : Heading → List ℕ → ℕ
@@ -94,20 +94,20 @@ abbrev pub stamp_of : Heading → List ℕ → ℕ
 stamp_of h bytes = instant h.ticks (number_in h.order 4 bytes * h.ticks + number_in h.order 4 (drop 4 bytes))
 
 abbrev pub first_packet : Heading → List ℕ → Packet
-first_packet h bytes = record { stamp = stamp_of h bytes; bytes = take (packet_len h bytes) (drop 16 bytes) }
+first_packet h bytes = record { stamp = stamp_of h bytes; bytes = take (packet_len h bytes) (drop record_header_len bytes) }
 
 -- bytes begin with a whole record, with a part of one at most, or with a header that announces too
 -- long a packet, whether or not the file holds it
-pub data Front : Type 0 where
-  whole : Front
-  torn : Front
-  too_long : Front
+pub data NextRecord : Type 0 where
+  whole : NextRecord
+  torn : NextRecord
+  too_long : NextRecord
 
-unfoldable pub front : Heading → List ℕ → Front
-front h bytes =
-    if nat_lt (length bytes) 16 then torn else
+unfoldable pub next_record : Heading → List ℕ → NextRecord
+next_record h bytes =
+    if nat_lt (length bytes) record_header_len then torn else
     (if nat_lt packet_limit (packet_len h bytes) then too_long else
-    (if nat_lt (length bytes - 16) (packet_len h bytes) then torn else whole))
+    (if nat_lt (length bytes - record_header_len) (packet_len h bytes) then torn else whole))
 
 -- ---- all records
 
@@ -115,9 +115,8 @@ abbrev pub contents_with_packet : Packet → Result Contents CaptureFault → Re
 contents_with_packet p (Ok c) = Ok (record { ticks = c.ticks; packets = p ∷ c.packets; rest = c.rest })
 contents_with_packet p (Err e) = Err e
 
--- what bytes hold of which the k-th record would stand at the front, by what the front is and by what
--- is read after that record
-abbrev pub contents_at : Front → Heading → ℕ → List ℕ → Result Contents CaptureFault → Result Contents CaptureFault
+-- what bytes hold of which the next record is the k-th, by what the next record is and by what is read after it
+abbrev pub contents_at : NextRecord → Heading → ℕ → List ℕ → Result Contents CaptureFault → Result Contents CaptureFault
 contents_at torn h k bytes after = Ok (record { ticks = h.ticks; packets = []; rest = length bytes })
 contents_at too_long h k bytes after = Err (RecordTooLong k)
 contents_at whole h k bytes after = contents_with_packet (first_packet h bytes) after
@@ -126,7 +125,7 @@ contents_at whole h k bytes after = contents_with_packet (first_packet h bytes) 
 unfoldable pub records_after : ℕ → Heading → ℕ → List ℕ → Result Contents CaptureFault
 records_after n h k [] = Ok (record { ticks = h.ticks; packets = []; rest = 0 })
 records_after zero h k (b ∷ bytes) =
-    contents_at (front h (b ∷ bytes)) h k (b ∷ bytes) (records_after (15 + packet_len h (b ∷ bytes)) h (suc k) bytes)
+    contents_at (next_record h (b ∷ bytes)) h k (b ∷ bytes) (records_after (record_header_len - 1 + packet_len h (b ∷ bytes)) h (suc k) bytes)
 records_after (suc n) h k (b ∷ bytes) = records_after n h k bytes
 
 -- ---- a file
@@ -136,7 +135,7 @@ reading_in o (Ok c) = Ok (record { order = o; contents = c })
 reading_in o (Err e) = Err e
 
 abbrev pub reading_with : Result Heading CaptureFault → List ℕ → Result Reading CaptureFault
-reading_with (Ok h) bytes = reading_in h.order (records_after 0 h 0 (drop 24 bytes))
+reading_with (Ok h) bytes = reading_in h.order (records_after 0 h 0 (drop file_header_len bytes))
 reading_with (Err e) bytes = Err e
 
 -- what the file holds, or its first fault

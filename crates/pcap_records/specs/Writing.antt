@@ -2,7 +2,7 @@
 use Rattle.std.specs.Prelude.{◌≡◌, ◌<◌, ◌≤◌, ℕ, ◌/◌, ◌%◌, List, ◌++◌, length, Ok}
 use Rattle.std.specs.List.{flat_map, AllByRecursion}
 use Rattle.byteorder.specs.Endian.{little_bytes}
-use Rattle.pcap_records.specs.declared.order.Order.TheVariants.{Little}
+use Rattle.pcap_records.specs.declared.heading.Order.TheVariants.{Little}
 use Rattle.pcap_records.specs.Instants.{microseconds, horizon}
 use Rattle.pcap_records.specs.Reading.{Packet, magic, capture_limit, packet_limit, reading}
 

@@ -1,9 +1,19 @@
-//! A file that was read.
+//! A file that was read, and where its records lie.
+use crate::heading::Order;
 use crate::moment::Moment;
-use crate::order::Order;
-use crate::record_place::Record;
 use std::alloc::{AllocError, Global};
 use std::marker::Model;
+
+/// A record of a file: its stamp, and where its packet lies. It takes sixteen bytes.
+#[derive(Clone, Copy, Debug, PartialEq, Eq, Hash)]
+pub struct Record {
+    /// When the packet was captured, as the record says.
+    pub stamp: Moment,
+    /// Where the packet begins: how many bytes of the file stand before it.
+    pub start: u32,
+    /// How many bytes of the packet the file holds.
+    pub len: u32,
+}
 
 /// A capture: the records of a classic pcap file, each a slice of the file's bytes.
 #[derive(Debug, Drop)]

@@ -6,23 +6,17 @@
 
 mod capture;
 mod fault;
-mod front;
 mod heading;
 pub mod laws;
 mod moment;
-mod order;
 mod reader;
-mod record_place;
 mod values;
 mod writing;
 
-pub use capture::Capture;
+pub use capture::{Capture, Record};
 pub use fault::CaptureFault;
-pub use front::{PACKET_LIMIT, RECORD_HEADER_LEN};
-pub use heading::{CAPTURE_LIMIT, FILE_HEADER_LEN};
+pub use heading::{CAPTURE_LIMIT, FILE_HEADER_LEN, Order};
 pub use moment::Moment;
-pub use order::Order;
-pub use reader::read_capture;
-pub use record_place::Record;
+pub use reader::{PACKET_LIMIT, RECORD_HEADER_LEN, read_capture};
 pub use values::Values;
 pub use writing::{record_header_bytes, write_header, write_record};

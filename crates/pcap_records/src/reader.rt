@@ -1,22 +1,26 @@
-//! Reading a whole file in one pass.
+//! Reading a whole file in one pass, record after record.
 ghost use Rattle.std.specs.Prelude.{◌≡◌, ◌≤◌, ◌<◌, ◌*◌, length, drop, IfOk};
-ghost use Rattle.pcap_records.specs.Reading.{reading, capture_limit, file_header_len, microsecond_heading, records_after};
+ghost use Rattle.pcap_records.specs.Reading.{reading, capture_limit, file_header_len, record_header_len, microsecond_heading, records_after};
 ghost use Rattle.pcap_records.specs.Agreement.{Agrees, Refuses};
 ghost use Rattle.pcap_records.specs.CaptureView.{reading_of, refusal, IsSoundCapture};
 ghost use Rattle.pcap_records.specs.Instants.{microseconds};
-ghost use Rattle.pcap_records.specs.Survey.{listed_contents};
+ghost use Rattle.pcap_records.specs.Listed.{listed_contents, IsFoundAt};
 
-use crate::capture::Capture;
+use crate::capture::{Capture, Record};
 use crate::fault::CaptureFault;
-use crate::front::{Found, RECORD_HEADER_LEN, found_at};
-use crate::heading::{FILE_HEADER_LEN, read_heading};
-use crate::order::Order;
-use crate::record_place::Record;
+use crate::heading::{FILE_HEADER_LEN, Order, read_heading};
+use crate::moment::Moment;
 use std::alloc::{AllocError, Global};
+
+/// The bytes of a record's header.
+pub const RECORD_HEADER_LEN: usize = 16;
+
+/// The most bytes that a packet may have, which is libpcap's own limit.
+pub const PACKET_LIMIT: u32 = 262_144;
 
 /// The whole records of a file, and how many bytes follow them.
 #[derive(Drop)]
-pub(crate) struct Listing {
+pub(crate) struct RecordList {
     pub records: Vec<Record>,
     pub rest: u32,
 }
@@ -36,8 +40,8 @@ pub fn read_capture<'a>(alloc: Global, bytes: &'a [u8]) -> Result<Capture<'a>, C
     Ok(Capture::of_records(bytes, order, list.records, list.rest))
 }
 
-// Lists the records behind the file header.
-fn list_records(alloc: Global, order: Order, bytes: &[u8]) -> Result<Listing, CaptureFault>
+// Lists the records after the file header.
+fn list_records(alloc: Global, order: Order, bytes: &[u8]) -> Result<RecordList, CaptureFault>
     requires header { file_header_len ≤ length bytes.now }
     requires limited { length bytes.now ≤ capture_limit }
     ensures exact { Agrees refusal (listed_contents microseconds bytes.now) result
@@ -50,7 +54,7 @@ fn list_records(alloc: Global, order: Order, bytes: &[u8]) -> Result<Listing, Ca
         match found_at(order, bytes, at) {
             Found::Torn => {
                 let rest = (bytes.len() - at) as u32;
-                return Ok(Listing { records, rest });
+                return Ok(RecordList { records, rest });
             }
             Found::TooLong => {
                 let at = records.len() as u32;
@@ -60,7 +64,7 @@ fn list_records(alloc: Global, order: Order, bytes: &[u8]) -> Result<Listing, Ca
                 at += RECORD_HEADER_LEN + record.len as usize;
                 let count = records.len() as u32 + 1;
                 let Ok(()) = records.push(record) else {
-                    return Err(fault_behind(order, bytes, at, count));
+                    return Err(fault_after(order, bytes, at, count));
                 };
             }
         }
@@ -69,10 +73,10 @@ fn list_records(alloc: Global, order: Order, bytes: &[u8]) -> Result<Listing, Ca
 
 // Why a file is refused of which a record found no memory, where `count` records stand before `at`: the fault of a later
 // record, if one has any, and else want of memory.
-fn fault_behind(order: Order, bytes: &[u8], at: usize, count: u32) -> CaptureFault
-    requires place { at ≤ length bytes.now }
+fn fault_after(order: Order, bytes: &[u8], at: usize, count: u32) -> CaptureFault
+    requires inside { at ≤ length bytes.now }
     requires limited { length bytes.now ≤ capture_limit }
-    requires sixteen_each { 16 * count ≤ at }
+    requires header_each { record_header_len * count ≤ at }
     ensures { Refuses (refusal result) (records_after 0 (microsecond_heading order) count (drop at bytes.now)) }
 {
     let mut at = at;
@@ -87,4 +91,42 @@ fn fault_behind(order: Order, bytes: &[u8], at: usize, count: u32) -> CaptureFau
             }
         }
     }
+}
+
+/// What is found where a record may begin.
+#[derive(Clone, Copy)]
+pub(crate) enum Found {
+    /// A part of a record at most.
+    Torn,
+    /// A header that announces too long a packet.
+    TooLong,
+    /// A record and its packet.
+    Whole(Record),
+}
+
+// What begins at `at`. The announced length is tested before it is asked whether the file holds so many bytes.
+#[tactic(auto, unfolding(crate::specs::Reading::next_record))]
+pub(crate) fn found_at(order: Order, bytes: &[u8], at: usize) -> Found
+    requires inside { at ≤ length bytes.now }
+    requires limited { length bytes.now ≤ capture_limit }
+    ensures { IsFoundAt (microsecond_heading order) bytes.now at result }
+{
+    let rest = &bytes[at..];
+    if rest.len() < RECORD_HEADER_LEN {
+        return Found::Torn;
+    }
+    let len = order.u32_of(&rest[8..]);
+    if len > PACKET_LIMIT {
+        return Found::TooLong;
+    }
+    if rest.len() - RECORD_HEADER_LEN < len as usize {
+        return Found::Torn;
+    }
+    let seconds = u64::from(order.u32_of(rest));
+    let ticks = u64::from(order.u32_of(&rest[4..]));
+    Found::Whole(Record {
+        stamp: Moment::of(seconds * Moment::SECOND + ticks),
+        start: (at + RECORD_HEADER_LEN) as u32,
+        len,
+    })
 }

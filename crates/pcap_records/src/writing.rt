@@ -4,9 +4,9 @@ ghost use Rattle.pcap_records.specs.Instants.{horizon, microseconds};
 ghost use Rattle.pcap_records.specs.Reading.{packet_limit};
 ghost use Rattle.pcap_records.specs.Writing.{file_header, record_header, record_bytes};
 
-use crate::front::RECORD_HEADER_LEN;
 use crate::heading::FILE_HEADER_LEN;
 use crate::moment::Moment;
+use crate::reader::RECORD_HEADER_LEN;
 use byteorder::{ByteOrder, LittleEndian};
 use std::alloc::AllocError;
 

@@ -1,57 +1,20 @@
 -- A recorded line lies between the instants between which its segments were recorded.
-use Rattle.std.proofs.Common.{◌≡◌, ◌≤◌, ◌<◌, ℕ, zero, suc, ◌+◌, ◌==◌, not, max, cond, Bool, true, false, find, filter, take, map, List, [], ◌∷◌, Option, Some, None, option_map, is_some, refl, arith, if◌then◌else◌}
+use Rattle.std.proofs.Common.{◌≡◌, ◌≤◌, ◌<◌, ℕ, zero, suc, ◌+◌, ◌==◌, not, max, cond, Bool, true, false, find, map, List, Option, Some, None, option_map, is_some, refl, arith, if◌then◌else◌}
 use Rattle.std.specs.List.{AllByRecursion, range_with_len, prefix_len}
 use Rattle.std.specs.Option.{unwrap_or}
 use Rattle.pcap_records.specs.Instants.{greatest}
 use Rattle.conn_table.specs.IndexedSegments.{TimedSegment, same_peer}
-use Rattle.reassembly.specs.Positions.{effective_members, is_reset}
-use Rattle.reassembly.specs.RecordedBytes.{covers, bearer, is_covered, arrival_at, available_at, reach, first_gap}
-use Rattle.reassembly.specs.RecordedLines.{End, fin, closing_segment, fin_position, length_before, line_length, byte_at, end_at, reset_or_live, sent_by, side_of, recorded_side, is_counted_fin}
+use Rattle.reassembly.specs.Positions.{effective_members, is_reset, covers, bearer, is_covered, arrival_at, available_at, reach, first_gap}
+use Rattle.reassembly.specs.RecordedLines.{End, fin, fin_segment, fin_position, line_length, byte_at, end_at, reset_or_live, sent_by, side_of, recorded_side, is_counted_fin}
+use Rattle.reassembly.proofs.MappedLists.{all_found, all_weaker, all_filter, all_take_while}
+use Rattle.reassembly.proofs.Chunks.{all_mapped, available-le, length_before-le}
 use Rattle.reassembly.specs.LineLaws.{IsNotBefore, IsBetween, LiesBetween, RecordedSidesLieBetween}
-
--- ---- lists
-
-all_found : {A : Type 0} (P : A → Type 0) (test : A → Bool) (xs : List A) (x : A) → AllByRecursion P xs → find test xs ≡ Some x → P x
-all_found P test [] x all is = absurd cc
-all_found P test (y ∷ ys) x all is = by (test y) is (all_found P test ys x all.1)
-  where
-    by : (b : Bool) → cond b (Some y) (find test ys) ≡ Some x → (find test ys ≡ Some x → P x) → P x
-    by true same later = let e : y ≡ x = cc in rw (← e) all.0
-    by false same later = later same
-
-all_filtered : {A : Type 0} (P : A → Type 0) (test : A → Bool) (xs : List A) → AllByRecursion P xs → AllByRecursion P (filter test xs)
-all_filtered P test [] all = tt
-all_filtered P test (y ∷ ys) all = by (test y) (all_filtered P test ys all.1)
-  where
-    by : (b : Bool) → AllByRecursion P (filter test ys) → AllByRecursion P (cond b (y ∷ filter test ys) (filter test ys))
-    by true later = (all.0, later)
-    by false later = later
-
-all_front : {A : Type 0} (P : A → Type 0) (n : ℕ) (xs : List A) → AllByRecursion P xs → AllByRecursion P (take n xs)
-all_front P zero xs all = tt
-all_front P (suc n) [] all = tt
-all_front P (suc n) (y ∷ ys) all = (all.0, all_front P n ys all.1)
-
-all_mapped : {A B : Type 0} (P : B → Type 0) (f : A → B) → ((a : A) → P (f a)) → (xs : List A) → AllByRecursion P (map f xs)
-all_mapped P f each [] = tt
-all_mapped P f each (x ∷ xs) = (each x, all_mapped P f each xs)
-
-greatest_up_to : (limit : ℕ) (ns : List ℕ) → AllByRecursion (λ n. n ≤ limit) ns → greatest ns ≤ limit
-greatest_up_to limit [] all = omega arith
-greatest_up_to limit (n ∷ ns) all = let later = greatest_up_to limit ns all.1 in omega (arith, all.0, later)
 
 -- ---- bytes
 
 module _ (base opened limit : ℕ) (ms : List TimedSegment) (all : AllByRecursion (IsBetween opened limit) ms) where
-  arrival_up_to : (x : ℕ) → arrival_at base ms x ≤ limit
-  arrival_up_to x = by (bearer base ms x) refl
-    where
-      by : (o : Option TimedSegment) → bearer base ms x ≡ o → unwrap_or (option_map (λ m. m.at) o) 0 ≤ limit
-      by None is = omega arith
-      by (Some m) is = (all_found (IsBetween opened limit) (covers base x) ms m all is).1
-
   available_up_to : (n : ℕ) → available_at base ms n ≤ limit
-  available_up_to n = greatest_up_to limit _ (all_mapped (λ k. k ≤ limit) (arrival_at base ms) arrival_up_to (range_with_len 0 n))
+  available_up_to n = available-le base ms limit n (all_weaker (IsBetween opened limit) (λ m. m.at ≤ limit) (λ m between. between.1) ms all)
 
   arrival_from : (x : ℕ) → is_covered base ms x ≡ true → opened ≤ arrival_at base ms x
   arrival_from x covered = by (bearer base ms x) refl covered
@@ -60,7 +23,7 @@ module _ (base opened limit : ℕ) (ms : List TimedSegment) (all : AllByRecursio
       by None is some = absurd cc
       by (Some m) is some = (all_found (IsBetween opened limit) (covers base x) ms m all is).0
 
-  -- all that is available came behind the first byte
+  -- all that is available came after the first byte
   available_from : (n : ℕ) → is_covered base ms 0 ≡ true → opened ≤ available_at base ms (n + 1)
   available_from n covered =
       let first = arrival_from 0 covered in
@@ -77,17 +40,13 @@ module _ (base opened limit : ℕ) (ms : List TimedSegment) (all : AllByRecursio
       by true some = refl
       by false some = absurd (omega (arith, some))
 
-  within_gap : (o : Option TimedSegment) → length_before base o (first_gap base ms) ≤ first_gap base ms
-  within_gap None = omega arith
-  within_gap (Some m) = omega arith
-
   from_first : (n : ℕ) → n ≤ first_gap base ms → AllByRecursion (λ b. opened ≤ b.at) (map (byte_at base ms) (range_with_len 0 n))
   from_first zero within = tt
   from_first (suc n) within =
       let covered = first_covered (reach base ms) (omega (arith, within)) in
       all_mapped (λ b. opened ≤ b.at) (byte_at base ms) (λ x. available_from x covered) (range_with_len 0 (suc n))
 
-  end_from : (n latest : ℕ) (other : End) (o : Option TimedSegment) → IsNotBefore opened other → closing_segment base ms ≡ o → IsNotBefore opened (end_at base n latest other o)
+  end_from : (n latest : ℕ) (other : End) (o : Option TimedSegment) → IsNotBefore opened other → fin_segment base ms ≡ o → IsNotBefore opened (end_at base n latest other o)
   end_from n latest other None since is = since
   end_from n latest other (Some m) since is = by (n == fin_position base m)
     where
@@ -100,9 +59,9 @@ module _ (base opened limit : ℕ) (ms : List TimedSegment) (all : AllByRecursio
 
   side_lies : (other : End) → IsNotBefore opened other → LiesBetween opened limit (side_of base ms other).line
   side_lies other since = record {
-    from = from_first (line_length base ms) (within_gap (closing_segment base ms));
+    from = from_first (line_length base ms) (length_before-le base (fin_segment base ms) (first_gap base ms));
     to = all_mapped (λ b. b.at ≤ limit) (byte_at base ms) (λ x. available_up_to (x + 1)) (range_with_len 0 (line_length base ms));
-    ends = end_from (line_length base ms) (available_at base ms (line_length base ms)) other (closing_segment base ms) since refl;
+    ends = end_from (line_length base ms) (available_at base ms (line_length base ms)) other (fin_segment base ms) since refl;
   }
 
 -- ---- sides
@@ -116,5 +75,5 @@ unfolding recorded_side
 recorded_sides_lie_between members sender None opened limit all = record { from = tt; to = tt; ends = reset_from opened limit members (find is_reset members) all refl }
 recorded_sides_lie_between members sender (Some base) opened limit all =
     side_lies base opened limit (sent_by sender (effective_members members))
-    (all_filtered (IsBetween opened limit) (λ m. same_peer m.fields.from sender) (effective_members members) (all_front (IsBetween opened limit) (prefix_len (λ m. not (is_reset m)) members) members all))
+    (all_filter (IsBetween opened limit) (λ m. same_peer m.fields.from sender) (effective_members members) (all_take_while (IsBetween opened limit) (λ m. not (is_reset m)) members all))
     (reset_or_live (find is_reset members)) (reset_from opened limit members (find is_reset members) all refl)

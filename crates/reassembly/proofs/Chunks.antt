@@ -1,23 +1,22 @@
 -- Recorded lines are lines: their instants, chunks, ends and lengths.
-use Rattle.std.proofs.Common.{◌≡◌, ◌≤◌, ◌<◌, ℕ, zero, suc, ◌+◌, ◌-◌, ◌==◌, ◌||◌, not, max, Bool, true, false, cond, List, [], ◌∷◌, map, length, nat_le, slice_get, Option, Some, None, option_map, refl, sym, ap, ◌∙◌, subst, arith, zero-add, add-zero}
-use Rattle.std.specs.Option.{option_or}
+use Rattle.std.proofs.Common.{◌≡◌, ◌≤◌, ◌<◌, ◌^◌, ℕ, zero, suc, ◌+◌, ◌==◌, ◌||◌, not, max, Bool, true, false, cond, List, [], ◌∷◌, map, length, Option, Some, None, option_map, refl, sym, ap, ◌∙◌, subst, arith, zero-add, add-zero}
+use Rattle.std.specs.Option.{unwrap_or}
 use Rattle.std.specs.List.{AllByRecursion, range_with_len, find}
-use Rattle.std.proofs.Math.Nat.{le_trans, le_refl}
+use Rattle.pcap_records.specs.Instants.{greatest}
+use Rattle.std.proofs.Math.Nat.{le_trans}
 use Rattle.std.proofs.lemmas.Bool.{eqb-true, or_parts, not-false}
 use Rattle.std.proofs.lemmas.List.FromFn.{length-range_with_len, length-map-range_with_len}
 use Rattle.std.proofs.lemmas.List.Sums.{prefix_len-le-length, take_while-cons}
 use Rattle.frame_headers.specs.declared.peers.Peer.{Peer}
 use Rattle.conn_table.specs.IndexedSegments.{TimedSegment, same_peer}
-use Rattle.reassembly.specs.Positions.{effective_members, is_reset}
-use Rattle.reassembly.specs.RecordedBytes.{reach, first_gap, is_covered, available_at}
-use Rattle.reassembly.specs.RecordedLines.{End, fin, closing_segment, fin_position, length_before, line_length, byte_at, end_at, reset_or_live, sent_by, recorded_side, side_of}
-use Rattle.reassembly.specs.Spans.{Span, TimedByte, byte_in, first_byte}
-use Rattle.reassembly.specs.Fronts.{instant_of, peak}
+use Rattle.reassembly.specs.Positions.{effective_members, is_reset, reach, first_gap, is_covered, available_at, arrival_at, sequence_space, bearer, covers}
+use Rattle.reassembly.specs.RecordedLines.{End, fin, fin_segment, fin_position, length_before, line_length, byte_at, end_at, reset_or_live, sent_by, recorded_side, side_of}
+use Rattle.reassembly.specs.Spans.{TimedByte, first_byte}
 use Rattle.reassembly.specs.MemberSpans.{segment_span}
 use Rattle.reassembly.specs.LineLaws.{GoesOn, IsInChunks, last_instant, IsNotBefore, IsLine, InstantsRise, HasShortPayload, RecordedSidesAreLines}
-use Rattle.reassembly.proofs.Walks.{peak-more, peak-none}
+use Rattle.reassembly.proofs.Walks.{latest_below-more}
 use Rattle.reassembly.proofs.Joining.{available_is}
-use Rattle.reassembly.proofs.MappedLists.{all_filter, all_take_while}
+use Rattle.reassembly.proofs.MappedLists.{all_found, all_filter, all_take_while}
 
 -- ---- instants
 
@@ -26,7 +25,7 @@ available-rises base ms x =
     let g : ℕ → Option TimedByte = first_byte (map (segment_span base) ms) in
     let here = available_is base ms x in
     let next = available_is base ms (x + 1) in
-    let more = peak-more g x in
+    let more = latest_below-more g x in
     rw (here, next, more) (omega arith)
 
 same_instant : (x now before : ℕ) → (x == 0 || not (now == before)) ≡ false → now ≡ before
@@ -47,34 +46,23 @@ last_is base ms x (suc k) = let e : x + 1 + k ≡ x + suc k = omega arith in las
 
 -- ---- instants of members before the reset
 
-byte_instant : (b : Bool) (o : Option ℕ) (at : ℕ) → instant_of (cond b (option_map (λ v. let r : TimedByte = record { value = v; at = at } in r) o) None) ≤ at
-byte_instant false o at = omega arith
-byte_instant true None at = omega arith
-byte_instant true (Some v) at = omega arith
+pub all_mapped : {A B : Type 0} (P : B → Type 0) (f : A → B) → ((a : A) → P (f a)) → (xs : List A) → AllByRecursion P (map f xs)
+all_mapped P f each [] = tt
+all_mapped P f each (x ∷ xs) = (each x, all_mapped P f each xs)
 
-or_instant : (a b : Option TimedByte) (t : ℕ) → instant_of a ≤ t → instant_of b ≤ t → instant_of (option_or a b) ≤ t
-or_instant None b t h g = g
-or_instant (Some v) b t h g = h
+greatest-le : (limit : ℕ) (ns : List ℕ) → AllByRecursion (λ n. n ≤ limit) ns → greatest ns ≤ limit
+greatest-le limit [] all = omega arith
+greatest-le limit (n ∷ ns) all = let later = greatest-le limit ns all.1 in omega (arith, all.0, later)
 
-first_instant : (base : ℕ) (ms : List TimedSegment) (t x : ℕ) → AllByRecursion (λ m. m.at ≤ t) ms → instant_of (first_byte (map (segment_span base) ms) x) ≤ t
-first_instant base [] t x all = omega arith
-first_instant base (m ∷ ms) t x all =
-    let p : Span = segment_span base m in
-    let first : instant_of (byte_in p x) ≤ m.at = byte_instant (nat_le p.from x) (slice_get p.bytes (x - p.from)) m.at in
-    let le : m.at ≤ t = all.0 in
-    let first' : instant_of (byte_in p x) ≤ t = le_trans first le in
-    or_instant (byte_in p x) (first_byte (map (segment_span base) ms) x) t first' (first_instant base ms t x all.1)
+arrival-le : (base : ℕ) (ms : List TimedSegment) (t x : ℕ) → AllByRecursion (λ m. m.at ≤ t) ms → arrival_at base ms x ≤ t
+arrival-le base ms t x all = by (bearer base ms x) refl
+  where
+    by : (o : Option TimedSegment) → bearer base ms x ≡ o → unwrap_or (option_map (λ m. m.at) o) 0 ≤ t
+    by None is = omega arith
+    by (Some m) is = all_found (λ (m : TimedSegment). m.at ≤ t) (covers base x) ms m all is
 
-peak-le : (g : ℕ → Option TimedByte) (t n : ℕ) → ((x : ℕ) → instant_of (g x) ≤ t) → peak g n ≤ t
-peak-le g t zero h = rw (peak-none g) (omega arith)
-peak-le g t (suc n) h =
-    let e : suc n ≡ n + 1 = omega arith in
-    let rest = peak-le g t n h in
-    let this = h n in
-    rw (e, peak-more g n) (omega arith)
-
-available-le : (base : ℕ) (ms : List TimedSegment) (t n : ℕ) → AllByRecursion (λ m. m.at ≤ t) ms → available_at base ms n ≤ t
-available-le base ms t n all = rw (available_is base ms n) (peak-le (first_byte (map (segment_span base) ms)) t n (λ x. first_instant base ms t x all))
+pub available-le : (base : ℕ) (ms : List TimedSegment) (t n : ℕ) → AllByRecursion (λ m. m.at ≤ t) ms → available_at base ms n ≤ t
+available-le base ms t n all = greatest-le t _ (all_mapped (λ k. k ≤ t) (arrival_at base ms) (λ x. arrival-le base ms t x all) (range_with_len 0 n))
 
 pub record BeforeReset (last : ℕ) (members : List TimedSegment) (r : TimedSegment) : Type 0 where
   pub after : last ≤ r.at
@@ -120,24 +108,24 @@ other_not_before base members sender n rise = by_reset (find is_reset members) r
 
 -- ---- lengths
 
-reach-short : (base : ℕ) (ms : List TimedSegment) → AllByRecursion HasShortPayload ms → reach base ms < 4294967296
+reach-short : (base : ℕ) (ms : List TimedSegment) → AllByRecursion HasShortPayload ms → reach base ms < sequence_space
 reach-short base [] all = omega arith
 reach-short base (m ∷ ms) all =
     let rest = reach-short base ms all.1 in
-    let len : length m.fields.payload ≤ 1073741824 = all.0 in
+    let len : length m.fields.payload ≤ 2 ^ 30 = all.0 in
     omega arith
 
-length-short : (base : ℕ) (ms : List TimedSegment) → AllByRecursion HasShortPayload ms → line_length base ms < 4294967296
+pub length_before-le : (base : ℕ) (o : Option TimedSegment) (gap : ℕ) → length_before base o gap ≤ gap
+length_before-le base None gap = omega arith
+length_before-le base (Some m) gap = omega arith
+
+length-short : (base : ℕ) (ms : List TimedSegment) → AllByRecursion HasShortPayload ms → line_length base ms < sequence_space
 length-short base ms all =
     let gap = prefix_len-le-length (is_covered base ms) (range_with_len 0 (reach base ms)) in
     let len = length-range_with_len 0 (reach base ms) in
     let short = reach-short base ms all in
-    let least : line_length base ms ≤ first_gap base ms = by_closing (closing_segment base ms) in
-    omega arith
-  where
-    by_closing : (o : Option TimedSegment) → length_before base o (first_gap base ms) ≤ first_gap base ms
-    by_closing None = le_refl (first_gap base ms)
-    by_closing (Some m) = omega arith
+    let least = length_before-le base (fin_segment base ms) (first_gap base ms) in
+    omega (arith, least)
 
 -- ---- the law
 
@@ -150,8 +138,8 @@ side_is_line base members sender rise shorts =
     let last : last_instant 0 (map (byte_at base ms) (range_with_len 0 n)) ≡ available_at base ms n = last_is base ms 0 n ∙ ap (available_at base ms) (zero-add n) in
     record {
       chunks = in_chunks base ms n;
-      ends = subst (λ (k : ℕ). IsNotBefore k (end_at base n (available_at base ms n) (reset_or_live (find is_reset members)) (closing_segment base ms))) (sym last)
-          (end_not_before base n (available_at base ms n) (reset_or_live (find is_reset members)) (closing_segment base ms) (other_not_before base members sender n rise));
+      ends = subst (λ (k : ℕ). IsNotBefore k (end_at base n (available_at base ms n) (reset_or_live (find is_reset members)) (fin_segment base ms))) (sym last)
+          (end_not_before base n (available_at base ms n) (reset_or_live (find is_reset members)) (fin_segment base ms) (other_not_before base members sender n rise));
       short = let len = length-map-range_with_len (byte_at base ms) 0 n in let h = length-short base ms all in omega (arith, len, h);
     }
 

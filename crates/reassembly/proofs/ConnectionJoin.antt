@@ -14,14 +14,15 @@ use Rattle.conn_table.specs.IndexedConnections.{IndexedConnection, without_indic
 use Rattle.conn_table.specs.Tables.{member_in, conn_in}
 use Rattle.conn_table.specs.declared.members.Member.{Member}
 use Rattle.conn_table.specs.declared.conns.Conn.{Conn}
-use Rattle.reassembly.specs.Positions.{effective_members, is_reset, is_answer, server_base}
-use Rattle.reassembly.specs.RecordedLines.{End, RecordedSide, RecordedConnection, closing_segment, is_counted_fin, reset_or_live, sent_by, recorded_side, recorded_connection, side_of}
-use Rattle.reassembly.specs.RecordedBytes.{start_place}
+use Rattle.conn_table.proofs.GroupingPairs.{one_pair-itself}
+use Rattle.reassembly.specs.Positions.{effective_members, is_reset, is_answer, server_base, shifted_start}
+use Rattle.reassembly.specs.RecordedLines.{End, RecordedSide, RecordedConnection, fin_segment, is_counted_fin, reset_or_live, sent_by, recorded_side, recorded_connection, side_of}
 use Rattle.reassembly.specs.MemberSpans.{IsInFile, span_at, member_span, member_spans, segment_span, own_members, is_of, is_reset_member, is_server_answer, members_before_reset, is_fin_member}
-use Rattle.reassembly.specs.SideLines.{closing_of, segment_closing, IsSideOf}
+use Rattle.reassembly.specs.SideLines.{fin_of, segment_fin, IsSideOf}
 use Rattle.reassembly.specs.RecordedView.{IsRecorded, IsConnectionOf, IsOfMembers, reset_end, other_end}
-use Rattle.reassembly.proofs.MappedLists.{take_while-map, filter-map, find-map, map-map, map_same, filter_same, find_same, all_weaker, and_both, all_map, all_filter, all_take_while}
-use Rattle.reassembly.proofs.RecordedSegments.{IsHeard, heard, own_pair}
+use Rattle.std.proofs.lemmas.Simd.{map-map}
+use Rattle.reassembly.proofs.MappedLists.{take_while-map, filter-map, find-map, map_same, filter_same, find_same, all_weaker, and_both, all_map, all_filter, all_take_while}
+use Rattle.reassembly.proofs.RecordedSegments.{IsHeard, heard}
 
 abbrev segments : IndexedConnection → List IndexedSegment
 segments x = x.opening ∷ x.later
@@ -36,7 +37,7 @@ pub all_heard : (ticks : ℕ) (c : CaptureView) (x : IndexedConnection) → IsSo
 all_heard ticks c x sound law of =
     let rec = of.recorded in
     let b : IndexedSegment = x.opening in
-    and_both (IsRecorded c) (λ s. of_one_pair b s ≡ true) (IsHeard c b.timed.fields.from b.timed.fields.to) (λ s r p. heard ticks c b s sound law rec.0 r p) (b ∷ x.later) rec (own_pair b, of.paired)
+    and_both (IsRecorded c) (λ s. of_one_pair b s ≡ true) (IsHeard c b.timed.fields.from b.timed.fields.to) (λ s r p. heard ticks c b s sound law rec.0 r p) (b ∷ x.later) rec (one_pair-itself b, of.paired)
 
 pub all_in_file : (ticks : ℕ) (c : CaptureView) (x : IndexedConnection) (file : List ℕ) (conn : Conn) (members : List Member) → IsSoundCapture ticks c.bytes c.records → PayloadsAreInPlace → IsConnectionOf c x
     → file ≡ c.bytes → members ≡ conn.members → conn ≡ conn_in c x → All (IsInFile file) members
@@ -99,16 +100,16 @@ module _ (c : CaptureView) (client server : Peer) where
   spans_same : (base : ℕ) (segs : List IndexedSegment) → AllByRecursion (IsHeard c client server) segs → map (segment_span base) (map timed segs) ≡ member_spans base c.bytes (map shown segs)
   spans_same base segs all =
       map-map (segment_span base) timed segs
-      ∙ map_same (λ s. segment_span base s.timed) (λ s. member_span base c.bytes (shown s)) segs (all_weaker (IsHeard c client server) (λ s. segment_span base s.timed ≡ member_span base c.bytes (shown s)) (λ s h. ap (λ p. span_at (start_place base s.timed) s.timed.at p) (sym h.payload)) segs all)
+      ∙ map_same (λ s. segment_span base s.timed) (λ s. member_span base c.bytes (shown s)) segs (all_weaker (IsHeard c client server) (λ s. segment_span base s.timed ≡ member_span base c.bytes (shown s)) (λ s h. ap (λ p. span_at (shifted_start base s.timed) s.timed.at p) (sym h.payload)) segs all)
       ∙ sym (map-map (member_span base c.bytes) shown segs)
 
-  closing_same : (base : ℕ) (segs : List IndexedSegment)
-      → option_map (segment_closing base) (closing_segment base (map timed segs)) ≡ option_map (closing_of base) (find (is_fin_member base) (map shown segs))
-  closing_same base segs =
-      ap (option_map (segment_closing base)) (find-map (is_counted_fin base) timed segs) ∙ by_cases (find (λ s. is_counted_fin base s.timed) segs)
-      ∙ sym (ap (option_map (closing_of base)) (find-map (is_fin_member base) shown segs))
+  fin_same : (base : ℕ) (segs : List IndexedSegment)
+      → option_map (segment_fin base) (fin_segment base (map timed segs)) ≡ option_map (fin_of base) (find (is_fin_member base) (map shown segs))
+  fin_same base segs =
+      ap (option_map (segment_fin base)) (find-map (is_counted_fin base) timed segs) ∙ by_cases (find (λ s. is_counted_fin base s.timed) segs)
+      ∙ sym (ap (option_map (fin_of base)) (find-map (is_fin_member base) shown segs))
     where
-      by_cases : (o : Option IndexedSegment) → option_map (segment_closing base) (option_map timed o) ≡ option_map (closing_of base) (option_map shown o)
+      by_cases : (o : Option IndexedSegment) → option_map (segment_fin base) (option_map timed o) ≡ option_map (fin_of base) (option_map shown o)
       by_cases None = refl
       by_cases (Some s) = refl
 
@@ -123,7 +124,7 @@ module _ (c : CaptureView) (client server : Peer) where
       let ms : List TimedSegment = map timed (sent up E) in
       let own : own_members up (members_before_reset (map shown segs)) ≡ map shown (sent up E) = ap (own_members up) (members_are segs) ∙ own_are up E all_E in
       let ours : sent_by (sender up) (effective_members (map timed segs)) ≡ ms = ap (sent_by (sender up)) (effective_are segs) ∙ sent_are up E in
-      is ms (spans_same base (sent up E) all_F ∙ ap (member_spans base c.bytes) (sym own)) (closing_same base (sent up E) ∙ ap (λ l. option_map (closing_of base) (find (is_fin_member base) l)) (sym own))
+      is ms (spans_same base (sent up E) all_F ∙ ap (member_spans base c.bytes) (sym own)) (fin_same base (sent up E) ∙ ap (λ l. option_map (fin_of base) (find (is_fin_member base) l)) (sym own))
       ∙ ap (side_of base ms) (reset_same segs) ∙ ap (λ l. side_of base l (reset_or_live (find is_reset (map timed segs)))) (sym ours)
 
   answer_same : (segs : List IndexedSegment) → AllByRecursion (IsHeard c client server) segs

@@ -5,8 +5,7 @@ use Rattle.std.specs.List.{range_with_len, count_by, sum_by}
 use Rattle.std.proofs.lemmas.Bool.{cases_lt, false≢true}
 use Rattle.std.proofs.lemmas.List.Sums.{sum_by-cons, sum_by-append}
 use Rattle.reassembly.specs.Spans.{Span, TimedByte, limit, end_of, first_byte, AreOrdered}
-use Rattle.reassembly.specs.Fronts.{IsFront}
-use Rattle.reassembly.specs.SideLines.{len_of}
+use Rattle.reassembly.specs.SideLines.{IsFront, len_of}
 use Rattle.reassembly.proofs.SpanBytes.{inner_byte, byte_in-past, byte_in-within, first_byte-before, first_byte-past, AreOrdered-bounds, AreOrdered-down, AreOrdered-up}
 use Rattle.reassembly.proofs.Walks.{range_append}
 

@@ -1,8 +1,9 @@
 -- A list of patches in two parts.
-use Rattle.std.proofs.Common.{◌≡◌, ℕ, zero, suc, List, [], ◌∷◌, take, drop, Option, Some, None, Result, Ok, Err, IfOk, refl, ap, ◌∙◌}
+use Rattle.std.proofs.Common.{◌≡◌, ℕ, zero, suc, List, [], ◌∷◌, take, drop, refl, ap, ◌∙◌}
 use Rattle.std.specs.Option.{option_or}
 use Rattle.reassembly.specs.declared.patches.Patch.{Patch}
-use Rattle.reassembly.specs.Spans.{TimedByte, span_of, spans, byte_in, first_byte, layered_byte, AreNear}
+use Rattle.reassembly.specs.Spans.{span_of, spans, byte_in, first_byte, layered_byte, AreNear}
+use Rattle.reassembly.proofs.SpanBytes.{or-assoc}
 
 pub near_take : (n : ℕ) (ps : List Patch) → AreNear (spans ps) → AreNear (spans (take n ps))
 near_take zero ps near = tt
@@ -14,19 +15,11 @@ near_drop zero ps near = near
 near_drop (suc n) [] near = tt
 near_drop (suc n) (p ∷ ps) near = near_drop n ps near.2
 
-or_three : (a b c : Option TimedByte) → option_or (option_or a b) c ≡ option_or a (option_or b c)
-or_three None b c = refl
-or_three (Some v) b c = refl
-
 pub first_byte-halves : (n : ℕ) (ps : List Patch) (x : ℕ) → layered_byte (spans (take n ps)) (spans (drop n ps)) x ≡ first_byte (spans ps) x
 first_byte-halves zero ps x = refl
 first_byte-halves (suc n) [] x = refl
 first_byte-halves (suc n) (p ∷ ps) x =
-    or_three (byte_in (span_of p) x) (first_byte (spans (take n ps)) x) (first_byte (spans (drop n ps)) x) ∙ ap (λ o. option_or (byte_in (span_of p) x) o) (first_byte-halves n ps x)
-
-pub then_ok : {X Y : Type 0} (r : Result X Y) {P Q : X → Type 0} → IfOk r P → ((x : X) → P x → Q x) → IfOk r Q
-then_ok (Ok x) p f = f x p
-then_ok (Err e) p f = tt
+    or-assoc (byte_in (span_of p) x) (first_byte (spans (take n ps)) x) (first_byte (spans (drop n ps)) x) ∙ ap (λ o. option_or (byte_in (span_of p) x) o) (first_byte-halves n ps x)
 
 -- two parts that were gathered, laid over one another
 pub gathered_same : (ps earlier later left right upper lower : List Patch) (n : ℕ) → earlier ≡ take n ps → later ≡ drop n ps

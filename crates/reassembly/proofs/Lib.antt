@@ -14,3 +14,4 @@ pub mod Chunks
 pub mod Between
 pub mod OfCapture
 pub mod LinesMade
+pub mod LineBytes

@@ -1,5 +1,5 @@
 -- Lists that are made from another one, element by element.
-use Rattle.std.proofs.Common.{◌≡◌, Bool, true, false, cond, List, [], ◌∷◌, map, filter, Option, Some, None, option_map, refl, sym, ap, ◌∙◌}
+use Rattle.std.proofs.Common.{◌≡◌, Bool, true, false, cond, List, [], ◌∷◌, map, filter, Option, Some, option_map, refl, sym, ap, ◌∙◌}
 use Rattle.std.specs.List.{take_while, find, AllByRecursion}
 use Rattle.std.proofs.lemmas.List.Sums.{take_while-cons}
 
@@ -28,14 +28,6 @@ find-map {A} {B} p f (x ∷ xs) = step (p (f x)) (find p (map f xs)) (find (λ y
     step : (b : Bool) (o : Option B) (q : Option A) → o ≡ option_map f q → cond b (Some (f x)) o ≡ option_map f (cond b (Some x) q)
     step true o q e = refl
     step false o q e = e
-
-pub option_map-map : {A B C : Type 0} (g : B → C) (f : A → B) (o : Option A) → option_map g (option_map f o) ≡ option_map (λ x. g (f x)) o
-option_map-map g f None = refl
-option_map-map g f (Some x) = refl
-
-pub map-map : {A B C : Type 0} (g : B → C) (f : A → B) (xs : List A) → map g (map f xs) ≡ map (λ x. g (f x)) xs
-map-map g f [] = refl
-map-map g f (x ∷ xs) = ap (λ l. g (f x) ∷ l) (map-map g f xs)
 
 pub map_same : {A B : Type 0} (f g : A → B) (xs : List A) → AllByRecursion (λ x. f x ≡ g x) xs → map f xs ≡ map g xs
 map_same f g [] all = refl
@@ -76,3 +68,11 @@ find_same p q (x ∷ xs) all = ap (λ b. cond b (Some x) (find p xs)) all.0 ∙ 
 pub and_both : {A : Type 0} (P Q R : A → Type 0) → ((a : A) → P a → Q a → R a) → (xs : List A) → AllByRecursion P xs → AllByRecursion Q xs → AllByRecursion R xs
 and_both P Q R f [] p q = tt
 and_both P Q R f (x ∷ xs) p q = (f x p.0 q.0, and_both P Q R f xs p.1 q.1)
+
+pub all_found : {A : Type 0} (P : A → Type 0) (test : A → Bool) (xs : List A) (x : A) → AllByRecursion P xs → find test xs ≡ Some x → P x
+all_found P test [] x all is = absurd cc
+all_found P test (y ∷ ys) x all is = by (test y) is (all_found P test ys x all.1)
+  where
+    by : (b : Bool) → cond b (Some y) (find test ys) ≡ Some x → (find test ys ≡ Some x → P x) → P x
+    by true same later = let e : y ≡ x = cc in rw (← e) all.0
+    by false same later = later same

@@ -3,7 +3,7 @@ use Rattle.std.proofs.Common.{◌≡◌, ◌<◌, ◌≤◌, ◌⊎◌, inl, inr
 use Rattle.std.specs.Option.{option_or}
 use Rattle.std.proofs.lemmas.Bool.{cases_lt}
 use Rattle.reassembly.specs.Spans.{Span, TimedByte, limit, end_of, byte_in, first_byte, layered_byte, front_of, back_of, unless_empty, AreOrdered, spans_from}
-use Rattle.reassembly.proofs.SpanBytes.{inner_byte, byte_in-before, byte_in-past, byte_in-within, front-keeps, front-hides, back-keeps, back-hides, back-all, or-none, first_byte-append, first_byte-one, first_byte-unless_empty, AreOrdered-down, AreOrdered-append, AreOrdered-one, AreOrdered-unless_empty, first_byte-before}
+use Rattle.reassembly.proofs.SpanBytes.{inner_byte, byte_in-before, byte_in-past, byte_in-within, front-keeps, front-hides, back-keeps, back-hides, back-all, or-assoc, or-none, first_byte-append, first_byte-one, first_byte-unless_empty, AreOrdered-down, AreOrdered-append, AreOrdered-one, AreOrdered-unless_empty, first_byte-before}
 
 -- `out` is what stands merged, up to `place`; `ls` and the rest of `rs` are left
 pub record Merge (left right out ls rs : List Span) (floor : ℕ) : Type 0 where
@@ -154,16 +154,9 @@ pub record Merged (left right out : List Span) : Type 0 where
 
 pub merge_end : (left right out ls rs : List Span) (floor : ℕ) → Merge left right out ls rs floor → (ls ≡ []) ⊎ (rs ≡ []) → Merged left right ((out ++ ls) ++ spans_from floor rs)
 merge_end left right out ls rs floor m done = record {
-  same = λ x. rw (first_byte-append (out ++ ls) (spans_from floor rs) x, first_byte-append out ls x, or_three (first_byte out x) (first_byte ls x) (first_byte (spans_from floor rs) x)) (m.same x);
+  same = λ x. rw (first_byte-append (out ++ ls) (spans_from floor rs) x, first_byte-append out ls x, or-assoc (first_byte out x) (first_byte ls x) (first_byte (spans_from floor rs) x)) (m.same x);
   ordered = elim done [
-    | inl a ↦ let rest : AreOrdered m.place (ls ++ spans_from floor rs) limit = rw a m.rs_from in rw (append_three out ls (spans_from floor rs)) (AreOrdered-append 0 m.place limit out (ls ++ spans_from floor rs) m.out_to rest)
+    | inl a ↦ let rest : AreOrdered m.place (ls ++ spans_from floor rs) limit = rw a m.rs_from in rw (append_assoc out ls (spans_from floor rs)) (AreOrdered-append 0 m.place limit out (ls ++ spans_from floor rs) m.out_to rest)
     | inr a ↦ rw (a, append-nil (out ++ ls)) (AreOrdered-append 0 m.place limit out ls m.out_to m.ls_from)
   ];
 }
-  where
-    or_three : (a b c : Option TimedByte) → option_or (option_or a b) c ≡ option_or a (option_or b c)
-    or_three None b c = refl
-    or_three (Some v) b c = refl
-
-    append_three : (a b c : List Span) → (a ++ b) ++ c ≡ a ++ (b ++ c)
-    append_three a b c = append_assoc a b c

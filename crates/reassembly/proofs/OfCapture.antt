@@ -11,18 +11,16 @@ use Rattle.pcap_records.specs.Reading.{Packet}
 use Rattle.pcap_records.specs.Instants.{greatest, greatest_so_far, instants}
 use Rattle.frame_headers.specs.Frame.{FrameClass, segment, frame_class, segment_fields}
 use Rattle.conn_table.specs.SeenCapture.{seen_packet, seen_packets}
-use Rattle.conn_table.specs.declared.pair.Pair.{Pair}
-use Rattle.conn_table.specs.IndexedSegments.{IndexedSegment, is_segment, indexed_segment, indexed_segments, same_peer, same_pair, pair_of, pair_of_segment}
-use Rattle.conn_table.specs.Connections.{last_or, of_one_pair, begins, beginnings, beginning_of, is_at, later_members}
+use Rattle.conn_table.specs.IndexedSegments.{IndexedSegment, is_segment, indexed_segment, indexed_segments, same_pair, pair_of, pair_of_segment}
+use Rattle.conn_table.specs.Connections.{last_of, of_one_pair, begins, beginnings, beginning_of, is_at, later_members}
 use Rattle.conn_table.specs.IndexedConnections.{IndexedConnection, indexed_connection_of, indexed_connections}
 use Rattle.conn_table.specs.KeptSegments.{frame_at}
 use Rattle.conn_table.specs.Tables.{conn_in}
-use Rattle.reassembly.specs.RecordedView.{IsRecorded, IsConnectionOf, IsConnOf}
+use Rattle.conn_table.proofs.GroupingPairs.{one_pair-is, same_pair-itself}
+use Rattle.reassembly.specs.RecordedView.{IsRecorded, IsConnectionOf, IsConnOf, ConnectionsAreOfCapture, ConnsAreOfCapture}
 use Rattle.reassembly.specs.LineLaws.{InstantsRise}
 use Rattle.conn_table.specs.Partials.{segments_between}
-use Rattle.reassembly.specs.CaptureConnections.{ConnectionsAreOfCapture, ConnsAreOfCapture}
 use Rattle.reassembly.proofs.MappedLists.{all_filter, all_weaker, and_both}
-use Rattle.reassembly.proofs.RecordedSegments.{same_is, itself}
 
 -- ---- segments
 
@@ -124,7 +122,7 @@ segments_rise c from to carry =
     let stamps : List ℕ = map (λ p. p.stamp) ps in
     rises_from from 0 (map (greatest_so_far carry stamps) (range_with_len 0 (length stamps))) ps (never_falls (greatest_so_far carry stamps) (so_far-rises carry stamps) 0 0 (length stamps) (omega arith))
 
--- each segment behind another has no earlier instant
+-- each segment after another has no earlier instant
 abbrev IsBehind : IndexedSegment → IndexedSegment → Type 0
 IsBehind b s = nat_lt b.index s.index ≡ true → b.timed.at ≤ s.timed.at
 
@@ -166,19 +164,10 @@ rise_behind n last t (s ∷ segs) rise all = (all.0, rise_of (s.index + 1) s.tim
 
 -- ---- pairs
 
-pair_is : (p q : Pair) → same_pair p q ≡ true → p ≡ q
-pair_is p q e =
-    let parts = and_parts (same_peer p.low q.low) (same_peer p.high q.high) e in
-    ap (λ k. let r : Pair = record { low = k; high = p.high } in r) (same_is p.low q.low parts.0)
-    ∙ ap (λ k. let r : Pair = record { low = q.low; high = k } in r) (same_is p.high q.high parts.1)
-
-pair_itself : (p : Pair) → same_pair p p ≡ true
-pair_itself p = rw (itself p.low, itself p.high) refl
-
--- the last of a list that is found at b's place has b's pair
-last_has : (P : IndexedSegment → Type 0) (before : Option IndexedSegment) (xs : List IndexedSegment) → AllByRecursion P xs → (y : IndexedSegment) → last_or before xs ≡ Some y → (before ≡ Some y → P y) → P y
-last_has P before [] all y e first = first e
-last_has P before (x ∷ xs) all y e first = last_has P (Some x) xs all.1 y e (λ h. let same : x ≡ y = cc in subst P same all.0)
+last_has : (P : IndexedSegment → Type 0) (xs : List IndexedSegment) → AllByRecursion P xs → (y : IndexedSegment) → last_of xs ≡ Some y → P y
+last_has P [] all y e = absurd cc
+last_has P (x ∷ []) all y e = let same : x ≡ y = cc in subst P same all.0
+last_has P (x ∷ z ∷ zs) all y e = last_has P (z ∷ zs) all.1 y e
 
 -- a segment that passes a test, of the segments of the capture
 both : (P : IndexedSegment → Type 0) (p : IndexedSegment → Bool) (xs : List IndexedSegment) → AllByRecursion P xs → AllByRecursion (λ s. P s × (p s ≡ true)) (filter p xs)
@@ -189,8 +178,8 @@ both P p (x ∷ xs) all = step (p x) refl (both P p xs all.1)
     step true e rest = ((all.0, e), rest)
     step false e rest = rest
 
-at_one_place : (c : CaptureView) (b y : IndexedSegment) → IsRecorded c b → IsRecorded c y → y.index ≡ b.index → pair_of_segment y ≡ pair_of_segment b
-at_one_place c b y rec_b rec_y e =
+at_one_record : (c : CaptureView) (b y : IndexedSegment) → IsRecorded c b → IsRecorded c y → y.index ≡ b.index → pair_of_segment y ≡ pair_of_segment b
+at_one_record c b y rec_b rec_y e =
     let fields : y.timed.fields ≡ b.timed.fields = rec_y.fields ∙ ap (λ k. segment_fields (frame_at c k)) e ∙ sym rec_b.fields in
     ap (λ f. pair_of f.from f.to) fields
 
@@ -201,11 +190,11 @@ paired_by c segs b s all rec_b is = by_beginning (beginning_of segs s) refl is
     by_beginning None e h = absurd cc
     by_beginning (Some y) e h =
         let P : IndexedSegment → Type 0 = λ k. IsRecorded c k × ((of_one_pair s k && nat_le k.index s.index) ≡ true) in
-        let known = last_has P None (filter (λ k. of_one_pair s k && nat_le k.index s.index) (beginnings segs)) (both (IsRecorded c) (λ k. of_one_pair s k && nat_le k.index s.index) (beginnings segs) all) y e (λ n. absurd cc) in
-        let place : y.index ≡ b.index = eqb-true y.index b.index h in
-        let pair : pair_of_segment y ≡ pair_of_segment s = pair_is (pair_of_segment y) (pair_of_segment s) (and_parts (of_one_pair s y) (nat_le y.index s.index) known.1).0 in
-        let same : pair_of_segment s ≡ pair_of_segment b = sym pair ∙ at_one_place c b y rec_b known.0 place in
-        ap (λ k. same_pair k (pair_of_segment b)) same ∙ pair_itself (pair_of_segment b)
+        let known = last_has P (filter (λ k. of_one_pair s k && nat_le k.index s.index) (beginnings segs)) (both (IsRecorded c) (λ k. of_one_pair s k && nat_le k.index s.index) (beginnings segs) all) y e in
+        let here : y.index ≡ b.index = eqb-true y.index b.index h in
+        let pair : pair_of_segment y ≡ pair_of_segment s = one_pair-is s y (and_parts (of_one_pair s y) (nat_le y.index s.index) known.1).0 in
+        let same : pair_of_segment s ≡ pair_of_segment b = sym pair ∙ at_one_record c b y rec_b known.0 here in
+        ap (λ k. same_pair k (pair_of_segment b)) same ∙ same_pair-itself (pair_of_segment b)
 
 -- ---- connections
 

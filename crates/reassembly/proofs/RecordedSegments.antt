@@ -1,17 +1,17 @@
 -- The segments of a connection of a capture: where their payloads lie, and which side sent each.
-use Rattle.std.proofs.Common.{◌≡◌, ◌≤◌, ℕ, ◌+◌, ◌-◌, ◌==◌, ◌&&◌, not, Bool, true, false, List, [], length, take, drop, slice_range, slice_get, Some, option_map, refl, sym, ap, ◌∙◌, subst, arith, length-take, length-drop, get_or, inl, inr, rules, true≢false, if◌then◌else◌}
+use Rattle.std.proofs.Common.{◌≡◌, ◌≤◌, ℕ, ◌+◌, ◌-◌, not, true, List, [], length, take, drop, slice_range, slice_get, Some, option_map, sym, ap, ◌∙◌, subst, arith, length-take, length-drop, get_or}
 use Rattle.std.specs.Option.{option_map_or, unwrap_or}
-use Rattle.std.proofs.lemmas.Bool.{eqb-true, and_parts, cases_Bool}
 use Rattle.std.proofs.lemmas.List.{drop-take, take-take, drop-drop}
 use Rattle.std.proofs.lemmas.Option.{slice_get-map, slice_get-get_or}
-use Rattle.pcap_records.specs.declared.record_place.Record.{Record}
+use Rattle.pcap_records.specs.declared.capture.Record.{Record}
 use Rattle.pcap_records.specs.CaptureView.{CaptureView, IsSoundCapture, packet_of}
 use Rattle.frame_headers.specs.declared.peers.Peer.{Peer}
 use Rattle.frame_headers.specs.HeaderLaws.{PayloadsAreInPlace}
-use Rattle.frame_headers.specs.Frame.{short, not_ipv4, bad_ipv4, fragment, not_tcp, cut, bad_tcp, same_ends, segment, is_short, is_not_ipv4, is_bad_ipv4, is_fragment, is_not_tcp, is_cut, is_bad_tcp, is_same_ends, frame_class, datagram, ip_payload, segment_fields, payload_offset}
-use Rattle.conn_table.specs.IndexedSegments.{IndexedSegment, same_peer, peer_le, pair_of}
+use Rattle.frame_headers.specs.Frame.{segment_fields, payload_offset}
+use Rattle.conn_table.specs.IndexedSegments.{IndexedSegment, same_peer}
 use Rattle.conn_table.specs.Connections.{of_one_pair}
 use Rattle.conn_table.specs.KeptSegments.{packet_start, frame_at, payload_start}
+use Rattle.conn_table.proofs.Sides.{two_peers, side_of}
 use Rattle.reassembly.specs.RecordedView.{IsRecorded}
 
 -- ---- payloads
@@ -37,62 +37,6 @@ frame_is c i r e =
 
 start_is : (c : CaptureView) (i : ℕ) (r : Record) → slice_get c.records i ≡ Some r → packet_start c i ≡ r.start
 start_is c i r e = ap (λ o. option_map_or (λ (r : Record). r.start) o 0) e
-
--- ---- sides
-
--- of a segment the last test does not hold
-tests : (a b c d e f g h : Bool)
-    → (if a then short else if b then not_ipv4 else if c then bad_ipv4 else if d then fragment else if e then not_tcp else if f then cut else if g then bad_tcp else if h then same_ends else segment) ≡ segment
-    → h ≡ false
-tests true b c d e f g h is = absurd cc
-tests false true c d e f g h is = absurd cc
-tests false false true d e f g h is = absurd cc
-tests false false false true e f g h is = absurd cc
-tests false false false false true f g h is = absurd cc
-tests false false false false false true g h is = absurd cc
-tests false false false false false false true h is = absurd cc
-tests false false false false false false false true is = absurd cc
-tests false false false false false false false false is = refl
-
-peers_differ : (frame : List ℕ) → frame_class frame ≡ segment → same_peer (segment_fields frame).from (segment_fields frame).to ≡ false
-unfolding frame_class segment_fields
-peers_differ frame is =
-    tests (is_short frame) (is_not_ipv4 frame) (is_bad_ipv4 (datagram frame)) (is_fragment (datagram frame)) (is_not_tcp (datagram frame)) (is_cut (datagram frame)) (is_bad_tcp (ip_payload (datagram frame))) (is_same_ends (datagram frame)) is
-
-pub same_is : (a b : Peer) → same_peer a b ≡ true → a ≡ b
-same_is a b e =
-    let parts = and_parts (a.addr == b.addr) (a.port == b.port) e in
-    ap (λ k. let p : Peer = record { addr = k; port = a.port } in p) (eqb-true a.addr b.addr parts.0)
-    ∙ ap (λ k. let p : Peer = record { addr = b.addr; port = k } in p) (eqb-true a.port b.port parts.1)
-
-pub itself : (p : Peer) → same_peer p p ≡ true
-itself p = search rules
-
-other_order : (a b : Peer) → same_peer a b ≡ false → same_peer b a ≡ false
-other_order a b e = elim (cases_Bool (same_peer b a)) [
-  | inl h ↦ let same = same_is b a h in absurd (true≢false (sym (itself a) ∙ (rw same at e)))
-  | inr h ↦ h
-]
-
--- of two peers that are a pair with a and b, the sender is b where it is not a
-sender_is : (a b from to : Peer) → same_peer a b ≡ false
-    → (same_peer (pair_of from to).low (pair_of a b).low && same_peer (pair_of from to).high (pair_of a b).high) ≡ true
-    → same_peer from b ≡ not (same_peer from a)
-sender_is a b from to differ pair =
-    let parts = and_parts (same_peer (pair_of from to).low (pair_of a b).low) (same_peer (pair_of from to).high (pair_of a b).high) pair in
-    by_order (peer_le from to) (peer_le a b) (same_is _ _ parts.0) (same_is _ _ parts.1)
-  where
-    is_first : from ≡ a → same_peer from b ≡ not (same_peer from a)
-    is_first e = rw (e, differ, itself a) refl
-
-    is_second : from ≡ b → same_peer from b ≡ not (same_peer from a)
-    is_second e = rw (e, other_order a b differ, itself b) refl
-
-    by_order : (p q : Bool) → (if p then from else to) ≡ (if q then a else b) → (if p then to else from) ≡ (if q then b else a) → same_peer from b ≡ not (same_peer from a)
-    by_order true true low high = is_first low
-    by_order true false low high = is_second low
-    by_order false true low high = is_second high
-    by_order false false low high = is_first high
 
 -- ---- a segment of a connection
 
@@ -136,13 +80,8 @@ pub heard : (ticks : ℕ) (c : CaptureView) (b s : IndexedSegment) → IsSoundCa
     → IsHeard c b.timed.fields.from b.timed.fields.to s
 heard ticks c b s sound law rec_b rec paired =
     let p = placed ticks c s sound law rec in
-    let differ : same_peer b.timed.fields.from b.timed.fields.to ≡ false = rw rec_b.fields (peers_differ (frame_at c b.index) rec_b.class) in
     record {
       in_file = p.in_file;
       payload = p.payload;
-      server_sent = sender_is b.timed.fields.from b.timed.fields.to s.timed.fields.from s.timed.fields.to differ paired;
+      server_sent = side_of b s (rw rec_b.fields (two_peers (frame_at c b.index) rec_b.class)) paired;
     }
-
--- the first segment has its own pair
-pub own_pair : (b : IndexedSegment) → of_one_pair b b ≡ true
-own_pair b = rw (itself (pair_of b.timed.fields.from b.timed.fields.to).low, itself (pair_of b.timed.fields.from b.timed.fields.to).high) refl

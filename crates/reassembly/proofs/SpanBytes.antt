@@ -58,7 +58,7 @@ back-keeps n p x h =
       ]
     ]
 
--- a span that begins at n or behind it
+-- a span that begins at n or after it
 pub back-all : (n : ℕ) (p : Span) → n ≤ p.from → back_of n p ≡ p
 back-all n p h =
     let none : n - p.from ≡ 0 = omega arith in
@@ -67,7 +67,7 @@ back-all n p h =
 
 -- ---- lists of spans
 
-or-assoc : (a b c : Option TimedByte) → option_or (option_or a b) c ≡ option_or a (option_or b c)
+pub or-assoc : (a b c : Option TimedByte) → option_or (option_or a b) c ≡ option_or a (option_or b c)
 or-assoc None b c = refl
 or-assoc (Some v) b c = refl
 
@@ -121,7 +121,7 @@ ordered_unless_empty low high p (b ∷ bytes) e h a c =
 pub AreOrdered-unless_empty : (low high : ℕ) (p : Span) → low ≤ high → low ≤ p.from → (0 < length p.bytes → end_of p ≤ high) → AreOrdered low (unless_empty p) high
 AreOrdered-unless_empty low high p h a c = ordered_unless_empty low high p p.bytes refl h a c
 
--- an ordered list has nothing before its beginning, and nothing behind its end
+-- an ordered list has nothing before its beginning, and nothing after its end
 pub first_byte-before : (low : ℕ) (ps : List Span) (high x : ℕ) → AreOrdered low ps high → x < low → first_byte ps x ≡ None
 first_byte-before low [] high x o h = refl
 first_byte-before low (p ∷ ps) high x o h =

@@ -2,8 +2,7 @@
 use Rattle.std.proofs.Common.{◌≡◌, ◌<◌, ◌≤◌, ◌⊎◌, inl, inr, ℕ, ◌-◌, max, nat_lt, List, [], ◌∷◌, ◌++◌, length, Option, Some, None, true, refl, sym, ap, ◌∙◌, arith, length-take, length-drop, if◌then◌else◌}
 use Rattle.std.specs.Option.{option_or, is_some}
 use Rattle.std.proofs.lemmas.Bool.{cases_lt, lt-ltb, le-ltb}
-use Rattle.reassembly.specs.Spans.{Span, TimedByte, limit, end_of, byte_in, first_byte, layered_byte, front_of, back_of, with_bytes, unless_empty, AreNear}
-use Rattle.reassembly.specs.Passes.{Taken}
+use Rattle.reassembly.specs.Spans.{Span, TimedByte, limit, end_of, byte_in, first_byte, layered_byte, front_of, back_of, with_bytes, unless_empty, AreNear, Taken}
 use Rattle.reassembly.proofs.SpanBytes.{inner_byte, byte_in-before, byte_in-within, front-keeps, front-hides, back-keeps, back-hides, or-none, first_byte-append, first_byte-unless_empty, first_byte-past, AreOrdered-append, AreOrdered-unless_empty}
 
 -- what is set aside: the front of a patch that begins before the run, else nothing

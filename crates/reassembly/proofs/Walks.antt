@@ -7,16 +7,16 @@ use Rattle.std.proofs.lemmas.List.{get_or-take, map-append}
 use Rattle.reassembly.specs.RecordedLines.{LineByte}
 use Rattle.reassembly.specs.LineView.{bytes_with_mark, bytes_without_mark}
 use Rattle.reassembly.specs.Spans.{Span, TimedByte, limit, end_of, first_byte, front_of, AreOrdered}
-use Rattle.reassembly.specs.Fronts.{value_of, instant_of, peak, line_byte, line_bytes, IsFront, first_from}
+use Rattle.reassembly.specs.SideLines.{value_of, instant_of, latest_below, line_byte, line_bytes, IsFront, first_from}
 use Rattle.reassembly.proofs.SpanBytes.{byte_in-past, byte_in-within, AreOrdered-bounds, AreOrdered-down, first_byte-before}
 
-pub peak-more : (g : ℕ → Option TimedByte) (x : ℕ) → peak g (x + 1) ≡ max (peak g x) (instant_of (g x))
-unfolding peak
-peak-more g x = rw (add-one) refl
+pub latest_below-more : (g : ℕ → Option TimedByte) (x : ℕ) → latest_below g (x + 1) ≡ max (latest_below g x) (instant_of (g x))
+unfolding latest_below
+latest_below-more g x = rw (add-one) refl
 
-pub peak-none : (g : ℕ → Option TimedByte) → peak g 0 ≡ 0
-unfolding peak
-peak-none g = refl
+pub latest_below-none : (g : ℕ → Option TimedByte) → latest_below g 0 ≡ 0
+unfolding latest_below
+latest_below-none g = refl
 
 pub range_append : (a n k : ℕ) → range_with_len a (n + k) ≡ range_with_len a n ++ range_with_len (a + n) k
 range_append a zero k = rw (zero-add k, add-zero a) refl
@@ -37,55 +37,55 @@ tail_holds g x b bytes at holds i h =
 head_holds : (g : ℕ → Option TimedByte) (x b : ℕ) (bytes : List ℕ) (at : ℕ) → Holds g x (b ∷ bytes) at → g x ≡ Some (record { value = b; at = at })
 head_holds g x b bytes at holds = ap g (sym (add-zero x)) ∙ holds 0 (omega arith)
 
--- behind the first byte of such bytes no chunk starts, and the greatest instant stays
+-- after the first byte of such bytes no chunk starts, and the greatest instant stays
 pub record Runs (g : ℕ → Option TimedByte) (x : ℕ) (bytes : List ℕ) (at : ℕ) : Type 0 where
   pub bytes_are : map (line_byte g) (range_with_len x (length bytes)) ≡ bytes_without_mark at bytes
-  pub peak_is : peak g (x + length bytes) ≡ at
+  pub latest_is : latest_below g (x + length bytes) ≡ at
 
-line_byte_is : (g : ℕ → Option TimedByte) (x value at peak_after : ℕ) (starts : Bool) → g x ≡ Some (record { value = value; at = at }) → peak g (x + 1) ≡ peak_after
-    → (x == 0 || not (peak_after == peak g x)) ≡ starts → line_byte g x ≡ record { value = value; at = peak_after; starts = starts }
-line_byte_is g x value at peak_after starts is after start =
-    ap (λ o. let r : LineByte = record { value = value_of o; at = peak g (x + 1); starts = x == 0 || not (peak g (x + 1) == peak g x) } in r) is
-    ∙ ap (λ p. let r : LineByte = record { value = value; at = p; starts = x == 0 || not (p == peak g x) } in r) after
-    ∙ ap (λ s. let r : LineByte = record { value = value; at = peak_after; starts = s } in r) start
+line_byte_is : (g : ℕ → Option TimedByte) (x value at now : ℕ) (starts : Bool) → g x ≡ Some (record { value = value; at = at }) → latest_below g (x + 1) ≡ now
+    → (x == 0 || not (now == latest_below g x)) ≡ starts → line_byte g x ≡ record { value = value; at = now; starts = starts }
+line_byte_is g x value at now starts is after start =
+    ap (λ o. let r : LineByte = record { value = value_of o; at = latest_below g (x + 1); starts = x == 0 || not (latest_below g (x + 1) == latest_below g x) } in r) is
+    ∙ ap (λ p. let r : LineByte = record { value = value; at = p; starts = x == 0 || not (p == latest_below g x) } in r) after
+    ∙ ap (λ s. let r : LineByte = record { value = value; at = now; starts = s } in r) start
 
-runs : (g : ℕ → Option TimedByte) (bytes : List ℕ) (x at now : ℕ) → 0 < x → Holds g x bytes at → peak g x ≡ now → at ≤ now → Runs g x bytes now
-runs g [] x at now some holds is le = record { bytes_are = refl; peak_is = ap (peak g) (add-zero x) ∙ is }
+runs : (g : ℕ → Option TimedByte) (bytes : List ℕ) (x at now : ℕ) → 0 < x → Holds g x bytes at → latest_below g x ≡ now → at ≤ now → Runs g x bytes now
+runs g [] x at now some holds is le = record { bytes_are = refl; latest_is = ap (latest_below g) (add-zero x) ∙ is }
 runs g (b ∷ bytes) x at now some holds is le =
     let first = head_holds g x b bytes at holds in
-    let after : peak g (x + 1) ≡ now = peak-more g x ∙ ap (λ o. max (peak g x) (instant_of o)) first ∙ omega arith in
-    let starts : (x == 0 || not (now == peak g x)) ≡ false = rw (ne_eqb x 0 (λ e. omega arith), eq-eqb now (peak g x) (sym is)) refl in
+    let after : latest_below g (x + 1) ≡ now = latest_below-more g x ∙ ap (λ o. max (latest_below g x) (instant_of o)) first ∙ omega arith in
+    let starts : (x == 0 || not (now == latest_below g x)) ≡ false = rw (ne_eqb x 0 (λ e. omega arith), eq-eqb now (latest_below g x) (sym is)) refl in
     let rest = runs g bytes (x + 1) at now (omega arith) (tail_holds g x b bytes at holds) after le in
     let e : x + 1 + length bytes ≡ x + suc (length bytes) = omega arith in
     record {
       bytes_are = ap (λ c. c ∷ map (line_byte g) (range_with_len (x + 1) (length bytes))) (line_byte_is g x b at now false first after starts) ∙ ap (λ l. record { value = b; at = now; starts = false } ∷ l) rest.bytes_are;
-      peak_is = ap (peak g) (sym e) ∙ rest.peak_is;
+      latest_is = ap (latest_below g) (sym e) ∙ rest.latest_is;
     }
 
 -- with the first byte of such bytes a chunk starts where the greatest instant changes
 pub record Joins (g : ℕ → Option TimedByte) (x : ℕ) (bytes : List ℕ) (now : ℕ) (starts : Bool) : Type 0 where
   pub bytes_are : map (line_byte g) (range_with_len x (length bytes)) ≡ bytes_with_mark now starts bytes
-  pub peak_is : peak g (x + length bytes) ≡ now
+  pub latest_is : latest_below g (x + length bytes) ≡ now
 
-joins : (g : ℕ → Option TimedByte) (bytes : List ℕ) (x at carry now : ℕ) (starts : Bool) → 0 < length bytes → Holds g x bytes at → peak g x ≡ carry → now ≡ max carry at
+joins : (g : ℕ → Option TimedByte) (bytes : List ℕ) (x at carry now : ℕ) (starts : Bool) → 0 < length bytes → Holds g x bytes at → latest_below g x ≡ carry → now ≡ max carry at
     → starts ≡ (x == 0 || not (now == carry)) → Joins g x bytes now starts
 joins g [] x at carry now starts some holds is max_is start = absurd (omega arith)
 joins g (b ∷ bytes) x at carry now starts some holds is max_is start =
     let first = head_holds g x b bytes at holds in
-    let after : peak g (x + 1) ≡ now = peak-more g x ∙ ap (λ o. max (peak g x) (instant_of o)) first ∙ ap (λ k. max k at) is ∙ sym max_is in
-    let start' : (x == 0 || not (now == peak g x)) ≡ starts = ap (λ k. x == 0 || not (now == k)) is ∙ sym start in
+    let after : latest_below g (x + 1) ≡ now = latest_below-more g x ∙ ap (λ o. max (latest_below g x) (instant_of o)) first ∙ ap (λ k. max k at) is ∙ sym max_is in
+    let start' : (x == 0 || not (now == latest_below g x)) ≡ starts = ap (λ k. x == 0 || not (now == k)) is ∙ sym start in
     let rest = runs g bytes (x + 1) at now (omega arith) (tail_holds g x b bytes at holds) after (omega arith) in
     let e : x + 1 + length bytes ≡ x + suc (length bytes) = omega arith in
     record {
       bytes_are = ap (λ c. c ∷ map (line_byte g) (range_with_len (x + 1) (length bytes))) (line_byte_is g x b at now starts first after start') ∙ ap (λ l. record { value = b; at = now; starts = starts } ∷ l) rest.bytes_are;
-      peak_is = ap (peak g) (sym e) ∙ rest.peak_is;
+      latest_is = ap (latest_below g) (sym e) ∙ rest.latest_is;
     }
 
 -- ---- the walk
 
 pub record Walk (g : ℕ → Option TimedByte) (stop n latest : ℕ) (out : List LineByte) (rest : List Span) : Type 0 where
   pub out_is : out ≡ line_bytes g n
-  pub latest_is : peak g n ≡ latest
+  pub latest_is : latest_below g n ≡ latest
   pub covered : (x : ℕ) → x < n → is_some (g x) ≡ true
   pub within : n ≤ stop
   pub rest_is : (x : ℕ) → n ≤ x → x < stop → g x ≡ first_byte rest x
@@ -94,7 +94,7 @@ pub record Walk (g : ℕ → Option TimedByte) (stop n latest : ℕ) (out : List
 pub walk_start : (g : ℕ → Option TimedByte) (stop : ℕ) (ps : List Span) → AreOrdered 0 ps limit → ((x : ℕ) → g x ≡ first_byte ps x) → Walk g stop 0 0 [] ps
 walk_start g stop ps o e = record {
   out_is = refl;
-  latest_is = peak-none g;
+  latest_is = latest_below-none g;
   covered = λ x h. absurd (omega arith);
   within = omega arith;
   rest_is = λ x a b. e x;
@@ -129,7 +129,7 @@ module _ (g : ℕ → Option TimedByte) (stop n latest : ℕ) (out : List LineBy
             ∙ ap (λ k. map (line_byte g) (range_with_len 0 n ++ range_with_len k (length part.bytes))) (sym (zero-add n))
             ∙ ap (map (line_byte g)) (sym (range_append 0 n (length part.bytes)))
             ∙ ap (line_bytes g) (sym ends);
-        latest_is = ap (peak g) ends ∙ join.peak_is;
+        latest_is = ap (latest_below g) ends ∙ join.latest_is;
         covered = λ x h. elim (cases_lt x n) [
           | inl a ↦ w.covered x a
           | inr a ↦ let e : n + (x - n) ≡ x = omega arith in ap (λ k. is_some (g k)) (sym e) ∙ ap is_some (holds (x - n) (omega arith))

@@ -1,13 +1,9 @@
 pub mod Positions
-pub mod RecordedBytes
 pub mod RecordedLines
 pub mod LineView
 pub mod Spans
-pub mod Fronts
 pub mod MemberSpans
-pub mod Passes
 pub mod SideLines
 pub mod LineLaws
 pub mod RecordedView
-pub mod CaptureConnections
 pub mod RecordedRows

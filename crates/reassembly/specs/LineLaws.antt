@@ -5,7 +5,7 @@ use Rattle.frame_headers.specs.declared.peers.Peer.{Peer}
 use Rattle.conn_table.specs.IndexedSegments.{TimedSegment}
 use Rattle.reassembly.specs.RecordedLines.{LineByte, Line, End, live, fin, close, reset, recorded_side}
 
--- behind a byte of this instant: instants do not fall, and where no chunk starts the instant stays
+-- after a byte of this instant: instants do not fall, and where no chunk starts the instant stays
 abbrev pub GoesOn : ℕ → List LineByte → Type 0
 GoesOn last [] = Unit {0}
 GoesOn last (b ∷ bytes) = (last ≤ b.at) × (b.starts ≡ false → b.at ≡ last) × GoesOn b.at bytes

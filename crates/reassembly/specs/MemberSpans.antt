@@ -4,7 +4,7 @@ use Rattle.std.specs.List.{take_while}
 use Rattle.frame_headers.specs.Flags.{has_flag, fin_flag, syn_flag, rst_flag, ack_flag}
 use Rattle.conn_table.specs.declared.members.Member.{Member}
 use Rattle.conn_table.specs.IndexedSegments.{TimedSegment}
-use Rattle.reassembly.specs.RecordedBytes.{origin, place, start_place}
+use Rattle.reassembly.specs.Positions.{origin, shifted_position, shifted_start}
 use Rattle.reassembly.specs.Spans.{Span}
 
 -- a member's payload lies in the file
@@ -14,19 +14,19 @@ IsInFile file m = m.start + m.len ≤ length file
 abbrev pub payload_in : List ℕ → Member → List ℕ
 payload_in file m = slice_range file m.start (m.start + m.len)
 
--- the span of a payload that begins at a place: its positions from 0 on
+-- the span of a payload that begins at a shifted position: its positions from 0 on
 abbrev pub span_at : ℕ → ℕ → List ℕ → Span
 span_at start at payload = record { from = start - origin; at = at; bytes = drop (origin - start) payload }
 
-abbrev pub member_place : ℕ → Member → ℕ
-member_place base m = place base m.seq m.flags
+abbrev pub member_position : ℕ → Member → ℕ
+member_position base m = shifted_position base m.seq m.flags
 
 abbrev pub member_span : ℕ → List ℕ → Member → Span
-member_span base file m = span_at (member_place base m) m.at (payload_in file m)
+member_span base file m = span_at (member_position base m) m.at (payload_in file m)
 
 -- the same of a segment as the definitions see it
 abbrev pub segment_span : ℕ → TimedSegment → Span
-segment_span base m = span_at (start_place base m) m.at m.fields.payload
+segment_span base m = span_at (shifted_start base m) m.at m.fields.payload
 
 abbrev pub member_spans : ℕ → List ℕ → List Member → List Span
 member_spans base file ms = map (member_span base file) ms
@@ -51,6 +51,6 @@ members_before_reset ms = take_while (λ m. not (is_reset_member m)) ms
 abbrev pub is_server_answer : Member → Bool
 is_server_answer m = not m.from_client && has_flag m.flags syn_flag && has_flag m.flags ack_flag
 
--- a FIN that counts, and its position
+-- a FIN that counts: it stands at position 0 or later
 abbrev pub is_fin_member : ℕ → Member → Bool
-is_fin_member base m = has_flag m.flags fin_flag && nat_le origin (member_place base m + m.len)
+is_fin_member base m = has_flag m.flags fin_flag && nat_le origin (member_position base m + m.len)

@@ -5,8 +5,7 @@ use Rattle.frame_headers.specs.declared.peers.Peer.{Peer}
 use Rattle.frame_headers.specs.Flags.{has_flag, fin_flag}
 use Rattle.conn_table.specs.IndexedSegments.{TimedSegment, same_peer}
 use Rattle.conn_table.specs.Connections.{Connection}
-use Rattle.reassembly.specs.Positions.{members_of, effective_members, is_reset, client_base, server_base, client_of, server_of}
-use Rattle.reassembly.specs.RecordedBytes.{origin, end_place, first_gap, value_at, available_at, covered_count}
+use Rattle.reassembly.specs.Positions.{members_of, effective_members, is_reset, client_base, server_base, client_of, server_of, origin, shifted_end, first_gap, value_at, available_at, covered_count}
 
 -- ---- lines
 
@@ -33,21 +32,21 @@ empty_line = record { bytes = []; end = live }
 
 -- ---- what was recorded
 
--- what a side sent, as far as it can be told, and how many of its bytes lie behind the first gap
+-- what a side sent, as far as it can be told, and how many of its bytes lie after the first gap or its FIN
 pub record RecordedSide : Type 0 where
   pub line : Line
   pub lost : ℕ
 
--- a FIN stands behind its segment's payload, and counts where that is position 0 or later
+-- a FIN stands after its segment's payload, and counts where that is position 0 or later
 abbrev pub is_counted_fin : ℕ → TimedSegment → Bool
-is_counted_fin base m = has_flag m.fields.flags fin_flag && nat_le origin (end_place base m)
+is_counted_fin base m = has_flag m.fields.flags fin_flag && nat_le origin (shifted_end base m)
 
 -- the first of them in the file ends the line
-abbrev pub closing_segment : ℕ → List TimedSegment → Option TimedSegment
-closing_segment base members = find (is_counted_fin base) members
+abbrev pub fin_segment : ℕ → List TimedSegment → Option TimedSegment
+fin_segment base members = find (is_counted_fin base) members
 
 abbrev pub fin_position : ℕ → TimedSegment → ℕ
-fin_position base m = end_place base m - origin
+fin_position base m = shifted_end base m - origin
 
 -- the bytes before the first gap, and before the FIN
 abbrev pub length_before : ℕ → Option TimedSegment → ℕ → ℕ
@@ -55,7 +54,7 @@ length_before base None gap = gap
 length_before base (Some m) gap = min (fin_position base m) gap
 
 abbrev pub line_length : ℕ → List TimedSegment → ℕ
-line_length base members = length_before base (closing_segment base members) (first_gap base members)
+line_length base members = length_before base (fin_segment base members) (first_gap base members)
 
 -- a byte is available when it and all before it have come; a chunk starts where that instant changes
 abbrev pub byte_at : ℕ → List TimedSegment → ℕ → LineByte
@@ -84,7 +83,7 @@ side_of base members other =
     record {
       line = record {
         bytes = map (byte_at base members) (range_with_len 0 n);
-        end = end_at base n (available_at base members n) other (closing_segment base members);
+        end = end_at base n (available_at base members n) other (fin_segment base members);
       };
       lost = covered_count base members n;
     }

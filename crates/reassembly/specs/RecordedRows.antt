@@ -2,7 +2,7 @@
 use Rattle.std.specs.Prelude.{◌≡◌, ℕ, List, [], ◌∷◌, Some, None, true, false}
 use Rattle.frame_headers.specs.declared.peers.Peer.{Peer}
 use Rattle.conn_table.specs.IndexedSegments.{TimedSegment}
-use Rattle.reassembly.specs.RecordedBytes.{start_place, covers, value_at, is_covered}
+use Rattle.reassembly.specs.Positions.{shifted_start, covers, value_at, is_covered}
 use Rattle.reassembly.specs.RecordedLines.{LineByte, live, fin, reset, is_counted_fin, recorded_side}
 
 abbrev pub client : Peer
@@ -36,7 +36,7 @@ NumbersWrap =
     recorded_side wrapping client (Some 4294967295)
     ≡ record { line = record { bytes = first_of_chunk 1001000 97 ∷ same_chunk 1001000 98 ∷ []; end = live }; lost = 0 }
 
--- ---- an overlap, a byte before position 0, a gap, and a FIN behind it
+-- ---- an overlap, a byte before position 0, a gap, and a FIN after it
 
 abbrev pub gapped : List TimedSegment
 gapped =
@@ -94,7 +94,7 @@ SynFinWithData =
     recorded_side in_one client (Some 1000)
     ≡ record { line = record { bytes = first_of_chunk 1000000 104 ∷ same_chunk 1000000 105 ∷ []; end = fin 1000000 }; lost = 0 }
 
--- ---- a FIN whose payload begins before position 0; bytes out of order; a byte behind the FIN
+-- ---- a FIN whose payload begins before position 0; bytes out of order; a byte after the FIN
 
 abbrev pub crossing : List TimedSegment
 crossing = from_client 1 1000 2 [] ∷ from_client 2 1003 16 (99 ∷ []) ∷ from_client 3 1000 17 (33 ∷ 97 ∷ []) ∷ from_client 5 1002 16 (98 ∷ []) ∷ []
@@ -138,4 +138,4 @@ abbrev pub FarPositions : Type 0
 FarPositions =
     (covers 1000 2147483646 far ≡ false) × (covers 1000 2147483647 far ≡ true) × (covers 1000 2147483649 far ≡ true) × (covers 1000 2147483650 far ≡ false)
     × (value_at 1000 (far ∷ []) 2147483649 ≡ 3) × (is_counted_fin 1000 far ≡ true)
-    × (start_place 1000 too_far ≡ 0) × (is_covered 1000 (too_far ∷ []) 0 ≡ false) × (is_covered 1000 (too_far ∷ []) 2147483648 ≡ false) × (is_counted_fin 1000 too_far ≡ false)
+    × (shifted_start 1000 too_far ≡ 0) × (is_covered 1000 (too_far ∷ []) 0 ≡ false) × (is_covered 1000 (too_far ∷ []) 2147483648 ≡ false) × (is_counted_fin 1000 too_far ≡ false)

@@ -1,11 +1,12 @@
 -- What contracts see of a `Recorded`, and which connections are of a capture.
-use Rattle.std.specs.Prelude.{◌≡◌, ◌<◌, ℕ, List, [], ◌∷◌, length, find, Option, Some, None, option_map, true, false}
+use Rattle.std.specs.Prelude.{◌≡◌, ◌<◌, ℕ, List, [], ◌∷◌, length, find, Option, Some, None, option_map, true, false, map}
 use Rattle.std.specs.List.{AllByRecursion}
 use Rattle.pcap_records.specs.CaptureView.{CaptureView}
 use Rattle.frame_headers.specs.Frame.{frame_class, segment, segment_fields}
 use Rattle.conn_table.specs.IndexedSegments.{IndexedSegment}
 use Rattle.conn_table.specs.Connections.{of_one_pair}
-use Rattle.conn_table.specs.IndexedConnections.{IndexedConnection, without_indices}
+use Rattle.conn_table.specs.Partials.{segments_between}
+use Rattle.conn_table.specs.IndexedConnections.{IndexedConnection, without_indices, indexed_connections}
 use Rattle.reassembly.specs.Positions.{members_of}
 use Rattle.reassembly.specs.LineLaws.{InstantsRise}
 use Rattle.conn_table.specs.KeptSegments.{frame_at}
@@ -45,6 +46,14 @@ pub record IsConnOf (c : CaptureView) (conn : Conn) : Type 0 where
   pub connection : IndexedConnection
   pub of_capture : IsConnectionOf c connection
   pub shown : conn ≡ conn_in c connection
+
+-- the connections of the segments in a range of records are of the capture
+abbrev pub ConnectionsAreOfCapture : Type 0
+ConnectionsAreOfCapture = (c : CaptureView) (from to carry : ℕ) → AllByRecursion (IsConnectionOf c) (indexed_connections (segments_between c from to carry))
+
+-- what a table shows of them
+abbrev pub ConnsAreOfCapture : Type 0
+ConnsAreOfCapture = (c : CaptureView) (from to carry : ℕ) → AllByRecursion (IsConnOf c) (map (conn_in c) (indexed_connections (segments_between c from to carry)))
 
 -- ---- by members
 

@@ -1,5 +1,5 @@
 -- Spans: bytes from a position on, with the instant at which they were captured; and what a list of spans has for each position.
-use Rattle.std.specs.Prelude.{◌≤◌, ◌<◌, ℕ, ◌+◌, ◌-◌, List, [], ◌∷◌, map, length, take, drop, Option, None, option_map, slice_get, nat_le, if◌then◌else◌}
+use Rattle.std.specs.Prelude.{◌≡◌, ◌≤◌, ◌<◌, ◌^◌, ℕ, ◌+◌, ◌-◌, List, [], ◌∷◌, map, length, take, drop, Option, None, is_some, true, option_map, slice_get, nat_le, if◌then◌else◌}
 use Rattle.std.specs.Option.{option_or}
 use Rattle.reassembly.specs.declared.patches.Patch.{Patch}
 
@@ -13,9 +13,9 @@ pub record TimedByte : Type 0 where
   pub value : ℕ
   pub at : ℕ
 
--- no position of a connection's bytes reaches it: 2^33
+-- no position of a connection's bytes reaches it
 abbrev pub limit : ℕ
-limit = 8589934592
+limit = 2 ^ 33
 
 -- where a span ends
 abbrev pub end_of : Span → ℕ
@@ -55,7 +55,7 @@ abbrev pub spans_from : ℕ → List Span → List Span
 spans_from floor [] = []
 spans_from floor (r ∷ rs) = back_of floor r ∷ rs
 
--- none is empty, the first begins at `low` or behind, each other at the end of the one before or behind, the last ends by `high`
+-- none is empty, the first begins at `low` or after it, each other at the end of the one before or after it, the last ends by `high`
 abbrev pub AreOrdered : ℕ → List Span → ℕ → Type 0
 AreOrdered low [] high = low ≤ high
 AreOrdered low (p ∷ ps) high = (low ≤ p.from) × (0 < length p.bytes) × AreOrdered (end_of p) ps high
@@ -64,6 +64,18 @@ AreOrdered low (p ∷ ps) high = (low ≤ p.from) × (0 < length p.bytes) × Are
 abbrev pub AreNear : List Span → Type 0
 AreNear [] = Unit {0}
 AreNear (p ∷ ps) = (0 < length p.bytes) × (end_of p ≤ limit) × AreNear ps
+
+-- ---- a pass over a side's spans
+
+-- `whole` is in order and ends by `high`; from `since` to there no position of it is missing. What came later and may fill its
+-- gaps stands in `late`, all of it below `high`.
+pub record Taken (whole late : List Span) (since high : ℕ) : Type 0 where
+  pub ordered : AreOrdered 0 whole high
+  pub placed : AreNear late
+  pub near : high ≤ limit
+  pub run : since ≤ high
+  pub under : (x : ℕ) → high ≤ x → first_byte late x ≡ None
+  pub full : (x : ℕ) → since ≤ x → x < high → is_some (first_byte whole x) ≡ true
 
 -- ---- of the code
 

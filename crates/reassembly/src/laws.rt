@@ -1,6 +1,6 @@
 //! Theorems about the definitions of this crate. Each function does nothing: its contract is the theorem.
 ghost use Rattle.reassembly.specs.LineLaws.{RecordedSidesAreLines, RecordedSidesLieBetween};
-ghost use Rattle.reassembly.specs.CaptureConnections.{ConnectionsAreOfCapture, ConnsAreOfCapture};
+ghost use Rattle.reassembly.specs.RecordedView.{ConnectionsAreOfCapture, ConnsAreOfCapture};
 
 /// The connections of the segments in a range of a capture's records, as the table lists them, are those of which `lines` tells
 /// what was sent: their segments are recorded in the capture, go between two peers, and have instants that do not fall.

@@ -1,9 +1,6 @@
 //! Recorded lines of connections, over slices of the capture.
 #![tactic(auto)]
 
-mod closings;
-mod connection_lines;
-mod fronts;
 pub mod laws;
 mod line_parts;
 mod overlays;
@@ -12,9 +9,7 @@ mod patches;
 mod positions;
 mod recordings;
 mod rows;
-mod side_lines;
 mod sides;
 
-pub use connection_lines::lines;
 pub use line_parts::{End, Line, LinePart};
-pub use recordings::Recorded;
+pub use recordings::{Recorded, lines};

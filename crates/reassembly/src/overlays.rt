@@ -82,7 +82,7 @@ pub(crate) fn gather<'a>(alloc: Global, patches: &[Patch<'a>]) -> Result<Vec<Pat
     overlay(alloc, &left, &right)
 }
 
-// Whether each patch begins at or behind the end of the one before. One patch alone does.
+// Whether each patch begins at the end of the one before or after it. One patch alone does.
 fn is_in_order(patches: &[Patch]) -> bool
     requires { AreNear (spans patches.now) }
     ensures ordered { result ≡ true → AreOrdered 0 (spans patches.now) limit }

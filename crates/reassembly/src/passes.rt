@@ -1,8 +1,7 @@
 //! The patches of a side, in one pass over the connection's members.
 ghost use Rattle.std.specs.Prelude.{◌≡◌, ◌≤◌, ℕ, IfOk, All, max, nat_lt, if◌then◌else◌};
 ghost use Rattle.std.specs.Option.{option_or};
-ghost use Rattle.reassembly.specs.Spans.{span_of, spans, end_of, limit, byte_in, first_byte, layered_byte, AreOrdered};
-ghost use Rattle.reassembly.specs.Passes.{Taken};
+ghost use Rattle.reassembly.specs.Spans.{span_of, spans, end_of, limit, byte_in, first_byte, layered_byte, AreOrdered, Taken};
 ghost use Rattle.reassembly.specs.MemberSpans.{IsInFile, member_spans, own_members};
 
 use crate::overlays::{gather, overlay};
@@ -42,7 +41,7 @@ pub(crate) fn side_patches<'a>(
     settle(alloc, whole, &late, run)
 }
 
-// Takes a patch in: behind the others where it goes on or leaves a gap, among the late ones as far as it may fill one.
+// Takes a patch in: after the others where it goes on or leaves a gap, among the late ones as far as it may fill one.
 fn take<'a>(
     whole: &mut Vec<Patch<'a>>,
     late: &mut Vec<Patch<'a>>,
@@ -70,7 +69,7 @@ fn take<'a>(
     })
 }
 
-// The beginning of the run behind a patch that begins at a position.
+// The beginning of the run after a patch that begins at a position.
 fn run_since(from: usize, run: Run) -> usize
     ensures { result ≡ (if nat_lt run.high from then from else run.since) }
 {

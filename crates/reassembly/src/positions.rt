@@ -1,21 +1,21 @@
 //! The positions of members' payloads and FINs (RFC 9293 section 3.4).
 ghost use Rattle.std.specs.Prelude.{◌≡◌, ◌≤◌, ◌<◌, ◌+◌, ◌-◌, length, find, position, option_map, IfSome, not};
-ghost use Rattle.reassembly.specs.RecordedBytes.{place, origin};
+ghost use Rattle.reassembly.specs.Positions.{sequence_space};
 ghost use Rattle.reassembly.specs.Spans.{span_of, end_of, limit};
-ghost use Rattle.reassembly.specs.MemberSpans.{IsInFile, member_place, member_span, members_before_reset, is_reset_member, is_server_answer};
+ghost use Rattle.reassembly.specs.MemberSpans.{IsInFile, member_position, member_span, members_before_reset, is_reset_member, is_server_answer};
 
 use crate::patches::Patch;
 use conn_table::Member;
 use frame_headers::Flags;
 use pcap_records::Moment;
 
-/// The place of position 0.
+/// Position 0, shifted. Positions are shifted up by 2^31, so that one that is read as negative is a number too.
 pub(crate) const ORIGIN: usize = 1 << 31;
 
-/// The place at which a member's payload begins. Places count from 2^31 before position 0.
-pub(crate) fn place_of(base: u32, member: &Member) -> usize
-    ensures exact { result ≡ member_place base member.now }
-    ensures near { result < 4294967296 }
+/// The shifted position at which a member's payload begins.
+pub(crate) fn shifted_start(base: u32, member: &Member) -> usize
+    ensures exact { result ≡ member_position base member.now }
+    ensures near { result < sequence_space }
 {
     let opens = u32::from(member.flags.has(Flags::SYN));
     member
@@ -23,14 +23,14 @@ pub(crate) fn place_of(base: u32, member: &Member) -> usize
         .wrapping_add(opens)
         .wrapping_sub(base)
         .wrapping_sub(1)
-        .wrapping_add(1 << 31) as usize
+        .wrapping_add(ORIGIN as u32) as usize
 }
 
-/// The place at which it ends, and a FIN of the member stands.
-pub(crate) fn end_place_of(base: u32, member: &Member) -> usize
-    ensures { result ≡ member_place base member.now + member.now.len }
+/// The shifted position at which it ends, and a FIN of the member stands.
+pub(crate) fn shifted_end(base: u32, member: &Member) -> usize
+    ensures { result ≡ member_position base member.now + member.now.len }
 {
-    place_of(base, member) + len_of(member)
+    shifted_start(base, member) + len_of(member)
 }
 
 // How many bytes a member's payload has.
@@ -48,12 +48,12 @@ pub(crate) fn patch_of<'a>(base: u32, member: &Member, file: &'a [u8]) -> Patch<
     ensures exact { span_of result ≡ member_span base file.now member.now }
     ensures near { end_of (span_of result) ≤ limit }
 {
-    let place = place_of(base, member);
+    let position = shifted_start(base, member);
     let start = member.start as usize;
     let payload = &file[start..start + len_of(member)];
-    let hidden = ORIGIN.saturating_sub(place).min(payload.len());
+    let hidden = ORIGIN.saturating_sub(position).min(payload.len());
     Patch {
-        from: place.saturating_sub(ORIGIN),
+        from: position.saturating_sub(ORIGIN),
         at: member.at,
         bytes: &payload[hidden..],
     }

@@ -1,15 +1,17 @@
-//! One side of a connection, from its members.
-ghost use Rattle.std.specs.Prelude.{◌≡◌, [], IfOk, All};
-ghost use Rattle.reassembly.specs.LineView.{end_view};
-ghost use Rattle.reassembly.specs.SideLines.{side_view};
-ghost use Rattle.reassembly.specs.MemberSpans.{IsInFile};
-ghost use Rattle.reassembly.specs.SideLines.{IsSideOf};
+//! One side of a connection, from its members: its line up to the first gap or to the FIN that counts, and how many bytes lie after.
+ghost use Rattle.std.specs.Prelude.{◌≡◌, ◌+◌, ◌<◌, ◌==◌, ◌||◌, [], not, ℕ, length, drop, max, find, option_map, sum_by, IfOk, All};
+ghost use Rattle.reassembly.specs.LineView.{bytes_of_parts, end_view};
+ghost use Rattle.reassembly.specs.MemberSpans.{IsInFile, is_fin_member, own_members};
+ghost use Rattle.reassembly.specs.SideLines.{IsFront, IsSideOf, end_by, fin_of, first_from, latest_below, len_of, line_bytes, side_by, side_view, stop_of};
+ghost use Rattle.reassembly.specs.Spans.{AreOrdered, first_byte, limit, spans};
 
-use crate::closings::first_fin;
-use crate::line_parts::{End, Line};
+use crate::line_parts::{End, Line, LinePart, add_part};
 use crate::passes::side_patches;
-use crate::side_lines::{SideLine, side_line};
+use crate::patches::{Patch, end, front, patch_at};
+use crate::positions::{ORIGIN, shifted_end};
 use conn_table::Member;
+use frame_headers::Flags;
+use pcap_records::Moment;
 use std::alloc::{AllocError, Global};
 
 /// One side's line, which ends so unless it is whole. Its bytes count from `base`; without one no byte has a position.
@@ -28,8 +30,8 @@ pub(crate) fn recorded_side<'a>(
         return Ok(without_base(alloc, other));
     };
     let patches = side_patches(alloc, base, client, members, file)?;
-    let closing = first_fin(base, client, members);
-    side_line(alloc, &patches, closing, other)
+    let fin = first_fin(base, client, members);
+    side_line(alloc, &patches, fin, other)
 }
 
 // The line without bytes.
@@ -41,4 +43,150 @@ fn without_base<'a>(alloc: Global, other: End) -> SideLine<'a>
         len: 0,
         lost: 0,
     }
+}
+
+/// A FIN's position, and when it was captured.
+#[derive(Clone, Copy)]
+pub(crate) struct CountedFin {
+    pub position: usize,
+    pub at: Moment,
+}
+
+// The first FIN of one side in the file that stands at position 0 or later.
+fn first_fin(base: u32, client: bool, members: &[Member]) -> Option<CountedFin>
+    ensures { result ≡ option_map (fin_of base) (find (is_fin_member base) (own_members client members.now)) }
+{
+    'search: for member in members {
+        if member.from_client == client && member.flags.has(Flags::FIN) {
+            let end = shifted_end(base, member);
+            if end >= ORIGIN {
+                return Some(CountedFin {
+                    position: end - ORIGIN,
+                    at: member.at,
+                });
+            }
+        }
+    }
+    None
+}
+
+/// No position reaches it.
+const LIMIT: usize = 1 << 33;
+
+/// The line of one side, its length, and how many bytes lie after it.
+#[derive(Drop)]
+pub(crate) struct SideLine<'a> {
+    pub line: Line<'a>,
+    pub len: usize,
+    pub lost: u64,
+}
+
+// The line that ordered patches make, with the FIN that counts and the end that it has else.
+fn side_line<'a>(
+    alloc: Global,
+    patches: &[Patch<'a>],
+    fin: Option<CountedFin>,
+    other: End,
+) -> Result<SideLine<'a>, AllocError>
+    requires { AreOrdered 0 (spans patches.now) limit }
+    ensures front { IfOk result (λ side. IsFront (first_byte (spans patches.now)) (stop_of fin) side.len) }
+    ensures value { IfOk result (λ side. side_view side ≡ side_by (spans patches.now) fin (end_view other) side.len) }
+{
+    let stop = stop_at(&fin);
+    let Front { parts, len, latest } = front_parts(alloc, patches, stop)?;
+    let all = count_bytes(patches);
+    let lost = (all - len) as u64;
+    let end = end_at(len, latest, &fin, &other);
+    let line = Line::of_parts(parts, end);
+    Ok(SideLine { line, len, lost })
+}
+
+// The position by which the line ends.
+fn stop_at(fin: &Option<CountedFin>) -> usize
+    ensures { result ≡ stop_of fin.now }
+{
+    match fin {
+        Some(fin) => fin.position,
+        None => LIMIT,
+    }
+}
+
+// The end of a line of `len` bytes.
+fn end_at(len: usize, latest: Moment, fin: &Option<CountedFin>, other: &End) -> End
+    ensures { end_view result ≡ end_by len latest (end_view other.now) fin.now }
+{
+    match fin {
+        Some(fin) if fin.position == len => End::Fin(fin.at.greater(latest)),
+        _ => *other,
+    }
+}
+
+// How many bytes ordered patches have.
+fn count_bytes(patches: &[Patch]) -> usize
+    requires { AreOrdered 0 (spans patches.now) limit }
+    ensures { result ≡ sum_by len_of (spans patches.now) }
+{
+    let mut count = 0;
+    let mut i = 0;
+    'count: while i < patches.len() {
+        let patch = patch_at(patches, i);
+        count += patch.bytes.len();
+        i += 1;
+    }
+    count
+}
+
+/// The parts up to a position, and when the last of their bytes was available.
+#[derive(Drop)]
+struct Front<'a> {
+    pub parts: Vec<LinePart<'a>>,
+    pub len: usize,
+    pub latest: Moment,
+}
+
+// The parts of ordered patches, up to the first gap or to `stop`.
+fn front_parts<'a>(
+    alloc: Global,
+    patches: &[Patch<'a>],
+    stop: usize,
+) -> Result<Front<'a>, AllocError>
+    requires { AreOrdered 0 (spans patches.now) limit }
+    ensures bytes { IfOk result (λ f. bytes_of_parts f.parts.items ≡ line_bytes (first_byte (spans patches.now)) f.len) }
+    ensures front { IfOk result (λ f. IsFront (first_byte (spans patches.now)) stop f.len) }
+    ensures latest { IfOk result (λ f. f.latest ≡ latest_below (first_byte (spans patches.now)) f.len) }
+{
+    let mut parts = Vec::with_capacity(alloc, patches.len())?;
+    let mut i = 0;
+    let mut len = 0;
+    let mut latest = Moment::of(0);
+    'walk: while i < patches.len() && from_at(patches, i) == len && len < stop {
+        let patch = front(&patch_at(patches, i), stop);
+        let at = latest.greater(patch.at);
+        let starts = starts_chunk(len, at, latest);
+        let part = LinePart {
+            at,
+            starts,
+            bytes: patch.bytes,
+        };
+        add_part(&mut parts, &part)?;
+        len = end(&patch);
+        latest = at;
+        i += 1;
+    }
+    Ok(Front { parts, len, latest })
+}
+
+// Where patch `i` begins.
+fn from_at(patches: &[Patch], i: usize) -> usize
+    requires { i < length patches.now }
+    ensures { result ≡ first_from (spans (drop i patches.now)) }
+{
+    patch_at(patches, i).from
+}
+
+// Whether a chunk starts at a position: where the instant changes, and at the first.
+fn starts_chunk(position: usize, at: Moment, before: Moment) -> bool
+    ensures { result ≡ (position == 0 || not (at == before)) }
+{
+    position == 0 || at.count() != before.count()
 }

@@ -9,7 +9,7 @@ use Rattle.conn_table.specs.SeenCapture.{seen_packets}
 use Rattle.conn_table.specs.ClassCounts.{counts_of}
 use Rattle.conn_table.specs.Tables.{TableView, table_in}
 use Rattle.reassembly.specs.RecordedView.{IsConnOf}
-use Rattle.reassembly.specs.CaptureConnections.{ConnsAreOfCapture}
+use Rattle.reassembly.specs.RecordedView.{ConnsAreOfCapture}
 use Rattle.segment_writer.specs.declared.framed.Framed.{Framed}
 use Rattle.segment_writer.specs.WrittenSegments.{sorted_by_key}
 use Rattle.segment_writer.specs.KeyOrder.{PartsAreSortedFirst}

@@ -7,7 +7,7 @@ use Rattle.std.specs.Net.Reader.{Read, read_ipv4, whole_value}
 use Rattle.std.proofs.NetLemmas.Ipv4.{read_ipv4_sound, read_ipv4_complete}
 use Rattle.std.specs.declared.net.ipv4_addr.Ipv4Addr.{Ipv4Addr}
 use Rattle.std.proofs.lemmas.Option.{none-some, same_Some}
-use Rattle.scenarios.specs.Addresses.{address}
+use Rattle.scenarios.specs.Hosts.{address}
 use Rattle.scenarios.specs.ProxyLaws.{AddressesAreDotted}
 
 -- a dotted text is its address

@@ -1,5 +1,6 @@
 -- The proxy that a server meets is the first that stands before it.
 use Rattle.std.proofs.Common.{◌≡◌, ◌≢◌, ℕ, suc, ◌+◌, ◌&&◌, Bool, true, false, cond, nat_lt, List, [], ◌∷◌, length, Option, Some, None, option_map, refl, ap, ◌∙◌, arith, eqb-true, eq-eqb}
+use Rattle.std.proofs.lemmas.Bool.{and_parts}
 use Rattle.std.proofs.lemmas.Bool.Decides.{nat_tests}
 use Rattle.std.specs.List.{AllByRecursion, position_or_len}
 use Rattle.std.specs.Option.{MatchOption}
@@ -8,18 +9,14 @@ use Rattle.scenarios.specs.Populate.{leads_to, met_number}
 use Rattle.scenarios.specs.ProxyLaws.{IsFirstFor, FirstIsMet}
 use Rattle.scenarios.specs.declared.proxies.Proxy.{Proxy}
 
-both : (x y : Bool) → (x && y) ≡ true → (x ≡ true) × (y ≡ true)
-both true y test = (refl, test)
-both false y test = cc
-
 peer : ℕ → ℕ → Peer
 peer addr port = record { addr = addr; port = port }
 
 leads : (server : Peer) (p : Proxy) → leads_to server p ≡ true → p.upstream ≡ server
 unfolding peer
 leads server p test =
-    let addr = eqb-true p.upstream.addr server.addr ((both _ _ test).0) in
-    let port = eqb-true p.upstream.port server.port ((both _ _ test).1) in
+    let addr = eqb-true p.upstream.addr server.addr ((and_parts _ _ test).0) in
+    let port = eqb-true p.upstream.port server.port ((and_parts _ _ test).1) in
     ap (λ a. peer a p.upstream.port) addr ∙ ap (peer server.addr) port
 
 leads_not : (server : Peer) (p : Proxy) → leads_to server p ≡ false → p.upstream ≢ server
@@ -45,7 +42,7 @@ first_behind server p proxies None other none = (other, none)
 first_behind server p proxies (Some n) other first = record {
   before = p ∷ first.before;
   proxy = first.proxy;
-  behind = first.behind;
+  after = first.after;
   split = ap (λ ps. p ∷ ps) first.split;
   place = ap suc first.place;
   leads = first.leads;
@@ -60,7 +57,7 @@ unfolding Met
 first_of_test server p proxies true test later = rw (met_here server p proxies test) (record {
   before = [];
   proxy = p;
-  behind = proxies;
+  after = proxies;
   split = refl;
   place = refl;
   leads = leads server p test;

@@ -11,7 +11,7 @@ none_is_last byte [] none = refl
 none_is_last byte (x ∷ bs) none =
     rw (none_is_last byte bs (λ i within. none (suc i) (omega arith)), ne_eqb x byte (none 0 (omega arith))) refl
 
--- a byte that is not behind itself is the last
+-- a byte that does not stand after itself is the last
 pub last_is_found : (byte : ℕ) (front back : List ℕ) → ((i : ℕ) → i < length back → get_or back i 0 ≢ byte) → cut_at_last byte (front ++ byte ∷ back) ≡ Some (front, back)
 last_is_found byte [] back none = rw (none_is_last byte back none, eq-eqb byte byte refl) refl
 last_is_found byte (x ∷ front) back none = rw (last_is_found byte front back none) refl

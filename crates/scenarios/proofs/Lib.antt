@@ -1,5 +1,6 @@
 mod AddressSteps
 mod LastPlaces
+mod MappedNames
 mod PortSteps
 mod Trees
 mod FirstProxies

@@ -2,8 +2,8 @@
 use Rattle.std.proofs.Common.{◌≡◌, Bool, true, false, Option, Some, None, option_and_then, Result, Ok, Err, refl, ap}
 use Rattle.std.proofs.lemmas.Option.{none-some}
 use Rattle.scenarios.specs.Refusals.{with, after, unless, at_place}
-use Rattle.scenarios.specs.declared.causes.Cause.{Cause}
-use Rattle.scenarios.specs.declared.causes.Refusal.{Refusal}
+use Rattle.scenarios.specs.declared.error.Cause.{Cause}
+use Rattle.scenarios.specs.declared.error.Refusal.{Refusal}
 
 err_is_not_ok : {A E P : Type 0} (e : E) (x : A) → ◌≡◌ {A = Result A E} (Err e) (Ok x) → P
 err_is_not_ok e x is = cc

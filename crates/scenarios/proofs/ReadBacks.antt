@@ -13,9 +13,9 @@ use Rattle.std.specs.Str.Parse.{digits_value}
 use Rattle.std.specs.Net.Text.{ipv4_text}
 use Rattle.std.specs.Net.Grammar.{IsDotted}
 use Rattle.serde_json.specs.View.{items_of}
-use Rattle.scenarios.specs.Addresses.{address}
+use Rattle.scenarios.specs.Hosts.{address}
 use Rattle.scenarios.specs.Upstreams.{port, upstream}
-use Rattle.scenarios.specs.Proxies.{proxy_limit, proxy_members, has_name, accepted_proxy, checked_proxy, proxy_in, proxies_from}
+use Rattle.scenarios.specs.Proxies.{proxy_limit, proxy_fields, has_name, accepted_proxy, checked_proxy, proxy_in, proxies_from}
 use Rattle.scenarios.specs.ProxyLaws.{upstream_text, proxy_toxics_data, proxy_data, IsProxy, NamesAreFree, ProxiesAreReadBack}
 use Rattle.scenarios.specs.declared.hosts.KnownHost.{KnownHost}
 use Rattle.scenarios.specs.declared.proxies.Proxy.{Proxy}
@@ -65,14 +65,14 @@ upstream_is_read hosts p is =
 
 -- ---- proxies
 
-members_are_read : (p : Proxy) → IsProxy p → proxy_members (proxy_data p) ≡ Some (record { name = p.name; upstream = upstream_text p.upstream; enabled = p.enabled; toxics = items_of (proxy_toxics_data p) })
-members_are_read p is = rw (lt-ltb 0 (length p.name) is.sound.named) refl
+fields_are_read : (p : Proxy) → IsProxy p → proxy_fields (proxy_data p) ≡ Some (record { name = p.name; upstream = upstream_text p.upstream; enabled = p.enabled; toxics = items_of (proxy_toxics_data p) })
+fields_are_read p is = rw (lt-ltb 0 (length p.name) is.sound.named) refl
 
 proxy_is_read : (hosts : List KnownHost) (earlier : List Proxy) (p : Proxy) → IsProxy p → has_name earlier p.name ≡ false → length earlier < proxy_limit → proxy_in hosts earlier (proxy_data p) ≡ Ok p
 unfolding proxy_in checked_proxy accepted_proxy
 proxy_is_read hosts earlier p is free few =
     let toxics = toxics_are_read (length earlier) p.up p.down is.sound.up_toxics is.sound.down_toxics in
-    rw (lt-leb 64 (length earlier) few, members_are_read p is, free, upstream_is_read hosts p is, toxics.1) refl
+    rw (lt-leb 64 (length earlier) few, fields_are_read p is, free, upstream_is_read hosts p is, toxics.1) refl
 
 all_are_read : (hosts : List KnownHost) (earlier proxies : List Proxy) → AllByRecursion IsProxy proxies → NamesAreFree earlier proxies → length earlier + length proxies ≤ proxy_limit → proxies_from hosts earlier (items_of (map proxy_data proxies)) ≡ Ok (earlier ++ proxies)
 unfolding proxies_from

@@ -10,10 +10,10 @@ use Rattle.serde_json.specs.Data.{Data, Items, no_items, item}
 use Rattle.serde_json.specs.Find.{as_array}
 use Rattle.frame_headers.specs.declared.peers.Peer.{Peer}
 use Rattle.scenarios.specs.Refusals.{at_place, of_proxy}
-use Rattle.scenarios.specs.Members.{required_text, is_text_or_absent, optional_flag, optional_list}
+use Rattle.scenarios.specs.Fields.{required_text, is_text_or_absent, optional_flag, optional_list}
 use Rattle.scenarios.specs.Upstreams.{colon, cut_at_last, port, host_address, upstream}
 use Rattle.scenarios.specs.ToxicsInFiles.{no_toxics, toxics_from}
-use Rattle.scenarios.specs.Proxies.{proxy_limit, ProxyMembers, CheckedProxy, proxy_members, has_name, accepted_proxy, checked_proxy, proxy_in, proxies_from}
+use Rattle.scenarios.specs.Proxies.{proxy_limit, ProxyFields, CheckedProxy, proxy_fields, has_name, accepted_proxy, checked_proxy, proxy_in, proxies_from}
 use Rattle.scenarios.specs.Populate.{tree}
 use Rattle.scenarios.specs.ProxyLaws.{IsSound, NamesAreFree, ScenariosAreSound}
 use Rattle.scenarios.specs.declared.hosts.KnownHost.{KnownHost}
@@ -21,9 +21,9 @@ use Rattle.scenarios.specs.declared.proxies.Proxy.{Proxy}
 use Rattle.scenarios.proofs.PassedSteps.{same_ok, of_with, of_after, of_unless, of_place, of_chain}
 use Rattle.scenarios.proofs.SoundToxics.{toxics_are_sound}
 
--- ---- members and upstreams
+-- ---- fields and upstreams
 
-of_test : (len : ℕ) (b : Bool) (m n : ProxyMembers) → (if nat_lt 0 len && b then Some m else None) ≡ Some n → (0 < len) × (m ≡ n)
+of_test : (len : ℕ) (b : Bool) (m n : ProxyFields) → (if nat_lt 0 len && b then Some m else None) ≡ Some n → (0 < len) × (m ≡ n)
 of_test len b m n is = of_tests (nat_lt 0 len) b refl is
   where
     of_tests : (a c : Bool) → nat_lt 0 len ≡ a → (if a && c then Some m else None) ≡ Some n → (0 < len) × (m ≡ n)
@@ -31,8 +31,8 @@ of_test len b m n is = of_tests (nat_lt 0 len) b refl is
     of_tests true false e given = absurd (none-some n given)
     of_tests false c e given = absurd (none-some n given)
 
-members_have_names : (d : Data) (m : ProxyMembers) → proxy_members d ≡ Some m → 0 < length m.name
-members_have_names d m is =
+fields_have_names : (d : Data) (m : ProxyFields) → proxy_fields d ≡ Some m → 0 < length m.name
+fields_have_names d m is =
     of_chain _ (required_text (codes "name") d) m is λ name is₁.
     of_chain _ (required_text (codes "upstream") d) m is₁ λ upstream is₂.
     of_chain _ (optional_flag (codes "enabled") d) m is₂ λ enabled is₃.
@@ -56,7 +56,7 @@ upstreams_have_ports hosts text peer is =
 SoundBefore : List Proxy → CheckedProxy → Type 0
 SoundBefore earlier c = (0 < length c.name) × (0 < c.upstream.port) × (c.upstream.port < 2 ^ 16) × (has_name earlier c.name ≡ false)
 
-accepted_is_sound : (hosts : List KnownHost) (earlier : List Proxy) (m : ProxyMembers) (c : CheckedProxy) → 0 < length m.name → accepted_proxy hosts earlier m ≡ Ok c → SoundBefore earlier c
+accepted_is_sound : (hosts : List KnownHost) (earlier : List Proxy) (m : ProxyFields) (c : CheckedProxy) → 0 < length m.name → accepted_proxy hosts earlier m ≡ Ok c → SoundBefore earlier c
 unfolding accepted_proxy SoundBefore
 accepted_is_sound hosts earlier m c named is =
     of_unless (has_name earlier m.name) _ _ c is λ free is₁.
@@ -68,8 +68,8 @@ checked_is_sound : (hosts : List KnownHost) (earlier : List Proxy) (d : Data) (c
 unfolding checked_proxy
 checked_is_sound hosts earlier d c is =
     of_unless (nat_le proxy_limit (length earlier)) _ _ c is λ few is₁.
-    of_with (proxy_members d) _ _ c is₁ λ m members_are is₂.
-    (accepted_is_sound hosts earlier m c (members_have_names d m members_are) is₂, leb-false proxy_limit (length earlier) few)
+    of_with (proxy_fields d) _ _ c is₁ λ m fields_are is₂.
+    (accepted_is_sound hosts earlier m c (fields_have_names d m fields_are) is₂, leb-false proxy_limit (length earlier) few)
 
 -- a proxy that is accepted is sound, and its name is free
 proxy_is_sound : (hosts : List KnownHost) (earlier : List Proxy) (d : Data) (p : Proxy) → proxy_in hosts earlier d ≡ Ok p → IsSound p × (has_name earlier p.name ≡ false) × (length earlier < proxy_limit)
@@ -81,7 +81,7 @@ proxy_is_sound hosts earlier d p is =
     let toxics = toxics_are_sound (length earlier) c.toxics t toxics_are in
     rw (← same_ok _ _ is₂) (record { named = before.0.0; port = before.0.1; port_fits = before.0.2; up_toxics = toxics.0; down_toxics = toxics.1 }, before.0.3, before.1)
 
--- what was read behind those that stand earlier
+-- what was read after those that stand earlier
 Behind : List Proxy → List Proxy → Type 0
 Behind earlier proxies = (more : List Proxy) × (proxies ≡ earlier ++ more) × AllByRecursion IsSound more × NamesAreFree earlier more × (length proxies ≤ proxy_limit)
 

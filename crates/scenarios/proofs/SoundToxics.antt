@@ -5,11 +5,11 @@ use Rattle.std.proofs.lemmas.Option.{none-some, same_Some}
 use Rattle.std.specs.List.{AllByRecursion}
 use Rattle.serde_json.specs.Data.{Data, Items, no_items, item}
 use Rattle.toxic_defs.specs.declared.kinds.Kind.{Kind}
+use Rattle.toxic_defs.specs.Limits.{most_toxics}
 use Rattle.toxic_defs.specs.Toxics.{RatedKind, is_in_range, IsInRange, made_toxic}
 use Rattle.scenarios.specs.Refusals.{at_place, of_toxic}
-use Rattle.scenarios.specs.ToxicTypes.{toxic_type, stream_of, name_of}
-use Rattle.scenarios.specs.ToxicAttributes.{kind_in_range, ppm_of}
-use Rattle.scenarios.specs.ToxicsInFiles.{toxic_limit, toxic_members, ToxicsRead, no_toxics, direction, is_name_taken, NamedToxic, checked_toxic, toxic_in, with_toxic, toxics_from}
+use Rattle.scenarios.specs.ToxicTypes.{toxic_type, stream_of, name_of, kind_in_range, ppm_of}
+use Rattle.scenarios.specs.ToxicsInFiles.{toxic_fields, ToxicsRead, no_toxics, direction, is_name_taken, NamedToxic, checked_toxic, toxic_in, with_toxic, toxics_from}
 use Rattle.scenarios.specs.ProxyLaws.{AreSoundToxics}
 use Rattle.scenarios.specs.declared.toxic_types.ToxicType.{ToxicType}
 use Rattle.scenarios.specs.declared.toxic_types.Stream.{Stream}
@@ -27,7 +27,7 @@ made_is_in_range kind ppm toxic is = in_range_by_test (is_in_range (record { kin
 
 -- a toxic is in range, and its direction has room for it
 Fits : ToxicsRead → NamedToxic → Type 0
-Fits read t = (length (direction t.stream read) < toxic_limit) × IsInRange t.toxic
+Fits read t = (length (direction t.stream read) < most_toxics) × IsInRange t.toxic
 
 checked_fits : (read : ToxicsRead) (name : List ℕ) (stream : Stream) (type_is : ToxicType) (d : Data) (t : NamedToxic) → checked_toxic read name stream type_is d ≡ Ok t → Fits read t
 unfolding checked_toxic Fits
@@ -35,14 +35,14 @@ checked_fits read name way type_is d t is =
     of_unless (is_name_taken read.names name) _ _ t is λ _ is₁.
     of_with (kind_in_range type_is d) _ _ t is₁ λ kind _ is₂.
     of_with (option_and_then (made_toxic kind) (ppm_of d)) _ _ t is₂ λ toxic toxic_is is₃.
-    of_unless (nat_le toxic_limit (length (direction way read))) _ _ t is₃ λ few is₄.
+    of_unless (nat_le most_toxics (length (direction way read))) _ _ t is₃ λ few is₄.
     let in_range : IsInRange toxic = of_chain (made_toxic kind) (ppm_of d) toxic toxic_is (λ ppm made. made_is_in_range kind ppm toxic made) in
-    rw (← same_ok _ _ is₄) (leb-false toxic_limit (length (direction way read)) few, in_range)
+    rw (← same_ok _ _ is₄) (leb-false most_toxics (length (direction way read)) few, in_range)
 
 toxic_fits : (read : ToxicsRead) (d : Data) (t : NamedToxic) → toxic_in read d ≡ Ok t → Fits read t
 unfolding toxic_in
 toxic_fits read d t is =
-    of_with (toxic_members d) _ _ t is λ m _ is₁.
+    of_with (toxic_fields d) _ _ t is λ m _ is₁.
     of_with (toxic_type m.type_text) _ _ t is₁ λ type_is _ is₂.
     of_with (stream_of m.stream) _ _ t is₂ λ stream _ is₃.
     checked_fits read (name_of m.name type_is stream) stream type_is d t is₃
@@ -53,13 +53,13 @@ one_more_in_range : (toxics : List RatedKind) (toxic : RatedKind) → AllByRecur
 one_more_in_range [] toxic are is = (is, tt)
 one_more_in_range (t ∷ toxics) toxic are is = (are.0, one_more_in_range toxics toxic are.1 is)
 
-one_more : (toxics : List RatedKind) (toxic : RatedKind) → AreSoundToxics toxics → length toxics < toxic_limit → IsInRange toxic → AreSoundToxics (toxics ++ toxic ∷ [])
+one_more : (toxics : List RatedKind) (toxic : RatedKind) → AreSoundToxics toxics → length toxics < most_toxics → IsInRange toxic → AreSoundToxics (toxics ++ toxic ∷ [])
 one_more toxics toxic are room is = record { few = omega (arith, length-append toxics (toxic ∷ [])); in_range = one_more_in_range toxics toxic are.in_range is }
 
 BothSound : ToxicsRead → Type 0
 BothSound read = AreSoundToxics read.up × AreSoundToxics read.down
 
-with_one_more : (read : ToxicsRead) (name : List ℕ) (stream : Stream) (toxic : RatedKind) → BothSound read → length (direction stream read) < toxic_limit → IsInRange toxic → BothSound (with_toxic read name stream toxic)
+with_one_more : (read : ToxicsRead) (name : List ℕ) (stream : Stream) (toxic : RatedKind) → BothSound read → length (direction stream read) < most_toxics → IsInRange toxic → BothSound (with_toxic read name stream toxic)
 unfolding BothSound
 with_one_more read name Upstream toxic both room is = (one_more read.up toxic both.0 room is, both.1)
 with_one_more read name Downstream toxic both room is = (both.0, one_more read.down toxic both.1 room is)

@@ -1,6 +1,6 @@
 -- Toxics that are written as JSON are read back.
 use Rattle.std.proofs.Common.{◌≡◌, ℕ, ◌+◌, ◌<◌, ◌≤◌, ◌^◌, ◌&&◌, Bool, true, false, nat_le, bytes_eq, List, [], ◌∷◌, ◌++◌, length, decimal, Some, Ok, refl, sym, ap, subst, ◌∙◌, arith, append-nil, append_assoc, length-append}
-use Rattle.std.proofs.lemmas.Bool.{lt-leb}
+use Rattle.std.proofs.lemmas.Bool.{and_parts, lt-leb}
 use Rattle.std.proofs.lemmas.Fmt.{decimal_injective, decimal_nonempty}
 use Rattle.std.proofs.lemmas.List.Folds.{list_any-append}
 use Rattle.std.proofs.lemmas.Slice.Eq.{bytes_eq-Decides}
@@ -9,11 +9,10 @@ use Rattle.serde_json.specs.Data.{Data}
 use Rattle.serde_json.specs.View.{items_of}
 use Rattle.toxic_defs.specs.declared.kinds.Kind.{Kind}
 use Rattle.toxic_defs.specs.declared.kinds.Kind.TheVariants.{Latency, Bandwidth, SlowClose, Timeout, ResetPeer, Slicer, LimitData}
+use Rattle.toxic_defs.specs.Limits.{million, most_toxics}
 use Rattle.toxic_defs.specs.Toxics.{RatedKind, fits, IsInRange, made_toxic}
-use Rattle.scenarios.specs.ToxicTypes.{type_name, toxic_type, stream_name, stream_of, name_of}
-use Rattle.scenarios.specs.ToxicAttributes.{kind_of}
-use Rattle.scenarios.specs.ToxicsInFiles.{toxic_limit, ToxicsRead, no_toxics, direction, is_name_taken, checked_toxic, toxic_in, with_toxic, toxics_from}
-use Rattle.scenarios.specs.WrittenToxics.{type_of, toxic_data, toxics_data}
+use Rattle.scenarios.specs.ToxicTypes.{type_name, toxic_type, stream_name, stream_of, name_of, kind_of, type_of, toxic_data, toxics_data}
+use Rattle.scenarios.specs.ToxicsInFiles.{ToxicsRead, no_toxics, direction, is_name_taken, checked_toxic, toxic_in, with_toxic, toxics_from}
 use Rattle.scenarios.specs.ProxyLaws.{AreSoundToxics}
 use Rattle.scenarios.specs.declared.toxic_types.ToxicType.{ToxicType}
 use Rattle.scenarios.specs.declared.toxic_types.Stream.{Stream}
@@ -42,10 +41,6 @@ kind_is_read way n ppm (Timeout timeout) = refl
 kind_is_read way n ppm (ResetPeer timeout) = refl
 kind_is_read way n ppm (Slicer average_size size_variation delay) = refl
 kind_is_read way n ppm (LimitData bytes) = refl
-
-both : (a b : Bool) → (a && b) ≡ true → (a ≡ true) × (b ≡ true)
-both true b is = (refl, is)
-both false b is = cc
 
 -- a text that is not empty is the name
 own_name : (text : List ℕ) (type_is : ToxicType) (way : Stream) → 0 < length text → name_of text type_is way ≡ text
@@ -77,10 +72,10 @@ still_free names n n_is free k behind small =
 
 -- ---- one toxic
 
-toxic_is_read : (read : ToxicsRead) (way : Stream) (n : ℕ) (t : RatedKind) → n ≡ length read.names → n < 2 ^ 64 → AreFree read.names → length (direction way read) < toxic_limit → IsInRange t → toxic_in read (toxic_data way n t) ≡ Ok (record { name = decimal n; stream = way; toxic = t })
+toxic_is_read : (read : ToxicsRead) (way : Stream) (n : ℕ) (t : RatedKind) → n ≡ length read.names → n < 2 ^ 64 → AreFree read.names → length (direction way read) < most_toxics → IsInRange t → toxic_in read (toxic_data way n t) ≡ Ok (record { name = decimal n; stream = way; toxic = t })
 unfolding toxic_in checked_toxic AreFree
 toxic_is_read read way n t n_is small free room in_range =
-    let ranges = both (fits t.kind) (nat_le t.ppm 1000000) in_range in
+    let ranges = and_parts (fits t.kind) (nat_le t.ppm million) in_range in
     rw (
       type_is_read (type_of t.kind),
       stream_is_read way,
@@ -90,7 +85,7 @@ toxic_is_read read way n t n_is small free room in_range =
       ranges.0,
       ranges.1,
       made_is_made t in_range,
-      lt-leb toxic_limit (length (direction way read)) room,
+      lt-leb most_toxics (length (direction way read)) room,
     ) refl
 
 -- ---- the toxics of a direction
@@ -125,7 +120,7 @@ record AreReadBack (proxy : ℕ) (read : ToxicsRead) (way : Stream) (n : ℕ) (t
   pub free : AreFree names
   pub steps : toxics_from proxy read (items_of (toxics_data way n toxics ++ rest)) ≡ toxics_from proxy (with_all way names toxics read) (items_of rest)
 
-direction_is_read : (proxy : ℕ) (read : ToxicsRead) (way : Stream) (n : ℕ) (toxics : List RatedKind) (rest : List Data) → n ≡ length read.names → n + length toxics < 2 ^ 64 → AreFree read.names → length (direction way read) + length toxics ≤ toxic_limit → AllByRecursion IsInRange toxics → AreReadBack proxy read way n toxics rest
+direction_is_read : (proxy : ℕ) (read : ToxicsRead) (way : Stream) (n : ℕ) (toxics : List RatedKind) (rest : List Data) → n ≡ length read.names → n + length toxics < 2 ^ 64 → AreFree read.names → length (direction way read) + length toxics ≤ most_toxics → AllByRecursion IsInRange toxics → AreReadBack proxy read way n toxics rest
 unfolding toxics_from
 direction_is_read proxy read way n [] rest n_is small free room in_range = record {
   names = read.names;
@@ -138,7 +133,7 @@ direction_is_read proxy read way n (t ∷ toxics) rest n_is small free room in_r
     let names_are : next.names ≡ read.names ++ decimal n ∷ [] = names_behind read (decimal n) way t in
     let next_number : n + 1 ≡ length next.names = ap (λ i. i + 1) n_is ∙ sym (length-append read.names (decimal n ∷ [])) ∙ sym (ap length names_are) in
     let next_free : AreFree next.names = subst AreFree (sym names_are) (still_free read.names n n_is free) in
-    let next_room : length (direction way next) + length toxics ≤ toxic_limit = omega (arith, count_behind read (decimal n) way t) in
+    let next_room : length (direction way next) + length toxics ≤ most_toxics = omega (arith, count_behind read (decimal n) way t) in
     let later = direction_is_read proxy next way (n + 1) toxics rest next_number (omega arith) next_free next_room in_range.1 in
     record {
       names = later.names;

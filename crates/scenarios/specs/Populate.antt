@@ -9,8 +9,8 @@ use Rattle.scenarios.specs.Refusals.{with, of_text}
 use Rattle.scenarios.specs.Proxies.{proxies_from}
 use Rattle.scenarios.specs.declared.hosts.KnownHost.{KnownHost}
 use Rattle.scenarios.specs.declared.proxies.Proxy.{Proxy}
-use Rattle.scenarios.specs.declared.causes.Cause.TheVariants.{NotJson, NotArray}
-use Rattle.scenarios.specs.declared.causes.Refusal.{Refusal}
+use Rattle.scenarios.specs.declared.error.Cause.TheVariants.{NotJson, NotArray}
+use Rattle.scenarios.specs.declared.error.Refusal.{Refusal}
 
 -- the tree of JSON that a text is, if it is one
 abbrev pub tree : List ℕ → Option Data

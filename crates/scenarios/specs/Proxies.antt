@@ -2,30 +2,30 @@
 use Rattle.std.specs.Prelude.{ℕ, ◌&&◌, List, [], ◌∷◌, ◌++◌, codes, length, Bool, bytes_eq, nat_lt, nat_le, if◌then◌else◌, Option, Some, None, option_and_then, Result, Ok}
 use Rattle.std.specs.List.{list_any}
 use Rattle.serde_json.specs.Data.{Data, Items, no_items, item}
-use Rattle.scenarios.specs.Members.{required_text, is_text_or_absent, optional_flag, optional_list}
+use Rattle.scenarios.specs.Fields.{required_text, is_text_or_absent, optional_flag, optional_list}
 use Rattle.scenarios.specs.Refusals.{with, after, unless, of_proxy, at_place}
 use Rattle.scenarios.specs.ToxicsInFiles.{no_toxics, toxics_from}
 use Rattle.scenarios.specs.Upstreams.{upstream}
 use Rattle.frame_headers.specs.declared.peers.Peer.{Peer}
 use Rattle.scenarios.specs.declared.hosts.KnownHost.{KnownHost}
 use Rattle.scenarios.specs.declared.proxies.Proxy.{Proxy}
-use Rattle.scenarios.specs.declared.causes.Cause.TheVariants.{BadMember, DuplicateProxy, TooMany}
-use Rattle.scenarios.specs.declared.causes.Refusal.{Refusal}
+use Rattle.scenarios.specs.declared.error.Cause.TheVariants.{BadMember, DuplicateProxy, TooMany}
+use Rattle.scenarios.specs.declared.error.Refusal.{Refusal}
 
 -- the greatest number of proxies of a scenario
 abbrev pub proxy_limit : ℕ
 proxy_limit = 64
 
--- the members of a proxy
-pub record ProxyMembers : Type 0 where
+-- the fields of a proxy
+pub record ProxyFields : Type 0 where
   pub name : List ℕ
   pub upstream : List ℕ
   pub enabled : Bool
   pub toxics : Items
 
--- the members of a proxy, if each is of its kind and its name is not empty
-abbrev pub proxy_members : Data → Option ProxyMembers
-proxy_members d =
+-- the fields of a proxy, if each is of its kind and its name is not empty
+abbrev pub proxy_fields : Data → Option ProxyFields
+proxy_fields d =
     option_and_then (λ name.
     option_and_then (λ upstream.
     option_and_then (λ enabled.
@@ -47,27 +47,27 @@ pub record CheckedProxy : Type 0 where
   pub enabled : Bool
   pub toxics : Items
 
--- the proxy that members say, behind those that stand earlier
-unfoldable pub accepted_proxy : List KnownHost → List Proxy → ProxyMembers → Result CheckedProxy Refusal
+-- the proxy that fields say, after those that stand earlier
+unfoldable pub accepted_proxy : List KnownHost → List Proxy → ProxyFields → Result CheckedProxy Refusal
 accepted_proxy hosts earlier m =
     unless (has_name earlier m.name) (of_proxy (length earlier) DuplicateProxy)
     (after (at_place (of_proxy (length earlier)) (upstream hosts m.upstream)) (λ peer.
     Ok (record { name = m.name; upstream = peer; enabled = m.enabled; toxics = m.toxics })))
 
--- one proxy before its toxics are read, behind those that stand earlier
+-- one proxy before its toxics are read, after those that stand earlier
 unfoldable pub checked_proxy : List KnownHost → List Proxy → Data → Result CheckedProxy Refusal
 checked_proxy hosts earlier d =
     unless (nat_le proxy_limit (length earlier)) (of_proxy (length earlier) TooMany)
-    (with (proxy_members d) (of_proxy (length earlier) BadMember) (accepted_proxy hosts earlier))
+    (with (proxy_fields d) (of_proxy (length earlier) BadMember) (accepted_proxy hosts earlier))
 
--- one proxy, behind those that stand earlier
+-- one proxy, after those that stand earlier
 unfoldable pub proxy_in : List KnownHost → List Proxy → Data → Result Proxy Refusal
 proxy_in hosts earlier d =
     after (checked_proxy hosts earlier d) (λ c.
     after (toxics_from (length earlier) no_toxics c.toxics) (λ t.
     Ok (record { name = c.name; upstream = c.upstream; enabled = c.enabled; up = t.up; down = t.down })))
 
--- the proxies of the items, behind those that stand earlier
+-- the proxies of the items, after those that stand earlier
 unfoldable pub proxies_from : List KnownHost → List Proxy → Items → Result (List Proxy) Refusal
 proxies_from hosts earlier no_items = Ok earlier
 proxies_from hosts earlier (item d ds) = after (proxy_in hosts earlier d) (λ p. proxies_from hosts (earlier ++ p ∷ []) ds)

@@ -8,11 +8,11 @@ use Rattle.std.specs.Net.Grammar.{IsDotted}
 use Rattle.serde_json.specs.Data.{Data, boolean, string, array, object, member, no_members}
 use Rattle.serde_json.specs.View.{items_of}
 use Rattle.frame_headers.specs.declared.peers.Peer.{Peer}
+use Rattle.toxic_defs.specs.Limits.{most_toxics}
 use Rattle.toxic_defs.specs.Toxics.{RatedKind, IsInRange}
-use Rattle.scenarios.specs.Addresses.{address}
+use Rattle.scenarios.specs.Hosts.{address}
 use Rattle.scenarios.specs.Upstreams.{colon}
-use Rattle.scenarios.specs.ToxicsInFiles.{toxic_limit}
-use Rattle.scenarios.specs.WrittenToxics.{toxics_data}
+use Rattle.scenarios.specs.ToxicTypes.{toxics_data}
 use Rattle.scenarios.specs.declared.toxic_types.Stream.TheVariants.{Upstream, Downstream}
 use Rattle.scenarios.specs.Proxies.{proxy_limit, has_name}
 use Rattle.scenarios.specs.Populate.{tree, scenario, met_number}
@@ -31,8 +31,8 @@ AddressesAreDotted =
 pub record IsFirstFor (server : Peer) (proxies : List Proxy) (number : ℕ) : Type 0 where
   pub before : List Proxy
   pub proxy : Proxy
-  pub behind : List Proxy
-  pub split : proxies ≡ before ++ proxy ∷ behind
+  pub after : List Proxy
+  pub split : proxies ≡ before ++ proxy ∷ after
   pub place : length before ≡ number
   pub leads : proxy.upstream ≡ server
   pub others : AllByRecursion (λ p. p.upstream ≢ server) before
@@ -52,7 +52,7 @@ NamesAreFree earlier (p ∷ proxies) = (has_name earlier p.name ≡ false) × Na
 
 -- the toxics of a direction are in range, and not too many
 pub record AreSoundToxics (toxics : List RatedKind) : Type 0 where
-  pub few : length toxics ≤ toxic_limit
+  pub few : length toxics ≤ most_toxics
   pub in_range : AllByRecursion IsInRange toxics
 
 -- a proxy has a name, its upstream a port, and its toxics are in range and not too many

@@ -1,9 +1,9 @@
--- Where a refusal stands, and how steps that may refuse stand one behind another.
+-- Where a refusal stands, and how steps that may refuse stand one after another.
 use Rattle.std.specs.Prelude.{ℕ, Bool, true, false, Option, Some, None, Result, Ok, Err}
-use Rattle.scenarios.specs.declared.causes.Cause.{Cause}
-use Rattle.scenarios.specs.declared.causes.Refusal.{Refusal}
-use Rattle.scenarios.specs.declared.causes.ScenarioFault.{ScenarioFault}
-use Rattle.scenarios.specs.declared.causes.ScenarioFault.TheVariants.{Refused, Memory}
+use Rattle.scenarios.specs.declared.error.Cause.{Cause}
+use Rattle.scenarios.specs.declared.error.Refusal.{Refusal}
+use Rattle.scenarios.specs.declared.error.ScenarioFault.{ScenarioFault}
+use Rattle.scenarios.specs.declared.error.ScenarioFault.TheVariants.{Refused, Memory}
 
 -- a refusal of the whole text, of a proxy, and of one of its toxics
 abbrev pub of_text : Cause → Refusal

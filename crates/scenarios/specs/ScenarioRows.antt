@@ -2,12 +2,12 @@
 use Rattle.std.specs.Prelude.{◌≡◌, ℕ, List, [], ◌∷◌, ◌++◌, codes, true, false, Some, None, Ok, Err}
 use Rattle.frame_headers.specs.declared.peers.Peer.{Peer}
 use Rattle.scenarios.specs.Refusals.{of_text, of_proxy, of_toxic}
-use Rattle.scenarios.specs.HostLists.{host_for}
+use Rattle.scenarios.specs.Hosts.{host_for}
 use Rattle.scenarios.specs.Upstreams.{upstream}
 use Rattle.scenarios.specs.Populate.{scenario, met_number}
 use Rattle.scenarios.specs.declared.hosts.KnownHost.{KnownHost}
 use Rattle.scenarios.specs.declared.proxies.Proxy.{Proxy}
-use Rattle.scenarios.specs.declared.causes.Cause.TheVariants.{NotJson, NotArray, BadMember, DuplicateProxy, BadUpstream, UnknownHost, UnknownToxic}
+use Rattle.scenarios.specs.declared.error.Cause.TheVariants.{NotJson, NotArray, BadMember, DuplicateProxy, BadUpstream, UnknownHost, UnknownToxic}
 
 -- ---- texts
 
@@ -75,7 +75,7 @@ pub record ProxiesRefused : Type 0 where
   pub toxic : scenario [] (of_one (codes ",\"toxics\":[{\"type\":\"explode\"}]")) ≡ Err (of_toxic 0 0 UnknownToxic)
   pub typeless : scenario [] (of_one (codes ",\"toxics\":[{}]")) ≡ Err (of_toxic 0 0 BadMember)
 
--- a disabled proxy and one behind it, both for one server: the first is met
+-- a disabled proxy and one after it, both for one server: the first is met
 pub record FirstMet : Type 0 where
   pub both : scenario [] (codes "[" ++ proxy_text (codes "a") (codes ",\"enabled\":false") ++ codes "," ++ proxy_text (codes "b") [] ++ codes "]")
       ≡ Ok (record { name = codes "a"; upstream = server; enabled = false; up = []; down = [] } ∷ record { name = codes "b"; upstream = server; enabled = true; up = []; down = [] } ∷ [])

@@ -7,8 +7,8 @@ use Rattle.scenarios.specs.Refusals.{of_toxic}
 use Rattle.scenarios.specs.Populate.{scenario}
 use Rattle.scenarios.specs.ScenarioRows.{of_one, server}
 use Rattle.scenarios.specs.declared.proxies.Proxy.{Proxy}
-use Rattle.scenarios.specs.declared.causes.Cause.TheVariants.{BadMember, UnknownToxic, BadStream, DuplicateToxic, AttributeRange, TooMany, BadToxicity}
-use Rattle.scenarios.specs.declared.causes.Refusal.{Refusal}
+use Rattle.scenarios.specs.declared.error.Cause.TheVariants.{BadMember, UnknownToxic, BadStream, DuplicateToxic, AttributeRange, TooMany, BadToxicity}
+use Rattle.scenarios.specs.declared.error.Refusal.{Refusal}
 
 -- ---- texts
 
@@ -112,7 +112,7 @@ pub record ToxicitiesRefused : Type 0 where
   pub both : read_toxics (toxicity (codes ",\"toxicity\":2,\"toxicity_ppm\":5")) ≡ Err (of_toxic 0 0 BadToxicity)
   pub attribute : read_toxics (toxic_text (codes "bandwidth") (codes ",\"toxicity\":2") []) ≡ Err (of_toxic 0 0 AttributeRange)
 
--- a ninth toxic upstream; the same with a toxicity that is none; a place counts the toxics of both directions
+-- a ninth toxic upstream; the same with a toxicity that is not valid; a place counts the toxics of both directions
 pub record CountsRefused : Type 0 where
   pub ninth : read_toxics (eight ++ codes "," ++ named (codes "i") []) ≡ Err (of_toxic 0 8 TooMany)
   pub toxicity_first : read_toxics (eight ++ codes "," ++ named (codes "i") (codes ",\"toxicity\":2")) ≡ Err (of_toxic 0 8 BadToxicity)

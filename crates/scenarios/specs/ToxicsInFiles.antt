@@ -2,33 +2,29 @@
 use Rattle.std.specs.Prelude.{ℕ, List, [], ◌∷◌, ◌++◌, codes, length, bytes_eq, nat_le, Bool, Option, Some, None, option_and_then, if◌then◌else◌, Result, Ok}
 use Rattle.std.specs.List.{list_any}
 use Rattle.serde_json.specs.Data.{Data, Items, no_items, item}
+use Rattle.toxic_defs.specs.Limits.{most_toxics}
 use Rattle.toxic_defs.specs.Toxics.{RatedKind, made_toxic}
-use Rattle.scenarios.specs.Members.{◌>>=◌, required_text, optional_text, is_object_or_absent}
+use Rattle.scenarios.specs.Fields.{◌>>=◌, required_text, optional_text, is_object_or_absent}
 use Rattle.scenarios.specs.Refusals.{with, after, unless, of_toxic, at_place}
-use Rattle.scenarios.specs.ToxicTypes.{toxic_type, stream_of, name_of}
-use Rattle.scenarios.specs.ToxicAttributes.{kind_in_range, ppm_of}
+use Rattle.scenarios.specs.ToxicTypes.{toxic_type, stream_of, name_of, kind_in_range, ppm_of}
 use Rattle.scenarios.specs.declared.toxic_types.ToxicType.{ToxicType}
 use Rattle.scenarios.specs.declared.toxic_types.Stream.{Stream}
 use Rattle.scenarios.specs.declared.toxic_types.Stream.TheVariants.{Upstream, Downstream}
-use Rattle.scenarios.specs.declared.causes.Cause.{Cause}
-use Rattle.scenarios.specs.declared.causes.Cause.TheVariants.{BadMember, UnknownToxic, BadStream, DuplicateToxic, AttributeRange, BadToxicity, TooMany}
-use Rattle.scenarios.specs.declared.causes.Refusal.{Refusal}
-
--- the greatest number of toxics of a direction
-abbrev pub toxic_limit : ℕ
-toxic_limit = 8
+use Rattle.scenarios.specs.declared.error.Cause.{Cause}
+use Rattle.scenarios.specs.declared.error.Cause.TheVariants.{BadMember, UnknownToxic, BadStream, DuplicateToxic, AttributeRange, BadToxicity, TooMany}
+use Rattle.scenarios.specs.declared.error.Refusal.{Refusal}
 
 -- ---- one toxic
 
 -- the texts of a toxic
-pub record ToxicMembers : Type 0 where
+pub record ToxicFields : Type 0 where
   pub type_text : List ℕ
   pub name : List ℕ
   pub stream : List ℕ
 
--- the texts of a toxic whose members are of their kinds
-abbrev pub toxic_members : Data → Option ToxicMembers
-toxic_members d = do
+-- the texts of a toxic whose fields are of their kinds
+abbrev pub toxic_fields : Data → Option ToxicFields
+toxic_fields d = do
   type_text ← required_text (codes "type") d
   name ← optional_text (codes "name") d
   stream ← optional_text (codes "stream") d
@@ -58,19 +54,19 @@ pub record NamedToxic : Type 0 where
   pub stream : Stream
   pub toxic : RatedKind
 
--- a toxic of a type, with its name, behind those that were read
+-- a toxic of a type, with its name, after those that were read
 unfoldable pub checked_toxic : ToxicsRead → List ℕ → Stream → ToxicType → Data → Result NamedToxic Cause
 checked_toxic read name way type_is d =
     unless (is_name_taken read.names name) DuplicateToxic
     (with (kind_in_range type_is d) AttributeRange (λ kind.
     with (option_and_then (made_toxic kind) (ppm_of d)) BadToxicity (λ toxic.
-    unless (nat_le toxic_limit (length (direction way read))) TooMany
+    unless (nat_le most_toxics (length (direction way read))) TooMany
     (Ok (record { name = name; stream = way; toxic = toxic })))))
 
--- one toxic, behind those that were read
+-- one toxic, after those that were read
 unfoldable pub toxic_in : ToxicsRead → Data → Result NamedToxic Cause
 toxic_in read d =
-    with (toxic_members d) BadMember (λ m.
+    with (toxic_fields d) BadMember (λ m.
     with (toxic_type m.type_text) UnknownToxic (λ type_is.
     with (stream_of m.stream) BadStream (λ stream.
     checked_toxic read (name_of m.name type_is stream) stream type_is d)))
@@ -81,7 +77,7 @@ abbrev pub with_toxic : ToxicsRead → List ℕ → Stream → RatedKind → Tox
 with_toxic read name Upstream toxic = record { names = read.names ++ name ∷ []; up = read.up ++ toxic ∷ []; down = read.down }
 with_toxic read name Downstream toxic = record { names = read.names ++ name ∷ []; up = read.up; down = read.down ++ toxic ∷ [] }
 
--- the toxics of the items, behind those that were read
+-- the toxics of the items, after those that were read
 unfoldable pub toxics_from : ℕ → ToxicsRead → Items → Result ToxicsRead Refusal
 toxics_from proxy read no_items = Ok read
 toxics_from proxy read (item d ds) =

@@ -3,34 +3,37 @@ use Rattle.std.specs.Prelude.{ℕ, ◌^◌, ◌&&◌, ◌==◌, List, [], ◌∷
 use Rattle.std.specs.Str.{all_ascii_digits}
 use Rattle.std.specs.Str.Parse.{digits_value}
 use Rattle.frame_headers.specs.declared.peers.Peer.{Peer}
-use Rattle.scenarios.specs.Addresses.{address, is_host_name}
-use Rattle.scenarios.specs.HostLists.{look_up}
+use Rattle.scenarios.specs.Hosts.{address, is_host_name, look_up}
 use Rattle.scenarios.specs.Refusals.{with, after, unless}
 use Rattle.scenarios.specs.declared.hosts.KnownHost.{KnownHost}
-use Rattle.scenarios.specs.declared.causes.Cause.{Cause}
-use Rattle.scenarios.specs.declared.causes.Cause.TheVariants.{BadUpstream, UnknownHost}
+use Rattle.scenarios.specs.declared.error.Cause.{Cause}
+use Rattle.scenarios.specs.declared.error.Cause.TheVariants.{BadUpstream, UnknownHost}
 
 abbrev pub colon : ℕ
 colon = 58
 
--- both parts of what follows x, with x put before; x itself where it is the byte and nothing behind it is
-abbrev pub cut_behind : Bool → ℕ → List ℕ → Option (List ℕ × List ℕ) → Option (List ℕ × List ℕ)
-cut_behind is_byte x rest (Some parts) = Some (x ∷ parts.0, parts.1)
-cut_behind true x rest None = Some ([], rest)
-cut_behind false x rest None = None
+-- the greatest number of digits of a port
+abbrev pub port_digits : ℕ
+port_digits = 5
 
--- what stands before the last place of a byte, and behind it
+-- both parts of what follows x, with x put before; x itself where it is the byte and nothing after it is
+abbrev pub cut_after : Bool → ℕ → List ℕ → Option (List ℕ × List ℕ) → Option (List ℕ × List ℕ)
+cut_after is_byte x rest (Some parts) = Some (x ∷ parts.0, parts.1)
+cut_after true x rest None = Some ([], rest)
+cut_after false x rest None = None
+
+-- what stands before the last place of a byte, and after it
 abbrev pub cut_at_last : ℕ → List ℕ → Option (List ℕ × List ℕ)
 cut_at_last byte [] = None
-cut_at_last byte (x ∷ rest) = cut_behind (x == byte) x rest (cut_at_last byte rest)
+cut_at_last byte (x ∷ rest) = cut_after (x == byte) x rest (cut_at_last byte rest)
 
--- a port is 1 to 5 digits, from 1 to 65535
+-- a port is from 1 to 65535
 abbrev pub is_port : ℕ → Bool
 is_port n = nat_lt 0 n && nat_lt n (2 ^ 16)
 
 abbrev pub port : List ℕ → Option ℕ
 port text =
-    if nat_lt 0 (length text) && nat_le (length text) 5 && all_ascii_digits text && is_port (digits_value 10 text) then Some (digits_value 10 text)
+    if nat_lt 0 (length text) && nat_le (length text) port_digits && all_ascii_digits text && is_port (digits_value 10 text) then Some (digits_value 10 text)
     else None
 
 -- the address of a host, which is written as one, or is a name

@@ -1,9 +1,47 @@
-//! The list of known hosts.
-use crate::addresses::{address, is_host_name};
-use crate::causes::HostFault;
-use crate::names::NameText;
+//! Hosts that upstreams may name: their names and addresses as texts, and the list of those that are known.
+ghost use Rattle.std.specs.Prelude.{◌≡◌};
+ghost use Rattle.std.specs.List.{list_all};
+ghost use Rattle.scenarios.specs.Hosts.{address, is_name_byte, is_host_name};
+
+use crate::error::HostFault;
+use pcap_records::Values;
 use std::alloc::{AllocError, Global};
 use std::marker::Model;
+use std::net::Ipv4Addr;
+
+/// The name of a host or of a proxy: contracts see its bytes, which are UTF-8.
+pub type NameText = Values<u8>;
+
+// The address that a text writes as four decimal numbers with dots between them, if it does.
+pub(crate) fn address(text: &str) -> Option<u32>
+    ensures { result ≡ address text.now }
+{
+    let Ok(address) = Ipv4Addr::parse_ascii(text.as_bytes()) else {
+        return None;
+    };
+    Some(address.to_bits())
+}
+
+// Whether a byte may stand in a host's name.
+fn is_name_byte(byte: u8) -> bool
+    ensures { result ≡ is_name_byte byte }
+{
+    matches!(byte, b'a'..=b'z' | b'A'..=b'Z' | b'0'..=b'9' | b'-' | b'_' | b'.')
+}
+
+// Whether all bytes may stand in a host's name.
+fn has_name_bytes(text: &[u8]) -> bool
+    ensures { result ≡ list_all is_name_byte text.now }
+{
+    text.iter().all(|byte| is_name_byte(*byte))
+}
+
+// Whether a text is a host's name.
+pub(crate) fn is_host_name(text: &str) -> bool
+    ensures { result ≡ is_host_name text.now }
+{
+    !text.is_empty() && has_name_bytes(text.as_bytes()) && address(text).is_none()
+}
 
 // A host's name, and its IPv4 address, the first byte the highest.
 #[derive(Debug, Drop)]
@@ -30,7 +68,7 @@ impl Model for Hosts {
 
 impl Hosts {
     ghost use Rattle.std.specs.Prelude.{◌≡◌, []};
-    ghost use Rattle.scenarios.specs.HostLists.{host_for, look_up, HostAdded};
+    ghost use Rattle.scenarios.specs.Hosts.{host_for, look_up, HostAdded};
 
     /// A list without hosts. It takes no memory.
     pub fn new(alloc: Global) -> Hosts
@@ -46,7 +84,7 @@ impl Hosts {
     /// below 256 without leading zeros, with dots between them.
     ///
     /// # Errors
-    /// The name is none, the address is none, or the name is there; or a growth was refused. The list is then as it was.
+    /// The name is not valid, the address is not valid, or the name is there; or a growth was refused. The list is then as it was.
     pub fn add(&mut self, name: &str, addr: &str) -> Result<(), HostFault>
         ensures { HostAdded result (host_for self.old name.now addr.now) self.old self.new }
     {
@@ -56,10 +94,10 @@ impl Hosts {
         if !is_host_name(name) || self.look_up(name).is_some() {
             return Err(HostFault::BadHost);
         }
-        let name = NameText::copy_of(self.alloc, name)?;
-        let Ok(()) = self.list.push(KnownHost { name, addr }) else {
-            return Err(HostFault::Memory(AllocError));
-        };
+        let name = NameText::of(name.as_bytes().to_vec(self.alloc)?);
+        self.list
+            .push(KnownHost { name, addr })
+            .map_err(AllocError::from)?;
         Ok(())
     }
 
@@ -67,11 +105,9 @@ impl Hosts {
     pub(crate) fn look_up(&self, name: &str) -> Option<u32>
         ensures { result ≡ look_up self.now name.now }
     {
-        for host in &self.list {
-            if host.name.as_slice() == name.as_bytes() {
-                return Some(host.addr);
-            }
-        }
-        None
+        self.list
+            .iter()
+            .find(|host| host.name.as_slice() == name.as_bytes())
+            .map(|host| host.addr)
     }
 }

@@ -1,5 +1,8 @@
-//! Theorems about the definitions of this crate. Each function does nothing: its contract is the theorem.
+//! Theorems about the definitions of this crate, and their worked rows. Each function does nothing: its contract is the theorem,
+//! or is evaluated.
 ghost use Rattle.scenarios.specs.ProxyLaws.{AddressesAreDotted, FirstIsMet, ScenariosAreSound, ProxiesAreReadBack};
+ghost use Rattle.scenarios.specs.ScenarioRows.{TextsRead, UpstreamsRead, UpstreamsRefused, HostsUnknown, ProxiesTold, ProxiesRefused, FirstMet, HostsAdded};
+ghost use Rattle.scenarios.specs.ToxicFileRows.{KindsRead, ToxicitiesRead, StreamsRead, WordsRefused, NamesRefused, AttributesRefused, ToxicitiesRefused, CountsRefused};
 
 /// A text is an address exactly where it is four decimal numbers below 256, without leading zeros and with dots between them.
 pub fn addresses_are_dotted()
@@ -20,4 +23,34 @@ pub fn scenarios_are_sound()
 /// A list of at most 64 proxies, each with a name of its own, that is written as JSON is read as these proxies.
 pub fn proxies_are_read_back()
     ensures { ProxiesAreReadBack }
+{}
+
+// ---- worked rows
+
+fn file_rows()
+    ensures texts { TextsRead }
+    ensures told { ProxiesTold }
+    ensures refused { ProxiesRefused }
+    ensures first { FirstMet }
+{}
+
+fn host_rows()
+    ensures read { UpstreamsRead }
+    ensures refused { UpstreamsRefused }
+    ensures unknown { HostsUnknown }
+    ensures added { HostsAdded }
+{}
+
+fn toxic_rows()
+    ensures kinds { KindsRead }
+    ensures toxicities { ToxicitiesRead }
+    ensures streams { StreamsRead }
+{}
+
+fn refused_toxic_rows()
+    ensures words { WordsRefused }
+    ensures names { NamesRefused }
+    ensures attributes { AttributesRefused }
+    ensures toxicities { ToxicitiesRefused }
+    ensures counts { CountsRefused }
 {}

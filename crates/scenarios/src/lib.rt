@@ -4,25 +4,18 @@
 //! same of a proxy's toxics; `laws` has theorems about them.
 #![tactic(auto)]
 
-mod addresses;
-mod attributes;
-mod causes;
+mod error;
+mod fields;
 mod hosts;
 pub mod laws;
-mod members;
-mod names;
 mod proxies;
-mod rows;
 mod scenario;
-mod toxic_lists;
 mod toxic_types;
 mod toxics;
 mod upstreams;
 
-pub use causes::{Cause, HostFault, Refusal, ScenarioFault};
-pub use hosts::Hosts;
-pub use names::NameText;
-pub use proxies::{PROXY_LIMIT, Proxy};
+pub use error::{Cause, HostFault, Refusal, ScenarioFault};
+pub use hosts::{Hosts, NameText};
+pub use proxies::Proxy;
 pub use scenario::{Scenario, read_scenario};
-pub use toxic_lists::ToxicList;
-pub use toxics::TOXIC_LIMIT;
+pub use toxics::ToxicList;

@@ -3,22 +3,20 @@ ghost use Rattle.std.specs.Prelude.{◌≡◌, ◌<◌, ◌≤◌, [], ℕ, leng
 ghost use Rattle.serde_json.specs.View.{view, items_view};
 ghost use Rattle.pcap_records.specs.Agreement.{AgreesUnlessMemory};
 ghost use Rattle.scenarios.specs.Refusals.{refusal};
-ghost use Rattle.scenarios.specs.Proxies.{proxy_limit, proxy_members, has_name, accepted_proxy, checked_proxy, proxy_in, proxies_from};
-ghost use Rattle.scenarios.specs.SeenMembers.{seen_members, Accepts};
+ghost use Rattle.scenarios.specs.Proxies.{proxy_limit, proxy_fields, has_name, accepted_proxy, checked_proxy, proxy_in, proxies_from};
+ghost use Rattle.scenarios.specs.SeenFields.{seen_fields, Accepts};
 
-use crate::causes::{Cause, Refusal, ScenarioFault};
-use crate::hosts::Hosts;
-use crate::members::{is_text_or_absent, optional_flag, optional_list, required_text};
-use crate::names::NameText;
-use crate::toxic_lists::ToxicList;
-use crate::toxics::read_toxics;
+use crate::error::{Cause, Refusal, ScenarioFault};
+use crate::hosts::{Hosts, NameText};
+use crate::fields::{is_text_or_absent, optional_flag, optional_list, required_text};
+use crate::toxics::{ToxicList, read_toxics};
 use crate::upstreams::upstream;
 use frame_headers::Peer;
 use serde_json::Value;
 use std::alloc::{AllocError, Global};
 
-/// The greatest number of proxies of a scenario.
-pub const PROXY_LIMIT: usize = 64;
+// The greatest number of proxies of a scenario.
+const PROXY_LIMIT: usize = 64;
 
 /// A proxy: what it is called, whom it stands before, whether it takes connections, and what it does to them.
 #[derive(Debug, Drop)]
@@ -35,9 +33,9 @@ pub struct Proxy {
     pub down: ToxicList,
 }
 
-// The members of a proxy in its file.
+// The fields of a proxy in its file.
 #[derive(Clone, Copy)]
-pub(crate) struct MembersRead<'a> {
+pub(crate) struct FieldsRead<'a> {
     pub(crate) name: &'a str,
     pub(crate) upstream: &'a str,
     pub(crate) enabled: bool,
@@ -53,9 +51,9 @@ pub(crate) struct Accepted<'a> {
     pub(crate) toxics: &'a [Value],
 }
 
-// The members of a proxy, if each is of its kind.
-fn proxy_members(value: &Value) -> Option<MembersRead<'_>>
-    ensures { option_map seen_members result ≡ proxy_members (view value.now) }
+// The fields of a proxy, if each is of its kind.
+fn proxy_fields(value: &Value) -> Option<FieldsRead<'_>>
+    ensures { option_map seen_fields result ≡ proxy_fields (view value.now) }
 {
     let name = required_text(value, "name")?;
     let upstream = required_text(value, "upstream")?;
@@ -64,7 +62,7 @@ fn proxy_members(value: &Value) -> Option<MembersRead<'_>>
     if name.is_empty() || !is_text_or_absent(value, "listen") {
         return None;
     }
-    Some(MembersRead {
+    Some(FieldsRead {
         name,
         upstream,
         enabled,
@@ -76,36 +74,33 @@ fn proxy_members(value: &Value) -> Option<MembersRead<'_>>
 fn has_name(proxies: &[Proxy], name: &str) -> bool
     ensures { result ≡ has_name proxies.now name.now }
 {
-    for proxy in proxies {
-        if proxy.name.as_slice() == name.as_bytes() {
-            return true;
-        }
-    }
-    false
+    proxies
+        .iter()
+        .any(|proxy| proxy.name.as_slice() == name.as_bytes())
 }
 
-// The proxy that members say, if nothing but its toxics refuses it.
+// The proxy that fields say, if nothing but its toxics refuses it.
 #[tactic(auto, unfolding(crate::specs::Proxies::accepted_proxy))]
 fn accept<'a>(
-    members: MembersRead<'a>,
+    fields: FieldsRead<'a>,
     hosts: &Hosts,
     earlier: &[Proxy],
 ) -> Result<Accepted<'a>, Refusal>
-    ensures { Accepts result (accepted_proxy hosts.now earlier.now (seen_members members.entry)) }
+    ensures { Accepts result (accepted_proxy hosts.now earlier.now (seen_fields fields.entry)) }
 {
     let number = earlier.len();
-    if has_name(earlier, members.name) {
+    if has_name(earlier, fields.name) {
         return Err(Refusal::of_proxy(number, Cause::DuplicateProxy));
     }
-    let upstream = match upstream(hosts, members.upstream) {
+    let upstream = match upstream(hosts, fields.upstream) {
         Ok(upstream) => upstream,
         Err(cause) => return Err(Refusal::of_proxy(number, cause)),
     };
     Ok(Accepted {
-        name: members.name,
+        name: fields.name,
         upstream,
-        enabled: members.enabled,
-        toxics: members.toxics,
+        enabled: fields.enabled,
+        toxics: fields.toxics,
     })
 }
 
@@ -123,10 +118,10 @@ fn check_proxy<'a>(
     if number >= PROXY_LIMIT {
         return Err(Refusal::of_proxy(number, Cause::TooMany));
     }
-    let Some(members) = proxy_members(value) else {
+    let Some(fields) = proxy_fields(value) else {
         return Err(Refusal::of_proxy(number, Cause::BadMember));
     };
-    accept(members, hosts, earlier)
+    accept(fields, hosts, earlier)
 }
 
 // Reads one proxy.
@@ -143,7 +138,7 @@ fn read_proxy(
     let accepted = check_proxy(value, hosts, earlier)?;
     let toxics = read_toxics(alloc, earlier.len(), accepted.toxics)?;
     let (up, down) = toxics.into_lists();
-    let name = NameText::copy_of(alloc, accepted.name)?;
+    let name = NameText::of(accepted.name.as_bytes().to_vec(alloc)?);
     Ok(Proxy {
         name,
         upstream: accepted.upstream,
@@ -166,9 +161,7 @@ pub(crate) fn read_proxies(
     let mut proxies = Vec::new(alloc);
     for value in items {
         let proxy = read_proxy(alloc, value, hosts, &proxies)?;
-        let Ok(()) = proxies.push(proxy) else {
-            return Err(ScenarioFault::Memory(AllocError));
-        };
+        proxies.push(proxy).map_err(AllocError::from)?;
     }
     Ok(proxies)
 }

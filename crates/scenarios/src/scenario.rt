@@ -1,12 +1,12 @@
 //! Scenarios.
-ghost use Rattle.std.specs.Prelude.{◌≡◌, Some, None, IfSome, MatchResult};
+ghost use Rattle.std.specs.Prelude.{◌≡◌, ◌<◌, length, Some, None, IfSome, MatchResult};
 ghost use Rattle.serde_json.specs.View.{view};
 ghost use Rattle.pcap_records.specs.Agreement.{AgreesUnlessMemory};
 ghost use Rattle.scenarios.specs.Refusals.{refusal, of_text};
-ghost use Rattle.scenarios.specs.declared.causes.Cause.TheVariants.{NotJson};
-ghost use Rattle.scenarios.specs.Populate.{tree, scenario_of_tree, scenario, met_number};
+ghost use Rattle.scenarios.specs.declared.error.Cause.TheVariants.{NotJson};
+ghost use Rattle.scenarios.specs.Populate.{tree, scenario_of_tree, scenario, leads_to, met_number};
 
-use crate::causes::{Cause, Refusal, ScenarioFault};
+use crate::error::{Cause, Refusal, ScenarioFault};
 use crate::hosts::Hosts;
 use crate::proxies::{Proxy, read_proxies};
 use frame_headers::Peer;
@@ -50,13 +50,24 @@ impl Scenario {
     pub fn proxy_of(&self, server: Peer) -> Option<u32>
         ensures { result ≡ met_number server self.now }
     {
-        for (number, proxy) in self.proxies.iter().enumerate() {
-            if proxy.upstream == server {
-                return Some(number as u32);
-            }
-        }
-        None
+        let number = first_for(&self.proxies, server)?;
+        Some(number as u32)
     }
+}
+
+// Whether a proxy stands before a server.
+fn leads_to(proxy: &Proxy, server: Peer) -> bool
+    ensures { result ≡ leads_to server proxy.now }
+{
+    proxy.upstream == server
+}
+
+// The place of the first proxy that stands before a server, if one does.
+fn first_for(proxies: &[Proxy], server: Peer) -> Option<usize>
+    ensures exact { result ≡ met_number server proxies.now }
+    ensures within { IfSome result (λ number. number < length proxies.now) }
+{
+    proxies.iter().position(|proxy| leads_to(proxy, server))
 }
 
 // The tree of a text of JSON.

@@ -1,25 +1,30 @@
 //! The toxics of a proxy.
-ghost use Rattle.std.specs.Prelude.{◌≡◌, map, option_map, option_and_then};
+ghost use Rattle.std.specs.Prelude.{◌≡◌, bytes_eq, option_map, option_and_then};
+ghost use Rattle.std.specs.List.{list_any};
 ghost use Rattle.serde_json.specs.View.{view, items_view};
 ghost use Rattle.pcap_records.specs.Agreement.{AgreesUnlessMemory};
 ghost use Rattle.toxic_defs.specs.Toxics.{made_toxic};
 ghost use Rattle.scenarios.specs.Refusals.{refusal};
-ghost use Rattle.scenarios.specs.ToxicAttributes.{ppm_of};
-ghost use Rattle.scenarios.specs.ToxicsInFiles.{toxic_members, is_name_taken, no_toxics, toxics_from};
-ghost use Rattle.scenarios.specs.SeenMembers.{seen_texts};
+ghost use Rattle.scenarios.specs.ToxicTypes.{ppm_of};
+ghost use Rattle.scenarios.specs.ToxicsInFiles.{toxic_fields, no_toxics, toxics_from};
+ghost use Rattle.scenarios.specs.SeenFields.{seen_texts};
 
-use crate::attributes::{kind_in_range, ppm_of};
-use crate::causes::{Cause, Refusal, ScenarioFault};
-use crate::members::{is_object_or_absent, optional_text, required_text};
-use crate::toxic_lists::ToxicList;
-use crate::toxic_types::{Stream, ToxicType, name_of, stream_of, toxic_type};
+use crate::error::{Cause, Refusal, ScenarioFault};
+use crate::fields::{is_object_or_absent, optional_text, required_text};
+use crate::toxic_types::{
+    Stream, ToxicType, kind_in_range, name_of, ppm_of, stream_of, toxic_type,
+};
+use pcap_records::Values;
 use serde_json::Value;
 use std::alloc::{AllocError, Global};
 use std::marker::Model;
 use toxic_defs::{Kind, Toxic};
 
-/// The greatest number of toxics of each direction of a proxy.
-pub const TOXIC_LIMIT: usize = 8;
+// The greatest number of toxics of each direction of a proxy.
+const TOXIC_LIMIT: usize = 8;
+
+/// The toxics of one direction of a proxy, in the order of its file.
+pub type ToxicList = Values<Toxic>;
 
 // The texts of a toxic in its file.
 #[derive(Clone, Copy)]
@@ -37,9 +42,9 @@ pub(crate) struct AcceptedToxic<'a> {
     pub(crate) toxic: Toxic,
 }
 
-// The texts of a toxic whose members are of their kinds.
-fn toxic_members(value: &Value) -> Option<TextsRead<'_>>
-    ensures { option_map seen_texts result ≡ toxic_members (view value.now) }
+// The texts of a toxic whose fields are of their kinds.
+fn toxic_fields(value: &Value) -> Option<TextsRead<'_>>
+    ensures { option_map seen_texts result ≡ toxic_fields (view value.now) }
 {
     let type_text = required_text(value, "type")?;
     let name = optional_text(value, "name")?;
@@ -54,16 +59,11 @@ fn toxic_members(value: &Value) -> Option<TextsRead<'_>>
     })
 }
 
-// Whether a toxic of either direction has a name.
-fn is_name_taken(names: &[&str], name: &str) -> bool
-    ensures { result ≡ is_name_taken (map (λ n. n.now) names.now) name.now }
+// Whether one of some names is a name.
+fn has_name(names: &[&str], name: &str) -> bool
+    ensures { result ≡ list_any (λ taken. bytes_eq taken.now name.now) names.now }
 {
-    for taken in names {
-        if *taken == name {
-            return true;
-        }
-    }
-    false
+    names.iter().any(|taken| *taken == name)
 }
 
 // The toxic of a kind, if it is said rightly how often it applies.
@@ -93,8 +93,8 @@ impl<'a> Model for ToxicsSoFar<'a> {
 impl<'a> ToxicsSoFar<'a> {
     ghost use Rattle.std.specs.Prelude.{◌≡◌, length, OnOk};
     ghost use Rattle.serde_json.specs.View.{view};
-    ghost use Rattle.scenarios.specs.ToxicsInFiles.{direction, checked_toxic, toxic_in, with_toxic, no_toxics};
-    ghost use Rattle.scenarios.specs.SeenMembers.{AcceptsToxic};
+    ghost use Rattle.scenarios.specs.ToxicsInFiles.{direction, is_name_taken, checked_toxic, toxic_in, with_toxic, no_toxics};
+    ghost use Rattle.scenarios.specs.SeenFields.{AcceptsToxic};
 
     fn new(alloc: Global) -> ToxicsSoFar<'a>
         ensures { result ≡ no_toxics }
@@ -116,7 +116,15 @@ impl<'a> ToxicsSoFar<'a> {
         }
     }
 
-    // The toxic of a type, with its name, behind those that were read.
+    // Whether a toxic of either direction has a name.
+    #[tactic(auto, using(crate::proofs::MappedNames::any_mapped))]
+    fn has_name(&self, name: &str) -> bool
+        ensures { result ≡ is_name_taken self.now.names name.now }
+    {
+        has_name(&self.names, name)
+    }
+
+    // The toxic of a type, with its name, after those that were read.
     #[tactic(auto, unfolding(crate::specs::ToxicsInFiles::checked_toxic))]
     fn check(
         &self,
@@ -127,7 +135,7 @@ impl<'a> ToxicsSoFar<'a> {
     ) -> Result<AcceptedToxic<'a>, Cause>
         ensures { AcceptsToxic result (checked_toxic self.now name.now stream toxic_type (view value.now)) }
     {
-        if is_name_taken(&self.names, name) {
+        if self.has_name(name) {
             return Err(Cause::DuplicateToxic);
         }
         let kind = kind_in_range(toxic_type, value).ok_or(Cause::AttributeRange)?;
@@ -142,15 +150,15 @@ impl<'a> ToxicsSoFar<'a> {
         })
     }
 
-    // Looks at one toxic, behind those that were read.
+    // Looks at one toxic, after those that were read.
     #[tactic(auto, unfolding(crate::specs::ToxicsInFiles::toxic_in))]
     fn look_at(&self, value: &'a Value) -> Result<AcceptedToxic<'a>, Cause>
         ensures { AcceptsToxic result (toxic_in self.now (view value.now)) }
     {
-        let members = toxic_members(value).ok_or(Cause::BadMember)?;
-        let toxic_type = toxic_type(members.type_text).ok_or(Cause::UnknownToxic)?;
-        let stream = stream_of(members.stream).ok_or(Cause::BadStream)?;
-        let name = name_of(members.name, toxic_type, stream);
+        let fields = toxic_fields(value).ok_or(Cause::BadMember)?;
+        let toxic_type = toxic_type(fields.type_text).ok_or(Cause::UnknownToxic)?;
+        let stream = stream_of(fields.stream).ok_or(Cause::BadStream)?;
+        let name = name_of(fields.name, toxic_type, stream);
         self.check(name, stream, toxic_type, value)
     }
 
@@ -164,13 +172,13 @@ impl<'a> ToxicsSoFar<'a> {
     }
 
     // Adds a toxic to those of its direction.
-    fn push(&mut self, name: &'a str, stream: Stream, toxic: Toxic) -> Result<(), AllocError>
-        ensures { OnOk result (self.new ≡ with_toxic self.old name.now stream toxic) }
+    fn push(&mut self, accepted: AcceptedToxic<'a>) -> Result<(), AllocError>
+        ensures { OnOk result (self.new ≡ with_toxic self.old accepted.entry.name.now accepted.entry.stream accepted.entry.toxic) }
     {
-        self.names.push(name)?;
-        match stream {
-            Stream::Upstream => self.up.push(toxic)?,
-            Stream::Downstream => self.down.push(toxic)?,
+        self.names.push(accepted.name)?;
+        match accepted.stream {
+            Stream::Upstream => self.up.push(accepted.toxic)?,
+            Stream::Downstream => self.down.push(accepted.toxic)?,
         }
         Ok(())
     }
@@ -194,9 +202,7 @@ pub(crate) fn read_toxics(
                 return Err(ScenarioFault::Refused(Refusal::of_toxic(proxy, number, cause)));
             }
         };
-        let Ok(()) = read.push(accepted.name, accepted.stream, accepted.toxic) else {
-            return Err(ScenarioFault::Memory(AllocError));
-        };
+        read.push(accepted)?;
     }
     Ok(read)
 }

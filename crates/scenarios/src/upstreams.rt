@@ -1,14 +1,14 @@
 //! Upstreams of proxies: HOST:PORT.
 ghost use Rattle.std.specs.Prelude.{◌≡◌, option_map};
-ghost use Rattle.std.specs.Str.{all_ascii_digits};
+ghost use Rattle.std.specs.Char.{is_ascii_digit};
+ghost use Rattle.std.specs.List.{list_all};
 ghost use Rattle.scenarios.specs.Upstreams.{cut_at_last, colon, port, host_address, upstream};
 
-use crate::addresses::{address, is_host_name};
-use crate::causes::Cause;
-use crate::hosts::Hosts;
+use crate::error::Cause;
+use crate::hosts::{Hosts, address, is_host_name};
 use frame_headers::Peer;
 
-// What stands before the last colon of a text, and behind it.
+// What stands before the last colon of a text, and after it.
 fn cut_at_last_colon(text: &str) -> Option<(&str, &str)>
     ensures { option_map (λ parts. (parts.0.now, parts.1.now)) result ≡ cut_at_last colon text.now }
 {
@@ -17,21 +17,20 @@ fn cut_at_last_colon(text: &str) -> Option<(&str, &str)>
 
 // Whether all bytes are decimal digits.
 fn all_digits(text: &[u8]) -> bool
-    ensures { result ≡ all_ascii_digits text.now }
+    ensures { result ≡ list_all is_ascii_digit text.now }
 {
-    for byte in text {
-        if !byte.is_ascii_digit() {
-            return false;
-        }
-    }
-    true
+    text.iter().all(|byte| byte.is_ascii_digit())
 }
 
+// The greatest number of digits of a port.
+const PORT_DIGITS: usize = 5;
+
 // The port that a text of one to five digits writes, which is not 0.
+#[tactic(auto, using(crate::proofs::MappedNames::digits_are_all))]
 fn port(text: &str) -> Option<u16>
     ensures { result ≡ port text.now }
 {
-    if text.len() > 5 || !all_digits(text.as_bytes()) {
+    if text.len() > PORT_DIGITS || !all_digits(text.as_bytes()) {
         return None;
     }
     let Ok(port) = text.parse::<u16>() else {

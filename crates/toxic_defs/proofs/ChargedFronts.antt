@@ -6,8 +6,7 @@ use Rattle.std.proofs.lemmas.List.Concat.{flat_map-append}
 use Rattle.reassembly.specs.RecordedLines.{LineByte}
 use Rattle.reassembly.specs.LineView.{bytes_of_part, bytes_of_parts, bytes_with_mark}
 use Rattle.reassembly.specs.declared.line_parts.LinePart.{LinePart}
-use Rattle.toxic_defs.specs.DelayedBytes.{ceiling, bandwidth_leaves}
-use Rattle.toxic_defs.specs.ChargedParts.{part_at, charged}
+use Rattle.toxic_defs.specs.Bandwidth.{ceiling, bandwidth_leaves, part_at, charged}
 use Rattle.toxic_defs.proofs.MovedParts.{front_there, taken_there}
 use Rattle.toxic_defs.proofs.Owed.{owed_of, leaves_owed, owed_part}
 

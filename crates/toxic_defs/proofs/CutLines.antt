@@ -7,9 +7,9 @@ use Rattle.std.proofs.lemmas.List.Sums.{length-filter, count_by-le-length}
 use Rattle.pcap_records.specs.Instants.{horizon}
 use Rattle.reassembly.specs.RecordedLines.{LineByte, Line, End, live, fin, close, reset}
 use Rattle.reassembly.specs.LineLaws.{IsInChunks, last_instant, IsNotBefore, IsLine}
-use Rattle.toxic_defs.specs.SessionCut.{closing_end, first_closing, is_after, line_up_to, line_before, cut_line}
-use Rattle.toxic_defs.specs.Closings.{cut_limit}
-use Rattle.toxic_defs.specs.CutLaws.{IsBefore, CutLinesAreLines, FirstBytesStay, CutLinesEndInTime, CutEndsAreNotEarly}
+use Rattle.toxic_defs.specs.EndRule.{is_before}
+use Rattle.toxic_defs.specs.SessionCut.{closing_end, first_closing, is_after, line_up_to, line_before, cut_line, cut_limit}
+use Rattle.toxic_defs.specs.Laws.{IsBefore, CutLinesAreLines, FirstBytesStay, CutLinesEndInTime, CutEndsAreNotEarly}
 use Rattle.toxic_defs.proofs.FirstBytes.{bytes_before, up_to, first_stay, before_in_chunks, chunks_go_on, last_not_later, all_before, last_within}
 
 -- ---- ends
@@ -55,50 +55,31 @@ no_instant (close at) = omega arith
 no_instant (reset at) = omega arith
 
 -- the horizon takes an end away or leaves it as it is
-end_stays : (limit at : ℕ) (f : Line) → IsNotBefore at f.end → IsNotBefore at (line_before limit f).end
-end_stays limit at f h = by_end f.end h
+end_stays : (limit at : ℕ) (e : End) → IsNotBefore at e → IsNotBefore at (cond (is_before limit e) e live)
+end_stays limit at e h = by_test (is_before limit e)
   where
-    by_end : (e : End) → IsNotBefore at e → IsNotBefore at (line_before limit (record { bytes = f.bytes; end = e })).end
-    by_end live g = tt
-    by_end (fin m) g = by_test (nat_lt m limit)
-      where
-        by_test : (t : Bool) → IsNotBefore at (cond t (fin m) live)
-        by_test true = g
-        by_test false = tt
-    by_end (close m) g = by_test (nat_lt m limit)
-      where
-        by_test : (t : Bool) → IsNotBefore at (cond t (close m) live)
-        by_test true = g
-        by_test false = tt
-    by_end (reset m) g = by_test (nat_lt m limit)
-      where
-        by_test : (t : Bool) → IsNotBefore at (cond t (reset m) live)
-        by_test true = g
-        by_test false = tt
+    by_test : (t : Bool) → IsNotBefore at (cond t e live)
+    by_test true = h
+    by_test false = tt
 
-end_in_time : (limit : ℕ) (bytes : List LineByte) (e : End) → IsBefore limit (line_before limit (record { bytes = bytes; end = e })).end
-end_in_time limit bytes live = tt
-end_in_time limit bytes (fin at) = by_test (nat_lt at limit) refl
+is_early : (limit : ℕ) (e : End) → is_before limit e ≡ true → IsBefore limit e
+is_early limit live h = tt
+is_early limit (fin at) h = ltb-true at limit h
+is_early limit (close at) h = ltb-true at limit h
+is_early limit (reset at) h = ltb-true at limit h
+
+end_in_time : (limit : ℕ) (e : End) → IsBefore limit (cond (is_before limit e) e live)
+end_in_time limit e = by_test (is_before limit e) refl
   where
-    by_test : (t : Bool) → nat_lt at limit ≡ t → IsBefore limit (cond t (fin at) live)
-    by_test true e = ltb-true at limit e
-    by_test false e = tt
-end_in_time limit bytes (close at) = by_test (nat_lt at limit) refl
-  where
-    by_test : (t : Bool) → nat_lt at limit ≡ t → IsBefore limit (cond t (close at) live)
-    by_test true e = ltb-true at limit e
-    by_test false e = tt
-end_in_time limit bytes (reset at) = by_test (nat_lt at limit) refl
-  where
-    by_test : (t : Bool) → nat_lt at limit ≡ t → IsBefore limit (cond t (reset at) live)
-    by_test true e = ltb-true at limit e
-    by_test false e = tt
+    by_test : (t : Bool) → is_before limit e ≡ t → IsBefore limit (cond t e live)
+    by_test true h = is_early limit e h
+    by_test false h = tt
 
 pub cut_lines_end_in_time : CutLinesEndInTime
 unfolding cut_line
 cut_lines_end_in_time ticks up down f =
     let g : Line = line_up_to (first_closing (closing_end up.end) (closing_end down.end)) f in
-    record { bytes = all_before (horizon ticks) g.bytes; ends = end_in_time (horizon ticks) g.bytes g.end }
+    record { bytes = all_before (horizon ticks) g.bytes; ends = end_in_time (horizon ticks) g.end }
 
 up_to_not_early : (opened : ℕ) (c : Option (ℕ × End)) (f : Line) → AreClosings opened c → IsNotBefore opened f.end → IsNotBefore opened (line_up_to c f).end
 up_to_not_early opened None f hc h = h
@@ -112,7 +93,7 @@ pub cut_ends_are_not_early : CutEndsAreNotEarly
 unfolding cut_line
 cut_ends_are_not_early ticks opened up down f hu hd hf =
     let c : Option (ℕ × End) = first_closing (closing_end up.end) (closing_end down.end) in
-    end_stays (horizon ticks) opened (line_up_to c f) (up_to_not_early opened c f (both_is opened up down hu hd) hf)
+    end_stays (horizon ticks) opened (line_up_to c f).end (up_to_not_early opened c f (both_is opened up down hu hd) hf)
 
 -- ---- lines
 
@@ -129,7 +110,7 @@ before_ends limit bytes e g h = not_before_weaker (last_instant 0 (bytes_before 
 line_before_is : (limit : ℕ) (f : Line) → IsLine f → IsLine (line_before limit f)
 line_before_is limit f h = record {
   chunks = before_in_chunks limit f.bytes h.chunks;
-  ends = before_ends limit f.bytes (line_before limit f).end h.chunks (end_stays limit (last_instant 0 f.bytes) f h.ends);
+  ends = before_ends limit f.bytes (line_before limit f).end h.chunks (end_stays limit (last_instant 0 f.bytes) f.end h.ends);
   short = let n = before_short limit f.bytes in let m = h.short in omega (arith, n, m);
 }
 

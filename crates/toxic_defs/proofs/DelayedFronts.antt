@@ -4,7 +4,7 @@ use Rattle.std.specs.List.{AllByRecursion}
 use Rattle.std.proofs.Math.Nat.{le_trans, le_refl}
 use Rattle.reassembly.specs.RecordedLines.{LineByte}
 use Rattle.reassembly.specs.LineLaws.{GoesOn, IsInChunks}
-use Rattle.toxic_defs.specs.ToxicLaws.{DelaysFront, AreFrom, values_of, DelayedBytesAreTheFirst}
+use Rattle.toxic_defs.specs.Laws.{DelaysFront, AreFrom, values_of, DelayedBytesAreTheFirst}
 use Rattle.toxic_defs.proofs.FirstBytes.{bytes_before, first_stay, chunks_go_on}
 
 pub itself : (bytes : List LineByte) → DelaysFront bytes bytes

@@ -1,10 +1,13 @@
 -- What the toxics that delay bytes keep of a line's bytes.
 use Rattle.std.proofs.Common.{◌≡◌, ◌<◌, ℕ, ◌+◌, ◌*◌, ◌-◌, min, List, [], ◌∷◌, length, ◌∙◌, arith}
-use Rattle.pcap_records.specs.Instants.{horizon}
+use Rattle.pcap_records.specs.Instants.{horizon, millisecond, microsecond}
 use Rattle.reassembly.specs.RecordedLines.{LineByte}
 use Rattle.reassembly.specs.LineLaws.{IsInChunks}
-use Rattle.toxic_defs.specs.DelayedBytes.{begins, latest, paced, moved, bandwidth_leaves, drawn_delay, late_bytes, millisecond, microsecond}
-use Rattle.toxic_defs.specs.SlicedBytes.{sliced, settled, piece_size, slice_size, rated_bytes, paced_bytes}
+use Rattle.toxic_defs.specs.DelayedBytes.{begins, latest, moved}
+use Rattle.toxic_defs.specs.Slicer.{paced, slice_size, paced_bytes}
+use Rattle.toxic_defs.specs.Bandwidth.{bandwidth_leaves, settled, piece_size, rated_bytes}
+use Rattle.toxic_defs.specs.Latency.{drawn_delay, late_bytes}
+use Rattle.toxic_defs.specs.Slices.{sliced}
 use Rattle.toxic_defs.proofs.FirstBytes.{chunks_go_on}
 use Rattle.toxic_defs.proofs.DelayedFronts.{in_turn}
 use Rattle.toxic_defs.proofs.KeptBytes.{KeepsBytes}

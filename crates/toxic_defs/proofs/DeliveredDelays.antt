@@ -3,10 +3,9 @@ use Rattle.std.proofs.Common.{ℕ, ◌≤◌, List, Bool, true, false, Option, S
 use Rattle.pcap_records.specs.Instants.{horizon}
 use Rattle.reassembly.specs.LineLaws.{IsLine, LiesBetween}
 use Rattle.reassembly.specs.RecordedLines.{Line, LineByte, RecordedConnection, empty_line}
-use Rattle.toxic_defs.specs.Toxics.{RatedKind, chain}
+use Rattle.toxic_defs.specs.Toxics.{RatedKind, chain, AreInRange}
 use Rattle.toxic_defs.specs.DeliveredLines.{connection_by_cut, connection_by_proxy, delivered_connection}
-use Rattle.toxic_defs.specs.DeliveredLaws.{DelaysRecorded, DeliveredIsRecorded}
-use Rattle.toxic_defs.specs.ToxicLaws.{AreInRange, Delays}
+use Rattle.toxic_defs.specs.Laws.{DelaysRecorded, DeliveredIsRecorded, Delays}
 use Rattle.toxic_defs.proofs.CutDelays.{recorded_lines_delay, cut_lines_delay}
 use Rattle.toxic_defs.proofs.ToxicLines.{chains_delay}
 

@@ -3,7 +3,7 @@ use Rattle.std.proofs.Common.{◌≤◌, ℕ, List, [], length, take, arith}
 use Rattle.std.proofs.Math.Nat.{le_refl}
 use Rattle.reassembly.specs.RecordedLines.{LineByte}
 use Rattle.reassembly.specs.LineLaws.{IsInChunks}
-use Rattle.toxic_defs.specs.ToxicLaws.{DelaysFront, AreUpTo}
+use Rattle.toxic_defs.specs.Laws.{DelaysFront, AreUpTo}
 use Rattle.toxic_defs.proofs.DelayedFronts.{itself, taken, taken_all, taken_in_chunks, taken_short, before_front, before_all}
 use Rattle.toxic_defs.proofs.FirstBytes.{bytes_before, before_in_chunks}
 use Rattle.toxic_defs.proofs.CutLines.{before_short}

@@ -4,7 +4,9 @@ use Rattle.std.proofs.Math.Nat.{le_refl, mul-le-mul_right, div-mul-le_self}
 use Rattle.std.proofs.lemmas.Nat.{le-div}
 use Rattle.std.proofs.lemmas.List.{length_push, map-append}
 use Rattle.reassembly.specs.RecordedLines.{LineByte}
-use Rattle.toxic_defs.specs.DelayedBytes.{latest_from, latest, paced, ceiling, instants_of, bandwidth_leaves}
+use Rattle.toxic_defs.specs.DelayedBytes.{latest_from, latest, instants_of}
+use Rattle.toxic_defs.specs.Slicer.{paced}
+use Rattle.toxic_defs.specs.Bandwidth.{ceiling, bandwidth_leaves}
 use Rattle.toxic_defs.proofs.Latest.{latest-push}
 
 -- none of them is past a limit

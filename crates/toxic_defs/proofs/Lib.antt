@@ -6,13 +6,11 @@ pub mod LastBytes
 pub mod Latest
 pub mod MovedParts
 pub mod LateChunks
-pub mod Slices
-pub mod Cuts
+pub mod SlicedParts
 pub mod PacedChunks
 pub mod Owed
 pub mod Settling
 pub mod ChargedFronts
-pub mod SlicedLengths
 pub mod LimitedParts
 pub mod DelayedFronts
 pub mod KeptBytes

@@ -7,7 +7,7 @@ use Rattle.std.proofs.lemmas.Grind.{flat_map-append}
 use Rattle.reassembly.specs.RecordedLines.{LineByte}
 use Rattle.reassembly.specs.LineView.{bytes_of_part, bytes_of_parts, bytes_with_mark, bytes_without_mark}
 use Rattle.reassembly.specs.declared.line_parts.LinePart.{LinePart}
-use Rattle.toxic_defs.specs.EndingToxics.{next_instant}
+use Rattle.toxic_defs.specs.LimitData.{next_instant}
 
 -- ---- one part
 

@@ -4,8 +4,9 @@ use Rattle.std.proofs.Math.Nat.{le_refl}
 use Rattle.std.proofs.lemmas.List.{append-nil}
 use Rattle.reassembly.specs.RecordedLines.{LineByte}
 use Rattle.reassembly.specs.LineLaws.{GoesOn, IsInChunks}
-use Rattle.toxic_defs.specs.DelayedBytes.{begins, along, moved, bandwidth_leaves}
-use Rattle.toxic_defs.specs.ToxicLaws.{DelaysFront, AreUpTo}
+use Rattle.toxic_defs.specs.DelayedBytes.{begins, along, moved}
+use Rattle.toxic_defs.specs.Bandwidth.{bandwidth_leaves}
+use Rattle.toxic_defs.specs.Laws.{DelaysFront, AreUpTo}
 use Rattle.toxic_defs.proofs.MovedParts.{begins-append}
 use Rattle.toxic_defs.proofs.LatestLaws.{LeavesInTurn, rate_rises, rate_own}
 

@@ -5,7 +5,8 @@ use Rattle.std.proofs.lemmas.Nat.{le-div}
 use Rattle.std.proofs.lemmas.List.{map-append, length_push, append-nil, length-map}
 use Rattle.reassembly.specs.RecordedLines.{LineByte}
 use Rattle.reassembly.specs.LineView.{bytes_with_mark, bytes_without_mark}
-use Rattle.toxic_defs.specs.DelayedBytes.{latest, instants_of, ceiling, bandwidth_leaves}
+use Rattle.toxic_defs.specs.DelayedBytes.{latest, instants_of}
+use Rattle.toxic_defs.specs.Bandwidth.{ceiling, bandwidth_leaves}
 use Rattle.toxic_defs.proofs.Latest.{latest-push, latest-along}
 
 -- ---- quotients

@@ -3,7 +3,8 @@ use Rattle.std.proofs.Common.{◌≡◌, ◌≤◌, ℕ, suc, ◌+◌, ◌-◌, 
 use Rattle.std.proofs.lemmas.List.{length_push}
 use Rattle.reassembly.specs.RecordedLines.{LineByte}
 use Rattle.reassembly.specs.LineView.{bytes_with_mark}
-use Rattle.toxic_defs.specs.DelayedBytes.{begins, paced, slicer_leaves}
+use Rattle.toxic_defs.specs.DelayedBytes.{begins}
+use Rattle.toxic_defs.specs.Slicer.{paced, slicer_leaves}
 use Rattle.toxic_defs.proofs.Latest.{latest-push, latest-along}
 use Rattle.toxic_defs.proofs.MovedParts.{begins_one_more, begins_no_more}
 

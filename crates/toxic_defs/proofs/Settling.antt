@@ -5,9 +5,8 @@ use Rattle.reassembly.specs.RecordedLines.{LineByte}
 use Rattle.reassembly.specs.LineView.{bytes_of_part, bytes_of_parts, bytes_with_mark, bytes_without_mark}
 use Rattle.reassembly.specs.declared.line_parts.LinePart.{LinePart}
 use Rattle.toxic_defs.specs.DelayedBytes.{at_instant, along}
-use Rattle.toxic_defs.specs.SlicedBytes.{joined, settled}
-use Rattle.toxic_defs.specs.ChargedParts.{charged, going_on, settled_parts}
-use Rattle.toxic_defs.specs.FilledParts.{IsFilled, AreFilled}
+use Rattle.toxic_defs.specs.Bandwidth.{joined, settled, charged, going_on, settled_parts}
+use Rattle.toxic_defs.specs.Slices.{IsFilled, AreFilled}
 use Rattle.toxic_defs.proofs.MovedParts.{along-append}
 
 -- when bytes leave that are there at `at`, with those behind them

@@ -4,8 +4,9 @@ use Rattle.std.proofs.Math.Nat.{le_trans, le_refl}
 use Rattle.reassembly.specs.RecordedLines.{LineByte}
 use Rattle.reassembly.specs.LineLaws.{GoesOn, IsInChunks}
 use Rattle.toxic_defs.specs.DelayedBytes.{at_instant}
-use Rattle.toxic_defs.specs.SlicedBytes.{sliced, joined, settled}
-use Rattle.toxic_defs.specs.ToxicLaws.{DelaysFront, AreUpTo}
+use Rattle.toxic_defs.specs.Slices.{sliced}
+use Rattle.toxic_defs.specs.Bandwidth.{joined, settled}
+use Rattle.toxic_defs.specs.Laws.{DelaysFront, AreUpTo}
 use Rattle.toxic_defs.proofs.MovedLaws.{NeverFalls, Starts}
 
 -- ---- sliced

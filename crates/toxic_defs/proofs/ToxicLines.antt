@@ -3,16 +3,16 @@ use Rattle.std.proofs.Common.{◌≡◌, ◌≤◌, ◌<◌, ℕ, zero, suc, ◌
 use Rattle.std.proofs.lemmas.Bool.{ltb-true}
 use Rattle.std.proofs.lemmas.List.{drop_more, take_more, drop_all, take_all}
 use Rattle.std.proofs.lemmas.Bool.Decides.{nat_tests}
-use Rattle.pcap_records.specs.Instants.{horizon}
+use Rattle.pcap_records.specs.Instants.{horizon, millisecond}
 use Rattle.reassembly.specs.RecordedLines.{LineByte, Line, End, live, fin, close, reset}
 use Rattle.reassembly.specs.LineLaws.{IsInChunks, last_instant, IsNotBefore, IsLine}
 use Rattle.toxic_defs.specs.RandomWords.{word_of}
-use Rattle.toxic_defs.specs.EndRule.{not_before, ended}
-use Rattle.toxic_defs.specs.DelayedBytes.{millisecond}
-use Rattle.toxic_defs.specs.EndingToxics.{limited_end, is_before, slow_end}
-use Rattle.toxic_defs.specs.Toxics.{RatedKind, IsInRange, applies, after, effect, run, chain_from, chain}
-use Rattle.toxic_defs.specs.ToxicLaws.{ToxicsKeepLines, ChainsKeepLines, AreInRange, NoneApplies, IdleChainsChangeNothing, AreFrom, Delays, ToxicsDelay, ChainsDelay}
-use Rattle.toxic_defs.specs.declared.keys.Key.{Key}
+use Rattle.toxic_defs.specs.EndRule.{not_before, ended, is_before}
+use Rattle.toxic_defs.specs.LimitData.{limited_end}
+use Rattle.toxic_defs.specs.SlowClose.{slow_end}
+use Rattle.toxic_defs.specs.Toxics.{RatedKind, IsInRange, applies, after, effect, run, chain_from, chain, AreInRange}
+use Rattle.toxic_defs.specs.Laws.{ToxicsKeepLines, ChainsKeepLines, NoneApplies, IdleChainsChangeNothing, AreFrom, Delays, ToxicsDelay, ChainsDelay}
+use Rattle.toxic_defs.specs.declared.words.Key.{Key}
 use Rattle.toxic_defs.specs.declared.kinds.Kind.{Kind}
 use Rattle.toxic_defs.specs.declared.kinds.Kind.TheVariants.{Latency, Bandwidth, SlowClose, Timeout, ResetPeer, Slicer, LimitData}
 use Rattle.toxic_defs.proofs.DelayedFronts.{in_turn, from_recorded, instant_from}

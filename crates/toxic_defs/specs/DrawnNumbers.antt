@@ -1,14 +1,9 @@
--- Numbers that are drawn for the chunks and slices of a line, and the sizes that they make.
-use Rattle.std.specs.Prelude.{◌≡◌, ◌<◌, ◌≤◌, ℕ, ◌+◌, ◌*◌, ◌%◌, Option, Some, None}
+-- Numbers that are drawn for the chunks and slices of a line.
+use Rattle.std.specs.Prelude.{◌≡◌, ℕ, ◌+◌, ◌*◌, ◌%◌, Option, Some, None}
 use Rattle.toxic_defs.specs.RandomWords.{word_of, StandsAt}
-use Rattle.toxic_defs.specs.declared.keys.Key.{Key}
+use Rattle.toxic_defs.specs.declared.words.Key.{Key}
 use Rattle.toxic_defs.specs.declared.words.Draws.{Draws}
-use Rattle.toxic_defs.specs.declared.spreads.Spread.{Spread}
-use Rattle.toxic_defs.specs.declared.sizes.Sizes.{Sizes}
-
--- the greatest spread
-abbrev pub widest : ℕ
-widest = 1000000000
+use Rattle.toxic_defs.specs.declared.drawn_numbers.Spread.{Spread}
 
 -- a number from 0 to twice the spread, by word k
 abbrev pub drawn : Key → ℕ → ℕ → ℕ
@@ -22,18 +17,3 @@ StandsNext (Some draws) key spread k = StandsAt draws key k
 pub record GivesNext (s : Spread) (key : Key) (spread k : ℕ) : Type 0 where
   pub same : s.spread ≡ spread
   pub stands : StandsNext s.draws key spread k
-
--- ---- sizes
-
--- the next size is that of slice k
-pub record GivesSizes (s : Sizes) (size : ℕ → ℕ) (k : ℕ) : Type 0 where
-  pub key : Key
-  pub spread : ℕ
-  pub next : GivesNext s.numbers key spread (1 + k)
-  pub sizes : (j : ℕ) → size j ≡ s.least + drawn key spread (1 + j)
-
--- no size is 0, and none too large to be counted
-pub record AreSized (s : Sizes) : Type 0 where
-  pub some : 0 < s.least
-  pub small : s.least ≤ widest
-  pub spread : s.numbers.spread ≤ widest

@@ -1,7 +1,14 @@
 -- The rule of ends: an end that has an instant is not before the last byte.
-use Rattle.std.specs.Prelude.{ℕ, max}
+use Rattle.std.specs.Prelude.{ℕ, max, Bool, false, nat_lt}
 use Rattle.reassembly.specs.RecordedLines.{Line, End, live, fin, close, reset}
 use Rattle.reassembly.specs.LineLaws.{last_instant}
+
+-- whether an end comes before an instant
+abbrev pub is_before : ℕ → End → Bool
+is_before at live = false
+is_before at (fin m) = nat_lt m at
+is_before at (close m) = nat_lt m at
+is_before at (reset m) = nat_lt m at
 
 -- an end before an instant moves to it
 abbrev pub not_before : ℕ → End → End

@@ -1,7 +1,7 @@
 -- Random words: the outputs of a generator (PCG XSH RR, of 64 bits of state) that is made from a key.
 use Rattle.std.specs.Prelude.{◌≡◌, ℕ, zero, suc, ◌+◌, ◌*◌, ◌/◌, ◌%◌, ◌^◌, bit_xor}
 use Rattle.std.specs.Int.{w32, rotate_right}
-use Rattle.toxic_defs.specs.declared.keys.Key.{Key}
+use Rattle.toxic_defs.specs.declared.words.Key.{Key}
 use Rattle.toxic_defs.specs.declared.words.Draws.{Draws}
 
 -- ---- the generator
@@ -9,7 +9,7 @@ use Rattle.toxic_defs.specs.declared.words.Draws.{Draws}
 abbrev pub multiplier : ℕ
 multiplier = 6364136223846793005
 
--- each step multiplies the state and adds the increment, on 64 bits; the first state is one step behind the seed
+-- each step multiplies the state and adds the increment, on 64 bits; the first state is one step after the seed
 unfoldable pub state : ℕ → ℕ → ℕ → ℕ
 state seed increment zero = ((seed + increment) * multiplier + increment) % 2 ^ 64
 state seed increment (suc k) = (state seed increment k * multiplier + increment) % 2 ^ 64

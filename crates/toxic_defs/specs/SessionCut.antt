@@ -1,11 +1,14 @@
 -- The session cut: the first close or reset of either direction ends both, and nothing is delivered at the horizon.
-use Rattle.std.specs.Prelude.{ℕ, filter, Option, Some, None, Bool, true, nat_lt, nat_le, if◌then◌else◌}
+use Rattle.std.specs.Prelude.{ℕ, ◌+◌, min, filter, Option, Some, None, Bool, true, nat_lt, nat_le, if◌then◌else◌}
 use Rattle.pcap_records.specs.Instants.{horizon}
 use Rattle.reassembly.specs.RecordedLines.{Line, End, live, fin, close, reset}
+use Rattle.reassembly.specs.LineView.{end_view}
+use Rattle.toxic_defs.specs.EndRule.{is_before}
+use Rattle.toxic_defs.specs.declared.session_cut.Closing.{Closing}
 
 -- ---- ends
 
--- a close or a reset, and its instant
+-- the closing that an end is: a close or a reset, and its instant
 abbrev pub closing_end : End → Option (ℕ × End)
 closing_end live = None
 closing_end (fin at) = None
@@ -35,19 +38,24 @@ line_up_to (Some c) f = record {
   end = if is_after c.0 f.end then c.1 else f.end;
 }
 
--- bytes at the horizon are lost, and an end there never comes
+-- bytes at the limit are lost, and an end there never comes
 abbrev pub line_before : ℕ → Line → Line
 line_before limit f = record {
   bytes = filter (λ b. nat_lt b.at limit) f.bytes;
-  end = end_before limit f.end;
+  end = if is_before limit f.end then f.end else live;
 }
-  where
-    end_before : ℕ → End → End
-    end_before limit live = live
-    end_before limit (fin at) = if nat_lt at limit then fin at else live
-    end_before limit (close at) = if nat_lt at limit then close at else live
-    end_before limit (reset at) = if nat_lt at limit then reset at else live
 
 -- one direction, cut where either ends; where both close at one instant, neither end changes
 unfoldable pub cut_line : ℕ → Line → Line → Line → Line
 cut_line ticks up down f = line_before (horizon ticks) (line_up_to (first_closing (closing_end up.end) (closing_end down.end)) f)
+
+-- ---- what contracts see
+
+-- a closing: a close or a reset, and its instant
+abbrev pub closing_view : Closing → ℕ × End
+closing_view c = (c.at, end_view c.end)
+
+-- the first instant whose bytes are lost: the one after the closing, or the limit
+abbrev pub cut_limit : ℕ → Option (ℕ × End) → ℕ
+cut_limit limit None = limit
+cut_limit limit (Some c) = min (c.0 + 1) limit

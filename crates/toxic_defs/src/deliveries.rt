@@ -3,11 +3,12 @@ ghost use Rattle.std.specs.Prelude.{◌≡◌, ◌≤◌, IfOk, IfSome, length, 
 ghost use Rattle.pcap_records.specs.Instants.{microseconds};
 ghost use Rattle.reassembly.specs.LineLaws.{IsLine};
 ghost use Rattle.reassembly.specs.RecordedView.{recorded_view};
+ghost use Rattle.toxic_defs.specs.Limits.{most_toxics};
 ghost use Rattle.toxic_defs.specs.DeliveredLines.{delivered_view, met_view, delivered_connection, connection_by_cut, connection_through, refused_connection};
 
-use crate::chaining::chain;
-use crate::cutting::cut_both;
 use crate::laws::cut_lines_are_lines;
+use crate::running::chain;
+use crate::session_cut::cut_both;
 use crate::toxic::Toxic;
 use reassembly::{End, Line, Recorded};
 use std::alloc::{AllocError, Global};
@@ -38,10 +39,10 @@ pub struct MetProxy<'p> {
     pub down: &'p [Toxic],
 }
 
-/// What is delivered of a connection by the proxy that it meets: each recorded line through the toxics of its direction, and then both
-/// under the session cut; the recorded lines, cut, where none is met. A disabled proxy refuses the connection, and both lines are
-/// empty. Random words are drawn by the seed and the numbers `s` of the scenario and `c` of the connection. The parts' bytes are slices of
-/// those that were recorded.
+/// What is delivered of a connection by the proxy that it meets: each recorded line through the toxics of its direction,
+/// and then both under the session cut; the recorded lines, cut, where none is met. A disabled proxy refuses the
+/// connection, and both lines are empty. Random words are drawn by the seed and the numbers `s` of the scenario and `c` of
+/// the connection. The parts' bytes are slices of those that were recorded.
 ///
 /// # Errors
 /// A growth was refused.
@@ -56,9 +57,10 @@ pub fn delivered_by<'a>(
 ) -> Result<Delivered<'a>, AllocError>
     requires up { IsLine recorded.now.up.line }
     requires down { IsLine recorded.now.down.line }
-    requires few_up { IfSome met (λ m. length m.up.now ≤ 8) }
-    requires few_down { IfSome met (λ m. length m.down.now ≤ 8) }
-    ensures value { IfOk result (λ d. delivered_view d ≡ delivered_connection microseconds seed s c (option_map met_view met.entry) (recorded_view recorded.now)) }
+    requires few_up { IfSome met (λ m. length m.up.now ≤ most_toxics) }
+    requires few_down { IfSome met (λ m. length m.down.now ≤ most_toxics) }
+    ensures value { IfOk result (λ d. delivered_view d
+        ≡ delivered_connection microseconds seed s c (option_map met_view met.entry) (recorded_view recorded.now)) }
     ensures up { IfOk result (λ d. IsLine d.up.line) }
     ensures down { IfOk result (λ d. IsLine d.down.line) }
 {
@@ -98,9 +100,10 @@ fn lines_through<'a>(
 ) -> Result<Delivered<'a>, AllocError>
     requires up { IsLine recorded.now.up.line }
     requires down { IsLine recorded.now.down.line }
-    requires few_up { length met.now.up.now ≤ 8 }
-    requires few_down { length met.now.down.now ≤ 8 }
-    ensures value { IfOk result (λ d. delivered_view d ≡ connection_through microseconds seed s c (met_view met.now) (recorded_view recorded.now)) }
+    requires few_up { length met.now.up.now ≤ most_toxics }
+    requires few_down { length met.now.down.now ≤ most_toxics }
+    ensures value { IfOk result (λ d. delivered_view d
+        ≡ connection_through microseconds seed s c (met_view met.now) (recorded_view recorded.now)) }
     ensures up { IfOk result (λ d. IsLine d.up.line) }
     ensures down { IfOk result (λ d. IsLine d.down.line) }
 {

@@ -2,6 +2,8 @@
 ghost use Rattle.std.specs.Prelude.{◌≡◌};
 ghost use Rattle.toxic_defs.specs.Toxics.{fits};
 
+use crate::limits::{GREATEST_ATTRIBUTE, GREATEST_LIMIT, GREATEST_RATE};
+
 /// What a toxic does, and its attributes: numbers of any size, of which [`fits`](Kind::fits) tells whether they are in range.
 #[derive(Clone, Copy, Debug, PartialEq, Eq)]
 pub enum Kind {
@@ -39,15 +41,6 @@ pub enum Kind {
     },
 }
 
-/// The greatest latency, jitter, delay and timeout, and the greatest size of a slice.
-const GREATEST: u64 = 1_000_000_000;
-
-/// The greatest rate, in KB a second.
-const GREATEST_RATE: u64 = 1_000_000;
-
-/// The greatest limit of bytes.
-const GREATEST_LIMIT: u64 = 1_000_000_000_000;
-
 impl Kind {
     /// Whether each attribute is in its range: `rate` 1 to 10^6, `average_size` 1 to 10^9 and `size_variation` below it,
     /// `bytes` 0 to 10^12, and all others 0 to 10^9.
@@ -55,15 +48,19 @@ impl Kind {
         ensures { result ≡ fits self.now }
     {
         match *self {
-            Kind::Latency { latency, jitter } => latency <= GREATEST && jitter <= GREATEST,
+            Kind::Latency { latency, jitter } => latency <= GREATEST_ATTRIBUTE
+                && jitter <= GREATEST_ATTRIBUTE,
             Kind::Bandwidth { rate } => 0 < rate && rate <= GREATEST_RATE,
-            Kind::SlowClose { delay } => delay <= GREATEST,
-            Kind::Timeout { timeout } | Kind::ResetPeer { timeout } => timeout <= GREATEST,
+            Kind::SlowClose { delay } => delay <= GREATEST_ATTRIBUTE,
+            Kind::Timeout { timeout } | Kind::ResetPeer { timeout } => timeout
+                <= GREATEST_ATTRIBUTE,
             Kind::Slicer {
                 average_size,
                 size_variation,
                 delay,
-            } => size_variation < average_size && average_size <= GREATEST && delay <= GREATEST,
+            } => size_variation < average_size
+                && average_size <= GREATEST_ATTRIBUTE
+                && delay <= GREATEST_ATTRIBUTE,
             Kind::LimitData { bytes } => bytes <= GREATEST_LIMIT,
         }
     }

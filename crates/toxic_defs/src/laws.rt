@@ -1,7 +1,6 @@
 //! Theorems about toxics and the session cut. Each function does nothing: its contract is the theorem.
-ghost use Rattle.toxic_defs.specs.CutLaws.{CutLinesAreLines, FirstBytesStay, CutLinesEndInTime, CutEndsAreNotEarly};
-ghost use Rattle.toxic_defs.specs.DeliveredLaws.{DeliveredIsRecorded};
-ghost use Rattle.toxic_defs.specs.ToxicLaws.{ToxicsKeepLines, ChainsKeepLines, IdleChainsChangeNothing, RecordedLinesDelay, ToxicsDelay, ChainsDelay, CutLinesDelay, DelayedBytesAreTheFirst};
+ghost use Rattle.toxic_defs.specs.Laws.{CutLinesAreLines, FirstBytesStay, CutLinesEndInTime, CutEndsAreNotEarly, ToxicsKeepLines, ChainsKeepLines, IdleChainsChangeNothing};
+ghost use Rattle.toxic_defs.specs.Laws.{RecordedLinesDelay, ToxicsDelay, ChainsDelay, CutLinesDelay, DelayedBytesAreTheFirst, DeliveredIsRecorded};
 
 /// What the session cut leaves of a line is a line: a chunk starts with the first byte, instants never fall, the bytes of a chunk
 /// have one instant, an end is not before the last byte, and there are fewer than 2^32 bytes.
@@ -59,9 +58,9 @@ pub fn delayed_bytes_are_the_first()
     ensures { DelayedBytesAreTheFirst }
 {}
 
-/// What is delivered of a connection, in either direction and whatever proxy it meets: the first bytes that were recorded, none
-/// before it was recorded, and no end before the opening. The recorded lines are as those of captures are: no byte is before the opening
-/// or past the horizon.
+/// What is delivered of a connection, in either direction and whatever proxy it meets: the first bytes that were recorded,
+/// none before it was recorded, and no end before the opening. The recorded lines are as those of captures are: no byte is
+/// before the opening or past the horizon.
 pub fn delivered_is_recorded()
     ensures { DeliveredIsRecorded }
 {}

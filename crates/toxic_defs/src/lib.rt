@@ -1,34 +1,29 @@
 //! What a scenario makes of recorded lines.
 #![tactic(auto)]
 
-mod chaining;
-mod charging;
-mod closings;
-mod cutting;
-mod delay_rows;
-mod delaying;
+mod bandwidth;
 mod deliveries;
-mod ending;
-mod finishing;
-mod keys;
+mod drawn_numbers;
+mod end_rule;
 mod kinds;
+mod latency;
 pub mod laws;
-mod limiting;
-mod pacing;
+mod limit_data;
+mod limits;
+mod reset_peer;
 mod rows;
 mod running;
-mod sizes;
-mod slicing;
-mod spreads;
+mod session_cut;
+mod slicer;
+mod slices;
+mod slow_close;
+mod timeout;
 mod toxic;
-mod toxic_rows;
 mod words;
 
-pub use chaining::chain;
-pub use cutting::cut_both;
 pub use deliveries::{Delivered, MetProxy, delivered_by};
-pub use keys::Key;
 pub use kinds::Kind;
-pub use running::{applies, run};
-pub use toxic::Toxic;
-pub use words::word;
+pub use running::{chain, run};
+pub use session_cut::cut_both;
+pub use toxic::{Toxic, applies};
+pub use words::{Key, word};

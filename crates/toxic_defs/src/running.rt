@@ -1,32 +1,53 @@
-//! One toxic on one line.
-ghost use Rattle.std.specs.Prelude.{◌≡◌, IfOk, IsTrue};
+//! Toxics on a line: one, and those of a direction in turn.
+ghost use Rattle.std.specs.Prelude.{◌≡◌, ◌≤◌, length, IfOk, IsTrue};
 ghost use Rattle.pcap_records.specs.Instants.{microseconds};
 ghost use Rattle.reassembly.specs.LineLaws.{IsLine};
-ghost use Rattle.toxic_defs.specs.Toxics.{applies, effect, run, fits, IsInRange};
+ghost use Rattle.toxic_defs.specs.Toxics.{applies, effect, run, chain, fits, IsInRange, AreInRange};
+ghost use Rattle.toxic_defs.specs.Limits.{most_toxics};
 ghost use Rattle.toxic_defs.specs.RandomWords.{word_of};
 ghost use Rattle.toxic_defs.specs.EndRule.{ended};
 
-use crate::charging::run_bandwidth;
-use crate::delaying::run_latency;
-use crate::ending::{run_reset_peer, run_slow_close, run_timeout};
-use crate::keys::Key;
+use crate::bandwidth::run_bandwidth;
 use crate::kinds::Kind;
-use crate::limiting::run_limit_data;
-use crate::pacing::run_slicer;
-use crate::toxic::Toxic;
-use crate::words::word;
+use crate::latency::run_latency;
+use crate::limit_data::run_limit_data;
+use crate::reset_peer::run_reset_peer;
+use crate::slicer::run_slicer;
+use crate::slow_close::run_slow_close;
+use crate::timeout::run_timeout;
+use crate::toxic::{Toxic, applies};
+use crate::words::Key;
 use pcap_records::Moment;
 use reassembly::Line;
 use std::alloc::{AllocError, Global};
 
-/// The microseconds of a millisecond.
-const MILLISECOND: u64 = 1000;
-
-/// Whether a toxic applies to a connection: where word 0 of its key, of a million, is below its `ppm`.
-pub fn applies(toxic: &Toxic, key: Key) -> bool
-    ensures { result ≡ applies toxic.now key }
+/// What the toxics of a direction make of a line of a connection that was opened at an instant, each of the line that the one
+/// before gave. Toxic `t` draws the words of the key with that number.
+///
+/// # Errors
+/// A growth was refused.
+pub fn chain<'a>(
+    alloc: Global,
+    toxics: &[Toxic],
+    line: Line<'a>,
+    opened: Moment,
+    seed: u64,
+    s: u32,
+    c: u32,
+    d: u8,
+) -> Result<Line<'a>, AllocError>
+    requires few { length toxics.now ≤ most_toxics }
+    requires line { IsLine line.line }
+    ensures line { IfOk result (λ l. l.line ≡ chain microseconds toxics.now opened seed s c d line.entry.line) }
+    ensures is_line { IfOk result (λ l. IsLine l.line) }
+    ensures ranges { IfOk result (λ l. AreInRange toxics.now) }
 {
-    u64::from(word(key, 0) % 1_000_000) < toxic.ppm()
+    let mut line = line;
+    for (t, toxic) in toxics.iter().enumerate() {
+        let t = t as u8;
+        line = run(alloc, toxic, line, opened, Key { seed, s, c, d, t })?;
+    }
+    Ok(line)
 }
 
 /// What a toxic makes of a line of a connection that was opened at an instant. One that does not apply leaves it as it is.
@@ -68,12 +89,12 @@ fn effect<'a>(
     match kind {
         Kind::Latency { latency, jitter } => Ok(run_latency(line, key, latency, jitter)),
         Kind::Bandwidth { rate } => run_bandwidth(alloc, line, rate),
-        Kind::SlowClose { delay } => Ok(run_slow_close(line, MILLISECOND * delay)),
+        Kind::SlowClose { delay } => Ok(run_slow_close(line, Moment::MILLISECOND * delay)),
         Kind::Timeout { timeout } => {
-            Ok(run_timeout(line, timeout, opened.later(MILLISECOND * timeout)))
+            Ok(run_timeout(line, timeout, opened.later(Moment::MILLISECOND * timeout)))
         }
         Kind::ResetPeer { timeout } => {
-            Ok(run_reset_peer(line, opened.later(MILLISECOND * timeout)))
+            Ok(run_reset_peer(line, opened.later(Moment::MILLISECOND * timeout)))
         }
         Kind::Slicer {
             average_size,

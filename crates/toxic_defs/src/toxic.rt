@@ -1,12 +1,11 @@
-//! Toxics: a kind and how often it applies.
+//! Toxics: a kind and how often it applies, and whether it applies to a connection.
 ghost use Rattle.std.specs.Prelude.{◌≡◌, nat_le, ◌&&◌, if◌then◌else◌, Some, None};
-ghost use Rattle.toxic_defs.specs.Toxics.{fits, made_toxic, IsInRange};
+ghost use Rattle.toxic_defs.specs.Toxics.{fits, made_toxic, applies, IsInRange};
 
 use crate::kinds::Kind;
+use crate::limits::MILLION;
+use crate::words::{Key, word};
 use std::marker::Model;
-
-/// The greatest `ppm`: of each million connections it applies to all.
-const MILLION: u64 = 1_000_000;
 
 /// A toxic whose attributes are in range, and how many of a million connections it applies to.
 #[derive(Clone, Copy, Debug, PartialEq, Eq)]
@@ -53,4 +52,11 @@ impl Toxic {
     {
         self.ppm
     }
+}
+
+/// Whether a toxic applies to a connection: where word 0 of its key, of a million, is below its `ppm`.
+pub fn applies(toxic: &Toxic, key: Key) -> bool
+    ensures { result ≡ applies toxic.now key }
+{
+    u64::from(word(key, 0)) % MILLION < toxic.ppm()
 }

@@ -1,11 +1,25 @@
 //! Random words by a key.
 ghost use Rattle.std.specs.Prelude.{◌≡◌, ◌<◌, ℕ, ◌+◌, ◌^◌};
 ghost use Rattle.toxic_defs.specs.RandomWords.{word_of, state, increment_of_key, stream_of, StandsAt};
-ghost use Rattle.toxic_defs.specs.declared.keys.Key.{Key as KeyOf};
+ghost use Rattle.toxic_defs.specs.declared.words.Key.{Key as KeyOf};
 
-use crate::keys::Key;
 use rand_core::utils::NextWord;
 use rand_pcg::Lcg64Xsh32;
+
+/// What the random words of a toxic are drawn by.
+#[derive(Clone, Copy, Debug, PartialEq, Eq)]
+pub struct Key {
+    /// The seed of the run.
+    pub seed: u64,
+    /// The number of the scenario.
+    pub s: u32,
+    /// The number of the connection.
+    pub c: u32,
+    /// The direction: 0 up, 1 down.
+    pub d: u8,
+    /// The number of the toxic in its direction.
+    pub t: u8,
+}
 
 /// Word `k` of a key, counted from 0: the same whatever else is drawn, and in whatever order.
 pub fn word(key: Key, k: u32) -> u32

@@ -10,14 +10,14 @@ use Rattle.conn_table.specs.SeenCapture.{SeenCapture}
 use Rattle.scenarios.specs.Refusals.{after}
 use Rattle.scenarios.specs.declared.hosts.KnownHost.{KnownHost}
 use Rattle.scenarios.specs.declared.proxies.Proxy.{Proxy}
-use Rattle.toxicap.specs.declared.outputs.Output.{Output}
-use Rattle.toxicap.specs.declared.faults.RunFault.{RunFault}
-use Rattle.toxicap.specs.declared.faults.RunFault.TheVariants.{BadHost, CaptureTooLong, TooManyScenarios, Memory, BadDump, ReadFailed, ShelfFailed, WriteFailed}
+use Rattle.run_files.specs.declared.outputs.Output.{Output}
+use Rattle.run_files.specs.declared.error.RunFault.{RunFault}
+use Rattle.run_files.specs.declared.error.RunFault.TheVariants.{BadHost, CaptureTooLong, TooManyScenarios, Memory, BadDump, ReadFailed, ShelfFailed, WriteFailed}
 use Rattle.toxicap.specs.Answering.{capture_bytes_of, answer_under, called_for, scenarios_from, IsOfText, AnswersBy}
-use Rattle.toxicap.specs.Dumps.{is_dump, is_foreign, dumped_bytes, dump_reading, dump_reading_from}
-use Rattle.toxicap.specs.Loading.{StopsLoading}
+use Rattle.run_files.specs.Dumps.{is_dump, is_foreign, dumped_bytes, dump_reading, dump_reading_from}
+use Rattle.run_files.specs.Streams.{StopsLoading}
 use Rattle.toxicap.specs.Rehearsal.{answer, answer_to, scenario_limit, seen_file}
-use Rattle.toxicap.specs.RunFault.{run_fault, run_refusal}
+use Rattle.run_files.specs.RunFault.{run_fault, run_refusal}
 
 -- ---- what a text calls for is no fault of a reader or a writer
 

@@ -13,7 +13,7 @@ use Rattle.segment_writer.specs.WrittenSegments.{pieces, segments_sent_from, fra
 use Rattle.time_merge.specs.MergedCapture.{capture_of}
 use Rattle.report.specs.ReportText.{connection_text}
 use Rattle.toxicap.specs.WrittenRows.{SessionWritten, RefusedWritten, RefusedPart}
-use Rattle.conn_workers.specs.ConnectionParts.{part}
+use Rattle.conn_workers.specs.Contributions.{contribution}
 use Rattle.toxicap.specs.GroupingRows.{RepeatedGrouped, InTurnGrouped, UnopenedFirstGrouped, BothSidesGrouped, LateAnswersGrouped}
 
 pub session_written : SessionWritten
@@ -45,5 +45,5 @@ unfolding beginnings connections unopened_count server_base
 late_answers_grouped = (refl, refl, refl)
 
 pub refused_part : RefusedPart
-unfolding part recorded_side server_base delivered_connection connection_text digits pieces segments_sent_from sorted_by_key written_segments
+unfolding contribution recorded_side server_base delivered_connection connection_text digits pieces segments_sent_from sorted_by_key written_segments
 refused_part = (refl, refl)

@@ -20,12 +20,12 @@ use Rattle.time_merge.specs.MergedCapture.{all_segments, capture_of}
 use Rattle.report.specs.ReportText.{report_text}
 use Rattle.scenarios.specs.declared.proxies.Proxy.{Proxy}
 use Rattle.conn_workers.specs.MetProxies.{met_proxy}
-use Rattle.conn_workers.specs.ConnectionParts.{Part, part, part_of}
+use Rattle.conn_workers.specs.Contributions.{Contribution, contribution, contribution_of}
 use Rattle.conn_workers.specs.DeliveryRows.{connections_of, delivery_of, rows}
 use Rattle.conn_workers.specs.declared.deliveries.Delivery.{Delivery}
-use Rattle.toxicap.specs.declared.outputs.Output.{Output}
+use Rattle.run_files.specs.declared.outputs.Output.{Output}
 use Rattle.toxicap.specs.GatheredOutputs.{segments_in, lines_in, gathered_output}
-use Rattle.toxicap.specs.Rehearsal.{parts, output}
+use Rattle.toxicap.specs.Rehearsal.{contributions, output}
 use Rattle.toxicap.proofs.RowSteps.{row_taken, own_number}
 
 module _ (ticks seed : ℕ) (s : ℕ × List Proxy) where
@@ -35,7 +35,7 @@ module _ (ticks seed : ℕ) (s : ℕ × List Proxy) where
       (delivered_connection ticks seed s.0 c.number (met_proxy (server_of c) s.1) (recorded_connection c))
 
   row_segments : (cs : List Connection) → segments_in (map (delivery_of ticks seed s) cs) ≡ map (written_segments ticks) (map written cs)
-  unfolding part written
+  unfolding contribution written
   row_segments [] = refl
   row_segments (c ∷ cs) = ap (λ rest. written_segments ticks (written c) ∷ rest) (row_segments cs)
 
@@ -65,15 +65,15 @@ module _ (ticks seed : ℕ) (s : ℕ × List Proxy) where
       ap all_segments (row_segments (connections_of c)) ∙ flat_map-map (λ (list : List Framed). list) (written_segments ticks) ws in
       subst (λ (xs : List Framed). HasNoKeyTwice xs) (sym same) (once ticks 0 ws (all_numbered c))
 
-  -- ---- the row against the parts
+  -- ---- the row against the contributions
 
-  parts_segments : (cs : List Connection) → all_segments (segments_in (map (delivery_of ticks seed s) cs)) ≡ flat_map (λ (p : Part). p.segments) (map (part_of ticks seed s) cs)
+  parts_segments : (cs : List Connection) → all_segments (segments_in (map (delivery_of ticks seed s) cs)) ≡ flat_map (λ (p : Contribution). p.segments) (map (contribution_of ticks seed s) cs)
   parts_segments [] = refl
-  parts_segments (c ∷ cs) = ap (λ rest. (part_of ticks seed s c).segments ++ rest) (parts_segments cs)
+  parts_segments (c ∷ cs) = ap (λ rest. (contribution_of ticks seed s c).segments ++ rest) (parts_segments cs)
 
-  parts_lines : (cs : List Connection) → lines_in (map (delivery_of ticks seed s) cs) ≡ map (λ (p : Part). p.line) (map (part_of ticks seed s) cs)
+  parts_lines : (cs : List Connection) → lines_in (map (delivery_of ticks seed s) cs) ≡ map (λ (p : Contribution). p.line) (map (contribution_of ticks seed s) cs)
   parts_lines [] = refl
-  parts_lines (c ∷ cs) = ap (λ rest. (part_of ticks seed s c).line ∷ rest) (parts_lines cs)
+  parts_lines (c ∷ cs) = ap (λ rest. (contribution_of ticks seed s c).line ∷ rest) (parts_lines cs)
 
 -- ---- the next row
 
@@ -100,11 +100,11 @@ pub gathered_is : (c : SeenCapture) → c.ticks ≡ microseconds → (seed : ℕ
 unfolding output
 gathered_is c counted seed s number unopened own count =
     let cs : List Connection = connections_of c in
-    let captures : capture_of microseconds (all_segments (segments_in (map (delivery_of microseconds seed s) cs))) ≡ capture_of c.ticks (flat_map (λ (p : Part). p.segments) (parts c seed s)) =
+    let captures : capture_of microseconds (all_segments (segments_in (map (delivery_of microseconds seed s) cs))) ≡ capture_of c.ticks (flat_map (λ (p : Contribution). p.segments) (contributions c seed s)) =
     ap (capture_of microseconds) (parts_segments microseconds seed s cs)
-    ∙ ap (λ (t : ℕ). capture_of t (flat_map (λ (p : Part). p.segments) (map (part_of t seed s) cs))) (sym counted) in
-    let reports : report_text number c unopened (lines_in (map (delivery_of microseconds seed s) cs)) ≡ report_text s.0 c (unopened_count (indexed_segments 0 c.packets)) (map (λ (p : Part). p.line) (parts c seed s)) =
+    ∙ ap (λ (t : ℕ). capture_of t (flat_map (λ (p : Contribution). p.segments) (map (contribution_of t seed s) cs))) (sym counted) in
+    let reports : report_text number c unopened (lines_in (map (delivery_of microseconds seed s) cs)) ≡ report_text s.0 c (unopened_count (indexed_segments 0 c.packets)) (map (λ (p : Contribution). p.line) (contributions c seed s)) =
     ap₂ (λ n u. report_text n c u (lines_in (map (delivery_of microseconds seed s) cs))) own count
     ∙ ap (report_text s.0 c (unopened_count (indexed_segments 0 c.packets))) (parts_lines microseconds seed s cs
-    ∙ ap (λ (t : ℕ). map (λ (p : Part). p.line) (map (part_of t seed s) cs)) (sym counted)) in
+    ∙ ap (λ (t : ℕ). map (λ (p : Contribution). p.line) (map (contribution_of t seed s) cs)) (sym counted)) in
     ap₂ (λ (a b : List ℕ). let o : Output = record { capture = a; report = b } in o) captures reports

@@ -1,11 +1,7 @@
 mod WrittenFrames
 mod SoundConnections
 mod OutputsRead
-mod DumpTable
-mod DumpLemmas
 mod Evaluated
-mod PrintedPart
-mod StoredFiles
 mod AnswerSteps
 mod RunSteps
 mod FirstPlaces

@@ -3,13 +3,13 @@ use Rattle.std.proofs.Common.{◌≡◌, ◌≤◌, ℕ, ◌+◌, Bool, true, fa
 use Rattle.std.specs.List.{AllByRecursion, enumerate_from, flat_map}
 use Rattle.std.proofs.lemmas.Bool.{ltb-false}
 use Rattle.pcap_records.specs.declared.fault.CaptureFault.TheVariants.{CaptureTooLong, ShortHeader, BadVersion, BadLink}
-use Rattle.pcap_records.specs.declared.order.Order.TheVariants.{Big, Little}
+use Rattle.pcap_records.specs.declared.heading.Order.TheVariants.{Big, Little}
 use Rattle.pcap_records.specs.Instants.{microseconds}
 use Rattle.pcap_records.specs.Reading.{Heading, Packet, Contents, Reading, capture_limit, microsecond_heading, number_in, magic, checked_heading, file_heading, reading}
 use Rattle.pcap_records.specs.Writing.{file_header, record_bytes, written_capture, IsWritable, WrittenIsRead}
 use Rattle.pcap_records.specs.Grammar.{ReadingsSplit}
 use Rattle.frame_headers.specs.HeaderLaws.{HeadersAreSound, SegmentsFit}
-use Rattle.toxicap.specs.declared.faults.RunFault.TheVariants.{TooManyScenarios}
+use Rattle.run_files.specs.declared.error.RunFault.TheVariants.{TooManyScenarios}
 use Rattle.segment_writer.specs.declared.framed.Framed.{Framed}
 use Rattle.scenarios.specs.declared.proxies.Proxy.{Proxy}
 use Rattle.conn_table.specs.IndexedSegments.{indexed_segments}
@@ -22,7 +22,7 @@ use Rattle.toxic_defs.specs.DeliveredLines.{DeliveredConnection, delivered_conne
 use Rattle.segment_writer.specs.WrittenConnections.{written_connection}
 use Rattle.segment_writer.specs.KeyLaws.{NoneLower, NeverFalls, SortedNeverFalls}
 use Rattle.conn_workers.specs.MetProxies.{met_proxy}
-use Rattle.conn_workers.specs.ConnectionParts.{part, part_of}
+use Rattle.conn_workers.specs.Contributions.{contribution, contribution_of}
 use Rattle.conn_table.specs.SeenCapture.{SeenCapture, seen_packets, seen_capture}
 use Rattle.toxicap.specs.Rehearsal.{output, outputs_of, scenario_limit, answer}
 use Rattle.toxicap.specs.SoundOutputs.{NeverFall, IsSoundFrame, IsReadWhole, OutputsAreRead}
@@ -90,8 +90,8 @@ talk_is c is d = record {
   server_base = server_base_fits c is;
 }
 
-parts_are : HeadersAreSound → (seed : ℕ) (scenario : ℕ × List Proxy) (cs : List Connection) → AllByRecursion IsSoundConnection cs → AllByRecursion IsWritten (flat_map (λ p. p.segments) (map (part_of microseconds seed scenario) cs))
-unfolding part
+parts_are : HeadersAreSound → (seed : ℕ) (scenario : ℕ × List Proxy) (cs : List Connection) → AllByRecursion IsSoundConnection cs → AllByRecursion IsWritten (flat_map (λ p. p.segments) (map (contribution_of microseconds seed scenario) cs))
+unfolding contribution
 parts_are sound_headers seed scenario [] all = tt
 parts_are sound_headers seed (number_in, scenario) (c ∷ cs) all = all-append IsWritten _ _ (segments_are sound_headers _ (talk_is c all.0 (delivered_connection microseconds seed number_in c.number (met_proxy (server_of c) scenario) (recorded_connection c)))) (parts_are sound_headers seed (number_in, scenario) cs all.1)
 

@@ -3,18 +3,19 @@ use Rattle.std.proofs.Common.{◌≡◌, ℕ, ◌<◌, ◌≤◌, List, [], leng
 use Rattle.std.specs.Borrow.{Bor}
 use Rattle.pcap_records.specs.Reading.{capture_limit}
 use Rattle.scenarios.specs.declared.hosts.KnownHost.{KnownHost}
-use Rattle.toxicap.specs.declared.outputs.Output.{Output}
-use Rattle.toxicap.specs.declared.faults.RunFault.{RunFault}
-use Rattle.toxicap.specs.declared.faults.RunFault.TheVariants.{BadHost, CaptureTooLong, Memory, ReadFailed, ShelfFailed, WriteFailed}
+use Rattle.run_files.specs.declared.outputs.Output.{Output}
+use Rattle.run_files.specs.declared.error.RunFault.{RunFault}
+use Rattle.run_files.specs.declared.error.RunFault.TheVariants.{BadHost, CaptureTooLong, Memory, ReadFailed, ShelfFailed, WriteFailed}
 use Rattle.toxicap.specs.Answering.{called_for, AnswersBy}
-use Rattle.toxicap.specs.Shelves.{StoredFile}
-use Rattle.toxicap.specs.Stores.{Stores, files_from, run_fault_of_storing}
-use Rattle.toxicap.specs.declared.storing.StoreFault.{StoreFault}
-use Rattle.toxicap.specs.declared.storing.StoreFault.TheVariants as store
+use Rattle.run_files.specs.Shelves.{StoredFile}
+use Rattle.run_files.specs.RunFault.{run_fault_of_storing}
+use Rattle.run_files.specs.WrittenOutputs.{Stores, files_from}
+use Rattle.run_files.specs.declared.error.StoreFault.{StoreFault}
+use Rattle.run_files.specs.declared.error.StoreFault.TheVariants as store
 use Rattle.toxicap.specs.Inputs.{TakesInputs}
 use Rattle.toxicap.specs.Commands.{Streams, AnswersInto, RunsBy}
 use Rattle.command_line.specs.declared.asked.Asked.{Asked}
-use Rattle.toxicap.specs.Prints.{reports_of}
+use Rattle.run_files.specs.WrittenOutputs.{reports_of}
 use Rattle.toxicap.specs.RunEnds.{PrintsBy, StoresBy, reports_called_for, failed_reads, failed_writes}
 
 -- there was no answer, so nothing was printed

@@ -5,8 +5,8 @@ use Rattle.std.specs.declared.option.Option.{Option}
 use Rattle.std.specs.Io.KnownBytes.{Appends}
 use Rattle.std.proofs.KnownBytes.{Appends-trans}
 use Rattle.std.proofs.lemmas.List.{take_at, take-append-le}
-use Rattle.toxicap.specs.declared.faults.RunFault.{RunFault}
-use Rattle.toxicap.specs.Runs.{text_with_line_feed, WrittenSoFar}
+use Rattle.run_files.specs.declared.error.RunFault.{RunFault}
+use Rattle.toxicap.specs.RunEnds.{text_with_line_feed, WrittenSoFar}
 
 -- a first part of the line, not all of it, was written
 pub line_stopped : (old new : Option (List ℕ)) (line : List ℕ) (before after : ℕ)

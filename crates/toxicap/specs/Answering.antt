@@ -3,13 +3,13 @@ use Rattle.std.specs.Prelude.{◌≡◌, ℕ, ◌≤◌, nat_lt, if◌then◌els
 use Rattle.pcap_records.specs.Reading.{capture_limit}
 use Rattle.scenarios.specs.Refusals.{after}
 use Rattle.scenarios.specs.Populate.{scenario}
-use Rattle.scenarios.specs.declared.causes.Refusal.{Refusal}
+use Rattle.scenarios.specs.declared.error.Refusal.{Refusal}
 use Rattle.scenarios.specs.declared.hosts.KnownHost.{KnownHost}
 use Rattle.scenarios.specs.declared.proxies.Proxy.{Proxy}
-use Rattle.toxicap.specs.declared.faults.RunFault.{RunFault}
-use Rattle.toxicap.specs.declared.faults.RunFault.TheVariants.{BadHost, BadScenario, CaptureTooLong, Memory, ReadFailed, ShelfFailed, WriteFailed}
-use Rattle.toxicap.specs.declared.outputs.Output.{Output}
-use Rattle.toxicap.specs.Dumps.{is_dump, dump_reading}
+use Rattle.run_files.specs.declared.error.RunFault.{RunFault}
+use Rattle.run_files.specs.declared.error.RunFault.TheVariants.{BadHost, BadScenario, CaptureTooLong, Memory, ReadFailed, ShelfFailed, WriteFailed}
+use Rattle.run_files.specs.declared.outputs.Output.{Output}
+use Rattle.run_files.specs.Dumps.{is_dump, dump_reading}
 use Rattle.toxicap.specs.Rehearsal.{answer}
 
 -- the bytes of a capture: those of the dump where the text is taken for one, and else the text

@@ -6,13 +6,13 @@ use Rattle.scenarios.specs.declared.hosts.KnownHost.{KnownHost}
 use Rattle.command_line.specs.declared.asked.Asked.{Asked}
 use Rattle.command_line.specs.declared.asked.Stop.{Stop}
 use Rattle.command_line.specs.declared.asked.Stop.TheVariants as stop
-use Rattle.toxicap.specs.declared.faults.RunFault.{RunFault}
-use Rattle.toxicap.specs.declared.faults.RunFault.TheVariants.{Memory, WriteFailed}
-use Rattle.toxicap.specs.declared.outputs.Output.{Output}
+use Rattle.run_files.specs.declared.error.RunFault.{RunFault}
+use Rattle.run_files.specs.declared.error.RunFault.TheVariants.{Memory, WriteFailed}
+use Rattle.run_files.specs.declared.outputs.Output.{Output}
 use Rattle.toxicap.specs.Answering.{called_for}
 use Rattle.toxicap.specs.Inputs.{RefusesInputs, TakesInputs}
 use Rattle.toxicap.specs.RunEnds.{PrintsBy, StoresBy, failed_reads, failed_writes, reports_called_for}
-use Rattle.toxicap.specs.Runs.{Tells, WrittenSoFar, status_of, usage_status}
+use Rattle.toxicap.specs.RunEnds.{Tells, WrittenSoFar, status_of, usage_status}
 
 -- What is said of standard input and output over a run: that input was not read, that a text was read of it while so many reads failed,
 -- that it is at its end;

@@ -6,7 +6,7 @@ use Rattle.segment_writer.specs.declared.framed.Framed.{Framed}
 use Rattle.time_merge.specs.MergedCapture.{all_segments, capture_of}
 use Rattle.report.specs.ReportText.{report_text}
 use Rattle.conn_workers.specs.declared.deliveries.Delivery.{Delivery}
-use Rattle.toxicap.specs.declared.outputs.Output.{Output}
+use Rattle.run_files.specs.declared.outputs.Output.{Output}
 
 -- the segments and the lines of a row of deliveries
 abbrev pub segments_in : List Delivery → List (List Framed)

@@ -1,11 +1,11 @@
 -- What a command line names: hosts, and scenario files.
 use Rattle.std.specs.Prelude.{◌≡◌, ℕ, ◌<◌, ◌==◌, List, [], ◌∷◌, ◌++◌, length, map, codes, Option, Some, None, option_map, option_and_then, if◌then◌else◌, Result, Ok, Err, IsOk}
-use Rattle.scenarios.specs.HostLists.{host_for}
+use Rattle.scenarios.specs.Hosts.{host_for}
 use Rattle.scenarios.specs.Refusals.{with}
 use Rattle.scenarios.specs.declared.hosts.KnownHost.{KnownHost}
 use Rattle.command_line.specs.declared.asked.Asked.{Asked}
-use Rattle.toxicap.specs.declared.faults.RunFault.{RunFault}
-use Rattle.toxicap.specs.declared.faults.RunFault.TheVariants.{BadHost, CaptureTooLong, Memory, ReadFailed}
+use Rattle.run_files.specs.declared.error.RunFault.{RunFault}
+use Rattle.run_files.specs.declared.error.RunFault.TheVariants.{BadHost, CaptureTooLong, Memory, ReadFailed}
 
 -- the text of a scenario without proxies
 abbrev pub bare_text : List ℕ

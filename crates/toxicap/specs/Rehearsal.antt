@@ -4,26 +4,26 @@ use Rattle.std.specs.Prelude.{◌≡◌, ℕ, List, length, map, nat_lt, if◌th
 use Rattle.std.specs.List.{enumerate_from, flat_map}
 use Rattle.pcap_records.specs.declared.fault.CaptureFault.{CaptureFault}
 use Rattle.pcap_records.specs.Reading.{Reading, reading}
-use Rattle.toxicap.specs.declared.faults.RunFault.{RunFault}
-use Rattle.toxicap.specs.declared.faults.RunFault.TheVariants.{TooManyScenarios}
-use Rattle.toxicap.specs.declared.outputs.Output.{Output}
-use Rattle.toxicap.specs.RunFault.{run_fault}
+use Rattle.run_files.specs.declared.error.RunFault.{RunFault}
+use Rattle.run_files.specs.declared.error.RunFault.TheVariants.{TooManyScenarios}
+use Rattle.run_files.specs.declared.outputs.Output.{Output}
+use Rattle.run_files.specs.RunFault.{run_fault}
 use Rattle.conn_table.specs.SeenCapture.{SeenCapture, seen_capture}
 use Rattle.conn_table.specs.IndexedSegments.{indexed_segments}
 use Rattle.conn_table.specs.Connections.{connections, unopened_count}
 use Rattle.scenarios.specs.declared.proxies.Proxy.{Proxy}
-use Rattle.conn_workers.specs.ConnectionParts.{Part, part_of}
+use Rattle.conn_workers.specs.Contributions.{Contribution, contribution_of}
 use Rattle.time_merge.specs.MergedCapture.{capture_of}
 use Rattle.report.specs.ReportText.{report_text}
 
--- A scenario is seen as its proxies in order. The parts of all connections, one after another
-abbrev pub parts : SeenCapture → ℕ → ℕ × List Proxy → List Part
-parts c seed scenario = map (part_of c.ticks seed scenario) (connections (indexed_segments 0 c.packets))
+-- A scenario is seen as its proxies in order. The contributions of all connections, one after another
+abbrev pub contributions : SeenCapture → ℕ → ℕ × List Proxy → List Contribution
+contributions c seed scenario = map (contribution_of c.ticks seed scenario) (connections (indexed_segments 0 c.packets))
 
 unfoldable pub output : SeenCapture → ℕ → ℕ × List Proxy → Output
 output c seed scenario = record {
-  capture = capture_of c.ticks (flat_map (λ p. p.segments) (parts c seed scenario));
-  report = report_text scenario.0 c (unopened_count (indexed_segments 0 c.packets)) (map (λ p. p.line) (parts c seed scenario));
+  capture = capture_of c.ticks (flat_map (λ p. p.segments) (contributions c seed scenario));
+  report = report_text scenario.0 c (unopened_count (indexed_segments 0 c.packets)) (map (λ p. p.line) (contributions c seed scenario));
 }
 
 -- an output for each scenario; the order of the bytes of the capture's fields is no part of what is seen

@@ -1,11 +1,11 @@
 -- What a rehearsal writes can be read: each output capture is a whole file of the format, its records in order of time.
 use Rattle.std.specs.Prelude.{◌≡◌, ◌<◌, ◌≤◌, ℕ, List, [], ◌∷◌, length, drop, slice_range, Ok}
 use Rattle.std.specs.List.{AllByRecursion}
-use Rattle.pcap_records.specs.declared.order.Order.TheVariants.{Little}
+use Rattle.pcap_records.specs.declared.heading.Order.TheVariants.{Little}
 use Rattle.pcap_records.specs.Reading.{Packet, Reading, capture_limit, reading}
 use Rattle.frame_headers.specs.Frame.{frame_class, segment, segment_fields, datagram}
 use Rattle.frame_headers.specs.Sum.{sum16, tcp_sum}
-use Rattle.toxicap.specs.declared.outputs.Output.{Output}
+use Rattle.run_files.specs.declared.outputs.Output.{Output}
 use Rattle.scenarios.specs.declared.proxies.Proxy.{Proxy}
 use Rattle.toxicap.specs.Rehearsal.{answer}
 

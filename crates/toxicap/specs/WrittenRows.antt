@@ -7,7 +7,7 @@ use Rattle.toxic_defs.specs.DeliveredLines.{delivered_connection, MetProxy}
 use Rattle.segment_writer.specs.WrittenConnections.{written_connection}
 use Rattle.segment_writer.specs.WrittenSegments.{WrittenConnection, written_segments}
 use Rattle.segment_writer.specs.declared.framed.Framed.{Framed}
-use Rattle.conn_workers.specs.ConnectionParts.{part}
+use Rattle.conn_workers.specs.Contributions.{contribution}
 use Rattle.time_merge.specs.MergedCapture.{capture_of}
 
 abbrev pub client : Peer
@@ -98,5 +98,5 @@ keys_of framed = map (λ x. (x.key.moment, x.key.conn, x.key.turn, x.key.place))
 -- a disabled proxy: two segments of the opening, and a line that says so
 abbrev pub RefusedPart : Type 0
 RefusedPart =
-    ((part 1000000 (session_connection 7) 3 42 disabled).line ≡ codes "7 10.0.0.1:40000 > 10.0.0.2:80 proxy 0 up 0/0/0 refused max 0 down 0/0/0 refused max 0\n")
-    × (keys_of (part 1000000 (session_connection 7) 3 42 disabled).segments ≡ (1000000, 7, 0, 0) ∷ (1000000, 7, 0, 1) ∷ [])
+    ((contribution 1000000 (session_connection 7) 3 42 disabled).line ≡ codes "7 10.0.0.1:40000 > 10.0.0.2:80 proxy 0 up 0/0/0 refused max 0 down 0/0/0 refused max 0\n")
+    × (keys_of (contribution 1000000 (session_connection 7) 3 42 disabled).segments ≡ (1000000, 7, 0, 0) ∷ (1000000, 7, 0, 1) ∷ [])

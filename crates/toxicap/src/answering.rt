@@ -1,26 +1,32 @@
 //! From the text of a capture and the texts of scenarios to what each scenario answers.
 ghost use Rattle.std.specs.Prelude.{◌≡◌, ℕ, ◌+◌, ◌-◌, ◌^◌, ◌<◌, ◌≤◌, [], List, length, map, IfErr};
 ghost use Rattle.std.specs.Io.KnownBytes.{Consumes, IsAtEnd};
-ghost use Rattle.pcap_records.specs.Agreement.{AgreesUnlessMemory};
+ghost use Rattle.pcap_records.specs.Agreement.{Agrees, AgreesUnlessMemory};
 ghost use Rattle.pcap_records.specs.Reading.{capture_limit};
 ghost use Rattle.scenarios.specs.Populate.{scenario};
-ghost use Rattle.toxicap.specs.Answering.{AnswersBy, IsOfText, answer_under, called_for, numbered, scenarios_from};
+ghost use Rattle.toxicap.specs.Answering.{AnswersBy, IsOfText, answer_under, called_for, capture_bytes_of, numbered, scenarios_from};
 ghost use Rattle.toxicap.specs.RunEnds.{failed_reads};
-ghost use Rattle.toxicap.specs.RunFault.{run_refusal};
+ghost use Rattle.run_files.specs.RunFault.{run_refusal};
 
-use crate::counted::Counted;
-use crate::dumps::capture_bytes;
-use crate::faults::RunFault;
-use crate::loading::load;
-use crate::options::Options;
-use crate::outputs::Outputs;
 use crate::rehearsal::rehearse;
-use job_matrix::Through;
+use job_matrix::{Plan, Through};
+use run_files::{Counted, Outputs, RunFault, is_dump, load, undump};
 use scenarios::{Hosts, Scenario, ScenarioFault, read_scenario};
 use std::alloc::Global;
 use std::io::Read;
 use std::sync::Wait;
 use std::thread::Threads;
+
+/// What a rehearsal is told beside its capture and its scenarios.
+#[derive(Debug, Drop)]
+pub struct Options {
+    /// The hosts that upstreams may name.
+    pub hosts: Hosts,
+    /// What random words are drawn from.
+    pub seed: u64,
+    /// How the work is spread: no answer depends on it.
+    pub plan: Plan,
+}
 
 /// Reads a capture to its end and rehearses it under scenarios that are still texts, each a JSON array of proxies in
 /// Toxiproxy's form. Where the capture's first byte is a hexadecimal digit, its bytes are a dump of it.
@@ -65,6 +71,20 @@ fn answer_to_text<H: Threads + Wait + Sync>(
 {
     let bytes = capture_bytes(alloc, text)?;
     answer_to_bytes(rt, alloc, &bytes, texts, options)
+}
+
+// The bytes of the capture that a text holds: those of the dump where the text is taken for one,
+// and else the text as it is, which is not copied.
+//
+// # Errors
+// Those of [`undump`].
+fn capture_bytes(alloc: Global, text: Vec<u8>) -> Result<Vec<u8>, RunFault>
+    ensures { Agrees run_refusal (λ bytes. bytes.items) result (capture_bytes_of text.items) }
+{
+    if is_dump(&text) {
+        return undump(alloc, &text);
+    }
+    Ok(text)
 }
 
 // The answer to a capture's bytes.

@@ -6,14 +6,11 @@ ghost use Rattle.command_line.specs.Asking.{ReadsAs};
 ghost use Rattle.command_line.specs.declared.asked.Asked.{Asked};
 ghost use Rattle.command_line.specs.declared.asked.Stop.{Stop};
 ghost use Rattle.toxicap.specs.Commands.{ProgramEnds};
-ghost use Rattle.toxicap.specs.Runs.{no_text, status_of, text_with_line_feed, usage_status, Tells, WrittenSoFar};
+ghost use Rattle.toxicap.specs.RunEnds.{no_text, status_of, text_with_line_feed, usage_status, Tells, WrittenSoFar};
 
-use crate::counted::Counted;
-use crate::fault_lines::fault_line;
-use crate::faults::RunFault;
-use crate::printing::write_bytes;
-use crate::running::run_asked;
+use crate::runs::run_asked;
 use command_line::{Stop, read_words};
+use run_files::{Counted, RunFault, fault_line, write_bytes};
 use std::alloc::Global;
 use std::convert::AsStr;
 use std::io::{Error, ErrorKind, Read, Write};

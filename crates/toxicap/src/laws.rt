@@ -1,18 +1,12 @@
 //! Theorems about the definitions of this crate. Each function does nothing, or names the theorems that it stands on: its
 //! contract is the theorem.
-ghost use Rattle.toxicap.specs.Dumps.{ReadsBack};
 ghost use Rattle.toxicap.specs.SoundOutputs.{OutputsAreRead};
 ghost use Rattle.toxicap.specs.Rehearsal.{ByteOrderDoesNotMatter};
 
 use frame_headers::laws::{headers_are_sound, segments_fit};
 use pcap_records::laws::{readings_split, written_is_read};
+pub use run_files::laws::dumps_read_back;
 use segment_writer::laws::sorted_never_falls;
-
-/// The hexadecimal digits of some bytes, all in lower or all in upper case, are a dump of these bytes, whatever blanks stand
-/// before, between and after them.
-pub fn dumps_read_back()
-    ensures { ReadsBack }
-{}
 
 /// Two captures with the same records and rest are rehearsed alike, whichever order the bytes of their fields have.
 #[tactic(auto, unfolding(crate::specs::Rehearsal::answer))]

@@ -1,45 +1,22 @@
 //! Toxiproxy taken offline: recorded TCP sessions replayed through its toxics.
 //!
 //! `rehearse` is the call that the crate exists for; its contract names the definition in `specs/Rehearsal.antt`. Around it
-//! stand the edges: readers and writers that count their failed calls, loading a capture, dumps in hexadecimal, printing,
-//! shelves for the files of a rehearsal, and the line that tells a refusal.
+//! stand `answers`, which reads the capture and the scenarios first, and `command`, the whole program. The readers, writers,
+//! dumps, shelves and faults that they use are those of the crate `run_files`.
 #![tactic(auto)]
 
 mod answering;
 mod commands;
-mod counted;
-mod delivery_rows;
-mod dumps;
-mod fault_lines;
-mod faults;
-mod folders;
-mod inputs;
 pub mod laws;
-mod loading;
-mod memory_shelves;
-mod options;
-mod outputs;
-mod printing;
 mod rehearsal;
 mod rows;
-mod running;
-mod scenario_outputs;
-mod shelves;
-mod storing;
+mod runs;
 
-pub use answering::answers;
+pub use answering::{Options, answers};
 pub use commands::{command, refuse_words};
-pub use counted::Counted;
-pub use dumps::{is_dump, undump};
-pub use fault_lines::fault_line;
-pub use faults::RunFault;
-pub use folders::Folder;
 pub use job_matrix::{Gate, Phase, Plan, Through, Values};
-pub use loading::load;
-pub use memory_shelves::{MemoryFile, MemoryShelf};
-pub use options::Options;
-pub use outputs::{Output, Outputs};
-pub use printing::{print_reports, write_bytes};
 pub use rehearsal::rehearse;
-pub use shelves::{Shelf, ShelfError};
-pub use storing::{StoreFault, store_all};
+pub use run_files::{
+    Counted, Folder, MemoryFile, MemoryShelf, Output, Outputs, RunFault, Shelf, ShelfError,
+    StoreFault, fault_line, is_dump, load, print_reports, store_all, undump, write_bytes,
+};

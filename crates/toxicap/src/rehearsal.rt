@@ -1,17 +1,34 @@
-//! Rehearsing a capture.
+//! Rehearsing a capture: its table, what each connection contributes to each scenario, and the outputs, one after another.
 ghost use Rattle.pcap_records.specs.Agreement.{Agrees};
-ghost use Rattle.toxicap.specs.Rehearsal.{answer};
-ghost use Rattle.toxicap.specs.RunFault.{run_refusal};
+ghost use Rattle.toxicap.specs.Rehearsal.{answer, outputs_of, scenario_limit};
+ghost use Rattle.run_files.specs.RunFault.{run_refusal};
+ghost use Rattle.std.specs.Prelude.{◌≡◌, ◌≤◌, All, IfOk, length, ◌+◌, OnOk, drop, take};
+ghost use Rattle.pcap_records.specs.CaptureView.{contents_of};
+ghost use Rattle.pcap_records.specs.Instants.{microseconds};
+ghost use Rattle.conn_table.specs.SeenCapture.{seen_capture};
+ghost use Rattle.conn_workers.specs.CaptureTables.{whole_table};
+ghost use Rattle.segment_writer.specs.KeyLaws.{HasNoKeyTwice};
+ghost use Rattle.segment_writer.specs.WrittenSegments.{sorted_by_key};
+ghost use Rattle.time_merge.specs.MergedCapture.{all_segments};
+ghost use Rattle.toxicap.specs.GatheredOutputs.{gathered_output, lines_in, segments_in};
+ghost use Rattle.std.specs.Vec.Iter.{into_iter_items, into_iter_len};
 
-use crate::faults::RunFault;
-use crate::outputs::Outputs;
-use crate::scenario_outputs::list_outputs;
+use conn_table::Table;
+use conn_table::laws::indexed_connections_agree;
+use conn_workers::{Delivery, deliver};
 use job_matrix::{Gate, Plan, Values};
-use pcap_records::read_capture;
+use pcap_records::{Capture, read_capture};
+use range_workers::table;
+use report::{ReportText, report};
+use run_files::{Output, Outputs, RunFault};
 use scenarios::Scenario;
-use std::alloc::Global;
+use segment_writer::SegList;
+use segment_writer::laws::{keys_rise, keys_stand_once, rising_is_sorted};
+use std::alloc::{AllocError, Global};
 use std::sync::Wait;
 use std::thread::Threads;
+use std::vec::IntoIter;
+use time_merge::merge;
 
 // The most scenarios of a rehearsal.
 const SCENARIO_LIMIT: usize = 256;
@@ -40,4 +57,99 @@ pub fn rehearse<R: Threads + Wait + Sync, G: Gate>(
     let capture = read_capture(alloc, capture)?;
     let outputs = list_outputs(rt, alloc, &capture, scenarios, seed, plan, gate)?;
     Ok(Values::of(outputs))
+}
+
+// What each scenario answers. Workers make the table of the capture, range by range, and then what each connection contributes to each
+// scenario; then one scenario after another is written, and what was made for it is let go.
+//
+// # Errors
+// A growth was refused.
+fn list_outputs<R: Threads + Sync, G: Gate>(
+    rt: &R,
+    alloc: Global,
+    capture: &Capture<'_>,
+    scenarios: &[Scenario],
+    seed: u64,
+    plan: Plan,
+    gate: &G,
+) -> Result<Vec<Output>, AllocError>
+    requires few { length scenarios.now ≤ scenario_limit }
+    requires ticks { capture.now.ticks ≡ microseconds }
+    ensures { IfOk result (λ outputs. outputs.items ≡ outputs_of (seen_capture (contents_of capture.now)) scenarios.now seed) }
+{
+    indexed_connections_agree();
+    keys_rise();
+    rising_is_sorted();
+    keys_stand_once();
+    let table = table(rt, alloc, capture, plan, gate)?;
+    let deliveries = deliver(rt, alloc, capture, &table, scenarios, seed, plan, gate)?;
+    let count = table.conns().len();
+    let mut rest = deliveries.into_vec().into_iter();
+    let mut outputs = Vec::with_capacity(alloc, scenarios.len())?;
+    for number in 0..scenarios.len() {
+        let row = take_row(alloc, &mut rest, count)?;
+        let output = gathered_output(alloc, capture, &table, number as u32, row)?;
+        outputs.push(output)?;
+    }
+    Ok(outputs)
+}
+
+// What the scenario of a number answers, of its row.
+#[tactic(auto, unfolding(time_merge::specs::MergedCapture::capture_of))]
+fn gathered_output(
+    alloc: Global,
+    capture: &Capture<'_>,
+    table: &Table,
+    number: u32,
+    row: DeliveryRow,
+) -> Result<Output, AllocError>
+    requires table { table.now ≡ whole_table capture.now }
+    requires each { length row.lines.items ≡ length table.now.conns }
+    requires sorted { All (λ list. sorted_by_key list ≡ list) row.segments.items }
+    requires once { HasNoKeyTwice (all_segments row.segments.items) }
+    ensures { IfOk result (λ output. output
+        ≡ gathered_output (seen_capture (contents_of capture.now)) number table.now.unopened row.segments.items row.lines.items) }
+{
+    let report = report(alloc, number, capture, table, &row.lines)?;
+    let capture = merge(alloc, row.segments)?.capture(alloc)?;
+    Ok(Output {
+        capture: Values::of(capture),
+        report: Values::of(report.into_vec()),
+    })
+}
+
+// What each connection contributes to one scenario, in order of number.
+#[derive(Drop)]
+struct DeliveryRow {
+    // The written segments of each connection.
+    segments: Vec<SegList>,
+    // The line of each connection.
+    lines: Vec<ReportText>,
+}
+
+// Takes the next row, of so many deliveries.
+//
+// # Errors
+// A growth was refused.
+fn take_row(
+    alloc: Global,
+    deliveries: &mut IntoIter<Delivery>,
+    count: usize,
+) -> Result<DeliveryRow, AllocError>
+    requires { count ≤ into_iter_len deliveries.old }
+    ensures segments { IfOk result (λ row. row.segments.items ≡ segments_in (take count (into_iter_items deliveries.old))) }
+    ensures lines { IfOk result (λ row. row.lines.items ≡ lines_in (take count (into_iter_items deliveries.old))) }
+    ensures left { OnOk result (into_iter_items deliveries.new ≡ drop count (into_iter_items deliveries.old)) }
+    ensures fewer { OnOk result (into_iter_len deliveries.new + count ≡ into_iter_len deliveries.old) }
+{
+    let mut segments = Vec::with_capacity(alloc, count)?;
+    let mut lines = Vec::with_capacity(alloc, count)?;
+    for taken in 0..count {
+        let Some(delivery) = deliveries.next() else {
+            unreachable!();
+        };
+        segments.push(delivery.segments)?;
+        lines.push(delivery.line)?;
+    }
+    Ok(DeliveryRow { segments, lines })
 }

@@ -11,7 +11,7 @@ use Rattle.pcap_records.specs.Instants.{microseconds}
 use Rattle.conn_table.specs.declared.conns.Conn.{Conn}
 use Rattle.conn_table.specs.Tables.{TableView, table_in}
 use Rattle.reassembly.specs.RecordedView.{IsConnOf}
-use Rattle.reassembly.specs.CaptureConnections.{ConnsAreOfCapture}
+use Rattle.reassembly.specs.RecordedView.{ConnsAreOfCapture}
 use Rattle.segment_writer.specs.declared.framed.Framed.{Framed}
 use Rattle.segment_writer.specs.KeyOrder.{RisingIsSorted}
 use Rattle.segment_writer.specs.KeyLaws.{HasNoKeyTwice, KeysRise, AreNumbered, KeysStandOnce, OnceInAnyOrder}

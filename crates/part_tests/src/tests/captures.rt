@@ -1,14 +1,18 @@
 //! Reading and writing captures.
-use pcap_records::{CaptureFault, Moment, Order, read_capture, write_header, write_record};
+use super::checks::check;
+use pcap_records::{
+    Capture, CaptureFault, Moment, Order, read_capture, write_header, write_record,
+};
 use std::alloc::{AllocError, Global};
+use std::process::Abort;
 use std::test::Fail;
 use worked_sessions::sessions::{PLAIN_SESSION, file, session};
 
-const BIG: [u8; 24] = [
+pub(super) const BIG: [u8; 24] = [
     0xa1, 0xb2, 0xc3, 0xd4, 0, 2, 0, 4, 0, 0, 0, 0, 0, 0, 0, 0, 0, 0, 0xff, 0xff, 0, 0, 0, 1,
 ];
 
-const LITTLE: [u8; 24] = [
+pub(super) const LITTLE: [u8; 24] = [
     0xd4, 0xc3, 0xb2, 0xa1, 2, 0, 4, 0, 0, 0, 0, 0, 0, 0, 0, 0, 0xff, 0xff, 0, 0, 1, 0, 0, 0,
 ];
 
@@ -21,279 +25,271 @@ fn field(order: Order, number: u32) -> [u8; 4] {
 }
 
 // Appends a record's header that announces `len` bytes.
-fn put_record_header(
+pub(super) fn put_record_header(
     file: &mut Vec<u8>,
     order: Order,
     stamp: (u32, u32),
     len: u32,
 ) -> Result<(), AllocError> {
-    for number in [stamp.0, stamp.1, len, len] {
-        file.extend_from_slice(&field(order, number))?;
-    }
-    Ok(())
+    file.extend_from_slice(&field(order, stamp.0))?;
+    file.extend_from_slice(&field(order, stamp.1))?;
+    file.extend_from_slice(&field(order, len))?;
+    file.extend_from_slice(&field(order, len))
 }
 
-// A file header of either order with one byte changed.
-fn changed(alloc: Global, header: &[u8], at: usize, byte: u8) -> Result<Vec<u8>, AllocError> {
-    let mut file = Vec::from_slice(alloc, header)?;
-    if at < file.len() {
-        file[at] = byte;
+// What reading a file tells: its number of records and its rest, or the name of its fault.
+#[derive(Clone, Copy, PartialEq)]
+enum Outcome {
+    Whole(usize, u32),
+    Short,
+    Magic,
+    Version,
+    Link,
+    TooLong,
+    RecordTooLong(u32),
+    Memory,
+}
+
+fn told(alloc: Global, file: &[u8]) -> Outcome {
+    match read_capture(alloc, file) {
+        Ok(capture) => Outcome::Whole(capture.records().len(), capture.rest()),
+        Err(CaptureFault::ShortHeader) => Outcome::Short,
+        Err(CaptureFault::BadMagic) => Outcome::Magic,
+        Err(CaptureFault::BadVersion) => Outcome::Version,
+        Err(CaptureFault::BadLink) => Outcome::Link,
+        Err(CaptureFault::CaptureTooLong) => Outcome::TooLong,
+        Err(CaptureFault::RecordTooLong { at }) => Outcome::RecordTooLong(at),
+        Err(CaptureFault::Memory(_)) => Outcome::Memory,
     }
-    Ok(file)
+}
+
+// That a header with one byte changed is read or refused so.
+fn check_changed(
+    rt: &impl Abort,
+    alloc: Global,
+    header: &[u8; 24],
+    change: (usize, u8),
+    wanted: Outcome,
+) {
+    let mut file = *header;
+    if let Some(byte) = file.get_mut(change.0) {
+        *byte = change.1;
+    }
+    check(rt, "a changed header", told(alloc, &file) == wanted);
 }
 
 #[test]
-fn refused_and_empty_headers(rt: HostRuntime) -> Result<(), Fail> {
+fn refused_and_empty_headers(rt: HostRuntime) {
     let alloc = rt.alloc();
-    for (header, order) in [(BIG, Order::Big), (LITTLE, Order::Little)] {
-        let capture = read_capture(alloc, &header)?;
-        assert_eq!(rt; capture.order(), order);
-        assert_eq!(rt; capture.records().len(), 0);
-        assert_eq!(rt; capture.rest(), 0);
-        for len in 0..24 {
-            let short = read_capture(alloc, &header[..len]);
-            assert!(rt;
-                matches!(short, Err(CaptureFault::ShortHeader)),
-                "{len} bytes"
-            );
-        }
-    }
-    Ok(())
+    check(&rt, "big", told(alloc, &BIG) == Outcome::Whole(0, 0));
+    check(&rt, "little", told(alloc, &LITTLE) == Outcome::Whole(0, 0));
+    check(&rt, "no byte", told(alloc, &[]) == Outcome::Short);
+    check(&rt, "23 of big", told(alloc, &BIG[..23]) == Outcome::Short);
+    check(
+        &rt,
+        "23 of little",
+        told(alloc, &LITTLE[..23]) == Outcome::Short,
+    );
 }
 
+// An unknown magic number in both orders; then that of nanoseconds.
 #[test]
 fn unknown_magic_numbers(rt: HostRuntime) {
-    // An unknown number in both orders; then that of nanoseconds.
-    for magic in [0xa1b2_cd34_u32, 0xa1b2_3c4d] {
-        let mut big = BIG;
-        big[..4].copy_from_slice(&magic.to_be_bytes());
-        let mut little = LITTLE;
-        little[..4].copy_from_slice(&magic.to_le_bytes());
-        for file in [big, little] {
-            let refused = read_capture(rt.alloc(), &file);
-            assert!(rt; matches!(refused, Err(CaptureFault::BadMagic)), "{magic}");
-        }
-    }
+    let alloc = rt.alloc();
+    check_changed(&rt, alloc, &BIG, (2, 0xcd), Outcome::Magic);
+    check_changed(&rt, alloc, &LITTLE, (1, 0xcd), Outcome::Magic);
+    let mut nanos = BIG;
+    nanos[..4].copy_from_slice(&[0xa1, 0xb2, 0x3c, 0x4d]);
+    check(
+        &rt,
+        "nanoseconds, big",
+        told(alloc, &nanos) == Outcome::Magic,
+    );
+    let mut nanos = LITTLE;
+    nanos[..4].copy_from_slice(&[0x4d, 0x3c, 0xb2, 0xa1]);
+    check(
+        &rt,
+        "nanoseconds, little",
+        told(alloc, &nanos) == Outcome::Magic,
+    );
 }
 
+// Version 2.3 and 3.4; link types 113 and 1 with bits of a frame check sequence. Time zone, accuracy and longest packet are not
+// looked at.
 #[test]
-fn fields_of_the_header(rt: HostRuntime) -> Result<(), Fail> {
+fn fields_of_the_header(rt: HostRuntime) {
     let alloc = rt.alloc();
-    // Version 2.3 and 3.4; link types 113 and 1 with bits of a frame check sequence.
-    for (header, at, byte) in [(BIG, 7, 3), (LITTLE, 6, 3), (BIG, 5, 3), (LITTLE, 4, 3)] {
-        let file = changed(alloc, &header, at, byte)?;
-        assert!(rt; matches!(read_capture(alloc, &file), Err(CaptureFault::BadVersion)));
-    }
-    for (header, at, byte) in [(BIG, 23, 113), (LITTLE, 20, 113), (BIG, 20, 0x24)] {
-        let file = changed(alloc, &header, at, byte)?;
-        assert!(rt; matches!(read_capture(alloc, &file), Err(CaptureFault::BadLink)));
-    }
-    // Time zone, accuracy and longest packet are not looked at.
-    for at in 8..20 {
-        let file = changed(alloc, &LITTLE, at, 0x77)?;
-        assert_eq!(rt; read_capture(alloc, &file)?.records().len(), 0);
-    }
-    Ok(())
+    check_changed(&rt, alloc, &BIG, (7, 3), Outcome::Version);
+    check_changed(&rt, alloc, &LITTLE, (6, 3), Outcome::Version);
+    check_changed(&rt, alloc, &BIG, (5, 3), Outcome::Version);
+    check_changed(&rt, alloc, &LITTLE, (4, 3), Outcome::Version);
+    check_changed(&rt, alloc, &BIG, (23, 113), Outcome::Link);
+    check_changed(&rt, alloc, &LITTLE, (20, 113), Outcome::Link);
+    check_changed(&rt, alloc, &BIG, (20, 0x24), Outcome::Link);
+    check_changed(&rt, alloc, &LITTLE, (8, 0x77), Outcome::Whole(0, 0));
+    check_changed(&rt, alloc, &LITTLE, (11, 0x77), Outcome::Whole(0, 0));
+    check_changed(&rt, alloc, &LITTLE, (12, 0x77), Outcome::Whole(0, 0));
+    check_changed(&rt, alloc, &LITTLE, (16, 0x77), Outcome::Whole(0, 0));
+    check_changed(&rt, alloc, &LITTLE, (19, 0x77), Outcome::Whole(0, 0));
 }
 
 #[test]
 fn too_long_a_file(rt: HostRuntime) -> Result<(), Fail> {
-    let zeros = vec![in rt.alloc(); 0u8; (1 << 30) + 1]?;
-    assert!(rt;
-        matches!(
-            read_capture(rt.alloc(), &zeros),
-            Err(CaptureFault::CaptureTooLong)
-        )
-    );
-    if let Some((_, limit)) = zeros.split_first() {
-        assert!(rt; matches!(read_capture(rt.alloc(), limit), Err(CaptureFault::BadMagic)));
-    }
+    let alloc = rt.alloc();
+    let zeros = vec![in alloc; 0u8; (1 << 30) + 1]?;
+    check(&rt, "a byte over", told(alloc, &zeros) == Outcome::TooLong);
+    let (_, limit) = zeros.split_first().ok_or("no byte")?;
+    check(&rt, "the limit", told(alloc, limit) == Outcome::Magic);
     Ok(())
 }
 
-// A file of one record header and zeros.
+// A file of one record that announces so many bytes and holds so many, which are zero.
 fn one_record(
     alloc: Global,
-    header: &[u8],
     order: Order,
     announced: u32,
     held: usize,
 ) -> Result<Vec<u8>, AllocError> {
-    let mut file = Vec::from_slice(alloc, header)?;
+    let header = match order {
+        Order::Big => BIG,
+        Order::Little => LITTLE,
+    };
+    let mut file = Vec::from_slice(alloc, &header)?;
     put_record_header(&mut file, order, (0, 0), announced)?;
     let packet = vec![in alloc; 0u8; held]?;
     file.extend_from_slice(&packet)?;
     Ok(file)
 }
 
+// That such a file is read or refused so, in both orders.
+fn check_record(
+    rt: &impl Abort,
+    alloc: Global,
+    lens: (u32, usize),
+    wanted: Outcome,
+) -> Result<(), Fail> {
+    let big = one_record(alloc, Order::Big, lens.0, lens.1)?;
+    check(rt, "a record, big", told(alloc, &big) == wanted);
+    let little = one_record(alloc, Order::Little, lens.0, lens.1)?;
+    check(rt, "a record, little", told(alloc, &little) == wanted);
+    Ok(())
+}
+
 #[test]
 fn longest_record(rt: HostRuntime) -> Result<(), Fail> {
-    for (header, order) in [(BIG, Order::Big), (LITTLE, Order::Little)] {
-        let torn = one_record(rt.alloc(), &header, order, 262_144, 0)?;
-        let capture = read_capture(rt.alloc(), &torn)?;
-        assert_eq!(rt; capture.records().len(), 0);
-        assert_eq!(rt; capture.rest(), 16);
-    }
-    Ok(())
-}
-
-#[test]
-fn longer_than_the_longest_record(rt: HostRuntime) -> Result<(), Fail> {
-    for (header, order) in [(BIG, Order::Big), (LITTLE, Order::Little)] {
-        for held in [0, 262_145] {
-            let over = one_record(rt.alloc(), &header, order, 262_145, held)?;
-            let refused = read_capture(rt.alloc(), &over);
-            assert!(rt; matches!(refused, Err(CaptureFault::RecordTooLong { at: 0 })));
-        }
-    }
-    Ok(())
-}
-
-#[test]
-fn whole_longest_record(rt: HostRuntime) -> Result<(), Fail> {
-    for (header, order) in [(BIG, Order::Big), (LITTLE, Order::Little)] {
-        let file = one_record(rt.alloc(), &header, order, 262_144, 262_144)?;
-        let capture = read_capture(rt.alloc(), &file)?;
-        assert_eq!(rt; capture.rest(), 0);
-        assert_eq!(rt; capture.records().len(), 1);
-        assert_eq!(rt; capture.packet(0).len(), 262_144);
-    }
-    Ok(())
-}
-
-#[test]
-fn refused_second_record(rt: HostRuntime) -> Result<(), Fail> {
-    let mut file = one_record(rt.alloc(), &LITTLE, Order::Little, 3, 3)?;
+    let alloc = rt.alloc();
+    check_record(&rt, alloc, (262_144, 0), Outcome::Whole(0, 16))?;
+    check_record(&rt, alloc, (262_144, 262_144), Outcome::Whole(1, 0))?;
+    check_record(&rt, alloc, (262_145, 0), Outcome::RecordTooLong(0))?;
+    check_record(&rt, alloc, (262_145, 262_145), Outcome::RecordTooLong(0))?;
+    let mut file = one_record(alloc, Order::Little, 3, 3)?;
     put_record_header(&mut file, Order::Little, (0, 0), u32::MAX)?;
-    let refused = read_capture(rt.alloc(), &file);
-    assert!(rt; matches!(refused, Err(CaptureFault::RecordTooLong { at: 1 })));
+    let refused = told(alloc, &file);
+    check(
+        &rt,
+        "the second record",
+        refused == Outcome::RecordTooLong(1),
+    );
     Ok(())
+}
+
+// Whether a record of a capture has this stamp, and its packet is these bytes of the file.
+fn has_record(capture: &Capture<'_>, i: usize, micros: u64, start: usize, len: usize) -> bool {
+    let Some(record) = capture.records().get(i) else {
+        return false;
+    };
+    let stamped = record.stamp.count() == micros;
+    let placed = record.start as usize == start && record.len as usize == len;
+    stamped && placed && PLAIN_SESSION.get(start..start + len.min(60)) == packet_of(capture, i)
+}
+
+fn packet_of<'a>(capture: &Capture<'a>, i: usize) -> Option<&'a [u8]> {
+    if i < capture.records().len() {
+        Some(capture.packet(i))
+    } else {
+        None
+    }
 }
 
 #[test]
 fn the_plain_session(rt: HostRuntime) -> Result<(), Fail> {
     let capture = read_capture(rt.alloc(), &PLAIN_SESSION)?;
-    let lens = [54, 54, 54, 59, 54, 54, 54];
-    let starts = [40, 110, 180, 250, 325, 395, 465];
-    let micros = [0, 100, 200, 1000, 2000, 3000, 3100];
-    assert_eq!(rt; capture.order(), Order::Little);
-    assert_eq!(rt; capture.rest(), 0);
-    assert_eq!(rt; capture.records().len(), 7);
-    for i in 0..7 {
-        let record = capture.records()[i];
-        assert_eq!(rt; record.stamp.count(), 1_000_000 + micros[i]);
-        assert_eq!(rt; record.start, starts[i]);
-        assert_eq!(rt; record.len, lens[i]);
-        let start = starts[i] as usize;
-        let end = start + lens[i] as usize;
-        assert!(rt;
-            PLAIN_SESSION.get(start..end) == Some(capture.packet(i)),
-            "packet {i}"
-        );
-    }
+    let order = capture.order();
+    check(&rt, "order", order == Order::Little);
+    check(&rt, "rest", capture.rest() == 0);
+    check(&rt, "records", capture.records().len() == 7);
+    check(&rt, "0", has_record(&capture, 0, 1_000_000, 40, 54));
+    check(&rt, "1", has_record(&capture, 1, 1_000_100, 110, 54));
+    check(&rt, "2", has_record(&capture, 2, 1_000_200, 180, 54));
+    check(&rt, "3", has_record(&capture, 3, 1_001_000, 250, 59));
+    check(&rt, "4", has_record(&capture, 4, 1_002_000, 325, 54));
+    check(&rt, "5", has_record(&capture, 5, 1_003_000, 395, 54));
+    check(&rt, "6", has_record(&capture, 6, 1_003_100, 465, 54));
     Ok(())
+}
+
+// Appends a record of a little-endian capture to a big-endian one.
+fn put_big(
+    file: &mut Vec<u8>,
+    little: &Capture<'_>,
+    i: usize,
+    micros: u32,
+) -> Result<(), AllocError> {
+    let Some(packet) = packet_of(little, i) else {
+        return Ok(());
+    };
+    let len = packet.len().min(1000) as u32;
+    put_record_header(file, Order::Big, (1, micros), len)?;
+    file.extend_from_slice(packet)
 }
 
 #[test]
 fn the_plain_session_in_the_other_order(rt: HostRuntime) -> Result<(), Fail> {
     let little = read_capture(rt.alloc(), &PLAIN_SESSION)?;
     let mut file = Vec::from_slice(rt.alloc(), &BIG)?;
-    assert_eq!(rt; little.records().len(), 7);
-    for (i, micros) in [0, 100, 200, 1000, 2000, 3000, 3100]
-        .into_iter()
-        .enumerate()
-    {
-        put_record_header(&mut file, Order::Big, (1, micros), little.records()[i].len)?;
-        file.extend_from_slice(little.packet(i))?;
-    }
+    put_big(&mut file, &little, 0, 0)?;
+    put_big(&mut file, &little, 1, 100)?;
+    put_big(&mut file, &little, 2, 200)?;
+    put_big(&mut file, &little, 3, 1000)?;
+    put_big(&mut file, &little, 4, 2000)?;
+    put_big(&mut file, &little, 5, 3000)?;
+    put_big(&mut file, &little, 6, 3100)?;
     let big = read_capture(rt.alloc(), &file)?;
-    assert_eq!(rt; big.order(), Order::Big);
-    assert_eq!(rt; big.records(), little.records());
-    assert_eq!(rt; big.rest(), 0);
+    let order = big.order();
+    check(&rt, "order", order == Order::Big);
+    check(&rt, "rest", big.rest() == 0);
+    check(&rt, "records", big.records() == little.records());
     Ok(())
 }
 
-#[test]
-fn each_front_of_the_plain_session(rt: HostRuntime) -> Result<(), Fail> {
-    let ends = [94, 164, 234, 309, 379, 449, 519];
-    for len in 0..520 {
-        let front = read_capture(rt.alloc(), &PLAIN_SESSION[..len]);
-        if len < 24 {
-            assert!(rt;
-                matches!(front, Err(CaptureFault::ShortHeader)),
-                "{len} bytes"
-            );
-        } else {
-            let capture = front?;
-            let whole = ends.iter().filter(|end| **end <= len).count();
-            let end = ends
-                .iter()
-                .copied()
-                .filter(|end| *end <= len)
-                .max()
-                .unwrap_or(24);
-            assert_eq!(rt; capture.records().len(), whole, "{len} bytes");
-            assert_eq!(rt; capture.rest() as usize + end, len, "{len} bytes");
-        }
-    }
-    Ok(())
+// That the first bytes of the plain session are so many whole records and a rest.
+fn check_front(rt: &impl Abort, alloc: Global, len: usize, records: usize, rest: u32) {
+    let front = PLAIN_SESSION.get(..len).unwrap_or(&[]);
+    check(
+        rt,
+        "first bytes of the plain session",
+        told(alloc, front) == Outcome::Whole(records, rest),
+    );
 }
 
 #[test]
-fn stamps_that_fall_back(rt: HostRuntime) -> Result<(), Fail> {
-    let mut file = Vec::from_slice(rt.alloc(), &LITTLE)?;
-    for stamp in [
-        (5, 0),
-        (4, 0),
-        (4, 500_000),
-        (1, 1_500_000),
-        (u32::MAX, u32::MAX),
-    ] {
-        put_record_header(&mut file, Order::Little, stamp, 0)?;
-    }
-    let capture = read_capture(rt.alloc(), &file)?;
-    assert_eq!(rt; capture.records().len(), 5);
-    let zero = Moment::of(0);
-    for (from, to, carry, micros) in [
-        (0, 3, 0, [5_000_000, 5_000_000, 5_000_000].as_slice()),
-        (1, 3, 0, [4_000_000, 4_500_000].as_slice()),
-        (1, 3, 4_200_000, [4_200_000, 4_500_000].as_slice()),
-        (1, 3, 5_000_000, [5_000_000, 5_000_000].as_slice()),
-        (3, 4, 0, [2_500_000].as_slice()),
-        (4, 5, 0, [4_294_967_296_000_000].as_slice()),
-        (2, 2, 7, [].as_slice()),
-    ] {
-        let times = capture.times(rt.alloc(), from, to, Moment::of(carry))?;
-        assert_eq!(rt; times.len(), micros.len());
-        for (time, want) in times.iter().zip(micros) {
-            assert_eq!(rt; time.count(), *want);
-        }
-    }
-    for (from, to, micros) in [
-        (0, 3, 5_000_000),
-        (1, 2, 4_000_000),
-        (1, 3, 4_500_000),
-        (1, 4, 4_500_000),
-        (0, 5, 4_294_967_296_000_000),
-        (2, 2, 0),
-    ] {
-        assert_eq!(rt; capture.peak(from, to).count(), micros);
-    }
-    assert_eq!(rt; zero.greater(Moment::of(3)).count(), 3);
-    assert_eq!(rt; Moment::of(3).greater(zero).count(), 3);
-    Ok(())
-}
-
-#[test]
-fn instants_stop_at_the_horizon(rt: HostRuntime) {
-    for (micros, want) in [
-        (0, 0),
-        (4_294_967_295_999_999, 4_294_967_295_999_999),
-        (4_294_967_296_000_000, 4_294_967_296_000_000),
-        (u64::MAX, 4_294_967_296_000_000),
-    ] {
-        assert_eq!(rt; Moment::of(micros).count(), want);
-    }
+fn first_bytes_of_the_plain_session(rt: HostRuntime) {
+    let alloc = rt.alloc();
+    check(
+        &rt,
+        "23",
+        told(alloc, &PLAIN_SESSION[..23]) == Outcome::Short,
+    );
+    check_front(&rt, alloc, 24, 0, 0);
+    check_front(&rt, alloc, 39, 0, 15);
+    check_front(&rt, alloc, 40, 0, 16);
+    check_front(&rt, alloc, 93, 0, 69);
+    check_front(&rt, alloc, 94, 1, 0);
+    check_front(&rt, alloc, 95, 1, 1);
+    check_front(&rt, alloc, 308, 3, 74);
+    check_front(&rt, alloc, 309, 4, 0);
+    check_front(&rt, alloc, 518, 6, 69);
+    check_front(&rt, alloc, 519, 7, 0);
 }
 
 #[test]
@@ -307,16 +303,14 @@ fn written_bytes(rt: HostRuntime) -> Result<(), Fail> {
         0, 0, 1, 0, 0, 0, 100, 0, 0, 0, 2, 0, 0, 0, 2, 0, 0, 0, 7, 8, 0xff, 0xff, 0xff, 0xff, 0x3f,
         0x42, 0x0f, 0, 0, 0, 0, 0, 0, 0, 0, 0,
     ];
-    assert_eq!(rt; out.as_slice(), want.as_slice());
+    check(&rt, "bytes", out.as_slice() == want.as_slice());
     Ok(())
 }
 
 // The maker of captures for the tests is checked by a file from outside.
 #[test]
 fn the_plain_session_is_the_one_from_outside(rt: HostRuntime) -> Result<(), Fail> {
-    assert_eq!(rt;
-        file(rt.alloc(), true, &session())?.as_slice(),
-        PLAIN_SESSION.as_slice()
-    );
+    let made = file(rt.alloc(), true, &session())?;
+    check(&rt, "bytes", made.as_slice() == PLAIN_SESSION.as_slice());
     Ok(())
 }

@@ -1,9 +1,11 @@
 //! Frames and sums from outside: frames of the plain session, RFC 1071's own example, and values worked by hand.
 ghost use Rattle.std.specs.Prelude.{◌≤◌, length};
 
+use super::checks::check;
 use frame_headers::{
     Class, Flags, HEADERS_LEN, Header, Peer, checksum, classify, put_headers, tcp_checksum,
 };
+use std::process::Abort;
 use worked_sessions::written_frames::{
     ACKNOWLEDGED, CLIENT_ENDS, DATA, OPENING, OPENING_ANSWERED, SERVER_ENDS,
 };
@@ -131,71 +133,74 @@ fn is_opening(frame: &[u8]) -> bool {
     is_read_as(frame, &sent(1000, 0, Flags::SYN), b"")
 }
 
-// The class of the first frame of the session with bytes of it changed.
-fn class_of_changed(place: usize, bytes: &[u8]) -> &'static str {
+// That the first frame of the session with bytes of it changed has this class.
+fn check_changed(rt: &impl Abort, place: usize, bytes: &[u8], class: &str) {
     let mut frame = opening_unfilled();
     change(&mut frame, place, bytes);
-    class_of(&frame)
+    check(rt, class, class_of(&frame) == class);
 }
 
 #[test]
 fn classes_of_changed_frames(rt: HostRuntime) {
-    assert_eq!(rt; class_of_changed(13, b"\x06"), "NotIpv4");
-    assert_eq!(rt; class_of_changed(14, b"\x65"), "BadIpv4");
-    assert_eq!(rt; class_of_changed(14, b"\x44"), "BadIpv4");
-    assert_eq!(rt; class_of_changed(16, b"\0\0"), "BadIpv4");
-    assert_eq!(rt; class_of_changed(20, b"\x20"), "Fragment");
-    assert_eq!(rt; class_of_changed(20, b"\x1f"), "Fragment");
-    assert_eq!(rt; class_of_changed(20, b"\xe0"), "Fragment");
-    assert_eq!(rt; class_of_changed(21, b"\x01"), "Fragment");
-    assert_eq!(rt; class_of_changed(23, b"\x11"), "NotTcp");
-    assert_eq!(rt; class_of_changed(46, b"\x40"), "BadTcp");
-    assert_eq!(rt; class_of_changed(46, b"\x60"), "BadTcp");
+    check_changed(&rt, 13, b"\x06", "NotIpv4");
+    check_changed(&rt, 14, b"\x65", "BadIpv4");
+    check_changed(&rt, 14, b"\x44", "BadIpv4");
+    check_changed(&rt, 16, b"\0\0", "BadIpv4");
+    check_changed(&rt, 20, b"\x20", "Fragment");
+    check_changed(&rt, 20, b"\x1f", "Fragment");
+    check_changed(&rt, 20, b"\xe0", "Fragment");
+    check_changed(&rt, 21, b"\x01", "Fragment");
+    check_changed(&rt, 23, b"\x11", "NotTcp");
+    check_changed(&rt, 46, b"\x40", "BadTcp");
+    check_changed(&rt, 46, b"\x60", "BadTcp");
 
     // source and destination: the address alone, the port alone, both
-    assert_eq!(rt; class_of_changed(30, b"\x0a\0\0\x01"), "Segment");
-    assert_eq!(rt; class_of_changed(36, b"\x9c\x40"), "Segment");
-    assert_eq!(rt;
-        class_of_changed(30, b"\x0a\0\0\x01\x9c\x40\x9c\x40"),
-        "SameEnds"
-    );
+    check_changed(&rt, 30, b"\x0a\0\0\x01", "Segment");
+    check_changed(&rt, 36, b"\x9c\x40", "Segment");
+    check_changed(&rt, 30, b"\x0a\0\0\x01\x9c\x40\x9c\x40", "SameEnds");
+}
+
+// That the first frame of the session with a byte of it changed is read as before.
+fn check_kept(rt: &impl Abort, place: usize, byte: u8) {
+    let mut frame = opening_unfilled();
+    change(&mut frame, place, &[byte]);
+    check(rt, "the opening", is_opening(&frame));
 }
 
 #[test]
 fn frames_that_stay_a_segment(rt: HostRuntime) {
-    let unfilled = opening_unfilled();
-    assert!(rt; is_opening(&unfilled));
-    assert!(rt; is_opening(&OPENING));
+    check(&rt, "unfilled sums", is_opening(&opening_unfilled()));
+    check(&rt, "right sums", is_opening(&OPENING));
 
     // the reserved flag of IPv4; it and "don't fragment"; wrong checksums of IPv4 and of TCP
-    for (place, byte) in [(20, 0x80), (20, 0xc0), (24, 0x77), (50, 0x77)] {
-        let mut changed = opening_unfilled();
-        if let Some(old) = changed.get_mut(place) {
-            *old = byte;
-        }
-        assert!(rt; is_opening(&changed), "byte {place} is {byte}");
-    }
+    check_kept(&rt, 20, 0x80);
+    check_kept(&rt, 20, 0xc0);
+    check_kept(&rt, 24, 0x77);
+    check_kept(&rt, 50, 0x77);
+}
+
+// That the first bytes of a frame have this class.
+fn check_front(rt: &impl Abort, frame: &[u8], len: usize, class: &str) {
+    let front = frame.get(..len).unwrap_or(&[]);
+    check(rt, class, front.len() == len && class_of(front) == class);
 }
 
 #[test]
 fn classes_of_each_length(rt: HostRuntime) {
     let mut padded = [0; 60];
     change(&mut padded, 0, &opening_unfilled());
-    for len in 0..61 {
-        let class = match len {
-            0..=13 => "Short",
-            14..=33 => "BadIpv4",
-            34..=53 => "Cut",
-            _ => "Segment",
-        };
-        assert_eq!(rt; class_of(&padded[..len]), class, "{len} bytes");
-    }
-    assert!(rt; is_opening(&padded));
-    let zeros = [0; 60];
-    for len in 0..61 {
-        let class = if len < 14 { "Short" } else { "NotIpv4" };
-        assert_eq!(rt; class_of(&zeros[..len]), class, "{len} zero bytes");
-    }
+    check_front(&rt, &padded, 0, "Short");
+    check_front(&rt, &padded, 13, "Short");
+    check_front(&rt, &padded, 14, "BadIpv4");
+    check_front(&rt, &padded, 33, "BadIpv4");
+    check_front(&rt, &padded, 34, "Cut");
+    check_front(&rt, &padded, 53, "Cut");
+    check_front(&rt, &padded, 54, "Segment");
+    check_front(&rt, &padded, 60, "Segment");
+    check(&rt, "padded", is_opening(&padded));
+    check_front(&rt, &[0; 60], 13, "Short");
+    check_front(&rt, &[0; 60], 14, "NotIpv4");
+    check_front(&rt, &[0; 60], 60, "NotIpv4");
 }
 
 // Whether a frame is read as the session's data.
@@ -208,30 +213,30 @@ fn is_data(frame: &[u8]) -> bool {
 }
 
 #[test]
-fn payload_behind_options_and_before_padding(rt: HostRuntime) {
+fn payload_after_options_and_before_padding(rt: HostRuntime) {
     let mut padded = [0xaa; 70];
     change(&mut padded, 0, &DATA);
-    assert!(rt; is_data(&padded));
+    check(&rt, "padding", is_data(&padded));
 
     // six words of IPv4 header
     change(&mut padded, 14, b"\x46");
     change(&mut padded, 17, b"\x31");
     change(&mut padded, 34, b"\x01\x01\x01\0");
     change(&mut padded, 38, &DATA[34..]);
-    assert!(rt; is_data(&padded));
+    check(&rt, "options of IPv4", is_data(&padded));
 
     // six words of TCP header too
     change(&mut padded, 17, b"\x35");
     change(&mut padded, 50, b"\x60");
     change(&mut padded, 58, b"\x01\x01\x01\0hello");
-    assert!(rt; is_data(&padded));
+    check(&rt, "options of TCP", is_data(&padded));
 
     // a TCP header that reaches into the padding, and one byte of it too few
     change(&mut padded, 50, b"\x80");
-    assert_eq!(rt; class_of(&padded), "BadTcp");
+    check(&rt, "a long header", class_of(&padded) == "BadTcp");
     change(&mut padded, 50, b"\x50");
     change(&mut padded, 17, b"\x2b");
-    assert_eq!(rt; class_of(&padded), "BadTcp");
+    check(&rt, "a short header", class_of(&padded) == "BadTcp");
 }
 
 #[test]
@@ -240,24 +245,22 @@ fn tagged_frame_is_not_ipv4(rt: HostRuntime) {
     change(&mut tagged, 0, &OPENING);
     change(&mut tagged, 12, b"\x81\0\x20\x07");
     change(&mut tagged, 16, &OPENING[12..]);
-    assert_eq!(rt; class_of(&tagged), "NotIpv4");
+    check(&rt, "a tag", class_of(&tagged) == "NotIpv4");
 }
 
 #[test]
 fn checksums_of_known_bytes(rt: HostRuntime) {
-    assert_eq!(rt; checksum(&[]), 0xffff);
-    assert_eq!(rt; checksum(&[0x01]), 0xfeff);
-    assert_eq!(rt; checksum(&[0, 0, 0, 0]), 0xffff);
-    assert_eq!(rt; checksum(&[0xff, 0xff]), 0);
+    check(&rt, "no byte", checksum(&[]) == 0xffff);
+    check(&rt, "one byte", checksum(&[0x01]) == 0xfeff);
+    check(&rt, "zeros", checksum(&[0, 0, 0, 0]) == 0xffff);
+    check(&rt, "ones", checksum(&[0xff, 0xff]) == 0);
 
     // RFC 1071 section 3: the sum is ddf2
-    assert_eq!(rt;
-        checksum(&[0x00, 0x01, 0xf2, 0x03, 0xf4, 0xf5, 0xf6, 0xf7]),
-        0x220d
-    );
+    let example = [0x00, 0x01, 0xf2, 0x03, 0xf4, 0xf5, 0xf6, 0xf7];
+    check(&rt, "RFC 1071", checksum(&example) == 0x220d);
 
     // of no bytes: the protocol number alone
-    assert_eq!(rt; tcp_checksum(0, 0, &[]), 0xfff9);
+    check(&rt, "TCP of nothing", tcp_checksum(0, 0, &[]) == 0xfff9);
 }
 
 #[test]
@@ -265,48 +268,69 @@ fn known_frames(rt: HostRuntime) {
     let syn_ack = Flags::SYN.with(Flags::ACK);
     let psh_ack = Flags::PSH.with(Flags::ACK);
     let fin_ack = Flags::FIN.with(Flags::ACK);
-    assert!(rt; is_known(&OPENING, &sent(1000, 0, Flags::SYN)));
-    assert!(rt; is_known(&OPENING_ANSWERED, &answered(5000, 1001, syn_ack)));
-    assert!(rt; is_known(&ACKNOWLEDGED, &sent(1001, 5001, Flags::ACK)));
-    assert!(rt; is_known(&DATA, &sent(1001, 5001, psh_ack)));
-    assert!(rt; is_known(&CLIENT_ENDS, &sent(1006, 5001, fin_ack)));
-    assert!(rt; is_known(&SERVER_ENDS, &answered(5001, 1007, fin_ack)));
+    let opening = sent(1000, 0, Flags::SYN);
+    check(&rt, "SYN", is_known(&OPENING, &opening));
+    let opened = answered(5000, 1001, syn_ack);
+    check(&rt, "SYN ACK", is_known(&OPENING_ANSWERED, &opened));
+    let acknowledged = sent(1001, 5001, Flags::ACK);
+    check(&rt, "ACK", is_known(&ACKNOWLEDGED, &acknowledged));
+    let data = sent(1001, 5001, psh_ack);
+    check(&rt, "data", is_known(&DATA, &data));
+    let client_ends = sent(1006, 5001, fin_ack);
+    check(&rt, "FIN", is_known(&CLIENT_ENDS, &client_ends));
+    let server_ends = answered(5001, 1007, fin_ack);
+    check(&rt, "FIN back", is_known(&SERVER_ENDS, &server_ends));
+}
+
+// That headers before a payload of so many bytes are written so that the frame is read back, with right sums.
+fn check_payload(rt: &impl Abort, len: usize)
+    requires { len ≤ 1460 }
+{
+    let header = sent(0xffff_fffe, 0x8000_0000, Flags::PSH.with(Flags::ACK));
+    let mut frame = [0; 1514];
+    for (place, byte) in frame.iter_mut().enumerate() {
+        *byte = (place % 251) as u8;
+    }
+    let before = frame;
+    let written = &mut frame[..54 + len];
+    put_headers(written, &header);
+    let read = is_read_as(written, &header, &before[54..54 + len]);
+    let summed = has_right_sums(written, &header);
+    check(rt, "a long payload", read && summed);
 }
 
 #[test]
 fn long_payloads_read_back(rt: HostRuntime) {
-    let header = sent(0xffff_fffe, 0x8000_0000, Flags::PSH.with(Flags::ACK));
-    for len in [0, 1, 1459, 1460] {
-        assert!(rt; len <= 1460);
-        let mut frame = [0; 1514];
-        for (place, byte) in frame.iter_mut().enumerate() {
-            *byte = (place % 251) as u8;
-        }
-        let before = frame;
-        let written = &mut frame[..54 + len];
-        put_headers(written, &header);
-        assert!(rt;
-            is_read_as(written, &header, &before[54..54 + len]),
-            "{len} bytes"
-        );
-        assert!(rt; has_right_sums(written, &header), "{len} bytes");
-    }
+    check_payload(&rt, 0);
+    check_payload(&rt, 1);
+    check_payload(&rt, 1459);
+    check_payload(&rt, 1460);
+}
+
+// That a flags byte is written and read back whole.
+fn check_flags(rt: &impl Abort, byte: u8) {
+    let flags = Flags::of(byte);
+    let header = sent(1, 2, flags);
+    let mut frame = [0; 54];
+    put_headers(&mut frame, &header);
+    let written = frame[47] == byte && flags.bits() == byte;
+    check(
+        rt,
+        "a flags byte",
+        written && is_read_as(&frame, &header, b""),
+    );
 }
 
 #[test]
 fn flags_read_back(rt: HostRuntime) {
     for byte in 0..=255 {
-        let flags = Flags::of(byte);
-        let header = sent(1, 2, flags);
-        let mut frame = [0; 54];
-        put_headers(&mut frame, &header);
-        assert_eq!(rt; frame[47], byte);
-        assert_eq!(rt; flags.bits(), byte);
-        assert!(rt; is_read_as(&frame, &header, b""), "flags {byte}");
+        check_flags(&rt, byte);
     }
     let opening = Flags::SYN.with(Flags::ACK);
-    assert_eq!(rt; opening, Flags::of(0x12));
-    assert!(rt; opening.has(Flags::SYN) && opening.has(Flags::ACK) && opening.has(opening));
-    assert!(rt; !opening.has(Flags::FIN) && !opening.has(Flags::RST) && !opening.has(Flags::PSH));
-    assert!(rt; !Flags::SYN.has(opening));
+    let same = opening == Flags::of(0x12);
+    check(&rt, "SYN and ACK", same);
+    let both = opening.has(Flags::SYN) && opening.has(Flags::ACK) && opening.has(opening);
+    check(&rt, "has both", both);
+    let more = opening.has(Flags::FIN) || opening.has(Flags::RST) || opening.has(Flags::PSH);
+    check(&rt, "and no more", !more && !Flags::SYN.has(opening));
 }

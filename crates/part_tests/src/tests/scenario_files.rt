@@ -1,7 +1,9 @@
 //! Scenario files and hosts, with values from outside.
+use super::checks::check;
 use frame_headers::Peer;
-use scenarios::{Cause, HostFault, Hosts, Refusal, ScenarioFault, read_scenario};
+use scenarios::{Cause, Hosts, Refusal, Scenario, ScenarioFault, read_scenario};
 use std::alloc::{AllocError, Global};
+use std::process::Abort;
 use std::test::Fail;
 
 // Whether a text is refused for a cause at a place, where no host is known.
@@ -31,50 +33,68 @@ fn file(alloc: Global, upstream: &str, more: &str) -> Result<String, AllocError>
 #[test]
 fn refused_texts(rt: HostRuntime) {
     let alloc = rt.alloc();
-    assert!(rt; refuses(alloc, "", Cause::NotJson, None, None));
-    assert!(rt; refuses(alloc, "[", Cause::NotJson, None, None));
-    assert!(rt; refuses(alloc, "{}", Cause::NotArray, None, None));
-    assert!(rt; refuses(alloc, "[1]", Cause::BadMember, Some(0), None));
+    let none = refuses(alloc, "", Cause::NotJson, None, None);
+    check(&rt, "nothing", none);
+    let torn = refuses(alloc, "[", Cause::NotJson, None, None);
+    check(&rt, "a torn list", torn);
+    let object = refuses(alloc, "{}", Cause::NotArray, None, None);
+    check(&rt, "an object", object);
+    let number = refuses(alloc, "[1]", Cause::BadMember, Some(0), None);
+    check(&rt, "a number for a proxy", number);
+}
+
+// That a proxy with this upstream and further members is refused for a cause, at this toxic if at any.
+fn check_refused(
+    rt: &impl Abort,
+    alloc: Global,
+    upstream: &str,
+    more: &str,
+    cause: (Cause, Option<usize>),
+) -> Result<(), Fail> {
+    let text = file(alloc, upstream, more)?;
+    check(
+        rt,
+        upstream,
+        refuses(alloc, &text, cause.0, Some(0), cause.1),
+    );
+    Ok(())
+}
+
+#[test]
+fn refused_upstreams(rt: HostRuntime) -> Result<(), Fail> {
+    let alloc = rt.alloc();
+    let bad = (Cause::BadUpstream, None);
+    check_refused(&rt, alloc, "10.0.0.2", "", bad)?;
+    check_refused(&rt, alloc, ":80", "", bad)?;
+    check_refused(&rt, alloc, "10.0.0.2:0", "", bad)?;
+    check_refused(&rt, alloc, "10.0.0.2:65536", "", bad)?;
+    check_refused(&rt, alloc, "[::1]:80", "", bad)?;
+    check_refused(&rt, alloc, "10.0.0.2:http", "", bad)?;
+    check_refused(&rt, alloc, "10.0.0.2:+80", "", bad)?;
+    check_refused(&rt, alloc, "10.0.0.2:000080", "", bad)?;
+    check_refused(&rt, alloc, "10.0.0.2:00000", "", bad)?;
+    check_refused(&rt, alloc, "10.0.0.2:", "", bad)?;
+    check_refused(&rt, alloc, "10.0.0.2:8 0", "", bad)?;
+    let unknown = (Cause::UnknownHost, None);
+    check_refused(&rt, alloc, "redis:80", "", unknown)?;
+    check_refused(&rt, alloc, "10.0.0.256:80", "", unknown)?;
+    Ok(())
 }
 
 #[test]
 fn refused_proxies(rt: HostRuntime) -> Result<(), Fail> {
     let alloc = rt.alloc();
-    for upstream in [
-        "10.0.0.2",
-        ":80",
-        "10.0.0.2:0",
-        "10.0.0.2:65536",
-        "[::1]:80",
-        "10.0.0.2:http",
-        "10.0.0.2:+80",
-    ] {
-        let text = file(alloc, upstream, "")?;
-        assert!(rt;
-            refuses(alloc, &text, Cause::BadUpstream, Some(0), None),
-            "{upstream}"
-        );
-    }
-    for upstream in ["redis:80", "10.0.0.256:80"] {
-        let text = file(alloc, upstream, "")?;
-        assert!(rt;
-            refuses(alloc, &text, Cause::UnknownHost, Some(0), None),
-            "{upstream}"
-        );
-    }
-    let flag = file(alloc, "10.0.0.2:80", ",\"enabled\":\"yes\"")?;
-    assert!(rt; refuses(alloc, &flag, Cause::BadMember, Some(0), None));
-    let toxic = file(
-        alloc,
-        "10.0.0.2:80",
-        ",\"toxics\":[{\"type\":\"explode\",\"stream\":\"upstream\"}]",
-    )?;
-    assert!(rt; refuses(alloc, &toxic, Cause::UnknownToxic, Some(0), Some(0)));
-    let typeless = file(alloc, "10.0.0.2:80", ",\"toxics\":[{\"attributes\":{}}]")?;
-    assert!(rt; refuses(alloc, &typeless, Cause::BadMember, Some(0), Some(0)));
+    let server = "10.0.0.2:80";
+    let flag = ",\"enabled\":\"yes\"";
+    check_refused(&rt, alloc, server, flag, (Cause::BadMember, None))?;
+    let toxic = ",\"toxics\":[{\"type\":\"explode\",\"stream\":\"upstream\"}]";
+    check_refused(&rt, alloc, server, toxic, (Cause::UnknownToxic, Some(0)))?;
+    let typeless = ",\"toxics\":[{\"attributes\":{}}]";
+    check_refused(&rt, alloc, server, typeless, (Cause::BadMember, Some(0)))?;
     let twice =
         "[{\"name\":\"a\",\"upstream\":\"10.0.0.2:80\"},{\"name\":\"a\",\"upstream\":\"nowhere\"}]";
-    assert!(rt; refuses(alloc, twice, Cause::DuplicateProxy, Some(1), None));
+    let refused = refuses(alloc, twice, Cause::DuplicateProxy, Some(1), None);
+    check(&rt, "a name that stands twice", refused);
     Ok(())
 }
 
@@ -91,8 +111,30 @@ fn too_many_proxies(rt: HostRuntime) -> Result<(), Fail> {
         text.push_str(&proxy)?;
     }
     text.push_str("]")?;
-    assert!(rt; refuses(alloc, &text, Cause::TooMany, Some(64), None));
+    let refused = refuses(alloc, &text, Cause::TooMany, Some(64), None);
+    check(&rt, "65 proxies", refused);
     Ok(())
+}
+
+// The scenario of a text that is accepted.
+fn accepted(alloc: Global, text: &str, hosts: &Hosts) -> Result<Scenario, Fail> {
+    let Ok(scenario) = read_scenario(alloc, text.as_bytes(), hosts) else {
+        return Err(AllocError.into());
+    };
+    Ok(scenario)
+}
+
+// Whether a proxy of a scenario has this name and flag.
+fn has_proxy(scenario: &Scenario, number: usize, name: &str, enabled: bool) -> bool {
+    match scenario.proxies().get(number) {
+        Some(proxy) => proxy.name.as_slice() == name.as_bytes() && proxy.enabled == enabled,
+        None => false,
+    }
+}
+
+// Whether the proxy that a server meets is this.
+fn meets(scenario: &Scenario, addr: u32, port: u16, wanted: Option<u32>) -> bool {
+    scenario.proxy_of(Peer { addr, port }) == wanted
 }
 
 #[test]
@@ -100,77 +142,58 @@ fn first_proxy_of_a_server(rt: HostRuntime) -> Result<(), Fail> {
     let alloc = rt.alloc();
     let text =
         "[{\"name\":\"a\",\"upstream\":\"10.0.0.2:80\",\"enabled\":false},{\"name\":\"b\",\"upstream\":\"10.0.0.2:80\",\"listen\":null}]";
-    let Ok(scenario) = read_scenario(alloc, text.as_bytes(), &Hosts::new(alloc)) else {
-        return Err(AllocError.into());
-    };
-    let server = Peer {
-        addr: 0x0a00_0002,
-        port: 80,
-    };
-    assert_eq!(rt; scenario.proxies().len(), 2);
-    assert_eq!(rt; scenario.proxies()[0].name.as_slice(), "a".as_bytes());
-    assert!(rt; !scenario.proxies()[0].enabled && scenario.proxies()[1].enabled);
-    assert_eq!(rt; scenario.proxy_of(server), Some(0));
-    assert_eq!(rt; scenario.proxy_of(Peer { port: 81, ..server }), None);
+    let scenario = accepted(alloc, text, &Hosts::new(alloc))?;
+    check(&rt, "two", scenario.proxies().len() == 2);
+    check(&rt, "a", has_proxy(&scenario, 0, "a", false));
+    check(&rt, "b", has_proxy(&scenario, 1, "b", true));
+    check(&rt, "met", meets(&scenario, 0x0a00_0002, 80, Some(0)));
+    check(&rt, "not met", meets(&scenario, 0x0a00_0002, 81, None));
     Ok(())
+}
+
+// Whether a host is taken into a list.
+fn takes(hosts: &mut Hosts, name: &str, addr: &str) -> bool {
+    hosts.add(name, addr).is_ok()
 }
 
 #[test]
 fn hosts_are_added(rt: HostRuntime) -> Result<(), Fail> {
     let alloc = rt.alloc();
     let mut hosts = Hosts::new(alloc);
-    assert!(rt; hosts.add("a", "10.0.0.9").is_ok());
-    assert!(rt; matches!(hosts.add("a", "10.0.0.9"), Err(HostFault::BadHost)));
-    assert!(rt; matches!(hosts.add("b", "10.0.0.256"), Err(HostFault::BadHost)));
-    assert!(rt; matches!(hosts.add("x y", "10.0.0.9"), Err(HostFault::BadHost)));
+    check(&rt, "a", takes(&mut hosts, "a", "10.0.0.9"));
+    check(&rt, "a again", !takes(&mut hosts, "a", "10.0.0.9"));
+    check(&rt, "256", !takes(&mut hosts, "b", "10.0.0.256"));
+    check(&rt, "a blank", !takes(&mut hosts, "x y", "10.0.0.9"));
     let text = file(alloc, "localhost:6379", "")?;
-    assert!(rt; refuses(alloc, &text, Cause::UnknownHost, Some(0), None));
-    assert!(rt; hosts.add("localhost", "127.0.0.1").is_ok());
-    let Ok(scenario) = read_scenario(alloc, text.as_bytes(), &hosts) else {
-        return Err(AllocError.into());
-    };
-    let server = Peer {
-        addr: 0x7f00_0001,
-        port: 6379,
-    };
-    assert_eq!(rt; scenario.proxy_of(server), Some(0));
-    let other = Peer {
-        port: 6380,
-        ..server
-    };
-    assert_eq!(rt; scenario.proxy_of(other), None);
+    let refused = refuses(alloc, &text, Cause::UnknownHost, Some(0), None);
+    check(&rt, "unknown", refused);
+    let taken = takes(&mut hosts, "localhost", "127.0.0.1");
+    check(&rt, "localhost", taken);
+    let scenario = accepted(alloc, &text, &hosts)?;
+    check(&rt, "met", meets(&scenario, 0x7f00_0001, 6379, Some(0)));
+    check(&rt, "not met", meets(&scenario, 0x7f00_0001, 6380, None));
     Ok(())
 }
 
-// Names that are nearly addresses are unknown without a host, and names with one. Ports may begin with zeros, within five digits.
+// That a name that is nearly an address is unknown without a host, and a name with one. The port begins with zeros.
+fn check_near(rt: &impl Abort, alloc: Global, name: &str) -> Result<(), Fail> {
+    let text = file(alloc, &format!(in alloc; "{name}:00080")?, "")?;
+    let refused = refuses(alloc, &text, Cause::UnknownHost, Some(0), None);
+    check(rt, name, refused);
+    let mut hosts = Hosts::new(alloc);
+    check(rt, name, takes(&mut hosts, name, "10.0.0.2"));
+    let scenario = accepted(alloc, &text, &hosts)?;
+    check(rt, name, meets(&scenario, 0x0a00_0002, 80, Some(0)));
+    Ok(())
+}
+
 #[test]
 fn near_addresses_are_names(rt: HostRuntime) -> Result<(), Fail> {
     let alloc = rt.alloc();
-    let names = ["010.0.0.2", "10.0.0.256", "1", "..."];
-    let mut hosts = Hosts::new(alloc);
-    for name in names {
-        let text = file(alloc, &format!(in alloc; "{name}:00080")?, "")?;
-        assert!(rt;
-            refuses(alloc, &text, Cause::UnknownHost, Some(0), None),
-            "{name}"
-        );
-        assert!(rt; hosts.add(name, "10.0.0.2").is_ok());
-        let Ok(scenario) = read_scenario(alloc, text.as_bytes(), &hosts) else {
-            return Err(AllocError.into());
-        };
-        let server = Peer {
-            addr: 0x0a00_0002,
-            port: 80,
-        };
-        assert_eq!(rt; scenario.proxy_of(server), Some(0), "{name}");
-    }
-    for port in ["000080", "00000", "", "8 0"] {
-        let text = file(alloc, &format!(in alloc; "10.0.0.2:{port}")?, "")?;
-        assert!(rt;
-            refuses(alloc, &text, Cause::BadUpstream, Some(0), None),
-            "{port}"
-        );
-    }
+    check_near(&rt, alloc, "010.0.0.2")?;
+    check_near(&rt, alloc, "10.0.0.256")?;
+    check_near(&rt, alloc, "1")?;
+    check_near(&rt, alloc, "...")?;
     Ok(())
 }
 
@@ -193,30 +216,34 @@ fn a_configuration_of_toxiproxy(rt: HostRuntime) -> Result<(), Fail> {
   }
 ]
 ";
+    let refused = refuses(alloc, text, Cause::UnknownHost, Some(0), None);
+    check(&rt, "no host", refused);
     let mut hosts = Hosts::new(alloc);
-    assert!(rt; hosts.add("webapp.domain", "192.168.0.8").is_ok());
-    let half = read_scenario(alloc, text.as_bytes(), &hosts);
-    assert!(rt;
-        matches!(half, Err(ScenarioFault::Refused(r)) if r == Refusal { cause: Cause::UnknownHost, proxy: Some(1), toxic: None })
-    );
-    assert!(rt; hosts.add("database.domain", "192.168.0.9").is_ok());
-    let Ok(scenario) = read_scenario(alloc, text.as_bytes(), &hosts) else {
-        return Err(AllocError.into());
+    let taken = takes(&mut hosts, "webapp.domain", "192.168.0.8");
+    check(&rt, "a host", taken);
+    let half = match read_scenario(alloc, text.as_bytes(), &hosts) {
+        Err(ScenarioFault::Refused(refusal)) => refusal.proxy,
+        _ => None,
     };
-    let mysql = Peer {
-        addr: 0xc0a8_0009,
-        port: 3306,
-    };
-    assert_eq!(rt; scenario.proxies().len(), 2);
-    assert_eq!(rt;
-        scenario.proxies()[1].name.as_slice(),
-        "web_dev_mysql_1".as_bytes()
-    );
-    assert_eq!(rt; scenario.proxy_of(mysql), Some(1));
+    check(&rt, "one host of two", half == Some(1));
+    let taken = takes(&mut hosts, "database.domain", "192.168.0.9");
+    check(&rt, "another host", taken);
+    let scenario = accepted(alloc, text, &hosts)?;
+    let named = has_proxy(&scenario, 1, "web_dev_mysql_1", true);
+    check(&rt, "both", named && scenario.proxies().len() == 2);
+    check(&rt, "met", meets(&scenario, 0xc0a8_0009, 3306, Some(1)));
     Ok(())
 }
 
-// A text of five million bytes is read; one that nests too deep, or is no UTF-8, is not JSON.
+// Whether a text of bytes is refused as no JSON.
+fn is_not_json(alloc: Global, text: &[u8]) -> bool {
+    match read_scenario(alloc, text, &Hosts::new(alloc)) {
+        Err(ScenarioFault::Refused(refusal)) => refusal.cause == Cause::NotJson,
+        _ => false,
+    }
+}
+
+// A text of five million bytes is read; one that nests too deep, or is not UTF-8, is not JSON.
 #[test]
 fn long_deep_and_broken_texts(rt: HostRuntime) -> Result<(), Fail> {
     let alloc = rt.alloc();
@@ -228,17 +255,10 @@ fn long_deep_and_broken_texts(rt: HostRuntime) -> Result<(), Fail> {
     let Ok(scenario) = read_scenario(alloc, &text, &Hosts::new(alloc)) else {
         return Err(AllocError.into());
     };
-    assert_eq!(rt; scenario.proxies().len(), 1);
+    check(&rt, "a long text", scenario.proxies().len() == 1);
     let mut deep = vec![in alloc; b'['; 200]?;
     deep.extend_from_slice(&vec![in alloc; b']'; 200]?)?;
-    let not_json = Refusal {
-        cause: Cause::NotJson,
-        proxy: None,
-        toxic: None,
-    };
-    for text in [deep.as_slice(), b"[\"\xff\"]".as_slice()] {
-        let read = read_scenario(alloc, text, &Hosts::new(alloc));
-        assert!(rt; matches!(read, Err(ScenarioFault::Refused(r)) if r == not_json));
-    }
+    check(&rt, "200 deep", is_not_json(alloc, &deep));
+    check(&rt, "not UTF-8", is_not_json(alloc, b"[\"\xff\"]"));
     Ok(())
 }

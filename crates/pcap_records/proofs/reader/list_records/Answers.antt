@@ -5,15 +5,15 @@ use Rattle.pcap_records.specs.Instants.{microseconds}
 use Rattle.pcap_records.specs.Agreement.{Refuses}
 use Rattle.pcap_records.specs.Reading.{microsecond_heading}
 use Rattle.pcap_records.specs.CaptureView.{IsWithinFile, packet_of, refusal}
-use Rattle.pcap_records.proofs.Passes.{with_front-none, listed-whole, listed-torn, listed-too_long, refuses-listed}
+use Rattle.pcap_records.proofs.Passes.{listed_before-none, listed-whole, listed-torn, listed-too_long, refuses-listed}
 use Rattle.pcap_records.proofs.reader.list_records.Goals as goal
 
 pub records-init : goal.records-init
 records-init c = record {
-  place = omega arith;
-  sixteen_each = rw c.new-records.ensures.items (omega arith);
+  inside = omega arith;
+  header_each = rw c.new-records.ensures.items (omega arith);
   within = rw c.new-records.ensures.items (All-nil (IsWithinFile microseconds c.args.bytes.now));
-  same = rw c.new-records.ensures.items (with_front-none _);
+  same = rw c.new-records.ensures.items (listed_before-none _);
 }
 
 pub returns-in-Torn-clause-exact : goal.returns-in-Torn-clause-exact
@@ -37,15 +37,15 @@ records-preserved c =
     let found = c.in-Whole.ensures in
     let before = c.records.records.items in
     record {
-      place = omega (arith, found.within.ends, found.start);
-      sixteen_each = rw (c.in-Ok.ensures.items, length_push before c.in-Whole.record) (omega (arith, c.records.invariant.sixteen_each));
+      inside = omega (arith, found.within.ends, found.start);
+      header_each = rw (c.in-Ok.ensures.items, length_push before c.in-Whole.record) (omega (arith, c.records.invariant.header_each));
       within = rw c.in-Ok.ensures.items (All-push (IsWithinFile microseconds bytes) before c.in-Whole.record c.records.invariant.within found.within);
       same =
           rw (c.in-Ok.ensures.items, map_push (packet_of bytes) before c.in-Whole.record, length_push before c.in-Whole.record, found.packet, ← drop-drop (16 + c.in-Whole.record.len) c.records.at bytes, found.len)
           (sym (listed-whole h (map (packet_of bytes) before) (length before) (drop c.records.at bytes) found.is_whole) ∙ c.records.invariant.same);
     }
 
--- the record found no memory: what refuses the records behind it refuses the file
+-- the record found no memory: what refuses the records after it refuses the file
 pub returns-in_default-clause-exact : goal.returns-in_default-clause-exact
 returns-in_default-clause-exact c =
     let bytes = c.args.bytes.now in
@@ -53,7 +53,7 @@ returns-in_default-clause-exact c =
     let found = c.in-Whole.ensures in
     let before = c.records.records.items in
     let count : c.len.result + 1 ≡ length before + 1 = omega (arith, c.len.ensures, c.records.records.ok.0) in
-    let o = refusal c.fault_behind.result in
-    let behind = rw (count, ← drop-drop (16 + c.in-Whole.record.len) c.records.at bytes, found.len) at c.fault_behind.ensures in
+    let o = refusal c.fault_after.result in
+    let after = rw (count, ← drop-drop (16 + c.in-Whole.record.len) c.records.at bytes, found.len) at c.fault_after.ensures in
     subst (λ read. Refuses o read) (sym (listed-whole h (map (packet_of bytes) before) (length before) (drop c.records.at bytes) found.is_whole) ∙ c.records.invariant.same)
-    (refuses-listed o _ _ behind)
+    (refuses-listed o _ _ after)

@@ -2,15 +2,15 @@ use Rattle.std.proofs.Common.{◌≡◌, ◌≤◌, length, map, drop, ◌-◌, 
 use Rattle.pcap_records.specs.Instants.{microseconds}
 use Rattle.pcap_records.specs.Reading.{microsecond_heading, records_after}
 use Rattle.pcap_records.specs.CaptureView.{IsWithinFile, packet_of}
-use Rattle.pcap_records.proofs.Passes.{with_front}
+use Rattle.pcap_records.proofs.Passes.{listed_before}
 use Rattle.pcap_records.proofs.reader.list_records.Given as goal
 
 abbrev pub invariant-records : goal.invariant-records
 invariant-records l = record {
-  place : l.at ≤ length l.bytes;
-  sixteen_each : 16 * length l.records.items + 24 ≤ l.at;
+  inside : l.at ≤ length l.bytes;
+  header_each : 16 * length l.records.items + 24 ≤ l.at;
   within : All (IsWithinFile microseconds l.bytes) l.records.items;
-  same : with_front (map (packet_of l.bytes) l.records.items) (records_after 0 (microsecond_heading l.order) (length l.records.items) (drop l.at l.bytes)) ≡ records_after 0 (microsecond_heading l.order) 0 (drop 24 l.bytes);
+  same : listed_before (map (packet_of l.bytes) l.records.items) (records_after 0 (microsecond_heading l.order) (length l.records.items) (drop l.at l.bytes)) ≡ records_after 0 (microsecond_heading l.order) 0 (drop 24 l.bytes);
 }
 
 abbrev pub decreases-records : goal.decreases-records

@@ -1,7 +1,7 @@
 use Rattle.std.proofs.lemmas.Result.{err_from_is_err_and}
 use Rattle.pcap_records.specs.Reading.{microsecond_heading}
 use Rattle.pcap_records.specs.CaptureView.{refusal}
-use Rattle.pcap_records.proofs.Answering.{reading-bad_header, reading-refused, reading-listed}
+use Rattle.pcap_records.proofs.Passes.{reading-bad_header, reading-refused, reading-listed}
 use Rattle.pcap_records.proofs.reader.read_capture.Goals as goal
 
 pub returns-in_err-order-clause-exact : goal.returns-in_err-order-clause-exact

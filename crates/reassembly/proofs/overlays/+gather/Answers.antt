@@ -1,5 +1,6 @@
 use Rattle.std.proofs.Common.{rules, ◌∙◌}
-use Rattle.reassembly.proofs.Halves.{near_take, near_drop, then_ok, gathered_same}
+use Rattle.std.proofs.lemmas.Result.{IfOk-weaker}
+use Rattle.reassembly.proofs.Halves.{near_take, near_drop, gathered_same}
 use Rattle.reassembly.proofs.overlays.+gather.Goals as goal
 
 pub gather-requires : goal.gather-requires
@@ -10,4 +11,4 @@ gather-requires-2 t c = (search rules, rw c.split_at.ensures.back (near_drop _ _
 
 pub returns-clause-same : goal.returns-clause-same
 returns-clause-same t c =
-    then_ok c.overlay.result c.overlay.ensures.same (λ v e x. e x ∙ gathered_same _ _ _ _ _ _ _ _ c.split_at.ensures.front c.split_at.ensures.back c.in_ok-left.ensures.same c.in_ok-right.ensures.same c.deref.ensures.value c.deref-2.ensures.value x)
+    IfOk-weaker c.overlay.result _ _ (λ v e x. e x ∙ gathered_same _ _ _ _ _ _ _ _ c.split_at.ensures.front c.split_at.ensures.back c.in_ok-left.ensures.same c.in_ok-right.ensures.same c.deref.ensures.value c.deref-2.ensures.value x) c.overlay.ensures.same

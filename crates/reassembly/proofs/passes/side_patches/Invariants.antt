@@ -1,7 +1,6 @@
 use Rattle.std.proofs.Common.{◌≡◌, ℕ, drop}
 use Rattle.std.specs.Option.{option_or}
-use Rattle.reassembly.specs.Spans.{spans, first_byte, layered_byte}
-use Rattle.reassembly.specs.Passes.{Taken}
+use Rattle.reassembly.specs.Spans.{spans, first_byte, layered_byte, Taken}
 use Rattle.reassembly.specs.MemberSpans.{member_spans, own_members}
 use Rattle.reassembly.proofs.passes.side_patches.Given as goal
 

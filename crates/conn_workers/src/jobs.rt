@@ -1,0 +1,148 @@
+//! The two works of a delivery: what is recorded of each connection, and what each connection contributes to each scenario.
+ghost use Rattle.std.specs.Prelude.{◌≡◌, ◌≤◌, IfOk, IfSome, length, option_map};
+ghost use Rattle.pcap_records.specs.Instants.{microseconds};
+ghost use Rattle.toxic_defs.specs.DeliveredLines.{met_view};
+ghost use Rattle.toxic_defs.specs.Limits.{most_toxics};
+ghost use Rattle.conn_workers.specs.CaptureTables.{whole_table};
+ghost use Rattle.conn_workers.specs.DeliveryRows.{scenario_limit};
+ghost use Rattle.conn_workers.specs.MetProxies.{met_proxy};
+ghost use Rattle.conn_workers.specs.Recordings.{recorded_delivery};
+
+use crate::deliveries::Delivery;
+use conn_table::Conn;
+use frame_headers::Peer;
+use job_matrix::Work;
+use pcap_records::Capture;
+use reassembly::laws::{connections_are_of_capture, conns_are_of_capture};
+use reassembly::{Recorded, lines};
+use report::line;
+use scenarios::Scenario;
+use segment_writer::segments;
+use std::alloc::{AllocError, Global};
+use std::marker::Model;
+use toxic_defs::{MetProxy, delivered_by};
+
+/// A connection of a table, with what is recorded of it.
+#[derive(Drop)]
+pub(crate) struct Recording<'w, 'a> {
+    /// What the table shows of the connection.
+    pub(crate) conn: &'w Conn,
+    /// What its two sides sent.
+    pub(crate) recorded: Recorded<'a>,
+}
+
+impl<'w, 'a> Model for Recording<'w, 'a> {
+    ghost use Rattle.reassembly.specs.RecordedView.{recorded_view};
+    ghost use Rattle.conn_workers.specs.Recordings.{RecordingView, HasLines};
+
+    ghost Value = { RecordingView };
+
+    ghost view = { λ r. record { conn = r.conn.now; recorded = recorded_view r.recorded } };
+
+    ghost invariant = { λ r. HasLines r.recorded };
+}
+
+/// The connections of a capture's table: job c makes the recorded lines of connection c.
+#[derive(Drop)]
+pub(crate) struct LineJobs<'w, 'a> {
+    /// Where lines are kept.
+    pub(crate) alloc: Global,
+    /// The capture.
+    pub(crate) capture: &'w Capture<'a>,
+    /// The connections of its table.
+    pub(crate) conns: &'w [Conn],
+    ghost shown: { conns.now ≡ (whole_table capture.now).conns },
+}
+
+impl<'w, 'a> Work for LineJobs<'w, 'a> {
+    type Out = Recording<'w, 'a>;
+
+    ghost use Rattle.std.specs.Prelude.{◌≡◌, ◌<◌, length, get_or, IfOk};
+    ghost use Rattle.conn_workers.specs.Recordings.{recordings_of, no_recording};
+
+    ghost jobs = { λ w. length w.conns.now };
+
+    ghost meaning = { λ w job. get_or (recordings_of w.capture.now) job no_recording };
+
+    fn value(&self, job: u64) -> Result<Recording<'w, 'a>, AllocError> {
+        connections_are_of_capture();
+        conns_are_of_capture();
+        let conn = &self.conns[job as usize];
+        let recorded = lines(self.alloc, conn, self.capture)?;
+        Ok(Recording { conn, recorded })
+    }
+}
+
+/// Recordings of connections, and scenarios: of C connections, job s * C + c makes what connection c contributes to scenario s.
+#[derive(Drop)]
+pub(crate) struct ContributionJobs<'w, 'v, 'a> {
+    /// Where deliveries are kept.
+    pub(crate) alloc: Global,
+    /// The connections with what is recorded of them.
+    pub(crate) recordings: &'w [Recording<'v, 'a>],
+    /// The scenarios.
+    pub(crate) scenarios: &'w [Scenario],
+    /// The seed of the random words.
+    pub(crate) seed: u64,
+    ghost few: { length scenarios.now ≤ scenario_limit },
+}
+
+impl<'w, 'v, 'a> Work for ContributionJobs<'w, 'v, 'a> {
+    type Out = Delivery;
+
+    ghost use Rattle.std.specs.Prelude.{◌≡◌, ◌<◌, ◌*◌, length, get_or, IfOk};
+    ghost use Rattle.pcap_records.specs.Instants.{microseconds};
+    ghost use Rattle.conn_workers.specs.Recordings.{recorded_deliveries, no_delivery};
+
+    ghost jobs = { λ w. length w.scenarios.now * length w.recordings.now };
+
+    ghost meaning = { λ w job. get_or (recorded_deliveries microseconds w.seed w.recordings.now w.scenarios.now) job no_delivery };
+
+    fn value(&self, job: u64) -> Result<Delivery, AllocError> {
+        let count = self.recordings.len() as u64;
+        let number = job / count;
+        let recording = &self.recordings[(job % count) as usize];
+        let scenario = &self.scenarios[number as usize];
+        delivery(self.alloc, recording, number as u32, scenario, self.seed)
+    }
+}
+
+// What a connection contributes to a scenario with its number.
+fn delivery(
+    alloc: Global,
+    recording: &Recording<'_, '_>,
+    number: u32,
+    scenario: &Scenario,
+    seed: u64,
+) -> Result<Delivery, AllocError>
+    ensures { IfOk result (λ d. d ≡ recorded_delivery microseconds seed (number, scenario.now) recording.now) }
+{
+    let conn = recording.conn;
+    let recorded = &recording.recorded;
+    let met = met_proxy(scenario, conn.server);
+    let delivered = delivered_by(alloc, recorded, met, seed, number, conn.number)?;
+    let segments = segments(alloc, conn, recorded, &delivered)?;
+    let line = line(alloc, conn, recorded, &delivered)?;
+    Ok(Delivery {
+        scenario: number,
+        conn: conn.number,
+        segments,
+        line,
+    })
+}
+
+// The proxy of a scenario that a connection to a server meets: the first that stands before it.
+fn met_proxy(scenario: &Scenario, server: Peer) -> Option<MetProxy<'_>>
+    ensures met { option_map met_view result ≡ met_proxy server scenario.now }
+    ensures few_up { IfSome result (λ m. length m.up.now ≤ most_toxics) }
+    ensures few_down { IfSome result (λ m. length m.down.now ≤ most_toxics) }
+{
+    let number = scenario.proxy_of(server)?;
+    let proxy = &scenario.proxies()[number as usize];
+    Some(MetProxy {
+        number,
+        enabled: proxy.enabled,
+        up: proxy.up.as_slice(),
+        down: proxy.down.as_slice(),
+    })
+}

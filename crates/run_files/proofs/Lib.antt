@@ -1,0 +1,4 @@
+mod DumpTable
+mod DumpLemmas
+mod PrintedPart
+mod StoredFiles

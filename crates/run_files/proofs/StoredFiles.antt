@@ -1,0 +1,72 @@
+-- How files come to stand on a shelf, one after another.
+use Rattle.std.proofs.Common.{◌≡◌, ◌<◌, ◌≤◌, ℕ, ◌+◌, ◌-◌, ◌*◌, ◌^◌, List, [], ◌∷◌, ◌++◌, length, take, drop, get_or, false, Option, Some, None, Err, refl, sym, ap, subst, ◌∙◌, arith, append_assoc, take-add, length-drop}
+use Rattle.std.proofs.lemmas.Grind.{common_steps}
+use Rattle.std.proofs.lemmas.List.{drop_more, drop_all, take_all}
+use Rattle.std.specs.Fmt.{decimal, padded_integral, format_spec, char_count}
+use Rattle.run_files.specs.declared.outputs.Output.{Output}
+use Rattle.run_files.specs.declared.error.StoreFault.{StoreFault}
+use Rattle.run_files.specs.declared.error.StoreFault.TheVariants.{ShelfFailed, Memory}
+use Rattle.run_files.specs.Shelves.{StoredFile, Takes}
+use Rattle.run_files.specs.WrittenOutputs.{four_digits, capture_file, report_file, files_from, Stores, PutsAfter}
+
+-- what std writes for a number with zeros in front
+pub padded_is_four_digits : (n : ℕ) → padded_integral (format_spec 32 0 4 4 (2 ^ 64 - 1)) false [] (decimal n) ≡ four_digits n
+unfolding padded_integral char_count
+padded_is_four_digits n = grind (arith, common_steps)
+
+-- what was taken in two steps
+Takes-append : (a b c : Option (List StoredFile)) (xs ys : List StoredFile) → Takes a b xs → Takes b c ys → Takes a c (xs ++ ys)
+Takes-append None b c xs ys p q = tt
+Takes-append (Some a) None c xs ys p q = absurd p
+Takes-append (Some a) (Some b) None xs ys p q = absurd q
+Takes-append (Some a) (Some b) (Some c) xs ys p q = q ∙ (ap (λ l. l ++ ys) p ∙ append_assoc {A = StoredFile} a xs ys)
+
+-- a list, around the element that comes next
+pub at_next : (files : List StoredFile) (k : ℕ) (x : StoredFile) (rest : List StoredFile) → drop k files ≡ x ∷ rest
+    → (k < length files) × (take (k + 1) files ≡ take k files ++ x ∷ []) × (drop (k + 1) files ≡ rest)
+at_next files k x rest next =
+    let within : k < length files = omega (arith, length-drop k files, ap length next) in
+    let more : drop k files ≡ get_or files k x ∷ drop (k + 1) files = drop_more files k x within in
+    (within, take-add k 1 files ∙ ap (λ l. take k files ++ take 1 l) next, cc)
+
+-- one file more
+pub taken_one : (files : List StoredFile) (k : ℕ) (x : StoredFile) (rest : List StoredFile) (had a b : Option (List StoredFile)) → drop k files ≡ x ∷ rest
+    → Takes had a (take k files) → Takes a b (x ∷ []) → Takes had b (take (k + 1) files)
+taken_one files k x rest had a b next before one =
+    subst (Takes had b) (sym (at_next files k x rest next).1) (Takes-append had a b (take k files) (x ∷ []) before one)
+
+-- the files of the next output come next
+pub next_files : (outputs : List Output) (n : ℕ) (o : Output) (files : List StoredFile) → n < length outputs → o ≡ get_or outputs n o
+    → files ≡ files_from n (drop n outputs)
+    → files ≡ capture_file n o ∷ report_file n o ∷ files_from (n + 1) (drop (n + 1) outputs)
+next_files outputs n o files within is next =
+    next ∙ ap (files_from n) (drop_more outputs n o within ∙ ap (λ x. x ∷ drop (n + 1) outputs) (sym is))
+
+-- two files more
+pub taken_two : (files : List StoredFile) (n : ℕ) (x y : StoredFile) (rest : List StoredFile) (had a b c : Option (List StoredFile))
+    → drop (2 * n) files ≡ x ∷ y ∷ rest → Takes had a (take (2 * n) files) → Takes a b (x ∷ []) → Takes b c (y ∷ [])
+    → Takes had c (take (2 * (n + 1)) files) × (drop (2 * (n + 1)) files ≡ rest)
+taken_two files n x y rest had a b c next before one two =
+    let behind : drop (2 * n + 1) files ≡ y ∷ rest = (at_next files (2 * n) x (y ∷ rest) next).2 in
+    let first : Takes had b (take (2 * n + 1) files) = taken_one files (2 * n) x (y ∷ rest) had a b next before one in
+    let both : (2 * n + 1) + 1 ≡ 2 * (n + 1) = omega arith in (
+      subst (λ k. Takes had c (take k files)) both (taken_one files (2 * n + 1) y rest had b c behind first two),
+      subst (λ k. drop k files ≡ rest) both (at_next files (2 * n + 1) y rest behind).2,
+    )
+
+-- the file that comes next is not taken
+pub stops_here : (files : List StoredFile) (k : ℕ) (x : StoredFile) (rest : List StoredFile) (had a b : Option (List StoredFile)) (old between new : ℕ)
+    (fault : StoreFault) → drop k files ≡ x ∷ rest → Takes had a (take k files) → between ≡ old
+    → PutsAfter k (Takes a b (x ∷ [])) (b ≡ a) between new (Err fault) → Stores files (Takes had b) old new (Err fault)
+stops_here files k x rest had a b old between new (ShelfFailed after) next before same puts =
+    rw (puts.0, puts.1, puts.2, same) ((at_next files k x rest next).0, before, refl)
+stops_here files k x rest had a b old between new (Memory after) next before same puts =
+    rw (puts.0, puts.1, puts.2, same) ((at_next files k x rest next).0, before, refl)
+
+-- none comes next
+pub all_taken : (outputs : List Output) (n : ℕ) (files : List StoredFile) (had a : Option (List StoredFile)) → length outputs ≤ n
+    → drop (2 * n) files ≡ files_from n (drop n outputs) → Takes had a (take (2 * n) files) → Takes had a files
+all_taken outputs n files had a behind next before =
+    let none : drop (2 * n) files ≡ [] = next ∙ ap (files_from n) (drop_all n outputs behind) in
+    let past : length files ≤ 2 * n = omega (arith, length-drop (2 * n) files, ap length none) in
+    subst (Takes had a) (take_all (2 * n) files past) before

@@ -1,0 +1,16 @@
+use Rattle.std.proofs.Common.{◌≡◌, ◌-◌, ◌≤◌, length}
+use Rattle.std.specs.Io.KnownBytes.{Consumes}
+use Rattle.pcap_records.specs.Reading.{capture_limit}
+use Rattle.run_files.proofs.streams.load.Given as goal
+
+-- the reader lost what came until now, within the limit, and no call has failed
+abbrev pub invariant-reads : goal.invariant-reads
+invariant-reads g l = record {
+  came : Consumes (g.R.Read.remaining l.initial.reader.inner) (g.R.Read.remaining l.reader.inner) l.bytes.items;
+  within : length l.bytes.items ≤ capture_limit;
+  none_failed : l.reader.failed ≡ l.initial.reader.failed;
+}
+
+-- each read but the last gives a byte
+abbrev pub decreases-reads : goal.decreases-reads
+decreases-reads g l = capture_limit - length l.bytes.items

@@ -1,0 +1,55 @@
+-- Dumps: bytes written as pairs of hexadecimal digits in either case, the higher digit first, with
+-- blanks before, after and between any two digits.
+use Rattle.std.specs.Prelude.{◌≡◌, ℕ, ◌+◌, ◌*◌, ◌%◌, ◌==◌, ◌||◌, ◌⊎◌, not, Bool, false, List, [], ◌∷◌, length, position, count_by, filter, if◌then◌else◌, Option, Some, None, unwrap_or, Result, Ok, Err}
+use Rattle.std.specs.List.{filter_map}
+use Rattle.hex.specs.Hex.{IsBytes, encode_lower, encode_upper, hex_digit_value, is_hex_digit}
+use Rattle.run_files.specs.declared.error.RunFault.{RunFault}
+use Rattle.run_files.specs.declared.error.RunFault.TheVariants.{BadDump}
+
+-- a tab, a line feed, a carriage return or a space
+abbrev pub is_blank : ℕ → Bool
+is_blank b = b == 9 || b == 10 || b == 13 || b == 32
+
+-- a byte that has no place in a dump
+abbrev pub is_foreign : ℕ → Bool
+is_foreign b = not (is_blank b || is_hex_digit b)
+
+-- a digit's value, 16 for a blank and 17 for a foreign byte
+abbrev pub digit_meaning : ℕ → ℕ
+digit_meaning b = unwrap_or (hex_digit_value b) (if is_blank b then 16 else 17)
+
+-- each two values, the higher one first, make a byte
+abbrev pub joined_pairs : List ℕ → List ℕ
+joined_pairs [] = []
+joined_pairs (high ∷ []) = []
+joined_pairs (high ∷ low ∷ rest) = (high * 16 + low) ∷ joined_pairs rest
+
+-- the bytes that a text stands for, blanks and all else passed over
+abbrev pub dumped_bytes : List ℕ → List ℕ
+dumped_bytes text = joined_pairs (filter_map hex_digit_value text)
+
+-- given the place of the first foreign byte, if there is one: that place; else the text's length, where the
+-- digits are odd in number; else the bytes
+abbrev pub dump_reading_from : Option ℕ → List ℕ → Result (List ℕ) RunFault
+dump_reading_from (Some at) text = Err (BadDump at)
+dump_reading_from None text = if count_by is_hex_digit text % 2 == 1 then Err (BadDump (length text)) else Ok (dumped_bytes text)
+
+-- the bytes of a dump, or its fault
+unfoldable pub dump_reading : List ℕ → Result (List ℕ) RunFault
+dump_reading text = dump_reading_from (position is_foreign text) text
+
+-- a text without its blanks
+abbrev pub without_blanks : List ℕ → List ℕ
+without_blanks text = filter (λ b. not (is_blank b)) text
+
+-- the digits of some bytes, all in lower or all in upper case, are a dump of these bytes, whatever blanks
+-- stand before, between and after them
+abbrev pub ReadsBack : Type 0
+ReadsBack = (bytes text : List ℕ) → IsBytes bytes
+    → (without_blanks text ≡ encode_lower bytes) ⊎ (without_blanks text ≡ encode_upper bytes)
+    → dump_reading text ≡ Ok bytes
+
+-- whether a text is taken for a dump: its first byte is a hexadecimal digit
+abbrev pub is_dump : List ℕ → Bool
+is_dump [] = false
+is_dump (b ∷ _) = is_hex_digit b

@@ -1,0 +1,5 @@
+pub mod RunFault
+pub mod Streams
+pub mod Dumps
+pub mod Shelves
+pub mod WrittenOutputs

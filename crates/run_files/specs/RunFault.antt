@@ -1,0 +1,97 @@
+-- The faults of a run: which of them a fault of a capture is, what each refuses, and how each is told.
+use Rattle.std.specs.Prelude.{ℕ, List, [], ◌++◌, codes, Option, Some, None}
+use Rattle.std.specs.Fmt.{decimal}
+use Rattle.pcap_records.specs.declared.fault.CaptureFault.{CaptureFault}
+use Rattle.pcap_records.specs.declared.fault.CaptureFault.TheVariants as of_capture
+use Rattle.scenarios.specs.declared.error.Cause.{Cause}
+use Rattle.scenarios.specs.declared.error.Cause.TheVariants as causes
+use Rattle.run_files.specs.declared.error.RunFault.{RunFault}
+use Rattle.run_files.specs.declared.error.RunFault.TheVariants as of_run
+use Rattle.run_files.specs.declared.error.StoreFault.{StoreFault}
+use Rattle.run_files.specs.declared.error.StoreFault.TheVariants as of_storing
+use Rattle.run_files.specs.declared.fault_lines.FaultPlace.{FaultPlace}
+use Rattle.run_files.specs.declared.fault_lines.FaultPlace.TheVariants.{Nowhere, At, Host, After, In}
+
+-- a fault of a capture as a fault of a run
+abbrev pub run_fault : CaptureFault → RunFault
+run_fault of_capture.ShortHeader = of_run.ShortHeader
+run_fault of_capture.BadMagic = of_run.BadMagic
+run_fault of_capture.BadVersion = of_run.BadVersion
+run_fault of_capture.BadLink = of_run.BadLink
+run_fault (of_capture.RecordTooLong at) = of_run.RecordTooLong at
+run_fault of_capture.CaptureTooLong = of_run.CaptureTooLong
+run_fault (of_capture.Memory e) = of_run.Memory
+
+-- a fault of storing as a fault of a run
+abbrev pub run_fault_of_storing : StoreFault → RunFault
+run_fault_of_storing (of_storing.ShelfFailed after) = of_run.ShelfFailed after
+run_fault_of_storing (of_storing.Memory after) = of_run.Memory
+
+-- each fault but want of memory refuses something
+abbrev pub run_refusal : RunFault → Option RunFault
+run_refusal of_run.Memory = None
+run_refusal fault = Some fault
+
+-- ---- how a fault is told
+
+-- its number, its name, and its place where it knows one
+pub record FaultEntry : Type 0 where
+  pub number : ℕ
+  pub name : List ℕ
+  pub place : FaultPlace
+
+abbrev pub entry : ℕ → List ℕ → FaultPlace → FaultEntry
+entry number name place = record { number = number; name = name; place = place }
+
+-- the table of a scenario's faults
+abbrev pub cause_entry : Cause → ℕ × List ℕ
+cause_entry causes.NotJson = (10, codes "NotJson")
+cause_entry causes.NotArray = (11, codes "NotArray")
+cause_entry causes.BadMember = (12, codes "BadMember")
+cause_entry causes.DuplicateProxy = (13, codes "DuplicateProxy")
+cause_entry causes.BadUpstream = (14, codes "BadUpstream")
+cause_entry causes.UnknownHost = (15, codes "UnknownHost")
+cause_entry causes.UnknownToxic = (16, codes "UnknownToxic")
+cause_entry causes.BadStream = (17, codes "BadStream")
+cause_entry causes.DuplicateToxic = (18, codes "DuplicateToxic")
+cause_entry causes.AttributeRange = (19, codes "AttributeRange")
+cause_entry causes.TooMany = (20, codes "TooMany")
+cause_entry causes.BadToxicity = (21, codes "BadToxicity")
+
+-- the table of faults
+abbrev pub fault_entry : RunFault → FaultEntry
+fault_entry of_run.ShortHeader = entry 1 (codes "ShortHeader") Nowhere
+fault_entry of_run.BadMagic = entry 2 (codes "BadMagic") Nowhere
+fault_entry of_run.BadVersion = entry 3 (codes "BadVersion") Nowhere
+fault_entry of_run.BadLink = entry 4 (codes "BadLink") Nowhere
+fault_entry (of_run.RecordTooLong at) = entry 5 (codes "RecordTooLong") (At at)
+fault_entry of_run.CaptureTooLong = entry 6 (codes "CaptureTooLong") Nowhere
+fault_entry (of_run.BadScenario number refusal) =
+    entry (cause_entry refusal.cause).0 (cause_entry refusal.cause).1 (In number refusal.proxy refusal.toxic)
+fault_entry of_run.TooManyScenarios = entry 22 (codes "TooManyScenarios") Nowhere
+fault_entry (of_run.BadHost at) = entry 23 (codes "BadHost") (Host at)
+fault_entry of_run.Memory = entry 40 (codes "Memory") Nowhere
+fault_entry (of_run.BadDump at) = entry 55 (codes "BadDump") (At at)
+fault_entry (of_run.ShelfFailed after) = entry 60 (codes "ShelfFailed") (After after)
+fault_entry of_run.ReadFailed = entry 61 (codes "ReadFailed") Nowhere
+fault_entry of_run.WriteFailed = entry 62 (codes "WriteFailed") Nowhere
+
+-- a number that is known, after the name of what it counts
+abbrev pub known_text : List ℕ → Option ℕ → List ℕ
+known_text name None = []
+known_text name (Some n) = name ++ decimal n
+
+abbrev pub place_text : FaultPlace → List ℕ
+place_text Nowhere = []
+place_text (At n) = codes " at " ++ decimal n
+place_text (Host n) = codes " host " ++ decimal n
+place_text (After n) = codes " after " ++ decimal n
+place_text (In scenario proxy toxic) =
+    (known_text (codes " scenario ") (Some scenario) ++ known_text (codes " proxy ") proxy) ++ known_text (codes " toxic ") toxic
+
+-- refused NUMBER NAME, and its place
+abbrev pub entry_text : FaultEntry → List ℕ
+entry_text e = (codes "refused " ++ (decimal e.number ++ (codes " " ++ e.name))) ++ place_text e.place
+
+unfoldable pub fault_text : RunFault → List ℕ
+fault_text fault = entry_text (fault_entry fault)

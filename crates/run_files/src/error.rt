@@ -1,0 +1,140 @@
+//! Why a run is refused, why files were not all stored, and that a shelf did not take a file.
+ghost use Rattle.std.specs.Prelude.{◌≡◌};
+
+use pcap_records::CaptureFault;
+use scenarios::Refusal;
+use std::alloc::{AllocError, AllocFailed};
+use std::io;
+use thiserror::Error;
+
+/// Why a run is refused. [`fault_line`](crate::fault_line) gives the line that tells a fault to users.
+#[derive(Clone, Copy, Debug, PartialEq, Eq, Error)]
+pub enum RunFault {
+    /// The capture has fewer bytes than a file header.
+    #[error("the capture ends within its file header")]
+    ShortHeader,
+    /// The capture's first four bytes are no known magic number.
+    #[error("the capture begins with an unknown magic number")]
+    BadMagic,
+    /// The capture is of another version than 2.4.
+    #[error("the capture is not of version 2.4")]
+    BadVersion,
+    /// The capture is of another link type than Ethernet.
+    #[error("the capture is not of link type Ethernet")]
+    BadLink,
+    /// The record of this number, from 0, claims more bytes than a record may have.
+    #[error("record {at} is too long")]
+    RecordTooLong { at: u32 },
+    /// The text of the scenario with this number, from 0, is refused.
+    #[error("scenario {number}: {refusal}")]
+    BadScenario { number: usize, refusal: Refusal },
+    /// The host with this number among those of the command line, from 0, is refused.
+    #[error("host {at} is refused")]
+    BadHost { at: usize },
+    /// More than 256 scenarios were given.
+    #[error("there are more than 256 scenarios")]
+    TooManyScenarios,
+    /// More than 2^30 bytes were given.
+    #[error("the capture is longer than 2^30 bytes")]
+    CaptureTooLong,
+    /// Memory was refused.
+    #[error("out of memory")]
+    Memory,
+    /// The dump is broken at this byte, from 0, or at its end.
+    #[error("the dump is broken at byte {at}")]
+    BadDump { at: usize },
+    /// The shelf failed after it had taken so many files whole.
+    #[error("a file cannot be stored, after {after} that were")]
+    ShelfFailed { after: u64 },
+    /// A read failed.
+    #[error("a read failed")]
+    ReadFailed,
+    /// A write failed.
+    #[error("a write failed")]
+    WriteFailed,
+}
+
+impl From<CaptureFault> for RunFault {
+    ghost use Rattle.run_files.specs.RunFault.{run_fault};
+
+    ghost from_gives = { λ fault r. r ≡ run_fault fault };
+
+    fn from(fault: CaptureFault) -> RunFault {
+        match fault {
+            CaptureFault::ShortHeader => RunFault::ShortHeader,
+            CaptureFault::BadMagic => RunFault::BadMagic,
+            CaptureFault::BadVersion => RunFault::BadVersion,
+            CaptureFault::BadLink => RunFault::BadLink,
+            CaptureFault::RecordTooLong { at } => RunFault::RecordTooLong { at },
+            CaptureFault::CaptureTooLong => RunFault::CaptureTooLong,
+            CaptureFault::Memory(_) => RunFault::Memory,
+        }
+    }
+}
+
+impl From<AllocError> for RunFault {
+    ghost use Rattle.run_files.specs.declared.error.RunFault.TheVariants.{Memory};
+
+    ghost from_gives = { λ _ r. r ≡ Memory };
+
+    fn from(_refused: AllocError) -> RunFault {
+        RunFault::Memory
+    }
+}
+
+impl<T: Drop> From<AllocFailed<T>> for RunFault {
+    ghost use Rattle.run_files.specs.declared.error.RunFault.TheVariants.{Memory};
+
+    ghost from_gives = { λ _ r. r ≡ Memory };
+
+    fn from(_refused: AllocFailed<T>) -> RunFault {
+        RunFault::Memory
+    }
+}
+
+/// Why not all files were stored.
+#[derive(Clone, Copy, Debug, PartialEq, Eq, Error)]
+pub enum StoreFault {
+    /// The shelf failed after it had taken so many files whole.
+    #[error("a file cannot be stored, after {after} that were")]
+    ShelfFailed { after: u64 },
+    /// Memory was refused after so many files were stored whole.
+    #[error("out of memory, after {after} files were stored")]
+    Memory { after: u64 },
+}
+
+impl From<StoreFault> for RunFault {
+    ghost use Rattle.run_files.specs.RunFault.{run_fault_of_storing};
+
+    ghost from_gives = { λ fault r. r ≡ run_fault_of_storing fault };
+
+    fn from(fault: StoreFault) -> RunFault {
+        match fault {
+            StoreFault::ShelfFailed { after } => RunFault::ShelfFailed { after },
+            StoreFault::Memory { .. } => RunFault::Memory,
+        }
+    }
+}
+
+/// A shelf did not take a file.
+#[derive(Clone, Copy, Debug, PartialEq, Eq, Error)]
+#[error("the shelf did not take the file")]
+pub struct ShelfError;
+
+impl From<io::Error> for ShelfError {
+    fn from(_refused: io::Error) -> ShelfError {
+        ShelfError
+    }
+}
+
+impl From<AllocError> for ShelfError {
+    fn from(_refused: AllocError) -> ShelfError {
+        ShelfError
+    }
+}
+
+impl<T: Drop> From<AllocFailed<T>> for ShelfError {
+    fn from(_refused: AllocFailed<T>) -> ShelfError {
+        ShelfError
+    }
+}

@@ -1,0 +1,154 @@
+//! The line that tells a fault.
+ghost use Rattle.std.specs.Prelude.{◌≡◌, ◌++◌, IfOk, OnOk};
+ghost use Rattle.std.specs.String.{string_bytes};
+ghost use Rattle.run_files.specs.declared.error.RunFault.TheVariants as RunFault;
+ghost use Rattle.run_files.specs.RunFault.{cause_entry, fault_entry, fault_text, known_text, place_text};
+
+use crate::error::RunFault;
+use scenarios::{Cause, Refusal};
+use std::alloc::{AllocError, Global};
+
+/// Where a fault lies.
+#[derive(Clone, Copy, Debug, PartialEq, Eq)]
+pub(crate) enum FaultPlace {
+    /// It knows no place.
+    Nowhere,
+    /// At the record or the byte of this number, from 0.
+    At(u64),
+    /// At the host of this number, from 0.
+    Host(u64),
+    /// After so many files that were stored whole.
+    After(u64),
+    /// In the scenario of this number, and in its proxy and the proxy's toxic where it is of one.
+    In {
+        scenario: usize,
+        proxy: Option<usize>,
+        toxic: Option<usize>,
+    },
+}
+
+/// What is told of a fault: its number, its name, and its place.
+#[derive(Clone, Copy, Debug)]
+pub(crate) struct FaultEntry {
+    pub number: u32,
+    pub name: &'static str,
+    pub place: FaultPlace,
+}
+
+// The table of a scenario's faults.
+fn entry_of_cause(cause: Cause) -> (u32, &'static str)
+    ensures number { result.0 ≡ (cause_entry cause).0 }
+    ensures name { result.1.now ≡ (cause_entry cause).1 }
+{
+    match cause {
+        Cause::NotJson => (10, "NotJson"),
+        Cause::NotArray => (11, "NotArray"),
+        Cause::BadMember => (12, "BadMember"),
+        Cause::DuplicateProxy => (13, "DuplicateProxy"),
+        Cause::BadUpstream => (14, "BadUpstream"),
+        Cause::UnknownHost => (15, "UnknownHost"),
+        Cause::UnknownToxic => (16, "UnknownToxic"),
+        Cause::BadStream => (17, "BadStream"),
+        Cause::DuplicateToxic => (18, "DuplicateToxic"),
+        Cause::AttributeRange => (19, "AttributeRange"),
+        Cause::TooMany => (20, "TooMany"),
+        Cause::BadToxicity => (21, "BadToxicity"),
+    }
+}
+
+// What is told of a scenario's refusal.
+fn entry_of_refusal(scenario: usize, refusal: &Refusal) -> FaultEntry
+    ensures number { result.number ≡ (fault_entry (RunFault.BadScenario scenario refusal.now)).number }
+    ensures name { result.name.now ≡ (fault_entry (RunFault.BadScenario scenario refusal.now)).name }
+    ensures place { result.place ≡ (fault_entry (RunFault.BadScenario scenario refusal.now)).place }
+{
+    let (number, name) = entry_of_cause(refusal.cause);
+    let place = FaultPlace::In {
+        scenario,
+        proxy: refusal.proxy,
+        toxic: refusal.toxic,
+    };
+    FaultEntry {
+        number,
+        name,
+        place,
+    }
+}
+
+// The table of faults.
+fn entry_of(fault: &RunFault) -> FaultEntry
+    ensures number { result.number ≡ (fault_entry fault.now).number }
+    ensures name { result.name.now ≡ (fault_entry fault.now).name }
+    ensures place { result.place ≡ (fault_entry fault.now).place }
+{
+    use FaultPlace::{After, At, Host, Nowhere};
+    let (number, name, place) = match fault {
+        RunFault::BadScenario { number, refusal } => return entry_of_refusal(*number, refusal),
+        RunFault::ShortHeader => (1, "ShortHeader", Nowhere),
+        RunFault::BadMagic => (2, "BadMagic", Nowhere),
+        RunFault::BadVersion => (3, "BadVersion", Nowhere),
+        RunFault::BadLink => (4, "BadLink", Nowhere),
+        RunFault::RecordTooLong { at } => (5, "RecordTooLong", At(u64::from(*at))),
+        RunFault::CaptureTooLong => (6, "CaptureTooLong", Nowhere),
+        RunFault::TooManyScenarios => (22, "TooManyScenarios", Nowhere),
+        RunFault::BadHost { at } => (23, "BadHost", Host(*at as u64)),
+        RunFault::Memory => (40, "Memory", Nowhere),
+        RunFault::BadDump { at } => (55, "BadDump", At(*at as u64)),
+        RunFault::ShelfFailed { after } => (60, "ShelfFailed", After(*after)),
+        RunFault::ReadFailed => (61, "ReadFailed", Nowhere),
+        RunFault::WriteFailed => (62, "WriteFailed", Nowhere),
+    };
+    FaultEntry {
+        number,
+        name,
+        place,
+    }
+}
+
+// Adds a number that is known, behind the name of what it counts.
+fn push_known(line: &mut String, name: &str, number: Option<usize>) -> Result<(), AllocError>
+    ensures { OnOk result (string_bytes line.new ≡ string_bytes line.old ++ known_text name.now number) }
+{
+    if let Some(number) = number {
+        write!(line, "{name}{number}")?;
+    }
+    Ok(())
+}
+
+// Adds a place.
+fn push_place(line: &mut String, place: &FaultPlace) -> Result<(), AllocError>
+    ensures { OnOk result (string_bytes line.new ≡ string_bytes line.old ++ place_text place.now) }
+{
+    match place {
+        FaultPlace::Nowhere => {}
+        FaultPlace::At(at) => write!(line, " at {at}")?,
+        FaultPlace::Host(at) => write!(line, " host {at}")?,
+        FaultPlace::After(files) => write!(line, " after {files}")?,
+        FaultPlace::In {
+            scenario,
+            proxy,
+            toxic,
+        } => {
+            push_known(line, " scenario ", Some(*scenario))?;
+            push_known(line, " proxy ", *proxy)?;
+            push_known(line, " toxic ", *toxic)?;
+        }
+    }
+    Ok(())
+}
+
+/// The line that tells a fault: `refused`, its number, its name and, where the fault knows one, its
+/// place. It has no line feed at its end.
+#[tactic(auto, unfolding(crate::specs::RunFault::fault_text))]
+pub fn fault_line(alloc: Global, fault: &RunFault) -> Result<String, AllocError>
+    ensures { IfOk result (λ line. string_bytes line ≡ fault_text fault.now) }
+{
+    let FaultEntry {
+        number,
+        name,
+        place,
+    } = entry_of(fault);
+    let mut line = format!(in alloc; "refused {number} {name}")?;
+    push_place(&mut line, &place)?;
+    Ok(line)
+}

@@ -1,0 +1,19 @@
+//! The files of a run, where they come from and where they go: readers and writers that count their failed calls, loading a
+//! capture, dumps in hexadecimal, why a run is refused and the line that tells it, and what a rehearsal answers, printed on a
+//! writer or stored on a shelf.
+#![tactic(auto)]
+
+mod dumps;
+mod error;
+mod fault_lines;
+pub mod laws;
+mod outputs;
+mod shelves;
+mod streams;
+
+pub use dumps::{is_dump, undump};
+pub use error::{RunFault, ShelfError, StoreFault};
+pub use fault_lines::fault_line;
+pub use outputs::{Output, Outputs, print_reports, store_all};
+pub use shelves::{Folder, MemoryFile, MemoryShelf, Shelf};
+pub use streams::{Counted, load, write_bytes};

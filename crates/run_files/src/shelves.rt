@@ -1,0 +1,254 @@
+//! Shelves: where files are put, whole, one after another; in memory, and in a folder.
+ghost use Rattle.std.specs.Prelude.{◌≡◌, ◌+◌, ◌-◌, ◌^◌, ◌<◌, ◌≤◌, length, IfOk, IsOk, OnOk};
+ghost use Rattle.std.specs.String.{string_bytes, string_capacity};
+ghost use Rattle.run_files.specs.Shelves.{path_in};
+
+use crate::error::ShelfError;
+use std::alloc::{AllocError, Global};
+use std::fs;
+use std::io::Write;
+use std::marker::Model;
+use std::rt::Files;
+
+/// Where files are put: a folder, an archive, or a list in memory.
+///
+/// Contracts see two things of a shelf. `files` are the files that it took whole, the oldest first, or `None` where it does not
+/// tell them, as a folder, whose files others may change. `failures` is the number of its failed calls, which each shelf counts
+/// for itself.
+pub trait Shelf {
+    ghost use Rattle.std.specs.Prelude.{◌≡◌, ℕ, ◌+◌, ◌-◌, ◌^◌, ◌<◌, [], ◌∷◌, List, Option, OnOk, OnErr, is_ok, if◌then◌else◌};
+    ghost use Rattle.run_files.specs.Shelves.{StoredFile, stored_file, Takes};
+
+    ghost files: { Self → Option (List StoredFile) };
+
+    ghost failures: { Self → ℕ };
+
+    /// Puts a file on the shelf, under its name.
+    ///
+    /// # Errors
+    /// The shelf failed, for whatever cause. It has the files that it had; what it keeps of this one is its own matter.
+    fn put(&mut self, name: &str, bytes: &[u8]) -> Result<(), ShelfError>
+        requires { failures self.old < 2 ^ 64 - 1 }
+        ensures taken { OnOk result (Takes (files self.old) (files self.new) (stored_file name.now bytes.now ∷ [])) }
+        ensures as_before { OnErr result (files self.new ≡ files self.old) }
+        ensures counted { failures self.new ≡ (if is_ok result then failures self.old else failures self.old + 1) };
+}
+
+/// A file that a shelf in memory has taken.
+#[derive(Drop)]
+pub struct MemoryFile {
+    name: String,
+    bytes: Vec<u8>,
+}
+
+impl Model for MemoryFile {
+    ghost use Rattle.std.specs.String.{string_bytes};
+    ghost use Rattle.run_files.specs.Shelves.{StoredFile, stored_file};
+
+    ghost Value = { StoredFile };
+
+    ghost view = { λ f. stored_file (string_bytes f.name) f.bytes.items };
+}
+
+impl MemoryFile {
+    ghost use Rattle.std.specs.Prelude.{◌≡◌, IfOk};
+    ghost use Rattle.run_files.specs.Shelves.{stored_file};
+
+    // A copy of a file.
+    fn copy_of(alloc: Global, name: &str, bytes: &[u8]) -> Result<MemoryFile, AllocError>
+        ensures { IfOk result (λ f. f ≡ stored_file name.now bytes.now) }
+    {
+        Ok(MemoryFile {
+            name: String::from_str(alloc, name)?,
+            bytes: Vec::from_slice(alloc, bytes)?,
+        })
+    }
+
+    /// Its name.
+    pub fn name(&self) -> &str
+        ensures { result.now ≡ self.now.name }
+    {
+        &self.name
+    }
+
+    /// Its bytes.
+    pub fn bytes(&self) -> &[u8]
+        ensures { result.now ≡ self.now.bytes }
+    {
+        &self.bytes
+    }
+}
+
+/// A shelf in memory: it keeps copies of the files that are put, in order, under names that may stand twice. It fails where memory is
+/// refused, and keeps nothing of that file.
+#[derive(Drop)]
+pub struct MemoryShelf {
+    alloc: Global,
+    files: Vec<MemoryFile>,
+    failed: u64,
+}
+
+impl Model for MemoryShelf {
+    ghost use Rattle.run_files.specs.Shelves.{MemoryShelfView};
+
+    ghost Value = { MemoryShelfView };
+
+    ghost view = { λ s. record { files = s.files.items; failed = s.failed } };
+}
+
+impl MemoryShelf {
+    ghost use Rattle.std.specs.Prelude.{◌≡◌, ◌++◌, [], ◌∷◌, is_ok, if◌then◌else◌};
+    ghost use Rattle.run_files.specs.Shelves.{stored_file};
+
+    /// A shelf without files, of which no call has failed. It takes no memory.
+    pub fn new(alloc: Global) -> MemoryShelf
+        ensures { result ≡ record { files = []; failed = 0 } }
+    {
+        MemoryShelf {
+            alloc,
+            files: Vec::new(alloc),
+            failed: 0,
+        }
+    }
+
+    /// The files, the oldest first.
+    pub fn files(&self) -> &[MemoryFile]
+        ensures { result.now ≡ self.now.files }
+    {
+        &self.files
+    }
+
+    /// The files, as a vector of one's own.
+    pub fn into_files(self) -> Vec<MemoryFile>
+        ensures { result.items ≡ self.files }
+    {
+        self.files
+    }
+
+    /// How many calls have failed.
+    pub fn failed(&self) -> u64
+        ensures { result ≡ self.now.failed }
+    {
+        self.failed
+    }
+
+    // Keeps a copy of a file.
+    fn keep(&mut self, name: &str, bytes: &[u8]) -> Result<(), ShelfError>
+        ensures files { self.new.files ≡ (if is_ok result then self.old.files ++ stored_file name.now bytes.now ∷ [] else self.old.files) }
+        ensures failed { self.new.failed ≡ self.old.failed }
+    {
+        let file = MemoryFile::copy_of(self.alloc, name, bytes)?;
+        self.files.push(file)?;
+        Ok(())
+    }
+}
+
+impl Shelf for MemoryShelf {
+    ghost use Rattle.std.specs.Prelude.{Some};
+
+    ghost files = { λ s. Some s.files };
+
+    ghost failures = { λ s. s.failed };
+
+    fn put(&mut self, name: &str, bytes: &[u8]) -> Result<(), ShelfError> {
+        let kept = self.keep(name, bytes);
+        if kept.is_err() {
+            self.failed += 1;
+        }
+        kept
+    }
+}
+
+// The longest name that a file may have on Linux, in bytes.
+const NAME_LIMIT: usize = 255;
+
+/// A folder that exists, as a shelf: each file that is put is made in it, or replaced. It tells no files, since others may change
+/// them; contracts see its path and the number of its failures.
+///
+/// A file that cannot be made or written whole is a failure, and so is any file in a folder that is not there. A part of the file
+/// may then stay in the folder. A name with a slash, or of more than 255 bytes, is a failure too. No file that is put takes memory.
+#[derive(Drop)]
+pub struct Folder<'a, F: Files> {
+    files: &'a F,
+    folder: &'a str,
+    path: String,
+    failed: u64,
+}
+
+impl<'a, F: Files> Model for Folder<'a, F> {
+    ghost use Rattle.std.specs.Prelude.{◌≤◌, ◌+◌, length};
+    ghost use Rattle.std.specs.String.{string_capacity};
+    ghost use Rattle.run_files.specs.declared.shelves.TheConstants.{NAME_LIMIT};
+    ghost use Rattle.run_files.specs.Shelves.{FolderView};
+
+    ghost Value = { FolderView };
+
+    ghost view = { λ f. record { folder = f.folder.now; failed = f.failed } };
+
+    ghost invariant = { λ f. length f.folder.now + 1 + NAME_LIMIT ≤ string_capacity f.path };
+}
+
+impl<'a, F: Files> Folder<'a, F> {
+    /// The folder at a path, of which no call has failed yet. Whether it exists shows at the first file.
+    pub fn new(alloc: Global, files: &'a F, folder: &'a str) -> Result<Self, AllocError>
+        ensures { IfOk result (λ f. f ≡ record { folder = folder.now; failed = 0 }) }
+    {
+        let path = String::with_capacity(alloc, folder.len() + 1 + NAME_LIMIT)?;
+        Ok(Folder {
+            files,
+            folder,
+            path,
+            failed: 0,
+        })
+    }
+
+    /// How many calls have failed.
+    pub fn failed(&self) -> u64
+        ensures { result ≡ self.now.failed }
+    {
+        self.failed
+    }
+
+    // Makes or replaces a file.
+    fn write_file(&mut self, name: &str, bytes: &[u8]) -> Result<(), ShelfError>
+        ensures { self.new ≡ self.old }
+    {
+        // A slash behind an empty path would be the root of the file system.
+        if self.folder.is_empty() || name.len() > NAME_LIMIT || name.contains('/') {
+            return Err(ShelfError);
+        }
+        // The path has room for it.
+        set_path(&mut self.path, self.folder, name).unwrap();
+        let mut file = fs::create(self.files, self.path.as_str())?;
+        file.write_all(bytes)?;
+        Ok(())
+    }
+}
+
+impl<'a, F: Files> Shelf for Folder<'a, F> {
+    ghost use Rattle.std.specs.Prelude.{None};
+
+    ghost files = { λ _. None };
+
+    ghost failures = { λ f. f.failed };
+
+    fn put(&mut self, name: &str, bytes: &[u8]) -> Result<(), ShelfError> {
+        let written = self.write_file(name, bytes);
+        if written.is_err() {
+            self.failed += 1;
+        }
+        written
+    }
+}
+
+// Makes a path that of a file in a folder. Where the path has room for it, it takes no memory.
+fn set_path(path: &mut String, folder: &str, name: &str) -> Result<(), AllocError>
+    ensures is { OnOk result (string_bytes path.new ≡ path_in folder.now name.now) }
+    ensures room { length folder.now + 1 + length name.now ≤ string_capacity path.old → IsOk result }
+    ensures kept { string_capacity path.old ≤ string_capacity path.new }
+{
+    path.clear();
+    path.push_str(folder)?;
+    path.push_str("/")?;
+    path.push_str(name)
+}

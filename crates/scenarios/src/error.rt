@@ -1,0 +1,151 @@
+//! Why a scenario or a host is refused.
+use std::alloc::AllocError;
+use thiserror::Error;
+
+/// Why a scenario is refused. The causes are tested in the order in which they stand here, proxy by proxy and, in a proxy, toxic
+/// by toxic; but whether it is one too many is the first test of each proxy, and the last of each toxic.
+#[derive(Clone, Copy, Debug, PartialEq, Eq, Error)]
+pub enum Cause {
+    /// The text is not JSON, or not UTF-8, or nests deeper than 127 levels, or has a number too large for a float.
+    #[error("the text is not JSON")]
+    NotJson,
+    /// The text is no JSON array.
+    #[error("the text is no array of proxies")]
+    NotArray,
+    /// A member that has to be there is missing, or a member is of the wrong kind; or the item is no object.
+    #[error("a member is missing or of the wrong kind")]
+    BadMember,
+    /// An earlier proxy has the name.
+    #[error("an earlier proxy has the name")]
+    DuplicateProxy,
+    /// The upstream is not HOST:PORT.
+    #[error("the upstream is not HOST:PORT")]
+    BadUpstream,
+    /// The upstream's host is a name that the list of hosts does not have.
+    #[error("the upstream's host is not known")]
+    UnknownHost,
+    /// There is no toxic of this type.
+    #[error("there is no toxic of this type")]
+    UnknownToxic,
+    /// The toxic's stream is neither `upstream` nor `downstream`.
+    #[error("the stream is neither upstream nor downstream")]
+    BadStream,
+    /// An earlier toxic of the proxy, of either direction, has the name.
+    #[error("an earlier toxic of the proxy has the name")]
+    DuplicateToxic,
+    /// An attribute of the toxic's type is no whole number, or out of its range.
+    #[error("an attribute is no whole number in its range")]
+    AttributeRange,
+    /// There are more than 64 proxies, or a direction of a proxy has more than 8 toxics.
+    #[error("there are more than 64 proxies, or more than 8 toxics of a direction")]
+    TooMany,
+    /// The toxicity is neither 0 nor 1, or its parts of a million are no whole number up to a million.
+    #[error("the toxicity is not 0 or 1, or toxicity_ppm is no whole number up to 1000000")]
+    BadToxicity,
+}
+
+/// A refusal, and where it stands: the numbers of the proxy in its file and of the toxic in its proxy, each from 0, where the
+/// refusal is of one.
+#[derive(Clone, Copy, Debug, PartialEq, Eq, Error)]
+#[error("{cause}")]
+pub struct Refusal {
+    /// Why.
+    pub cause: Cause,
+    /// Which proxy.
+    pub proxy: Option<usize>,
+    /// Which of its toxics.
+    pub toxic: Option<usize>,
+}
+
+impl Refusal {
+    ghost use Rattle.std.specs.Prelude.{◌≡◌};
+    ghost use Rattle.scenarios.specs.Refusals.{of_text, of_proxy, of_toxic};
+
+    // A refusal of the whole text.
+    pub(crate) fn of_text(cause: Cause) -> Refusal
+        ensures { result ≡ of_text cause }
+    {
+        Refusal {
+            cause,
+            proxy: None,
+            toxic: None,
+        }
+    }
+
+    // A refusal of a proxy.
+    pub(crate) fn of_proxy(proxy: usize, cause: Cause) -> Refusal
+        ensures { result ≡ of_proxy proxy cause }
+    {
+        Refusal {
+            cause,
+            proxy: Some(proxy),
+            toxic: None,
+        }
+    }
+
+    // A refusal of one of its toxics.
+    pub(crate) fn of_toxic(proxy: usize, toxic: usize, cause: Cause) -> Refusal
+        ensures { result ≡ of_toxic proxy toxic cause }
+    {
+        Refusal {
+            cause,
+            proxy: Some(proxy),
+            toxic: Some(toxic),
+        }
+    }
+}
+
+/// Why there is no scenario.
+#[derive(Debug, Drop, Error)]
+pub enum ScenarioFault {
+    /// The text is refused.
+    #[error("{0}")]
+    Refused(Refusal),
+    /// A growth of memory was refused.
+    #[error("out of memory")]
+    Memory(AllocError),
+}
+
+impl From<Refusal> for ScenarioFault {
+    ghost use Rattle.std.specs.Prelude.{◌≡◌};
+    ghost use Rattle.scenarios.specs.declared.error.ScenarioFault.TheVariants.{Refused};
+
+    ghost from_gives = { λ refusal fault. fault ≡ Refused refusal };
+
+    fn from(refusal: Refusal) -> ScenarioFault {
+        ScenarioFault::Refused(refusal)
+    }
+}
+
+impl From<AllocError> for ScenarioFault {
+    ghost use Rattle.std.specs.Prelude.{◌≡◌};
+    ghost use Rattle.scenarios.specs.declared.error.ScenarioFault.TheVariants.{Memory};
+
+    ghost from_gives = { λ error fault. fault ≡ Memory error };
+
+    fn from(error: AllocError) -> ScenarioFault {
+        ScenarioFault::Memory(error)
+    }
+}
+
+/// Why a host is not added.
+#[derive(Debug, Drop, Error)]
+pub enum HostFault {
+    /// The name is not valid, or the address is not valid, or the name is there.
+    #[error("a host is NAME=ADDR, each name once")]
+    BadHost,
+    /// A growth of memory was refused.
+    #[error("out of memory")]
+    Memory(AllocError),
+}
+
+impl From<AllocError> for HostFault {
+    ghost use Rattle.std.specs.Prelude.{◌≡◌};
+    ghost use Rattle.scenarios.specs.declared.error.HostFault.TheVariants.{Memory};
+
+    ghost from_gives = { λ error fault. fault ≡ Memory error };
+
+    fn from(error: AllocError) -> HostFault {
+        HostFault::Memory(error)
+    }
+}

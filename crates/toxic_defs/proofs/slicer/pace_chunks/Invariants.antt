@@ -1,0 +1,18 @@
+use Rattle.std.proofs.Common.{◌≡◌, length, take, drop}
+use Rattle.pcap_records.specs.Instants.{horizon, microseconds}
+use Rattle.reassembly.specs.LineView.{bytes_of_parts}
+use Rattle.toxic_defs.specs.DelayedBytes.{begins, moved}
+use Rattle.toxic_defs.specs.Slicer.{slicer_leaves, paced}
+use Rattle.toxic_defs.specs.Slices.{AreFilled}
+use Rattle.toxic_defs.proofs.slicer.pace_chunks.Given as goal
+
+abbrev pub invariant-loop-part : goal.invariant-loop-part
+invariant-loop-part l =
+    let front = bytes_of_parts (take l.part-index l.initial.parts) in
+    record {
+      filled : AreFilled l.parts;
+      rest : drop l.part-index l.parts ≡ drop l.part-index l.initial.parts;
+      bytes : bytes_of_parts (take l.part-index l.parts) ≡ moved (slicer_leaves (horizon microseconds) l.gap) front;
+      last : l.last ≡ slicer_leaves (horizon microseconds) l.gap front;
+      next : l.next ≡ paced (horizon microseconds) l.gap (length (begins front)) (begins front);
+    }

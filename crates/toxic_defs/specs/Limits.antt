@@ -1,0 +1,22 @@
+-- Limits of what a toxic takes, and of a direction's toxics.
+use Rattle.std.specs.Prelude.{ℕ}
+
+-- the greatest latency, jitter, delay and timeout, and the greatest size of a slice
+abbrev pub greatest_attribute : ℕ
+greatest_attribute = 1000000000
+
+-- the greatest rate, in KB a second
+abbrev pub greatest_rate : ℕ
+greatest_rate = 1000000
+
+-- the greatest limit of bytes
+abbrev pub greatest_limit : ℕ
+greatest_limit = 1000000000000
+
+-- the greatest `ppm`: of each million connections a toxic applies to all
+abbrev pub million : ℕ
+million = 1000000
+
+-- how many toxics a direction has at most
+abbrev pub most_toxics : ℕ
+most_toxics = 8

@@ -1,0 +1,14 @@
+-- A slow close: a FIN and a close come later.
+use Rattle.std.specs.Prelude.{ℕ, ◌+◌, min}
+use Rattle.reassembly.specs.RecordedLines.{Line, End, live, fin, close, reset}
+
+-- a FIN and a close come later, at the limit at most; a reset does not
+abbrev pub slow_end : ℕ → ℕ → End → End
+slow_end limit delay live = live
+slow_end limit delay (fin at) = fin (min (at + delay) limit)
+slow_end limit delay (close at) = close (min (at + delay) limit)
+slow_end limit delay (reset at) = reset at
+
+-- a line that ends so
+abbrev pub slow_line : ℕ → ℕ → Line → Line
+slow_line limit delay f = record { bytes = f.bytes; end = slow_end limit delay f.end }

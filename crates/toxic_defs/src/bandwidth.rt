@@ -1,0 +1,89 @@
+//! A limited bandwidth: chunks in pieces that leave when the wire has taken their last byte.
+ghost use Rattle.std.specs.Prelude.{◌≡◌, ◌≤◌, ◌<◌, ◌^◌, [], length, IfOk};
+ghost use Rattle.pcap_records.specs.Instants.{horizon, microseconds, millisecond};
+ghost use Rattle.reassembly.specs.LineLaws.{IsLine};
+ghost use Rattle.reassembly.specs.LineView.{bytes_of_parts};
+ghost use Rattle.toxic_defs.specs.Bandwidth.{bandwidth_leaves, charged, rated_line, settled, settled_parts};
+ghost use Rattle.toxic_defs.specs.DelayedBytes.{moved};
+ghost use Rattle.toxic_defs.specs.EndRule.{ended};
+ghost use Rattle.toxic_defs.specs.Limits.{greatest_rate};
+ghost use Rattle.toxic_defs.specs.Slices.{AreFilled};
+
+use crate::end_rule::finished;
+use crate::slices::{Sizes, slice_parts};
+use pcap_records::Moment;
+use reassembly::{Line, LinePart};
+use std::alloc::{AllocError, Global};
+
+/// The ticks of a millisecond. A rate is in bytes a millisecond.
+const MILLISECOND: u128 = Moment::MILLISECOND as u128;
+
+/// How many milliseconds a piece takes.
+const PIECE: u64 = 100;
+
+/// A line under a bandwidth of `rate` KB a second, of 1000 bytes each: each chunk in pieces of what passes in 100
+/// milliseconds, each of which leaves when its last byte has passed. The pieces share the bytes.
+pub(crate) fn run_bandwidth<'a>(
+    alloc: Global,
+    line: Line<'a>,
+    rate: u64,
+) -> Result<Line<'a>, AllocError>
+    requires some { 0 < rate }
+    requires rate { rate ≤ greatest_rate }
+    requires line { IsLine line.line }
+    ensures line { IfOk result (λ l. l.line ≡ ended (rated_line microseconds rate line.entry.line)) }
+    ensures ticks { IfOk result (λ l. l.ticks ≡ microseconds) }
+{
+    let end = line.end();
+    let parts = line.into_parts();
+    let sizes = Sizes::same((PIECE * rate) as usize);
+    let mut pieces = slice_parts(alloc, &parts, sizes)?;
+    pass_chunks(&mut pieces, rate);
+    Ok(finished(pieces, &end))
+}
+
+// Moves chunks, in place, to the instants at which their last bytes have passed.
+fn pass_chunks(parts: &mut [LinePart<'_>], rate: u64)
+    requires some { 0 < rate }
+    requires rate { rate ≤ greatest_rate }
+    requires filled { AreFilled parts.old }
+    requires short { length (bytes_of_parts parts.old) < 2 ^ 32 }
+    ensures { bytes_of_parts parts.new
+        ≡ settled (moved (bandwidth_leaves (horizon microseconds) (millisecond microseconds) rate) (bytes_of_parts parts.old)) }
+{
+    charge_parts(parts, rate);
+    settle_chunks(parts);
+}
+
+// Moves each part, in place, to the instant at which its last byte has passed. What the wire has to do is counted in parts of
+// 1/rate microsecond, so that nothing is rounded on the way.
+fn charge_parts(parts: &mut [LinePart<'_>], rate: u64)
+    requires some { 0 < rate }
+    requires rate { rate ≤ greatest_rate }
+    requires filled { AreFilled parts.old }
+    requires short { length (bytes_of_parts parts.old) < 2 ^ 32 }
+    ensures { parts.new ≡ charged (bandwidth_leaves (horizon microseconds) (millisecond microseconds) rate) [] parts.old }
+{
+    let rate = u128::from(rate);
+    let mut busy = 0;
+    for part in parts.iter_mut() {
+        let own = rate * u128::from(part.at.count());
+        busy = own.max(busy) + MILLISECOND * part.bytes.len() as u128;
+        let leaves = (busy + (rate - 1)) / rate;
+        part.at = Moment::of(leaves.min(u128::from(Moment::HORIZON)) as u64);
+    }
+}
+
+// Moves the parts of each chunk, in place, to the instant of its last one.
+fn settle_chunks(parts: &mut [LinePart<'_>])
+    ensures { parts.new ≡ settled_parts parts.old }
+{
+    let mut count = parts.len();
+    let mut behind = None;
+    'parts: while count > 0 {
+        count -= 1;
+        let part = &mut parts[count];
+        part.at = behind.unwrap_or(part.at);
+        behind = if part.starts { None } else { Some(part.at) };
+    }
+}

@@ -1,0 +1,130 @@
+//! The session cut of two lines, and the closing that cuts them.
+ghost use Rattle.std.specs.Prelude.{◌≡◌, ◌&&◌, [], nat_lt, length, take, filter, option_map};
+ghost use Rattle.pcap_records.specs.Instants.{horizon, microseconds};
+ghost use Rattle.reassembly.specs.LineLaws.{IsLine, IsInChunks};
+ghost use Rattle.reassembly.specs.LineView.{bytes_of_parts, end_view};
+ghost use Rattle.toxic_defs.specs.SessionCut.{closing_end, closing_view, cut_limit, cut_line, first_closing, is_after, line_before, line_up_to};
+
+use pcap_records::Moment;
+use reassembly::{End, Line, LinePart};
+
+// A closing: a close or a reset, and its instant.
+#[derive(Clone, Copy, Debug)]
+struct Closing {
+    at: Moment,
+    end: End,
+}
+
+/// Two lines of a connection under the session cut: the first close or reset of either ends both, so that bytes after it
+/// are lost and an end after it becomes that one. Nothing is delivered at the horizon. It takes no memory.
+pub fn cut_both<'a>(up: Line<'a>, down: Line<'a>) -> (Line<'a>, Line<'a>)
+    requires up { IsLine up.line }
+    requires down { IsLine down.line }
+    ensures up { result.0.line ≡ cut_line microseconds up.entry.line down.entry.line up.entry.line }
+    ensures down { result.1.line ≡ cut_line microseconds up.entry.line down.entry.line down.entry.line }
+    ensures up_ticks { result.0.ticks ≡ microseconds }
+    ensures down_ticks { result.1.ticks ≡ microseconds }
+{
+    let closing = first_closing(&up.end(), &down.end());
+    let up = cut_at(&closing, up);
+    let down = cut_at(&closing, down);
+    (up, down)
+}
+
+// A line that is cut at a closing, and at the horizon.
+fn cut_at<'a>(closing: &Option<Closing>, line: Line<'a>) -> Line<'a>
+    requires { IsLine line.line }
+    ensures line { result.line
+        ≡ line_before (horizon microseconds) (line_up_to (option_map closing_view closing.now) line.entry.line) }
+    ensures ticks { result.ticks ≡ microseconds }
+{
+    let end = line.end();
+    let mut parts = line.into_parts();
+    let kept = kept_parts(&parts, cut_limit(closing));
+    parts.truncate(kept);
+    Line::of_parts(parts, end_before_horizon(&end_up_to(closing, &end)))
+}
+
+// An end that is a close or a reset.
+fn closing_end(end: &End) -> Option<Closing>
+    ensures { option_map closing_view result ≡ closing_end (end_view end.now) }
+{
+    match *end {
+        End::Fin(_) => None,
+        _ => end.at().map(|at| Closing { at, end: *end }),
+    }
+}
+
+// The first close or reset of two ends, the first one's where both close at one instant.
+fn first_closing(up: &End, down: &End) -> Option<Closing>
+    ensures { option_map closing_view result
+        ≡ first_closing (closing_end (end_view up.now)) (closing_end (end_view down.now)) }
+{
+    let up = closing_end(up);
+    let down = closing_end(down);
+    match (&up, &down) {
+        (Some(first), Some(second)) if second.at.is_before(first.at) => down,
+        (None, _) => down,
+        _ => up,
+    }
+}
+
+// The end of a line that is cut at a closing: an end after it becomes the closing one.
+fn end_up_to(closing: &Option<Closing>, end: &End) -> End
+    ensures { end_view result
+        ≡ (line_up_to (option_map closing_view closing.now) (record { bytes = []; end = end_view end.now })).end }
+{
+    match closing {
+        Some(closing) if is_after(closing.at, end) => closing.end,
+        _ => *end,
+    }
+}
+
+// Whether an end comes after an instant, as one that never comes does.
+fn is_after(at: Moment, end: &End) -> bool
+    ensures { result ≡ is_after at (end_view end.now) }
+{
+    end.at().is_none_or(|own| at.is_before(own))
+}
+
+// An end before the horizon; one at the horizon never comes.
+fn end_before_horizon(end: &End) -> End
+    ensures { end_view result
+        ≡ (line_before (horizon microseconds) (record { bytes = []; end = end_view end.now })).end }
+{
+    match end.at() {
+        Some(at) if !at.is_before_horizon() => End::Live,
+        _ => *end,
+    }
+}
+
+// The first instant whose bytes are lost: the one after the closing, or the horizon.
+fn cut_limit(closing: &Option<Closing>) -> Moment
+    ensures { result ≡ cut_limit (horizon microseconds) (option_map closing_view closing.now) }
+{
+    match closing {
+        Some(closing) => closing.at.later(1),
+        None => Moment::of(Moment::HORIZON),
+    }
+}
+
+/// How many parts of a line there are up to the last with a byte before an instant. The parts after it are passed from the
+/// back.
+pub(crate) fn kept_parts(parts: &[LinePart<'_>], limit: Moment) -> usize
+    requires { IsInChunks (bytes_of_parts parts.now) }
+    ensures { bytes_of_parts (take result parts.now)
+        ≡ filter (λ b. nat_lt b.at limit) (bytes_of_parts parts.now) }
+{
+    let mut kept = parts.len();
+    'parts: while kept > 0 && !has_byte_before(&parts[kept - 1], limit) {
+        kept -= 1;
+    }
+    kept
+}
+
+// Whether a part has a byte before an instant.
+fn has_byte_before(part: &LinePart<'_>, limit: Moment) -> bool
+    ensures { result ≡ (nat_lt 0 (length part.now.bytes.now) && nat_lt part.now.at limit) }
+{
+    !part.bytes.is_empty() && part.at.is_before(limit)
+}

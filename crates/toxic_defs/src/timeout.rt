@@ -1,0 +1,25 @@
+//! A timeout: no bytes, and a close some time after the opening.
+ghost use Rattle.std.specs.Prelude.{◌≡◌};
+ghost use Rattle.reassembly.specs.LineView.{end_view};
+ghost use Rattle.toxic_defs.specs.EndRule.{ended};
+ghost use Rattle.toxic_defs.specs.Timeout.{timed_out, end_after};
+
+use crate::end_rule::finished;
+use pcap_records::Moment;
+use reassembly::{End, Line};
+
+/// A line without its bytes, closed at an instant; it is never closed where the time until then is 0. It takes no memory.
+pub(crate) fn run_timeout<'a>(line: Line<'a>, time: u64, at: Moment) -> Line<'a>
+    ensures { result.line ≡ ended (timed_out time at) }
+{
+    let mut parts = line.into_parts();
+    parts.truncate(0);
+    finished(parts, &end_after(time, at))
+}
+
+// No end after the time 0, else a close at the instant.
+fn end_after(time: u64, at: Moment) -> End
+    ensures { end_view result ≡ end_after time at }
+{
+    if time == 0 { End::Live } else { End::Close(at) }
+}

@@ -1,0 +1,223 @@
+//! A run that a command line asks for: the hosts and files that it names are read, and the answers printed or stored.
+ghost use Rattle.std.specs.Prelude.{◌≡◌, ◌≢◌, ℕ, ◌+◌, ◌-◌, ◌^◌, ◌<◌, List, map, IfErr, [], length, option_map, IfOk};
+ghost use Rattle.std.specs.Io.KnownBytes.{Appends, Consumes, IsAtEnd};
+ghost use Rattle.command_line.specs.Asking.{IsInRange};
+ghost use Rattle.run_files.specs.declared.error.RunFault.{RunFault};
+ghost use Rattle.toxicap.specs.Answering.{called_for};
+ghost use Rattle.toxicap.specs.Commands.{AnswersInto, RunsBy};
+ghost use Rattle.toxicap.specs.RunEnds.{PrintsBy, StoresBy, reports_called_for, failed_reads, failed_writes};
+ghost use Rattle.pcap_records.specs.Agreement.{AgreesUnlessMemory};
+ghost use Rattle.toxicap.specs.Inputs.{AddsHost, IsOfFiles, IsOfHost, cut_at_first, equals_sign, host_written, hosts_from, texts_or_bare};
+ghost use Rattle.run_files.specs.RunFault.{run_refusal};
+
+use crate::answering::{Options, answers};
+use command_line::Asked;
+use job_matrix::Plan;
+use run_files::{Counted, Folder, RunFault, load, print_reports, store_all};
+use scenarios::{HostFault, Hosts};
+use std::alloc::{AllocError, Global};
+use std::fs;
+use std::io::{Read, Write};
+use std::rt::Files;
+use std::sync::Wait;
+use std::thread::Threads;
+
+/// Does what a command line asks for: its hosts are read first, then its scenario files, then the capture, from `reader` where no
+/// file is named. The answers are stored in its folder, or where it names none the reports are printed on `writer`.
+pub(crate) fn run_asked<H: Files + Threads + Wait + Sync, R: Read, W: Write>(
+    rt: &H,
+    alloc: Global,
+    asked: &Asked<'_>,
+    reader: &mut Counted<R>,
+    writer: &mut Counted<W>,
+) -> Result<(), RunFault>
+    requires asked { IsInRange asked.now }
+    requires reads { reader.old.failed < 2 ^ 64 - 1 }
+    requires writes { writer.old.failed < 2 ^ 64 - 1 }
+    ensures runs { RunsBy asked.now result (record {
+      Unread = reader.new ≡ reader.old;
+      Read = λ text n. Consumes (R.remaining reader.old.inner) (R.remaining reader.new.inner) text
+          × (reader.new.failed ≡ reader.old.failed + n);
+      AtEnd = IsAtEnd (R.remaining reader.new.inner);
+      Unwritten = writer.new ≡ writer.old;
+      Wrote = Appends (W.contents writer.old.inner) (W.contents writer.new.inner);
+      WritesFailed = λ n. writer.new.failed ≡ writer.old.failed + n;
+    }) }
+    ensures failed_writes { writer.new.failed ≡ writer.old.failed + failed_writes result }
+    ensures untouched { IfErr result (λ fault. fault ≢ RunFault.WriteFailed → writer.new ≡ writer.old) }
+{
+    let hosts = read_hosts(alloc, &asked.hosts)?;
+    let files = read_files(rt, alloc, &asked.scenarios)?;
+    let texts = texts_of(alloc, &files)?;
+    let options = Options {
+        hosts,
+        seed: asked.seed,
+        plan: Plan::new(asked.workers, asked.cut).unwrap(),
+    };
+    let Some(path) = asked.capture else {
+        return answer_into(rt, alloc, reader, writer, asked.out, &texts, &options);
+    };
+    let Ok(file) = fs::open(rt, path) else {
+        return Err(RunFault::ReadFailed);
+    };
+    let mut file = Counted::new(file);
+    answer_into(rt, alloc, &mut file, writer, asked.out, &texts, &options)
+}
+
+// The answers to a reader's capture, stored in a folder, or without one their reports printed.
+fn answer_into<H: Files + Threads + Wait + Sync, R: Read, W: Write>(
+    rt: &H,
+    alloc: Global,
+    reader: &mut Counted<R>,
+    writer: &mut Counted<W>,
+    out: Option<&str>,
+    texts: &[&[u8]],
+    options: &Options,
+) -> Result<(), RunFault>
+    requires reads { reader.old.failed < 2 ^ 64 - 1 }
+    requires writes { writer.old.failed < 2 ^ 64 - 1 }
+    ensures answer { (text : List ℕ)
+        × Consumes (R.remaining reader.old.inner) (R.remaining reader.new.inner) text
+        × AnswersInto out.entry result (called_for options.now.hosts (map (λ t. t.now) texts.now) options.now.seed text) text
+        (IsAtEnd (R.remaining reader.new.inner))
+        (writer.new ≡ writer.old) (Appends (W.contents writer.old.inner) (W.contents writer.new.inner)) }
+    ensures failed_reads { reader.new.failed ≡ reader.old.failed + failed_reads result }
+    ensures failed_writes { writer.new.failed ≡ writer.old.failed + failed_writes result }
+    ensures untouched { IfErr result (λ fault. fault ≢ RunFault.WriteFailed → writer.new ≡ writer.old) }
+{
+    match out {
+        None => print_answers(rt, alloc, reader, writer, texts, options),
+        Some(folder) => store_answers(rt, alloc, reader, folder, texts, options),
+    }
+}
+
+// Reads a capture to its end, rehearses it under scenarios that are still texts, and writes the reports. Nothing is written
+// before they are whole, so every refusal but a failed write leaves the writer as it was.
+fn print_answers<H: Threads + Wait + Sync, R: Read, W: Write>(
+    rt: &H,
+    alloc: Global,
+    reader: &mut Counted<R>,
+    writer: &mut Counted<W>,
+    texts: &[&[u8]],
+    options: &Options,
+) -> Result<(), RunFault>
+    requires reads { reader.old.failed < 2 ^ 64 - 1 }
+    requires writes { writer.old.failed < 2 ^ 64 - 1 }
+    ensures answer { (text : List ℕ)
+        × Consumes (R.remaining reader.old.inner) (R.remaining reader.new.inner) text
+        × PrintsBy result (reports_called_for (called_for options.now.hosts (map (λ t. t.now) texts.now) options.now.seed text)) text
+        (IsAtEnd (R.remaining reader.new.inner))
+        (Appends (W.contents writer.old.inner) (W.contents writer.new.inner)) }
+    ensures failed_reads { reader.new.failed ≡ reader.old.failed + failed_reads result }
+    ensures failed_writes { writer.new.failed ≡ writer.old.failed + failed_writes result }
+    ensures untouched { IfErr result (λ fault. fault ≢ RunFault.WriteFailed → writer.new ≡ writer.old) }
+{
+    let outputs = answers(rt, alloc, reader, texts, options)?;
+    print_reports(&outputs, writer)
+}
+
+// Reads a capture to its end, rehearses it under scenarios that are still texts, and stores the outputs in a folder.
+fn store_answers<H: Files + Threads + Wait + Sync, R: Read>(
+    rt: &H,
+    alloc: Global,
+    reader: &mut Counted<R>,
+    folder: &str,
+    texts: &[&[u8]],
+    options: &Options,
+) -> Result<(), RunFault>
+    requires { reader.old.failed < 2 ^ 64 - 1 }
+    ensures answer { (text : List ℕ)
+        × Consumes (R.remaining reader.old.inner) (R.remaining reader.new.inner) text
+        × StoresBy result (called_for options.now.hosts (map (λ t. t.now) texts.now) options.now.seed text) text (IsAtEnd (R.remaining reader.new.inner)) }
+    ensures failed_reads { reader.new.failed ≡ reader.old.failed + failed_reads result }
+    ensures no_write { failed_writes result ≡ 0 }
+{
+    let outputs = answers(rt, alloc, reader, texts, options)?;
+    let mut shelf = Folder::new(alloc, rt, folder)?;
+    store_all(alloc, &outputs, &mut shelf)?;
+    Ok(())
+}
+
+// A scenario without proxies.
+const BARE: &[u8] = b"[]";
+
+/// The hosts of a command line, each `NAME=ADDR`, cut at its first `=`.
+///
+/// # Errors
+/// [`RunFault::BadHost`] for the first that has no `=` or is refused by the list; [`RunFault::Memory`].
+#[tactic(auto, unfolding(crate::specs::Inputs::hosts_from))]
+pub(crate) fn read_hosts(alloc: Global, written: &[&str]) -> Result<Hosts, RunFault>
+    ensures exact { AgreesUnlessMemory run_refusal (λ hosts. hosts) result (hosts_from [] (map (λ host. host.now) written.now)) }
+    ensures of_host { IfErr result IsOfHost }
+{
+    let mut hosts = Hosts::new(alloc);
+    for (at, host) in written.iter().enumerate() {
+        add_host(&mut hosts, at, host)?;
+    }
+    Ok(hosts)
+}
+
+// Adds a host as it is written.
+fn add_host(hosts: &mut Hosts, at: usize, written: &str) -> Result<(), RunFault>
+    ensures { AddsHost result at (host_written hosts.old written.now) hosts.old hosts.new }
+{
+    let Some((name, addr)) = cut_at_equals(written) else {
+        return Err(RunFault::BadHost { at });
+    };
+    match hosts.add(name, addr) {
+        Ok(()) => Ok(()),
+        Err(HostFault::BadHost) => Err(RunFault::BadHost { at }),
+        Err(HostFault::Memory(_)) => Err(RunFault::Memory),
+    }
+}
+
+// What stands before the first `=` of a text, and behind it.
+fn cut_at_equals(text: &str) -> Option<(&str, &str)>
+    ensures { option_map (λ parts. (parts.0.now, parts.1.now)) result ≡ cut_at_first equals_sign text.now }
+{
+    text.split_once('=')
+}
+
+/// The bytes of the scenario files, in order; without one, those of a scenario without proxies.
+///
+/// # Errors
+/// [`RunFault::ReadFailed`] for the first that cannot be opened or read, [`RunFault::CaptureTooLong`] for one that is longer than a capture may be;
+/// [`RunFault::Memory`].
+pub(crate) fn read_files<H: Files>(
+    rt: &H,
+    alloc: Global,
+    paths: &[&str],
+) -> Result<Vec<Vec<u8>>, RunFault>
+    ensures one_each { IfOk result (λ files. length files.items ≡ length paths.now) }
+    ensures of_file { IfErr result (IsOfFiles (length paths.now)) }
+{
+    let mut files = Vec::new(alloc);
+    for path in paths {
+        files.push(read_file(rt, alloc, path)?)?;
+    }
+    Ok(files)
+}
+
+// All bytes of a file.
+fn read_file<H: Files>(rt: &H, alloc: Global, path: &str) -> Result<Vec<u8>, RunFault>
+    ensures { IfErr result (IsOfFiles 1) }
+{
+    let Ok(file) = fs::open(rt, path) else {
+        return Err(RunFault::ReadFailed);
+    };
+    load(alloc, &mut Counted::new(file))
+}
+
+/// The texts of the scenarios of files; without one, the text of a scenario without proxies.
+pub(crate) fn texts_of<'a>(alloc: Global, files: &'a [Vec<u8>]) -> Result<Vec<&'a [u8]>, AllocError>
+    ensures { IfOk result (λ texts. map (λ t. t.now) texts.items ≡ texts_or_bare (map (λ f. f.items) files.now)) }
+{
+    let mut texts = Vec::new(alloc);
+    for file in files {
+        texts.push(file.as_slice())?;
+    }
+    if texts.is_empty() {
+        texts.push(BARE)?;
+    }
+    Ok(texts)
+}

@@ -1,18 +1,8 @@
 -- What filters keep of lists that are joined or grow.
 use Rattle.std.proofs.Common.{◌≡◌, Bool, true, false, ◌&&◌, cond, List, [], ◌∷◌, ◌++◌, filter, Option, Some, refl}
-use Rattle.std.specs.List.{AllByRecursion}
+use Rattle.std.specs.List.{AllByRecursion, last_or}
+use Rattle.std.proofs.Math.Bool.{and-true}
 use Rattle.std.proofs.lemmas.Bool.{and_right}
-use Rattle.conn_table.specs.Connections.{last_or}
-
--- ---- what holds of each element
-
-pub all_weaker : {X : Type 0} (P Q : X → Type 0) (weaker : (x : X) → P x → Q x) (xs : List X) → AllByRecursion P xs → AllByRecursion Q xs
-all_weaker P Q weaker [] all = tt
-all_weaker P Q weaker (x ∷ xs) all = (weaker x all.0, all_weaker P Q weaker xs all.1)
-
-pub all_push : {X : Type 0} (P : X → Type 0) (xs : List X) (y : X) → AllByRecursion P xs → P y → AllByRecursion P (xs ++ y ∷ [])
-all_push P [] y all last = (last, tt)
-all_push P (x ∷ xs) y all last = (all.0, all_push P xs y all.1 last)
 
 -- ---- two lists, of which a test T passes one
 
@@ -21,11 +11,7 @@ pub filter_first : {X : Type 0} (P T : X → Bool) (xs ys : List X) → AllByRec
 filter_first P T [] [] in_first in_second = refl
 filter_first P T [] (y ∷ ys) in_first in_second = rw (and_right (P y) (T y) in_second.0) (filter_first P T [] ys tt in_second.1)
 filter_first P T (x ∷ xs) ys in_first in_second =
-    rw (in_first.0, filter_first P T xs ys in_first.1 in_second) (by_test (P x))
-  where
-    by_test : (b : Bool) → cond (b && true) (x ∷ filter P xs) (filter P xs) ≡ cond b (x ∷ filter P xs) (filter P xs)
-    by_test true = refl
-    by_test false = refl
+    rw (in_first.0, filter_first P T xs ys in_first.1 in_second, and-true (P x)) refl
 
 pub filter_second : {X : Type 0} (T P : X → Bool) (xs ys : List X) → AllByRecursion (λ x. T x ≡ false) xs → AllByRecursion (λ x. T x ≡ true) ys
     → filter (λ x. T x && P x) (xs ++ ys) ≡ filter P ys

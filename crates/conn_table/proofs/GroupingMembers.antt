@@ -1,12 +1,13 @@
 -- Members of a connection, and the connections: among all segments, and by those that stand earlier.
 use Rattle.std.proofs.Common.{◌≡◌, ◌<◌, ℕ, ◌+◌, ◌==◌, nat_lt, Bool, true, false, ◌&&◌, cond, List, [], ◌∷◌, ◌++◌, filter, map, Option, Some, None, refl, sym, ap, ◌∙◌, arith}
-use Rattle.std.specs.List.{AllByRecursion, enumerate_from}
+use Rattle.std.specs.List.{AllByRecursion, enumerate_from, last_or}
 use Rattle.std.proofs.lemmas.Bool.{and_parts, false_from_ne_true, false≢true, eqb-true, eq-eqb, ne_eqb, lt-ltb, le-ltb}
 use Rattle.conn_table.specs.IndexedSegments.{IndexedSegment, pair_of_segment}
-use Rattle.conn_table.specs.Connections.{last_or, of_one_pair, begins, beginnings, beginning_of, is_at, later_members, connection_of, connections, begins_after, members_after, connections_after}
-use Rattle.conn_table.proofs.GroupingFilters.{all_weaker, all_push}
+use Rattle.conn_table.specs.Connections.{of_one_pair, begins, beginnings, beginning_of, is_at, later_members, connection_of, connections, begins_after, members_after, connections_after}
+use Rattle.pcap_records.proofs.Lists.{all_weaker, all_push}
 use Rattle.conn_table.proofs.GroupingOrder.{IsSplitAt, at_next, behind_next, filter_later}
-use Rattle.conn_table.proofs.GroupingPairs.{one_pair-is, one_pair-from, one_pair-itself, latest, latest-push, latest-pair}
+use Rattle.conn_table.proofs.GroupingPairs.{latest, latest-push, latest-pair}
+use Rattle.conn_table.proofs.Peers.{one_pair-is, one_pair-from, one_pair-itself}
 use Rattle.conn_table.proofs.GroupingBeginnings.{begins-agrees, beginning_of-latest}
 
 -- ---- a segment of another pair does not belong to b
@@ -14,13 +15,13 @@ use Rattle.conn_table.proofs.GroupingBeginnings.{begins-agrees, beginning_of-lat
 -- the last that passes Q does not stand at b's place, where none that passes does
 not_at : (b : IndexedSegment) (Q : IndexedSegment → Bool) (xs : List IndexedSegment) (before : Option IndexedSegment) → is_at b before ≡ false → AllByRecursion (λ x. Q x ≡ true → is_at b (Some x) ≡ false) xs
     → is_at b (last_or before (filter Q xs)) ≡ false
-not_at b Q [] before outputs_of each = outputs_of
-not_at b Q (x ∷ xs) before outputs_of each = by_test (Q x) refl (λ o outputs_of. not_at b Q xs o outputs_of each.1)
+not_at b Q [] before not_before each = not_before
+not_at b Q (x ∷ xs) before not_before each = by_test (Q x) refl (λ o not_before. not_at b Q xs o not_before each.1)
   where
     by_test : (t : Bool) → Q x ≡ t → ((o : Option IndexedSegment) → is_at b o ≡ false → is_at b (last_or o (filter Q xs)) ≡ false)
         → is_at b (last_or before (cond t (x ∷ filter Q xs) (filter Q xs))) ≡ false
     by_test true passes rest = rest (Some x) (each.0 passes)
-    by_test false fails rest = rest before outputs_of
+    by_test false fails rest = rest before not_before
 
 -- no other segment has b's number
 abbrev IsAlone : IndexedSegment → List IndexedSegment → Type 0

@@ -4,7 +4,8 @@ use Rattle.std.specs.List.{AllByRecursion, filter_map, cons_option, enumerate_fr
 use Rattle.std.proofs.lemmas.List.{append_assoc}
 use Rattle.conn_table.specs.SeenCapture.{SeenPacket}
 use Rattle.conn_table.specs.IndexedSegments.{IndexedSegment, is_segment, indexed_segment, indexed_segments}
-use Rattle.conn_table.proofs.GroupingFilters.{all_weaker, all_push, filter_first, filter_second}
+use Rattle.pcap_records.proofs.Lists.{all_weaker, all_push}
+use Rattle.conn_table.proofs.GroupingFilters.{filter_first, filter_second}
 
 abbrev pub AreBelow : ℕ → List IndexedSegment → Type 0
 AreBelow n = AllByRecursion (λ (x : IndexedSegment). x.index < n)
@@ -75,8 +76,8 @@ rising_weaker n [] rising = tt
 rising_weaker n (s ∷ segs) rising = (omega (arith, rising.0), rising.1)
 
 rising_cons : (n : ℕ) (o : Option IndexedSegment) (segs : List IndexedSegment) → ((s : IndexedSegment) → o ≡ Some s → s.index ≡ n) → IsRising (n + 1) segs → IsRising n (cons_option o segs)
-rising_cons n None segs sequence_number rising = rising_weaker n segs rising
-rising_cons n (Some s) segs sequence_number rising = let here : s.index ≡ n = sequence_number s refl in (omega arith, rw here rising)
+rising_cons n None segs is_numbered rising = rising_weaker n segs rising
+rising_cons n (Some s) segs is_numbered rising = let here : s.index ≡ n = is_numbered s refl in (omega arith, rw here rising)
 
 index-indexed_segment : (n : ℕ) (p : SeenPacket) (s : IndexedSegment) → indexed_segment (n, p) ≡ Some s → s.index ≡ n
 index-indexed_segment n p s = by_test (is_segment p.frame.class)

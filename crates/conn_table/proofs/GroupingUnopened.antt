@@ -3,7 +3,8 @@ use Rattle.std.proofs.Common.{◌≡◌, ℕ, ◌+◌, Bool, true, false, ◌&&�
 use Rattle.conn_table.specs.IndexedSegments.{IndexedSegment}
 use Rattle.conn_table.specs.Connections.{is_opening, of_one_pair, repeats, begins, is_unopened, unopened_count, opening_before, unopened_count_after}
 use Rattle.conn_table.proofs.GroupingOrder.{IsSplitAt, behind_next}
-use Rattle.conn_table.proofs.GroupingPairs.{one_pair-itself, latest, latest-push, latest-pair, opening_before-latest}
+use Rattle.conn_table.proofs.GroupingPairs.{latest, latest-push, latest-pair, opening_before-latest}
+use Rattle.conn_table.proofs.Peers.{one_pair-itself}
 use Rattle.conn_table.proofs.GroupingBeginnings.{begins-agrees, beginning_of-latest}
 
 -- ---- a pair has a beginning where it has an opening, for its first opening begins

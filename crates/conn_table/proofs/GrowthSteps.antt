@@ -1,18 +1,18 @@
 -- A table with one marked segment more.
-use Rattle.std.proofs.Common.{◌≡◌, ◌<◌, ◌≤◌, ℕ, zero, suc, ◌+◌, Bool, true, false, ◌&&◌, ◌||◌, cond, List, [], ◌∷◌, ◌++◌, length, map, set, get_or, replicate, slice_get, is_some, Option, Some, None, refl, sym, ap, ◌∙◌, arith}
-use Rattle.std.proofs.lemmas.List.{append_assoc, append-nil, length-replicate, get_or-replicate}
+use Rattle.std.proofs.Common.{◌≡◌, ◌<◌, ◌≤◌, ℕ, zero, suc, ◌+◌, Bool, true, false, ◌&&◌, ◌||◌, cond, List, [], ◌∷◌, ◌++◌, length, set, get_or, replicate, slice_get, is_some, Option, Some, None, refl, sym, ap, ◌∙◌, arith}
+use Rattle.std.proofs.lemmas.Bool.{cond_both}
+use Rattle.std.proofs.lemmas.List.{append_assoc, append-nil, length-replicate, get_or-replicate, map_push}
 use Rattle.std.proofs.lemmas.Option.{slice_get-get_or}
-use Rattle.conn_table.specs.declared.pair.Pair.{Pair}
-use Rattle.conn_table.specs.declared.members.Member.{Member}
+use Rattle.conn_table.specs.declared.conns.Pair.{Pair}
+use Rattle.conn_table.specs.declared.conns.Member.{Member}
 use Rattle.conn_table.specs.declared.conns.Conn.{Conn}
-use Rattle.conn_table.specs.declared.growth.Current.{Current}
+use Rattle.conn_table.specs.declared.table.Current.{Current}
 use Rattle.conn_table.specs.IndexedSegments.{same_pair}
-use Rattle.conn_table.specs.KeptSegments.{KeptSegment}
+use Rattle.conn_table.specs.KeptSegments.{KeptSegment, is_from_low}
 use Rattle.conn_table.specs.Partials.{MarkedKept}
 use Rattle.conn_table.specs.Tables.{later_of, member_from, conn_with, conns_from, is_opened, unopened_after}
 use Rattle.conn_table.specs.Growing.{grown_at, further, current_of}
-use Rattle.conn_table.proofs.GroupingPairs.{same_pair-is, same_pair-itself}
-use Rattle.conn_table.proofs.ListingSteps.{same_pair-sym}
+use Rattle.conn_table.proofs.Peers.{same_pair-is, same_pair-itself, same_pair-sym}
 
 abbrev number_or : Option Current → ℕ
 number_or None = 0
@@ -21,7 +21,7 @@ number_or (Some c) = c.number
 -- ---- the last connection of a pair
 
 abbrev here_of : MarkedKept → Option Current
-here_of m = Some (record { number = 0; from_low = m.kept.from_low })
+here_of m = Some (record { number = 0; from_low = is_from_low m.kept })
 
 -- no more is known of a pair behind a segment that begins none of its connections
 pub current_of-push_other : (p : Pair) (ms : List MarkedKept) (m : MarkedKept) → (m.begins && same_pair m.kept.pair p) ≡ false → current_of p (ms ++ m ∷ []) ≡ current_of p ms
@@ -52,7 +52,7 @@ count-le (m ∷ ms) = by_test m.begins (count-le ms)
     by_test false le = omega arith
 
 pub current_of-push_same : (p : Pair) (ms : List MarkedKept) (m : MarkedKept) → (m.begins && same_pair m.kept.pair p) ≡ true
-    → current_of p (ms ++ m ∷ []) ≡ Some (record { number = count ms; from_low = m.kept.from_low })
+    → current_of p (ms ++ m ∷ []) ≡ Some (record { number = count ms; from_low = is_from_low m.kept })
 current_of-push_same p [] m same = rw same refl
 current_of-push_same p (x ∷ ms) m same = rw (current_of-push_same p ms m same) refl
 
@@ -96,11 +96,7 @@ later_of-push_other b (x ∷ ms) m other = rw (later_of-push_other b ms m other)
 
 later_of-push_beginning : (b : KeptSegment) (ms : List MarkedKept) (m : MarkedKept) → m.begins ≡ true → later_of b (ms ++ m ∷ []) ≡ later_of b ms
 unfolding later_of
-later_of-push_beginning b [] m begins = rw begins (by_test (same_pair m.kept.pair b.pair))
-  where
-    by_test : (t : Bool) → cond {A = List KeptSegment} t [] [] ≡ []
-    by_test true = refl
-    by_test false = refl
+later_of-push_beginning b [] m begins = rw begins (cond_both (same_pair m.kept.pair b.pair) [] [] (λ ks. ks ≡ []) (λ _. refl) (λ _. refl))
 later_of-push_beginning b (x ∷ ms) m begins = rw (later_of-push_beginning b ms m begins) refl
 
 -- nor does one where the pair has begun another connection
@@ -179,10 +175,6 @@ conns_from-push_unopened n (x ∷ ms) m plain none =
     by_tests true None last found rest = rw (later_of-push_other x.kept ms m (apart (same_pair x.kept.pair m.kept.pair) refl found), rest (n + 1) last) refl
     by_tests false None last found rest = rest n last
 
-map_push : (f : KeptSegment → Member) (ks : List KeptSegment) (k : KeptSegment) → map f (ks ++ k ∷ []) ≡ map f ks ++ f k ∷ []
-map_push f [] k = refl
-map_push f (x ∷ ks) k = ap (λ (xs : List Member). f x ∷ xs) (map_push f ks k)
-
 pub conns_from-push_member : (n : ℕ) (ms : List MarkedKept) (m : MarkedKept) (c : Current) → m.begins ≡ false → current_of m.kept.pair ms ≡ Some c
     → conns_from n (ms ++ m ∷ []) ≡ grown_at c.number (member_from c.from_low m.kept) (conns_from n ms)
 unfolding conns_from
@@ -211,9 +203,9 @@ conns_from-push_member n (x ∷ ms) m c plain is =
             → conn_with n x.kept (later_of x.kept (ms ++ m ∷ [])) ∷ conns_from (n + 1) (ms ++ m ∷ []) ≡ grown_at c.number (member_from c.from_low m.kept) (conn_with n x.kept (later_of x.kept ms) ∷ conns_from (n + 1) ms)
         by_pair false same some = absurd cc
         by_pair true same some =
-            let e : record { number = 0; from_low = x.kept.from_low } ≡ c = to_current _ c some in
+            let e : record { number = 0; from_low = is_from_low x.kept } ≡ c = to_current _ c some in
             let one : x.kept.pair ≡ m.kept.pair = same_pair-is x.kept.pair m.kept.pair same in
-            rw (← e, later_of-push_open x.kept ms m plain one last, conns_from-push_unopened (n + 1) ms m plain last, map_push (member_from x.kept.from_low) (later_of x.kept ms) m.kept) refl
+            rw (← e, later_of-push_open x.kept ms m plain one last, conns_from-push_unopened (n + 1) ms m plain last, map_push (member_from (is_from_low x.kept)) (later_of x.kept ms) m.kept) refl
 
 -- ---- unopened segments
 

@@ -1,12 +1,13 @@
 -- What has grown of a listing, once one segment more was taken.
-use Rattle.std.proofs.Common.{◌≡◌, ◌<◌, ◌≤◌, ℕ, ◌+◌, Bool, true, false, ◌&&◌, cond, List, [], ◌∷◌, ◌++◌, length, map, take, set, get_or, slice_get, is_some, Option, Some, None, refl, sym, ap, ◌∙◌, arith, inl, inr, ◌⊎◌, length-set, length-take}
-use Rattle.std.proofs.lemmas.Bool.{cases_eq}
+use Rattle.std.proofs.Common.{◌≡◌, ◌<◌, ◌≤◌, ℕ, ◌+◌, Bool, true, false, ◌&&◌, cond, List, [], ◌∷◌, ◌++◌, length, map, take, set, get_or, slice_get, is_some, Option, Some, None, sym, ap, ◌∙◌, arith, inl, inr, ◌⊎◌, length-set, length-take}
+use Rattle.std.proofs.lemmas.Bool.{and_from, and_right, cases_eq}
 use Rattle.std.proofs.lemmas.List.{take_more, map_push, length-map}
 use Rattle.std.proofs.lemmas.Option.{get_or_from_slice_get}
-use Rattle.conn_table.specs.declared.pair.Pair.{Pair}
-use Rattle.conn_table.specs.declared.entries.Entry.{Entry}
-use Rattle.conn_table.specs.declared.growth.Current.{Current}
-use Rattle.conn_table.specs.declared.growth.Growth.{Growth}
+use Rattle.pcap_records.proofs.Lists.{slice_get-set_same, slice_get-set_other}
+use Rattle.conn_table.specs.declared.conns.Pair.{Pair}
+use Rattle.conn_table.specs.declared.listing.Entry.{Entry}
+use Rattle.conn_table.specs.declared.table.Current.{Current}
+use Rattle.conn_table.specs.declared.table.Growth.{Growth}
 use Rattle.conn_table.specs.declared.listing.Listing.{Listing}
 use Rattle.conn_table.specs.declared.conns.Conn.{Conn}
 use Rattle.conn_table.specs.IndexedSegments.{same_pair}
@@ -14,8 +15,8 @@ use Rattle.conn_table.specs.Partials.{MarkedKept}
 use Rattle.conn_table.specs.Tables.{member_from, conn_with, conns_from, unopened_after}
 use Rattle.conn_table.specs.Listings.{pair_at, segment_of, mark_of, IsListing}
 use Rattle.conn_table.specs.Growing.{grown_at, current_of, HasGrown}
-use Rattle.conn_table.proofs.GroupingPairs.{same_pair-itself}
-use Rattle.conn_table.proofs.ListingSteps.{pairs_apart, slice_get-set_same, slice_get-set_other}
+use Rattle.conn_table.proofs.Peers.{same_pair-itself}
+use Rattle.conn_table.proofs.ListingSteps.{pairs_apart}
 use Rattle.conn_table.proofs.GrowthSteps.{count, count-le, length-conns_from, current_of-push_other, current_of-push_same, current_of-count, is_opened-current, conns_from-push_beginning, conns_from-push_unopened, conns_from-push_member, unopened_after-push, unopened-le}
 
 abbrev pub marks_to : Listing → ℕ → List MarkedKept
@@ -67,7 +68,7 @@ unopened-more l n e opened at is =
 
 pub grown-begun : (l : Listing) (n : ℕ) (e : Entry) (old new : Growth) → IsListing l → IsEntryAt l n e → HasGrown l n old → e.begins ≡ true
     → new.conns.items ≡ old.conns.items ++ conn_with (length old.conns.items) (segment_of l.pairs.keys e) [] ∷ []
-    → new.current.items ≡ set old.current.items e.group (Some (record { number = length old.conns.items; from_low = e.from_low }))
+    → new.current.items ≡ set old.current.items e.group (Some (record { number = length old.conns.items; from_low = e.member.from_client }))
     → new.unopened ≡ old.unopened → HasGrown l (n + 1) new
 grown-begun l n e old new is at grown begins conns current unopened =
     let m : MarkedKept = mark_of l.pairs.keys e in
@@ -75,8 +76,7 @@ grown-begun l n e old new is at grown begins conns current unopened =
     let more = marks_to-more l n e at in
     let len : length old.conns.items ≡ count ms = ap (λ (cs : List Conn). length cs) grown.conns ∙ length-conns_from 0 ms in
     let none : 0 + count ms ≡ count ms = omega arith in
-    let tests : (b s : Bool) → b ≡ true → s ≡ true → (b && s) ≡ true = λ b s x y. rw (x, y) refl in
-    let mine : (m.begins && same_pair m.kept.pair (pair_at l.pairs.keys e.group)) ≡ true = tests e.begins _ begins (same_pair-itself (pair_at l.pairs.keys e.group)) in
+    let mine = and_from m.begins (same_pair m.kept.pair (pair_at l.pairs.keys e.group)) begins (same_pair-itself (pair_at l.pairs.keys e.group)) in
     let same = current_of-push_same (pair_at l.pairs.keys e.group) ms m mine in
     record {
       conns =
@@ -91,16 +91,15 @@ grown-begun l n e old new is at grown begins conns current unopened =
     }
   where
     by_place : (q : ℕ) → q < length l.pairs.keys → (q ≡ e.group) ⊎ (q ≡ e.group → ⊥)
-        → current_of (pair_at l.pairs.keys e.group) (marks_to l n ++ mark_of l.pairs.keys e ∷ []) ≡ Some (record { number = count (marks_to l n); from_low = e.from_low })
+        → current_of (pair_at l.pairs.keys e.group) (marks_to l n ++ mark_of l.pairs.keys e ∷ []) ≡ Some (record { number = count (marks_to l n); from_low = e.member.from_client })
         → length old.conns.items ≡ count (marks_to l n)
-        → slice_get (set old.current.items e.group (Some (record { number = length old.conns.items; from_low = e.from_low }))) q
+        → slice_get (set old.current.items e.group (Some (record { number = length old.conns.items; from_low = e.member.from_client }))) q
         ≡ Some (current_of (pair_at l.pairs.keys q) (marks_to l n ++ mark_of l.pairs.keys e ∷ []))
     by_place q within (inl here) same len =
         rw (here, same, len) (slice_get-set_same old.current.items e.group _ (omega (arith, grown.each, at.group)))
     by_place q within (inr other) same len =
         let apart = pairs_apart l.pairs.keys e.group q is.apart at.group within (λ x. other (sym x)) in
-        let tests : (b : Bool) → (b && false) ≡ false = λ b. elim b as (λ v. (v && false) ≡ false) [ true ↦ refl | false ↦ refl ] in
-        let fails : (e.begins && same_pair (pair_at l.pairs.keys e.group) (pair_at l.pairs.keys q)) ≡ false = rw apart (tests e.begins) in
+        let fails = and_right e.begins (same_pair (pair_at l.pairs.keys e.group) (pair_at l.pairs.keys q)) apart in
         rw (current_of-push_other (pair_at l.pairs.keys q) (marks_to l n) (mark_of l.pairs.keys e) fails) (slice_get-set_other old.current.items e.group q _ other ∙ grown.current q within)
 
 -- ---- a later segment

@@ -2,11 +2,11 @@
 use Rattle.std.proofs.Common.{◌≡◌, ◌<◌, ◌≤◌, ℕ, zero, suc, ◌+◌, List, [], ◌∷◌, ◌++◌, length, map, take, drop, get_or, slice_get, Option, Some, refl, sym, ap, subst, ◌∙◌, arith}
 use Rattle.std.proofs.lemmas.List.{length-map, append_assoc, append-nil, map_push, drop_more, drop_all, take_more}
 use Rattle.std.proofs.lemmas.Option.{slice_get_within, get_or_from_slice_get}
-use Rattle.conn_table.specs.declared.pair.Pair.{Pair}
-use Rattle.conn_table.specs.declared.entries.Entry.{Entry}
+use Rattle.conn_table.specs.declared.conns.Pair.{Pair}
+use Rattle.conn_table.specs.declared.listing.Entry.{Entry}
 use Rattle.conn_table.specs.KeptSegments.{KeptSegment}
 use Rattle.conn_table.specs.Partials.{MarkedKept, kept_of, mark_behind, marked_behind}
-use Rattle.conn_table.specs.Listings.{nowhere, pair_at, segment_of, mark_of, AreGroupsOf}
+use Rattle.conn_table.specs.Listings.{nowhere, pair_at, segment_with, segment_of, mark_of, AreGroupsOf}
 use Rattle.conn_table.proofs.ListingSteps.{GroupsAreIn}
 
 -- ---- groups
@@ -53,15 +53,9 @@ group_of_item pairs es i e are within is = subst (λ (x : Entry). x.group < leng
 
 -- ---- segments
 
-kept_of-push : (ms : List MarkedKept) (m : MarkedKept) → kept_of (ms ++ m ∷ []) ≡ kept_of ms ++ m.kept ∷ []
-kept_of-push [] m = refl
-kept_of-push (x ∷ ms) m = ap (λ (ks : List KeptSegment). x.kept ∷ ks) (kept_of-push ms m)
-
 -- an entry under the number that its pair has elsewhere keeps the same segment
 pub segment_of-group : (known pairs : List Pair) (e : Entry) (g : ℕ) → pair_at known g ≡ pair_at pairs e.group → segment_of known (record e { group = g }) ≡ segment_of pairs e
-segment_of-group known pairs e g same =
-    let with_pair : Pair → KeptSegment = λ p. record { index = e.index; at = e.at; pair = p; from_low = e.from_low; seq = e.seq; flags = e.flags; start = e.start; len = e.len } in
-    ap with_pair same
+segment_of-group known pairs e g same = ap (λ (p : Pair). segment_with p e) same
 
 next_mark : (done whole : List MarkedKept) (pairs : List Pair) (es : List Entry) (i : ℕ) (e : Entry) → i < length es → e ≡ get_or es i e
     → done ++ marked_behind (kept_of done) (kept_of (map (mark_of pairs) (drop i es))) ≡ whole
@@ -70,7 +64,7 @@ unfolding marked_behind
 next_mark done whole pairs es i e within is so_far =
     let rest : drop i es ≡ e ∷ drop (i + 1) es = drop_more es i e within ∙ ap (λ x. x ∷ drop (i + 1) es) (sym is) in
     let now = rw rest at so_far in
-    rw (kept_of-push done (mark_behind (kept_of done) (segment_of pairs e)), append_assoc done (mark_behind (kept_of done) (segment_of pairs e) ∷ []) (marked_behind (kept_of done ++ segment_of pairs e ∷ []) (kept_of (map (mark_of pairs) (drop (i + 1) es))))) now
+    rw (map_push (λ (m : MarkedKept). m.kept) done (mark_behind (kept_of done) (segment_of pairs e)), append_assoc done (mark_behind (kept_of done) (segment_of pairs e) ∷ []) (marked_behind (kept_of done ++ segment_of pairs e ∷ []) (kept_of (map (mark_of pairs) (drop (i + 1) es))))) now
 
 -- the next entry of the list moves from what is to come to what is done
 pub marks-more : (done more whole : List MarkedKept) (k : KeptSegment) (pairs : List Pair) (es : List Entry) (i : ℕ) (e : Entry) → i < length es → e ≡ get_or es i e → k ≡ segment_of pairs e

@@ -1,4 +1,5 @@
-mod GroupingFilters
+pub mod Peers
+pub mod GroupingFilters
 mod GroupingOrder
 pub mod GroupingPairs
 mod GroupingBeginnings
@@ -8,12 +9,12 @@ mod GroupingForms
 mod CountingSteps
 mod ListingSteps
 mod MarkSteps
-mod RangeSteps
+pub mod RangeSteps
 mod JoinSteps
 mod PartialSteps
 mod GrowthSteps
 mod Growths
 mod Joins
 mod TableForms
-mod TableSoundness
-pub mod Sides
+pub mod TableSoundness
+mod Sides

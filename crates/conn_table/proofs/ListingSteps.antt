@@ -1,23 +1,24 @@
 -- A listing with one more pair, and with one more segment.
-use Rattle.std.proofs.Common.{◌≡◌, ◌≢◌, ◌<◌, ◌≤◌, ℕ, zero, suc, Bool, true, false, ◌&&◌, not, cond, List, [], ◌∷◌, ◌++◌, length, map, filter, set, slice_get, Option, Some, None, All, refl, sym, ap, ◌∙◌, arith, inl, inr, ◌⊎◌, rules}
+use Rattle.std.proofs.Common.{◌≡◌, ◌≢◌, ◌<◌, ◌≤◌, ℕ, zero, suc, Bool, true, false, ◌&&◌, cond, List, [], ◌∷◌, ◌++◌, length, map, filter, set, slice_get, Option, Some, None, All, refl, sym, ap, ◌∙◌, arith, inl, inr, ◌⊎◌}
 use Rattle.std.specs.List.{list_any, IsDistinct}
 use Rattle.std.specs.Option.{option_map}
-use Rattle.std.proofs.lemmas.Bool.{false_from_ne_true, false≢true, cases_eq, or_parts}
-use Rattle.std.proofs.lemmas.List.{get_or_append_left, get_or_at, length_push, length-set}
+use Rattle.std.proofs.lemmas.Bool.{and_right, cases_eq, cases_lt, cond_both, or_parts}
+use Rattle.std.proofs.lemmas.List.{get_or_append_left, get_or_at, length_push, length-set, map_push}
 use Rattle.std.proofs.lemmas.List.Elements.{All-head, All-tail}
 use Rattle.std.proofs.lemmas.Map.Keys.{apart_from_distinct}
-use Rattle.conn_table.specs.declared.pair.Pair.{Pair}
-use Rattle.conn_table.specs.declared.entries.Opening.{Opening}
-use Rattle.conn_table.specs.declared.entries.Entry.{Entry}
+use Rattle.pcap_records.proofs.Lists.{slice_get-set_same, slice_get-set_other}
+use Rattle.conn_table.specs.declared.conns.Pair.{Pair}
+use Rattle.conn_table.specs.declared.listing.Opening.{Opening}
+use Rattle.conn_table.specs.declared.listing.Entry.{Entry}
 use Rattle.conn_table.specs.IndexedSegments.{same_pair}
 use Rattle.conn_table.specs.Connections.{last_of}
 use Rattle.conn_table.specs.KeptSegments.{KeptSegment, opens, opening_of, last_opening, lasts_after}
-use Rattle.conn_table.specs.Partials.{kept_of}
+use Rattle.conn_table.specs.Partials.{MarkedKept, kept_of}
 use Rattle.indexmap.specs.IndexSet.{IsUnique}
 use Rattle.conn_table.specs.declared.listing.Listing.{Listing}
 use Rattle.conn_table.specs.Listings.{nowhere, pair_at, segment_of, mark_of, marks_of, IsListing}
 use Rattle.conn_table.proofs.GroupingFilters.{last_or-push}
-use Rattle.conn_table.proofs.GroupingPairs.{same_pair-is, same_pair-itself}
+use Rattle.conn_table.proofs.Peers.{same_pair-itself, same_pair-sym}
 
 -- ---- places of lists
 
@@ -30,23 +31,7 @@ slice_get-end : {X : Type 0} (xs : List X) (x : X) → slice_get (xs ++ x ∷ []
 slice_get-end [] x = refl
 slice_get-end (y ∷ xs) x = slice_get-end xs x
 
-pub slice_get-set_same : {X : Type 0} (xs : List X) (i : ℕ) (x : X) → i < length xs → slice_get (set xs i x) i ≡ Some x
-slice_get-set_same [] i x within = absurd (omega arith)
-slice_get-set_same (y ∷ xs) zero x within = refl
-slice_get-set_same (y ∷ xs) (suc i) x within = slice_get-set_same xs i x (omega arith)
-
-pub slice_get-set_other : {X : Type 0} (xs : List X) (i j : ℕ) (x : X) → j ≢ i → slice_get (set xs i x) j ≡ slice_get xs j
-slice_get-set_other [] i j x other = refl
-slice_get-set_other (y ∷ xs) zero zero x other = absurd (other refl)
-slice_get-set_other (y ∷ xs) zero (suc j) x other = refl
-slice_get-set_other (y ∷ xs) (suc i) zero x other = refl
-slice_get-set_other (y ∷ xs) (suc i) (suc j) x other = slice_get-set_other xs i j x (λ same. other (ap (λ n. suc n) same))
-
 -- ---- pairs
-
-pub same_pair-sym : (p q : Pair) → same_pair p q ≡ false → same_pair q p ≡ false
-same_pair-sym p q other =
-    false_from_ne_true (same_pair q p) (λ same. let e : q ≡ p = same_pair-is q p same in false≢true (sym other ∙ (ap (λ x. same_pair p x) e ∙ same_pair-itself p)))
 
 -- in a list without a pair no place has it
 pub other_pair_at : (pairs : List Pair) (p : Pair) (g : ℕ) → g < length pairs → list_any (same_pair p) pairs ≡ false → same_pair (pair_at pairs g) p ≡ false
@@ -56,11 +41,8 @@ other_pair_at (q ∷ pairs) p (suc g) within none = other_pair_at pairs p g (ome
 
 -- two places of a list in which pairs lie apart
 pub pairs_apart : (pairs : List Pair) (g h : ℕ) → IsDistinct same_pair pairs → g < length pairs → h < length pairs → g ≢ h → same_pair (pair_at pairs g) (pair_at pairs h) ≡ false
-pairs_apart pairs g h apart g_in h_in other = by_order (order g h)
+pairs_apart pairs g h apart g_in h_in other = by_order (cases_lt g h)
   where
-    order : (a b : ℕ) → (a < b) ⊎ (b ≤ a)
-    order a b = search rules
-
     by_order : (g < h) ⊎ (h ≤ g) → same_pair (pair_at pairs g) (pair_at pairs h) ≡ false
     by_order (inl below) = apart_from_distinct same_pair pairs g h nowhere apart below h_in
     by_order (inr above) = same_pair-sym (pair_at pairs h) (pair_at pairs g) (apart_from_distinct same_pair pairs h g nowhere apart (omega (arith, other)) g_in)
@@ -87,12 +69,8 @@ none_opens : (pairs : List Pair) (p : Pair) (es : List Entry) → GroupsAreIn pa
 none_opens pairs p [] are none = refl
 none_opens pairs p (e ∷ es) are none =
     let first : e.group < length pairs = All-head (λ (e : Entry). e.group < length pairs) e es are in
-    rw (other_pair_at pairs p e.group first none) (by_test (opens (segment_of pairs e)) (none_opens pairs p es (All-tail (λ (e : Entry). e.group < length pairs) e es are) none))
-  where
-    by_test : (b : Bool) → filter (λ x. opens x && same_pair x.pair p) (kept_of (map (mark_of pairs) es)) ≡ []
-        → cond (b && false) (segment_of pairs e ∷ filter (λ x. opens x && same_pair x.pair p) (kept_of (map (mark_of pairs) es))) (filter (λ x. opens x && same_pair x.pair p) (kept_of (map (mark_of pairs) es))) ≡ []
-    by_test true rest = rest
-    by_test false rest = rest
+    rw (and_right (opens (segment_of pairs e)) (same_pair (pair_at pairs e.group) p) (other_pair_at pairs p e.group first none))
+    (none_opens pairs p es (All-tail (λ (e : Entry). e.group < length pairs) e es are) none)
 
 pub LastsAre-more_pairs : (pairs : List Pair) (p : Pair) (lasts : List (Option Opening)) (es : List Entry) → GroupsAreIn pairs es → length lasts ≡ length pairs
     → list_any (same_pair p) pairs ≡ false → LastsAre pairs lasts es → LastsAre (pairs ++ p ∷ []) (lasts ++ None ∷ []) es
@@ -120,8 +98,7 @@ last_opening-push ks k p = ap (λ o. option_map opening_of o) (last_or-push None
     by_test false = refl
 
 pub kept_of-push : (pairs : List Pair) (es : List Entry) (e : Entry) → kept_of (map (mark_of pairs) (es ++ e ∷ [])) ≡ kept_of (map (mark_of pairs) es) ++ segment_of pairs e ∷ []
-kept_of-push pairs [] e = refl
-kept_of-push pairs (x ∷ es) e = ap (λ (ks : List KeptSegment). segment_of pairs x ∷ ks) (kept_of-push pairs es e)
+kept_of-push pairs es e = ap kept_of (map_push (mark_of pairs) es e) ∙ map_push (λ (m : MarkedKept). m.kept) (map (mark_of pairs) es) (mark_of pairs e)
 
 pub LastsAre-push : (pairs : List Pair) (lasts : List (Option Opening)) (es : List Entry) (e : Entry) → IsDistinct same_pair pairs → length lasts ≡ length pairs → e.group < length pairs
     → LastsAre pairs lasts es → LastsAre pairs (lasts_after lasts (segment_of pairs e) e.group) (es ++ e ∷ [])
@@ -137,11 +114,7 @@ LastsAre-push pairs lasts es e apart each here are g within =
         rw (pairs_apart pairs e.group g apart here within (λ same. other (sym same)), slice_get-set_other lasts e.group g (Some (opening_of (segment_of pairs e))) other) (are g within)
 
 pub length-lasts_after : (lasts : List (Option Opening)) (k : KeptSegment) (g : ℕ) → length (lasts_after lasts k g) ≡ length lasts
-length-lasts_after lasts k g = by_test (opens k)
-  where
-    by_test : (b : Bool) → length (cond b (set lasts g (Some (opening_of k))) lasts) ≡ length lasts
-    by_test true = length-set lasts g (Some (opening_of k))
-    by_test false = refl
+length-lasts_after lasts k g = cond_both (opens k) _ _ (λ xs. length xs ≡ length lasts) (λ _. length-set lasts g (Some (opening_of k))) (λ _. refl)
 
 -- ---- listings
 
@@ -175,10 +148,3 @@ IsGrown-pair old new p false is apart found pairs lasts entries = record {
   kept = λ g q at. rw pairs (slice_get-append old.pairs.keys (p ∷ []) g q at);
 }
 
-pub there_from_new : (is_new there : Bool) → is_new ≡ not there → is_new ≡ true → there ≡ false
-there_from_new is_new true told new = absurd cc
-there_from_new is_new false told new = refl
-
-pub there_from_old : (is_new there : Bool) → is_new ≡ not there → is_new ≡ false → there ≡ true
-there_from_old is_new true told new = refl
-there_from_old is_new false told new = absurd cc

@@ -1,17 +1,15 @@
 -- Marks: of two lists after one another, and of what is kept of segments.
-use Rattle.std.proofs.Common.{◌≡◌, ◌==◌, Bool, true, false, ◌&&◌, not, cond, List, [], ◌∷◌, ◌++◌, map, filter, Option, Some, None, refl, sym, ap, ◌∙◌, rules}
-use Rattle.std.specs.Bool.{beq}
+use Rattle.std.proofs.Common.{◌≡◌, ◌==◌, Bool, true, false, ◌&&◌, not, cond, List, [], ◌∷◌, ◌++◌, map, filter, Option, Some, None, refl, ap, ◌∙◌}
+use Rattle.std.specs.List.{last_or}
 use Rattle.std.specs.Option.{option_map}
-use Rattle.std.proofs.lemmas.List.{append_assoc, append-nil}
-use Rattle.std.proofs.lemmas.Bool.{false_from_ne_true, and_parts}
+use Rattle.std.proofs.lemmas.List.{append_assoc, append-nil, map_push}
+use Rattle.std.proofs.lemmas.Bool.{and_parts}
 use Rattle.pcap_records.specs.CaptureView.{CaptureView}
-use Rattle.frame_headers.specs.declared.peers.Peer.{Peer}
-use Rattle.conn_table.specs.declared.pair.Pair.{Pair}
-use Rattle.conn_table.specs.IndexedSegments.{IndexedSegment, same_peer, peer_le, same_pair, pair_of, pair_of_segment}
-use Rattle.conn_table.specs.Connections.{last_or, is_opening, of_one_pair, repeats, opening_before, begins_after}
+use Rattle.conn_table.specs.IndexedSegments.{IndexedSegment, same_pair, pair_of_segment}
+use Rattle.conn_table.specs.Connections.{is_opening, of_one_pair, repeats, opening_before, begins_after}
 use Rattle.conn_table.specs.KeptSegments.{KeptSegment, kept_in, opens, opening_of, is_again, begins_behind}
 use Rattle.conn_table.specs.Partials.{marked_after, marked_in, kept_of, marked_behind}
-use Rattle.conn_table.proofs.GroupingPairs.{same_peer-is, one_pair-is}
+use Rattle.conn_table.proofs.Peers.{same_sender}
 
 -- ---- two lists after one another
 
@@ -27,43 +25,6 @@ pub kept_of-marked : (c : CaptureView) (earlier xs : List IndexedSegment) → ke
 unfolding marked_after
 kept_of-marked c earlier [] = refl
 kept_of-marked c earlier (s ∷ xs) = ap (λ (ks : List KeptSegment). kept_in c s ∷ ks) (kept_of-marked c (earlier ++ s ∷ []) xs)
-
--- ---- the same sender, among segments of one pair
-
-peer_le-itself : (p : Peer) → peer_le p p ≡ true
-peer_le-itself p = search rules
-
--- a segment whose sender is not the lower peer has another sender than receiver
-differ_from_high : (a b : Peer) → peer_le a b ≡ false → same_peer b a ≡ false
-differ_from_high a b high = false_from_ne_true (same_peer b a) (λ same. let e : b ≡ a = same_peer-is b a same in let le : peer_le a b ≡ true = rw e (peer_le-itself a) in cc)
-
-same_peer-itself : (p : Peer) → same_peer p p ≡ true
-same_peer-itself p = search rules
-
-same_peer-sym : (a b : Peer) → same_peer a b ≡ false → same_peer b a ≡ false
-same_peer-sym a b other = false_from_ne_true (same_peer b a) (λ same. let e : b ≡ a = same_peer-is b a same in let is : same_peer a b ≡ true = rw e (same_peer-itself a) in cc)
-
--- whether each is sent by the lower peer tells whether both have one sender
-senders : (f t g u : Peer) (a b : Bool) → peer_le f t ≡ a → peer_le g u ≡ b
-    → record { low = cond a f t; high = cond a t f } ≡ pair_of g u → beq a b ≡ same_peer f g
-senders f t g u true true is_a is_b same =
-    let e : f ≡ g = rw is_b at (ap (λ (p : Pair). p.low) same) in
-    rw e (sym (same_peer-itself g))
-senders f t g u true false is_a is_b same =
-    let e : f ≡ u = rw is_b at (ap (λ (p : Pair). p.low) same) in
-    rw e (sym (differ_from_high g u is_b))
-senders f t g u false true is_a is_b same =
-    let e : t ≡ g = rw is_b at (ap (λ (p : Pair). p.low) same) in
-    let other : same_peer t f ≡ false = differ_from_high f t is_a in
-    rw (← e) (sym (same_peer-sym t f other))
-senders f t g u false false is_a is_b same =
-    let e : f ≡ g = rw is_b at (ap (λ (p : Pair). p.high) same) in
-    rw e (sym (same_peer-itself g))
-
-pub same_sender : (x s : IndexedSegment) → of_one_pair s x ≡ true
-    → beq (peer_le x.timed.fields.from x.timed.fields.to) (peer_le s.timed.fields.from s.timed.fields.to) ≡ same_peer x.timed.fields.from s.timed.fields.from
-same_sender x s one =
-    senders x.timed.fields.from x.timed.fields.to s.timed.fields.from s.timed.fields.to (peer_le x.timed.fields.from x.timed.fields.to) (peer_le s.timed.fields.from s.timed.fields.to) refl refl (one_pair-is s x one)
 
 -- ---- what is kept of segments
 
@@ -108,8 +69,4 @@ unfolding marked_after marked_behind
 marked_behind-kept c earlier [] = refl
 marked_behind-kept c earlier (s ∷ xs) =
     let rest = marked_behind-kept c (earlier ++ s ∷ []) xs in
-    rw (begins_behind-kept c earlier s, ← map_push' (kept_in c) earlier s, rest) refl
-  where
-    map_push' : (f : IndexedSegment → KeptSegment) (ys : List IndexedSegment) (y : IndexedSegment) → map f (ys ++ y ∷ []) ≡ map f ys ++ f y ∷ []
-    map_push' f [] y = refl
-    map_push' f (z ∷ ys) y = ap (λ (ks : List KeptSegment). f z ∷ ks) (map_push' f ys y)
+    rw (begins_behind-kept c earlier s, ← map_push (kept_in c) earlier s, rest) refl

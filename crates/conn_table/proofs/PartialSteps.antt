@@ -1,14 +1,14 @@
 -- The partial of a range, one record after another.
-use Rattle.std.proofs.Common.{◌≡◌, ◌<◌, ◌≤◌, ℕ, ◌+◌, ◌-◌, max, ◌^◌, Bool, true, false, cond, List, [], ◌∷◌, ◌++◌, length, map, take, drop, get_or, slice_get, Option, Some, None, refl, sym, ap, subst, ◌∙◌, arith, length-take}
+use Rattle.std.proofs.Common.{◌≡◌, ◌<◌, ◌≤◌, ℕ, ◌+◌, ◌-◌, max, ◌^◌, Bool, true, false, cond, List, [], ◌∷◌, ◌++◌, length, map, take, drop, get_or, slice_get, Option, Some, None, refl, sym, ap, ap₂, subst, ◌∙◌, arith, length-take}
 use Rattle.std.specs.Prelude.{unwrap_or}
 use Rattle.std.specs.List.{cons_option}
 use Rattle.std.proofs.lemmas.List.{length-map, get_or-map, map-append, append-nil}
-use Rattle.std.proofs.lemmas.Option.{slice_get-map, slice_get_read}
+use Rattle.std.proofs.lemmas.Option.{same_Some, slice_get-map, slice_get_read}
 use Rattle.pcap_records.specs.Instants.{instants}
 use Rattle.pcap_records.specs.declared.capture.Record.{Record}
 use Rattle.pcap_records.specs.Reading.{Packet}
 use Rattle.pcap_records.specs.CaptureView.{CaptureView, contents_of, packet_of, packet_at, IsSoundCapture, IsWithinFile}
-use Rattle.frame_headers.specs.Frame.{FrameClass, frame_class, segment, payload_offset}
+use Rattle.frame_headers.specs.Frame.{FrameClass, SegmentFields, frame_class, segment, segment_fields, payload_offset}
 use Rattle.frame_headers.specs.Class.{frame_class_of}
 use Rattle.frame_headers.specs.declared.classes.Class.{Class}
 use Rattle.frame_headers.specs.declared.classes.Class.TheVariants as classes
@@ -33,30 +33,29 @@ pub record IsRecordOf (c : CaptureView) (i : ℕ) (r : Record) (bytes : List ℕ
 length-packets : (c : CaptureView) → length (contents_of c).packets ≡ length c.records
 length-packets c = length-map c.records (packet_of c.bytes)
 
+at_record : (c : CaptureView) (i : ℕ) (r : Record) (bytes : List ℕ) → IsRecordOf c i r bytes → slice_get c.records i ≡ Some r
+at_record c i r bytes here = slice_get_read c.records (length c.records) i r refl here.within here.is
+
+bytes_are : (c : CaptureView) (i : ℕ) (r : Record) (bytes : List ℕ) → IsRecordOf c i r bytes → take r.len (drop r.start c.bytes) ≡ bytes
+bytes_are c i r bytes here =
+    let told : packet_at c i ≡ Some (packet_of c.bytes r).bytes = rw (slice_get-map (packet_of c.bytes) c.records i, at_record c i r bytes here) refl in
+    same_Some _ _ (sym told ∙ here.packet)
+
 -- its packet in the capture's contents
 packet_is : (c : CaptureView) (i : ℕ) (r : Record) (bytes : List ℕ) (d : Packet) → IsRecordOf c i r bytes → get_or (contents_of c).packets i d ≡ record { stamp = r.stamp; bytes = bytes }
 packet_is c i r bytes d here =
-    let at : slice_get c.records i ≡ Some r = slice_get_read c.records (length c.records) i r refl here.within here.is in
-    let told : packet_at c i ≡ Some (packet_of c.bytes r).bytes = rw (slice_get-map (packet_of c.bytes) c.records i, at) refl in
-    let same : (packet_of c.bytes r).bytes ≡ bytes = some_is _ _ (sym told ∙ here.packet) in
-    get_or-map (packet_of c.bytes) c.records i r d here.within ∙ (ap (λ (x : Record). packet_of c.bytes x) (sym here.is) ∙ ap (λ (bs : List ℕ). record { stamp = r.stamp; bytes = bs }) same)
-  where
-    some_is : (xs ys : List ℕ) → Some xs ≡ Some ys → xs ≡ ys
-    some_is xs ys e = cc
+    get_or-map (packet_of c.bytes) c.records i r d here.within
+    ∙ (ap (λ (x : Record). packet_of c.bytes x) (sym here.is) ∙ ap (λ (bs : List ℕ). record { stamp = r.stamp; bytes = bs }) (bytes_are c i r bytes here))
 
 pub start_is : (c : CaptureView) (i : ℕ) (r : Record) (bytes : List ℕ) → IsRecordOf c i r bytes → payload_start c i ≡ r.start + payload_offset bytes
 start_is c i r bytes here =
-    let at : slice_get c.records i ≡ Some r = slice_get_read c.records (length c.records) i r refl here.within here.is in
     let frame : frame_at c i ≡ bytes = ap (λ (o : Option (List ℕ)). unwrap_or o []) here.packet in
-    rw (frame, at) refl
+    rw (frame, at_record c i r bytes here) refl
 
 -- a packet ends before 2^30
 pub ends_within : (c : CaptureView) (i : ℕ) (r : Record) (bytes : List ℕ) → IsSoundCapture c.ticks c.bytes c.records → IsRecordOf c i r bytes → r.start + length bytes < 2 ^ 32
 ends_within c i r bytes sound here =
-    let at : slice_get c.records i ≡ Some r = slice_get_read c.records (length c.records) i r refl here.within here.is in
-    let told : packet_at c i ≡ Some (packet_of c.bytes r).bytes = rw (slice_get-map (packet_of c.bytes) c.records i, at) refl in
-    let same : Some (packet_of c.bytes r).bytes ≡ Some bytes = sym told ∙ here.packet in
-    let len : length bytes ≡ length (take r.len (drop r.start c.bytes)) = ap (λ (o : Option (List ℕ)). length (unwrap_or o [])) (sym same) in
+    let len : length (take r.len (drop r.start c.bytes)) ≡ length bytes = ap (λ (bs : List ℕ). length bs) (bytes_are c i r bytes here) in
     let in_file : IsWithinFile c.ticks c.bytes r = subst (IsWithinFile c.ticks c.bytes) (sym here.is) (sound.within i r here.within) in
     omega (arith, len, length-take r.len (drop r.start c.bytes), in_file.ends, sound.limited)
 
@@ -114,7 +113,7 @@ abbrev pub segment_list : Bool → IndexedSegment → List IndexedSegment
 segment_list is s = cond is (s ∷ []) []
 
 pub segments_more : (c : CaptureView) (from i carry : ℕ) (r : Record) (bytes : List ℕ) → from ≤ i → IsRecordOf c i r bytes
-    → segments_between c from (i + 1) carry ≡ segments_between c from i carry ++ segment_list (is_segment (frame_class bytes)) (segment_read i (max (carried c from i carry) r.stamp) bytes)
+    → segments_between c from (i + 1) carry ≡ segments_between c from i carry ++ segment_list (is_segment (frame_class bytes)) (segment_read i (max (carried c from i carry) r.stamp) (segment_fields bytes))
 unfolding indexed_segments
 segments_more c from i carry r bytes ordered here =
     let len : length (packets_between c from i carry) ≡ i - from = length-packets_between c from i carry ordered (omega (arith, length-packets c, here.within)) in
@@ -124,7 +123,7 @@ segments_more c from i carry r bytes ordered here =
     let both' = rw place at both in
     ap (λ (ps : List SeenPacket). indexed_segments from ps) (packets_more c from i carry r bytes ordered here) ∙ (both' ∙ ap (λ (xs : List IndexedSegment). indexed_segments from (packets_between c from i carry) ++ xs) (by_test (is_segment (frame_class bytes))))
   where
-    by_test : (b : Bool) → cons_option (cond b (Some (segment_read i (max (carried c from i carry) r.stamp) bytes)) None) [] ≡ segment_list b (segment_read i (max (carried c from i carry) r.stamp) bytes)
+    by_test : (b : Bool) → cons_option (cond b (Some (segment_read i (max (carried c from i carry) r.stamp) (segment_fields bytes))) None) [] ≡ segment_list b (segment_read i (max (carried c from i carry) r.stamp) (segment_fields bytes))
     by_test true = refl
     by_test false = refl
 
@@ -140,15 +139,17 @@ marks_push c segs s =
     ∙ (map-append (marked_in c) (marked_after [] segs) (record { begins = begins_after segs s; segment = s } ∷ [])
     ∙ rw (kept_of-marked c [] segs, begins_behind-kept c segs s) refl)
 
-pub marks-segment : (c : CaptureView) (from i carry : ℕ) (r : Record) (bytes : List ℕ) (done more : List MarkedKept) → from ≤ i → IsRecordOf c i r bytes → frame_class bytes ≡ segment
-    → done ≡ marks_between c from i carry
-    → more ≡ done ++ mark_behind (kept_of done) (kept_at (r.start + payload_offset bytes) (segment_read i (max (carried c from i carry) r.stamp) bytes)) ∷ []
+pub marks-segment : (c : CaptureView) (from i carry : ℕ) (r : Record) (bytes : List ℕ) (done more : List MarkedKept) (start : ℕ) (fields : SegmentFields)
+    → from ≤ i → IsRecordOf c i r bytes → frame_class bytes ≡ segment → done ≡ marks_between c from i carry
+    → start ≡ r.start + payload_offset bytes → fields ≡ segment_fields bytes
+    → more ≡ done ++ mark_behind (kept_of done) (kept_at start (segment_read i (max (carried c from i carry) r.stamp) fields)) ∷ []
     → more ≡ marks_between c from (i + 1) carry
-marks-segment c from i carry r bytes done more ordered here is so_far grown =
-    let s : IndexedSegment = segment_read i (max (carried c from i carry) r.stamp) bytes in
+marks-segment c from i carry r bytes done more start fields ordered here is so_far starts are grown =
+    let s : IndexedSegment = segment_read i (max (carried c from i carry) r.stamp) (segment_fields bytes) in
     let segs : List IndexedSegment = segments_between c from i carry in
     let all : segments_between c from (i + 1) carry ≡ segs ++ s ∷ [] = segments_more c from i carry r bytes ordered here ∙ ap (λ (k : FrameClass). segs ++ segment_list (is_segment k) s) is in
-    let kept : kept_at (r.start + payload_offset bytes) s ≡ kept_in c s = ap (λ (n : ℕ). kept_at n s) (sym (start_is c i r bytes here)) in
+    let kept : kept_at start (segment_read i (max (carried c from i carry) r.stamp) fields) ≡ kept_in c s =
+    ap₂ (λ (n : ℕ) (f : SegmentFields). kept_at n (segment_read i (max (carried c from i carry) r.stamp) f)) (starts ∙ sym (start_is c i r bytes here)) are in
     grown
     ∙ (ap (λ (k : KeptSegment). done ++ mark_behind (kept_of done) k ∷ []) kept
     ∙ (ap (λ (ms : List MarkedKept). ms ++ mark_behind (kept_of ms) (kept_in c s) ∷ []) so_far
@@ -157,7 +158,7 @@ marks-segment c from i carry r bytes done more ordered here is so_far grown =
 pub marks-other : (c : CaptureView) (from i carry : ℕ) (r : Record) (bytes : List ℕ) → from ≤ i → IsRecordOf c i r bytes → is_segment (frame_class bytes) ≡ false
     → marks_between c from i carry ≡ marks_between c from (i + 1) carry
 marks-other c from i carry r bytes ordered here other =
-    let s : IndexedSegment = segment_read i (max (carried c from i carry) r.stamp) bytes in
+    let s : IndexedSegment = segment_read i (max (carried c from i carry) r.stamp) (segment_fields bytes) in
     let segs : List IndexedSegment = segments_between c from i carry in
     let all : segments_between c from (i + 1) carry ≡ segs ++ [] = segments_more c from i carry r bytes ordered here ∙ ap (λ (b : Bool). segs ++ segment_list b s) other in
     ap (λ (xs : List IndexedSegment). map (marked_in c) (marked_after [] xs)) (sym (all ∙ append-nil segs))

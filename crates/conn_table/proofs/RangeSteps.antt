@@ -1,22 +1,18 @@
 -- The packets and the segments of a range of records, and of two adjacent ones.
-use Rattle.std.proofs.Common.{◌≡◌, ◌<◌, ◌≤◌, ℕ, zero, suc, ◌+◌, ◌-◌, max, List, [], ◌∷◌, ◌++◌, length, map, take, drop, get_or, refl, ap, ◌∙◌, arith, length-take, length-drop}
-use Rattle.std.specs.List.{slice_range, enumerate_from, range_with_len}
+use Rattle.std.proofs.Common.{◌≡◌, ◌<◌, ◌≤◌, ℕ, suc, ◌+◌, ◌-◌, max, List, [], ◌∷◌, ◌++◌, length, map, drop, get_or, refl, ap, ◌∙◌, arith, length-take, length-drop}
+use Rattle.std.specs.List.{slice_range, enumerate_from}
+use Rattle.std.proofs.Math.Seq.{take-add}
 use Rattle.std.proofs.lemmas.List.{drop-drop, map-append, drop_more}
 use Rattle.std.proofs.lemmas.List.Elements.{filter_map-append}
-use Rattle.pcap_records.specs.Instants.{greatest, greatest_so_far, instants}
+use Rattle.pcap_records.specs.Instants.{greatest}
 use Rattle.pcap_records.specs.Reading.{Packet}
 use Rattle.pcap_records.specs.CaptureView.{CaptureView, contents_of, stamps_between}
+use Rattle.pcap_records.proofs.Running.{instants-cons, instants-nil}
 use Rattle.conn_table.specs.SeenCapture.{SeenPacket, seen_packet, seen_packets}
 use Rattle.conn_table.specs.IndexedSegments.{indexed_segment, indexed_segments}
 use Rattle.conn_table.specs.Partials.{packets_between, segments_between, carried}
 
 -- ---- parts of lists
-
-take-add : {X : Type 0} (n m : ℕ) (xs : List X) → take (n + m) xs ≡ take n xs ++ take m (drop n xs)
-take-add zero m xs = let e : 0 + m ≡ m = omega arith in rw e refl
-take-add (suc n) zero [] = let e : suc n + 0 ≡ suc n = omega arith in rw e refl
-take-add (suc n) (suc m) [] = let e : suc n + suc m ≡ suc (n + suc m) = omega arith in rw e refl
-take-add (suc n) m (x ∷ xs) = let e : suc n + m ≡ suc (n + m) = omega arith in rw (e, take-add n m xs) refl
 
 pub slice_range-append : {X : Type 0} (from mid to : ℕ) (xs : List X) → from ≤ mid → mid ≤ to → slice_range xs from to ≡ slice_range xs from mid ++ slice_range xs mid to
 slice_range-append from mid to xs first second =
@@ -26,27 +22,6 @@ slice_range-append from mid to xs first second =
 
 pub slice_range-one : {X : Type 0} (i : ℕ) (xs : List X) (d : X) → i < length xs → slice_range xs i (i + 1) ≡ get_or xs i d ∷ []
 slice_range-one i xs d within = let one : i + 1 - i ≡ 1 = omega arith in rw (one, drop_more xs i d within) refl
-
--- ---- instants
-
--- a function of the place after, at places from a on
-map_next : (f g : ℕ → ℕ) → ((i : ℕ) → f (i + 1) ≡ g i) → (a n : ℕ) → map f (range_with_len (a + 1) n) ≡ map g (range_with_len a n)
-map_next f g same a zero = refl
-map_next f g same a (suc n) = rw (same a, map_next f g same (a + 1) n) refl
-
-next_greatest : (carry s : ℕ) (stamps : List ℕ) (i : ℕ) → greatest_so_far carry (s ∷ stamps) (i + 1) ≡ greatest_so_far (max carry s) stamps i
-next_greatest carry s stamps i = let next : i + 1 + 1 ≡ suc (i + 1) = omega arith in rw next (omega arith)
-
--- the first instant, and those after it with the greatest stamp so far as their carry
-instants-cons : (carry s : ℕ) (stamps : List ℕ) → instants carry (s ∷ stamps) ≡ max carry s ∷ instants (max carry s) stamps
-unfolding instants
-instants-cons carry s stamps =
-    let first : greatest_so_far carry (s ∷ stamps) 0 ≡ max carry s = omega arith in
-    rw (first, map_next (greatest_so_far carry (s ∷ stamps)) (greatest_so_far (max carry s) stamps) (next_greatest carry s stamps) 0 (length stamps)) refl
-
-instants-nil : (carry : ℕ) → instants carry [] ≡ []
-unfolding instants
-instants-nil carry = refl
 
 -- ---- packets with their instants
 
@@ -110,15 +85,20 @@ packets_between-more c from i carry d ordered within =
     rw (slice_range-one i (contents_of c).packets d within, seen_packets-cons (carried c from i carry) p [], seen_packets-nil (max (carried c from i carry) p.stamp)) refl in
     packets_between-append c from i (i + 1) carry ordered (omega arith) ∙ ap (λ (ps : List SeenPacket). packets_between c from i carry ++ ps) last
 
+greatest-append : (ns ms : List ℕ) → greatest (ns ++ ms) ≡ max (greatest ns) (greatest ms)
+greatest-append [] ms = omega arith
+greatest-append (n ∷ ns) ms = rw (greatest-append ns ms) (omega arith)
+
+-- the greatest stamp before a record is that before an earlier one, or of the stamps between
+pub carried-append : (c : CaptureView) (from mid to carry : ℕ) → from ≤ mid → mid ≤ to → carried c from to carry ≡ max (carried c from mid carry) (greatest (stamps_between c mid to))
+carried-append c from mid to carry first second =
+    let ps : List Packet = (contents_of c).packets in
+    let stamps : stamps_between c from to ≡ stamps_between c from mid ++ stamps_between c mid to =
+    rw (slice_range-append from mid to ps first second) (map-append (λ (p : Packet). p.stamp) (slice_range ps from mid) (slice_range ps mid to)) in
+    rw (stamps, greatest-append (stamps_between c from mid) (stamps_between c mid to)) (omega arith)
+
 pub carried-more : (c : CaptureView) (from i carry : ℕ) (d : Packet) → from ≤ i → i < length (contents_of c).packets
     → carried c from (i + 1) carry ≡ max (carried c from i carry) (get_or (contents_of c).packets i d).stamp
 carried-more c from i carry d ordered within =
-    let ps : List Packet = (contents_of c).packets in
-    let p : Packet = get_or ps i d in
-    let stamps : stamps_between c from (i + 1) ≡ stamps_between c from i ++ p.stamp ∷ [] =
-    rw (slice_range-append from i (i + 1) ps ordered (omega arith), slice_range-one i ps d within) (map-append (λ (x : Packet). x.stamp) (slice_range ps from i) (p ∷ [])) in
-    rw (stamps, greatest-push (stamps_between c from i) p.stamp) (omega arith)
-  where
-    greatest-push : (ns : List ℕ) (n : ℕ) → greatest (ns ++ n ∷ []) ≡ max (greatest ns) n
-    greatest-push [] n = omega arith
-    greatest-push (m ∷ ns) n = let e = greatest-push ns n in rw e (omega arith)
+    let one : stamps_between c i (i + 1) ≡ (get_or (contents_of c).packets i d).stamp ∷ [] = rw (slice_range-one i (contents_of c).packets d within) refl in
+    carried-append c from i (i + 1) carry ordered (omega arith) ∙ rw one (omega arith)

@@ -1,22 +1,23 @@
 -- The table of a partial is that of its range.
 use Rattle.std.proofs.Common.{◌≡◌, ℕ, ◌+◌, Bool, true, false, ◌&&◌, ◌||◌, cond, List, [], ◌∷◌, ◌++◌, length, map, filter, Option, Some, None, is_some, is_none, refl, sym, ap, ◌∙◌, arith}
-use Rattle.std.specs.List.{enumerate_from}
+use Rattle.std.specs.List.{enumerate_from, last_or}
+use Rattle.std.proofs.Math.Bool.{or-false}
+use Rattle.std.proofs.lemmas.Bool.{or_right}
 use Rattle.std.proofs.lemmas.List.{map-append}
 use Rattle.pcap_records.specs.CaptureView.{CaptureView}
 use Rattle.frame_headers.specs.declared.peers.Peer.{Peer}
-use Rattle.conn_table.specs.declared.members.Member.{Member}
-use Rattle.conn_table.specs.declared.conns.Conn.{Conn}
+use Rattle.conn_table.specs.declared.conns.Member.{Member}
 use Rattle.conn_table.specs.IndexedSegments.{IndexedSegment, peer_le, pair_of_segment}
-use Rattle.conn_table.specs.Connections.{last_or, of_one_pair, begins, beginnings, beginning_of, is_unopened, unopened_count, later_members, begins_after, members_after, Connection, connection_of, connections}
+use Rattle.conn_table.specs.Connections.{of_one_pair, begins, beginnings, beginning_of, is_unopened, unopened_count, later_members, begins_after, members_after, Connection, connection_of, connections}
 use Rattle.conn_table.specs.IndexedConnections.{indexed_connection_of, indexed_connections, without_indices, IndexedConnectionsAgree}
 use Rattle.conn_table.specs.KeptSegments.{KeptSegment, kept_in}
 use Rattle.conn_table.specs.Partials.{MarkedKept, marked_after, marked_in, packets_between, segments_between, partial_in}
 use Rattle.conn_table.specs.Tables.{member_in, conn_in, later_of, sender_of, receiver_of, member_from, conn_with, conns_from, is_opened, unopened_after, finished, table_in, TablesAgree}
 use Rattle.conn_table.proofs.GroupingOrder.{IsSplitAt, behind_next, IsSplitAt-first}
-use Rattle.conn_table.proofs.GroupingPairs.{one_pair-itself, latest}
+use Rattle.conn_table.proofs.GroupingPairs.{latest}
 use Rattle.conn_table.proofs.GroupingBeginnings.{begins-agrees, beginning_of-latest}
 use Rattle.conn_table.proofs.GroupingMembers.{members-agree}
-use Rattle.conn_table.proofs.MarkSteps.{same_sender}
+use Rattle.conn_table.proofs.Peers.{one_pair-itself, same_sender}
 
 -- ---- without the numbers of records
 
@@ -35,8 +36,7 @@ low s = peer_le s.timed.fields.from s.timed.fields.to
 
 member-kept : (c : CaptureView) (b x : IndexedSegment) → of_one_pair b x ≡ true → member_from (low b) (kept_in c x) ≡ member_in c b.timed.fields.from x
 member-kept c b x one =
-    let k : KeptSegment = kept_in c x in
-    let with_client : Bool → Member = λ is. record { at = k.at; index = k.index; seq = k.seq; start = k.start; len = k.len; flags = k.flags; from_client = is } in
+    let with_client : Bool → Member = λ is. record (kept_in c x).member { from_client = is } in
     ap with_client (same_sender x b one)
 
 members-kept : (c : CaptureView) (earlier : List IndexedSegment) (b : IndexedSegment) (later : List IndexedSegment)
@@ -57,30 +57,21 @@ members-kept c earlier b (s ∷ later) = by_tests (of_one_pair b s) (begins_afte
 
 -- ---- connections
 
+picked : (t : Bool) (a b : Peer) → cond t (cond t a b) (cond t b a) ≡ a
+picked true a b = refl
+picked false a b = refl
+
 sender-kept : (c : CaptureView) (b : IndexedSegment) → sender_of (kept_in c b) ≡ b.timed.fields.from
-sender-kept c b = by_test (low b)
-  where
-    by_test : (t : Bool) → cond t (cond t b.timed.fields.from b.timed.fields.to) (cond t b.timed.fields.to b.timed.fields.from) ≡ b.timed.fields.from
-    by_test true = refl
-    by_test false = refl
+sender-kept c b = picked (low b) b.timed.fields.from b.timed.fields.to
 
 receiver-kept : (c : CaptureView) (b : IndexedSegment) → receiver_of (kept_in c b) ≡ b.timed.fields.to
-receiver-kept c b = by_test (low b)
-  where
-    by_test : (t : Bool) → cond t (cond t b.timed.fields.to b.timed.fields.from) (cond t b.timed.fields.from b.timed.fields.to) ≡ b.timed.fields.to
-    by_test true = refl
-    by_test false = refl
+receiver-kept c b = picked (low b) b.timed.fields.to b.timed.fields.from
 
 conn-kept : (c : CaptureView) (n : ℕ) (b : IndexedSegment) (later : List KeptSegment) (segs : List IndexedSegment)
     → map (member_from (low b)) later ≡ map (member_in c b.timed.fields.from) segs
     → conn_with n (kept_in c b) later ≡ conn_in c (record { number = n; opening = b; later = segs })
 conn-kept c n b later segs same =
-    let conn : Peer → Peer → Member → List Member → Conn = λ f t m ms. record { number = n; opening = b.index; opened = b.timed.at; client = f; server = t; members = m ∷ ms } in
-    let first = member-kept c b b (one_pair-itself b) in
-    ap (λ (f : Peer). conn f (receiver_of (kept_in c b)) (member_from (low b) (kept_in c b)) (map (member_from (low b)) later)) (sender-kept c b)
-    ∙ (ap (λ (t : Peer). conn b.timed.fields.from t (member_from (low b) (kept_in c b)) (map (member_from (low b)) later)) (receiver-kept c b)
-    ∙ (ap (λ (m : Member). conn b.timed.fields.from b.timed.fields.to m (map (member_from (low b)) later)) first
-    ∙ ap (λ (ms : List Member). conn b.timed.fields.from b.timed.fields.to (member_in c b.timed.fields.from b) ms) same))
+    rw (member-kept c b b (one_pair-itself b), same, sender-kept c b, receiver-kept c b) refl
 
 conns-kept : (c : CaptureView) (later : List IndexedSegment) {n : ℕ} {all earlier : List IndexedSegment} (number : ℕ) → IsSplitAt n all earlier later
     → conns_from number (map (marked_in c) (marked_after earlier later)) ≡ map (conn_in c) (map (indexed_connection_of all) (enumerate_from number (filter (begins all) later)))
@@ -107,21 +98,13 @@ mark_by c B x = record { begins = B x; kept = kept_in c x }
 
 opened-kept : (c : CaptureView) (B : IndexedSegment → Bool) (s : IndexedSegment) (o : Option IndexedSegment) (xs : List IndexedSegment)
     → (is_some o || is_opened (pair_of_segment s) (map (mark_by c B) xs)) ≡ is_some (last_or o (filter (λ x. B x && of_one_pair s x) xs))
-opened-kept c B s o [] = by_test (is_some o)
-  where
-    by_test : (b : Bool) → (b || false) ≡ b
-    by_test true = refl
-    by_test false = refl
+opened-kept c B s o [] = or-false (is_some o)
 opened-kept c B s o (x ∷ xs) = by_test (B x && of_one_pair s x) (opened-kept c B s (Some x) xs) (opened-kept c B s o xs)
   where
     by_test : (t : Bool) → (is_some (Some x) || is_opened (pair_of_segment s) (map (mark_by c B) xs)) ≡ is_some (last_or (Some x) (filter (λ x. B x && of_one_pair s x) xs))
         → (is_some o || is_opened (pair_of_segment s) (map (mark_by c B) xs)) ≡ is_some (last_or o (filter (λ x. B x && of_one_pair s x) xs))
         → (is_some o || (t || is_opened (pair_of_segment s) (map (mark_by c B) xs))) ≡ is_some (last_or o (cond t (x ∷ filter (λ x. B x && of_one_pair s x) xs) (filter (λ x. B x && of_one_pair s x) xs)))
-    by_test true first other = anyway (is_some o) ∙ first
-      where
-        anyway : (b : Bool) → (b || true) ≡ true
-        anyway true = refl
-        anyway false = refl
+    by_test true first other = or_right (is_some o) true refl ∙ first
     by_test false first other = other
 
 opened-latest : (c : CaptureView) (B : IndexedSegment → Bool) (s : IndexedSegment) (xs : List IndexedSegment) → is_opened (pair_of_segment s) (map (mark_by c B) xs) ≡ is_some (latest B xs s)

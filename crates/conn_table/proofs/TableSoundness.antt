@@ -1,12 +1,12 @@
 -- Payloads lie in the file, and members stand in its order.
-use Rattle.std.proofs.Common.{◌≡◌, ◌<◌, ◌≤◌, ℕ, zero, suc, ◌+◌, ◌-◌, max, Bool, true, false, ◌&&◌, cond, nat_lt, List, [], ◌∷◌, ◌++◌, length, map, filter, take, drop, get_or, slice_get, slice_range, Some, refl, sym, ap, subst, ◌∙◌, arith, length-take}
+use Rattle.std.proofs.Common.{◌≡◌, ◌<◌, ◌≤◌, ℕ, zero, suc, ◌+◌, ◌-◌, max, Bool, true, false, ◌&&◌, cond, nat_lt, List, [], ◌∷◌, length, map, filter, take, drop, get_or, slice_get, slice_range, Some, refl, sym, ap, subst, ◌∙◌, arith, length-take}
 use Rattle.std.specs.List.{AllByRecursion, enumerate_from}
 use Rattle.std.proofs.lemmas.Bool.{and_parts, ltb-true}
-use Rattle.std.proofs.lemmas.List.{drop-drop, drop-take, take-take, get_or_default}
+use Rattle.std.proofs.lemmas.List.{drop-drop, take-take, get_or_default}
 use Rattle.std.proofs.lemmas.Option.{slice_get-map, slice_get-get_or}
 use Rattle.pcap_records.specs.declared.capture.Record.{Record}
 use Rattle.pcap_records.specs.CaptureView.{CaptureView, packet_of, IsSoundCapture, IsWithinFile}
-use Rattle.frame_headers.specs.Frame.{FrameClass, frame_class, segment, segment_fields, payload_offset}
+use Rattle.frame_headers.specs.Frame.{frame_class, segment, segment_fields, payload_offset}
 use Rattle.frame_headers.specs.HeaderLaws.{IsPayloadInPlace, PayloadsAreInPlace}
 use Rattle.conn_table.specs.IndexedSegments.{IndexedSegment, is_segment}
 use Rattle.conn_table.specs.Connections.{begins, beginnings, is_at, beginning_of, later_members}
@@ -15,25 +15,25 @@ use Rattle.conn_table.specs.KeptSegments.{payload_start, segment_read}
 use Rattle.conn_table.specs.Partials.{packets_between, segments_between, carried}
 use Rattle.conn_table.specs.Tables.{member_in, conn_in, table_in}
 use Rattle.conn_table.specs.TableFacts.{IsPlaced, PayloadsArePlaced, AreRising, IsSoundConn, ConnsAreSound}
-use Rattle.conn_table.specs.declared.members.Member.{Member}
+use Rattle.conn_table.specs.declared.conns.Member.{Member}
+use Rattle.pcap_records.proofs.Lists.{all_append, all_filter, drop_of_take}
 use Rattle.conn_table.proofs.GroupingOrder.{IsRising, IsSplitAt-first}
+use Rattle.conn_table.proofs.Peers.{class_is}
 use Rattle.conn_table.proofs.PartialSteps.{IsRecordOf, start_is, segments_more, segment_list, segments-none}
 
 -- ---- payloads
 
 -- a part of a part of the file
-placed_part : (file : List ℕ) (start len off n : ℕ) → off + n ≤ length (take len (drop start file)) → start + len ≤ length file
+pub placed_part : (file : List ℕ) (start len off n : ℕ) → off + n ≤ length (take len (drop start file)) → start + len ≤ length file
     → slice_range file (start + off) (start + off + n) ≡ slice_range (take len (drop start file)) off (off + n)
 placed_part file start len off n within in_file =
     let short : off + n ≤ len = omega (arith, length-take len (drop start file)) in
     let first : start + off + n - (start + off) ≡ n = omega arith in
     let second : off + n - off ≡ n = omega arith in
-    let whole : len ≡ off + (len - off) = omega arith in
-    let cut : drop off (take len (drop start file)) ≡ take (len - off) (drop off (drop start file)) = rw (← whole) at (drop-take off (len - off) (drop start file)) in
-    rw (first, second, cut, take-take n (len - off) (drop off (drop start file)) (omega arith), drop-drop off start file) refl
+    rw (first, second, drop_of_take off len (drop start file) (omega arith), take-take n (len - off) (drop off (drop start file)) (omega arith), drop-drop off start file) refl
 
 placed_at : PayloadsAreInPlace → (c : CaptureView) (i at : ℕ) (r : Record) → IsSoundCapture c.ticks c.bytes c.records → IsRecordOf c i r (packet_of c.bytes r).bytes → frame_class (packet_of c.bytes r).bytes ≡ segment
-    → IsPlaced c (segment_read i at (packet_of c.bytes r).bytes)
+    → IsPlaced c (segment_read i at (segment_fields (packet_of c.bytes r).bytes))
 placed_at in_place c i at r sound here is =
     let bytes : List ℕ = (packet_of c.bytes r).bytes in
     let in_frame : IsPayloadInPlace bytes = in_place bytes is in
@@ -45,36 +45,34 @@ placed_at in_place c i at r sound here is =
       bytes = rw start (placed_part c.bytes r.start r.len (payload_offset bytes) n in_frame.within in_file.ends ∙ in_frame.bytes);
     }
 
-all_append : {X : Type 0} (P : X → Type 0) (xs ys : List X) → AllByRecursion P xs → AllByRecursion P ys → AllByRecursion P (xs ++ ys)
-all_append P [] ys first second = second
-all_append P (x ∷ xs) ys first second = (first.0, all_append P xs ys first.1 second)
+-- the segment of a packet, if it has one
+placed_if : (c : CaptureView) (s : IndexedSegment) (is : Bool) → (is ≡ true → IsPlaced c s) → AllByRecursion (IsPlaced c) (segment_list is s)
+placed_if c s true placed = (placed refl, tt)
+placed_if c s false placed = tt
 
 -- n records from a place on
 placed_from : PayloadsAreInPlace → (c : CaptureView) (from carry n : ℕ) → IsSoundCapture c.ticks c.bytes c.records → from + n ≤ length c.records → AllByRecursion (IsPlaced c) (segments_between c from (from + n) carry)
 placed_from in_place c from carry zero sound within =
     let none : from + 0 ≡ from = omega arith in
-    subst (λ (xs : List IndexedSegment). AllByRecursion (IsPlaced c) xs) (sym (ap (λ (to : ℕ). segments_between c from to carry) none ∙ segments-none c from carry)) tt
+    subst (AllByRecursion (IsPlaced c)) (sym (ap (λ (to : ℕ). segments_between c from to carry) none ∙ segments-none c from carry)) tt
 placed_from in_place c from carry (suc n) sound within =
     let i : ℕ = from + n in
     let next : from + suc n ≡ i + 1 = omega arith in
     let below : i < length c.records = omega arith in
     let d : Record = record { stamp = 0; start = 0; len = 0 } in
     let r : Record = get_or c.records i d in
+    let bytes : List ℕ = (packet_of c.bytes r).bytes in
     let at : slice_get c.records i ≡ Some r = slice_get-get_or c.records i d below in
-    let here : IsRecordOf c i r (packet_of c.bytes r).bytes = record {
+    let here : IsRecordOf c i r bytes = record {
       within = below;
       is = get_or_default c.records i d r below;
       packet = rw (slice_get-map (packet_of c.bytes) c.records i, at) refl;
     } in
-    let more = segments_more c from i carry r (packet_of c.bytes r).bytes (omega arith) here in
-    let last = by_class (frame_class (packet_of c.bytes r).bytes) i (max (carried c from i carry) r.stamp) r refl (placed_at in_place c i (max (carried c from i carry) r.stamp) r sound here) in
-    let both = all_append (IsPlaced c) (segments_between c from i carry) (segment_list (is_segment (frame_class (packet_of c.bytes r).bytes)) (segment_read i (max (carried c from i carry) r.stamp) (packet_of c.bytes r).bytes)) (placed_from in_place c from carry n sound (omega arith)) last in
-    subst (λ (xs : List IndexedSegment). AllByRecursion (IsPlaced c) xs) (sym (ap (λ (to : ℕ). segments_between c from to carry) next ∙ more)) both
-  where
-    by_class : (k : FrameClass) (i at : ℕ) (r : Record) → frame_class (packet_of c.bytes r).bytes ≡ k → (frame_class (packet_of c.bytes r).bytes ≡ segment → IsPlaced c (segment_read i at (packet_of c.bytes r).bytes))
-        → AllByRecursion (IsPlaced c) (segment_list (is_segment (frame_class (packet_of c.bytes r).bytes)) (segment_read i at (packet_of c.bytes r).bytes))
-    by_class segment i at r is placed = subst (λ (k : FrameClass). AllByRecursion (IsPlaced c) (segment_list (is_segment k) (segment_read i at (packet_of c.bytes r).bytes))) (sym is) (placed is, tt)
-    by_class k i at r is placed = subst (λ (k : FrameClass). AllByRecursion (IsPlaced c) (segment_list (is_segment k) (segment_read i at (packet_of c.bytes r).bytes))) (sym is) tt
+    let instant : ℕ = max (carried c from i carry) r.stamp in
+    let s : IndexedSegment = segment_read i instant (segment_fields bytes) in
+    let last = placed_if c s (is_segment (frame_class bytes)) (λ is. placed_at in_place c i instant r sound here (class_is (frame_class bytes) is)) in
+    let whole = all_append (IsPlaced c) (segments_between c from i carry) (segment_list (is_segment (frame_class bytes)) s) (placed_from in_place c from carry n sound (omega arith)) last in
+    subst (AllByRecursion (IsPlaced c)) (sym (ap (λ (to : ℕ). segments_between c from to carry) next ∙ segments_more c from i carry r bytes (omega arith) here)) whole
 
 pub payloads_are_placed : PayloadsAreInPlace → PayloadsArePlaced
 payloads_are_placed in_place c from to carry sound ordered within =
@@ -82,14 +80,6 @@ payloads_are_placed in_place c from to carry sound ordered within =
     subst (λ (n : ℕ). AllByRecursion (IsPlaced c) (segments_between c from n carry)) whole (placed_from in_place c from carry (to - from) sound (omega arith))
 
 -- ---- members
-
-all_filter : {X : Type 0} (P : X → Type 0) (Q : X → Bool) (xs : List X) → AllByRecursion P xs → AllByRecursion P (filter Q xs)
-all_filter P Q [] all = tt
-all_filter P Q (x ∷ xs) all = by_test (Q x) (all_filter P Q xs all.1)
-  where
-    by_test : (t : Bool) → AllByRecursion P (filter Q xs) → AllByRecursion P (cond t (x ∷ filter Q xs) (filter Q xs))
-    by_test true rest = (all.0, rest)
-    by_test false rest = rest
 
 rising_lower : (m n : ℕ) (segs : List IndexedSegment) → m ≤ n → IsRising n segs → IsRising m segs
 rising_lower m n [] le rising = tt

@@ -1,15 +1,11 @@
 -- Connections: the segments of each pair of peers, from a beginning up to the pair's next one.
 use Rattle.std.specs.Prelude.{◌≡◌, ℕ, ◌+◌, List, [], ◌∷◌, ◌++◌, length, map, filter, Option, Some, None, is_none, Bool, false, ◌&&◌, ◌==◌, not, nat_lt, nat_le, if◌then◌else◌}
-use Rattle.std.specs.List.{enumerate_from}
+use Rattle.std.specs.List.{enumerate_from, last_or}
 use Rattle.conn_table.specs.SeenCapture.{SeenPacket}
 use Rattle.frame_headers.specs.Flags.{has_flag, syn_flag, ack_flag, rst_flag}
 use Rattle.conn_table.specs.IndexedSegments.{TimedSegment, IndexedSegment, indexed_segments, same_peer, same_pair, pair_of_segment}
 
--- the last of a list, or what stands before it
-abbrev pub last_or : {X : Type 0} → Option X → List X → Option X
-last_or before [] = before
-last_or before (x ∷ xs) = last_or (Some x) xs
-
+-- the last of a list
 abbrev pub last_of : {X : Type 0} → List X → Option X
 last_of xs = last_or None xs
 

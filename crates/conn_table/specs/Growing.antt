@@ -1,12 +1,13 @@
 -- A table that grows segment by segment.
 use Rattle.std.specs.Prelude.{◌≡◌, ◌<◌, ℕ, zero, suc, List, [], ◌∷◌, ◌++◌, length, map, take, Option, Some, None, Bool, ◌&&◌, if◌then◌else◌, slice_get}
-use Rattle.conn_table.specs.declared.pair.Pair.{Pair}
-use Rattle.conn_table.specs.declared.members.Member.{Member}
+use Rattle.conn_table.specs.declared.conns.Pair.{Pair}
+use Rattle.conn_table.specs.declared.conns.Member.{Member}
 use Rattle.conn_table.specs.declared.conns.Conn.{Conn}
-use Rattle.conn_table.specs.declared.growth.Current.{Current}
-use Rattle.conn_table.specs.declared.growth.Growth.{Growth}
+use Rattle.conn_table.specs.declared.table.Current.{Current}
+use Rattle.conn_table.specs.declared.table.Growth.{Growth}
 use Rattle.conn_table.specs.declared.listing.Listing.{Listing}
 use Rattle.conn_table.specs.IndexedSegments.{same_pair}
+use Rattle.conn_table.specs.KeptSegments.{is_from_low}
 use Rattle.conn_table.specs.Partials.{MarkedKept}
 use Rattle.conn_table.specs.Tables.{conns_from, unopened_after}
 use Rattle.conn_table.specs.Listings.{pair_at, mark_of}
@@ -26,7 +27,7 @@ further (Some c) begins here = Some (record { number = if begins then suc c.numb
 abbrev pub current_of : Pair → List MarkedKept → Option Current
 current_of p [] = None
 current_of p (m ∷ ms) =
-    further (current_of p ms) m.begins (if m.begins && same_pair m.kept.pair p then Some (record { number = 0; from_low = m.kept.from_low }) else None)
+    further (current_of p ms) m.begins (if m.begins && same_pair m.kept.pair p then Some (record { number = 0; from_low = is_from_low m.kept }) else None)
 
 -- what has grown of a listing's first segments: the connections, for each group its last one, and how many segments are unopened
 pub record HasGrown (listing : Listing) (n : ℕ) (g : Growth) : Type 0 where

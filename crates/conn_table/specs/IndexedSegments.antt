@@ -4,7 +4,7 @@ use Rattle.std.specs.List.{filter_map, enumerate_from}
 use Rattle.frame_headers.specs.declared.peers.Peer.{Peer}
 use Rattle.frame_headers.specs.Frame.{FrameClass, segment, SegmentFields}
 use Rattle.conn_table.specs.SeenCapture.{SeenPacket}
-use Rattle.conn_table.specs.declared.pair.Pair.{Pair}
+use Rattle.conn_table.specs.declared.conns.Pair.{Pair}
 
 -- a segment and its instant
 pub record TimedSegment : Type 0 where

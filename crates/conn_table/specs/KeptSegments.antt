@@ -4,23 +4,21 @@ use Rattle.std.specs.Bool.{beq}
 use Rattle.std.specs.Option.{option_map, option_map_or}
 use Rattle.pcap_records.specs.CaptureView.{CaptureView, packet_at}
 use Rattle.frame_headers.specs.Flags.{has_flag, syn_flag, ack_flag, rst_flag}
-use Rattle.frame_headers.specs.Frame.{payload_offset, segment_fields}
-use Rattle.conn_table.specs.declared.pair.Pair.{Pair}
-use Rattle.conn_table.specs.declared.entries.Opening.{Opening}
+use Rattle.frame_headers.specs.Frame.{SegmentFields, payload_offset}
+use Rattle.conn_table.specs.declared.conns.Member.{Member}
+use Rattle.conn_table.specs.declared.conns.Pair.{Pair}
+use Rattle.conn_table.specs.declared.listing.Opening.{Opening}
 use Rattle.conn_table.specs.IndexedSegments.{IndexedSegment, peer_le, same_pair, pair_of_segment}
 use Rattle.conn_table.specs.Connections.{last_of}
 
--- the number of its record and its instant, its pair and whether the lower peer of it sent it, the sequence number and the
--- flags of its TCP header, and where its payload lies in the file
+-- its pair, and the member that it is where the pair's lower peer is the client
 pub record KeptSegment : Type 0 where
-  pub index : ℕ
-  pub at : ℕ
   pub pair : Pair
-  pub from_low : Bool
-  pub seq : ℕ
-  pub flags : ℕ
-  pub start : ℕ
-  pub len : ℕ
+  pub member : Member
+
+-- whether the lower peer sent it
+abbrev pub is_from_low : KeptSegment → Bool
+is_from_low k = k.member.from_client
 
 -- ---- in a capture
 
@@ -38,19 +36,21 @@ payload_start c i = packet_start c i + payload_offset (frame_at c i)
 -- what is kept of a segment whose payload begins at a place of the file
 abbrev pub kept_at : ℕ → IndexedSegment → KeptSegment
 kept_at start s = record {
-  index = s.index;
-  at = s.timed.at;
   pair = pair_of_segment s;
-  from_low = peer_le s.timed.fields.from s.timed.fields.to;
-  seq = s.timed.fields.seq;
-  flags = s.timed.fields.flags;
-  start = start;
-  len = length s.timed.fields.payload;
+  member = record {
+    at = s.timed.at;
+    index = s.index;
+    seq = s.timed.fields.seq;
+    start = start;
+    len = length s.timed.fields.payload;
+    flags = s.timed.fields.flags;
+    from_client = peer_le s.timed.fields.from s.timed.fields.to;
+  };
 }
 
--- the segment in a packet, which is recorded at an instant in the record of that number
-abbrev pub segment_read : ℕ → ℕ → List ℕ → IndexedSegment
-segment_read index at packet = record { index = index; timed = record { at = at; fields = segment_fields packet } }
+-- the segment with these fields, which is recorded at an instant in the record of that number
+abbrev pub segment_read : ℕ → ℕ → SegmentFields → IndexedSegment
+segment_read index at fields = record { index = index; timed = record { at = at; fields = fields } }
 
 -- what is kept of a capture's segment
 abbrev pub kept_in : CaptureView → IndexedSegment → KeptSegment
@@ -60,11 +60,11 @@ kept_in c s = kept_at (payload_start c s.index) s
 
 -- SYN, and neither ACK nor RST
 abbrev pub opens : KeptSegment → Bool
-opens k = has_flag k.flags syn_flag && not (has_flag k.flags ack_flag) && not (has_flag k.flags rst_flag)
+opens k = has_flag k.member.flags syn_flag && not (has_flag k.member.flags ack_flag) && not (has_flag k.member.flags rst_flag)
 
 -- what a repeated opening has in common with the one before: its sender and its sequence number
 abbrev pub opening_of : KeptSegment → Opening
-opening_of k = record { from_low = k.from_low; seq = k.seq }
+opening_of k = record { from_low = is_from_low k; seq = k.member.seq }
 
 abbrev pub is_again : Option Opening → Opening → Bool
 is_again None o = false

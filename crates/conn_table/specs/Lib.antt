@@ -5,11 +5,11 @@ pub mod IndexedConnections
 pub mod ClassCounts
 pub mod KeptSegments
 pub mod Partials
+pub mod Groups
 pub mod Tables
 pub mod Listings
 pub mod Growing
 pub mod TableFacts
-pub mod MemberSides
 pub use Rattle.pcap_records.specs.Instants
 pub use Rattle.pcap_records.specs.Reading
 pub use Rattle.pcap_records.specs.CaptureView

@@ -4,8 +4,8 @@ use Rattle.indexmap.specs.IndexSet.{IsUnique}
 use Rattle.frame_headers.specs.Frame.{FrameClass}
 use Rattle.conn_table.specs.declared.class_counts.Counts.{Counts}
 use Rattle.conn_table.specs.ClassCounts.{count_at}
-use Rattle.conn_table.specs.declared.pair.Pair.{Pair}
-use Rattle.conn_table.specs.declared.entries.Entry.{Entry}
+use Rattle.conn_table.specs.declared.conns.Pair.{Pair}
+use Rattle.conn_table.specs.declared.listing.Entry.{Entry}
 use Rattle.conn_table.specs.declared.listing.Listing.{Listing}
 use Rattle.conn_table.specs.IndexedSegments.{same_pair}
 use Rattle.conn_table.specs.KeptSegments.{KeptSegment, last_opening}
@@ -19,16 +19,7 @@ pair_at pairs g = get_or pairs g nowhere
 
 -- the segment of a pair that an entry keeps
 abbrev pub segment_with : Pair → Entry → KeptSegment
-segment_with p e = record {
-  index = e.index;
-  at = e.at;
-  pair = p;
-  from_low = e.from_low;
-  seq = e.seq;
-  flags = e.flags;
-  start = e.start;
-  len = e.len;
-}
+segment_with p e = record { pair = p; member = e.member }
 
 -- the same, where its group's pair is the one at its place
 abbrev pub segment_of : List Pair → Entry → KeptSegment

@@ -1,15 +1,14 @@
 -- What a partial stands for: the segments of a range of records in the order of the file, each with the mark whether it begins
 -- a connection as read on the range alone, and how many packets of the range are of each class.
-use Rattle.std.specs.Prelude.{◌≡◌, ◌≤◌, ℕ, ◌+◌, max, List, [], ◌∷◌, ◌++◌, map, filter, length, Bool, not, if◌then◌else◌, slice_range}
+use Rattle.std.specs.Prelude.{◌≡◌, ◌≤◌, ℕ, ◌+◌, max, List, [], ◌∷◌, ◌++◌, map, length, Bool, slice_range}
 use Rattle.pcap_records.specs.Instants.{greatest}
 use Rattle.pcap_records.specs.CaptureView.{CaptureView, contents_of, stamps_between}
 use Rattle.conn_table.specs.SeenCapture.{SeenPacket, seen_packets}
-use Rattle.conn_table.specs.IndexedSegments.{IndexedSegment, indexed_segments, same_pair}
+use Rattle.conn_table.specs.IndexedSegments.{IndexedSegment, indexed_segments}
 use Rattle.conn_table.specs.Connections.{begins_after}
 use Rattle.conn_table.specs.ClassCounts.{counts_of}
 use Rattle.conn_table.specs.KeptSegments.{KeptSegment, kept_in, begins_behind}
 use Rattle.conn_table.specs.declared.class_counts.Counts.{Counts}
-use Rattle.conn_table.specs.declared.pair.Pair.{Pair}
 
 -- ---- marks
 
@@ -100,24 +99,3 @@ abbrev pub JoinsAgree : Type 0
 JoinsAgree =
     (c : CaptureView) (from mid to carry : ℕ) → from ≤ mid → mid ≤ to → to ≤ length c.records
     → joined (partial_in c from mid carry) (partial_in c mid to (carried c from mid carry)) ≡ partial_in c from to carry
-
--- ---- by pairs
-
--- the pairs, in the order of their first segments
-unfoldable pub pairs_of : List MarkedKept → List Pair
-pairs_of [] = []
-pairs_of (m ∷ ms) = m.kept.pair ∷ filter (λ p. not (same_pair p m.kept.pair)) (pairs_of ms)
-
--- a segment before those in the first list
-abbrev pub before_first_run : KeptSegment → List (List KeptSegment) → List (List KeptSegment)
-before_first_run k [] = (k ∷ []) ∷ []
-before_first_run k (ks ∷ runs) = (k ∷ ks) ∷ runs
-
--- segments split before each beginning: first those that stand before every beginning, then a list for each beginning
-unfoldable pub runs_of : List MarkedKept → List (List KeptSegment)
-runs_of [] = [] ∷ []
-runs_of (m ∷ ms) = if m.begins then [] ∷ before_first_run m.kept (runs_of ms) else before_first_run m.kept (runs_of ms)
-
--- for each pair, in the order of its first segment, its segments split before each beginning
-abbrev pub groups_of : List MarkedKept → List (Pair × List (List KeptSegment))
-groups_of marked = map (λ p. (p, runs_of (filter (λ m. same_pair m.kept.pair p) marked))) (pairs_of marked)

@@ -1,12 +1,15 @@
 -- What holds of every table of a capture.
-use Rattle.std.specs.Prelude.{◌≡◌, ◌≤◌, ℕ, ◌+◌, List, [], ◌∷◌, length, slice_range}
+use Rattle.std.specs.Prelude.{◌≡◌, ◌≤◌, ℕ, ◌+◌, not, List, [], ◌∷◌, length, slice_range}
 use Rattle.std.specs.List.{AllByRecursion}
+use Rattle.pcap_records.specs.Reading.{Packet}
 use Rattle.pcap_records.specs.CaptureView.{CaptureView, IsSoundCapture}
-use Rattle.conn_table.specs.IndexedSegments.{IndexedSegment}
+use Rattle.conn_table.specs.SeenCapture.{seen_packets}
+use Rattle.conn_table.specs.IndexedSegments.{TimedSegment, IndexedSegment, same_peer, indexed_segments}
+use Rattle.conn_table.specs.Connections.{Connection, connections}
 use Rattle.conn_table.specs.KeptSegments.{payload_start}
 use Rattle.conn_table.specs.Partials.{segments_between}
 use Rattle.conn_table.specs.Tables.{table_in}
-use Rattle.conn_table.specs.declared.members.Member.{Member}
+use Rattle.conn_table.specs.declared.conns.Member.{Member}
 use Rattle.conn_table.specs.declared.conns.Conn.{Conn}
 
 -- a segment's payload lies in the file, at its place
@@ -33,3 +36,17 @@ abbrev pub ConnsAreSound : Type 0
 ConnsAreSound =
     (c : CaptureView) (from to carry : ℕ) → IsSoundCapture c.ticks c.bytes c.records → from ≤ to → to ≤ length c.records
     → AllByRecursion (IsSoundConn c.bytes) (table_in c from to carry).conns
+
+-- ---- who sent a member: its connection's client or its server, and never both
+
+-- the segment comes from one of two peers
+abbrev pub HasSide : Connection → TimedSegment → Type 0
+HasSide c m = same_peer m.fields.from c.opening.fields.to ≡ not (same_peer m.fields.from c.opening.fields.from)
+
+-- the peers of the beginning differ, and each later segment comes from one of them
+pub record HasSides (c : Connection) : Type 0 where
+  pub opening : HasSide c c.opening
+  pub later : AllByRecursion (HasSide c) c.later
+
+abbrev pub MembersHaveSides : Type 0
+MembersHaveSides = (n carry : ℕ) (packets : List Packet) → AllByRecursion HasSides (connections (indexed_segments n (seen_packets carry packets)))

@@ -8,11 +8,11 @@ use Rattle.conn_table.specs.IndexedSegments.{IndexedSegment, same_peer, same_pai
 use Rattle.conn_table.specs.Connections.{unopened_count}
 use Rattle.conn_table.specs.IndexedConnections.{IndexedConnection, indexed_connections}
 use Rattle.conn_table.specs.ClassCounts.{counts_of}
-use Rattle.conn_table.specs.KeptSegments.{KeptSegment, payload_start}
+use Rattle.conn_table.specs.KeptSegments.{KeptSegment, is_from_low, payload_start}
 use Rattle.conn_table.specs.Partials.{MarkedKept, PartialView, partial_in, packets_between, segments_between}
 use Rattle.conn_table.specs.declared.class_counts.Counts.{Counts}
-use Rattle.conn_table.specs.declared.pair.Pair.{Pair}
-use Rattle.conn_table.specs.declared.members.Member.{Member}
+use Rattle.conn_table.specs.declared.conns.Pair.{Pair}
+use Rattle.conn_table.specs.declared.conns.Member.{Member}
 use Rattle.conn_table.specs.declared.conns.Conn.{Conn}
 
 -- the connections in order of number, how many segments belong to none, and how many packets are of each class
@@ -63,32 +63,24 @@ later_of b (m ∷ ms) =
     if same_pair m.kept.pair b.pair then (if m.begins then [] else m.kept ∷ later_of b ms) else later_of b ms
 
 abbrev pub sender_of : KeptSegment → Peer
-sender_of k = if k.from_low then k.pair.low else k.pair.high
+sender_of k = if is_from_low k then k.pair.low else k.pair.high
 
 abbrev pub receiver_of : KeptSegment → Peer
-receiver_of k = if k.from_low then k.pair.high else k.pair.low
+receiver_of k = if is_from_low k then k.pair.high else k.pair.low
 
 -- a segment of a connection whose client is the lower peer, or is not
 abbrev pub member_from : Bool → KeptSegment → Member
-member_from client_low k = record {
-  at = k.at;
-  index = k.index;
-  seq = k.seq;
-  start = k.start;
-  len = k.len;
-  flags = k.flags;
-  from_client = beq k.from_low client_low;
-}
+member_from client_low k = record k.member { from_client = beq k.member.from_client client_low }
 
 -- the connection of that number which b begins
 abbrev pub conn_with : ℕ → KeptSegment → List KeptSegment → Conn
 conn_with n b later = record {
   number = n;
-  opening = b.index;
-  opened = b.at;
+  opening = b.member.index;
+  opened = b.member.at;
   client = sender_of b;
   server = receiver_of b;
-  members = map (member_from b.from_low) (b ∷ later);
+  members = map (member_from (is_from_low b)) (b ∷ later);
 }
 
 -- the connections, numbered from n on

@@ -1,7 +1,11 @@
-//! Connections.
-use crate::members::Members;
-use frame_headers::Peer;
+//! Connections, their members, and the pairs of peers that they join.
+ghost use Rattle.std.specs.Prelude.{◌≡◌, if◌then◌else◌};
+ghost use Rattle.conn_table.specs.IndexedSegments.{peer_le, pair_of};
+
+use frame_headers::{Flags, Peer};
 use pcap_records::Moment;
+use std::alloc::{AllocError, Global};
+use std::marker::Model;
 
 /// A connection: the segments of a pair of peers from a beginning up to the pair's next one. A beginning is an opening, SYN and
 /// neither ACK nor RST (RFC 9293 section 3.5), that does not repeat the sender and sequence number of its pair's last opening.
@@ -19,4 +23,117 @@ pub struct Conn {
     pub server: Peer,
     /// Its segments, the beginning first.
     pub members: Members,
+}
+
+/// A segment of a connection, with what its stream needs of it. It takes 24 bytes.
+#[derive(Clone, Copy, Debug, PartialEq, Eq)]
+pub struct Member {
+    /// When it was captured: the greatest stamp of the file up to its record.
+    pub at: Moment,
+    /// The number of its record, from 0.
+    pub index: u32,
+    /// The sequence number.
+    pub seq: u32,
+    /// The place in the file of the payload's first byte.
+    pub start: u32,
+    /// How many bytes the payload has.
+    pub len: u16,
+    /// The flags byte.
+    pub flags: Flags,
+    /// Whether the connection's client sent it.
+    pub from_client: bool,
+}
+
+/// The members of a connection, in the order of the file.
+#[derive(Debug, Drop)]
+pub struct Members {
+    list: Vec<Member>,
+}
+
+impl Model for Members {
+    ghost use Rattle.std.specs.Prelude.{List};
+    ghost use Rattle.conn_table.specs.declared.conns.Member.{Member};
+
+    ghost Value = { List Member };
+
+    ghost view = { λ m. m.list.items };
+}
+
+impl Members {
+    ghost use Rattle.std.specs.Prelude.{◌≡◌, [], ◌∷◌, ◌++◌, IfOk, OnOk};
+
+    // A list of one member, with room for so many.
+    pub(crate) fn of_first(alloc: Global, room: usize, first: Member) -> Result<Members, AllocError>
+        ensures { IfOk result (λ members. members ≡ first ∷ []) }
+    {
+        let mut list = Vec::with_capacity(alloc, room)?;
+        list.push(first)?;
+        Ok(Members { list })
+    }
+
+    // One member more.
+    pub(crate) fn push(&mut self, member: Member) -> Result<(), AllocError>
+        ensures { OnOk result (self.new ≡ self.old ++ member ∷ []) }
+    {
+        self.list.push(member)?;
+        Ok(())
+    }
+
+    /// The members.
+    pub fn as_slice(&self) -> &[Member]
+        ensures { result.now ≡ self.now }
+    {
+        &self.list
+    }
+
+    /// The members as a `Vec`.
+    pub fn into_vec(self) -> Vec<Member>
+        ensures { result.items ≡ self }
+    {
+        let Members { list } = self;
+        list
+    }
+}
+
+/// Two peers without order: the lower one first, by address and then by port.
+#[derive(Clone, Copy, Debug, PartialEq, Eq, Hash)]
+pub struct Pair {
+    /// The lower peer.
+    pub low: Peer,
+    /// The higher peer.
+    pub high: Peer,
+}
+
+impl Pair {
+    // The peer that sent a segment, which is the lower one or is not.
+    pub(crate) fn sender(self, from_low: bool) -> Peer
+        ensures { result ≡ (if from_low then self.low else self.high) }
+    {
+        if from_low { self.low } else { self.high }
+    }
+
+    // The peer that received it.
+    pub(crate) fn receiver(self, from_low: bool) -> Peer
+        ensures { result ≡ (if from_low then self.high else self.low) }
+    {
+        if from_low { self.high } else { self.low }
+    }
+}
+
+// Whether a peer is lower than another or the same, by address and then by port.
+pub(crate) fn is_lower_or_same(a: Peer, b: Peer) -> bool
+    ensures { result ≡ peer_le a b }
+{
+    a.addr < b.addr || (a.addr == b.addr && a.port <= b.port)
+}
+
+// The pair of two peers.
+pub(crate) fn pair_of(a: Peer, b: Peer) -> Pair
+    ensures { result ≡ pair_of a b }
+{
+    if is_lower_or_same(a, b) {
+        Pair { low: a, high: b }
+    } else {
+        Pair { low: b, high: a }
+    }
 }

@@ -3,9 +3,9 @@
 ghost use Rattle.conn_table.specs.Connections.{GroupingsAgree};
 ghost use Rattle.conn_table.specs.IndexedConnections.{IndexedConnectionsAgree};
 ghost use Rattle.conn_table.specs.Partials.{JoinsAgree};
+ghost use Rattle.conn_table.specs.Groups.{GroupsAgree};
 ghost use Rattle.conn_table.specs.Tables.{TablesAgree};
-ghost use Rattle.conn_table.specs.TableFacts.{PayloadsArePlaced, ConnsAreSound};
-ghost use Rattle.conn_table.specs.MemberSides.{MembersHaveSides};
+ghost use Rattle.conn_table.specs.TableFacts.{PayloadsArePlaced, ConnsAreSound, MembersHaveSides};
 
 use frame_headers::laws::payloads_are_in_place;
 
@@ -26,6 +26,12 @@ pub fn indexed_connections_agree()
 /// before it.
 pub fn joins_agree()
     ensures { JoinsAgree }
+{}
+
+/// Read by pairs, the partial of a range has for each pair, in the order of its first segment, its segments split before each
+/// that the filters of the range's segments call a beginning.
+pub fn groups_agree()
+    ensures { GroupsAgree }
 {}
 
 /// The table of a range's partial has the connections that filtering the range's segments gives, as many unopened segments and

@@ -6,18 +6,13 @@
 
 mod class_counts;
 mod conns;
-mod entries;
-mod growth;
 pub mod laws;
 mod listing;
-mod members;
-mod pair;
 mod partial;
+mod rows;
 mod table;
 
 pub use class_counts::Counts;
-pub use conns::Conn;
-pub use members::{Member, Members};
-pub use pair::Pair;
+pub use conns::{Conn, Member, Members, Pair};
 pub use partial::Partial;
 pub use table::{Table, finish};

@@ -1,10 +1,73 @@
 //! The segments of a range in the order of the file, and the pairs that they belong to.
-use crate::entries::{Entry, Opening};
-use crate::pair::{Pair, is_lower_or_same, pair_of};
-use frame_headers::{Segment, payload_place};
+ghost use Rattle.std.specs.Prelude.{◌≡◌, ◌==◌, ◌&&◌};
+ghost use Rattle.std.specs.Bool.{beq};
+
+use crate::conns::{Member, Pair, is_lower_or_same, pair_of};
+use frame_headers::{Flags, Segment};
 use indexmap::IndexSet;
 use pcap_records::Moment;
 use std::alloc::{AllocError, Global};
+
+/// What tells a repeated opening: who of its pair sent it, and its sequence number.
+#[derive(Clone, Copy, Debug)]
+pub(crate) struct Opening {
+    pub(crate) from_low: bool,
+    pub(crate) seq: u32,
+}
+
+impl Opening {
+    // Whether both have the same sender and sequence number.
+    pub(crate) fn is_same(self, other: Opening) -> bool
+        ensures { result ≡ (beq self.from_low other.from_low && (self.seq == other.seq)) }
+    {
+        self.from_low == other.from_low && self.seq == other.seq
+    }
+}
+
+/// A segment of a range. It takes 32 bytes.
+#[derive(Clone, Copy, Debug)]
+pub(crate) struct Entry {
+    /// The member that it is where its pair's lower peer is the client.
+    pub(crate) member: Member,
+    /// The place of its pair in the listing.
+    pub(crate) group: u32,
+    /// Whether it begins a connection.
+    pub(crate) begins: bool,
+}
+
+impl Entry {
+    ghost use Rattle.std.specs.Prelude.{◌≡◌, ◌&&◌, not};
+    ghost use Rattle.frame_headers.specs.Flags.{has_flag, syn_flag, ack_flag, rst_flag};
+
+    // Whether it is an opening: SYN, and neither ACK nor RST (RFC 9293 section 3.5).
+    pub(crate) fn opens(&self) -> bool
+        ensures { result ≡ (has_flag self.now.member.flags syn_flag
+            && not (has_flag self.now.member.flags ack_flag) && not (has_flag self.now.member.flags rst_flag)) }
+    {
+        let flags = self.member.flags;
+        flags.has(Flags::SYN) && !flags.has(Flags::ACK) && !flags.has(Flags::RST)
+    }
+
+    // What tells it where it is an opening.
+    pub(crate) fn opening(&self) -> Opening
+        ensures { result ≡ record { from_low = self.now.member.from_client; seq = self.now.member.seq } }
+    {
+        Opening {
+            from_low: self.member.from_client,
+            seq: self.member.seq,
+        }
+    }
+
+    // The member that it is where the client is the lower peer, or is not.
+    pub(crate) fn member_of(&self, client_low: bool) -> Member
+        ensures { result ≡ record self.now.member { from_client = beq self.now.member.from_client client_low } }
+    {
+        Member {
+            from_client: self.member.from_client == client_low,
+            ..self.member
+        }
+    }
+}
 
 /// Segments in the order of the file, and for each pair, in the order of its first segment, its last opening.
 #[derive(Drop)]
@@ -16,9 +79,8 @@ pub(crate) struct Listing {
 
 impl Listing {
     ghost use Rattle.std.specs.Prelude.{◌≡◌, ◌+◌, ◌<◌, ◌≤◌, ◌^◌, ℕ, [], ◌∷◌, ◌++◌, length, slice_get, Some, OnOk, IfOk};
-    ghost use Rattle.frame_headers.specs.Frame.{frame_class, segment, segment_fields, payload_offset};
     ghost use Rattle.frame_headers.specs.Class.{fields_of_segment};
-    ghost use Rattle.conn_table.specs.declared.pair.Pair.{Pair};
+    ghost use Rattle.conn_table.specs.declared.conns.Pair.{Pair};
     ghost use Rattle.conn_table.specs.KeptSegments.{begins_behind, lasts_after, kept_at, segment_read};
     ghost use Rattle.conn_table.specs.Partials.{kept_of, mark_behind, marked_behind};
     ghost use Rattle.conn_table.specs.Listings.{IsListing, AreGroupsOf, marks_of, segment_of};
@@ -91,43 +153,43 @@ impl Listing {
         !last.is_some_and(|last| last.is_same(opening))
     }
 
-    // Lists the segment in a packet, which begins at `start` in the file.
+    // Lists the segment of a packet, which begins at `start` in the file.
     pub(crate) fn list_segment(
         &mut self,
         index: u32,
         at: Moment,
         start: u32,
-        packet: &[u8],
-        fields: &Segment<'_>,
+        segment: &Segment<'_>,
     ) -> Result<(), AllocError>
         requires listing { IsListing self.old }
         requires few { length self.old.pairs.keys < 2 ^ 31 }
-        requires class { frame_class packet.now ≡ segment }
-        requires fields { fields_of_segment fields.now ≡ segment_fields packet.now }
-        requires within { start + length packet.now < 2 ^ 32 }
+        requires within { start + segment.now.offset < 2 ^ 32 }
+        requires short { length segment.now.payload.now < 2 ^ 16 }
         ensures listing { OnOk result (IsListing self.new) }
         ensures len { OnOk result (length self.new.entries.items ≡ length self.old.entries.items + 1) }
         ensures grown { OnOk result (length self.new.pairs.keys ≤ length self.old.pairs.keys + 1) }
         ensures marks { OnOk result (marks_of self.new
             ≡ marks_of self.old ++ mark_behind (kept_of (marks_of self.old))
-            (kept_at (start + payload_offset packet.now) (segment_read index at packet.now)) ∷ []) }
+            (kept_at (start + segment.now.offset) (segment_read index at (fields_of_segment segment.now))) ∷ []) }
     {
-        let place = payload_place(packet);
-        let group = self.group_of(pair_of(fields.from, fields.to))?;
-        self.add(Entry {
+        let group = self.group_of(pair_of(segment.from, segment.to))?;
+        let member = Member {
             at,
             index,
+            seq: segment.seq,
+            start: start + u32::from(segment.offset),
+            len: segment.payload.len() as u16,
+            flags: segment.flags,
+            from_client: is_lower_or_same(segment.from, segment.to),
+        };
+        self.add(Entry {
+            member,
             group,
-            seq: fields.seq,
-            start: start + u32::from(place.offset),
-            len: place.len,
-            flags: fields.flags,
-            from_low: is_lower_or_same(fields.from, fields.to),
             begins: false,
         })
     }
 
-    // Lists another listing's segments behind these, marked as they begin connections there.
+    // Lists another listing's segments after these, marked as they begin connections there.
     pub(crate) fn append(&mut self, next: &Listing) -> Result<(), AllocError>
         requires listing { IsListing self.old }
         requires next { IsListing next.now }

@@ -56,12 +56,11 @@ impl Partial {
         let mut at = carry;
         for index in from..to {
             let record = records[index];
-            let packet = capture.packet(index);
-            let class = classify(packet);
+            let class = classify(capture.packet(index));
             at = at.greater(record.stamp);
             counts.add(&class);
-            if let Class::Segment(fields) = class {
-                listing.list_segment(index as u32, at, record.start, packet, &fields)?;
+            if let Class::Segment(segment) = class {
+                listing.list_segment(index as u32, at, record.start, &segment)?;
             }
         }
         Ok(Partial {

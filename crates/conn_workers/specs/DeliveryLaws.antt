@@ -25,7 +25,8 @@ pub record Has (r : Rehearsed) (number s : ℕ) (c : Connection) (proxies : List
 abbrev pub RowsAreWhole : Type 0
 RowsAreWhole =
     (ticks seed : ℕ) (r : Rehearsed)
-    → length (deliveries ticks seed (connections_of r.seen) r.scenarios) ≡ length r.scenarios * length (connections_of r.seen)
+    → length (deliveries ticks seed (connections_of r.seen) r.scenarios)
+    ≡ length r.scenarios * length (connections_of r.seen)
 
 -- the delivery at place s * C + number, where there are C connections
 abbrev pub delivery_at : ℕ → ℕ → Rehearsed → ℕ → ℕ → Option Delivery
@@ -40,9 +41,9 @@ DeliveriesArePlaced =
 
 -- ---- isolation
 
--- Two captures, or one, in which the connection of one number has the same members at the same instants, and two lists of
--- scenarios in which it meets the same proxy in scenario s, with its number, its enabled flag and its toxics, or in both
--- none: whatever else they hold, its contribution is the same, and so is its delivery.
+-- Two captures, or one, in which the connection of one number has the same members at the same instants, and two
+-- lists of scenarios in which it meets the same proxy in scenario s, with its number, its enabled flag and its
+-- toxics, or in both none: whatever else they hold, its contribution is the same, and so is its delivery.
 abbrev pub ContributionsAreIsolated : Type 0
 ContributionsAreIsolated =
     (ticks seed number s : ℕ) (first second : Rehearsed) (x y : Connection) (a b : List Proxy)

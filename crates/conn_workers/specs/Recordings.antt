@@ -1,4 +1,5 @@
--- What the table of a capture shows of its connections, with what is recorded of them, and what they contribute by that.
+-- What the table of a capture shows of its connections, with what is recorded of them, and what they contribute by
+-- that.
 use Rattle.std.specs.Prelude.{List, [], map, None, ℕ}
 use Rattle.pcap_records.specs.CaptureView.{CaptureView}
 use Rattle.frame_headers.specs.declared.peers.Peer.{Peer}
@@ -49,11 +50,13 @@ recorded_delivery_by ticks number r d = record {
 -- the same to a scenario with its number
 abbrev pub recorded_delivery : ℕ → ℕ → ℕ × List Proxy → RecordingView → Delivery
 recorded_delivery ticks seed (number, proxies) r =
-    recorded_delivery_by ticks number r (delivered_connection ticks seed number r.conn.number (met_proxy r.conn.server proxies) r.recorded)
+    recorded_delivery_by ticks number r
+    (delivered_connection ticks seed number r.conn.number (met_proxy r.conn.server proxies) r.recorded)
 
 -- what all contribute to all scenarios, row by row
 unfoldable pub recorded_deliveries : ℕ → ℕ → List RecordingView → List (List Proxy) → List Delivery
-recorded_deliveries ticks seed recordings scenarios = rows (recorded_delivery ticks seed) (enumerate_from 0 scenarios) recordings
+recorded_deliveries ticks seed recordings scenarios =
+    rows (recorded_delivery ticks seed) (enumerate_from 0 scenarios) recordings
 
 -- ---- what stands past the last of a list
 
@@ -66,7 +69,15 @@ no_side = record { line = empty_line; lost = 0 }
 abbrev pub no_recording : RecordingView
 no_recording = record {
   conn = record { number = 0; opening = 0; opened = 0; client = no_peer; server = no_peer; members = [] };
-  recorded = record { up = no_side; down = no_side; client_base = 0; server_base = None; opened = 0; mac_client = []; mac_server = [] };
+  recorded = record {
+    up = no_side;
+    down = no_side;
+    client_base = 0;
+    server_base = None;
+    opened = 0;
+    mac_client = [];
+    mac_server = [];
+  };
 }
 
 abbrev pub no_delivery : Delivery

@@ -33,9 +33,10 @@ pub struct Delivery {
 /// What each connection contributes to each scenario: a row for each scenario, with a delivery for each connection.
 pub type Deliveries = Values<Delivery>;
 
-/// What each connection of a capture contributes to each scenario, scenario by scenario. Workers first make the recorded lines, in
-/// phase `Lines` with one job for each connection, and then the deliveries, in phase `Jobs`: of C connections, job s * C + c makes that
-/// of connection c under scenario s. The answer is the same whatever the plan and the gate.
+/// What each connection of a capture contributes to each scenario, scenario by scenario. Workers first make the
+/// recorded lines, in phase `Lines` with one job for each connection, and then the deliveries, in phase `Jobs`: of C
+/// connections, job s * C + c makes that of connection c under scenario s. The answer is the same whatever the plan
+/// and the gate.
 ///
 /// The table is that of all records of the capture, however it was made, and there are at most 256 scenarios.
 ///
@@ -53,7 +54,8 @@ pub fn deliver<R: Threads + Sync, G: Gate>(
 ) -> Result<Deliveries, AllocError>
     requires table { table.now ≡ whole_table capture.now }
     requires few { length scenarios.now ≤ scenario_limit }
-    ensures { IfOk result (λ v. v ≡ deliveries microseconds seed (connections_of (seen_capture (contents_of capture.now))) scenarios.now) }
+    ensures { IfOk result (λ v.
+        v ≡ deliveries microseconds seed (connections_of (seen_capture (contents_of capture.now))) scenarios.now) }
 {
     indexed_connections_agree();
     let workers = plan.workers() as u64;
@@ -75,5 +77,13 @@ pub fn deliver<R: Threads + Sync, G: Gate>(
         seed,
     };
     let jobs = scenarios.len() as u64 * count;
-    work_all(rt, alloc, jobs, workers, Phase::Jobs, gate, &contribution_jobs)
+    work_all(
+        rt,
+        alloc,
+        jobs,
+        workers,
+        Phase::Jobs,
+        gate,
+        &contribution_jobs,
+    )
 }

@@ -1,4 +1,5 @@
-//! The two works of a delivery: what is recorded of each connection, and what each connection contributes to each scenario.
+//! The two works of a delivery: what is recorded of each connection, and what each connection contributes to each
+//! scenario.
 ghost use Rattle.std.specs.Prelude.{◌≡◌, ◌≤◌, IfOk, IfSome, length, option_map};
 ghost use Rattle.pcap_records.specs.Instants.{microseconds};
 ghost use Rattle.toxic_defs.specs.DeliveredLines.{met_view};
@@ -73,7 +74,8 @@ impl<'w, 'a> Work for LineJobs<'w, 'a> {
     }
 }
 
-/// Recordings of connections, and scenarios: of C connections, job s * C + c makes what connection c contributes to scenario s.
+/// Recordings of connections, and scenarios: of C connections, job s * C + c makes what connection c contributes to
+/// scenario s.
 #[derive(Drop)]
 pub(crate) struct ContributionJobs<'w, 'v, 'a> {
     /// Where deliveries are kept.
@@ -96,7 +98,8 @@ impl<'w, 'v, 'a> Work for ContributionJobs<'w, 'v, 'a> {
 
     ghost jobs = { λ w. length w.scenarios.now * length w.recordings.now };
 
-    ghost meaning = { λ w job. get_or (recorded_deliveries microseconds w.seed w.recordings.now w.scenarios.now) job no_delivery };
+    ghost meaning = { λ w job.
+        get_or (recorded_deliveries microseconds w.seed w.recordings.now w.scenarios.now) job no_delivery };
 
     fn value(&self, job: u64) -> Result<Delivery, AllocError> {
         let count = self.recordings.len() as u64;

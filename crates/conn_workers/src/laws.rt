@@ -1,16 +1,17 @@
 //! Theorems about what connections contribute. Each function does nothing: its contract is the theorem.
 ghost use Rattle.conn_workers.specs.DeliveryLaws.{RowsAreWhole, DeliveriesArePlaced, ContributionsAreIsolated};
 
-/// There is a delivery for each scenario and each connection of a capture. Of C connections, that of number c under scenario s stands at
-/// place s * C + c, has these two numbers, and is what that connection contributes to that scenario.
+/// There is a delivery for each scenario and each connection of a capture. Of C connections, that of number c under
+/// scenario s stands at place s * C + c, has these two numbers, and is what that connection contributes to that
+/// scenario.
 pub fn deliveries_are_placed()
     ensures whole { RowsAreWhole }
     ensures placed { DeliveriesArePlaced }
 {}
 
-/// What a connection contributes to a scenario is the same whatever other connections and packets a capture holds, and whatever
-/// else the scenario, as long as its number, its members and their instants are the same, and the proxy that it meets has the same
-/// number, enabled flag and toxics.
+/// What a connection contributes to a scenario is the same whatever other connections and packets a capture holds,
+/// and whatever else the scenario, as long as its number, its members and their instants are the same, and the proxy
+/// that it meets has the same number, enabled flag and toxics.
 pub fn contributions_are_isolated()
     ensures { ContributionsAreIsolated }
 {}

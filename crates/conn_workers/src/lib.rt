@@ -1,8 +1,9 @@
-//! What each connection of a capture contributes to each scenario, made by workers: its written segments and its line of the
-//! report.
+//! What each connection of a capture contributes to each scenario, made by workers: its written segments and its line
+//! of the report.
 //!
-//! `deliver` is the call that the crate exists for. `specs/Contributions.antt` says what a connection contributes, and
-//! `specs/DeliveryRows.antt` in what order; `laws` has the theorem that nothing else of a capture or a scenario changes it.
+//! `deliver` is the call that the crate exists for. `specs/Contributions.antt` says what a connection contributes,
+//! and `specs/DeliveryRows.antt` in what order; `laws` has the theorem that nothing else of a capture or a scenario
+//! changes it.
 #![tactic(auto)]
 
 mod deliveries;

@@ -1,4 +1,4 @@
--- A write to all of a list behind its first elements.
+-- A write to all of a list after its first elements.
 use Rattle.std.proofs.Common.{◌≡◌, ℕ, ◌+◌, ◌-◌, ◌≤◌, List, [], ◌++◌, length, take, drop, refl, sym, ap, ◌∙◌, arith, append-nil, append_assoc, length-append, length-drop, take_all, take_at, drop_at, drop-drop}
 use Rattle.std.proofs.lemmas.List.{drop_all}
 use borrow.Rule.Slice.PartMut.{put_mid}
@@ -8,15 +8,15 @@ use Rattle.frame_headers.specs.Headers.{ethernet, headers, ipv4, tcp, tcp_with}
 use Rattle.frame_headers.specs.declared.written.Header.{Header}
 
 -- the part of a list that is written to
-abbrev pub behind : ℕ → List ℕ → List ℕ
-behind a xs = take (length xs - a) (drop a xs)
+abbrev pub left_from : ℕ → List ℕ → List ℕ
+left_from a xs = take (length xs - a) (drop a xs)
 
--- what stands behind the first elements
-pub behind-append : (front rest : List ℕ) (a : ℕ) → length front ≡ a → behind a (front ++ rest) ≡ rest
-behind-append front rest a e =
+-- what stands after the first elements
+pub left_from-append : (front rest : List ℕ) (a : ℕ) → length front ≡ a → left_from a (front ++ rest) ≡ rest
+left_from-append front rest a e =
     rw (drop_at front rest a e) (take_all (length (front ++ rest) - a) rest (omega (arith, length-append front rest)))
 
--- a write to it leaves the first elements, and nothing stands behind
+-- a write to it leaves the first elements, and nothing stands after it
 pub put_mid-append : (front rest new : List ℕ) (a : ℕ) → length front ≡ a → put_mid a (length (front ++ rest) - a) (front ++ rest) new ≡ front ++ new
 put_mid-append front rest new a e =
     let nothing : drop (length (front ++ rest) - a) rest ≡ [] = drop_all (length (front ++ rest) - a) rest (omega (arith, length-append front rest)) in
@@ -28,34 +28,34 @@ addresses_put to from xs t f =
     rw (take_at to (drop 6 xs) 6 t, drop_at to (drop 6 xs) 6 t, drop-drop 6 6 xs) (sym (append_assoc to from (drop 12 xs)))
 
 -- the Ethernet header, its addresses written before
-pub ethernet_put : (to from xs ys two : List ℕ) → length to ≡ 6 → length from ≡ 6 → ys ≡ put_mid 6 6 (to ++ drop 6 xs) from → two ≡ big_bytes 2 2048 ++ drop 2 (behind 12 ys) → put_mid 12 (length ys - 12) ys two ≡ ((to ++ from) ++ big_bytes 2 2048) ++ drop 14 xs
+pub ethernet_put : (to from xs ys two : List ℕ) → length to ≡ 6 → length from ≡ 6 → ys ≡ put_mid 6 6 (to ++ drop 6 xs) from → two ≡ big_bytes 2 2048 ++ drop 2 (left_from 12 ys) → put_mid 12 (length ys - 12) ys two ≡ ((to ++ from) ++ big_bytes 2 2048) ++ drop 14 xs
 ethernet_put to from xs ys two t f e g =
     let len : length (to ++ from) ≡ 12 = omega (arith, length-append to from) in
-    rw (g, e, addresses_put to from xs t f, behind-append (to ++ from) (drop 12 xs) 12 len, put_mid-append (to ++ from) (drop 12 xs) (big_bytes 2 2048 ++ drop 2 (drop 12 xs)) 12 len, drop-drop 2 12 xs)
+    rw (g, e, addresses_put to from xs t f, left_from-append (to ++ from) (drop 12 xs) 12 len, put_mid-append (to ++ from) (drop 12 xs) (big_bytes 2 2048 ++ drop 2 (drop 12 xs)) 12 len, drop-drop 2 12 xs)
     (sym (append_assoc (to ++ from) (big_bytes 2 2048) (drop 14 xs)))
 
 -- the TCP header, written with 0 in the place of its checksum before
-pub tcp_put : (h : Header) (xs head two : List ℕ) (sum : ℕ) → head ≡ tcp_with 0 h ++ drop 20 xs → sum ≡ tcp_sum h.from.addr h.to.addr head → two ≡ big_bytes 2 sum ++ drop 2 (behind 16 head) → put_mid 16 (length head - 16) head two ≡ tcp h (drop 20 xs) ++ drop 20 xs
+pub tcp_put : (h : Header) (xs head two : List ℕ) (sum : ℕ) → head ≡ tcp_with 0 h ++ drop 20 xs → sum ≡ tcp_sum h.from.addr h.to.addr head → two ≡ big_bytes 2 sum ++ drop 2 (left_from 16 head) → put_mid 16 (length head - 16) head two ≡ tcp h (drop 20 xs) ++ drop 20 xs
 unfolding tcp
 tcp_put h xs head two sum e s g =
     let first : List ℕ = take 16 (tcp_with 0 h) in
     let split : tcp_with 0 h ++ drop 20 xs ≡ first ++ (big_bytes 2 0 ++ (big_bytes 2 0 ++ drop 20 xs)) = refl in
-    rw (g, s, e, split, behind-append first (big_bytes 2 0 ++ (big_bytes 2 0 ++ drop 20 xs)) 16 refl) (put_mid-append first (big_bytes 2 0 ++ (big_bytes 2 0 ++ drop 20 xs)) _ 16 refl ∙ refl)
+    rw (g, s, e, split, left_from-append first (big_bytes 2 0 ++ (big_bytes 2 0 ++ drop 20 xs)) 16 refl) (put_mid-append first (big_bytes 2 0 ++ (big_bytes 2 0 ++ drop 20 xs)) _ 16 refl ∙ refl)
 
 length-ipv4 : (h : Header) (n : ℕ) → length (ipv4 h n) ≡ 20
 unfolding ipv4
 length-ipv4 h n = refl
 
 -- the three headers, one after another
-pub headers_put : (h : Header) (n : ℕ) (xs link ip frame segment : List ℕ) → 54 ≤ length xs → length link ≡ length xs → n ≡ length xs - 34 → link ≡ ethernet h ++ drop 14 xs → ip ≡ ipv4 h n ++ drop 20 (behind 14 link) → frame ≡ put_mid 14 (length link - 14) link ip → segment ≡ tcp h (drop 20 (behind 34 frame)) ++ drop 20 (behind 34 frame) → put_mid 34 (length frame - 34) frame segment ≡ headers h (drop 54 xs) ++ drop 54 xs
+pub headers_put : (h : Header) (n : ℕ) (xs link ip frame segment : List ℕ) → 54 ≤ length xs → length link ≡ length xs → n ≡ length xs - 34 → link ≡ ethernet h ++ drop 14 xs → ip ≡ ipv4 h n ++ drop 20 (left_from 14 link) → frame ≡ put_mid 14 (length link - 14) link ip → segment ≡ tcp h (drop 20 (left_from 34 frame)) ++ drop 20 (left_from 34 frame) → put_mid 34 (length frame - 34) frame segment ≡ headers h (drop 54 xs) ++ drop 54 xs
 unfolding headers
 headers_put h n xs link ip frame segment room same count e i f s =
     let len : length (ethernet h) ≡ 14 = omega (arith, length-append (ethernet h) (drop 14 xs), length-drop 14 xs, ap length e) in
     let head : List ℕ = ethernet h ++ ipv4 h n in
     let head_len : length head ≡ 34 = omega (arith, length-append (ethernet h) (ipv4 h n), length-ipv4 h n) in
-    let ip_is : ip ≡ ipv4 h n ++ drop 34 xs = i ∙ rw (e, behind-append (ethernet h) (drop 14 xs) 14 len, drop-drop 20 14 xs) refl in
+    let ip_is : ip ≡ ipv4 h n ++ drop 34 xs = i ∙ rw (e, left_from-append (ethernet h) (drop 14 xs) 14 len, drop-drop 20 14 xs) refl in
     let frame_is : frame ≡ head ++ drop 34 xs =
     f ∙ rw (ip_is, e, put_mid-append (ethernet h) (drop 14 xs) (ipv4 h n ++ drop 34 xs) 14 len) (sym (append_assoc (ethernet h) (ipv4 h n) (drop 34 xs))) in
-    let segment_is : segment ≡ tcp h (drop 54 xs) ++ drop 54 xs = s ∙ rw (frame_is, behind-append head (drop 34 xs) 34 head_len, drop-drop 20 34 xs) refl in
+    let segment_is : segment ≡ tcp h (drop 54 xs) ++ drop 54 xs = s ∙ rw (frame_is, left_from-append head (drop 34 xs) 34 head_len, drop-drop 20 34 xs) refl in
     let number_at : n ≡ 20 + length (drop 54 xs) = omega (arith, length-drop 54 xs) in
     rw (segment_is, frame_is, put_mid-append head (drop 34 xs) (tcp h (drop 54 xs) ++ drop 54 xs) 34 head_len, number_at) (sym (append_assoc _ (tcp h (drop 54 xs)) (drop 54 xs)))

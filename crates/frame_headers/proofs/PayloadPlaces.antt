@@ -1,9 +1,10 @@
--- A segment's payload lies in its frame, behind the three headers.
+-- A segment's payload lies in its frame, after the three headers.
 use Rattle.std.proofs.Common.{◌≡◌, ◌≤◌, ℕ, ◌+◌, ◌-◌, ◌==◌, ◌||◌, Bool, true, false, not, nat_lt, List, length, take, drop, refl, arith, length-take, length-drop, if◌then◌else◌}
 use Rattle.std.proofs.lemmas.Bool.{ltb-false, or_parts}
 use Rattle.std.proofs.lemmas.List.{drop-take, take-take, drop-drop}
 use Rattle.frame_headers.specs.HeaderLaws.{IsPayloadInPlace, PayloadsAreInPlace}
-use Rattle.frame_headers.specs.Frame.{short, not_ipv4, bad_ipv4, fragment, not_tcp, cut, bad_tcp, same_ends, segment, is_short, is_not_ipv4, is_bad_ipv4, is_fragment, is_not_tcp, is_cut, is_bad_tcp, is_same_ends, version, frame_class, datagram, ip_payload, header_len, total_len, data_offset, segment_fields}
+use Rattle.frame_headers.specs.Frame.{segment, version, frame_class, datagram, ip_payload, header_len, total_len, data_offset, segment_fields}
+use Rattle.frame_headers.proofs.SegmentTests.{segment_tests}
 
 -- which lengths of a segment's frame, datagram and TCP bytes fit one another
 pub record HasWholeHeaders (frame : List ℕ) : Type 0 where
@@ -15,35 +16,20 @@ pub record HasWholeHeaders (frame : List ℕ) : Type 0 where
   pub least_tcp : 20 ≤ length (ip_payload (datagram frame))
   pub offset : data_offset (ip_payload (datagram frame)) ≤ length (ip_payload (datagram frame))
 
--- of a segment none of the tests holds
-tests : (a b c d e f g h : Bool)
-    → (if a then short else if b then not_ipv4 else if c then bad_ipv4 else if d then fragment else if e then not_tcp else if f then cut else if g then bad_tcp else if h then same_ends else segment) ≡ segment
-    → (a ≡ false) × (c ≡ false) × (f ≡ false) × (g ≡ false)
-tests true b c d e f g h is = absurd cc
-tests false true c d e f g h is = absurd cc
-tests false false true d e f g h is = absurd cc
-tests false false false true e f g h is = absurd cc
-tests false false false false true f g h is = absurd cc
-tests false false false false false true g h is = absurd cc
-tests false false false false false false true h is = absurd cc
-tests false false false false false false false true is = absurd cc
-tests false false false false false false false false is = (refl, refl, refl, refl)
-
 pub HasWholeHeaders-segment : (frame : List ℕ) → frame_class frame ≡ segment → HasWholeHeaders frame
-unfolding frame_class
 HasWholeHeaders-segment frame is =
     let ip : List ℕ = datagram frame in
     let tcp : List ℕ = ip_payload ip in
-    let told = tests (is_short frame) (is_not_ipv4 frame) (is_bad_ipv4 ip) (is_fragment ip) (is_not_tcp ip) (is_cut ip) (is_bad_tcp tcp) (is_same_ends ip) is in
-    let ipv4 = or_parts (nat_lt (length ip) 20 || not (version ip == 4) || nat_lt (header_len ip) 20) (nat_lt (total_len ip) (header_len ip)) told.1 in
+    let told = segment_tests frame is in
+    let ipv4 = or_parts (nat_lt (length ip) 20 || not (version ip == 4) || nat_lt (header_len ip) 20) (nat_lt (total_len ip) (header_len ip)) told.bad_ipv4 in
     let ipv4' = or_parts (nat_lt (length ip) 20 || not (version ip == 4)) (nat_lt (header_len ip) 20) ipv4.0 in
     let ipv4'' = or_parts (nat_lt (length ip) 20) (not (version ip == 4)) ipv4'.0 in
-    let tcp4 = or_parts (nat_lt (length tcp) 20 || nat_lt (data_offset tcp) 20) (nat_lt (length tcp) (data_offset tcp)) told.3 in
+    let tcp4 = or_parts (nat_lt (length tcp) 20 || nat_lt (data_offset tcp) 20) (nat_lt (length tcp) (data_offset tcp)) told.bad_tcp in
     let tcp4' = or_parts (nat_lt (length tcp) 20) (nat_lt (data_offset tcp) 20) tcp4.0 in
     let header : header_len ip ≤ total_len ip = ltb-false (total_len ip) (header_len ip) ipv4.1 in
-    let total : total_len ip ≤ length ip = ltb-false (length ip) (total_len ip) told.2 in
+    let total : total_len ip ≤ length ip = ltb-false (length ip) (total_len ip) told.cut in
     record {
-      link = ltb-false (length frame) 14 told.0;
+      link = ltb-false (length frame) 14 told.short;
       least_ip = ltb-false (length ip) 20 ipv4''.0;
       header = header;
       total = total;

@@ -23,7 +23,7 @@ record Reads (to from : List ℕ) (h : Header) (bytes frame : List ℕ) : Type 0
   source : number_at 4 12 (drop 14 frame) ≡ h.from.addr
   destination : number_at 4 16 (drop 14 frame) ≡ h.to.addr
   ip : slice_range (drop 14 frame) 0 20 ≡ ipv4 h (20 + length bytes)
-  behind_ip : drop 20 (drop 14 frame) ≡ drop 34 frame
+  after_ip : drop 20 (drop 14 frame) ≡ drop 34 frame
   segment : drop 34 frame ≡ tcp h bytes ++ bytes
   from_port : number_at 2 0 (drop 34 frame) ≡ h.from.port
   to_port : number_at 2 2 (drop 34 frame) ≡ h.to.port
@@ -65,7 +65,7 @@ reads_bytes h bytes r small a b c d e f i j k l m n =
       source = big_number-reads_back 4 h.from.addr (drop 30 frame) (omega (arith, r.from_addr));
       destination = big_number-reads_back 4 h.to.addr (drop 34 frame) (omega (arith, r.to_addr));
       ip = refl;
-      behind_ip = refl;
+      after_ip = refl;
       segment = refl;
       from_port = big_number-reads_back 2 h.from.port (drop 36 frame) (omega (arith, r.from_port));
       to_port = big_number-reads_back 2 h.to.port (drop 38 frame) (omega (arith, r.to_port));
@@ -87,7 +87,7 @@ reads h bytes r small =
 carried_is : (to from : List ℕ) (h : Header) (bytes frame : List ℕ) → Reads to from h bytes frame → ip_payload (datagram frame) ≡ drop 34 frame
 carried_is to from h bytes frame r =
     let all : take (40 + length bytes - 20) (drop 34 frame) ≡ drop 34 frame = take_all (40 + length bytes - 20) (drop 34 frame) (omega (arith, length-drop 34 frame, r.len)) in
-    rw (r.first, r.total, r.behind_ip, all) refl
+    rw (r.first, r.total, r.after_ip, all) refl
 
 fields_read : (h : Header) (bytes frame : List ℕ) → Reads h.mac_to h.mac_from h bytes frame → segment_fields frame ≡ fields_with h bytes
 unfolding segment_fields
@@ -100,7 +100,7 @@ fields_read h bytes frame r =
 pub sums_filled : (h : Header) (bytes : List ℕ) → IsHeader h → length bytes ≤ 1460 → SumsToNothing h (headers h bytes ++ bytes)
 sums_filled h bytes r small =
     let at = reads h bytes r small in
-    record { ipv4 = rw at.ip (sum16-ipv4 h (20 + length bytes)); tcp = rw (at.behind_ip, at.segment) (tcp_sum-tcp h bytes) }
+    record { ipv4 = rw at.ip (sum16-ipv4 h (20 + length bytes)); tcp = rw (at.after_ip, at.segment) (tcp_sum-tcp h bytes) }
 
 -- equal ends, as the test of the class compares them
 same_peer : (x y : Peer) → x.addr ≡ y.addr → x.port ≡ y.port → x ≡ y

@@ -1,5 +1,5 @@
--- What a captured Ethernet frame is, and the fields of the TCP segment in it. A frame is the list of its bytes, and each
--- field is the number at the place where its standard puts it.
+-- What a captured Ethernet frame is, and the fields of the TCP segment in it. A frame is the list of its bytes, and
+-- each field is the number at the place where its standard puts it.
 use Rattle.std.specs.Prelude.{ℕ, ◌+◌, ◌-◌, ◌*◌, ◌/◌, ◌%◌, List, length, drop, slice_index, slice_range, Bool, ◌||◌, ◌&&◌, not, nat_lt, ◌==◌, if◌then◌else◌}
 use Rattle.byteorder.specs.Endian.{big_number}
 use Rattle.frame_headers.specs.declared.peers.Peer.{Peer}
@@ -15,7 +15,7 @@ number_at n place bytes = big_number n (drop place bytes)
 abbrev pub link_type : List ℕ → ℕ
 link_type frame = number_at 2 (link_len - type_len) frame
 
--- what follows: an IPv4 datagram, where the type says so, and whatever stands behind it
+-- what follows: an IPv4 datagram, where the type says so, and whatever stands after it
 abbrev pub datagram : List ℕ → List ℕ
 datagram frame = drop link_len frame
 
@@ -27,7 +27,7 @@ is_short frame = nat_lt (length frame) link_len
 abbrev pub is_not_ipv4 : List ℕ → Bool
 is_not_ipv4 frame = not (link_type frame == ipv4_type)
 
--- IPv4 (RFC 791 section 3.1). `ip` is a datagram and whatever stands behind it.
+-- IPv4 (RFC 791 section 3.1). `ip` is a datagram and whatever stands after it.
 
 abbrev pub version : List ℕ → ℕ
 version ip = slice_index ip 0 / 16
@@ -54,14 +54,15 @@ source ip = number_at 4 source_at ip
 abbrev pub destination : List ℕ → ℕ
 destination ip = number_at 4 destination_at ip
 
--- what the datagram carries: from the end of its header to its total length. What stands behind is padding.
+-- what the datagram carries: from the end of its header to its total length. What stands after is padding.
 abbrev pub ip_payload : List ℕ → List ℕ
 ip_payload ip = slice_range ip (header_len ip) (total_len ip)
 
 -- no whole IPv4 header, or one that contradicts itself
 abbrev pub is_bad_ipv4 : List ℕ → Bool
 is_bad_ipv4 ip =
-    nat_lt (length ip) ipv4_len || not (version ip == 4) || nat_lt (header_len ip) ipv4_len || nat_lt (total_len ip) (header_len ip)
+    nat_lt (length ip) ipv4_len || not (version ip == 4) || nat_lt (header_len ip) ipv4_len
+    || nat_lt (total_len ip) (header_len ip)
 
 -- more fragments follow, or the offset is not 0
 abbrev pub is_fragment : List ℕ → Bool
@@ -83,7 +84,8 @@ data_offset tcp = 4 * (slice_index tcp data_offset_at / 16)
 
 -- no whole TCP header, or one that contradicts itself
 abbrev pub is_bad_tcp : List ℕ → Bool
-is_bad_tcp tcp = nat_lt (length tcp) tcp_len || nat_lt (data_offset tcp) tcp_len || nat_lt (length tcp) (data_offset tcp)
+is_bad_tcp tcp =
+    nat_lt (length tcp) tcp_len || nat_lt (data_offset tcp) tcp_len || nat_lt (length tcp) (data_offset tcp)
 
 -- the peers of a segment: each an IPv4 address and a TCP port
 
@@ -101,7 +103,7 @@ is_same_ends ip = (sender ip).addr == (receiver ip).addr && (sender ip).port == 
 abbrev pub payload_of : List ℕ → List ℕ
 payload_of tcp = slice_range tcp (data_offset tcp) (length tcp)
 
--- where the payload lies in a segment's frame: behind the headers of Ethernet, IPv4 and TCP
+-- where the payload lies in a segment's frame: after the headers of Ethernet, IPv4 and TCP
 abbrev pub payload_offset : List ℕ → ℕ
 payload_offset frame = link_len + header_len (datagram frame) + data_offset (ip_payload (datagram frame))
 

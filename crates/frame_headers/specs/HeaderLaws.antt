@@ -32,8 +32,8 @@ fields_with h bytes = record {
   payload = bytes;
 }
 
--- the checksums of the IPv4 header and of TCP in a frame with this header are right: each sum over what it covers, itself
--- among it, is all ones, so its complement is 0
+-- the checksums of the IPv4 header and of TCP in a frame with this header are right: each sum over what it covers,
+-- itself among it, is all ones, so its complement is 0
 pub record SumsToNothing (h : Header) (frame : List ℕ) : Type 0 where
   pub ipv4 : sum16 (slice_range (datagram frame) 0 ipv4_len) ≡ 0
   pub tcp : tcp_sum h.from.addr h.to.addr (drop ipv4_len (datagram frame)) ≡ 0
@@ -49,7 +49,8 @@ pub record IsReadBack (h : Header) (bytes frame : List ℕ) : Type 0 where
 abbrev pub HeadersAreSound : Type 0
 HeadersAreSound =
     (h : Header) (bytes : List ℕ) → IsHeader h → length bytes ≤ payload_limit
-    → (length (headers h bytes) ≡ headers_len) × SumsToNothing h (headers h bytes ++ bytes) × IsReadBack h bytes (headers h bytes ++ bytes)
+    → (length (headers h bytes) ≡ headers_len) × SumsToNothing h (headers h bytes ++ bytes)
+    × IsReadBack h bytes (headers h bytes ++ bytes)
 
 -- the fields of a captured segment fit their places in written headers, and its peers differ
 pub record FieldsFit (f : SegmentFields) : Type 0 where
@@ -63,12 +64,15 @@ pub record FieldsFit (f : SegmentFields) : Type 0 where
   pub differ : f.from ≢ f.to
 
 abbrev pub SegmentsFit : Type 0
-SegmentsFit = (frame : List ℕ) → AllByRecursion (λ b. b < 256) frame → frame_class frame ≡ segment → FieldsFit (segment_fields frame)
+SegmentsFit =
+    (frame : List ℕ) → AllByRecursion (λ b. b < 256) frame → frame_class frame ≡ segment → FieldsFit (segment_fields frame)
 
--- a segment's payload lies in its frame, behind the three headers
+-- a segment's payload lies in its frame, after the three headers
 pub record IsPayloadInPlace (frame : List ℕ) : Type 0 where
   pub within : payload_offset frame + length (segment_fields frame).payload ≤ length frame
-  pub bytes : slice_range frame (payload_offset frame) (payload_offset frame + length (segment_fields frame).payload) ≡ (segment_fields frame).payload
+  pub bytes :
+      slice_range frame (payload_offset frame) (payload_offset frame + length (segment_fields frame).payload)
+      ≡ (segment_fields frame).payload
 
 abbrev pub PayloadsAreInPlace : Type 0
 PayloadsAreInPlace = (frame : List ℕ) → frame_class frame ≡ segment → IsPayloadInPlace frame

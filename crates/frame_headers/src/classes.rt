@@ -74,7 +74,7 @@ pub fn classify(packet: &[u8]) -> Class<'_>
     if is_not_ipv4(packet) {
         return Class::NotIpv4;
     }
-    let ip = behind_link(packet);
+    let ip = after_link(packet);
     if is_bad_ipv4(ip) {
         return Class::BadIpv4;
     }
@@ -107,7 +107,7 @@ fn is_not_ipv4(packet: &[u8]) -> bool
 }
 
 // What follows the Ethernet header.
-pub(crate) fn behind_link(packet: &[u8]) -> &[u8]
+pub(crate) fn after_link(packet: &[u8]) -> &[u8]
     requires { LINK_LEN ≤ length packet.now }
     ensures { result.now ≡ datagram packet.now }
 {

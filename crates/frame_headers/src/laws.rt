@@ -1,8 +1,8 @@
 //! Theorems about the definitions of this crate. Each function does nothing: its contract is the theorem.
 ghost use Rattle.frame_headers.specs.HeaderLaws.{HeadersAreSound, SegmentsFit, PayloadsAreInPlace};
 
-/// The headers of a segment with at most 1,460 bytes of payload are 54 bytes. Both checksums are filled, the fields are read
-/// back, and the frame is a segment where the two peers differ.
+/// The headers of a segment within the payload limit have the length that is told. Both checksums are filled, the
+/// fields are read back, and the frame is a segment where the two peers differ.
 pub fn headers_are_sound()
     ensures { HeadersAreSound }
 {}
@@ -12,7 +12,7 @@ pub fn segments_fit()
     ensures { SegmentsFit }
 {}
 
-/// The payload of a captured segment lies in its frame, behind the three headers.
+/// The payload of a captured segment lies in its frame, after the three headers.
 pub fn payloads_are_in_place()
     ensures { PayloadsAreInPlace }
 {}

@@ -20,7 +20,7 @@ pub(crate) const IPV4_LEN: usize = 20;
 /// In an IPv4 header: how many bytes the datagram has.
 pub(crate) const TOTAL_LEN_AT: usize = 2;
 
-/// In an IPv4 header: two flags, that no fragments are to be made and that more of them follow, and the fragment's offset.
+/// In an IPv4 header: two flags, that no fragments are to be made and that more follow, and the fragment's offset.
 pub(crate) const FRAGMENT_AT: usize = 6;
 
 /// In an IPv4 header: the protocol of what the datagram carries.

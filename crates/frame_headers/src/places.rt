@@ -3,7 +3,7 @@ ghost use Rattle.std.specs.Prelude.{◌≡◌, ◌+◌, ◌-◌, ◌≤◌, leng
 ghost use Rattle.frame_headers.specs.Frame.{frame_class, segment_fields, segment, payload_offset, header_len, total_len, ip_payload, data_offset};
 ghost use Rattle.frame_headers.specs.Layout.{link_len, ipv4_len, tcp_len};
 
-use crate::classes::behind_link;
+use crate::classes::after_link;
 use crate::layout::{DATA_OFFSET_AT, LINK_LEN, TOTAL_LEN_AT};
 use byteorder::{BigEndian, ByteOrder};
 
@@ -16,7 +16,7 @@ pub struct PayloadPlace {
     pub len: u16,
 }
 
-/// Where the payload lies in the frame of a segment: behind the headers, up to the IPv4 total length.
+/// Where the payload lies in the frame of a segment: after the headers, up to the IPv4 total length.
 #[inline(always)]
 pub fn payload_place(packet: &[u8]) -> PayloadPlace
     requires { frame_class packet.now ≡ segment }
@@ -24,10 +24,10 @@ pub fn payload_place(packet: &[u8]) -> PayloadPlace
     ensures len { result.len ≡ length (segment_fields packet.now).payload }
     ensures within { result.offset + result.len ≤ length packet.now }
 {
-    place_in(behind_link(packet))
+    place_in(after_link(packet))
 }
 
-// Where the payload lies in a frame, of which `ip` is the datagram and what stands behind it.
+// Where the payload lies in a frame, of which `ip` is the datagram and what stands after it.
 #[inline(always)]
 fn place_in(ip: &[u8]) -> PayloadPlace
     requires ipv4 { ipv4_len ≤ length ip.now }

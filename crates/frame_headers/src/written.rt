@@ -32,7 +32,7 @@ pub struct Header {
     pub flags: Flags,
 }
 
-/// Writes the 54 bytes of headers before a payload that is in place already: Ethernet II, IPv4 (RFC 791 section 3.1) and
+/// Writes the headers before a payload that is in place already: Ethernet II, IPv4 (RFC 791 section 3.1) and
 /// TCP (RFC 9293 section 3.1), neither with options, both checksums filled. A frame has at most 1,460 bytes of payload.
 /// `classify` reads the same fields back where the two peers differ.
 pub fn put_headers(frame: &mut [u8], header: &Header)
@@ -150,7 +150,8 @@ fn fill_numbers(head: &mut [u8], header: &Header)
     BigEndian::write_u32(&mut head[ACK_AT..], header.ack);
 }
 
-// Writes the rest of a TCP header: 5 words of header and the flags, the widest window, the checksum's place, no urgent bytes.
+// Writes the rest of a TCP header: 5 words of header and the flags, the widest window, the checksum's place, and no
+// urgent bytes.
 fn fill_state(head: &mut [u8], flags: Flags)
     requires { 8 ≤ length head.old }
     ensures { head.new ≡ tcp_state 0 flags ++ drop 8 head.old }

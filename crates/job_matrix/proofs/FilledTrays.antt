@@ -1,85 +1,97 @@
 -- What lies in a tray into which values were put one after another.
-use Rattle.std.proofs.Common.{◌≡◌, ◌≢◌, ℕ, zero, suc, ◌<◌, List, [], ◌∷◌, ◌++◌, length, map, replicate, set, get_or, Option, Some, None, Result, Ok, Err, IfOk, slice_get, refl, sym, ap, ◌∙◌, subst, length-set, lt_of_not-le, arith}
+use Rattle.std.proofs.Common.{◌≡◌, ℕ, ◌<◌, ◌++◌, true, List, [], ◌∷◌, length, map, Option, Some, None, slice_get, refl, ◌≢◌, zero, suc, replicate, set, get_or, Result, Ok, Err, IfOk, sym, ap, ◌∙◌, subst, length-set, lt_of_not-le, arith}
+use Rattle.std.specs.Option.{is_some}
+use Rattle.std.proofs.lemmas.Option.{slice_get_within, slice_get-get_or, get_or_from_slice_get}
+use Rattle.job_matrix.specs.Trays.{Has, IsFree, put_one, put_where, IsRefused, jobs_in, EachJob, AreRight, with_values, put_each, FillsInOrder}
 use Rattle.std.specs.List.{range_with_len}
 use Rattle.std.proofs.lemmas.List.{length-replicate, get_or-replicate, map-append}
 use Rattle.std.proofs.lemmas.List.FromFn.{fill_by_all}
-use Rattle.std.proofs.lemmas.Option.{slice_get-get_or, get_or_from_slice_get, slice_get_within}
 use mathlib.Core.Logic.{dite}
 use native.Mathlib.Decide.{ℕ_discrete}
+use Rattle.pcap_records.proofs.Lists.{slice_get-set_same, slice_get-set_other}
 use Rattle.job_matrix.specs.Counting.{times, CountsBelow}
-use Rattle.job_matrix.specs.TrayPlaces.{IsFree, Has, put_one, put_where, IsRefused}
 use Rattle.job_matrix.specs.declared.trays.PutFault.{PutFault}
 use Rattle.job_matrix.specs.declared.trays.PutFault.TheVariants.{Stranger, Twice}
-use Rattle.job_matrix.specs.Filling.{jobs_in, EachJob, AreRight, with_values, put_each, FillsInOrder}
 use Rattle.job_matrix.proofs.Sums.{times_one, times-append}
 
+-- ---- slots
+
+module _ {V : Type 0} where
+  -- what is found at a slot that is not empty
+  pub has_found : (slots : List (Option V)) (at : ℕ) (found : Option V) → slice_get slots at ≡ Some found → is_some found ≡ true → (v : V) × Has slots at v
+  has_found slots at None is full = cc
+  has_found slots at (Some v) is full = (v, is)
+
+  after_filled : (values : List V) (rest : List (Option V)) → slice_get (map Some values ++ None ∷ rest) (length values) ≡ Some None
+  after_filled [] rest = refl
+  after_filled (v ∷ values) rest = after_filled values rest
+
+  -- where each slot has a value, no slot is empty
+  pub nothing_missing : (slots : List (Option V)) (values : List V) (rest : List (Option V)) → map Some values ++ None ∷ rest ≡ slots
+      → ((k : ℕ) → k < length slots → (v : V) × Has slots k v) → ⊥
+  nothing_missing slots values rest whole filled =
+      let here : slice_get slots (length values) ≡ Some None = rw (← whole) (after_filled values rest) in
+      let full = filled (length values) (slice_get_within slots (length values) None here) in
+      let there = full.1 in
+      cc
+
+-- ---- values put one after another
+
 module _ {A : Type 0} where
-  pub slice_get-set_same : (xs : List A) (i : ℕ) (a : A) → i < length xs → slice_get (set xs i a) i ≡ Some a
-  slice_get-set_same [] i a within = absurd (omega arith)
-  slice_get-set_same (x ∷ xs) zero a within = refl
-  slice_get-set_same (x ∷ xs) (suc i) a within = slice_get-set_same xs i a (omega arith)
-
-  pub slice_get-set_other : (xs : List A) (i k : ℕ) (a : A) → k ≢ i → slice_get (set xs i a) k ≡ slice_get xs k
-  slice_get-set_other [] i k a other = refl
-  slice_get-set_other (x ∷ xs) zero zero a other = absurd (other refl)
-  slice_get-set_other (x ∷ xs) zero (suc k) a other = refl
-  slice_get-set_other (x ∷ xs) (suc i) zero a other = refl
-  slice_get-set_other (x ∷ xs) (suc i) (suc k) a other = slice_get-set_other xs i k a (λ e. other (ap suc e))
-
   pub empty_list : (xs : List A) → length xs ≡ 0 → xs ≡ []
   empty_list [] none = refl
   empty_list (x ∷ xs) none = absurd (omega (arith, none))
 
 module _ {V : Type 0} where
-  length_where : (found : Option (Option V)) (places : List (Option V)) (job : ℕ) (value : V) → length (put_where found places job value) ≡ length places
-  length_where (Some None) places job value = length-set places job (Some value)
-  length_where (Some (Some other)) places job value = refl
-  length_where None places job value = refl
+  length_where : (found : Option (Option V)) (slots : List (Option V)) (job : ℕ) (value : V) → length (put_where found slots job value) ≡ length slots
+  length_where (Some None) slots job value = length-set slots job (Some value)
+  length_where (Some (Some other)) slots job value = refl
+  length_where None slots job value = refl
 
-  other_where : (found : Option (Option V)) (places : List (Option V)) (job k : ℕ) (value : V) → k ≢ job → slice_get (put_where found places job value) k ≡ slice_get places k
-  other_where (Some None) places job k value other = slice_get-set_other places job k (Some value) other
-  other_where (Some (Some v)) places job k value other = refl
-  other_where None places job k value other = refl
+  other_where : (found : Option (Option V)) (slots : List (Option V)) (job k : ℕ) (value : V) → k ≢ job → slice_get (put_where found slots job value) k ≡ slice_get slots k
+  other_where (Some None) slots job k value other = slice_get-set_other slots job k (Some value) other
+  other_where (Some (Some v)) slots job k value other = refl
+  other_where None slots job k value other = refl
 
-  pub length-put_each : (places : List (Option V)) (done : List (ℕ × V)) → length (put_each places done) ≡ length places
-  length-put_each places [] = refl
-  length-put_each places (d ∷ done) = length-put_each (put_one places d.0 d.1) done ∙ length_where (slice_get places d.0) places d.0 d.1
+  pub length-put_each : (slots : List (Option V)) (done : List (ℕ × V)) → length (put_each slots done) ≡ length slots
+  length-put_each slots [] = refl
+  length-put_each slots (d ∷ done) = length-put_each (put_one slots d.0 d.1) done ∙ length_where (slice_get slots d.0) slots d.0 d.1
 
-  pub put_each-append : (places : List (Option V)) (before : List (ℕ × V)) (d : ℕ × V) → put_each places (before ++ d ∷ []) ≡ put_one (put_each places before) d.0 d.1
-  put_each-append places [] d = refl
-  put_each-append places (b ∷ before) d = put_each-append (put_one places b.0 b.1) before d
+  pub put_each-append : (slots : List (Option V)) (before : List (ℕ × V)) (d : ℕ × V) → put_each slots (before ++ d ∷ []) ≡ put_one (put_each slots before) d.0 d.1
+  put_each-append slots [] d = refl
+  put_each-append slots (b ∷ before) d = put_each-append (put_one slots b.0 b.1) before d
 
-  -- where a value is refused, its place is not free
-  pub refused_not_free : (places : List (Option V)) (job : ℕ) (value : V) (fault : PutFault V) → IsRefused places job value fault → ¬ (IsFree places job)
-  refused_not_free places job value (Stranger back) refused free = absurd (omega (arith, refused.0, slice_get_within places job None free))
-  refused_not_free places job value (Twice back) refused free = let has = refused.0.1 in cc
+  -- where a value is refused, its slot is not free
+  pub refused_not_free : (slots : List (Option V)) (job : ℕ) (value : V) (fault : PutFault V) → IsRefused slots job value fault → ¬ (IsFree slots job)
+  refused_not_free slots job value (Stranger back) refused free = absurd (omega (arith, refused.0, slice_get_within slots job None free))
+  refused_not_free slots job value (Twice back) refused free = let has = refused.0.1 in cc
 
-  -- a value put at a free place lies there
-  put_here : (places : List (Option V)) (job : ℕ) (value : V) → IsFree places job → Has (put_one places job value) job value
-  put_here places job value free = rw free (slice_get-set_same places job (Some value) (slice_get_within places job None free))
+  -- a value put at a free slot lies there
+  put_here : (slots : List (Option V)) (job : ℕ) (value : V) → IsFree slots job → Has (put_one slots job value) job value
+  put_here slots job value free = rw free (slice_get-set_same slots job (Some value) (slice_get_within slots job None free))
 
   -- where no job of the list is k, nothing changes at k
-  pub put_elsewhere : (places : List (Option V)) (done : List (ℕ × V)) (k : ℕ) → times k (jobs_in done) ≡ 0 → slice_get (put_each places done) k ≡ slice_get places k
-  put_elsewhere places [] k none = refl
-  put_elsewhere places (d ∷ done) k none =
+  pub put_elsewhere : (slots : List (Option V)) (done : List (ℕ × V)) (k : ℕ) → times k (jobs_in done) ≡ 0 → slice_get (put_each slots done) k ≡ slice_get slots k
+  put_elsewhere slots [] k none = refl
+  put_elsewhere slots (d ∷ done) k none =
       let one = times_one k d.0 in
       let other : k ≢ d.0 = λ e. absurd (omega (arith, one.0 e)) in
-      put_elsewhere (put_one places d.0 d.1) done k (omega (arith, one.1 other)) ∙ other_where (slice_get places d.0) places d.0 k d.1 other
+      put_elsewhere (put_one slots d.0 d.1) done k (omega (arith, one.1 other)) ∙ other_where (slice_get slots d.0) slots d.0 k d.1 other
 
   -- where one job of the list is k, its value lies at k
-  pub put_there : (P : ℕ → V → Type 0) (places : List (Option V)) (done : List (ℕ × V)) (k : ℕ) → IsFree places k → times k (jobs_in done) ≡ 1 → EachJob P done
-      → (v : V) × P k v × Has (put_each places done) k v
-  put_there P places [] k free once all = absurd (omega (arith, once))
-  put_there P places (d ∷ done) k free once all =
+  pub put_there : (P : ℕ → V → Type 0) (slots : List (Option V)) (done : List (ℕ × V)) (k : ℕ) → IsFree slots k → times k (jobs_in done) ≡ 1 → EachJob P done
+      → (v : V) × P k v × Has (put_each slots done) k v
+  put_there P slots [] k free once all = absurd (omega (arith, once))
+  put_there P slots (d ∷ done) k free once all =
       let one = times_one k d.0 in
       dite (ℕ_discrete k d.0)
       (λ same.
-      let free' : IsFree places d.0 = subst (λ (j : ℕ). IsFree places j) same free in
+      let free' : IsFree slots d.0 = subst (λ (j : ℕ). IsFree slots j) same free in
       let rest : times k (jobs_in done) ≡ 0 = omega (arith, one.0 same) in
-      (d.1, subst (λ (j : ℕ). P j d.1) (sym same) all.0, put_elsewhere (put_one places d.0 d.1) done k rest ∙ subst (λ (j : ℕ). Has (put_one places d.0 d.1) j d.1) (sym same) (put_here places d.0 d.1 free')))
+      (d.1, subst (λ (j : ℕ). P j d.1) (sym same) all.0, put_elsewhere (put_one slots d.0 d.1) done k rest ∙ subst (λ (j : ℕ). Has (put_one slots d.0 d.1) j d.1) (sym same) (put_here slots d.0 d.1 free')))
       (λ other.
-      let free' : IsFree (put_one places d.0 d.1) k = other_where (slice_get places d.0) places d.0 k d.1 other ∙ free in
-      put_there P (put_one places d.0 d.1) done k free' (omega (arith, one.1 other)) all.1)
+      let free' : IsFree (put_one slots d.0 d.1) k = other_where (slice_get slots d.0) slots d.0 k d.1 other ∙ free in
+      put_there P (put_one slots d.0 d.1) done k free' (omega (arith, one.1 other)) all.1)
 
   pub all_free : (n k : ℕ) → k < n → IsFree {V = V} (replicate n None) k
   all_free n k within =
@@ -98,7 +110,7 @@ module _ {V : Type 0} where
   all_true [] = tt
   all_true (d ∷ done) = (tt, all_true done)
 
-  -- where each job below n was done once, no place stays free
+  -- where each job below n was done once, no slot stays free
   pub all_filled : (n : ℕ) (done : List (ℕ × V)) → CountsBelow n (λ x. times x (jobs_in done)) → (k : ℕ) → ¬ (IsFree (put_each (replicate n None) done) k)
   all_filled n done counts k free =
       let within : k < n = subst (λ (m : ℕ). k < m) (length-put_each (replicate n None) done ∙ length-replicate n None) (slice_get_within (put_each (replicate n None) done) k None free) in
@@ -133,12 +145,12 @@ module _ {V : Type 0} where
 
 pub filled_in_order : (V : Type 0) → FillsInOrder V
 filled_in_order V meaning n done counts right =
-    let places = put_each (replicate n None) done in
-    let len : length places ≡ n = length-put_each (replicate n None) done ∙ length-replicate n None in
-    let each : (k : ℕ) → k < n → get_or places k None ≡ Some (meaning k) = λ k within.
+    let slots = put_each (replicate n None) done in
+    let len : length slots ≡ n = length-put_each (replicate n None) done ∙ length-replicate n None in
+    let each : (k : ℕ) → k < n → get_or slots k None ≡ Some (meaning k) = λ k within.
     let there = put_there (λ j v. v ≡ meaning j) (replicate n None) done k (all_free n k within) ((counts k).0 within) right in
-    get_or_from_slice_get places k (Some (meaning k)) None (there.2 ∙ ap (λ (v : V). Some (Some v)) there.1) in
-    fill_by_all (λ k. Some (meaning k)) places n None len each ∙ map_twice meaning (range_with_len 0 n)
+    get_or_from_slice_get slots k (Some (meaning k)) None (there.2 ∙ ap (λ (v : V). Some (Some v)) there.1) in
+    fill_by_all (λ k. Some (meaning k)) slots n None len each ∙ map_twice meaning (range_with_len 0 n)
 
 -- a list that is a tray's, filled with all jobs, is that of the values in order
 pub values_in_order : {V E : Type 0} (meaning : ℕ → V) (n count : ℕ) (done : List (ℕ × V)) (r : Result (List V) E) → count ≡ n → CountsBelow count (λ x. times x (jobs_in done)) → AreRight meaning done

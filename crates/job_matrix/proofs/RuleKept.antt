@@ -6,11 +6,10 @@ use native.Mathlib.Decide.{dec_le, ℕ_discrete}
 use lib.ListN.{get_elem?}
 use Rattle.atomic_table.specs.Table.{Act, keeps, Valid, carried_after, Allows, Splits, Joins}
 use Rattle.atomic_table.proofs.Lists.{at_set}
-use Rattle.job_matrix.specs.declared.seat_views.SeatView.{SeatView}
-use Rattle.job_matrix.specs.declared.seat_views.SeatView.TheVariants.{Leads, Claims, Spent}
+use Rattle.job_matrix.specs.declared.rules.SeatView.{SeatView}
+use Rattle.job_matrix.specs.declared.rules.SeatView.TheVariants.{Leads, Claims, Spent}
 use Rattle.job_matrix.specs.Counting.{times, total, CountsBelow}
-use Rattle.job_matrix.specs.BoardViews.{jobs_of, told_of, made_of, back_of, out_of}
-use Rattle.job_matrix.specs.BoardRule.{Fits, Kept, Fair, Claimed}
+use Rattle.job_matrix.specs.Boards.{jobs_of, told_of, made_of, back_of, out_of, Fits, Kept, Fair, Claimed}
 use Rattle.job_matrix.proofs.Sums.{total_set, total_snoc, total_at, total_below, total_none, at_snoc, times-append, times_one}
 
 abbrev Each : ℕ → List SeatView → Type 0

@@ -1,5 +1,5 @@
--- Sums over lists, and how often a number stands in a list.
-use Rattle.std.proofs.Common.{◌≡◌, ℕ, zero, suc, ◌+◌, ◌≤◌, ◌≢◌, ◌⊎◌, List, [], ◌∷◌, ◌++◌, length, set, refl, sym, ap, inl, inr, ⊎_elim, arith}
+-- Sums over lists, how often a number stands in a list, and the numbers that a pass claimed.
+use Rattle.std.proofs.Common.{◌≡◌, ℕ, zero, suc, ◌+◌, ◌≤◌, ◌≢◌, ◌⊎◌, List, [], ◌∷◌, ◌++◌, length, set, refl, sym, ap, inl, inr, ⊎_elim, arith, ◌<◌, max, lt_of_not-le}
 use Rattle.std.proofs.lemmas.Bool.Decides.{nat_tests}
 use mathlib.Core.Option.{some, some-injective, some-ne-none}
 use lib.ListN.{get_elem?}
@@ -45,3 +45,22 @@ times-append x (y ∷ xs) ys = omega (arith, times-append x xs ys)
 
 pub times_one : (x y : ℕ) → (x ≡ y → times x (y ∷ []) ≡ 1) × (x ≢ y → times x (y ∷ []) ≡ 0)
 times_one x y = ((λ e. grind (arith, nat_tests)), (λ n. grind (arith, nat_tests)))
+
+-- ---- the numbers that a pass claimed rise, so that it claims only so many
+
+-- the least number that is above all of a list
+abbrev pub above_all : List ℕ → ℕ
+above_all [] = 0
+above_all (x ∷ xs) = max (x + 1) (above_all xs)
+
+pub above_all-append : (xs : List ℕ) (y : ℕ) → y < above_all (xs ++ y ∷ [])
+above_all-append [] y = omega arith
+above_all-append (x ∷ xs) y = omega (arith, above_all-append xs y)
+
+-- where none from a number on stands in the list, the number is above all
+pub above_all-le : (xs : List ℕ) (y : ℕ) → ((x : ℕ) → y ≤ x → times x xs ≡ 0) → above_all xs ≤ y
+above_all-le [] y none = omega arith
+above_all-le (x ∷ xs) y none =
+    let here : x < y = lt_of_not-le (λ h. absurd (omega (arith, none x h, (times_one x x).0 refl))) in
+    let rest = above_all-le xs y (λ z h. omega (arith, none z h)) in
+    omega arith

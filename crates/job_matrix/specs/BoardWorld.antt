@@ -1,9 +1,9 @@
--- The world of a board, without threads: workers who claim numbers below n, do the jobs of these numbers, and leave, in whatever order
--- these events come.
+-- The world of a board, without threads: workers who claim numbers below n, do the jobs of these numbers, and leave, in
+-- whatever order these events come.
 use Rattle.std.specs.Prelude.{◌≡◌, ◌≤◌, ◌+◌, ℕ, Bool, true, false, List, [], ◌∷◌, ◌++◌, Option, Some, None, map, replicate, nat_lt, IsPermutation, slice_get, slice_set, if◌then◌else◌}
 use Rattle.std.specs.List.{range_with_len}
 use Rattle.job_matrix.specs.Counting.{times, total, CountsBelow}
-use Rattle.job_matrix.specs.Filling.{jobs_in, AreRight, put_each}
+use Rattle.job_matrix.specs.Trays.{jobs_in, AreRight, put_each}
 
 -- the number that a worker holds, whether it was told that no number is left, and whether it left
 pub record Worker : Type 0 where
@@ -52,7 +52,8 @@ module _ {V : Type 0} where
 
   -- a worker is gone, and what it held is lost
   abbrev pub after_leave : World V → ℕ → Option ℕ → Bool → Bool → World V
-  after_leave s w holds told left = record s { workers = slice_set s.workers w (worker None told true); lost = s.lost ++ held holds }
+  after_leave s w holds told left =
+      record s { workers = slice_set s.workers w (worker None told true); lost = s.lost ++ held holds }
 
   abbrev pub event_by : (ℕ → V) → ℕ → World V → Event → Option Worker → World V
   event_by meaning n s (claims w) (Some it) = after_claim n s w it.holds it.told it.left
@@ -75,7 +76,8 @@ module _ {V : Type 0} where
   abbrev pub count_in : World V → ℕ → ℕ
   count_in s x = total (λ w. times x (held w.holds)) s.workers + times x (jobs_in s.done) + times x s.lost
 
-  -- each number below the next is in one place, once, and no other number is; each done value is the one that its job is to give
+  -- each number below the next is in one place, once, and no other number is; each done value is the one that its job is
+  -- to give
   pub record IsWhole (meaning : ℕ → V) (n : ℕ) (s : World V) : Type 0 where
     pub once : CountsBelow s.next (count_in s)
     pub right : AreRight meaning s.done
@@ -83,9 +85,11 @@ module _ {V : Type 0} where
 
 -- whatever the events, each number is in one place, once
 abbrev pub AnyOrder : Type 0 → Type 0
-AnyOrder V = (meaning : ℕ → V) (n workers : ℕ) (events : List Event) → IsWhole meaning n (world_after meaning n (first_world workers) events)
+AnyOrder V =
+    (meaning : ℕ → V) (n workers : ℕ) (events : List Event)
+    → IsWhole meaning n (world_after meaning n (first_world workers) events)
 
--- where all numbers were after_claim, and none is held or lost, each job is done once, with its value
+-- where all numbers were given, and none is held or lost, each job is done once, with its value
 abbrev pub AllDone : Type 0 → Type 0
 AllDone V =
     (meaning : ℕ → V) (n workers : ℕ) (events : List Event)

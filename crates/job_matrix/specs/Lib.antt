@@ -1,7 +1,5 @@
 pub mod Plans
-pub mod TrayPlaces
 pub mod Counting
-pub mod BoardViews
-pub mod BoardRule
-pub mod Filling
+pub mod Trays
+pub mod Boards
 pub mod BoardWorld

@@ -1,10 +1,9 @@
 //! Boards, which hand each number out once, to whoever claims.
-ghost use Rattle.std.specs.Prelude.{◌≡◌, ◌≢◌, ◌+◌, ◌<◌, ◌≤◌, ◌^◌, ℕ, true, false, [], ◌∷◌, ◌++◌, IfOk, IfErr, IfSome, IfNone, OnErr};
+ghost use Rattle.std.specs.Prelude.{◌≡◌, ◌≢◌, ◌+◌, ◌<◌, ◌≤◌, ℕ, true, false, [], ◌∷◌, ◌++◌, IfOk, IfErr, IfSome, IfNone, OnErr};
 ghost use Rattle.job_matrix.specs.Counting.{times, CountsBelow};
-ghost use Rattle.job_matrix.specs.BoardViews.{worth};
+ghost use Rattle.job_matrix.specs.Boards.{number_limit, pass_limit, worth};
 
-use crate::rules::{BoardRule, Claim, MakePass, TakeBack};
-use crate::seat_views::SeatView;
+use crate::rules::{BoardRule, Claim, MakePass, SeatView, TakeBack};
 use atomic_table::{Seat, Table};
 use std::alloc::{AllocError, Global};
 use std::marker::Model;
@@ -29,14 +28,15 @@ pub struct Board {
 }
 
 impl Model for Board {
-    ghost use Rattle.std.specs.Prelude.{◌≡◌, ◌≤◌, ◌^◌};
-    ghost use Rattle.job_matrix.specs.BoardViews.{BoardView};
+    ghost use Rattle.std.specs.Prelude.{◌≡◌, ◌≤◌};
+    ghost use Rattle.job_matrix.specs.Boards.{BoardView, number_limit};
 
     ghost Value = { BoardView };
 
     ghost view = { λ b. record { name = b.table.shared.table_id; limit = b.limit } };
 
-    ghost invariant = { λ b. (b.table.shared.table_id.words ≡ 1) × (b.table.shared.table_id.slots ≡ 0) × (b.table.shared.key ≡ b.limit) × (b.limit ≤ 2 ^ 48) };
+    ghost invariant = { λ b. (b.table.shared.table_id.words ≡ 1) × (b.table.shared.table_id.slots ≡ 0)
+        × (b.table.shared.key ≡ b.limit) × (b.limit ≤ number_limit) };
 }
 
 /// Who makes the passes of a board and takes them back. Contracts see the numbers of all passes that came back.
@@ -50,14 +50,22 @@ pub struct Chief {
 
 impl Model for Chief {
     ghost use Rattle.std.specs.Prelude.{◌≡◌, ◌-◌, ◌≤◌, ◌^◌, [], min};
-    ghost use Rattle.job_matrix.specs.BoardViews.{ChiefView, limit_of, jobs_of, back_of, told_of};
-    ghost use Rattle.job_matrix.specs.declared.seat_views.SeatView.TheVariants.{Leads};
+    ghost use Rattle.job_matrix.specs.Boards.{ChiefView, limit_of, jobs_of, back_of, told_of, pass_limit};
+    ghost use Rattle.job_matrix.specs.declared.rules.SeatView.TheVariants.{Leads};
 
     ghost Value = { ChiefView };
 
-    ghost view = { λ c. record { board = record { name = c.seat.table_id; limit = limit_of c.seat.me.0 }; jobs = jobs_of c.seat.me.0; made = c.made; back = back_of c.seat.me.0; told = told_of c.seat.me.0 } };
+    ghost view = { λ c. record {
+      board = record { name = c.seat.table_id; limit = limit_of c.seat.me.0 };
+      jobs = jobs_of c.seat.me.0;
+      made = c.made;
+      back = back_of c.seat.me.0;
+      told = told_of c.seat.me.0;
+    } };
 
-    ghost invariant = { λ c. (c.seat.me ≡ (Leads (limit_of c.seat.me.0) c.made (back_of c.seat.me.0) (told_of c.seat.me.0) (jobs_of c.seat.me.0), [])) × (c.back ≡ min (back_of c.seat.me.0) (2 ^ 64 - 1)) × (c.made ≤ 65536) };
+    ghost invariant = { λ c.
+        (c.seat.me ≡ (Leads (limit_of c.seat.me.0) c.made (back_of c.seat.me.0) (told_of c.seat.me.0) (jobs_of c.seat.me.0), []))
+        × (c.back ≡ min (back_of c.seat.me.0) (2 ^ 64 - 1)) × (c.made ≤ pass_limit) };
 }
 
 /// The right to claim numbers of a board. Contracts see the numbers that it claimed.
@@ -69,12 +77,16 @@ pub struct Pass {
 
 impl Model for Pass {
     ghost use Rattle.std.specs.Prelude.{◌≡◌, []};
-    ghost use Rattle.job_matrix.specs.BoardViews.{PassView, limit_of, jobs_of, worth};
-    ghost use Rattle.job_matrix.specs.declared.seat_views.SeatView.TheVariants.{Claims};
+    ghost use Rattle.job_matrix.specs.Boards.{PassView, limit_of, jobs_of, worth};
+    ghost use Rattle.job_matrix.specs.declared.rules.SeatView.TheVariants.{Claims};
 
     ghost Value = { PassView };
 
-    ghost view = { λ p. record { board = record { name = p.seat.table_id; limit = limit_of p.seat.me.0 }; jobs = jobs_of p.seat.me.0; told = p.told } };
+    ghost view = { λ p. record {
+      board = record { name = p.seat.table_id; limit = limit_of p.seat.me.0 };
+      jobs = jobs_of p.seat.me.0;
+      told = p.told;
+    } };
 
     ghost invariant = { λ p. p.seat.me ≡ (Claims (limit_of p.seat.me.0) (worth p.told) (jobs_of p.seat.me.0), []) };
 }
@@ -82,7 +94,7 @@ impl Model for Pass {
 impl Board {
     /// A board of the numbers below `limit`, at most 2^48, and its chief.
     pub fn open(alloc: Global, limit: u64) -> Result<(Board, Chief), AllocError>
-        requires { limit ≤ 2 ^ 48 }
+        requires { limit ≤ number_limit }
         ensures limit { IfOk result (λ r. r.0.limit ≡ limit) }
         ensures chief { IfOk result (λ r. r.1 ≡ record { board = r.0; jobs = []; made = 0; back = 0; told = 0 }) }
     {
@@ -95,8 +107,8 @@ impl Board {
         Ok((Board { table, limit }, chief))
     }
 
-    /// The least number that nobody has claimed, or `None` where none is left. It takes one step and no memory, and waits for
-    /// nobody; a pass that was told `None` takes no step and is told `None` again.
+    /// The least number that nobody has claimed, or `None` where none is left. It takes one step and no memory, and waits
+    /// for nobody; a pass that was told `None` takes no step and is told `None` again.
     pub fn claim(&self, pass: &mut Pass) -> Option<u64>
         requires { pass.old.board ≡ self.now }
         ensures board { pass.new.board ≡ self.now }
@@ -118,12 +130,13 @@ impl Board {
         }
     }
 
-    /// Closes the board, and tells how many numbers were claimed: the chief's numbers are those below, each once, and all where a
-    /// pass was told that no number is left.
+    /// Closes the board, and tells how many numbers were claimed: the chief's numbers are those below, each once, and all
+    /// where a pass was told that no number is left.
     ///
     /// # Errors
     ///
-    /// The board and the chief as they were, exactly where passes are out (51). A pass that was dropped is out for good.
+    /// The board and the chief as they were, exactly where passes are out (51). A pass that was dropped is out for
+    /// good.
     pub fn close(self, chief: Chief) -> Result<u64, (Board, Chief)>
         requires { chief.board ≡ self }
         ensures back { IfOk result (λ count. chief.made ≡ chief.back) }
@@ -154,8 +167,8 @@ impl Chief {
         requires { self.old.board ≡ board.now }
         ensures chief { IfOk result (λ p. self.new ≡ record self.old { made = self.old.made + 1 }) }
         ensures pass { IfOk result (λ p. p ≡ record { board = board.now; jobs = []; told = false }) }
-        ensures few { IfOk result (λ p. self.old.made < 65536) }
-        ensures err { OnErr result ((self.old.made ≡ 65536) × (self.new ≡ self.old)) }
+        ensures few { IfOk result (λ p. self.old.made < pass_limit) }
+        ensures err { OnErr result ((self.old.made ≡ pass_limit) × (self.new ≡ self.old)) }
     {
         if self.made >= PASS_LIMIT {
             return Err(SplitFault::TooManyPasses);
@@ -169,7 +182,8 @@ impl Chief {
     pub fn take_back(&mut self, board: &Board, pass: Pass)
         requires chief { self.old.board ≡ board.now }
         requires pass { pass.board ≡ board.now }
-        ensures { self.new ≡ record self.old { jobs = self.old.jobs ++ pass.jobs; back = self.old.back + 1; told = self.old.told + worth pass.told } }
+        ensures { self.new
+            ≡ record self.old { jobs = self.old.jobs ++ pass.jobs; back = self.old.back + 1; told = self.old.told + worth pass.told } }
     {
         let Pass { seat, .. } = pass;
         board

@@ -1,21 +1,18 @@
-//! Jobs that are spread over workers: plans and gates, a board that hands each number out once, a tray that puts values in
-//! order, and `work_all`, whose answer is that of one worker.
+//! Jobs that are spread over workers: plans and gates, a board that hands each number out once, a tray that puts values
+//! in order, and `work_all`, whose answer is that of one worker.
 #![tactic(auto)]
 
 mod boards;
-mod gates;
 pub mod laws;
 mod plans;
 mod rules;
-mod seat_views;
 mod trays;
 mod workers;
 mod works;
 
 pub use boards::{Board, Chief, Pass, SplitFault};
-pub use gates::{Gate, Phase, Through};
 pub use pcap_records::Values;
 pub use plans::Plan;
 pub use trays::{PutFault, Tray};
 pub use workers::work_all;
-pub use works::Work;
+pub use works::{Gate, Phase, Through, Work};

@@ -1,6 +1,6 @@
 //! How a rehearsal's work is spread. No outcome depends on it.
-ghost use Rattle.std.specs.Prelude.{◌≡◌, ◌≤◌, ◌^◌};
-ghost use Rattle.job_matrix.specs.Plans.{plan_of};
+ghost use Rattle.std.specs.Prelude.{◌≡◌, ◌≤◌};
+ghost use Rattle.job_matrix.specs.Plans.{cut_limit, plan_of, worker_limit};
 
 use std::marker::Model;
 
@@ -18,14 +18,14 @@ pub struct Plan {
 }
 
 impl Model for Plan {
-    ghost use Rattle.std.specs.Prelude.{◌≤◌, ◌^◌};
-    ghost use Rattle.job_matrix.specs.Plans.{PlanView};
+    ghost use Rattle.std.specs.Prelude.{◌≤◌};
+    ghost use Rattle.job_matrix.specs.Plans.{PlanView, cut_limit, worker_limit};
 
     ghost Value = { PlanView };
 
     ghost view = { λ p. record { workers = p.workers; cut = p.cut } };
 
-    ghost invariant = { λ p. (1 ≤ p.workers) × (p.workers ≤ 16) × (1 ≤ p.cut) × (p.cut ≤ 2 ^ 20) };
+    ghost invariant = { λ p. (1 ≤ p.workers) × (p.workers ≤ worker_limit) × (1 ≤ p.cut) × (p.cut ≤ cut_limit) };
 
     ghost inverse = { λ p. record { workers = p.workers; cut = p.cut } };
 }
@@ -46,7 +46,7 @@ impl Plan {
     /// How many workers there are.
     pub fn workers(self) -> u32
         ensures value { result ≡ self.workers }
-        ensures within { (1 ≤ result) × (result ≤ 16) }
+        ensures within { (1 ≤ result) × (result ≤ worker_limit) }
     {
         self.workers
     }
@@ -54,7 +54,7 @@ impl Plan {
     /// How many records a range has.
     pub fn cut(self) -> u32
         ensures value { result ≡ self.cut }
-        ensures within { (1 ≤ result) × (result ≤ 2 ^ 20) }
+        ensures within { (1 ≤ result) × (result ≤ cut_limit) }
     {
         self.cut
     }

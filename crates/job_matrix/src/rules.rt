@@ -1,14 +1,26 @@
-//! The rule of a board's table, and its kinds of step: a claim, a pass that is made, and a pass that comes back.
-use crate::seat_views::SeatView;
+//! What the seats of a board's table know, its rule, and its kinds of step: a claim, a pass that is made, and a pass that
+//! comes back.
 use atomic_table::{Join, Play, Split, TableRule};
+use std::collections::LinkedList;
+
+/// What a seat of a board knows. No value of it is made.
+pub enum SeatView {
+    /// The chief: the board's limit, how many passes it made and how many came back, how many of these had been told that
+    /// no number is left, and the numbers that they had claimed.
+    Leads(u64, u64, u64, u64, LinkedList<u64>),
+    /// A pass: the board's limit, 1 where it was told that no number is left (else 0), and the numbers that it claimed.
+    Claims(u64, u64, LinkedList<u64>),
+    /// A pass that came back.
+    Spent,
+}
 
 /// The rule of a board, of which the limit is told.
 pub struct BoardRule;
 
 impl TableRule<u8, SeatView, u64> for BoardRule {
     ghost use Rattle.std.specs.Prelude.{[]};
-    ghost use Rattle.job_matrix.specs.BoardRule.{Fair};
-    ghost use Rattle.job_matrix.specs.declared.seat_views.SeatView.TheVariants.{Leads};
+    ghost use Rattle.job_matrix.specs.Boards.{Fair};
+    ghost use Rattle.job_matrix.specs.declared.rules.SeatView.TheVariants.{Leads};
 
     ghost holds = { Fair };
 
@@ -19,7 +31,7 @@ impl TableRule<u8, SeatView, u64> for BoardRule {
 pub(crate) struct Claim;
 
 impl Play<u8, SeatView> for Claim {
-    ghost use Rattle.job_matrix.specs.BoardRule.{Claimed};
+    ghost use Rattle.job_matrix.specs.Boards.{Claimed};
 
     ghost then = { λ s. Claimed };
 }
@@ -28,7 +40,7 @@ impl Play<u8, SeatView> for Claim {
 pub(crate) struct MakePass;
 
 impl Split<SeatView> for MakePass {
-    ghost use Rattle.job_matrix.specs.BoardViews.{after_split, new_pass};
+    ghost use Rattle.job_matrix.specs.Boards.{after_split, new_pass};
 
     ghost left = { after_split };
 
@@ -39,8 +51,8 @@ impl Split<SeatView> for MakePass {
 pub(crate) struct TakeBack;
 
 impl Join<SeatView> for TakeBack {
-    ghost use Rattle.job_matrix.specs.BoardViews.{after_join};
-    ghost use Rattle.job_matrix.specs.declared.seat_views.SeatView.TheVariants.{Spent};
+    ghost use Rattle.job_matrix.specs.Boards.{after_join};
+    ghost use Rattle.job_matrix.specs.declared.rules.SeatView.TheVariants.{Spent};
 
     ghost both = { after_join };
 

@@ -1,6 +1,6 @@
 //! Trays: the values of jobs, put in order however they come.
 ghost use Rattle.std.specs.Prelude.{◌≡◌, ◌<◌, ℕ, length, map, replicate, Some, None, IfOk, IfErr, IfSome, IfNone, OnOk};
-ghost use Rattle.job_matrix.specs.TrayPlaces.{IsFree, Has, IsRefused, put_one};
+ghost use Rattle.job_matrix.specs.Trays.{IsFree, Has, IsRefused, put_one};
 
 use pcap_records::Values;
 use std::alloc::{AllocError, Global};
@@ -10,18 +10,18 @@ use thiserror::Error;
 /// Why a tray does not take a value, which is handed back.
 #[derive(Debug, Drop, Error)]
 pub enum PutFault<V> {
-    /// The tray has no place for this job (52).
+    /// The tray has no slot for this job (52).
     #[error("the tray has no place for this job")]
     Stranger(V),
-    /// The job's place has a value already (53).
+    /// The job's slot has a value already (53).
     #[error("the job's place has a value already")]
     Twice(V),
 }
 
-/// A place for the value of each job below a number: contracts see the places in order.
+/// A slot for the value of each job below a number: contracts see the slots in order.
 #[derive(Drop)]
 pub struct Tray<V: Drop> {
-    places: Vec<Option<V>>,
+    slots: Vec<Option<V>>,
     // Empty, with room for all values.
     room: Vec<V>,
 }
@@ -31,18 +31,18 @@ impl<V: Drop> Model for Tray<V> {
 
     ghost Value = { List (Option V) };
 
-    ghost view = { λ t. t.places.items };
+    ghost view = { λ t. t.slots.items };
 
-    ghost invariant = { λ t. (t.room.items ≡ []) × (length t.places.items ≤ vec_capacity t.room) };
+    ghost invariant = { λ t. (t.room.items ≡ []) × (length t.slots.items ≤ vec_capacity t.room) };
 }
 
-// The first place in which nothing lies.
-fn first_free<V>(places: &[Option<V>]) -> Option<usize>
-    ensures some { IfSome result (λ at. IsFree places.now at × ((k : ℕ) → k < at → (v : V) × Has places.now k v)) }
-    ensures none { IfNone result ((k : ℕ) → k < length places.now → (v : V) × Has places.now k v) }
+// The first slot in which nothing lies.
+fn first_free<V>(slots: &[Option<V>]) -> Option<usize>
+    ensures some { IfSome result (λ at. IsFree slots.now at × ((k : ℕ) → k < at → (v : V) × Has slots.now k v)) }
+    ensures none { IfNone result ((k : ℕ) → k < length slots.now → (v : V) × Has slots.now k v) }
 {
-    for (at, place) in places.iter().enumerate() {
-        if place.is_none() {
+    for (at, slot) in slots.iter().enumerate() {
+        if slot.is_none() {
             return Some(at);
         }
     }
@@ -56,30 +56,30 @@ impl<V: Drop> Tray<V> {
     {
         let count = count as usize;
         let room = Vec::with_capacity(alloc, count)?;
-        let mut places = Vec::with_capacity(alloc, count)?;
+        let mut slots = Vec::with_capacity(alloc, count)?;
         for _ in 0..count {
-            places.push(None)?;
+            slots.push(None)?;
         }
-        Ok(Tray { places, room })
+        Ok(Tray { slots, room })
     }
 
-    /// Puts the value of a job at its place.
+    /// Puts the value of a job at its slot.
     ///
     /// # Errors
     ///
-    /// `Stranger` exactly where the tray has no place for the job, `Twice` exactly where a value lies there. The value is handed
-    /// back, and the tray is as it was.
+    /// `Stranger` exactly where the tray has no slot for the job, `Twice` exactly where a value lies there. The value is
+    /// handed back, and the tray is as it was.
     pub fn put(&mut self, job: u64, value: V) -> Result<(), PutFault<V>>
         ensures ok { OnOk result (IsFree self.old job) }
         ensures err { IfErr result (λ e. IsRefused self.old job value e × (self.new ≡ self.old)) }
-        ensures places { self.new ≡ put_one self.old job value }
+        ensures slots { self.new ≡ put_one self.old job value }
     {
-        match self.places.get(job as usize) {
+        match self.slots.get(job as usize) {
             None => return Err(PutFault::Stranger(value)),
             Some(Some(_)) => return Err(PutFault::Twice(value)),
             Some(None) => {}
         }
-        self.places[job as usize] = Some(value);
+        self.slots[job as usize] = Some(value);
         Ok(())
     }
 
@@ -90,14 +90,15 @@ impl<V: Drop> Tray<V> {
     /// The tray as it was and the least job whose value is missing (54).
     pub fn finish(self) -> Result<Values<V>, (Tray<V>, u64)>
         ensures ok { IfOk result (λ v. map Some v ≡ self) }
-        ensures err { IfErr result (λ r. (r.0 ≡ self) × IsFree self r.1 × ((k : ℕ) → k < r.1 → (v : V) × Has self k v)) }
+        ensures err { IfErr result (λ r.
+            (r.0 ≡ self) × IsFree self r.1 × ((k : ℕ) → k < r.1 → (v : V) × Has self k v)) }
     {
-        if let Some(missing) = first_free(&self.places) {
+        if let Some(missing) = first_free(&self.slots) {
             return Err((self, missing as u64));
         }
-        let Tray { places, mut room } = self;
-        for place in places {
-            let Some(value) = place else { unreachable!() };
+        let Tray { slots, mut room } = self;
+        for slot in slots {
+            let Some(value) = slot else { unreachable!() };
             room.push_reserved(value);
         }
         Ok(Values::of(room))

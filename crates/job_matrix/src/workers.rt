@@ -1,14 +1,15 @@
 //! Workers, who claim the jobs of a work from one board, and the values of all jobs in order.
-ghost use Rattle.std.specs.Prelude.{◌≡◌, ◌+◌, ◌-◌, ◌<◌, ◌≤◌, ◌^◌, ℕ, true, [], ◌++◌, map, replicate, Some, None, IfOk, IsOkAnd};
+ghost use Rattle.std.specs.Prelude.{◌≡◌, ◌+◌, ◌-◌, ◌<◌, ◌≤◌, ℕ, true, [], ◌++◌, map, replicate, Some, None, IfOk, IsOkAnd};
 ghost use Rattle.std.specs.List.{range_with_len};
 ghost use Rattle.std.specs.Thread.{IsSync};
 ghost use Rattle.job_matrix.specs.Counting.{times, CountsBelow};
-ghost use Rattle.job_matrix.specs.Filling.{jobs_in, with_values, put_each};
+ghost use Rattle.job_matrix.specs.Boards.{number_limit, pass_limit};
+ghost use Rattle.job_matrix.specs.Plans.{worker_limit};
+ghost use Rattle.job_matrix.specs.Trays.{jobs_in, with_values, put_each};
 
 use crate::boards::{Board, Chief, Pass};
-use crate::gates::{Gate, Phase};
 use crate::trays::Tray;
-use crate::works::Work;
+use crate::works::{Gate, Phase, Work};
 use pcap_records::Values;
 use std::alloc::{AllocError, Global};
 use std::thread::{Threads, join};
@@ -45,7 +46,7 @@ where
     }
 }
 
-// The jobs of two lists, one behind the other, where both have found memory.
+// The jobs of two lists, one after the other, where both have found memory.
 fn append_jobs<V: Drop>(
     first: Result<Vec<(u64, V)>, AllocError>,
     second: Result<Vec<(u64, V)>, AllocError>,
@@ -58,8 +59,8 @@ fn append_jobs<V: Drop>(
     Ok(all)
 }
 
-// The jobs that so many workers claim, with their values: this thread is one of them, and each other has a thread of its own. All
-// passes have come back.
+// The jobs that so many workers claim, with their values: this thread is one of them, and each other has a thread of its
+// own. All passes have come back.
 fn spread<W: Work, G: Gate, R: Threads + Sync>(
     rt: &R,
     alloc: Global,
@@ -73,11 +74,12 @@ fn spread<W: Work, G: Gate, R: Threads + Sync>(
 where
     W::Out: Send + Drop,
     requires chief { (chief.board ≡ board.now) × (chief.jobs ≡ []) }
-    requires workers { (0 < workers) × (chief.made + workers ≤ 65536) }
+    requires workers { (0 < workers) × (chief.made + workers ≤ pass_limit) }
     requires jobs { board.now.limit ≤ W.jobs work.now }
     ensures board { result.0.board ≡ board.now }
     ensures back { (result.0.made ≡ chief.made + workers) × (result.0.back ≡ chief.back + workers) }
-    ensures done { IfOk result.1 (λ v. (v.items ≡ with_values (W.meaning work.now) result.0.jobs) × (0 < result.0.told)) }
+    ensures done { IfOk result.1 (λ v.
+        (v.items ≡ with_values (W.meaning work.now) result.0.jobs) × (0 < result.0.told)) }
 {
     let Ok(pass) = chief.split(board) else {
         unreachable!()
@@ -91,11 +93,15 @@ where
         rt,
         move || -> (Pass, Result<Vec<(u64, W::Out)>, AllocError>)
             requires { (pass.board ≡ board.now) × (pass.jobs ≡ []) × (board.now.limit ≤ W.jobs work.now) }
-            ensures { (result.0.board ≡ board.entry.now) × IfOk result.1 (λ v. (v.items ≡ with_values (W.meaning work.entry.now) result.0.jobs) × (result.0.told ≡ true)) }
+            ensures { (result.0.board ≡ board.entry.now) × IfOk result.1 (λ v.
+                (v.items ≡ with_values (W.meaning work.entry.now) result.0.jobs) × (result.0.told ≡ true)) }
         { do_jobs(alloc, board, pass, phase, gate, work) },
         move || -> (Chief, Result<Vec<(u64, W::Out)>, AllocError>)
-            requires { IsSync R.row × (chief.board ≡ board.now) × (chief.jobs ≡ []) × (1 < workers) × (chief.made + (workers - 1) ≤ 65536) × (board.now.limit ≤ W.jobs work.now) }
-            ensures { (result.0.board ≡ board.entry.now) × (result.0.made ≡ chief.made + (workers - 1)) × (result.0.back ≡ chief.back + (workers - 1)) × IfOk result.1 (λ v. (v.items ≡ with_values (W.meaning work.entry.now) result.0.jobs) × (0 < result.0.told)) }
+            requires { IsSync R.row × (chief.board ≡ board.now) × (chief.jobs ≡ []) × (1 < workers)
+                × (chief.made + (workers - 1) ≤ pass_limit) × (board.now.limit ≤ W.jobs work.now) }
+            ensures { (result.0.board ≡ board.entry.now) × (result.0.made ≡ chief.made + (workers - 1))
+                × (result.0.back ≡ chief.back + (workers - 1)) × IfOk result.1 (λ v.
+                (v.items ≡ with_values (W.meaning work.entry.now) result.0.jobs) × (0 < result.0.told)) }
         { spread(rt, alloc, board, chief, phase, gate, work, workers - 1) },
     );
     chief.take_back(board, pass);
@@ -123,7 +129,8 @@ fn put_in_order<V: Drop>(
     Ok(values)
 }
 
-/// The values of the jobs below `n`, in order. They are the same for every number of workers and in whatever order these come.
+/// The values of the jobs below `n`, in order. They are the same for every number of workers and in whatever order these
+/// come.
 pub fn work_all<W: Work, G: Gate, R: Threads + Sync>(
     rt: &R,
     alloc: Global,
@@ -135,8 +142,8 @@ pub fn work_all<W: Work, G: Gate, R: Threads + Sync>(
 ) -> Result<Values<W::Out>, AllocError>
 where
     W::Out: Send + Drop,
-    requires few { n ≤ 2 ^ 48 }
-    requires workers { (1 ≤ workers) × (workers ≤ 16) }
+    requires few { n ≤ number_limit }
+    requires workers { (1 ≤ workers) × (workers ≤ worker_limit) }
     requires jobs { n ≤ W.jobs work.now }
     ensures { IfOk result (λ v. v ≡ map (W.meaning work.now) (range_with_len 0 n)) }
 {

@@ -8,7 +8,7 @@ use Rattle.pcap_records.specs.declared.capture.Record.{Record}
 use Rattle.pcap_records.specs.Instants.{horizon}
 use Rattle.pcap_records.specs.Reading.{Packet, Contents, Reading, capture_limit, packet_limit}
 
--- the file's bytes, the ticks of a second, the order of its fields, where its records lie, and how many bytes follow them
+-- the file's bytes, the ticks of a second, the order of its fields, where its records lie, and how many bytes follow
 pub record CaptureView : Type 0 where
   pub bytes : List ℕ
   pub ticks : ℕ
@@ -41,8 +41,8 @@ pub record IsWithinFile (ticks : ℕ) (bytes : List ℕ) (r : Record) : Type 0 w
   pub limited : r.len ≤ packet_limit
   pub stamped : r.stamp ≤ horizon ticks
 
--- what holds of every capture: its records lie within the bytes, which are no more than a file may have, and are too few for
--- their numbers to pass 26 bits
+-- what holds of every capture: its records lie within the bytes, which are no more than a file may have, and are too
+-- few for their numbers to pass 26 bits
 pub record IsSoundCapture (ticks : ℕ) (bytes : List ℕ) (records : List Record) : Type 0 where
   pub limited : length bytes ≤ capture_limit
   pub within : All (IsWithinFile ticks bytes) records

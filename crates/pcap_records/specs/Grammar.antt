@@ -20,7 +20,9 @@ pub record IsRawRecord (h : Heading) (p : RawRecord) : Type 0 where
 
 -- bytes with which no record begins whole, and that do not announce too long a packet
 abbrev pub IsRest : Heading → List ℕ → Type 0
-IsRest h bytes = (length bytes < record_header_len) ⊎ ((packet_len h bytes ≤ packet_limit) × (length bytes < record_header_len + packet_len h bytes))
+IsRest h bytes =
+    (length bytes < record_header_len)
+    ⊎ ((packet_len h bytes ≤ packet_limit) × (length bytes < record_header_len + packet_len h bytes))
 
 -- a whole record header that announces too long a packet
 abbrev pub AnnouncesTooMuch : Heading → List ℕ → Type 0
@@ -37,14 +39,18 @@ packet_of_raw h p = record { stamp = stamp_of h p.header; bytes = p.packet }
 -- the reading that such a split stands for
 abbrev pub reading_by : Heading → List RawRecord → List ℕ → Reading
 reading_by h raws rest =
-    record { order = h.order; contents = record { ticks = h.ticks; packets = map (packet_of_raw h) raws; rest = length rest } }
+    record {
+      order = h.order;
+      contents = record { ticks = h.ticks; packets = map (packet_of_raw h) raws; rest = length rest };
+    }
 
 -- what is read has a split: its packets are the records', and its rest begins with no whole record
 abbrev pub ReadingsSplit : Type 0
 ReadingsSplit =
     (bytes : List ℕ) (r : Reading) → reading bytes ≡ Ok r
     → (h : Heading) × (raws : List RawRecord) × (rest : List ℕ)
-    × ((file_heading bytes ≡ Ok h) × Splits h (drop file_header_len bytes) raws rest × IsRest h rest × (r ≡ reading_by h raws rest))
+    × ((file_heading bytes ≡ Ok h) × Splits h (drop file_header_len bytes) raws rest × IsRest h rest
+    × (r ≡ reading_by h raws rest))
 
 -- what has a split is read so; hence a file has one split at most
 abbrev pub SplitsAreRead : Type 0

@@ -1,4 +1,4 @@
--- Time: the ticks that instants count, instants, which are whole ticks from 0 to a horizon, and the greatest stamp so far.
+-- Time: the ticks that instants count; instants, whole ticks from 0 to a horizon; the greatest stamp so far.
 use Rattle.std.specs.Prelude.{◌≡◌, ◌≤◌, ℕ, ◌+◌, ◌*◌, ◌/◌, ◌^◌, min, max, List, [], ◌∷◌, length, map, take}
 use Rattle.std.specs.List.{range_with_len, slice_range}
 

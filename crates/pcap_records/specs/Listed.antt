@@ -22,4 +22,5 @@ IsFoundAt h bytes at (Whole r) = IsRecordAt h bytes at r
 
 -- the contents that listed records and a rest stand for
 abbrev pub listed_contents : ℕ → List ℕ → RecordList → Contents
-listed_contents ticks bytes list = record { ticks = ticks; packets = map (packet_of bytes) list.records.items; rest = list.rest }
+listed_contents ticks bytes list =
+    record { ticks = ticks; packets = map (packet_of bytes) list.records.items; rest = list.rest }

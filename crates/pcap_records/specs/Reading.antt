@@ -74,7 +74,8 @@ magic_heading bytes =
 abbrev pub checked_heading : Option Heading → List ℕ → Result Heading CaptureFault
 checked_heading None bytes = Err BadMagic
 checked_heading (Some h) bytes =
-    if not (number_in h.order 2 (drop 4 bytes) == 2) || not (number_in h.order 2 (drop 6 bytes) == 4) then Err BadVersion else
+    if not (number_in h.order 2 (drop 4 bytes) == 2) || not (number_in h.order 2 (drop 6 bytes) == 4)
+    then Err BadVersion else
     (if not (number_in h.order 4 (drop 20 bytes) == 1) then Err BadLink else Ok h)
 
 -- the heading, or the first fault of the file header
@@ -94,7 +95,8 @@ abbrev pub stamp_of : Heading → List ℕ → ℕ
 stamp_of h bytes = instant h.ticks (number_in h.order 4 bytes * h.ticks + number_in h.order 4 (drop 4 bytes))
 
 abbrev pub first_packet : Heading → List ℕ → Packet
-first_packet h bytes = record { stamp = stamp_of h bytes; bytes = take (packet_len h bytes) (drop record_header_len bytes) }
+first_packet h bytes =
+    record { stamp = stamp_of h bytes; bytes = take (packet_len h bytes) (drop record_header_len bytes) }
 
 -- bytes begin with a whole record, with a part of one at most, or with a header that announces too
 -- long a packet, whether or not the file holds it
@@ -125,7 +127,8 @@ contents_at whole h k bytes after = contents_with_packet (first_packet h bytes) 
 unfoldable pub records_after : ℕ → Heading → ℕ → List ℕ → Result Contents CaptureFault
 records_after n h k [] = Ok (record { ticks = h.ticks; packets = []; rest = 0 })
 records_after zero h k (b ∷ bytes) =
-    contents_at (next_record h (b ∷ bytes)) h k (b ∷ bytes) (records_after (record_header_len - 1 + packet_len h (b ∷ bytes)) h (suc k) bytes)
+    contents_at (next_record h (b ∷ bytes)) h k (b ∷ bytes)
+    (records_after (record_header_len - 1 + packet_len h (b ∷ bytes)) h (suc k) bytes)
 records_after (suc n) h k (b ∷ bytes) = records_after n h k bytes
 
 -- ---- a file

@@ -13,7 +13,8 @@ magic_of ticks = magic
 -- magic number, version 2.4, time zone 0, accuracy 0, longest packet 65,535, link type Ethernet
 unfoldable pub file_header : ℕ → List ℕ
 file_header ticks =
-    (((((little_bytes 4 (magic_of ticks) ++ little_bytes 2 2) ++ little_bytes 2 4) ++ little_bytes 4 0) ++ little_bytes 4 0) ++ little_bytes 4 65535) ++ little_bytes 4 1
+    (((((little_bytes 4 (magic_of ticks) ++ little_bytes 2 2) ++ little_bytes 2 4) ++ little_bytes 4 0)
+    ++ little_bytes 4 0) ++ little_bytes 4 65535) ++ little_bytes 4 1
 
 -- seconds, ticks, captured length, original length
 unfoldable pub record_header : ℕ → ℕ → ℕ → List ℕ
@@ -36,5 +37,7 @@ pub record IsWritable (ticks : ℕ) (p : Packet) : Type 0 where
 -- what is written is read back: the same packets with the same stamps, and no rest
 abbrev pub WrittenIsRead : Type 0
 WrittenIsRead =
-    (packets : List Packet) → AllByRecursion (IsWritable microseconds) packets → length (written_capture microseconds packets) ≤ capture_limit
-    → reading (written_capture microseconds packets) ≡ Ok (record { order = Little; contents = record { ticks = microseconds; packets = packets; rest = 0 } })
+    (packets : List Packet) → AllByRecursion (IsWritable microseconds) packets
+    → length (written_capture microseconds packets) ≤ capture_limit
+    → reading (written_capture microseconds packets)
+    ≡ Ok (record { order = Little; contents = record { ticks = microseconds; packets = packets; rest = 0 } })

@@ -25,11 +25,12 @@ pub(crate) struct RecordList {
     pub rest: u32,
 }
 
-/// Reads a classic pcap file (format 2.4) of at most 2^30 bytes, in one pass. Each packet of the capture is a slice of `bytes`.
+/// Reads a classic pcap file (format 2.4) of at most 2^30 bytes, in one pass. Each packet of the capture is a slice of
+/// `bytes`.
 ///
 /// # Errors
-/// The first fault of the file, in the order of [`CaptureFault`]; else `Memory`, where a growth was refused. So a fault of
-/// the file is told even where memory is scarce.
+/// The first fault of the file, in the order of [`CaptureFault`]; else `Memory`, where a growth was refused. So a fault
+/// of the file is told even where memory is scarce.
 pub fn read_capture<'a>(alloc: Global, bytes: &'a [u8]) -> Result<Capture<'a>, CaptureFault>
     ensures exact { Agrees refusal reading_of result (reading bytes.now) }
     ensures of { IfOk result (λ capture. capture.bytes ≡ bytes.now) }
@@ -71,8 +72,8 @@ fn list_records(alloc: Global, order: Order, bytes: &[u8]) -> Result<RecordList,
     }
 }
 
-// Why a file is refused of which a record found no memory, where `count` records stand before `at`: the fault of a later
-// record, if one has any, and else want of memory.
+// Why a file is refused of which a record found no memory, where `count` records stand before `at`: the fault of a
+// later record, if one has any, and else want of memory.
 fn fault_after(order: Order, bytes: &[u8], at: usize, count: u32) -> CaptureFault
     requires inside { at ≤ length bytes.now }
     requires limited { length bytes.now ≤ capture_limit }

@@ -43,8 +43,8 @@ pub fn write_record(out: &mut Vec<u8>, at: Moment, packet: &[u8]) -> Result<(), 
     out.extend_from_slice(packet)
 }
 
-/// The header of the record of a packet of `len` bytes, at an instant before the horizon: its seconds, the ticks over these, and
-/// the packet's length twice.
+/// The header of the record of a packet of `len` bytes, at an instant before the horizon: its seconds, the ticks over
+/// these, and the packet's length twice.
 #[tactic(auto, unfolding(crate::specs::Writing::record_header))]
 pub fn record_header_bytes(at: Moment, len: u32) -> [u8; RECORD_HEADER_LEN]
     requires { at < horizon microseconds }

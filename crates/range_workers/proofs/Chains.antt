@@ -4,18 +4,14 @@ use Rattle.std.specs.List.{range_with_len}
 use Rattle.std.proofs.Math.Seq.{take-add}
 use Rattle.std.proofs.lemmas.List.{map-append, append_assoc, length-map}
 use Rattle.std.proofs.lemmas.List.Elements.{All-nil, All-cons}
-use Rattle.std.proofs.lemmas.List.FromFn.{fill_by_all}
 use Rattle.pcap_records.specs.Instants.{greatest}
 use Rattle.pcap_records.specs.Reading.{Packet}
 use Rattle.pcap_records.specs.CaptureView.{CaptureView, contents_of, stamps_between}
+use Rattle.pcap_records.proofs.Lists.{listed}
 use Rattle.conn_table.specs.Partials.{partial_in, carried, JoinsAgree}
 use Rattle.range_workers.specs.declared.ranges.Range.{Range}
 use Rattle.range_workers.specs.Ranges.{range_in, AreRanges, IsWithin, AreWithin}
 use Rattle.range_workers.specs.RangePartials.{partial_of, partials_of, no_partial, AreAdjacentFrom, AreAdjacent, joined_to, joined_all}
-
--- the elements at all places are the list
-listed : {V : Type 0} (xs : List V) (n : ℕ) (d : V) → length xs ≡ n → map (λ j. get_or xs j d) (range_with_len 0 n) ≡ xs
-listed xs n d len = sym (fill_by_all (λ j. get_or xs j d) xs n d len (λ k below. refl))
 
 -- the meanings of the jobs are the partials of the ranges
 pub all_partials : (c : CaptureView) (n : ℕ) (lent ranges : List Range) → lent ≡ ranges → length lent ≡ n
@@ -55,23 +51,6 @@ are_within c cut from [] none = absurd none
 are_within c cut from (r ∷ []) (is, start, end) = All-cons (IsWithin c) r [] (rw is (start, omega arith)) (All-nil (IsWithin c))
 are_within c cut from (r ∷ s ∷ rs) (is, within, rest) =
     All-cons (IsWithin c) r (s ∷ rs) (rw is (omega arith, omega (arith, within))) (are_within c cut (from + cut) (s ∷ rs) rest)
-
--- ---- the greatest stamp before a range
-
-greatest-append : (ns ms : List ℕ) → greatest (ns ++ ms) ≡ max (greatest ns) (greatest ms)
-greatest-append [] ms = omega arith
-greatest-append (n ∷ ns) ms = rw (greatest-append ns ms) (omega arith)
-
--- it is that before an earlier one, or of the stamps between
-pub carried_on : (c : CaptureView) (from n to : ℕ) → to ≡ from + n → carried c 0 to 0 ≡ max (carried c 0 from 0) (greatest (stamps_between c from to))
-carried_on c from n to is =
-    let ps : List Packet = (contents_of c).packets in
-    let all : to - 0 ≡ from + n = omega (arith, is) in
-    let first : from - 0 ≡ from = omega arith in
-    let more : to - from ≡ n = omega (arith, is) in
-    let stamps : stamps_between c 0 to ≡ stamps_between c 0 from ++ stamps_between c from to =
-    rw (all, first, more, take-add from n ps) (map-append (λ (p : Packet). p.stamp) (take from ps) (take n (drop from ps))) in
-    rw (stamps, greatest-append (stamps_between c 0 from) (stamps_between c from to)) (omega arith)
 
 -- ---- partials
 

@@ -12,9 +12,9 @@ use Rattle.conn_table.specs.IndexedSegments.{TimedSegment, IndexedSegment, same_
 use Rattle.conn_table.specs.Connections.{of_one_pair}
 use Rattle.conn_table.specs.IndexedConnections.{IndexedConnection, without_indices}
 use Rattle.conn_table.specs.Tables.{member_in, conn_in}
-use Rattle.conn_table.specs.declared.members.Member.{Member}
+use Rattle.conn_table.specs.declared.conns.Member.{Member}
 use Rattle.conn_table.specs.declared.conns.Conn.{Conn}
-use Rattle.conn_table.proofs.GroupingPairs.{one_pair-itself}
+use Rattle.conn_table.proofs.Peers.{one_pair-itself}
 use Rattle.reassembly.specs.Positions.{effective_members, is_reset, is_answer, server_base, shifted_start}
 use Rattle.reassembly.specs.RecordedLines.{End, RecordedSide, RecordedConnection, fin_segment, is_counted_fin, reset_or_live, sent_by, recorded_side, recorded_connection, side_of}
 use Rattle.reassembly.specs.MemberSpans.{IsInFile, span_at, member_span, member_spans, segment_span, own_members, is_of, is_reset_member, is_server_answer, members_before_reset, is_fin_member}

@@ -1,7 +1,7 @@
 -- Each connection of a capture's segments is recorded in the capture, between two peers.
 use Rattle.std.proofs.Common.{◌≡◌, ◌≤◌, ◌<◌, ℕ, zero, suc, ◌+◌, ◌-◌, ◌&&◌, Bool, true, false, cond, List, [], ◌∷◌, map, filter, length, take, drop, slice_range, nat_lt, nat_le, slice_get, Option, Some, None, option_map, refl, sym, ap, ◌∙◌, subst, arith, zero-add, add-zero, if◌then◌else◌}
 use Rattle.std.specs.Option.{unwrap_or}
-use Rattle.std.specs.List.{AllByRecursion, filter_map, cons_option, enumerate_from, zip, range_with_len}
+use Rattle.std.specs.List.{AllByRecursion, filter_map, cons_option, enumerate_from, last_or, zip, range_with_len}
 use Rattle.std.proofs.Math.Nat.{le_trans, le_refl}
 use Rattle.std.proofs.lemmas.Bool.{eqb-true, and_parts, ltb-true}
 use Rattle.std.proofs.lemmas.List.{length-map}
@@ -16,7 +16,7 @@ use Rattle.conn_table.specs.Connections.{last_of, of_one_pair, begins, beginning
 use Rattle.conn_table.specs.IndexedConnections.{IndexedConnection, indexed_connection_of, indexed_connections}
 use Rattle.conn_table.specs.KeptSegments.{frame_at}
 use Rattle.conn_table.specs.Tables.{conn_in}
-use Rattle.conn_table.proofs.GroupingPairs.{one_pair-is, same_pair-itself}
+use Rattle.conn_table.proofs.Peers.{one_pair-is, same_pair-itself}
 use Rattle.reassembly.specs.RecordedView.{IsRecorded, IsConnectionOf, IsConnOf, ConnectionsAreOfCapture, ConnsAreOfCapture}
 use Rattle.reassembly.specs.LineLaws.{InstantsRise}
 use Rattle.conn_table.specs.Partials.{segments_between}

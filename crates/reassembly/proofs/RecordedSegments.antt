@@ -11,7 +11,7 @@ use Rattle.frame_headers.specs.Frame.{segment_fields, payload_offset}
 use Rattle.conn_table.specs.IndexedSegments.{IndexedSegment, same_peer}
 use Rattle.conn_table.specs.Connections.{of_one_pair}
 use Rattle.conn_table.specs.KeptSegments.{packet_start, frame_at, payload_start}
-use Rattle.conn_table.proofs.Sides.{two_peers, side_of}
+use Rattle.conn_table.proofs.Peers.{peers_differ, other_sender}
 use Rattle.reassembly.specs.RecordedView.{IsRecorded}
 
 -- ---- payloads
@@ -83,5 +83,5 @@ heard ticks c b s sound law rec_b rec paired =
     record {
       in_file = p.in_file;
       payload = p.payload;
-      server_sent = side_of b s (rw rec_b.fields (two_peers (frame_at c b.index) rec_b.class)) paired;
+      server_sent = other_sender b.timed.fields.from b.timed.fields.to s.timed.fields.from s.timed.fields.to (rw rec_b.fields (peers_differ (frame_at c b.index) rec_b.class)) paired;
     }

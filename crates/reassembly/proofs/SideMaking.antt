@@ -1,7 +1,7 @@
 -- A side from its members: what its calls say make the definition.
 use Rattle.std.proofs.Common.{◌≡◌, ℕ, Bool, List, Option, Some, option_map, Result, Ok, Err, IfOk, sym, ap, ◌∙◌, subst}
 use Rattle.std.specs.List.{find}
-use Rattle.conn_table.specs.declared.members.Member.{Member}
+use Rattle.conn_table.specs.declared.conns.Member.{Member}
 use Rattle.reassembly.specs.declared.patches.Patch.{Patch}
 use Rattle.reassembly.specs.declared.sides.CountedFin.{CountedFin}
 use Rattle.reassembly.specs.RecordedLines.{End, RecordedSide}

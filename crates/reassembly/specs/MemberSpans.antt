@@ -2,7 +2,7 @@
 use Rattle.std.specs.Prelude.{◌≤◌, ℕ, ◌+◌, ◌-◌, List, map, length, drop, filter, slice_range, Bool, true, false, ◌&&◌, not, nat_le}
 use Rattle.std.specs.List.{take_while}
 use Rattle.frame_headers.specs.Flags.{has_flag, fin_flag, syn_flag, rst_flag, ack_flag}
-use Rattle.conn_table.specs.declared.members.Member.{Member}
+use Rattle.conn_table.specs.declared.conns.Member.{Member}
 use Rattle.conn_table.specs.IndexedSegments.{TimedSegment}
 use Rattle.reassembly.specs.Positions.{origin, shifted_position, shifted_start}
 use Rattle.reassembly.specs.Spans.{Span}

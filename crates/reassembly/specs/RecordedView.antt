@@ -12,7 +12,7 @@ use Rattle.reassembly.specs.LineLaws.{InstantsRise}
 use Rattle.conn_table.specs.KeptSegments.{frame_at}
 use Rattle.reassembly.specs.declared.recordings.Recorded.{Recorded}
 use Rattle.conn_table.specs.Tables.{conn_in}
-use Rattle.conn_table.specs.declared.members.Member.{Member}
+use Rattle.conn_table.specs.declared.conns.Member.{Member}
 use Rattle.conn_table.specs.declared.conns.Conn.{Conn}
 use Rattle.reassembly.specs.RecordedLines.{RecordedConnection, End, live, reset}
 use Rattle.reassembly.specs.MemberSpans.{is_reset_member, is_server_answer, members_before_reset}

@@ -2,7 +2,7 @@
 use Rattle.std.specs.Prelude.{◌≡◌, ◌≤◌, ◌<◌, ℕ, zero, suc, ◌+◌, ◌-◌, ◌==◌, ◌⊎◌, max, Bool, true, ◌||◌, not, List, [], ◌∷◌, map, length, sum_by, find, Option, Some, None, is_some, option_map, if◌then◌else◌}
 use Rattle.std.specs.List.{range_with_len}
 use Rattle.conn_table.specs.IndexedSegments.{TimedSegment}
-use Rattle.conn_table.specs.declared.members.Member.{Member}
+use Rattle.conn_table.specs.declared.conns.Member.{Member}
 use Rattle.reassembly.specs.declared.sides.CountedFin.{CountedFin}
 use Rattle.reassembly.specs.declared.sides.SideLine.{SideLine}
 use Rattle.reassembly.specs.Positions.{origin}

@@ -13,7 +13,9 @@ address text = option_map (from_be_bytes w32) (whole_value (read_ipv4 text))
 
 -- a letter, a digit, `-`, `_` or `.`
 abbrev pub is_name_byte : ℕ → Bool
-is_name_byte b = (nat_le 97 b && nat_le b 122) || (nat_le 65 b && nat_le b 90) || (nat_le 48 b && nat_le b 57) || b == 45 || b == 95 || b == 46
+is_name_byte b =
+    (nat_le 97 b && nat_le b 122) || (nat_le 65 b && nat_le b 90) || (nat_le 48 b && nat_le b 57)
+    || b == 45 || b == 95 || b == 46
 
 -- a name is not empty, and no address
 abbrev pub is_host_name : List ℕ → Bool
@@ -28,7 +30,8 @@ look_up hosts name = option_map (λ h. h.addr) (find (λ h. bytes_eq h.name name
 -- the host that a name and an address make, if they are valid and the name is free
 abbrev pub host_for : List KnownHost → List ℕ → List ℕ → Option KnownHost
 host_for hosts name addr =
-    if is_host_name name && is_none (look_up hosts name) then option_map (λ a. record { name = name; addr = a }) (address addr) else None
+    if is_host_name name && is_none (look_up hosts name)
+    then option_map (λ a. record { name = name; addr = a }) (address addr) else None
 
 -- what adding a host answers and does: it stands last then, or the list is as it was
 abbrev pub HostAdded : Result ⊤ HostFault → Option KnownHost → List KnownHost → List KnownHost → Type 0

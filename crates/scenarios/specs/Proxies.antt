@@ -30,7 +30,8 @@ proxy_fields d =
     option_and_then (λ upstream.
     option_and_then (λ enabled.
     option_and_then (λ toxics.
-    if nat_lt 0 (length name) && is_text_or_absent (codes "listen") d then Some (record { name = name; upstream = upstream; enabled = enabled; toxics = toxics }) else None)
+    if nat_lt 0 (length name) && is_text_or_absent (codes "listen") d
+    then Some (record { name = name; upstream = upstream; enabled = enabled; toxics = toxics }) else None)
     (optional_list (codes "toxics") d))
     (optional_flag (codes "enabled") d))
     (required_text (codes "upstream") d))
@@ -70,4 +71,5 @@ proxy_in hosts earlier d =
 -- the proxies of the items, after those that stand earlier
 unfoldable pub proxies_from : List KnownHost → List Proxy → Items → Result (List Proxy) Refusal
 proxies_from hosts earlier no_items = Ok earlier
-proxies_from hosts earlier (item d ds) = after (proxy_in hosts earlier d) (λ p. proxies_from hosts (earlier ++ p ∷ []) ds)
+proxies_from hosts earlier (item d ds) =
+    after (proxy_in hosts earlier d) (λ p. proxies_from hosts (earlier ++ p ∷ []) ds)

@@ -41,7 +41,8 @@ pub record IsFirstFor (server : Peer) (proxies : List Proxy) (number : ℕ) : Ty
 abbrev pub FirstIsMet : Type 0
 FirstIsMet =
     (server : Peer) (proxies : List Proxy)
-    → MatchOption (met_number server proxies) (AllByRecursion (λ p. p.upstream ≢ server) proxies) (IsFirstFor server proxies)
+    → MatchOption (met_number server proxies)
+    (AllByRecursion (λ p. p.upstream ≢ server) proxies) (IsFirstFor server proxies)
 
 -- ---- accepted scenarios
 
@@ -63,11 +64,13 @@ pub record IsSound (p : Proxy) : Type 0 where
   pub up_toxics : AreSoundToxics p.up
   pub down_toxics : AreSoundToxics p.down
 
--- the proxies of a scenario have names, ports and toxics in range, no two of them the same name, and there are not too many
+-- the proxies of a scenario have names, ports and toxics in range, no two of them the same name, and there are not
+-- too many
 abbrev pub ScenariosAreSound : Type 0
 ScenariosAreSound =
     (hosts : List KnownHost) (text : List ℕ) (proxies : List Proxy)
-    → scenario hosts text ≡ Ok proxies → AllByRecursion IsSound proxies × NamesAreFree [] proxies × (length proxies ≤ proxy_limit)
+    → scenario hosts text ≡ Ok proxies
+    → AllByRecursion IsSound proxies × NamesAreFree [] proxies × (length proxies ≤ proxy_limit)
 
 -- ---- proxies that are written as JSON
 

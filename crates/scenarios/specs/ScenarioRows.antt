@@ -1,5 +1,5 @@
 -- Worked rows of scenario files, of the server that a proxy stands before, and of hosts.
-use Rattle.std.specs.Prelude.{◌≡◌, ℕ, List, [], ◌∷◌, ◌++◌, codes, true, false, Some, None, Ok, Err}
+use Rattle.std.specs.Prelude.{◌≡◌, ℕ, List, [], ◌∷◌, ◌++◌, codes, Bool, true, false, Some, None, Ok, Err}
 use Rattle.frame_headers.specs.declared.peers.Peer.{Peer}
 use Rattle.scenarios.specs.Refusals.{of_text, of_proxy, of_toxic}
 use Rattle.scenarios.specs.Hosts.{host_for}
@@ -54,32 +54,45 @@ proxy_text name more = codes "{\"name\":\"" ++ name ++ codes "\",\"upstream\":\"
 abbrev pub of_one : List ℕ → List ℕ
 of_one more = codes "[" ++ proxy_text (codes "web") more ++ codes "]"
 
+abbrev pub of_two : List ℕ → List ℕ → List ℕ
+of_two first second = codes "[" ++ first ++ codes "," ++ second ++ codes "]"
+
 abbrev pub server : Peer
 server = record { addr = 0x0a000002; port = 80 }
 
+abbrev pub named : List ℕ → Bool → Proxy
+named name enabled = record { name = name; upstream = server; enabled = enabled; up = []; down = [] }
+
 abbrev pub web : Proxy
-web = record { name = codes "web"; upstream = server; enabled = true; up = []; down = [] }
+web = named (codes "web") true
 
 -- members may be absent, or null, or unknown; of a repeated one the last counts
 pub record ProxiesTold : Type 0 where
   pub plain : scenario [] (of_one []) ≡ Ok (web ∷ [])
-  pub whole : scenario [] (of_one (codes ",\"listen\":\"127.0.0.1:20080\",\"enabled\":true,\"toxics\":[]")) ≡ Ok (web ∷ [])
-  pub null : scenario [] (of_one (codes ",\"listen\":null,\"enabled\":null,\"toxics\":null,\"colour\":[1]")) ≡ Ok (web ∷ [])
-  pub repeated : scenario [] (of_one (codes ",\"enabled\":true,\"enabled\":false")) ≡ Ok (record { name = codes "web"; upstream = server; enabled = false; up = []; down = [] } ∷ [])
+  pub whole : scenario [] (of_one (codes ",\"listen\":\"127.0.0.1:20080\",\"enabled\":true,\"toxics\":[]"))
+      ≡ Ok (web ∷ [])
+  pub null : scenario [] (of_one (codes ",\"listen\":null,\"enabled\":null,\"toxics\":null,\"colour\":[1]"))
+      ≡ Ok (web ∷ [])
+  pub repeated : scenario [] (of_one (codes ",\"enabled\":true,\"enabled\":false"))
+      ≡ Ok (named (codes "web") false ∷ [])
 
 -- a flag that is a text; a name that is empty; a proxy twice; a toxic of a type; one without a type
 pub record ProxiesRefused : Type 0 where
   pub flag : scenario [] (of_one (codes ",\"enabled\":\"yes\"")) ≡ Err (of_proxy 0 BadMember)
   pub nameless : scenario [] (codes "[" ++ proxy_text [] [] ++ codes "]") ≡ Err (of_proxy 0 BadMember)
-  pub twice : scenario [] (codes "[" ++ proxy_text (codes "web") [] ++ codes "," ++ proxy_text (codes "web") [] ++ codes "]") ≡ Err (of_proxy 1 DuplicateProxy)
+  pub twice : scenario [] (of_two (proxy_text (codes "web") []) (proxy_text (codes "web") []))
+      ≡ Err (of_proxy 1 DuplicateProxy)
   pub toxic : scenario [] (of_one (codes ",\"toxics\":[{\"type\":\"explode\"}]")) ≡ Err (of_toxic 0 0 UnknownToxic)
   pub typeless : scenario [] (of_one (codes ",\"toxics\":[{}]")) ≡ Err (of_toxic 0 0 BadMember)
 
 -- a disabled proxy and one after it, both for one server: the first is met
+abbrev pub two_for_one : List Proxy
+two_for_one = named (codes "a") false ∷ named (codes "b") true ∷ []
+
 pub record FirstMet : Type 0 where
-  pub both : scenario [] (codes "[" ++ proxy_text (codes "a") (codes ",\"enabled\":false") ++ codes "," ++ proxy_text (codes "b") [] ++ codes "]")
-      ≡ Ok (record { name = codes "a"; upstream = server; enabled = false; up = []; down = [] } ∷ record { name = codes "b"; upstream = server; enabled = true; up = []; down = [] } ∷ [])
-  pub first : met_number server (record { name = codes "a"; upstream = server; enabled = false; up = []; down = [] } ∷ record { name = codes "b"; upstream = server; enabled = true; up = []; down = [] } ∷ []) ≡ Some 0
+  pub both : scenario [] (of_two (proxy_text (codes "a") (codes ",\"enabled\":false")) (proxy_text (codes "b") []))
+      ≡ Ok two_for_one
+  pub first : met_number server two_for_one ≡ Some 0
   pub other_port : met_number (record { addr = 0x0a000002; port = 81 }) (web ∷ []) ≡ None
 
 -- ---- hosts
@@ -91,4 +104,5 @@ pub record HostsAdded : Type 0 where
   pub addressless : host_for [] (codes "b") (codes "10.0.0.256") ≡ None
   pub nameless : host_for [] (codes "x y") (codes "10.0.0.9") ≡ None
   pub address_as_name : host_for [] (codes "10.0.0.1") (codes "10.0.0.9") ≡ None
-  pub near_address : host_for [] (codes "010.0.0.2") (codes "10.0.0.9") ≡ Some (record { name = codes "010.0.0.2"; addr = 0x0a000009 })
+  pub near_address : host_for [] (codes "010.0.0.2") (codes "10.0.0.9")
+      ≡ Some (record { name = codes "010.0.0.2"; addr = 0x0a000009 })

@@ -19,23 +19,27 @@ read_toxics toxics = scenario [] (of_one (codes ",\"toxics\":[" ++ toxics ++ cod
 -- the JSON of an upstream toxic: its type, its toxicity, and its attributes
 abbrev pub toxic_text : List ℕ → List ℕ → List ℕ → List ℕ
 toxic_text type_is toxicity attributes =
-    codes "{\"type\":\"" ++ type_is ++ codes "\",\"stream\":\"upstream\"" ++ toxicity ++ codes ",\"attributes\":{" ++ attributes ++ codes "}}"
+    codes "{\"type\":\"" ++ type_is ++ codes "\",\"stream\":\"upstream\"" ++ toxicity
+    ++ codes ",\"attributes\":{" ++ attributes ++ codes "}}"
 
 -- a latency of so many milliseconds; one of 100 with a toxicity
 abbrev pub latency : List ℕ → List ℕ
-latency text = toxic_text (codes "latency") (codes ",\"toxicity\":1") (codes "\"latency\":" ++ text ++ codes ",\"jitter\":0")
+latency text =
+    toxic_text (codes "latency") (codes ",\"toxicity\":1") (codes "\"latency\":" ++ text ++ codes ",\"jitter\":0")
 
 abbrev pub toxicity : List ℕ → List ℕ
 toxicity more = toxic_text (codes "latency") more (codes "\"latency\":100")
 
 -- an upstream toxic with a name and further members
 abbrev pub named : List ℕ → List ℕ → List ℕ
-named name more = codes "{\"type\":\"timeout\",\"stream\":\"upstream\",\"name\":\"" ++ name ++ codes "\"" ++ more ++ codes "}"
+named name more =
+    codes "{\"type\":\"timeout\",\"stream\":\"upstream\",\"name\":\"" ++ name ++ codes "\"" ++ more ++ codes "}"
 
 abbrev pub eight : List ℕ
 eight =
-    named (codes "a") [] ++ codes "," ++ named (codes "b") [] ++ codes "," ++ named (codes "c") [] ++ codes "," ++ named (codes "d") [] ++ codes ","
-    ++ named (codes "e") [] ++ codes "," ++ named (codes "f") [] ++ codes "," ++ named (codes "g") [] ++ codes "," ++ named (codes "h") []
+    named (codes "a") [] ++ codes "," ++ named (codes "b") [] ++ codes "," ++ named (codes "c") [] ++ codes ","
+    ++ named (codes "d") [] ++ codes "," ++ named (codes "e") [] ++ codes "," ++ named (codes "f") [] ++ codes ","
+    ++ named (codes "g") [] ++ codes "," ++ named (codes "h") []
 
 -- ---- what they are read as
 
@@ -47,29 +51,45 @@ web_with up down = Ok (record { name = codes "web"; upstream = server; enabled =
 
 -- each type with its own attributes; one that is null is 0, and those of other types are not looked at
 pub record KindsRead : Type 0 where
-  pub latency_kind : read_toxics (toxic_text (codes "latency") [] (codes "\"latency\":100,\"jitter\":50")) ≡ web_with (applied (Latency 100 50) 1000000 ∷ []) []
-  pub bandwidth : read_toxics (toxic_text (codes "bandwidth") [] (codes "\"rate\":1")) ≡ web_with (applied (Bandwidth 1) 1000000 ∷ []) []
-  pub slow_close : read_toxics (toxic_text (codes "slow_close") [] (codes "\"delay\":7")) ≡ web_with (applied (SlowClose 7) 1000000 ∷ []) []
-  pub timeout : read_toxics (toxic_text (codes "timeout") [] (codes "\"timeout\":8")) ≡ web_with (applied (Timeout 8) 1000000 ∷ []) []
-  pub reset_peer : read_toxics (toxic_text (codes "reset_peer") [] (codes "\"timeout\":9")) ≡ web_with (applied (ResetPeer 9) 1000000 ∷ []) []
-  pub slicer : read_toxics (toxic_text (codes "slicer") [] (codes "\"average_size\":5,\"size_variation\":4,\"delay\":3")) ≡ web_with (applied (Slicer 5 4 3) 1000000 ∷ []) []
-  pub limit_data : read_toxics (toxic_text (codes "limit_data") [] (codes "\"bytes\":1000000000000")) ≡ web_with (applied (LimitData 1000000000000) 1000000 ∷ []) []
+  pub latency_kind : read_toxics (toxic_text (codes "latency") [] (codes "\"latency\":100,\"jitter\":50"))
+      ≡ web_with (applied (Latency 100 50) 1000000 ∷ []) []
+  pub bandwidth : read_toxics (toxic_text (codes "bandwidth") [] (codes "\"rate\":1"))
+      ≡ web_with (applied (Bandwidth 1) 1000000 ∷ []) []
+  pub slow_close : read_toxics (toxic_text (codes "slow_close") [] (codes "\"delay\":7"))
+      ≡ web_with (applied (SlowClose 7) 1000000 ∷ []) []
+  pub timeout : read_toxics (toxic_text (codes "timeout") [] (codes "\"timeout\":8"))
+      ≡ web_with (applied (Timeout 8) 1000000 ∷ []) []
+  pub reset_peer : read_toxics (toxic_text (codes "reset_peer") [] (codes "\"timeout\":9"))
+      ≡ web_with (applied (ResetPeer 9) 1000000 ∷ []) []
+  pub slicer : read_toxics (toxic_text (codes "slicer") []
+      (codes "\"average_size\":5,\"size_variation\":4,\"delay\":3"))
+      ≡ web_with (applied (Slicer 5 4 3) 1000000 ∷ []) []
+  pub limit_data : read_toxics (toxic_text (codes "limit_data") [] (codes "\"bytes\":1000000000000"))
+      ≡ web_with (applied (LimitData 1000000000000) 1000000 ∷ []) []
   pub null : read_toxics (latency (codes "null")) ≡ web_with (applied (Latency 0 0) 1000000 ∷ []) []
-  pub unknown : read_toxics (toxic_text (codes "timeout") [] (codes "\"latency\":\"1\"")) ≡ web_with (applied (Timeout 0) 1000000 ∷ []) []
+  pub unknown : read_toxics (toxic_text (codes "timeout") [] (codes "\"latency\":\"1\""))
+      ≡ web_with (applied (Timeout 0) 1000000 ∷ []) []
 
 -- a toxicity of 0, of 0 beside a million, and of a part of a million
 pub record ToxicitiesRead : Type 0 where
   pub never : read_toxics (toxicity (codes ",\"toxicity\":0")) ≡ web_with (applied (Latency 100 0) 0 ∷ []) []
-  pub always : read_toxics (toxicity (codes ",\"toxicity\":0,\"toxicity_ppm\":1000000")) ≡ web_with (applied (Latency 100 0) 1000000 ∷ []) []
-  pub part : read_toxics (toxicity (codes ",\"toxicity_ppm\":250000")) ≡ web_with (applied (Latency 100 0) 250000 ∷ []) []
+  pub always : read_toxics (toxicity (codes ",\"toxicity\":0,\"toxicity_ppm\":1000000"))
+      ≡ web_with (applied (Latency 100 0) 1000000 ∷ []) []
+  pub part : read_toxics (toxicity (codes ",\"toxicity_ppm\":250000"))
+      ≡ web_with (applied (Latency 100 0) 250000 ∷ []) []
 
--- no stream, and a stream and a name that are empty or null: downstream; toxics of both directions, each in the order of the file
+-- no stream, and a stream and a name that are empty or null: downstream; toxics of both directions, each in the order
+-- of the file
 pub record StreamsRead : Type 0 where
   pub absent : read_toxics (codes "{\"type\":\"timeout\"}") ≡ web_with [] (applied (Timeout 0) 1000000 ∷ [])
-  pub empty : read_toxics (codes "{\"type\":\"timeout\",\"stream\":\"\",\"name\":\"\"}") ≡ web_with [] (applied (Timeout 0) 1000000 ∷ [])
-  pub null : read_toxics (codes "{\"type\":\"timeout\",\"stream\":null,\"name\":null,\"attributes\":null}") ≡ web_with [] (applied (Timeout 0) 1000000 ∷ [])
-  pub both : read_toxics (latency (codes "1") ++ codes ",{\"type\":\"timeout\"}," ++ named (codes "b") [] ++ codes ",{\"type\":\"slow_close\"}")
-      ≡ web_with (applied (Latency 1 0) 1000000 ∷ applied (Timeout 0) 1000000 ∷ []) (applied (Timeout 0) 1000000 ∷ applied (SlowClose 0) 1000000 ∷ [])
+  pub empty : read_toxics (codes "{\"type\":\"timeout\",\"stream\":\"\",\"name\":\"\"}")
+      ≡ web_with [] (applied (Timeout 0) 1000000 ∷ [])
+  pub null : read_toxics (codes "{\"type\":\"timeout\",\"stream\":null,\"name\":null,\"attributes\":null}")
+      ≡ web_with [] (applied (Timeout 0) 1000000 ∷ [])
+  pub both : read_toxics (latency (codes "1") ++ codes ",{\"type\":\"timeout\"},"
+      ++ named (codes "b") [] ++ codes ",{\"type\":\"slow_close\"}")
+      ≡ web_with (applied (Latency 1 0) 1000000 ∷ applied (Timeout 0) 1000000 ∷ [])
+      (applied (Timeout 0) 1000000 ∷ applied (SlowClose 0) 1000000 ∷ [])
 
 -- ---- what is refused
 
@@ -85,11 +105,13 @@ pub record WordsRefused : Type 0 where
 -- the same toxic twice without names; a name that an unnamed toxic of the same or the other direction has
 pub record NamesRefused : Type 0 where
   pub twice : read_toxics (latency (codes "1") ++ codes "," ++ latency (codes "1")) ≡ Err (of_toxic 0 1 DuplicateToxic)
-  pub default : read_toxics (codes "{\"type\":\"timeout\",\"name\":\"latency_downstream\"},{\"type\":\"latency\"}") ≡ Err (of_toxic 0 1 DuplicateToxic)
-  pub across : read_toxics (named (codes "latency_downstream") [] ++ codes ",{\"type\":\"latency\"}") ≡ Err (of_toxic 0 1 DuplicateToxic)
+  pub default : read_toxics (codes "{\"type\":\"timeout\",\"name\":\"latency_downstream\"},{\"type\":\"latency\"}")
+      ≡ Err (of_toxic 0 1 DuplicateToxic)
+  pub across : read_toxics (named (codes "latency_downstream") [] ++ codes ",{\"type\":\"latency\"}")
+      ≡ Err (of_toxic 0 1 DuplicateToxic)
 
--- a latency out of range, below 0, no whole number, and a text; numbers that the tree does not hold as whole ones; no rate, and
--- one that is null; a variation as great as the size
+-- a latency out of range, below 0, no whole number, and a text; numbers that the tree does not hold as whole ones; no
+-- rate, and one that is null; a variation as great as the size
 pub record AttributesRefused : Type 0 where
   pub past : read_toxics (latency (codes "1000000001")) ≡ Err (of_toxic 0 0 AttributeRange)
   pub below : read_toxics (latency (codes "-1")) ≡ Err (of_toxic 0 0 AttributeRange)
@@ -99,21 +121,26 @@ pub record AttributesRefused : Type 0 where
   pub exponent : read_toxics (latency (codes "1e3")) ≡ Err (of_toxic 0 0 AttributeRange)
   pub past_64_bits : read_toxics (latency (codes "18446744073709551616")) ≡ Err (of_toxic 0 0 AttributeRange)
   pub rate : read_toxics (toxic_text (codes "bandwidth") [] []) ≡ Err (of_toxic 0 0 AttributeRange)
-  pub rate_null : read_toxics (toxic_text (codes "bandwidth") [] (codes "\"rate\":null")) ≡ Err (of_toxic 0 0 AttributeRange)
-  pub variation : read_toxics (toxic_text (codes "slicer") [] (codes "\"average_size\":5,\"size_variation\":5")) ≡ Err (of_toxic 0 0 AttributeRange)
+  pub rate_null : read_toxics (toxic_text (codes "bandwidth") [] (codes "\"rate\":null"))
+      ≡ Err (of_toxic 0 0 AttributeRange)
+  pub variation : read_toxics (toxic_text (codes "slicer") [] (codes "\"average_size\":5,\"size_variation\":5"))
+      ≡ Err (of_toxic 0 0 AttributeRange)
 
--- a toxicity of 2, of a half, and of 1.0; parts over a million; a toxicity of 2 beside parts in range; where an attribute is out
--- of range too, the attribute is told
+-- a toxicity of 2, of a half, and of 1.0; parts over a million; a toxicity of 2 beside parts in range; where an
+-- attribute is out of range too, the attribute is told
 pub record ToxicitiesRefused : Type 0 where
   pub two : read_toxics (toxicity (codes ",\"toxicity\":2")) ≡ Err (of_toxic 0 0 BadToxicity)
   pub half : read_toxics (toxicity (codes ",\"toxicity\":0.5")) ≡ Err (of_toxic 0 0 BadToxicity)
   pub one : read_toxics (toxicity (codes ",\"toxicity\":1.0")) ≡ Err (of_toxic 0 0 BadToxicity)
   pub parts : read_toxics (toxicity (codes ",\"toxicity\":0,\"toxicity_ppm\":1000001")) ≡ Err (of_toxic 0 0 BadToxicity)
   pub both : read_toxics (toxicity (codes ",\"toxicity\":2,\"toxicity_ppm\":5")) ≡ Err (of_toxic 0 0 BadToxicity)
-  pub attribute : read_toxics (toxic_text (codes "bandwidth") (codes ",\"toxicity\":2") []) ≡ Err (of_toxic 0 0 AttributeRange)
+  pub attribute : read_toxics (toxic_text (codes "bandwidth") (codes ",\"toxicity\":2") [])
+      ≡ Err (of_toxic 0 0 AttributeRange)
 
 -- a ninth toxic upstream; the same with a toxicity that is not valid; a place counts the toxics of both directions
 pub record CountsRefused : Type 0 where
   pub ninth : read_toxics (eight ++ codes "," ++ named (codes "i") []) ≡ Err (of_toxic 0 8 TooMany)
-  pub toxicity_first : read_toxics (eight ++ codes "," ++ named (codes "i") (codes ",\"toxicity\":2")) ≡ Err (of_toxic 0 8 BadToxicity)
-  pub other_direction : read_toxics (eight ++ codes ",{\"type\":\"timeout\"},{\"type\":\"bandwidth\"}") ≡ Err (of_toxic 0 9 AttributeRange)
+  pub toxicity_first : read_toxics (eight ++ codes "," ++ named (codes "i") (codes ",\"toxicity\":2"))
+      ≡ Err (of_toxic 0 8 BadToxicity)
+  pub other_direction : read_toxics (eight ++ codes ",{\"type\":\"timeout\"},{\"type\":\"bandwidth\"}")
+      ≡ Err (of_toxic 0 9 AttributeRange)

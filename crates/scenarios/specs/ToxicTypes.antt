@@ -90,8 +90,8 @@ kind_in_range type_is d = do
   kind ← kind_of type_is d
   if fits kind then Some kind else None
 
--- to how many of a million connections a toxic applies: to all or to none by its toxicity, unless a number of them is told.
--- Both are whole numbers in their ranges, if they are there.
+-- to how many of a million connections a toxic applies: to all or to none by its toxicity, unless a number of them is
+-- told. Both are whole numbers in their ranges, if they are there.
 abbrev pub ppm_of : Data → Option ℕ
 ppm_of d = do
   toxicity ← optional_whole 1 (codes "toxicity") d
@@ -115,13 +115,17 @@ whole_data n = number (unsigned n)
 
 -- the attributes of a kind, in the order of their names
 abbrev pub attributes_data : Kind → Members
-attributes_data (Latency latency jitter) = member (codes "jitter") (whole_data jitter) (member (codes "latency") (whole_data latency) no_members)
+attributes_data (Latency latency jitter) =
+    member (codes "jitter") (whole_data jitter)
+    (member (codes "latency") (whole_data latency) no_members)
 attributes_data (Bandwidth rate) = member (codes "rate") (whole_data rate) no_members
 attributes_data (SlowClose delay) = member (codes "delay") (whole_data delay) no_members
 attributes_data (Timeout timeout) = member (codes "timeout") (whole_data timeout) no_members
 attributes_data (ResetPeer timeout) = member (codes "timeout") (whole_data timeout) no_members
 attributes_data (Slicer average_size size_variation delay) =
-    member (codes "average_size") (whole_data average_size) (member (codes "delay") (whole_data delay) (member (codes "size_variation") (whole_data size_variation) no_members))
+    member (codes "average_size") (whole_data average_size)
+    (member (codes "delay") (whole_data delay)
+    (member (codes "size_variation") (whole_data size_variation) no_members))
 attributes_data (LimitData bytes) = member (codes "bytes") (whole_data bytes) no_members
 
 -- a toxic of a direction, named by its number

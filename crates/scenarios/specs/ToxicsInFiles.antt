@@ -28,7 +28,8 @@ toxic_fields d = do
   type_text ← required_text (codes "type") d
   name ← optional_text (codes "name") d
   stream ← optional_text (codes "stream") d
-  if is_object_or_absent (codes "attributes") d then Some (record { type_text = type_text; name = name; stream = stream }) else None
+  if is_object_or_absent (codes "attributes") d
+      then Some (record { type_text = type_text; name = name; stream = stream }) else None
 
 -- the toxics that were read: the names of all, in the order of the file, and the toxics of each direction
 pub record ToxicsRead : Type 0 where
@@ -74,11 +75,14 @@ toxic_in read d =
 -- ---- the toxics of a proxy
 
 abbrev pub with_toxic : ToxicsRead → List ℕ → Stream → RatedKind → ToxicsRead
-with_toxic read name Upstream toxic = record { names = read.names ++ name ∷ []; up = read.up ++ toxic ∷ []; down = read.down }
-with_toxic read name Downstream toxic = record { names = read.names ++ name ∷ []; up = read.up; down = read.down ++ toxic ∷ [] }
+with_toxic read name Upstream toxic =
+    record { names = read.names ++ name ∷ []; up = read.up ++ toxic ∷ []; down = read.down }
+with_toxic read name Downstream toxic =
+    record { names = read.names ++ name ∷ []; up = read.up; down = read.down ++ toxic ∷ [] }
 
 -- the toxics of the items, after those that were read
 unfoldable pub toxics_from : ℕ → ToxicsRead → Items → Result ToxicsRead Refusal
 toxics_from proxy read no_items = Ok read
 toxics_from proxy read (item d ds) =
-    after (at_place (of_toxic proxy (length read.names)) (toxic_in read d)) (λ t. toxics_from proxy (with_toxic read t.name t.stream t.toxic) ds)
+    after (at_place (of_toxic proxy (length read.names)) (toxic_in read d)) (λ t.
+    toxics_from proxy (with_toxic read t.name t.stream t.toxic) ds)

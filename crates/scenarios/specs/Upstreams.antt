@@ -33,8 +33,9 @@ is_port n = nat_lt 0 n && nat_lt n (2 ^ 16)
 
 abbrev pub port : List ℕ → Option ℕ
 port text =
-    if nat_lt 0 (length text) && nat_le (length text) port_digits && all_ascii_digits text && is_port (digits_value 10 text) then Some (digits_value 10 text)
-    else None
+    if nat_lt 0 (length text) && nat_le (length text) port_digits && all_ascii_digits text
+    && is_port (digits_value 10 text)
+    then Some (digits_value 10 text) else None
 
 -- the address of a host, which is written as one, or is a name
 abbrev pub address_or : Option ℕ → List KnownHost → List ℕ → Result ℕ Cause

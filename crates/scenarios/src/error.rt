@@ -2,8 +2,8 @@
 use std::alloc::AllocError;
 use thiserror::Error;
 
-/// Why a scenario is refused. The causes are tested in the order in which they stand here, proxy by proxy and, in a proxy, toxic
-/// by toxic; but whether it is one too many is the first test of each proxy, and the last of each toxic.
+/// Why a scenario is refused. The causes are tested in the order in which they stand here, proxy by proxy and, in a
+/// proxy, toxic by toxic; but whether it is one too many is the first test of each proxy, and the last of each toxic.
 #[derive(Clone, Copy, Debug, PartialEq, Eq, Error)]
 pub enum Cause {
     /// The text is not JSON, or not UTF-8, or nests deeper than 127 levels, or has a number too large for a float.
@@ -44,8 +44,8 @@ pub enum Cause {
     BadToxicity,
 }
 
-/// A refusal, and where it stands: the numbers of the proxy in its file and of the toxic in its proxy, each from 0, where the
-/// refusal is of one.
+/// A refusal, and where it stands: the numbers of the proxy in its file and of the toxic in its proxy, each from 0,
+/// where the refusal is of one.
 #[derive(Clone, Copy, Debug, PartialEq, Eq, Error)]
 #[error("{cause}")]
 pub struct Refusal {

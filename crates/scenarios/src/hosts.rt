@@ -80,11 +80,12 @@ impl Hosts {
         }
     }
 
-    /// Adds a host: `name` is one or more ASCII letters, digits, `-`, `_` and `.`, and no address; `addr` is four decimal numbers
-    /// below 256 without leading zeros, with dots between them.
+    /// Adds a host: `name` is one or more ASCII letters, digits, `-`, `_` and `.`, and no address; `addr` is four
+    /// decimal numbers below 256 without leading zeros, with dots between them.
     ///
     /// # Errors
-    /// The name is not valid, the address is not valid, or the name is there; or a growth was refused. The list is then as it was.
+    /// The name is not valid, the address is not valid, or the name is there; or a growth was refused. The list is then
+    /// as it was.
     pub fn add(&mut self, name: &str, addr: &str) -> Result<(), HostFault>
         ensures { HostAdded result (host_for self.old name.now addr.now) self.old self.new }
     {

@@ -1,10 +1,11 @@
-//! Theorems about the definitions of this crate, and their worked rows. Each function does nothing: its contract is the theorem,
-//! or is evaluated.
+//! Theorems about the definitions of this crate, and their worked rows. Each function does nothing: its contract is
+//! the theorem, or is evaluated.
 ghost use Rattle.scenarios.specs.ProxyLaws.{AddressesAreDotted, FirstIsMet, ScenariosAreSound, ProxiesAreReadBack};
 ghost use Rattle.scenarios.specs.ScenarioRows.{TextsRead, UpstreamsRead, UpstreamsRefused, HostsUnknown, ProxiesTold, ProxiesRefused, FirstMet, HostsAdded};
 ghost use Rattle.scenarios.specs.ToxicFileRows.{KindsRead, ToxicitiesRead, StreamsRead, WordsRefused, NamesRefused, AttributesRefused, ToxicitiesRefused, CountsRefused};
 
-/// A text is an address exactly where it is four decimal numbers below 256, without leading zeros and with dots between them.
+/// A text is an address exactly where it is four decimal numbers below 256, without leading zeros and with dots
+/// between them.
 pub fn addresses_are_dotted()
     ensures { AddressesAreDotted }
 {}
@@ -14,8 +15,8 @@ pub fn first_is_met()
     ensures { FirstIsMet }
 {}
 
-/// The proxies of a scenario are at most 64, each with a name of its own and a port, and each direction of one has at most 8
-/// toxics, which are in range.
+/// The proxies of a scenario are at most 64, each with a name of its own and a port, and each direction of one has at
+/// most 8 toxics, which are in range.
 pub fn scenarios_are_sound()
     ensures { ScenariosAreSound }
 {}

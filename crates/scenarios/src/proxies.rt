@@ -7,8 +7,8 @@ ghost use Rattle.scenarios.specs.Proxies.{proxy_limit, proxy_fields, has_name, a
 ghost use Rattle.scenarios.specs.SeenFields.{seen_fields, Accepts};
 
 use crate::error::{Cause, Refusal, ScenarioFault};
-use crate::hosts::{Hosts, NameText};
 use crate::fields::{is_text_or_absent, optional_flag, optional_list, required_text};
+use crate::hosts::{Hosts, NameText};
 use crate::toxics::{ToxicList, read_toxics};
 use crate::upstreams::upstream;
 use frame_headers::Peer;

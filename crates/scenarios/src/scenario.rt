@@ -38,7 +38,8 @@ impl Scenario {
     ghost use Rattle.std.specs.List.{AllByRecursion};
     ghost use Rattle.scenarios.specs.ProxyLaws.{IsSound};
 
-    /// The proxies, in the order of their file. Each has a name and a port, and at most eight toxics in each direction, all in range.
+    /// The proxies, in the order of their file. Each has a name and a port, and at most eight toxics in each
+    /// direction, all in range.
     pub fn proxies(&self) -> &[Proxy]
         ensures list { result.now ≡ self.now }
         ensures sound { AllByRecursion IsSound self.now }

@@ -157,7 +157,8 @@ pub(crate) fn kind_in_range(toxic_type: ToxicType, toxic: &Value) -> Option<Kind
     if kind.fits() { Some(kind) } else { None }
 }
 
-// To how many of a million connections a toxic applies. A toxicity beside the number of connections has to be one all the same.
+// To how many of a million connections a toxic applies. A toxicity beside the number of connections has to be one all
+// the same.
 pub(crate) fn ppm_of(toxic: &Value) -> Option<u64>
     ensures { result ≡ ppm_of (view toxic.now) }
 {

@@ -93,8 +93,8 @@ impl<'a> Model for ToxicsSoFar<'a> {
 impl<'a> ToxicsSoFar<'a> {
     ghost use Rattle.std.specs.Prelude.{◌≡◌, length, OnOk};
     ghost use Rattle.serde_json.specs.View.{view};
-    ghost use Rattle.scenarios.specs.ToxicsInFiles.{direction, is_name_taken, checked_toxic, toxic_in, with_toxic, no_toxics};
-    ghost use Rattle.scenarios.specs.SeenFields.{AcceptsToxic};
+    ghost use Rattle.scenarios.specs.ToxicsInFiles.{direction, is_name_taken, checked_toxic, toxic_in, no_toxics};
+    ghost use Rattle.scenarios.specs.SeenFields.{AcceptsToxic, after_accepted};
 
     fn new(alloc: Global) -> ToxicsSoFar<'a>
         ensures { result ≡ no_toxics }
@@ -173,7 +173,7 @@ impl<'a> ToxicsSoFar<'a> {
 
     // Adds a toxic to those of its direction.
     fn push(&mut self, accepted: AcceptedToxic<'a>) -> Result<(), AllocError>
-        ensures { OnOk result (self.new ≡ with_toxic self.old accepted.entry.name.now accepted.entry.stream accepted.entry.toxic) }
+        ensures { OnOk result (self.new ≡ after_accepted self.old accepted.entry) }
     {
         self.names.push(accepted.name)?;
         match accepted.stream {

@@ -4,7 +4,8 @@ use Rattle.pcap_records.specs.Instants.{horizon}
 use Rattle.reassembly.specs.RecordedLines.{LineByte, Line}
 use Rattle.toxic_defs.specs.SessionCut.{cut_line}
 use Rattle.toxic_defs.specs.Laws.{DelaysFront, AreUpTo, RecordedLinesDelay, CutLinesDelay}
-use Rattle.toxic_defs.proofs.DelayedFronts.{itself, taken, taken_all}
+use Rattle.toxic_defs.proofs.DelayedFronts.{itself, taken}
+use Rattle.toxic_defs.proofs.FirstBytes.{taken_all}
 use Rattle.toxic_defs.proofs.CutLines.{cut_lines_are_lines, first_bytes_stay, cut_ends_are_not_early}
 
 pub recorded_lines_delay : RecordedLinesDelay

@@ -1,9 +1,8 @@
 -- Bytes that are the first of others, none earlier than there.
 use Rattle.std.proofs.Common.{◌≤◌, ◌<◌, ℕ, zero, suc, List, [], ◌∷◌, length, take, map, get_or, refl, sym, ap, ◌∙◌, subst, arith}
-use Rattle.std.specs.List.{AllByRecursion}
 use Rattle.std.proofs.Math.Nat.{le_trans, le_refl}
 use Rattle.reassembly.specs.RecordedLines.{LineByte}
-use Rattle.reassembly.specs.LineLaws.{GoesOn, IsInChunks}
+use Rattle.reassembly.specs.LineLaws.{IsInChunks}
 use Rattle.toxic_defs.specs.Laws.{DelaysFront, AreFrom, values_of, DelayedBytesAreTheFirst}
 use Rattle.toxic_defs.proofs.FirstBytes.{bytes_before, first_stay, chunks_go_on}
 
@@ -25,33 +24,10 @@ taken (suc n) [] ys f = tt
 taken (suc n) (x ∷ xs) [] f = absurd f
 taken (suc n) (x ∷ xs) (y ∷ ys) f = (f.0, f.1, taken n xs ys f.2)
 
-pub taken_all : (P : LineByte → Type 0) (n : ℕ) (bytes : List LineByte) → AllByRecursion P bytes → AllByRecursion P (take n bytes)
-taken_all P zero bytes h = tt
-taken_all P (suc n) [] h = tt
-taken_all P (suc n) (b ∷ bytes) h = (h.0, taken_all P n bytes h.1)
-
-pub taken_goes_on : (n last : ℕ) (bytes : List LineByte) → GoesOn last bytes → GoesOn last (take n bytes)
-taken_goes_on zero last bytes g = tt
-taken_goes_on (suc n) last [] g = tt
-taken_goes_on (suc n) last (b ∷ bytes) g = (g.0, g.1, taken_goes_on n b.at bytes g.2)
-
-pub taken_in_chunks : (n : ℕ) (bytes : List LineByte) → IsInChunks bytes → IsInChunks (take n bytes)
-taken_in_chunks zero bytes g = tt
-taken_in_chunks (suc n) [] g = tt
-taken_in_chunks (suc n) (b ∷ bytes) g = (g.0, taken_goes_on n b.at bytes g.1)
-
-pub taken_short : (n : ℕ) (bytes : List LineByte) → length (take n bytes) ≤ length bytes
-taken_short zero bytes = omega arith
-taken_short (suc n) [] = le_refl 0
-taken_short (suc n) (b ∷ bytes) = let rest = taken_short n bytes in omega arith
-
 -- ---- the bytes before an instant are some of the first
 
 pub before_front : (limit : ℕ) (xs ys : List LineByte) → IsInChunks xs → DelaysFront xs ys → DelaysFront (bytes_before limit xs) ys
 before_front limit xs ys g f = subst (λ (bs : List LineByte). DelaysFront bs ys) (sym (first_stay limit 0 xs (chunks_go_on xs g))) (taken (length (bytes_before limit xs)) xs ys f)
-
-pub before_all : (P : LineByte → Type 0) (limit : ℕ) (bytes : List LineByte) → IsInChunks bytes → AllByRecursion P bytes → AllByRecursion P (bytes_before limit bytes)
-before_all P limit bytes g h = subst (AllByRecursion P) (sym (first_stay limit 0 bytes (chunks_go_on bytes g))) (taken_all P (length (bytes_before limit bytes)) bytes h)
 
 -- ---- instants
 

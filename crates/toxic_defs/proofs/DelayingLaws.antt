@@ -13,7 +13,7 @@ use Rattle.toxic_defs.proofs.DelayedFronts.{in_turn}
 use Rattle.toxic_defs.proofs.KeptBytes.{KeepsBytes}
 use Rattle.toxic_defs.proofs.LatestLaws.{LeavesInTurn, late_in_turn, paced_in_turn, rate_low}
 use Rattle.toxic_defs.proofs.MovedLaws.{length-along, along_low, chunks_move, moved_not_early, rate_never_falls, rated_not_early, Starts, moved_starts}
-use Rattle.toxic_defs.proofs.SliceLaws.{length-sliced, sliced_in_chunks, sliced_up_to, sliced_front, settled_in_chunks, length-settled, settled_front, settled_up_to}
+use Rattle.toxic_defs.proofs.SliceLaws.{sliced_keeps, settled_in_chunks, length-settled, settled_front, settled_up_to}
 
 -- chunks that leave by the instants of the chunks so far
 moved_keeps : (limit : ℕ) (g : List ℕ → ℕ) → LeavesInTurn limit g → (bytes : List LineByte) → IsInChunks bytes → KeepsBytes limit bytes (moved (λ bs. g (begins bs)) bytes)
@@ -41,16 +41,6 @@ both_keep limit xs ys zs one two =
       short = omega arith;
       in_time = λ up. two.in_time (one.in_time up);
       delays = λ up. in_turn zs ys xs (two.delays (one.in_time up)) (one.delays up);
-    }
-
-sliced_keeps : (limit : ℕ) (size : ℕ → ℕ) (bytes : List LineByte) → IsInChunks bytes → KeepsBytes limit bytes (sliced size 0 0 bytes)
-sliced_keeps limit size bytes go =
-    let n = length-sliced size 0 0 bytes in
-    record {
-      chunks = sliced_in_chunks size bytes go;
-      short = omega arith;
-      in_time = sliced_up_to limit size 0 0 bytes;
-      delays = λ up. sliced_front size 0 0 bytes;
     }
 
 pub paced_keeps : (ticks : ℕ) (random : ℕ → ℕ) (average variation delay : ℕ) (bytes : List LineByte) → IsInChunks bytes

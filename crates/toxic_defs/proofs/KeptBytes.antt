@@ -1,11 +1,13 @@
 -- What a toxic does to the bytes of a line.
-use Rattle.std.proofs.Common.{◌≤◌, ℕ, List, [], length, take, arith}
+use Rattle.std.proofs.Common.{◌≤◌, ℕ, List, [], length, take, nat_lt, arith}
 use Rattle.std.proofs.Math.Nat.{le_refl}
+use Rattle.std.proofs.lemmas.List.{length-take}
+use Rattle.reassembly.proofs.MappedLists.{all_filter}
 use Rattle.reassembly.specs.RecordedLines.{LineByte}
 use Rattle.reassembly.specs.LineLaws.{IsInChunks}
 use Rattle.toxic_defs.specs.Laws.{DelaysFront, AreUpTo}
-use Rattle.toxic_defs.proofs.DelayedFronts.{itself, taken, taken_all, taken_in_chunks, taken_short, before_front, before_all}
-use Rattle.toxic_defs.proofs.FirstBytes.{bytes_before, before_in_chunks}
+use Rattle.toxic_defs.proofs.DelayedFronts.{itself, taken, before_front}
+use Rattle.toxic_defs.proofs.FirstBytes.{bytes_before, before_in_chunks, taken_all, taken_in_chunks}
 use Rattle.toxic_defs.proofs.CutLines.{before_short}
 
 -- it makes chunks of them, of no more bytes, none past a limit or earlier than it was
@@ -24,7 +26,7 @@ none_keeps limit bytes = record { chunks = tt; short = omega arith; in_time = λ
 pub take_keeps : (limit n : ℕ) (bytes : List LineByte) → IsInChunks bytes → KeepsBytes limit bytes (take n bytes)
 take_keeps limit n bytes g = record {
   chunks = taken_in_chunks n bytes g;
-  short = taken_short n bytes;
+  short = let e = length-take n bytes in omega (arith, e);
   in_time = taken_all (λ b. b.at ≤ limit) n bytes;
   delays = λ h. taken n bytes bytes (itself bytes);
 }
@@ -33,6 +35,6 @@ pub before_keeps : (limit at : ℕ) (bytes : List LineByte) → IsInChunks bytes
 before_keeps limit at bytes g = record {
   chunks = before_in_chunks at bytes g;
   short = before_short at bytes;
-  in_time = before_all (λ b. b.at ≤ limit) at bytes g;
+  in_time = all_filter (λ (b : LineByte). b.at ≤ limit) (λ b. nat_lt b.at at) bytes;
   delays = λ h. before_front at bytes bytes g (itself bytes);
 }

@@ -69,8 +69,8 @@ paced_in_turn limit gap = record {
 pub rate_low : (limit ticks rate : ℕ) (bytes : List LineByte) → bandwidth_leaves limit ticks rate bytes ≤ limit
 rate_low limit ticks rate bytes = latest_low limit (λ y at. min (at + ceiling ((length bytes - y) * ticks) rate) limit) 0 (instants_of bytes) (λ y at. omega arith)
 
-ceiling_mono : (a b d : ℕ) → 0 < d → a ≤ b → ceiling a d ≤ ceiling b d
-ceiling_mono a b d some le =
+pub ceiling-mono : (a b d : ℕ) → 0 < d → a ≤ b → ceiling a d ≤ ceiling b d
+ceiling-mono a b d some le =
     let m = div-mul-le_self (a + (d - 1)) d in
     le-div (ceiling a d) (b + (d - 1)) d some (omega arith)
 
@@ -90,7 +90,7 @@ rate_rises limit ticks rate some front b =
     later y x =
         let n = length_push front b in
         let k : length front - y ≤ length (front ++ b ∷ []) - y = omega arith in
-        let m : ceiling ((length front - y) * ticks) rate ≤ ceiling ((length (front ++ b ∷ []) - y) * ticks) rate = ceiling_mono _ _ rate some (mul-le-mul_right ticks k) in
+        let m : ceiling ((length front - y) * ticks) rate ≤ ceiling ((length (front ++ b ∷ []) - y) * ticks) rate = ceiling-mono _ _ rate some (mul-le-mul_right ticks k) in
         omega arith
 
 -- and not before its own instant

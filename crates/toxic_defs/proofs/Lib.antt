@@ -2,7 +2,7 @@ pub mod FirstBytes
 pub mod KeptParts
 pub mod CutLines
 pub mod WordStates
-pub mod LastBytes
+pub mod Parts
 pub mod Latest
 pub mod MovedParts
 pub mod LateChunks

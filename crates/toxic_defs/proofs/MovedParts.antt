@@ -1,12 +1,13 @@
 -- Bytes at other instants, as parts have them.
 use Rattle.std.proofs.Common.{◌≡◌, ◌<◌, ℕ, suc, ◌+◌, Bool, true, false, cond, ◌&&◌, nat_lt, List, [], ◌∷◌, ◌++◌, length, take, drop, get_or, set, refl, sym, ap, ◌∙◌, arith, append_assoc}
-use Rattle.std.proofs.lemmas.List.{append-nil, take_more, take_more_set, drop_more, drop-set-lt, drop-drop, get_or-drop}
+use Rattle.std.proofs.lemmas.List.{append-nil, take_more_set}
 use Rattle.std.proofs.lemmas.Bool.{lt-ltb, false≢true}
 use Rattle.std.proofs.lemmas.List.Concat.{flat_map-append}
 use Rattle.reassembly.specs.RecordedLines.{LineByte}
 use Rattle.reassembly.specs.LineView.{bytes_of_part, bytes_of_parts, bytes_with_mark, bytes_without_mark}
 use Rattle.reassembly.specs.declared.line_parts.LinePart.{LinePart}
 use Rattle.toxic_defs.specs.DelayedBytes.{begins, at_instant, along, moved}
+use Rattle.toxic_defs.proofs.Parts.{front_there}
 
 -- ---- where chunks begin
 
@@ -58,31 +59,6 @@ along_part g before at s (b ∷ bytes) =
 
 -- ---- a pass over parts in place
 
--- the part at a place that is not written yet
-pub read_there : (parts initial : List LinePart) (i : ℕ) (d : LinePart) → i < length parts → drop i parts ≡ drop i initial
-    → drop i initial ≡ get_or parts i d ∷ drop (i + 1) parts
-read_there parts initial i d lt rest = sym rest ∙ drop_more parts i d lt
-
-pub rest_there : (parts initial : List LinePart) (i : ℕ) (q : LinePart) → drop i parts ≡ drop i initial → drop (i + 1) (set parts i q) ≡ drop (i + 1) initial
-rest_there parts initial i q rest = drop-set-lt (i + 1) parts i q (omega arith) ∙ sym (drop-drop 1 i parts) ∙ ap (drop 1) rest ∙ drop-drop 1 i initial
-
--- the parts in front, with that part
-pub taken_there : (parts initial : List LinePart) (i : ℕ) (d : LinePart) → i < length parts → i < length initial → drop i parts ≡ drop i initial
-    → take (i + 1) initial ≡ take i initial ++ get_or parts i d ∷ []
-taken_there parts initial i d lt lt' rest =
-    let e : i + 0 ≡ i = omega arith in
-    let same : get_or initial i d ≡ get_or parts i d =
-    ap (λ n. get_or initial n d) (sym e) ∙ sym (get_or-drop i initial 0 d) ∙ ap (λ (ps : List LinePart). get_or ps 0 d) (read_there parts initial i d lt rest) in
-    take_more initial i d lt' ∙ ap (λ (q : LinePart). take i initial ++ q ∷ []) same
-
--- and their bytes
-pub front_there : (parts initial : List LinePart) (i : ℕ) (d : LinePart) → i < length parts → i < length initial → drop i parts ≡ drop i initial
-    → bytes_of_parts (take (i + 1) initial) ≡ bytes_of_parts (take i initial) ++ bytes_of_part (get_or parts i d)
-front_there parts initial i d lt lt' rest =
-    let p : LinePart = get_or parts i d in
-    ap bytes_of_parts (taken_there parts initial i d lt lt' rest) ∙ flat_map-append bytes_of_part (take i initial) (p ∷ [])
-    ∙ ap (λ bs. bytes_of_parts (take i initial) ++ bs) (append-nil (bytes_of_part p))
-
 -- the bytes in front once more than that part was written
 pub written_there : (parts initial : List LinePart) (i : ℕ) (d q : LinePart) (leaves : List LineByte → ℕ) → i < length parts → i < length initial → drop i parts ≡ drop i initial
     → bytes_of_parts (take i parts) ≡ moved leaves (bytes_of_parts (take i initial)) → bytes_of_part q ≡ along leaves (bytes_of_parts (take i initial)) (bytes_of_part (get_or parts i d))
@@ -92,9 +68,9 @@ written_there parts initial i d q leaves lt lt' rest done step =
     let p : LinePart = get_or parts i d in
     ap bytes_of_parts (take_more_set parts i q lt) ∙ flat_map-append bytes_of_part (take i parts) (q ∷ [])
     ∙ ap (λ bs. bytes_of_parts (take i parts) ++ bs) (append-nil (bytes_of_part q) ∙ step) ∙ ap (λ bs. bs ++ along leaves front (bytes_of_part p)) done
-    ∙ sym (moved-append leaves front (bytes_of_part p)) ∙ ap (moved leaves) (sym (front_there parts initial i d lt lt' rest))
+    ∙ sym (moved-append leaves front (bytes_of_part p)) ∙ ap (moved leaves) (sym (front_there parts initial i d lt' rest))
 
--- ---- chunks in front
+-- ---- one part more
 
 -- a part that begins a chunk
 pub begins_one_more : (front : List LineByte) (at : ℕ) (s : Bool) (bytes : List ℕ) → (s && nat_lt 0 (length bytes)) ≡ true

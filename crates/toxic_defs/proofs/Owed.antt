@@ -1,21 +1,15 @@
 -- What the wire has to do, in parts of 1/rate tick, and when it has done it.
 use Rattle.std.proofs.Common.{◌≡◌, ◌≤◌, ◌<◌, ◌⊎◌, inl, inr, ℕ, suc, ◌+◌, ◌-◌, ◌*◌, ◌/◌, min, max, Bool, false, List, [], ◌∷◌, ◌++◌, length, sym, ap, ◌∙◌, arith, append_assoc}
-use Rattle.std.proofs.Math.Nat.{add-mul-div_right, div-mul-le_self, le_trans}
-use Rattle.std.proofs.lemmas.Nat.{le-div}
+use Rattle.std.proofs.Math.Nat.{add-mul-div_right}
 use Rattle.std.proofs.lemmas.List.{map-append, length_push, append-nil, length-map}
 use Rattle.reassembly.specs.RecordedLines.{LineByte}
 use Rattle.reassembly.specs.LineView.{bytes_with_mark, bytes_without_mark}
 use Rattle.toxic_defs.specs.DelayedBytes.{latest, instants_of}
 use Rattle.toxic_defs.specs.Bandwidth.{ceiling, bandwidth_leaves}
 use Rattle.toxic_defs.proofs.Latest.{latest-push, latest-along}
+use Rattle.toxic_defs.proofs.LatestLaws.{ceiling-mono}
 
 -- ---- quotients
-
-div-mono : (a b d : ℕ) → 0 < d → a ≤ b → a / d ≤ b / d
-div-mono a b d some le = le-div (a / d) b d some (le_trans (div-mul-le_self a d) le)
-
-pub ceiling-mono : (a b d : ℕ) → 0 < d → a ≤ b → ceiling a d ≤ ceiling b d
-ceiling-mono a b d some le = div-mono (a + (d - 1)) (b + (d - 1)) d some (omega arith)
 
 ceiling-add : (at m d : ℕ) → 0 < d → ceiling (d * at + m) d ≡ at + ceiling m d
 ceiling-add at m d some =

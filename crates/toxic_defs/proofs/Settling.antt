@@ -8,19 +8,7 @@ use Rattle.toxic_defs.specs.DelayedBytes.{at_instant, along}
 use Rattle.toxic_defs.specs.Bandwidth.{joined, settled, charged, going_on, settled_parts}
 use Rattle.toxic_defs.specs.Slices.{IsFilled, AreFilled}
 use Rattle.toxic_defs.proofs.MovedParts.{along-append}
-
--- when bytes leave that are there at `at`, with those behind them
-abbrev pub leaving : ℕ → List LineByte → ℕ
-leaving at [] = at
-leaving at (b ∷ bytes) = cond b.starts at b.at
-
-joined_is : (b : LineByte) (bytes : List LineByte) → joined b bytes ≡ at_instant (leaving b.at bytes) b
-joined_is b [] = refl
-joined_is b (x ∷ bytes) = by x.starts
-  where
-    by : (s : Bool) → cond s b (at_instant x.at b) ≡ at_instant (cond s b.at x.at) b
-    by true = refl
-    by false = refl
+use Rattle.toxic_defs.proofs.SliceLaws.{leaving, joined_is}
 
 -- all bytes of a part leave with the last one
 settled_part : (leaves : List LineByte → ℕ) (before : List LineByte) (at : ℕ) (x : LineByte) (bytes : List ℕ) (behind : List LineByte)

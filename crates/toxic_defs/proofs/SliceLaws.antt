@@ -1,5 +1,5 @@
 -- Bytes in smaller chunks: what slicing and settling keep.
-use Rattle.std.proofs.Common.{◌≡◌, ◌≤◌, ℕ, suc, ◌+◌, ◌-◌, ◌==◌, ◌||◌, Bool, true, false, cond, List, [], ◌∷◌, length, refl, ap, ◌∙◌}
+use Rattle.std.proofs.Common.{◌≡◌, ◌≤◌, ℕ, suc, ◌+◌, ◌-◌, sym, arith, ◌==◌, ◌||◌, Bool, true, false, cond, List, [], ◌∷◌, length, refl, ap, ◌∙◌}
 use Rattle.std.proofs.Math.Nat.{le_trans, le_refl}
 use Rattle.reassembly.specs.RecordedLines.{LineByte}
 use Rattle.reassembly.specs.LineLaws.{GoesOn, IsInChunks}
@@ -7,92 +7,105 @@ use Rattle.toxic_defs.specs.DelayedBytes.{at_instant}
 use Rattle.toxic_defs.specs.Slices.{sliced}
 use Rattle.toxic_defs.specs.Bandwidth.{joined, settled}
 use Rattle.toxic_defs.specs.Laws.{DelaysFront, AreUpTo}
+use Rattle.toxic_defs.proofs.FirstBytes.{chunks_go_on}
+use Rattle.toxic_defs.proofs.KeptBytes.{KeepsBytes}
 use Rattle.toxic_defs.proofs.MovedLaws.{NeverFalls, Starts}
 
 -- ---- sliced
 
--- a byte that starts a slice
-abbrev started : LineByte → LineByte
-started b = record { value = b.value; at = b.at; starts = true }
+-- the same bytes at the same instants, of which more start chunks
+abbrev OnlyMarked : List LineByte → List LineByte → Type 0
+OnlyMarked [] bytes = bytes ≡ []
+OnlyMarked (c ∷ cut) [] = ⊥
+OnlyMarked (c ∷ cut) (b ∷ bytes) = (c.value ≡ b.value) × (c.at ≡ b.at) × (c.starts ≡ false → b.starts ≡ false) × OnlyMarked cut bytes
 
-pub length-sliced : (size : ℕ → ℕ) (k left : ℕ) (bytes : List LineByte) → length (sliced size k left bytes) ≡ length bytes
-length-sliced size k left [] = refl
-length-sliced size k left (b ∷ bytes) = by_test (b.starts || left == 0) (length-sliced size (k + 1) (size k - 1) bytes) (length-sliced size k (left - 1) bytes)
+only_marked : (size : ℕ → ℕ) (k left : ℕ) (bytes : List LineByte) → OnlyMarked (sliced size k left bytes) bytes
+only_marked size k left [] = refl
+only_marked size k left (b ∷ bytes) = by_test (b.starts || left == 0) (only_marked size (k + 1) (size k - 1) bytes) (only_marked size k (left - 1) bytes)
   where
-    by_test : (t : Bool) → length (sliced size (k + 1) (size k - 1) bytes) ≡ length bytes → length (sliced size k (left - 1) bytes) ≡ length bytes
-        → length (cond t (started b ∷ sliced size (k + 1) (size k - 1) bytes) (b ∷ sliced size k (left - 1) bytes)) ≡ suc (length bytes)
-    by_test true next on = ap suc next
-    by_test false next on = ap suc on
+    by_test : (t : Bool) → OnlyMarked (sliced size (k + 1) (size k - 1) bytes) bytes → OnlyMarked (sliced size k (left - 1) bytes) bytes
+        → OnlyMarked (cond t (record { value = b.value; at = b.at; starts = true } ∷ sliced size (k + 1) (size k - 1) bytes) (b ∷ sliced size k (left - 1) bytes)) (b ∷ bytes)
+    by_test true next on = (refl, refl, (λ h. absurd (cc h)), next)
+    by_test false next on = (refl, refl, (λ h. h), on)
 
-pub sliced_goes_on : (size : ℕ → ℕ) (k left last : ℕ) (bytes : List LineByte) → GoesOn last bytes → GoesOn last (sliced size k left bytes)
-sliced_goes_on size k left last [] go = tt
-sliced_goes_on size k left last (b ∷ bytes) go =
-    by_test (b.starts || left == 0) (sliced_goes_on size (k + 1) (size k - 1) b.at bytes go.2) (sliced_goes_on size k (left - 1) b.at bytes go.2)
+marked_length : (cut bytes : List LineByte) → OnlyMarked cut bytes → length cut ≡ length bytes
+marked_length [] bytes m = ap length (sym m)
+marked_length (c ∷ cut) [] m = absurd m
+marked_length (c ∷ cut) (b ∷ bytes) m = ap suc (marked_length cut bytes m.3)
+
+marked_goes_on : (last : ℕ) (cut bytes : List LineByte) → OnlyMarked cut bytes → GoesOn last bytes → GoesOn last cut
+marked_goes_on last [] bytes m go = tt
+marked_goes_on last (c ∷ cut) [] m go = absurd m
+marked_goes_on last (c ∷ cut) (b ∷ bytes) m go = rw m.1 (go.0, (λ h. go.1 (m.2 h)), marked_goes_on b.at cut bytes m.3 go.2)
+
+marked_up_to : (limit : ℕ) (cut bytes : List LineByte) → OnlyMarked cut bytes → AreUpTo limit bytes → AreUpTo limit cut
+marked_up_to limit [] bytes m up = tt
+marked_up_to limit (c ∷ cut) [] m up = absurd m
+marked_up_to limit (c ∷ cut) (b ∷ bytes) m up = (rw m.1 up.0, marked_up_to limit cut bytes m.3 up.1)
+
+marked_front : (cut bytes : List LineByte) → OnlyMarked cut bytes → DelaysFront cut bytes
+marked_front [] bytes m = tt
+marked_front (c ∷ cut) [] m = absurd m
+marked_front (c ∷ cut) (b ∷ bytes) m = (m.0, rw m.1 (le_refl b.at), marked_front cut bytes m.3)
+
+pub length-sliced : (size : ℕ → ℕ) (bytes : List LineByte) → length (sliced size 0 0 bytes) ≡ length bytes
+length-sliced size bytes = marked_length (sliced size 0 0 bytes) bytes (only_marked size 0 0 bytes)
+
+first_marked : (size : ℕ → ℕ) (bytes : List LineByte) → Starts (sliced size 0 0 bytes)
+first_marked size [] = tt
+first_marked size (b ∷ bytes) = by_mark b.starts
   where
-    by_test : (t : Bool) → GoesOn b.at (sliced size (k + 1) (size k - 1) bytes) → GoesOn b.at (sliced size k (left - 1) bytes)
-        → GoesOn last (cond t (started b ∷ sliced size (k + 1) (size k - 1) bytes) (b ∷ sliced size k (left - 1) bytes))
-    by_test true next on = (go.0, (λ h. absurd (cc h)), next)
-    by_test false next on = (go.0, go.1, on)
+    by_mark : (s : Bool) → Starts (cond (s || 0 == 0) (record { value = b.value; at = b.at; starts = true } ∷ sliced size (0 + 1) (size 0 - 1) bytes) (b ∷ sliced size 0 (0 - 1) bytes))
+    by_mark true = refl
+    by_mark false = refl
 
-pub sliced_in_chunks : (size : ℕ → ℕ) (bytes : List LineByte) → IsInChunks bytes → IsInChunks (sliced size 0 0 bytes)
-sliced_in_chunks size [] go = tt
-sliced_in_chunks size (b ∷ bytes) go = by_test b.starts go.0
-  where
-    next : GoesOn b.at (sliced size 1 (size 0 - 1) bytes)
-    next = sliced_goes_on size 1 (size 0 - 1) b.at bytes go.1
+in_chunks : (bytes : List LineByte) → Starts bytes → GoesOn 0 bytes → IsInChunks bytes
+in_chunks [] s go = tt
+in_chunks (b ∷ bytes) s go = (s, go.2)
 
-    by_test : (s : Bool) → s ≡ true → IsInChunks (cond (s || 0 == 0) (started b ∷ sliced size (0 + 1) (size 0 - 1) bytes) (b ∷ sliced size 0 (0 - 1) bytes))
-    by_test true e = (refl, next)
-    by_test false e = (refl, next)
-
-pub sliced_up_to : (limit : ℕ) (size : ℕ → ℕ) (k left : ℕ) (bytes : List LineByte) → AreUpTo limit bytes → AreUpTo limit (sliced size k left bytes)
-sliced_up_to limit size k left [] up = tt
-sliced_up_to limit size k left (b ∷ bytes) up =
-    by_test (b.starts || left == 0) (sliced_up_to limit size (k + 1) (size k - 1) bytes up.1) (sliced_up_to limit size k (left - 1) bytes up.1)
-  where
-    by_test : (t : Bool) → AreUpTo limit (sliced size (k + 1) (size k - 1) bytes) → AreUpTo limit (sliced size k (left - 1) bytes)
-        → AreUpTo limit (cond t (started b ∷ sliced size (k + 1) (size k - 1) bytes) (b ∷ sliced size k (left - 1) bytes))
-    by_test true next on = (up.0, next)
-    by_test false next on = (up.0, on)
-
--- only marks change
-pub sliced_front : (size : ℕ → ℕ) (k left : ℕ) (bytes : List LineByte) → DelaysFront (sliced size k left bytes) bytes
-sliced_front size k left [] = tt
-sliced_front size k left (b ∷ bytes) = by_test (b.starts || left == 0) (sliced_front size (k + 1) (size k - 1) bytes) (sliced_front size k (left - 1) bytes)
-  where
-    by_test : (t : Bool) → DelaysFront (sliced size (k + 1) (size k - 1) bytes) bytes → DelaysFront (sliced size k (left - 1) bytes) bytes
-        → DelaysFront (cond t (started b ∷ sliced size (k + 1) (size k - 1) bytes) (b ∷ sliced size k (left - 1) bytes)) (b ∷ bytes)
-    by_test true next on = (refl, le_refl b.at, next)
-    by_test false next on = (refl, le_refl b.at, on)
+pub sliced_keeps : (limit : ℕ) (size : ℕ → ℕ) (bytes : List LineByte) → IsInChunks bytes → KeepsBytes limit bytes (sliced size 0 0 bytes)
+sliced_keeps limit size bytes go =
+    let cut : List LineByte = sliced size 0 0 bytes in
+    let marked : OnlyMarked cut bytes = only_marked size 0 0 bytes in
+    let n = length-sliced size bytes in
+    record {
+      chunks = in_chunks cut (first_marked size bytes) (marked_goes_on 0 cut bytes marked (chunks_go_on bytes go));
+      short = omega arith;
+      in_time = marked_up_to limit cut bytes marked;
+      delays = λ up. marked_front cut bytes marked;
+    }
 
 -- ---- settled
 
-joined_mark : (b : LineByte) (bytes : List LineByte) → (joined b bytes).starts ≡ b.starts
-joined_mark b [] = refl
-joined_mark b (next ∷ bytes) = by_test next.starts
+-- when a byte leaves that is there at `at`, with those after it
+abbrev pub leaving : ℕ → List LineByte → ℕ
+leaving at [] = at
+leaving at (b ∷ bytes) = cond b.starts at b.at
+
+pub joined_is : (b : LineByte) (bytes : List LineByte) → joined b bytes ≡ at_instant (leaving b.at bytes) b
+joined_is b [] = refl
+joined_is b (x ∷ bytes) = by x.starts
   where
-    by_test : (t : Bool) → (cond t b (at_instant next.at b)).starts ≡ b.starts
-    by_test true = refl
-    by_test false = refl
+    by : (s : Bool) → cond s b (at_instant x.at b) ≡ at_instant (cond s b.at x.at) b
+    by true = refl
+    by false = refl
+
+joined_mark : (b : LineByte) (bytes : List LineByte) → (joined b bytes).starts ≡ b.starts
+joined_mark b bytes = ap (λ (x : LineByte). x.starts) (joined_is b bytes)
 
 joined_value : (b : LineByte) (bytes : List LineByte) → (joined b bytes).value ≡ b.value
-joined_value b [] = refl
-joined_value b (next ∷ bytes) = by_test next.starts
-  where
-    by_test : (t : Bool) → (cond t b (at_instant next.at b)).value ≡ b.value
-    by_test true = refl
-    by_test false = refl
+joined_value b bytes = ap (λ (x : LineByte). x.value) (joined_is b bytes)
 
--- a byte in front of settled ones: it is not earlier than it was, and they go on behind it
-pub record GoesBehind (b : LineByte) (bytes : List LineByte) : Type 0 where
+-- a byte before settled ones: it is not earlier than it was, and they go on after it
+pub record GoesAfter (b : LineByte) (bytes : List LineByte) : Type 0 where
   pub later : b.at ≤ (joined b bytes).at
   pub goes : GoesOn (joined b bytes).at bytes
 
--- in front of a byte c, with which the slice goes on or another one starts
-behind_one : (b c : LineByte) (bytes : List LineByte) → b.at ≤ c.at → GoesOn c.at bytes → GoesBehind b (c ∷ bytes)
-behind_one b c bytes later goes = by_mark c.starts refl
+-- before a byte c, with which the slice goes on or another one starts
+before_one : (b c : LineByte) (bytes : List LineByte) → b.at ≤ c.at → GoesOn c.at bytes → GoesAfter b (c ∷ bytes)
+before_one b c bytes later goes = by_mark c.starts refl
   where
-    by_mark : (t : Bool) → c.starts ≡ t → GoesBehind b (c ∷ bytes)
+    by_mark : (t : Bool) → c.starts ≡ t → GoesAfter b (c ∷ bytes)
     by_mark true e =
         let same : joined b (c ∷ bytes) ≡ b = ap (λ t. cond t b (at_instant c.at b)) e in
         record {
@@ -106,11 +119,11 @@ behind_one b c bytes later goes = by_mark c.starts refl
           goes = rw moved (le_refl c.at, (λ h. refl), goes);
         }
 
-settled_goes : (b : LineByte) (bytes : List LineByte) → NeverFalls b.at bytes → GoesBehind b (settled bytes)
+settled_goes : (b : LineByte) (bytes : List LineByte) → NeverFalls b.at bytes → GoesAfter b (settled bytes)
 settled_goes b [] never = record { later = le_refl b.at; goes = tt }
 settled_goes b (next ∷ bytes) never =
     let rest = settled_goes next bytes never.1 in
-    behind_one b (joined next (settled bytes)) (settled bytes) (le_trans never.0 rest.later) rest.goes
+    before_one b (joined next (settled bytes)) (settled bytes) (le_trans never.0 rest.later) rest.goes
 
 pub settled_in_chunks : (bytes : List LineByte) → Starts bytes → NeverFalls 0 bytes → IsInChunks (settled bytes)
 settled_in_chunks [] s never = tt

@@ -6,10 +6,7 @@ use Rattle.reassembly.specs.RecordedLines.{LineByte}
 use Rattle.reassembly.specs.LineView.{bytes_with_mark, bytes_without_mark}
 use Rattle.toxic_defs.specs.Slices.{sliced, GivesSizes, CutOn}
 use Rattle.toxic_defs.specs.declared.slices.Sizes.{Sizes}
-
-unmarked : (at : ℕ) (bytes : List ℕ) → bytes_without_mark at bytes ≡ bytes_with_mark at false bytes
-unmarked at [] = refl
-unmarked at (b ∷ bytes) = refl
+use Rattle.toxic_defs.proofs.Parts.{unmarked}
 
 -- n bytes of a part that go on with a slice
 going_on : (size : ℕ → ℕ) (k at n left : ℕ) (bytes : List ℕ) (behind : List LineByte) → n ≤ left → n ≤ length bytes
@@ -40,9 +37,6 @@ pub goes_on_here : (size : ℕ → ℕ) (k at n left : ℕ) (starts : Bool) (byt
 goes_on_here size k at n left true bytes behind going le le' = absurd cc
 goes_on_here size k at n left false bytes behind going le le' =
     rw (← unmarked at bytes, ← unmarked at (take n bytes), ← unmarked at (drop n bytes)) (going_on size k at n left bytes behind le le')
-
-pub cut_none : (size : ℕ → ℕ) (k left : ℕ) (before bytes : List LineByte) (sizes : Sizes) → GivesSizes sizes size k → CutOn size k left before bytes sizes left before bytes
-cut_none size k left before bytes sizes gives = record { number = k; gives = gives; same = λ behind. refl }
 
 -- all is cut
 pub cut_all : (size : ℕ → ℕ) (k left : ℕ) (before bytes : List LineByte) (sizes : Sizes) (more : ℕ) (now : List LineByte) (at : ℕ) (starts : Bool) (rest : List ℕ)
@@ -96,9 +90,6 @@ pub record LeftOver (size : ℕ → ℕ) (bytes : List LineByte) (sizes : Sizes)
   pub number : ℕ
   pub gives : GivesSizes sizes size number
   pub same : now ++ sliced size number more rest ≡ sliced size 0 0 bytes
-
-pub over_none : (size : ℕ → ℕ) (bytes : List LineByte) (sizes : Sizes) → GivesSizes sizes size 0 → LeftOver size bytes sizes 0 [] bytes
-over_none size bytes sizes gives = record { number = 0; gives = gives; same = refl }
 
 -- one part more
 pub over_more : (size : ℕ → ℕ) (bytes ours : List LineByte) (sizes sizes' : Sizes) (more more' : ℕ) (now now' rest rest' : List LineByte) → rest ≡ ours ++ rest'

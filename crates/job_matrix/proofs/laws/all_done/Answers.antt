@@ -1,4 +1,4 @@
-use Rattle.job_matrix.proofs.WorldKept.{all_done}
+use Rattle.job_matrix.proofs.Worlds.{all_done}
 use Rattle.job_matrix.proofs.laws.all_done.Goals as goal
 
 pub returns : goal.returns

@@ -1,4 +1,4 @@
-use Rattle.job_matrix.proofs.WorldKept.{any_order}
+use Rattle.job_matrix.proofs.Worlds.{any_order}
 use Rattle.job_matrix.proofs.laws.any_order.Goals as goal
 
 pub returns : goal.returns

@@ -1,4 +1,4 @@
-use Rattle.job_matrix.proofs.Reordered.{tray_is_filled}
+use Rattle.job_matrix.proofs.Worlds.{tray_is_filled}
 use Rattle.job_matrix.proofs.laws.tray_is_filled.Goals as goal
 
 pub returns : goal.returns

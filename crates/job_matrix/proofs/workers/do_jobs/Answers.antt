@@ -1,5 +1,5 @@
 use Rattle.std.proofs.Common.{ap, arith}
-use Rattle.job_matrix.proofs.Claimed.{above_all, above_all-append, above_all-le}
+use Rattle.job_matrix.proofs.Sums.{above_all, above_all-append, above_all-le}
 use Rattle.job_matrix.proofs.workers.do_jobs.Goals as goal
 
 pub claims-smaller : goal.claims-smaller

@@ -1,6 +1,6 @@
 use Rattle.std.proofs.Common.{◌≡◌, ◌-◌}
-use Rattle.job_matrix.specs.Filling.{with_values}
-use Rattle.job_matrix.proofs.Claimed.{above_all}
+use Rattle.job_matrix.specs.Trays.{with_values}
+use Rattle.job_matrix.proofs.Sums.{above_all}
 use Rattle.job_matrix.proofs.workers.do_jobs.Given as goal
 
 abbrev pub invariant-claims : goal.invariant-claims

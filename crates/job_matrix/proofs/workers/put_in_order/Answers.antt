@@ -8,7 +8,7 @@ loop-job-preserved g c =
     let next = c.in-Some.ensures.steps.0 in
     let d : ℕ × _ = (c.in-Some.job, c.in-Some.value) in
     record {
-      filled = rw (put_each-append (replicate c.args.count None) c.loop-job.yielded d) (rw filled at c.put.ensures.places);
+      filled = rw (put_each-append (replicate c.args.count None) c.loop-job.yielded d) (rw filled at c.put.ensures.slots);
       whole = rw append_assoc (rw next at c.loop-job.invariant.whole);
     }
 

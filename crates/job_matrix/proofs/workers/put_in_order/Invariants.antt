@@ -1,5 +1,5 @@
 use Rattle.std.proofs.Common.{◌≡◌, ◌++◌, replicate, None}
-use Rattle.job_matrix.specs.Filling.{put_each}
+use Rattle.job_matrix.specs.Trays.{put_each}
 use Rattle.job_matrix.proofs.workers.put_in_order.Given as goal
 
 abbrev pub invariant-loop-job : goal.invariant-loop-job

@@ -1,6 +1,6 @@
 use Rattle.std.proofs.Common.{ℕ, List, ap, sym, subst, ◌∙◌}
 use Rattle.job_matrix.specs.Counting.{times, CountsBelow}
-use Rattle.job_matrix.specs.Filling.{jobs_in, AreRight}
+use Rattle.job_matrix.specs.Trays.{jobs_in, AreRight}
 use Rattle.job_matrix.proofs.FilledTrays.{jobs_with_values, with_values_right, values_in_order}
 use Rattle.job_matrix.proofs.workers.work_all.Goals as goal
 

@@ -1,7 +1,8 @@
 use Rattle.std.proofs.Common.{◌≡◌, ◌<◌, ◌+◌, length, max, refl, sym, ap, ap₂, ◌∙◌, arith}
 use Rattle.range_workers.specs.Ranges.{range_in}
 use Rattle.range_workers.specs.declared.ranges.Range.{Range}
-use Rattle.range_workers.proofs.Chains.{one_more, carried_on}
+use Rattle.conn_table.proofs.RangeSteps.{carried-append}
+use Rattle.range_workers.proofs.Chains.{one_more}
 use Rattle.range_workers.proofs.ranges.ranges_of.Goals as goal
 
 pub cuts-preserved : goal.cuts-preserved
@@ -16,6 +17,6 @@ cuts-preserved c =
       c.cuts.invariant.0,
       omega (arith, within, c.cuts.invariant.0),
       omega (arith, at, c.requires, c.cuts.invariant.2, c.in_ok-push.ensures.len),
-      c.greater-carry.ensures ∙ ap₂ max c.cuts.invariant.3 c.peak.ensures ∙ sym (carried_on capture from c.min.result to refl),
+      c.greater-carry.ensures ∙ ap₂ max c.cuts.invariant.3 c.peak.ensures ∙ sym (carried-append capture 0 from to 0 (omega arith) (omega arith)),
       one_more capture c.args.cut from to c.cuts.ranges.items c.push.new.self.items r c.cuts.invariant.4 is at within c.in_ok-push.ensures.items,
     )

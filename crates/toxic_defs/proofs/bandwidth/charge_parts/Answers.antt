@@ -1,4 +1,4 @@
-use Rattle.std.proofs.Common.{◌≡◌, ◌≤◌, ◌<◌, ℕ, ◌+◌, ◌-◌, ◌*◌, ◌/◌, min, max, List, ◌++◌, length, take, get_or, arith, sym, ap, ◌∙◌}
+use Rattle.std.proofs.Common.{◌≡◌, ◌≤◌, ◌<◌, ℕ, ◌+◌, ◌-◌, ◌*◌, ◌/◌, min, max, List, ◌++◌, length, take, get_or, arith, length-append, sym, ap, ◌∙◌}
 use Rattle.std.proofs.lemmas.List.Elements.{All-set}
 use Rattle.pcap_records.specs.Instants.{horizon, microseconds}
 use Rattle.reassembly.specs.RecordedLines.{LineByte}
@@ -6,7 +6,7 @@ use Rattle.reassembly.specs.LineView.{bytes_of_part, bytes_of_parts}
 use Rattle.reassembly.specs.declared.line_parts.LinePart.{LinePart}
 use Rattle.toxic_defs.specs.Bandwidth.{ceiling, bandwidth_leaves, part_at}
 use Rattle.toxic_defs.specs.Slices.{IsFilled}
-use Rattle.toxic_defs.proofs.MovedParts.{rest_there, front_there}
+use Rattle.toxic_defs.proofs.Parts.{length_marked, rest_there, front_there}
 use Rattle.toxic_defs.proofs.Owed.{owed_of, owed_part}
 use Rattle.toxic_defs.proofs.ChargedFronts.{fronts, charged_there, own_small, leaves_there}
 use Rattle.toxic_defs.proofs.bandwidth.charge_parts.Goals as goal
@@ -23,22 +23,22 @@ overflow_add-busy c =
     let i : ℕ = c.loop-part.part-index in
     let p : LinePart = get_or c.loop-part.parts i c.part-item.result in
     let inv = c.loop-part.invariant in
-    let there = fronts c.loop-part.parts c.args.parts.now i c.part-item.result (omega arith) (omega arith) inv.rest in
+    let there = fronts c.loop-part.parts c.args.parts.now i c.part-item.result (omega arith) inv.rest in
     let short = c.requires.short in
     let small = busy_small c.args.rate p.at c.from-rate.result c.count.result c.max.result c.loop-part.busy (length (bytes_of_parts (take i c.args.parts.now))) (length p.bytes.now)
     c.from-rate.ensures c.count.ensures c.requires.rate c.count.type_inv (rw c.from.ensures at c.max.ensures) inv.small in
-    omega (arith, small, there.more, there.within, short)
+    omega (arith, small, there, short)
 
 pub overflow_add-leaves : goal.overflow_add-leaves
 overflow_add-leaves c =
     let i : ℕ = c.loop-part.part-index in
     let p : LinePart = get_or c.loop-part.parts i c.part-item.result in
     let inv = c.loop-part.invariant in
-    let there = fronts c.loop-part.parts c.args.parts.now i c.part-item.result (omega arith) (omega arith) inv.rest in
+    let there = fronts c.loop-part.parts c.args.parts.now i c.part-item.result (omega arith) inv.rest in
     let short = c.requires.short in
     let small = busy_small c.args.rate p.at c.from-rate.result c.count.result c.max.result c.loop-part.busy (length (bytes_of_parts (take i c.args.parts.now))) (length p.bytes.now)
     c.from-rate.ensures c.count.ensures c.requires.rate c.count.type_inv (rw c.from.ensures at c.max.ensures) inv.small in
-    omega (arith, small, there.more, there.within, short)
+    omega (arith, small, there, short)
 
 pub loop-part-preserved : goal.loop-part-preserved
 loop-part-preserved c =
@@ -53,8 +53,8 @@ loop-part-preserved c =
     let lt : i < length ps = omega arith in
     let lt' : i < length initial = omega arith in
     let filled : 0 < length p.bytes.now = inv.filled i c.part-item.result lt in
-    let there : bytes_of_parts (take (i + 1) initial) ≡ front ++ bytes_of_part p = front_there ps initial i c.part-item.result lt lt' inv.rest in
-    let counts = fronts ps initial i c.part-item.result lt lt' inv.rest in
+    let there : bytes_of_parts (take (i + 1) initial) ≡ front ++ bytes_of_part p = front_there ps initial i c.part-item.result lt' inv.rest in
+    let more : length (bytes_of_parts (take (i + 1) initial)) ≡ length front + length p.bytes.now = ap length there ∙ length-append front (bytes_of_part p) ∙ ap (λ n. length front + n) (length_marked p.at p.starts p.bytes.now) in
     let small = busy_small rate p.at c.from-rate.result c.count.result c.max.result c.loop-part.busy (length front) (length p.bytes.now)
     c.from-rate.ensures c.count.ensures c.requires.rate c.count.type_inv (rw c.from.ensures at c.max.ensures) inv.small in
     let own : c.max.result ≡ max (rate * p.at) (owed_of rate 1000 front) =
@@ -73,5 +73,5 @@ loop-part-preserved c =
       rest = rest_there ps initial i (part_at c.of-part.result p) inv.rest;
       charged = charged_there (bandwidth_leaves limit 1000 rate) ps initial i c.of-part.result c.part-item.result lt lt' inv.rest inv.charged at;
       busy = ap (λ m. m + 1000 * length p.bytes.now) own ∙ sums ∙ sym (owed_part rate 1000 p.at p.starts front p.bytes.now filled) ∙ ap (owed_of rate 1000) (sym there);
-      small = omega (arith, small, counts.more);
+      small = omega (arith, small, more);
     }

@@ -11,6 +11,6 @@ pass_chunks-requires-clause-short c =
     let pieces : bytes_of_parts c.deref_mut.result.now ≡ sliced size 0 0 c.args.line.line.bytes =
     ap bytes_of_parts c.deref_mut.ensures.value ∙ c.in_ok-pieces.ensures.bytes size c.same-sizes.ensures.sizes
     ∙ ap (sliced size 0 0) (ap bytes_of_parts c.deref.ensures.value ∙ c.into_parts-parts.ensures) in
-    let n = length-sliced size 0 0 c.args.line.line.bytes in
+    let n = length-sliced size c.args.line.line.bytes in
     let short = c.requires.line.short in
     rw pieces (omega (arith, n, short))

@@ -1,7 +1,7 @@
 use Rattle.std.proofs.Common.{◌≡◌, ◌<◌, ◌-◌, length, get_or, arith, rules, sym, ap, ◌∙◌, subst}
 use Rattle.std.proofs.lemmas.Bool.Decides.{nat_tests}
 use Rattle.reassembly.specs.declared.line_parts.LinePart.{LinePart}
-use Rattle.toxic_defs.proofs.LastBytes.{none_more, last_found}
+use Rattle.toxic_defs.proofs.Parts.{none_more, last_found}
 use Rattle.toxic_defs.proofs.end_rule.last_instant.Goals as goal
 
 pub returns-then-not-is_empty : goal.returns-then-not-is_empty

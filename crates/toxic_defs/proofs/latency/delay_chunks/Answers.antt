@@ -8,7 +8,8 @@ use Rattle.toxic_defs.specs.DelayedBytes.{begins, latest}
 use Rattle.toxic_defs.specs.Latency.{latency_leaves, drawn_delay}
 use Rattle.toxic_defs.specs.DrawnNumbers.{GivesNext}
 use Rattle.toxic_defs.specs.declared.drawn_numbers.Spread.{Spread}
-use Rattle.toxic_defs.proofs.MovedParts.{rest_there, front_there, written_there, along_part}
+use Rattle.toxic_defs.proofs.Parts.{rest_there, front_there}
+use Rattle.toxic_defs.proofs.MovedParts.{written_there, along_part}
 use Rattle.toxic_defs.proofs.LateChunks.{leaves_one_more, leaves_no_more, count_one_more, count_no_more}
 use Rattle.toxic_defs.proofs.latency.delay_chunks.Goals.{then-begins_chunk, else-begins_chunk}
 use Rattle.toxic_defs.proofs.latency.delay_chunks.Goals as goal
@@ -26,7 +27,7 @@ loop-part-preserved c =
     let leaves : List LineByte → ℕ = latency_leaves (horizon microseconds) delay in
     let lt : i < length ps = omega arith in
     let lt' : i < length initial = omega arith in
-    let there : bytes_of_parts (take (i + 1) initial) ≡ front ++ bytes_of_part p = front_there ps initial i c.part-item.result lt lt' inv.rest in
+    let there : bytes_of_parts (take (i + 1) initial) ≡ front ++ bytes_of_part p = front_there ps initial i c.part-item.result lt' inv.rest in
     let steps : (c.if-begins_chunk.last ≡ leaves (front ++ bytes_of_part p)) × GivesNext c.if-begins_chunk.numbers c.args.key c.args.jitter (1 + length (begins (front ++ bytes_of_part p))) =
     elim c.if-begins_chunk.branch [
       | then-begins_chunk w ↦

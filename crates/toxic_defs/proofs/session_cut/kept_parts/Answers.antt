@@ -5,9 +5,9 @@ use Rattle.toxic_defs.proofs.session_cut.kept_parts.Goals as goal
 pub parts-preserved : goal.parts-preserved
 parts-preserved c = record {
   within = omega arith;
-  lost = lost_more _ _ _ c.index-parts-kept.result c.parts-test.true c.parts.invariant.within c.parts.invariant.lost c.index-parts-kept.is (cc);
+  lost = lost_more _ _ _ c.index-parts-kept.result c.parts-test.true c.parts.invariant.within c.parts.invariant.lost (cc);
 }
 
 pub returns-else-not-has_byte_before : goal.returns-else-not-has_byte_before
 returns-else-not-has_byte_before c =
-    kept_up_to _ _ _ c.index-parts-kept.result c.parts-test.true c.parts.invariant.within c.requires c.parts.invariant.lost c.index-parts-kept.is (cc)
+    kept_up_to _ _ _ c.index-parts-kept.result c.parts-test.true c.parts.invariant.within c.requires c.parts.invariant.lost (cc)

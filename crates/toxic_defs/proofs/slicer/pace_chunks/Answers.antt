@@ -8,7 +8,8 @@ use Rattle.reassembly.specs.declared.line_parts.LinePart.{LinePart}
 use Rattle.toxic_defs.specs.DelayedBytes.{begins}
 use Rattle.toxic_defs.specs.Slicer.{paced, slicer_leaves}
 use Rattle.toxic_defs.specs.Slices.{IsFilled}
-use Rattle.toxic_defs.proofs.MovedParts.{rest_there, front_there, written_there, along_part}
+use Rattle.toxic_defs.proofs.Parts.{rest_there, front_there}
+use Rattle.toxic_defs.proofs.MovedParts.{written_there, along_part}
 use Rattle.toxic_defs.proofs.PacedChunks.{slice_leaves, slice_next, same_leaves, same_next}
 use Rattle.toxic_defs.proofs.slicer.pace_chunks.Goals.{then-part, else-part}
 use Rattle.toxic_defs.proofs.slicer.pace_chunks.Goals as goal
@@ -33,7 +34,7 @@ loop-part-preserved c =
     let lt' : i < length initial = omega arith in
     let filled : 0 < length p.bytes.now = inv.filled i c.part-item.result lt in
     let mark : (p.starts && nat_lt 0 (length p.bytes.now)) ≡ p.starts = by_mark p.starts p.bytes.now filled in
-    let there : bytes_of_parts (take (i + 1) initial) ≡ front ++ bytes_of_part p = front_there ps initial i c.part-item.result lt lt' inv.rest in
+    let there : bytes_of_parts (take (i + 1) initial) ≡ front ++ bytes_of_part p = front_there ps initial i c.part-item.result lt' inv.rest in
     let q : LinePart = record { at = c.if-part.last; starts = p.starts; bytes = p.bytes } in
     let steps : (c.if-part.last ≡ leaves (front ++ bytes_of_part p)) × (c.if-part.next ≡ paced limit gap (length (begins (front ++ bytes_of_part p))) (begins (front ++ bytes_of_part p))) =
     elim c.if-part.branch [

@@ -1,6 +1,6 @@
 use Rattle.std.proofs.Common.{◌<◌, length, ◌∙◌}
 use Rattle.std.proofs.lemmas.List.Elements.{All-push}
-use Rattle.conn_table.specs.declared.entries.Entry.{Entry}
+use Rattle.conn_table.specs.declared.listing.Entry.{Entry}
 use Rattle.conn_table.specs.Listings.{segment_of}
 use Rattle.conn_table.proofs.ListingSteps.{LastsAre-push, length-lasts_after}
 use Rattle.conn_table.proofs.listing.Listing.add.Goals as goal
@@ -19,5 +19,5 @@ returns-clause-listing c =
       each = rw (told.lasts, told.pairs) (length-lasts_after old.lasts.items (segment_of old.pairs.keys c.args.entry) c.args.entry.group ∙ was.each);
       last =
           rw (pushed, told.entries, told.pairs, told.lasts)
-          (LastsAre-push old.pairs.keys old.lasts.items old.entries.items (record c.args.entry { begins = c.takes_opening-begins.result }) was.apart was.each c.requires.group was.last);
+          (LastsAre-push old.pairs.keys old.lasts.items old.entries.items _ was.apart was.each c.requires.group was.last);
     }

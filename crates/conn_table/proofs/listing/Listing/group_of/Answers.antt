@@ -1,7 +1,8 @@
-use Rattle.std.proofs.Common.{◌≡◌, Bool, true, false, refl}
+use Rattle.std.proofs.Common.{◌≡◌, ◌∙◌, Bool, true, false, refl, sym}
 use Rattle.std.specs.List.{list_any}
+use Rattle.std.proofs.lemmas.Bool.{not-true, not-false}
 use Rattle.conn_table.specs.IndexedSegments.{same_pair}
-use Rattle.conn_table.proofs.ListingSteps.{IsGrown, IsGrown-pair, there_from_new, there_from_old}
+use Rattle.conn_table.proofs.ListingSteps.{IsGrown, IsGrown-pair}
 use Rattle.conn_table.proofs.listing.Listing.group_of.Goals.{then-is_new+in_ok-push, else-is_new}
 use Rattle.conn_table.proofs.listing.Listing.group_of.Goals as goal
 
@@ -11,10 +12,10 @@ grown c =
     let there : Bool = list_any (same_pair c.args.pair) c.args.self.now.pairs.keys in
     elim c.if-is_new.branch [
       | then-is_new+in_ok-push w ↦
-          let absent : there ≡ false = there_from_new c.in_ok-place.is_new there told.added w.if-is_new.true in
+          let absent : there ≡ false = not-true there (sym told.added ∙ w.if-is_new.true) in
           rw w.self-is (IsGrown-pair c.args.self.now _ c.args.pair false c.requires.listing told.unique absent (rw absent at told.keys) w.in_ok-push.ensures.items refl)
       | else-is_new w ↦
-          let found : there ≡ true = there_from_old c.in_ok-place.is_new there told.added w.if-is_new.false in
+          let found : there ≡ true = not-false there (sym told.added ∙ w.if-is_new.false) in
           rw w.self-is (IsGrown-pair c.args.self.now _ c.args.pair true c.requires.listing told.unique found (rw found at told.keys) refl refl)
     ]
 

@@ -1,6 +1,6 @@
-use Rattle.std.proofs.Common.{ℕ, List, ◌≡◌, ◌≤◌, ◌<◌, ◌^◌, length, sym, ◌∙◌, ap, arith, false}
+use Rattle.std.proofs.Common.{◌+◌, ℕ, List, ◌≡◌, ◌≤◌, ◌<◌, ◌^◌, length, sym, ◌∙◌, ap, arith, false}
 use Rattle.frame_headers.specs.Frame.{frame_class, segment}
-use Rattle.frame_headers.specs.Class.{frame_class_of}
+use Rattle.frame_headers.specs.Class.{frame_class_of, fields_of_segment}
 use Rattle.conn_table.specs.IndexedSegments.{is_segment}
 use Rattle.conn_table.specs.ClassCounts.{counts_of}
 use Rattle.conn_table.specs.Partials.{MarkedKept, PartialView, partial_in, packets_between}
@@ -32,17 +32,21 @@ add-requires c =
     rw c.loop-index.invariant.counts
     (omega (arith, total, counts-few capture c.args.from c.loop-index.index c.args.carry (frame_class_of c.classify-class.result) c.loop-index.auto.index (omega arith)))
 
+pub list_segment-requires-clause-short : goal.list_segment-requires-clause-short
+list_segment-requires-clause-short c = (rw c.in-Segment.is at c.classify-class.ensures.payload).short
+
 pub list_segment-requires-clause-within : goal.list_segment-requires-clause-within
 list_segment-requires-clause-within c =
     let capture = c.args.capture.now in
     let r = c.index-records-index.result in
     let sound = rw c.records-records.ensures.records at c.records-records.ensures.sound in
-    let here : IsRecordOf capture c.loop-index.index r c.packet-packet.result.now = record {
+    let here : IsRecordOf capture c.loop-index.index r c.packet.result.now = record {
       within = omega arith;
       is = rw c.records-records.ensures.records at c.index-records-index.is;
-      packet = c.packet-packet.ensures;
+      packet = c.packet.ensures;
     } in
-    ends_within capture c.loop-index.index r c.packet-packet.result.now sound here
+    let payload = rw c.in-Segment.is at c.classify-class.ensures.payload in
+    omega (arith, ends_within capture c.loop-index.index r c.packet.result.now sound here, payload.within)
 
 pub loop-index-preserved : goal.loop-index-preserved
 loop-index-preserved c =
@@ -51,13 +55,13 @@ loop-index-preserved c =
     let from = c.args.from in
     let carry = c.args.carry in
     let r = c.index-records-index.result in
-    let bytes = c.packet-packet.result.now in
+    let bytes = c.packet.result.now in
     let was = c.loop-index.invariant in
     let ordered : from ≤ i = c.loop-index.auto.index in
     let here : IsRecordOf capture i r bytes = record {
       within = omega arith;
       is = rw c.records-records.ensures.records at c.index-records-index.is;
-      packet = c.packet-packet.ensures;
+      packet = c.packet.ensures;
     } in
     let now = rw was.at at c.greater-at.ensures in
     let at = now ∙ at-more capture from i carry r bytes ordered here in
@@ -67,13 +71,17 @@ loop-index-preserved c =
       | in-Segment+in_ok-list_segment w ↦
           let told = w.in_ok-list_segment.ensures in
           let is : frame_class bytes ≡ segment = sym c.classify-class.ensures.class ∙ ap frame_class_of w.in-Segment.is in
+          let fields = rw w.in-Segment.is at c.classify-class.ensures.segment in
+          let payload = rw w.in-Segment.is at c.classify-class.ensures.payload in
           record {
             listing = rw w.listing-is told.listing;
             segments = rw w.listing-is (omega (arith, told.len, was.segments, ordered));
             pairs = rw w.listing-is (omega (arith, told.grown, was.pairs, ordered));
             at = at;
             counts = counted;
-            marks = rw w.listing-is (marks-segment capture from i carry r bytes (marks_of c.loop-index.listing) _ ordered here is was.marks (rw now at told.marks));
+            marks = rw w.listing-is (
+                marks-segment capture from i carry r bytes (marks_of c.loop-index.listing) _ (r.start + w.in-Segment.segment.offset) (fields_of_segment w.in-Segment.segment) ordered here is was.marks
+                (ap (λ n. r.start + n) payload.offset) fields (rw now at told.marks));
           }
       | in_default w ↦
           let other : is_segment (frame_class bytes) ≡ false = ap is_segment (sym c.classify-class.ensures.class) ∙ is_segment-other c.classify-class.result (λ s e. w.in_default.not-Segment s e) in

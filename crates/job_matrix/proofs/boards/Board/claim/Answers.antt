@@ -1,9 +1,8 @@
 use Rattle.std.proofs.Common.{rules, ◌≡◌, ℕ, Bool, [], ap, subst, sym, ◌∙◌, ◌+◌, ◌%◌, ◌^◌}
 use Rattle.atomic_table.specs.Table.{Me, Allows}
-use Rattle.job_matrix.specs.declared.seat_views.SeatView.{SeatView}
-use Rattle.job_matrix.specs.declared.seat_views.SeatView.TheVariants.{Claims}
-use Rattle.job_matrix.specs.BoardViews.{worth, limit_of, jobs_of}
-use Rattle.job_matrix.specs.BoardRule.{Fair, Claimed}
+use Rattle.job_matrix.specs.declared.rules.SeatView.{SeatView}
+use Rattle.job_matrix.specs.declared.rules.SeatView.TheVariants.{Claims}
+use Rattle.job_matrix.specs.Boards.{worth, limit_of, jobs_of, Fair, Claimed}
 use Rattle.job_matrix.proofs.RuleKept.{claims}
 use Rattle.job_matrix.proofs.boards.Board.claim.Goals as goal
 

@@ -1,9 +1,9 @@
 use Rattle.std.proofs.Common.{◌≡◌, ℕ, ◌<◌, min, List, ap, subst, ◌∙◌, arith}
 use mathlib.Core.Option.{some}
-use Rattle.job_matrix.specs.declared.seat_views.SeatView.{SeatView}
-use Rattle.job_matrix.specs.declared.seat_views.SeatView.TheVariants.{Leads}
+use Rattle.job_matrix.specs.declared.rules.SeatView.{SeatView}
+use Rattle.job_matrix.specs.declared.rules.SeatView.TheVariants.{Leads}
 use Rattle.job_matrix.specs.Counting.{times, CountsBelow}
-use Rattle.job_matrix.specs.BoardViews.{limit_of, jobs_of, back_of, told_of}
+use Rattle.job_matrix.specs.Boards.{limit_of, jobs_of, back_of, told_of}
 use Rattle.job_matrix.proofs.RuleKept.{closes, word_found}
 use Rattle.job_matrix.proofs.boards.Board.close.Goals as goal
 

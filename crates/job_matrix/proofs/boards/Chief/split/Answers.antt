@@ -1,8 +1,7 @@
 use Rattle.std.proofs.Common.{rules, ℕ, ap, subst, sym, arith}
 use Rattle.atomic_table.specs.Table.{Splits}
-use Rattle.job_matrix.specs.declared.seat_views.SeatView.{SeatView}
-use Rattle.job_matrix.specs.BoardViews.{limit_of, jobs_of, back_of, told_of, after_split, new_pass}
-use Rattle.job_matrix.specs.BoardRule.{Fair}
+use Rattle.job_matrix.specs.declared.rules.SeatView.{SeatView}
+use Rattle.job_matrix.specs.Boards.{limit_of, jobs_of, back_of, told_of, after_split, new_pass, Fair}
 use Rattle.job_matrix.proofs.RuleKept.{splits}
 use Rattle.job_matrix.proofs.boards.Chief.split.Goals as goal
 

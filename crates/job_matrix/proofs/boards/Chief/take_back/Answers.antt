@@ -1,9 +1,8 @@
 use Rattle.std.proofs.Common.{rules, ℕ, ap, subst, sym}
 use Rattle.atomic_table.specs.Table.{Joins}
-use Rattle.job_matrix.specs.declared.seat_views.SeatView.{SeatView}
-use Rattle.job_matrix.specs.declared.seat_views.SeatView.TheVariants.{Leads, Claims, Spent}
-use Rattle.job_matrix.specs.BoardViews.{worth, limit_of, jobs_of, back_of, told_of, after_join}
-use Rattle.job_matrix.specs.BoardRule.{Fair}
+use Rattle.job_matrix.specs.declared.rules.SeatView.{SeatView}
+use Rattle.job_matrix.specs.declared.rules.SeatView.TheVariants.{Leads, Claims, Spent}
+use Rattle.job_matrix.specs.Boards.{worth, limit_of, jobs_of, back_of, told_of, after_join, Fair}
 use Rattle.job_matrix.proofs.RuleKept.{joins}
 use Rattle.job_matrix.proofs.boards.Chief.take_back.Goals as goal
 

@@ -1,11 +1,11 @@
-use Rattle.std.proofs.Common.{drop, take, ◌-◌, refl, ◌∙◌}
+use Rattle.std.proofs.Common.{drop, take, ◌-◌, refl, ◌∙◌, arith}
 use Rattle.pcap_records.proofs.Running.{peak_more, peak_all, stamps_of_packets}
 use Rattle.pcap_records.proofs.capture.Capture.peak.Goals as goal
 
 pub loop-record-preserved : goal.loop-record-preserved
 loop-record-preserved c =
     let records = take (c.args.to - c.args.from) (drop c.args.from c.deref.result.now) in
-    rw c.greater-peak.ensures (peak_more c.loop-record.peak records c.loop-record.record-index c.record-item.result _ c.loop-record-test.true c.record-item.is c.loop-record.invariant)
+    omega (arith, c.greater-peak.ensures, peak_more c.loop-record.peak records c.loop-record.record-index c.record-item.result _ c.loop-record-test.true c.record-item.is c.loop-record.invariant)
 
 pub returns : goal.returns
 returns c =

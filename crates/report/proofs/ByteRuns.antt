@@ -10,7 +10,7 @@ use Rattle.reassembly.specs.RecordedLines.{LineByte}
 use Rattle.reassembly.specs.LineView.{bytes_of_part, bytes_of_parts, bytes_with_mark, bytes_without_mark}
 use Rattle.reassembly.specs.declared.line_parts.LinePart.{LinePart}
 use Rattle.report.specs.ReportText.{longest_delay}
-use Rattle.report.specs.declared.sides.Place.{Place}
+use Rattle.report.specs.declared.sides.Cursor.{Cursor}
 
 -- ---- instants
 
@@ -75,11 +75,11 @@ run_passed : (m a : ℕ) (more : List ℕ) → drop m (replicate m a ++ more) �
 run_passed zero a more = refl
 run_passed (suc m) a more = run_passed m a more
 
--- ---- places
+-- ---- cursors
 
--- the instants behind a place
-abbrev pub rest_at : List LinePart → Place → List ℕ
-rest_at parts q = drop q.passed (instants_of_parts (drop q.part parts))
+-- the instants after a cursor
+abbrev pub rest_at : List LinePart → Cursor → List ℕ
+rest_at parts q = drop q.offset (instants_of_parts (drop q.part parts))
 
 -- the bytes of the first part
 abbrev pub first_len : List LinePart → ℕ
@@ -87,80 +87,80 @@ first_len [] = 0
 first_len (p ∷ parts) = length p.bytes.now
 
 -- no more is passed of a part than it has
-abbrev pub IsWithin : List LinePart → Place → Type 0
-IsWithin parts q = q.passed ≤ first_len (drop q.part parts)
+abbrev pub IsWithin : List LinePart → Cursor → Type 0
+IsWithin parts q = q.offset ≤ first_len (drop q.part parts)
 
--- the place a run further on
-abbrev pub place_on : Place → ℕ → ℕ → Place
-place_on q len run = cond (q.passed + run == len) (record { part = q.part + 1; passed = 0 }) (record { part = q.part; passed = q.passed + run })
+-- the cursor a run further on
+abbrev pub cursor_on : Cursor → ℕ → ℕ → Cursor
+cursor_on q len run = cond (q.offset + run == len) (record { part = q.part + 1; offset = 0 }) (record { part = q.part; offset = q.offset + run })
 
-part_here : (parts : List LinePart) (q : Place) (p : LinePart) → q.part < length parts → p ≡ get_or parts q.part p → drop q.part parts ≡ p ∷ drop (q.part + 1) parts
+part_here : (parts : List LinePart) (q : Cursor) (p : LinePart) → q.part < length parts → p ≡ get_or parts q.part p → drop q.part parts ≡ p ∷ drop (q.part + 1) parts
 part_here parts q p lt is =
     let e : q.part + 1 ≡ suc q.part = omega arith in
     drop-cons parts q.part p lt ∙ rw (e, ← is) refl
 
-pub passed_here : (parts : List LinePart) (q : Place) (p : LinePart) → q.part < length parts → p ≡ get_or parts q.part p → IsWithin parts q → q.passed ≤ length p.bytes.now
+pub passed_here : (parts : List LinePart) (q : Cursor) (p : LinePart) → q.part < length parts → p ≡ get_or parts q.part p → IsWithin parts q → q.offset ≤ length p.bytes.now
 passed_here parts q p lt is h = rw (part_here parts q p lt is) at h
 
-within_on : (parts : List LinePart) (q : Place) (p : LinePart) (run : ℕ) → q.part < length parts → p ≡ get_or parts q.part p → q.passed + run ≤ length p.bytes.now
-    → IsWithin parts (place_on q (length p.bytes.now) run)
-within_on parts q p run lt is h = by_test (q.passed + run == length p.bytes.now)
+within_on : (parts : List LinePart) (q : Cursor) (p : LinePart) (run : ℕ) → q.part < length parts → p ≡ get_or parts q.part p → q.offset + run ≤ length p.bytes.now
+    → IsWithin parts (cursor_on q (length p.bytes.now) run)
+within_on parts q p run lt is h = by_test (q.offset + run == length p.bytes.now)
   where
-    by_test : (t : Bool) → IsWithin parts (cond t (record { part = q.part + 1; passed = 0 }) (record { part = q.part; passed = q.passed + run }))
+    by_test : (t : Bool) → IsWithin parts (cond t (record { part = q.part + 1; offset = 0 }) (record { part = q.part; offset = q.offset + run }))
     by_test true = omega arith
     by_test false = rw (part_here parts q p lt is) h
 
-rest_on : (parts : List LinePart) (q : Place) (p : LinePart) (run : ℕ) → q.part < length parts → p ≡ get_or parts q.part p → q.passed + run ≤ length p.bytes.now
-    → rest_at parts q ≡ replicate run p.at ++ rest_at parts (place_on q (length p.bytes.now) run)
-rest_on parts q p run lt is h = by_test (q.passed + run == length p.bytes.now) refl
+rest_on : (parts : List LinePart) (q : Cursor) (p : LinePart) (run : ℕ) → q.part < length parts → p ≡ get_or parts q.part p → q.offset + run ≤ length p.bytes.now
+    → rest_at parts q ≡ replicate run p.at ++ rest_at parts (cursor_on q (length p.bytes.now) run)
+rest_on parts q p run lt is h = by_test (q.offset + run == length p.bytes.now) refl
   where
     more : List ℕ
     more = instants_of_parts (drop (q.part + 1) parts)
 
-    here : rest_at parts q ≡ replicate run p.at ++ drop (q.passed + run) (replicate (length p.bytes.now) p.at ++ more)
-    here = rw (part_here parts q p lt is) (run_next (length p.bytes.now) q.passed run p.at more h)
+    here : rest_at parts q ≡ replicate run p.at ++ drop (q.offset + run) (replicate (length p.bytes.now) p.at ++ more)
+    here = rw (part_here parts q p lt is) (run_next (length p.bytes.now) q.offset run p.at more h)
 
-    by_test : (t : Bool) → (q.passed + run == length p.bytes.now) ≡ t
-        → rest_at parts q ≡ replicate run p.at ++ rest_at parts (cond t (record { part = q.part + 1; passed = 0 }) (record { part = q.part; passed = q.passed + run }))
+    by_test : (t : Bool) → (q.offset + run == length p.bytes.now) ≡ t
+        → rest_at parts q ≡ replicate run p.at ++ rest_at parts (cond t (record { part = q.part + 1; offset = 0 }) (record { part = q.part; offset = q.offset + run }))
     by_test true e =
-        let same : q.passed + run ≡ length p.bytes.now = eqb-true (q.passed + run) (length p.bytes.now) e in
+        let same : q.offset + run ≡ length p.bytes.now = eqb-true (q.offset + run) (length p.bytes.now) e in
         here ∙ ap (λ k. replicate run p.at ++ drop k (replicate (length p.bytes.now) p.at ++ more)) same ∙ ap (λ ns. replicate run p.at ++ ns) (run_passed (length p.bytes.now) p.at more)
-    by_test false e = here ∙ ap (λ ps. replicate run p.at ++ drop (q.passed + run) (instants_of_parts ps)) (sym (part_here parts q p lt is))
+    by_test false e = here ∙ ap (λ ps. replicate run p.at ++ drop (q.offset + run) (instants_of_parts ps)) (sym (part_here parts q p lt is))
 
 -- ---- the walk
 
--- the longest delay so far, and that of the bytes behind two places
-pub record Walk (recorded delivered : List LinePart) (from to : Place) (longest : ℕ) : Type 0 where
+-- the longest delay so far, and that of the bytes after two cursors
+pub record Walk (recorded delivered : List LinePart) (from to : Cursor) (longest : ℕ) : Type 0 where
   pub from_within : IsWithin recorded from
   pub to_within : IsWithin delivered to
   pub done : max longest (longest_of (rest_at recorded from) (rest_at delivered to)) ≡ longest_of (instants_of_parts recorded) (instants_of_parts delivered)
 
-abbrev pub start : Place
-start = record { part = 0; passed = 0 }
+abbrev pub start : Cursor
+start = record { part = 0; offset = 0 }
 
 pub walk_begins : (recorded delivered : List LinePart) → Walk recorded delivered start start 0
 walk_begins recorded delivered = record { from_within = omega arith; to_within = omega arith; done = omega arith }
 
-pub walk_on : (recorded delivered : List LinePart) (from to : Place) (longest longer run : ℕ) (s c : LinePart) → Walk recorded delivered from to longest
+pub walk_on : (recorded delivered : List LinePart) (from to : Cursor) (longest longer run : ℕ) (s c : LinePart) → Walk recorded delivered from to longest
     → from.part < length recorded → to.part < length delivered → s ≡ get_or recorded from.part s → c ≡ get_or delivered to.part c
-    → run ≡ min (length s.bytes.now - from.passed) (length c.bytes.now - to.passed) → longer ≡ max longest (cond (run == 0) 0 (c.at - s.at))
-    → Walk recorded delivered (place_on from (length s.bytes.now) run) (place_on to (length c.bytes.now) run) longer
+    → run ≡ min (length s.bytes.now - from.offset) (length c.bytes.now - to.offset) → longer ≡ max longest (cond (run == 0) 0 (c.at - s.at))
+    → Walk recorded delivered (cursor_on from (length s.bytes.now) run) (cursor_on to (length c.bytes.now) run) longer
 walk_on recorded delivered from to longest longer run s c w lts ltc iss isc r l =
     let hs = passed_here recorded from s lts iss w.from_within in
     let hc = passed_here delivered to c ltc isc w.to_within in
-    let hs' : from.passed + run ≤ length s.bytes.now = omega arith in
-    let hc' : to.passed + run ≤ length c.bytes.now = omega arith in
+    let hs' : from.offset + run ≤ length s.bytes.now = omega arith in
+    let hc' : to.offset + run ≤ length c.bytes.now = omega arith in
     let es = rest_on recorded from s run lts iss hs' in
     let ec = rest_on delivered to c run ltc isc hc' in
     let step : longest_of (rest_at recorded from) (rest_at delivered to)
-    ≡ max (cond (run == 0) 0 (c.at - s.at)) (longest_of (rest_at recorded (place_on from (length s.bytes.now) run)) (rest_at delivered (place_on to (length c.bytes.now) run))) =
-    ap (λ ns. longest_of ns (rest_at delivered to)) es ∙ ap (λ ns. longest_of (replicate run s.at ++ rest_at recorded (place_on from (length s.bytes.now) run)) ns) ec
-    ∙ longest_run run s.at c.at (rest_at recorded (place_on from (length s.bytes.now) run)) (rest_at delivered (place_on to (length c.bytes.now) run)) in
+    ≡ max (cond (run == 0) 0 (c.at - s.at)) (longest_of (rest_at recorded (cursor_on from (length s.bytes.now) run)) (rest_at delivered (cursor_on to (length c.bytes.now) run))) =
+    ap (λ ns. longest_of ns (rest_at delivered to)) es ∙ ap (λ ns. longest_of (replicate run s.at ++ rest_at recorded (cursor_on from (length s.bytes.now) run)) ns) ec
+    ∙ longest_run run s.at c.at (rest_at recorded (cursor_on from (length s.bytes.now) run)) (rest_at delivered (cursor_on to (length c.bytes.now) run)) in
     record {
       from_within = within_on recorded from s run lts iss hs';
       to_within = within_on delivered to c run ltc isc hc';
       done = joined longest longer (cond (run == 0) 0 (c.at - s.at)) (longest_of (rest_at recorded from) (rest_at delivered to))
-          (longest_of (rest_at recorded (place_on from (length s.bytes.now) run)) (rest_at delivered (place_on to (length c.bytes.now) run))) (longest_of (instants_of_parts recorded) (instants_of_parts delivered)) w.done step l;
+          (longest_of (rest_at recorded (cursor_on from (length s.bytes.now) run)) (rest_at delivered (cursor_on to (length c.bytes.now) run))) (longest_of (instants_of_parts recorded) (instants_of_parts delivered)) w.done step l;
     }
   where
     joined : (longest longer delay rest rest' whole : ℕ) → max longest rest ≡ whole → rest ≡ max delay rest' → longer ≡ max longest delay → max longer rest' ≡ whole
@@ -170,10 +170,10 @@ longest_none : (sent : List ℕ) → longest_of sent [] ≡ 0
 longest_none [] = refl
 longest_none (s ∷ sent) = refl
 
-rest_none : (parts : List LinePart) (q : Place) → length parts ≤ q.part → rest_at parts q ≡ []
-rest_none parts q h = ap (λ ps. drop q.passed (instants_of_parts ps)) (drop_of_length-le parts h) ∙ drop-nil q.passed
+rest_none : (parts : List LinePart) (q : Cursor) → length parts ≤ q.part → rest_at parts q ≡ []
+rest_none parts q h = ap (λ ps. drop q.offset (instants_of_parts ps)) (drop_of_length-le parts h) ∙ drop-nil q.offset
 
-walk_whole : (recorded delivered : List LinePart) (from to : Place) (longest : ℕ) → Walk recorded delivered from to longest
+walk_whole : (recorded delivered : List LinePart) (from to : Cursor) (longest : ℕ) → Walk recorded delivered from to longest
     → longest_of (rest_at recorded from) (rest_at delivered to) ≡ 0 → longest ≡ longest_delay (bytes_of_parts recorded) (bytes_of_parts delivered)
 walk_whole recorded delivered from to longest w none =
     let d = w.done in
@@ -181,12 +181,12 @@ walk_whole recorded delivered from to longest w none =
     e ∙ sym (delays_are (bytes_of_parts recorded) (bytes_of_parts delivered) ∙ ap (λ ns. longest_of ns (map instant_of (bytes_of_parts delivered))) (instants_are recorded)
     ∙ ap (longest_of (instants_of_parts recorded)) (instants_are delivered))
 
-pub recorded_ends : (recorded delivered : List LinePart) (from to : Place) (longest : ℕ) → Walk recorded delivered from to longest → length recorded ≤ from.part
+pub recorded_ends : (recorded delivered : List LinePart) (from to : Cursor) (longest : ℕ) → Walk recorded delivered from to longest → length recorded ≤ from.part
     → longest ≡ longest_delay (bytes_of_parts recorded) (bytes_of_parts delivered)
 recorded_ends recorded delivered from to longest w h =
     walk_whole recorded delivered from to longest w (ap (λ ns. longest_of ns (rest_at delivered to)) (rest_none recorded from h))
 
-pub delivered_ends : (recorded delivered : List LinePart) (from to : Place) (longest : ℕ) → Walk recorded delivered from to longest → length delivered ≤ to.part
+pub delivered_ends : (recorded delivered : List LinePart) (from to : Cursor) (longest : ℕ) → Walk recorded delivered from to longest → length delivered ≤ to.part
     → longest ≡ longest_delay (bytes_of_parts recorded) (bytes_of_parts delivered)
 delivered_ends recorded delivered from to longest w h =
     walk_whole recorded delivered from to longest w (ap (longest_of (rest_at recorded from)) (rest_none delivered to h) ∙ longest_none (rest_at recorded from))
@@ -194,11 +194,11 @@ delivered_ends recorded delivered from to longest w h =
 -- ---- the measure
 
 pub nearer : (i k m j l n run len other : ℕ) → k ≤ m → l ≤ n → run ≡ min (m - k) (n - l) → i < len → j < other
-    → (len - (place_on (record { part = i; passed = k }) m run).part) + (other - (place_on (record { part = j; passed = l }) n run).part) < (len - i) + (other - j)
+    → (len - (cursor_on (record { part = i; offset = k }) m run).part) + (other - (cursor_on (record { part = j; offset = l }) n run).part) < (len - i) + (other - j)
 nearer i k m j l n run len other hk hl r lt lt' = by_tests (k + run == m) (l + run == n) refl refl
   where
     by_tests : (t u : Bool) → (k + run == m) ≡ t → (l + run == n) ≡ u
-        → (len - (let q : Place = cond t (record { part = i + 1; passed = 0 }) (record { part = i; passed = k + run }) in q).part) + (other - (let q : Place = cond u (record { part = j + 1; passed = 0 }) (record { part = j; passed = l + run }) in q).part) < (len - i) + (other - j)
+        → (len - (let q : Cursor = cond t (record { part = i + 1; offset = 0 }) (record { part = i; offset = k + run }) in q).part) + (other - (let q : Cursor = cond u (record { part = j + 1; offset = 0 }) (record { part = j; offset = l + run }) in q).part) < (len - i) + (other - j)
     by_tests true true e f = omega arith
     by_tests true false e f = omega arith
     by_tests false true e f = omega arith

@@ -1,3 +1,2 @@
 pub mod ReportText
-pub mod ShortLines
 pub mod ReportRows

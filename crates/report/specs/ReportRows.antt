@@ -38,7 +38,7 @@ session = record {
   mac_server = 2 ∷ 0 ∷ 0 ∷ 0 ∷ 0 ∷ 2 ∷ [];
 }
 
--- two lines behind a proxy, cut
+-- two lines after a proxy, cut
 abbrev pub both_cut : Line → Line → DeliveredConnection
 both_cut up down = record { proxy = Some 0; refused = false; up = cut_line 1000000 up down up; down = cut_line 1000000 up down down }
 

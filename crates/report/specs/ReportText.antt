@@ -1,5 +1,5 @@
 -- The text of a report: ASCII, one space between words, numbers in decimal, each of its lines ended by LF.
-use Rattle.std.specs.Prelude.{ℕ, ◌-◌, ◌/◌, ◌%◌, ◌^◌, List, ◌++◌, length, map, codes, Option, Some, None, Bool, true, false}
+use Rattle.std.specs.Prelude.{ℕ, ◌-◌, ◌<◌, ◌/◌, ◌%◌, ◌^◌, List, ◌++◌, length, map, codes, Option, Some, None, Bool, true, false}
 use Rattle.std.specs.List.{zip, flat_map}
 use Rattle.std.specs.Fmt.{decimal}
 use Rattle.pcap_records.specs.Instants.{greatest}
@@ -75,15 +75,22 @@ side_text opened refused s f =
     ++ (codes " " ++ (end_word refused opened f.end ++ (codes " max " ++ decimal (longest_delay s.line.bytes f.bytes))))))))
 
 -- number client > server proxy P
-abbrev pub front_text : ℕ → Peer → Peer → Option ℕ → List ℕ
-front_text number client server proxy =
+abbrev pub peers_text : ℕ → Peer → Peer → Option ℕ → List ℕ
+peers_text number client server proxy =
     decimal number ++ (codes " " ++ (peer_text client ++ (codes " > " ++ (peer_text server ++ (codes " proxy " ++ proxy_text proxy)))))
 
 -- the connection of a number between a client and a server
 unfoldable pub connection_text : ℕ → Peer → Peer → RecordedConnection → DeliveredConnection → List ℕ
 connection_text number client server r d =
-    front_text number client server d.proxy
+    peers_text number client server d.proxy
     ++ (codes " up " ++ (side_text r.opened d.refused r.up d.up ++ (codes " down " ++ (side_text r.opened d.refused r.down d.down ++ codes "\n"))))
+
+-- ---- lines that a report can tell of
+
+-- the lines of both directions have fewer than 2^32 bytes
+pub record AreShort (client server : Line) : Type 0 where
+  pub up : length client.bytes < 2 ^ 32
+  pub down : length server.bytes < 2 ^ 32
 
 -- ---- a report
 

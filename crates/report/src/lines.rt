@@ -2,8 +2,7 @@
 ghost use Rattle.std.specs.Prelude.{◌≡◌, ◌++◌, IfOk, OnOk};
 ghost use Rattle.reassembly.specs.RecordedView.{recorded_view};
 ghost use Rattle.toxic_defs.specs.DeliveredLines.{delivered_view};
-ghost use Rattle.report.specs.ReportText.{peer_text, proxy_text, front_text, connection_text};
-ghost use Rattle.report.specs.ShortLines.{AreShort};
+ghost use Rattle.report.specs.ReportText.{AreShort, peer_text, proxy_text, peers_text, connection_text};
 
 use crate::sides::push_side;
 use crate::texts::{ReportText, push, push_number, push_told};
@@ -30,12 +29,13 @@ pub fn line(
 ) -> Result<ReportText, AllocError>
     requires recorded { AreShort recorded.now.up.line recorded.now.down.line }
     requires delivered { AreShort delivered.now.up.line delivered.now.down.line }
-    ensures { IfOk result (λ text. text ≡ connection_text conn.now.number conn.now.client conn.now.server (recorded_view recorded.now) (delivered_view delivered.now)) }
+    ensures { IfOk result (λ text. text ≡ connection_text conn.now.number conn.now.client conn.now.server
+        (recorded_view recorded.now) (delivered_view delivered.now)) }
 {
     let mut text = Vec::with_capacity(alloc, LINE_ROOM)?;
     let opened = recorded.opened;
     let refused = delivered.refused;
-    push_front(&mut text, conn, delivered.proxy)?;
+    push_peers(&mut text, conn, delivered.proxy)?;
     push(&mut text, " up ")?;
     push_side(
         &mut text,
@@ -59,8 +59,9 @@ pub fn line(
 }
 
 // Appends a connection's number and peers, and the proxy that it met.
-fn push_front(text: &mut Vec<u8>, conn: &Conn, proxy: Option<u32>) -> Result<(), AllocError>
-    ensures { OnOk result (text.new.items ≡ text.old.items ++ front_text conn.now.number conn.now.client conn.now.server proxy) }
+fn push_peers(text: &mut Vec<u8>, conn: &Conn, proxy: Option<u32>) -> Result<(), AllocError>
+    ensures { OnOk result (text.new.items ≡ text.old.items
+        ++ peers_text conn.now.number conn.now.client conn.now.server proxy) }
 {
     push_number(text, u64::from(conn.number))?;
     push(text, " ")?;

@@ -29,7 +29,8 @@ pub fn report(
 ) -> Result<ReportText, AllocError>
     requires counts { table.now.counts ≡ counts_of (seen_capture (contents_of capture.now)).packets }
     requires each { length lines.now ≡ length table.now.conns }
-    ensures { IfOk result (λ text. text ≡ report_text scenario (seen_capture (contents_of capture.now)) table.now.unopened lines.now) }
+    ensures { IfOk result (λ text. text
+        ≡ report_text scenario (seen_capture (contents_of capture.now)) table.now.unopened lines.now) }
 {
     let connections = lines.len();
     let mut text = open_report(
@@ -57,7 +58,8 @@ fn open_report(
     unopened: u64,
 ) -> Result<Vec<u8>, AllocError>
     requires { counts ≡ counts_of (seen_capture (contents_of capture.now)).packets }
-    ensures { IfOk result (λ text. text.items ≡ counts_text scenario (seen_capture (contents_of capture.now)) ++ connections_text connections unopened) }
+    ensures { IfOk result (λ text. text.items ≡ counts_text scenario (seen_capture (contents_of capture.now))
+        ++ connections_text connections unopened) }
 {
     let room = connections
         .saturating_mul(LINE_ROOM)

@@ -20,7 +20,8 @@ pub(crate) fn push_side(
 ) -> Result<(), AllocError>
     requires recorded { length recorded.now.line.bytes < 2 ^ 32 }
     requires delivered { length delivered.now.line.bytes < 2 ^ 32 }
-    ensures { OnOk result (text.new.items ≡ text.old.items ++ side_text opened refused (record { line = recorded.now.line; lost = lost }) delivered.now.line) }
+    ensures { OnOk result (text.new.items ≡ text.old.items
+        ++ side_text opened refused (record { line = recorded.now.line; lost = lost }) delivered.now.line) }
 {
     let sent = recorded.parts();
     let came = delivered.parts();
@@ -78,11 +79,11 @@ fn byte_count(parts: &[LinePart<'_>]) -> u64
     count
 }
 
-// A place in the parts of a line: the number of a part, and how many of its bytes are passed.
+// How far a pass over the parts of a line is: the number of a part, and how many of its bytes are passed.
 #[derive(Clone, Copy)]
-struct Place {
+struct Cursor {
     part: usize,
-    passed: usize,
+    offset: usize,
 }
 
 // The longest that a byte was held back, in ticks: each delivered byte against the recorded byte at the same position, over runs
@@ -91,15 +92,15 @@ fn longest_delay(recorded: &[LinePart<'_>], delivered: &[LinePart<'_>]) -> u64
     ensures { result ≡ longest_delay (bytes_of_parts recorded.now) (bytes_of_parts delivered.now) }
 {
     let mut longest = 0;
-    let mut from = Place { part: 0, passed: 0 };
-    let mut to = Place { part: 0, passed: 0 };
+    let mut from = Cursor { part: 0, offset: 0 };
+    let mut to = Cursor { part: 0, offset: 0 };
     'runs: while from.part < recorded.len() && to.part < delivered.len() {
         let sent = &recorded[from.part];
         let came = &delivered[to.part];
-        let run = (sent.bytes.len() - from.passed).min(came.bytes.len() - to.passed);
+        let run = (sent.bytes.len() - from.offset).min(came.bytes.len() - to.offset);
         longest = longer(longest, run, sent.at, came.at);
-        from = place_after(from, sent.bytes.len(), run);
-        to = place_after(to, came.bytes.len(), run);
+        from = cursor_after(from, sent.bytes.len(), run);
+        to = cursor_after(to, came.bytes.len(), run);
     }
     longest
 }
@@ -114,21 +115,22 @@ fn longer(longest: u64, run: usize, sent: Moment, came: Moment) -> u64
     longest.max(came.count().saturating_sub(sent.count()))
 }
 
-// The place a run of bytes further on, in a part that has so many bytes: in the next part where none is left.
-fn place_after(place: Place, len: usize, run: usize) -> Place
-    requires within { place.passed + run ≤ len }
-    requires few { place.part + 1 < 2 ^ 64 }
-    ensures { result ≡ (if place.passed + run == len then record { part = place.part + 1; passed = 0 } else record { part = place.part; passed = place.passed + run }) }
+// The cursor a run of bytes further on, in a part that has so many bytes: in the next part where none is left.
+fn cursor_after(from: Cursor, len: usize, run: usize) -> Cursor
+    requires within { from.offset + run ≤ len }
+    requires few { from.part + 1 < 2 ^ 64 }
+    ensures { result ≡ (if from.offset + run == len then record { part = from.part + 1; offset = 0 }
+        else record { part = from.part; offset = from.offset + run }) }
 {
-    if place.passed + run == len {
-        Place {
-            part: place.part + 1,
-            passed: 0,
+    if from.offset + run == len {
+        Cursor {
+            part: from.part + 1,
+            offset: 0,
         }
     } else {
-        Place {
-            part: place.part,
-            passed: place.passed + run,
+        Cursor {
+            part: from.part,
+            offset: from.offset + run,
         }
     }
 }

@@ -2,15 +2,15 @@
 use Rattle.std.proofs.Common.{◌≡◌, ℕ, Bool, true, false, cond, ◌||◌, ◌&&◌, ◌==◌, nat_lt, nat_cmp, is_lt, List, [], ◌∷◌, ◌++◌, filter, if◌then◌else◌, refl, sym, ap, ap₂, ◌∙◌, subst, Ordering, Less, Equal, Greater}
 use Rattle.std.specs.Cmp.{IsStrictWeakOrder}
 use Rattle.std.specs.Ordering.{ordering_then}
-use Rattle.std.specs.List.Sorted.{ties, IsStableBy}
-use Rattle.std.proofs.lemmas.List.Sorted.{ranks_by}
+use Rattle.std.specs.List.Sorted.{ties, IsStableBy, IsPermutation}
+use Rattle.std.proofs.lemmas.List.Sorted.{ranks_by, IsPermutation-refl, IsPermutation-sym, IsPermutation-cons, IsPermutation-middle, IsPermutation-trans}
 use Rattle.std.proofs.lemmas.List.Elements.{filter-append}
 use Rattle.segment_writer.specs.declared.framed.SegKey.{SegKey}
 use Rattle.segment_writer.specs.declared.framed.Framed.{Framed}
 use Rattle.segment_writer.specs.contracts.framed.SegKeyOrd.TheImpl.{ghosts}
 use Rattle.segment_writer.specs.contracts.framed.SegKeyOrd.TheImpl.Laws.{total-law}
 use Rattle.segment_writer.specs.WrittenSegments.{is_key_below, insert_by_key, sorted_by_key}
-use Rattle.segment_writer.specs.KeyLaws.{NoneLower, NeverFalls, SortedNeverFalls}
+use Rattle.segment_writer.specs.KeyLaws.{NoneLower, NeverFalls, SortedKeepsAll, SortedNeverFalls}
 use Rattle.segment_writer.specs.KeyOrder.{RisesFrom, RisingIsSorted, PartsAreSortedFirst}
 use Rattle.segment_writer.proofs.Sorting.{NoneBelow, Ordered, only_one, none_below-chain, not_below-ties}
 
@@ -127,3 +127,19 @@ parts_are_sorted_first xs ys =
     sorted_by_key-only (xs ++ ys) (sorted_by_key (sorted_by_key xs ++ sorted_by_key ys)) (ordered-sorted_by_key (sorted_by_key xs ++ sorted_by_key ys))
     (λ z. let kept = ties below z in
     filter-sorted_by_key z (sorted_by_key xs ++ sorted_by_key ys) ∙ filter-append kept (sorted_by_key xs) (sorted_by_key ys) ∙ ap₂ (λ us vs. us ++ vs) (filter-sorted_by_key z xs) (filter-sorted_by_key z ys) ∙ sym (filter-append kept xs ys))
+
+insert_keeps_all : (x : Framed) (ys : List Framed) → IsPermutation (x ∷ ys) (insert_by_key x ys)
+insert_keeps_all x [] = IsPermutation-refl (x ∷ [])
+insert_keeps_all x (y ∷ ys) = by (below y x) (insert_keeps_all x ys)
+  where
+    by : (b : Bool) → IsPermutation (x ∷ ys) (insert_by_key x ys) → IsPermutation (x ∷ y ∷ ys) (if b then y ∷ insert_by_key x ys else x ∷ y ∷ ys)
+    by true h =
+        IsPermutation-trans (x ∷ y ∷ ys) (y ∷ x ∷ ys) (y ∷ insert_by_key x ys)
+        (IsPermutation-sym (y ∷ x ∷ ys) (x ∷ y ∷ ys) (IsPermutation-middle (y ∷ []) x ys)) (IsPermutation-cons y (x ∷ ys) (insert_by_key x ys) h)
+    by false h = IsPermutation-refl (x ∷ y ∷ ys)
+
+pub sorted_keeps_all : SortedKeepsAll
+unfolding sorted_by_key
+sorted_keeps_all [] = IsPermutation-refl []
+sorted_keeps_all (x ∷ xs) =
+    IsPermutation-trans (x ∷ xs) (x ∷ sorted_by_key xs) (insert_by_key x (sorted_by_key xs)) (IsPermutation-cons x xs (sorted_by_key xs) (sorted_keeps_all xs)) (insert_keeps_all x (sorted_by_key xs))

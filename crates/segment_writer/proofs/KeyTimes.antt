@@ -1,13 +1,18 @@
 -- How often a key stands in lists of segments, and what tells keys apart.
-use Rattle.std.proofs.Common.{◌≡◌, ◌≢◌, ◌≤◌, ◌<◌, inl, inr, ℕ, ◌+◌, Bool, true, false, List, [], ◌∷◌, ◌++◌, filter, if◌then◌else◌, refl, ap, ◌∙◌, arith}
-use Rattle.std.specs.List.{AllByRecursion}
+use Rattle.std.proofs.Common.{◌≡◌, ◌≤◌, ◌<◌, inl, inr, ℕ, ◌+◌, Bool, true, false, cond, not, List, [], ◌∷◌, ◌++◌, filter, if◌then◌else◌, refl, sym, ap₂, ◌∙◌, arith}
+use Rattle.std.specs.List.{All, count_by}
+use Rattle.std.specs.List.Sorted.{IsPermutation}
 use Rattle.std.proofs.lemmas.Bool.{cases_lt}
 use Rattle.std.proofs.lemmas.Bool.Decides.{nat_tests}
-use Rattle.segment_writer.specs.WrittenSegments.{insert_by_key, sorted_by_key}
-use Rattle.segment_writer.specs.KeyLaws.{same_key, times, HasNoKeyTwice}
+use Rattle.std.proofs.lemmas.List.Elements.{All-head, All-tail}
+use Rattle.std.proofs.lemmas.List.Recursion.{is_count_by}
+use Rattle.std.proofs.lemmas.List.Sorted.{IsPermutation-filter_both, sum_by-IsPermutation}
+use Rattle.std.proofs.lemmas.List.Sums.{count_by-le-length, sum_by-append}
+use Rattle.segment_writer.specs.WrittenSegments.{sorted_by_key}
+use Rattle.segment_writer.specs.KeyLaws.{same_key, times, HasNoKeyTwice, OnceInAnyOrder}
 use Rattle.segment_writer.specs.declared.framed.SegKey.{SegKey}
 use Rattle.segment_writer.specs.declared.framed.Framed.{Framed}
-use Rattle.segment_writer.proofs.InOrder.{below}
+use Rattle.segment_writer.proofs.InOrder.{sorted_keeps_all}
 
 -- ---- keys that are the same share their fields
 
@@ -22,80 +27,52 @@ same_place a b h = grind (arith, nat_tests)
 
 -- ---- times of a key in lists
 
-times-append : (k : SegKey) (xs ys : List Framed) → times k (xs ++ ys) ≡ times k xs + times k ys
-times-append k [] ys = omega arith
-times-append k (x ∷ xs) ys = by (same_key k x.key) (times-append k xs ys)
-  where
-    by : (b : Bool) → times k (xs ++ ys) ≡ times k xs + times k ys → (if b then 1 + times k (xs ++ ys) else times k (xs ++ ys)) ≡ (if b then 1 + times k xs else times k xs) + times k ys
-    by true h = omega arith
-    by false h = h
+module _ (k : SegKey) where
+  abbrev has_key : Framed → Bool
+  has_key x = same_key k x.key
 
-times-insert : (k : SegKey) (x : Framed) (ys : List Framed) → times k (insert_by_key x ys) ≡ times k (x ∷ ys)
-times-insert k x [] = refl
-times-insert k x (y ∷ ys) = by (below y x) (times-insert k x ys)
-  where
-    swapped : (a b : Bool) (n : ℕ) → (if a then 1 + (if b then 1 + n else n) else (if b then 1 + n else n)) ≡ (if b then 1 + (if a then 1 + n else n) else (if a then 1 + n else n))
-    swapped true true n = refl
-    swapped true false n = refl
-    swapped false b n = refl
+  pub times_is : (xs : List Framed) → times k xs ≡ count_by has_key xs
+  times_is = is_count_by (times k) has_key refl (λ x xs. refl)
 
-    by : (b : Bool) → times k (insert_by_key x ys) ≡ times k (x ∷ ys) → times k (if b then y ∷ insert_by_key x ys else x ∷ y ∷ ys) ≡ times k (x ∷ y ∷ ys)
-    by true h = ap (λ n. if same_key k y.key then 1 + n else n) h ∙ swapped (same_key k y.key) (same_key k x.key) (times k ys)
-    by false h = refl
+  times_permuted : (xs ys : List Framed) → IsPermutation xs ys → times k ys ≡ times k xs
+  times_permuted xs ys moved = times_is ys ∙ sum_by-IsPermutation (λ x. cond (has_key x) 1 0) xs ys moved ∙ sym (times_is xs)
 
-pub times-sorted : (k : SegKey) (xs : List Framed) → times k (sorted_by_key xs) ≡ times k xs
-unfolding sorted_by_key
-times-sorted k [] = refl
-times-sorted k (x ∷ xs) = times-insert k x (sorted_by_key xs) ∙ ap (λ n. if same_key k x.key then 1 + n else n) (times-sorted k xs)
+  times-append : (xs ys : List Framed) → times k (xs ++ ys) ≡ times k xs + times k ys
+  times-append xs ys = times_is (xs ++ ys) ∙ sum_by-append (λ x. cond (has_key x) 1 0) xs ys ∙ sym (ap₂ (λ m n. m + n) (times_is xs) (times_is ys))
 
-pub times-filter : (p : Framed → Bool) (k : SegKey) (xs : List Framed) → times k (filter p xs) ≤ times k xs
-times-filter p k [] = omega arith
-times-filter p k (x ∷ xs) = by (p x) (times-filter p k xs)
-  where
-    more : (b : Bool) → times k (filter p xs) ≤ times k xs → (if b then 1 + times k (filter p xs) else times k (filter p xs)) ≤ (if b then 1 + times k xs else times k xs)
-    more true h = omega arith
-    more false h = h
+  pub times-sorted : (xs : List Framed) → times k (sorted_by_key xs) ≡ times k xs
+  times-sorted xs = times_permuted xs (sorted_by_key xs) (sorted_keeps_all xs)
 
-    fewer : (b : Bool) → times k (filter p xs) ≤ times k xs → times k (filter p xs) ≤ (if b then 1 + times k xs else times k xs)
-    fewer true h = omega arith
-    fewer false h = h
+  pub times-filter : (p : Framed → Bool) (xs : List Framed) → times k (filter p xs) ≤ times k xs
+  times-filter p xs =
+      let all = times_permuted xs (filter p xs ++ filter (λ x. not (p x)) xs) (IsPermutation-filter_both p (λ x. not (p x)) (λ x. refl) xs) in
+      omega (arith, all, times-append (filter p xs) (filter (λ x. not (p x)) xs))
 
-    by : (kept : Bool) → times k (filter p xs) ≤ times k xs → times k (if kept then x ∷ filter p xs else filter p xs) ≤ times k (x ∷ xs)
-    by true h = more (same_key k x.key) h
-    by false h = fewer (same_key k x.key) h
+  none_that : (P : Framed → Type 0) → ((x : Framed) → P x → same_key k x.key ≡ true → ⊥) → (xs : List Framed) → All P xs → times k xs ≡ 0
+  none_that P other [] all = refl
+  none_that P other (x ∷ xs) all = by (same_key k x.key) refl (none_that P other xs (All-tail P x xs all))
+    where
+      by : (b : Bool) → same_key k x.key ≡ b → times k xs ≡ 0 → (if b then 1 + times k xs else times k xs) ≡ 0
+      by true e h = absurd (other x (All-head P x xs all) e)
+      by false e h = h
+
+pub once_in_any_order : OnceInAnyOrder
+once_in_any_order xs ys moved once k =
+    let few : times k xs ≤ 1 = once k in
+    omega (arith, times_permuted k xs ys moved)
+
+pub one_alone : (x : Framed) → HasNoKeyTwice (x ∷ [])
+one_alone x k = omega (arith, times_is k (x ∷ []), count_by-le-length (has_key k) (x ∷ []))
 
 -- ---- lists that a field of the key tells apart
 
 module _ (f : SegKey → ℕ) (shared : (a b : SegKey) → same_key a b ≡ true → f a ≡ f b) where
-  none_at : (k : SegKey) (n : ℕ) (xs : List Framed) → f k ≢ n → AllByRecursion (λ (x : Framed). f x.key ≡ n) xs → times k xs ≡ 0
-  none_at k n [] other all = refl
-  none_at k n (x ∷ xs) other all = by (same_key k x.key) refl (none_at k n xs other all.1)
-    where
-      by : (b : Bool) → same_key k x.key ≡ b → times k xs ≡ 0 → (if b then 1 + times k xs else times k xs) ≡ 0
-      by true e h = absurd (other (shared k x.key e ∙ all.0))
-      by false e h = h
-
-  none_above : (k : SegKey) (n : ℕ) (xs : List Framed) → f k ≤ n → AllByRecursion (λ (x : Framed). n < f x.key) xs → times k xs ≡ 0
-  none_above k n [] low all = refl
-  none_above k n (x ∷ xs) low all = by (same_key k x.key) refl (none_above k n xs low all.1)
-    where
-      by : (b : Bool) → same_key k x.key ≡ b → times k xs ≡ 0 → (if b then 1 + times k xs else times k xs) ≡ 0
-      by true e h = let same = shared k x.key e in let above : n < f x.key = all.0 in absurd (omega arith)
-      by false e h = h
-
-  pub apart : (n : ℕ) (xs ys : List Framed) → AllByRecursion (λ (x : Framed). f x.key ≡ n) xs → AllByRecursion (λ (y : Framed). n < f y.key) ys → HasNoKeyTwice xs → HasNoKeyTwice ys → HasNoKeyTwice (xs ++ ys)
+  pub apart : (n : ℕ) (xs ys : List Framed) → All (λ (x : Framed). f x.key ≡ n) xs → All (λ (y : Framed). n < f y.key) ys → HasNoKeyTwice xs → HasNoKeyTwice ys → HasNoKeyTwice (xs ++ ys)
   apart n xs ys first above a b k =
       let sum = times-append k xs ys in
       let a' : times k xs ≤ 1 = a k in
       let b' : times k ys ≤ 1 = b k in
       elim (cases_lt n (f k)) [
-        | inl h ↦ let none : times k xs ≡ 0 = none_at k n xs (let other : f k ≢ n = omega arith in other) first in omega arith
-        | inr h ↦ let none : times k ys ≡ 0 = none_above k n ys h above in omega arith
+        | inl h ↦ let none : times k xs ≡ 0 = none_that k (λ x. f x.key ≡ n) (λ x is e. let same = shared k x.key e in let there : f x.key ≡ n = is in omega arith) xs first in omega arith
+        | inr h ↦ let none : times k ys ≡ 0 = none_that k (λ y. n < f y.key) (λ y over e. let same = shared k y.key e in let there : n < f y.key = over in omega arith) ys above in omega arith
       ]
-
-pub one_alone : (x : Framed) → HasNoKeyTwice (x ∷ [])
-one_alone x k = by (same_key k x.key)
-  where
-    by : (b : Bool) → (if b then 1 + 0 else 0) ≤ 1
-    by true = omega arith
-    by false = omega arith

@@ -1,6 +1,6 @@
 pub mod PartBytes
 pub mod PieceCuts
-pub mod PlaceSteps
+pub mod PieceSteps
 pub mod Listening
 pub mod RecordSteps
 pub mod SentClimb
@@ -12,4 +12,3 @@ pub mod WholeSegments
 pub mod OneOrderLaw
 pub mod KeyTimes
 pub mod KeysApart
-mod AnyOrder

@@ -6,25 +6,16 @@ use Rattle.std.proofs.lemmas.Grind.{flat_map-append}
 use Rattle.std.proofs.lemmas.List.{take-append-drop, take_all, append-nil}
 use Rattle.std.proofs.lemmas.List.Elements.{filter-append}
 use Rattle.std.proofs.Math.Seq.{take-add}
+use Rattle.pcap_records.proofs.Lists.{all_append, all_weaker}
 use Rattle.reassembly.specs.RecordedLines.{LineByte, End, live}
 use Rattle.reassembly.specs.LineView.{bytes_without_mark, bytes_with_mark, bytes_of_part, bytes_of_parts}
+use Rattle.reassembly.proofs.LineBytes.{length-marked}
 use Rattle.reassembly.specs.declared.line_parts.LinePart.{LinePart}
 use Rattle.segment_writer.specs.TimelyLines.{Climbs}
-use Rattle.segment_writer.specs.LinePlaces.{has_none}
-use Rattle.segment_writer.specs.LinePlaces.{bytes_before, IsHeard}
+use Rattle.segment_writer.specs.LineCursors.{has_none, bytes_before, IsHeard}
 use Rattle.segment_writer.specs.declared.turns.Heard.{Heard}
-use Rattle.segment_writer.proofs.PartBytes.{length-marked}
 
 -- ---- lists of bytes
-
-module _ (P : LineByte → Type 0) where
-  all-append : (xs ys : List LineByte) → AllByRecursion P xs → AllByRecursion P ys → AllByRecursion P (xs ++ ys)
-  all-append [] ys all more = more
-  all-append (x ∷ xs) ys all more = (all.0, all-append xs ys all.1 more)
-
-later : (at after : ℕ) (xs : List LineByte) → at ≤ after → AllByRecursion (λ b. b.at < at) xs → AllByRecursion (λ b. b.at < after) xs
-later at after [] h all = tt
-later at after (x ∷ xs) h all = (omega (arith, all.0), later at after xs h all.1)
 
 all_kept : (at : ℕ) (xs : List LineByte) → AllByRecursion (λ b. b.at < at) xs → filter (λ (b : LineByte). nat_lt b.at at) xs ≡ xs
 all_kept at [] all = refl
@@ -76,11 +67,11 @@ heard_more parts h at p ps len heard e below before is =
     record {
       within = omega arith;
       count = rw more (omega (arith, heard.count, is, length-append (bytes_of_parts (take h.part parts)) (bytes_of_part p), length-marked p.at p.starts p.bytes.now));
-      before = rw more (all-append (λ (b : LineByte). b.at < at) (bytes_of_parts (take h.part parts)) (bytes_of_part p) heard.before (part_before at p.at p.starts p.bytes.now before));
+      before = rw more (all_append (λ (b : LineByte). b.at < at) (bytes_of_parts (take h.part parts)) (bytes_of_part p) heard.before (part_before at p.at p.starts p.bytes.now before));
     }
 
 pub heard_later : (parts : List LinePart) (h : Heard) (at after : ℕ) → IsHeard parts h at → at ≤ after → IsHeard parts h after
-heard_later parts h at after heard up = record { within = heard.within; count = heard.count; before = later at after (bytes_of_parts (take h.part parts)) up heard.before }
+heard_later parts h at after heard up = record { within = heard.within; count = heard.count; before = all_weaker (λ b. b.at < at) (λ b. b.at < after) (λ b before. let earlier : b.at < at = before in omega arith) (bytes_of_parts (take h.part parts)) heard.before }
 
 -- ---- what was heard is all that was before
 

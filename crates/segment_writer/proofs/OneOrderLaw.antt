@@ -1,29 +1,19 @@
 -- Of each key one segment: then there is one order.
 use Rattle.std.proofs.Common.{◌≡◌, ◌≤◌, ℕ, ◌+◌, Bool, true, false, cond, List, [], ◌∷◌, length, filter, if◌then◌else◌, refl, sym, ap, ◌∙◌, arith}
-use Rattle.std.specs.List.{All, sum_by}
+use Rattle.std.specs.List.{All}
 use Rattle.std.specs.List.Sorted.{ties, IsPermutation}
-use Rattle.std.proofs.lemmas.List.Sums.{sum_by-cons}
+use Rattle.std.proofs.lemmas.List.Sums.{length-filter}
 use Rattle.std.proofs.lemmas.List.Elements.{All-cons, All-head, All-tail, All-nil}
 use Rattle.std.proofs.lemmas.List.Sorted.{sum_by-IsPermutation, All-permutation}
-use Rattle.segment_writer.specs.KeyLaws.{same_key, times, NoneLower, NeverFalls, OneOrder}
+use Rattle.segment_writer.specs.KeyLaws.{NoneLower, NeverFalls, OneOrder}
 use Rattle.segment_writer.specs.declared.framed.Framed.{Framed}
 use Rattle.segment_writer.proofs.Sorting.{NoneBelow, Ordered}
 use Rattle.segment_writer.proofs.InOrder.{below, sorted_by_key-only}
+use Rattle.segment_writer.proofs.KeyTimes.{times_is}
 
 -- ---- a test that one element passes at most
 
 module _ {X : Type 0} (p : X → Bool) where
-  abbrev weight : X → ℕ
-  weight x = cond (p x) 1 0
-
-  count_is : (xs : List X) → length (filter p xs) ≡ sum_by weight xs
-  count_is [] = refl
-  count_is (x ∷ xs) = by (p x) (count_is xs) ∙ sym (sum_by-cons weight x xs)
-    where
-      by : (b : Bool) → length (filter p xs) ≡ sum_by weight xs → length (cond b (x ∷ filter p xs) (filter p xs)) ≡ cond b 1 0 + sum_by weight xs
-      by true h = omega arith
-      by false h = omega arith
-
   -- what passes is a
   abbrev IsThat : X → X → Type 0
   IsThat a x = p x ≡ true → x ≡ a
@@ -53,7 +43,7 @@ module _ {X : Type 0} (p : X → Bool) where
       by false t e rest = rest e
 
   same_passes : (xs ys : List X) → IsPermutation xs ys → length (filter p xs) ≤ 1 → filter p ys ≡ filter p xs
-  same_passes xs ys moved few = by (filter p xs) (filter p ys) refl refl (count_is ys ∙ sum_by-IsPermutation weight xs ys moved ∙ sym (count_is xs)) few
+  same_passes xs ys moved few = by (filter p xs) (filter p ys) refl refl (length-filter p ys ∙ sum_by-IsPermutation (λ x. cond (p x) 1 0) xs ys moved ∙ sym (length-filter p xs)) few
     where
       by : (us vs : List X) → filter p xs ≡ us → filter p ys ≡ vs → length (filter p ys) ≡ length (filter p xs) → length (filter p xs) ≤ 1 → filter p ys ≡ filter p xs
       by [] [] e f same few = f ∙ sym e
@@ -67,14 +57,6 @@ module _ {X : Type 0} (p : X → Bool) where
 
 -- ---- keys
 
-times_is : (z : Framed) (xs : List Framed) → length (filter (ties below z) xs) ≡ times z.key xs
-times_is z [] = refl
-times_is z (x ∷ xs) = by (same_key z.key x.key) (times_is z xs)
-  where
-    by : (b : Bool) → length (filter (ties below z) xs) ≡ times z.key xs → length (cond b (x ∷ filter (ties below z) xs) (filter (ties below z) xs)) ≡ (if b then 1 + times z.key xs else times z.key xs)
-    by true h = omega arith
-    by false h = h
-
 none_below : (x : Framed) (ys : List Framed) → NoneLower x.key ys → NoneBelow below x ys
 none_below x [] none = tt
 none_below x (y ∷ ys) none = (none.0, none_below x ys none.1)
@@ -85,4 +67,4 @@ ordered (y ∷ ys) falls = (none_below y ys falls.0, ordered ys falls.1)
 
 pub one_order : OneOrder
 one_order xs ys once moved falls =
-    sorted_by_key-only xs ys (ordered ys falls) (λ z. same_passes (ties below z) xs ys moved (let few = once z.key in omega (arith, times_is z xs)))
+    sorted_by_key-only xs ys (ordered ys falls) (λ z. same_passes (ties below z) xs ys moved (let few = once z.key in omega (arith, length-filter (ties below z) xs, times_is z.key xs)))

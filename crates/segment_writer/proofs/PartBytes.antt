@@ -1,26 +1,15 @@
--- The bytes of parts: what is left of them from a place on.
+-- The bytes of parts: what is left of them from a cursor on.
 use Rattle.std.proofs.Common.{◌≡◌, ◌≤◌, ◌<◌, ℕ, zero, suc, ◌+◌, ◌-◌, Bool, true, false, ◌||◌, not, List, [], ◌∷◌, ◌++◌, length, take, drop, refl, sym, ap, ◌∙◌, arith, length-append, length-drop, min, subst}
 use Rattle.std.proofs.lemmas.List.{drop-append-le, take-append-le, drop-map, take-map}
 use Rattle.reassembly.specs.RecordedLines.{LineByte}
 use Rattle.reassembly.specs.LineView.{bytes_without_mark, bytes_with_mark, bytes_of_parts}
+use Rattle.reassembly.proofs.LineBytes.{unmarked, length-marked}
 use Rattle.reassembly.specs.declared.line_parts.LinePart.{LinePart}
 use Rattle.segment_writer.specs.FirstPieces.{run, piece_size, values, first_instant}
-use Rattle.segment_writer.specs.LinePlaces.{left_at, IsInside, IsPlace, has_none, goes_on}
-use Rattle.segment_writer.specs.declared.places.Cursor.{Cursor}
+use Rattle.segment_writer.specs.LineCursors.{left_at, IsInside, IsCursor, has_none, goes_on}
+use Rattle.segment_writer.specs.declared.pieces.Cursor.{Cursor}
 
 -- ---- bytes of one part
-
-unmarked : (at : ℕ) (xs : List ℕ) → bytes_without_mark at xs ≡ bytes_with_mark at false xs
-unmarked at [] = refl
-unmarked at (x ∷ xs) = refl
-
-pub length-unmarked : (at : ℕ) (xs : List ℕ) → length (bytes_without_mark at xs) ≡ length xs
-length-unmarked at [] = refl
-length-unmarked at (x ∷ xs) = ap suc (length-unmarked at xs)
-
-pub length-marked : (at : ℕ) (s : Bool) (xs : List ℕ) → length (bytes_with_mark at s xs) ≡ length xs
-length-marked at s [] = refl
-length-marked at s (x ∷ xs) = ap suc (length-unmarked at xs)
 
 pub values-unmarked : (at : ℕ) (xs : List ℕ) → values (bytes_without_mark at xs) ≡ xs
 values-unmarked at [] = refl
@@ -62,11 +51,11 @@ run-part_on parts i p ps e h = rw e (run-on p.at p.starts p.bytes.now (bytes_of_
 pub run-part_stops : (parts : List LinePart) (i : ℕ) (p : LinePart) (ps : List LinePart) → drop i parts ≡ p ∷ ps → goes_on p ≡ false → run (bytes_of_parts (drop i parts)) ≡ 0
 run-part_stops parts i p ps e h = rw e (run-stops p.at p.starts p.bytes.now (bytes_of_parts ps) h)
 
--- ---- what is left at a place in a part
+-- ---- what is left at a cursor in a part
 
 module _ (parts : List LinePart) (c : Cursor) (p : LinePart) (ps : List LinePart) (e : drop c.part parts ≡ p ∷ ps) where
-  pub inside_is : IsPlace parts c → c.offset < length p.bytes.now
-  inside_is place = subst (λ (xs : List LinePart). IsInside xs c.offset) e place.inside
+  pub inside_is : IsCursor parts c → c.offset < length p.bytes.now
+  inside_is cursor = subst (λ (xs : List LinePart). IsInside xs c.offset) e cursor.inside
 
   pub left_is : c.offset ≤ length p.bytes.now → left_at parts c ≡ bytes_with_mark p.at (mark p.starts c.offset) (drop c.offset p.bytes.now) ++ bytes_of_parts ps
   left_is h =

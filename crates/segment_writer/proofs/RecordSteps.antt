@@ -14,11 +14,11 @@ use Rattle.reassembly.specs.LineView.{bytes_of_parts}
 use Rattle.reassembly.specs.declared.line_parts.LinePart.{LinePart}
 use Rattle.segment_writer.specs.WrittenSegments.{SentSegment, is_chunk_border}
 use Rattle.segment_writer.specs.FirstPieces.{run, piece_size, values, first_instant, first_of}
-use Rattle.segment_writer.specs.LinePlaces.{left_at, IsPlace}
+use Rattle.segment_writer.specs.LineCursors.{left_at, IsCursor}
 use Rattle.segment_writer.specs.Senders.{header_with, frame_with, framed_by, piece_segment}
 use Rattle.segment_writer.specs.declared.framed.SegKey.{SegKey}
 use Rattle.segment_writer.specs.declared.framed.Framed.{Framed}
-use Rattle.segment_writer.specs.declared.places.Cursor.{Cursor}
+use Rattle.segment_writer.specs.declared.pieces.Cursor.{Cursor}
 use Rattle.segment_writer.specs.declared.senders.Sender.{Sender}
 use Rattle.segment_writer.proofs.PartBytes.{mark, inside_is, left_is, first_instant-marked}
 
@@ -97,8 +97,8 @@ piece_limited limit (b ∷ bytes) = omega arith
 pub length-piece : (n : ℕ) (bytes : List LineByte) → n ≤ length bytes → length (values (take n bytes)) ≡ n
 length-piece n bytes h = length-map (take n bytes) (λ (b : LineByte). b.value) ∙ length-take n bytes ∙ omega arith
 
-pub first_instant-place : (parts : List LinePart) (c : Cursor) (p : LinePart) (ps : List LinePart) → drop c.part parts ≡ p ∷ ps → IsPlace parts c → p.at ≡ first_instant (left_at parts c)
-first_instant-place parts c p ps e place =
+pub first_instant-cursor : (parts : List LinePart) (c : Cursor) (p : LinePart) (ps : List LinePart) → drop c.part parts ≡ p ∷ ps → IsCursor parts c → p.at ≡ first_instant (left_at parts c)
+first_instant-cursor parts c p ps e place =
     let inside : c.offset < length p.bytes.now = inside_is parts c p ps e place in
     let some : 0 < length (drop c.offset p.bytes.now) = omega (arith, length-drop c.offset p.bytes.now) in
     sym (ap first_instant (left_is parts c p ps e (omega arith)) ∙ first_instant-marked p.at (mark p.starts c.offset) (drop c.offset p.bytes.now) (bytes_of_parts ps) some)

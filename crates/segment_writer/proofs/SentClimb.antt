@@ -5,6 +5,7 @@ use Rattle.std.proofs.lemmas.Bool.{lt-ltb, le-ltb}
 use Rattle.pcap_records.specs.Instants.{horizon, microseconds}
 use Rattle.reassembly.specs.RecordedLines.{LineByte, End, live, fin, close, reset}
 use Rattle.reassembly.specs.LineLaws.{IsNotBefore}
+use Rattle.reassembly.proofs.LineBytes.{IsNotBefore-weaker}
 use Rattle.segment_writer.specs.WrittenSegments.{Piece, WrittenSide, SentSegment, pieces, pieces_led_by, is_chunk_border, end_segments, segments_sent_from, segments_before_horizon}
 use Rattle.segment_writer.specs.TimelyLines.{Climbs}
 use Rattle.segment_writer.specs.Senders.{framed_by}
@@ -13,14 +14,8 @@ use Rattle.segment_writer.specs.declared.senders.Sender.{Sender}
 
 -- ---- bytes
 
-not_before : (low up : ℕ) (end : End) → low ≤ up → IsNotBefore up end → IsNotBefore low end
-not_before low up live h is = tt
-not_before low up (fin at) h is = omega arith
-not_before low up (close at) h is = omega arith
-not_before low up (reset at) h is = omega arith
-
 pub climbs_from : (low up : ℕ) (bytes : List LineByte) (end : End) → low ≤ up → Climbs up bytes end → Climbs low bytes end
-climbs_from low up [] end h climbs = not_before low up end h climbs
+climbs_from low up [] end h climbs = IsNotBefore-weaker low up end h climbs
 climbs_from low up (b ∷ bytes) end h climbs = let up' : up ≤ b.at = climbs.0 in (omega arith, climbs.1)
 
 pub climbs_live : (low : ℕ) (bytes : List LineByte) (end : End) → Climbs low bytes end → Climbs low bytes live
@@ -34,11 +29,11 @@ PiecesClimb low [] end = IsNotBefore low end
 PiecesClimb low (p ∷ ps) end = (low ≤ p.at) × PiecesClimb p.at ps end
 
 pieces_from : (low up : ℕ) (ps : List Piece) (end : End) → low ≤ up → PiecesClimb up ps end → PiecesClimb low ps end
-pieces_from low up [] end h climb = not_before low up end h climb
+pieces_from low up [] end h climb = IsNotBefore-weaker low up end h climb
 pieces_from low up (p ∷ ps) end h climb = let up' : up ≤ p.at = climb.0 in (omega arith, climb.1)
 
 led_climb : (low : ℕ) (b : LineByte) (ps : List Piece) (end : End) → low ≤ b.at → PiecesClimb b.at ps end → PiecesClimb low (pieces_led_by b ps) end
-led_climb low b [] end h climb = not_before low b.at end h climb
+led_climb low b [] end h climb = IsNotBefore-weaker low b.at end h climb
 led_climb low b (p ∷ ps) end h climb = (h, pieces_from b.at p.at ps end climb.0 climb.1)
 
 pieces_climb : (limit room low : ℕ) (bytes : List LineByte) (end : End) → Climbs low bytes end → PiecesClimb low (pieces limit room bytes) end

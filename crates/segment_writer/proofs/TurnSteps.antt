@@ -7,19 +7,19 @@ use Rattle.reassembly.specs.RecordedLines.{LineByte, Line, End}
 use Rattle.reassembly.specs.LineView.{bytes_of_parts, end_view, line_of}
 use Rattle.reassembly.specs.declared.line_parts.LinePart.{LinePart}
 use Rattle.reassembly.specs.declared.line_parts.End as code
-use Rattle.segment_writer.specs.WrittenSegments.{WrittenSide, SentSegment, Piece, opening_segment, pieces, segments_sent_from, end_segments, sequence_number, acknowledgment_number, end_numbers_before, sequence_space}
+use Rattle.reassembly.specs.Positions.{sequence_space}
+use Rattle.segment_writer.specs.WrittenSegments.{WrittenSide, SentSegment, Piece, opening_segment, pieces, segments_sent_from, end_segments, sequence_number, acknowledgment_number, end_numbers_before}
 use Rattle.segment_writer.specs.TimelyLines.{Climbs, IsTimely}
 use Rattle.segment_writer.specs.FirstPieces.{piece_size, values, first_instant, first_of}
-use Rattle.segment_writer.specs.LinePlaces.{left_at, IsPlace}
-use Rattle.segment_writer.specs.LinePlaces.{bytes_before, IsHeard}
+use Rattle.segment_writer.specs.LineCursors.{left_at, IsCursor, bytes_before, IsHeard}
 use Rattle.segment_writer.specs.Senders.{own_side, peer_side, framed_by, piece_segment, ending_segments, line_written}
 use Rattle.segment_writer.specs.declared.framed.Framed.{Framed}
-use Rattle.segment_writer.specs.declared.places.Cursor.{Cursor}
+use Rattle.segment_writer.specs.declared.pieces.Cursor.{Cursor}
 use Rattle.segment_writer.specs.declared.turns.Heard.{Heard}
 use Rattle.segment_writer.specs.declared.senders.Sender.{Sender}
 use Rattle.segment_writer.specs.declared.turns.Ending.{Ending}
 use Rattle.segment_writer.proofs.PieceCuts.{first_piece}
-use Rattle.segment_writer.proofs.RecordSteps.{piece_within, length-piece, first_instant-place}
+use Rattle.segment_writer.proofs.RecordSteps.{piece_within, length-piece, first_instant-cursor}
 use Rattle.segment_writer.proofs.PartBytes.{inside_is, length-left}
 use Rattle.segment_writer.proofs.Listening.{climbs_behind, heard_later}
 use Rattle.segment_writer.proofs.SentClimb.{climbs_from, line_climbs, end_climbs, SentClimbs, written_from, written_next, written_late}
@@ -80,14 +80,14 @@ climbs_drop size low bytes end climbs =
 module _ (s : Sender) (own : List LinePart) (own_end : code.End) (peer : List LinePart) (peer_end : code.End) where
   pub record Going (list : List Framed) (from : Cursor) (heard : Heard) (sent place : ℕ) : Type 0 where
     pub last : ℕ
-    pub from_is : IsPlace own from
+    pub from_is : IsCursor own from
     pub heard_is : IsHeard peer heard last
     pub climbs : Climbs last (left_at own from) (end_view own_end)
     pub bytes : sent + length (left_at own from) ≡ length (bytes_of_parts own)
     pub few : place ≤ sent
     pub done : list ++ left_written s (line_of own own_end) (line_of peer peer_end) place sent (left_at own from) ≡ line_written s (line_of own own_end) (line_of peer peer_end)
 
-  pub going_starts : (list : List Framed) (part : ℕ) → list ≡ [] → IsPlace own (record { part = part; offset = 0 }) → bytes_of_parts (drop part own) ≡ bytes_of_parts own → IsTimely (line_of own own_end)
+  pub going_starts : (list : List Framed) (part : ℕ) → list ≡ [] → IsCursor own (record { part = part; offset = 0 }) → bytes_of_parts (drop part own) ≡ bytes_of_parts own → IsTimely (line_of own own_end)
       → Going list (record { part = part; offset = 0 }) (record { part = 0; bytes = 0 }) 0 0
   going_starts list part none place left timely = record {
     last = 0;
@@ -105,7 +105,7 @@ module _ (s : Sender) (own : List LinePart) (own_end : code.End) (peer : List Li
 
     module _ (p : LinePart) (ps : List LinePart) (e : drop from.part own ≡ p ∷ ps) where
       at_is : p.at ≡ first_instant (left_at own from)
-      at_is = first_instant-place own from p ps e going.from_is
+      at_is = first_instant-cursor own from p ps e going.from_is
 
       some_left : 0 < length (left_at own from)
       some_left =
@@ -139,13 +139,13 @@ module _ (s : Sender) (own : List LinePart) (own_end : code.End) (peer : List Li
             omega (arith, ap length is, length-drop size (left_at own from))
 
         pub going_on : (after : Cursor) (h : Heard) (seq ack at_place : ℕ) (framed : Framed) (more : List Framed) → p.at < horizon microseconds
-            → IsPlace own after → left_at own after ≡ drop size (left_at own from)
+            → IsCursor own after → left_at own after ≡ drop size (left_at own from)
             → IsHeard peer h p.at → h.bytes ≡ bytes_before p.at (bytes_of_parts peer)
             → seq ≡ (s.base + 1 + sent) % sequence_space → ack ≡ (s.peer_base + 1 + h.bytes + end_numbers_before p.at (end_view peer_end)) % sequence_space → at_place ≡ place
             → framed ≡ framed_by s (at_place, piece_segment seq ack (first_of payload_limit (left_at own from)))
             → more ≡ list ++ framed ∷ []
             → Going more after h (sent + size) (place + 1)
-        going_on after h seq ack at_place framed more early is_place left hears count seq_is ack_is place_is framed_is more_is =
+        going_on after h seq ack at_place framed more early is_cursor left hears count seq_is ack_is place_is framed_is more_is =
             let own_line : Line = line_of own own_end in
             let peer_line : Line = line_of peer peer_end in
             let some : 0 < length (left_at own from) = some_left in
@@ -159,7 +159,7 @@ module _ (s : Sender) (own : List LinePart) (own_end : code.End) (peer : List Li
             let next = next_written s own_line peer_line place sent size (left_at own from) some size_is (step_early early) in
             record {
               last = p.at;
-              from_is = is_place;
+              from_is = is_cursor;
               heard_is = hears;
               climbs = subst (λ (xs : List LineByte). Climbs p.at xs (end_view own_end)) (sym left)
                   (climbs_from p.at (first_instant (left_at own from)) (drop size (left_at own from)) (end_view own_end) (omega (arith, at_is))

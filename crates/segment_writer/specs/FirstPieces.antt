@@ -26,7 +26,7 @@ first_of limit bytes = record {
   ends = is_chunk_border (drop (piece_size limit bytes) bytes);
 }
 
--- some bytes are cut into the first piece, with room for so many, and the pieces of what stands behind it
+-- some bytes are cut into the first piece, with room for so many, and the pieces of what comes after it
 abbrev pub FirstPiece : Type 0
 FirstPiece =
     (limit room : ℕ) (b : LineByte) (bytes : List LineByte) → 0 < room

@@ -41,7 +41,7 @@ SortedNeverFalls = (xs : List Framed) → NeverFalls (sorted_by_key xs)
 abbrev pub SortedKeepsAll : Type 0
 SortedKeepsAll = (xs : List Framed) → IsPermutation xs (sorted_by_key xs)
 
--- whether a key stands twice does not hang on the order of the segments
+-- whether a key stands twice does not depend on the order of the segments
 abbrev pub OnceInAnyOrder : Type 0
 OnceInAnyOrder = (xs ys : List Framed) → IsPermutation xs ys → HasNoKeyTwice xs → HasNoKeyTwice ys
 

@@ -4,7 +4,7 @@ use Rattle.segment_writer.specs.declared.framed.SegKey.{SegKey}
 use Rattle.segment_writer.specs.declared.framed.Framed.{Framed}
 use Rattle.segment_writer.specs.WrittenSegments.{is_key_below, sorted_by_key}
 
--- behind a key, each is above the one before it
+-- from a key on, each is above the one before it
 abbrev pub RisesFrom : SegKey → List Framed → Type 0
 RisesFrom k [] = Unit {0}
 RisesFrom k (x ∷ xs) = (is_key_below k x.key ≡ true) × RisesFrom x.key xs

@@ -3,7 +3,7 @@ pub mod WrittenConnections
 pub mod KeyOrder
 pub mod TimelyLines
 pub mod FirstPieces
-pub mod LinePlaces
+pub mod LineCursors
 pub mod Senders
 pub mod KeyLaws
 pub mod SentRows

@@ -35,7 +35,7 @@ numbers_of sent = map (λ s. (s.seq, s.ack, s.flags)) sent
 abbrev pub keys_of : List Framed → List (ℕ × ℕ × ℕ × ℕ)
 keys_of framed = map (λ x. (x.key.moment, x.key.conn, x.key.turn, x.key.place)) framed
 
--- the client's bytes come behind the server's FIN, and acknowledge it
+-- the client's bytes come after the server's FIN, and acknowledge it
 abbrev pub LaterSent : Type 0
 LaterSent =
     let c = connection_with false (line_with (hello 1101000) (fin 1101000)) (line_with [] (fin 1003000)) in

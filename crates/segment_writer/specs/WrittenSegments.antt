@@ -1,5 +1,5 @@
 -- The segments of a connection as they are written (RFC 9293 section 3.1), and the order in which a capture has them.
-use Rattle.std.specs.Prelude.{ℕ, ◌+◌, ◌-◌, ◌%◌, ◌^◌, List, [], ◌∷◌, ◌++◌, length, map, filter, Bool, true, false, ◌||◌, ◌&&◌, ◌==◌, nat_lt, if◌then◌else◌}
+use Rattle.std.specs.Prelude.{ℕ, ◌+◌, ◌-◌, ◌%◌, List, [], ◌∷◌, ◌++◌, length, map, filter, Bool, true, false, ◌||◌, ◌&&◌, ◌==◌, nat_lt, if◌then◌else◌}
 use Rattle.std.specs.List.{enumerate_from}
 use Rattle.pcap_records.specs.Instants.{horizon}
 use Rattle.pcap_records.specs.Writing.{record_bytes}
@@ -10,6 +10,7 @@ use Rattle.frame_headers.specs.declared.peers.Peer.{Peer}
 use Rattle.frame_headers.specs.declared.written.Header.{Header}
 use Rattle.segment_writer.specs.declared.framed.SegKey.{SegKey}
 use Rattle.segment_writer.specs.declared.framed.Framed.{Framed}
+use Rattle.reassembly.specs.Positions.{sequence_space}
 use Rattle.reassembly.specs.RecordedLines.{LineByte, Line, End, live, fin, close, reset}
 
 -- ---- hosts and sides
@@ -51,7 +52,7 @@ abbrev pub pieces_led_by : LineByte → List Piece → List Piece
 pieces_led_by c [] = []
 pieces_led_by c (p ∷ ps) = record { at = c.at; bytes = c.value ∷ p.bytes; ends = p.ends } ∷ ps
 
--- the bytes, cut behind each one that ends a chunk or fills its piece; the first piece has room for so many
+-- the bytes, cut after each one that ends a chunk or fills its piece; the first piece has room for so many
 unfoldable pub pieces : ℕ → ℕ → List LineByte → List Piece
 pieces limit room [] = []
 pieces limit room (c ∷ cs) =
@@ -69,9 +70,6 @@ pub record SentSegment : Type 0 where
   pub flags : ℕ
   pub payload : List ℕ
 
-abbrev pub sequence_space : ℕ
-sequence_space = 2 ^ 32
-
 -- a FIN or a close takes up a number, from the instant after its own on
 abbrev pub end_numbers_before : ℕ → End → ℕ
 end_numbers_before at live = 0
@@ -83,7 +81,7 @@ end_numbers_before at (reset m) = 0
 abbrev pub acknowledgment_number : WrittenSide → ℕ → ℕ
 acknowledgment_number peer at = (peer.base + 1 + length (filter (λ c. nat_lt c.at at) peer.line.bytes) + end_numbers_before at peer.line.end) % sequence_space
 
--- the number of a side's byte x, or of what stands behind x bytes
+-- the number of a side's byte x, or of what comes after x bytes
 abbrev pub sequence_number : WrittenSide → ℕ → ℕ
 sequence_number own x = (own.base + 1 + x) % sequence_space
 

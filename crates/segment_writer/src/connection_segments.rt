@@ -34,7 +34,9 @@ pub fn segments(
 ) -> Result<SegList, AllocError>
     requires up { IsLine delivered.now.up.line }
     requires down { IsLine delivered.now.down.line }
-    ensures { IfOk result (λ list. list ≡ written_segments microseconds (written_connection conn.now.number conn.now.client conn.now.server (recorded_view recorded.now) (delivered_view delivered.now))) }
+    ensures { IfOk result (λ list. list ≡ written_segments microseconds
+        (written_connection conn.now.number conn.now.client conn.now.server (recorded_view recorded.now)
+        (delivered_view delivered.now))) }
 {
     let opener = client_in(conn, recorded, 0);
     let answerer = peer_in(&opener, 0);

@@ -16,7 +16,7 @@ pub fn parts_are_sorted_first()
     ensures { PartsAreSortedFirst }
 {}
 
-/// The first piece of some bytes is what their chunk still has, at most the limit, and what stands behind it is cut in the same
+/// The first piece of some bytes is what their chunk still has, at most the limit, and what comes after it is cut in the same
 /// way. A piece ends its chunk where no byte of the chunk follows.
 pub fn first_piece()
     ensures { FirstPiece }

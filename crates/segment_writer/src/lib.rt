@@ -4,7 +4,7 @@
 mod connection_segments;
 mod framed;
 pub mod laws;
-mod places;
+mod pieces;
 mod records;
 mod senders;
 mod turns;

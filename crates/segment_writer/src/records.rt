@@ -8,11 +8,11 @@ ghost use Rattle.frame_headers.specs.Headers.{headers};
 ghost use Rattle.frame_headers.specs.Layout.{headers_len, payload_limit};
 ghost use Rattle.segment_writer.specs.WrittenSegments.{opening_segment};
 ghost use Rattle.segment_writer.specs.FirstPieces.{first_instant, first_of, piece_size};
-ghost use Rattle.segment_writer.specs.LinePlaces.{left_at, IsPlace};
+ghost use Rattle.segment_writer.specs.LineCursors.{left_at, IsCursor};
 ghost use Rattle.segment_writer.specs.Senders.{frame_with, framed_by, piece_segment};
 
 use crate::framed::Framed;
-use crate::places::{Cursor, copy_piece, is_border, part_at};
+use crate::pieces::{Cursor, copy_piece, is_border, part_at};
 use crate::senders::{Numbers, Sender, header_with, key_at};
 use frame_headers::{Flags, HEADERS_LEN, Header, put_headers};
 use pcap_records::{Moment, RECORD_HEADER_LEN, Values, record_header_bytes};
@@ -23,7 +23,8 @@ use std::alloc::{AllocError, Global};
 fn open_record(alloc: Global, at: Moment, len: usize) -> Result<Vec<u8>, AllocError>
     requires early { at < horizon microseconds }
     requires small { len ≤ payload_limit }
-    ensures { IfOk result (λ bytes. bytes.items ≡ record_header microseconds at (headers_len + len) ++ replicate headers_len 0) }
+    ensures { IfOk result (λ bytes. bytes.items ≡ record_header microseconds at (headers_len + len)
+        ++ replicate headers_len 0) }
 {
     let mut bytes = Vec::with_capacity(alloc, RECORD_HEADER_LEN + HEADERS_LEN + len)?;
     let header = record_header_bytes(at, (HEADERS_LEN + len) as u32);
@@ -37,7 +38,8 @@ fn close_record(bytes: &mut [u8], header: &Header)
     requires room { record_header_len + headers_len ≤ length bytes.old }
     requires small { length bytes.old ≤ record_header_len + headers_len + payload_limit }
     ensures len { length (headers header.now (drop (record_header_len + headers_len) bytes.old)) ≡ headers_len }
-    ensures bytes { bytes.new ≡ take record_header_len bytes.old ++ frame_with header.now (drop (record_header_len + headers_len) bytes.old) }
+    ensures bytes { bytes.new ≡ take record_header_len bytes.old
+        ++ frame_with header.now (drop (record_header_len + headers_len) bytes.old) }
 {
     put_headers(&mut bytes[RECORD_HEADER_LEN..], header);
 }
@@ -62,7 +64,8 @@ pub(crate) fn bare_framed(
     flags: Flags,
 ) -> Result<Framed, AllocError>
     requires { at < horizon microseconds }
-    ensures { IfOk result (λ framed. framed ≡ framed_by sender.now (numbers.place, opening_segment at numbers.seq numbers.ack flags)) }
+    ensures { IfOk result (λ framed. framed
+        ≡ framed_by sender.now (numbers.place, opening_segment at numbers.seq numbers.ack flags)) }
 {
     let mut bytes = open_record(alloc, at, 0)?;
     let header = header_with(sender, numbers, flags);
@@ -73,7 +76,7 @@ pub(crate) fn bare_framed(
     })
 }
 
-/// The segment of the piece of `len` bytes that begins at a place, and the place behind it.
+/// The segment of the piece of `len` bytes that begins at a cursor, and the cursor after it.
 pub(crate) fn piece_framed(
     alloc: Global,
     sender: &Sender,
@@ -82,12 +85,14 @@ pub(crate) fn piece_framed(
     len: usize,
     numbers: Numbers,
 ) -> Result<(Framed, Cursor), AllocError>
-    requires place { IsPlace own.now from }
+    requires cursor { IsCursor own.now from }
     requires before { from.part < length own.now }
     requires len { len ≡ piece_size payload_limit (left_at own.now from) }
     requires early { first_instant (left_at own.now from) < horizon microseconds }
-    ensures framed { IfOk result (λ r. r.0 ≡ framed_by sender.now (numbers.place, piece_segment numbers.seq numbers.ack (first_of payload_limit (left_at own.now from)))) }
-    ensures place { IfOk result (λ r. IsPlace own.now r.1) }
+    ensures framed { IfOk result (λ r. r.0
+        ≡ framed_by sender.now
+        (numbers.place, piece_segment numbers.seq numbers.ack (first_of payload_limit (left_at own.now from)))) }
+    ensures cursor { IfOk result (λ r. IsCursor own.now r.1) }
     ensures left { IfOk result (λ r. left_at own.now r.1 ≡ drop len (left_at own.now from)) }
 {
     let at = part_at(own, from.part).at;

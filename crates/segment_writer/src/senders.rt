@@ -34,7 +34,8 @@ pub(crate) struct Numbers {
 
 /// The client of a connection, in a turn.
 pub(crate) fn client_in(conn: &Conn, recorded: &Recorded<'_>, turn: u8) -> Sender
-    ensures { (d : DeliveredConnection) → result ≡ client_in (written_connection conn.now.number conn.now.client conn.now.server (recorded_view recorded.now) d) turn }
+    ensures { (d : DeliveredConnection) → result ≡ client_in
+        (written_connection conn.now.number conn.now.client conn.now.server (recorded_view recorded.now) d) turn }
 {
     let mac_from = recorded.mac_client;
     let mac_to = recorded.mac_server;

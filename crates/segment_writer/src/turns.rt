@@ -4,13 +4,14 @@ ghost use Rattle.std.specs.Prelude.{◌≡◌, ◌≤◌, ◌<◌, ◌+◌, ◌%
 ghost use Rattle.pcap_records.specs.Instants.{horizon, microseconds};
 ghost use Rattle.reassembly.specs.LineView.{bytes_of_parts, line_of, end_view};
 ghost use Rattle.reassembly.specs.RecordedLines.{live};
-ghost use Rattle.segment_writer.specs.WrittenSegments.{WrittenSide, end_numbers_before, end_segments, sequence_space};
+ghost use Rattle.reassembly.specs.Positions.{sequence_space};
+ghost use Rattle.segment_writer.specs.WrittenSegments.{WrittenSide, end_numbers_before, end_segments};
 ghost use Rattle.segment_writer.specs.TimelyLines.{Climbs, IsTimely};
-ghost use Rattle.segment_writer.specs.LinePlaces.{has_none, bytes_before, IsHeard};
+ghost use Rattle.segment_writer.specs.LineCursors.{has_none, bytes_before, IsHeard};
 ghost use Rattle.segment_writer.specs.Senders.{ending_segments, line_written};
 
 use crate::framed::Framed;
-use crate::places::{Cursor, next_filled, part_at, piece_len};
+use crate::pieces::{Cursor, next_filled, part_at, piece_len};
 use crate::records::{bare_framed, piece_framed};
 use crate::senders::{Numbers, Sender};
 use frame_headers::Flags;
@@ -29,7 +30,8 @@ pub(crate) fn line_segments(
 ) -> Result<Vec<Framed>, AllocError>
     requires own { IsTimely (line_of own.now own_end.now) }
     requires peer { IsTimely (line_of peer.now peer_end.now) }
-    ensures { IfOk result (λ list. list.items ≡ line_written sender.now (line_of own.now own_end.now) (line_of peer.now peer_end.now)) }
+    ensures { IfOk result (λ list. list.items
+        ≡ line_written sender.now (line_of own.now own_end.now) (line_of peer.now peer_end.now)) }
 {
     let mut list = Vec::new(alloc);
     let mut from = Cursor {
@@ -83,7 +85,8 @@ fn numbers_at(
     place: u32,
 ) -> Numbers
     ensures seq { result.seq ≡ (sender.now.base + 1 + sent) % sequence_space }
-    ensures ack { result.ack ≡ (sender.now.peer_base + 1 + heard.bytes + end_numbers_before at (end_view peer_end.now)) % sequence_space }
+    ensures ack { result.ack
+        ≡ (sender.now.peer_base + 1 + heard.bytes + end_numbers_before at (end_view peer_end.now)) % sequence_space }
     ensures place { result.place ≡ place }
 {
     Numbers {
@@ -157,7 +160,8 @@ struct Ending {
 
 // FIN for a FIN and a close, RST for a reset, nothing for a line that does not end.
 fn ending_of(end: &End) -> Option<Ending>
-    ensures { (own peer : WrittenSide) (n : ℕ) → end_segments own peer n (end_view end.now) ≡ ending_segments own peer n result }
+    ensures { (own peer : WrittenSide) (n : ℕ) → end_segments own peer n (end_view end.now)
+        ≡ ending_segments own peer n result }
 {
     match end {
         End::Live => None,

@@ -3,7 +3,7 @@ use Rattle.report.proofs.sides.longest_delay.Goals as goal
 
 pub runs-preserved : goal.runs-preserved
 runs-preserved c =
-    rw (c.place_after-from.ensures, c.place_after-to.ensures)
+    rw (c.cursor_after-from.ensures, c.cursor_after-to.ensures)
     (walk_on _ _ _ _ _ _ _ c.index-recorded-from.result c.index-delivered-to.result c.runs.invariant c.runs-test.true c.if-to-delivered.true
     c.index-recorded-from.is c.index-delivered-to.is c.min-run.ensures c.longer-longest.ensures)
 

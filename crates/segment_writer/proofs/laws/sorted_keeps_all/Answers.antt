@@ -1,4 +1,4 @@
-use Rattle.segment_writer.proofs.AnyOrder.{sorted_keeps_all}
+use Rattle.segment_writer.proofs.InOrder.{sorted_keeps_all}
 use Rattle.segment_writer.proofs.laws.sorted_keeps_all.Goals as goal
 
 pub returns : goal.returns

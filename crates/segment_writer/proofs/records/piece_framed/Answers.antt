@@ -1,13 +1,13 @@
 use Rattle.std.proofs.Common.{◌∙◌, ◌≤◌, ◌+◌, ◌++◌, length, take, ap, arith}
 use Rattle.frame_headers.specs.Layout.{headers_len, payload_limit}
 use Rattle.segment_writer.specs.FirstPieces.{values}
-use Rattle.segment_writer.specs.LinePlaces.{left_at}
-use Rattle.segment_writer.proofs.RecordSteps.{length-filled, made_is, piece_is, piece_within, piece_limited, length-piece, first_instant-place}
+use Rattle.segment_writer.specs.LineCursors.{left_at}
+use Rattle.segment_writer.proofs.RecordSteps.{length-filled, made_is, piece_is, piece_within, piece_limited, length-piece, first_instant-cursor}
 use Rattle.segment_writer.proofs.records.piece_framed.Goals as goal
 
 pub open_record-requires-clause-early : goal.open_record-requires-clause-early
 open_record-requires-clause-early c =
-    let at = first_instant-place c.args.own.now c.args.from c.part_at-at.result _ c.part_at-at.ensures c.requires.place in
+    let at = first_instant-cursor c.args.own.now c.args.from c.part_at-at.result _ c.part_at-at.ensures c.requires.cursor in
     omega (arith, at, c.requires.early)
 
 pub copy_piece-requires-clause-within : goal.copy_piece-requires-clause-within
@@ -34,7 +34,7 @@ returns-clause-framed c =
     let within : c.args.len ≤ length left = omega (arith, c.requires.len, piece_within payload_limit left) in
     let made = made_is c.header_with-header.result c.part_at-at.result.at c.args.len _ _ _ _ _ payload (c.in_ok-after.ensures.bytes ∙ ap (λ xs. xs ++ payload) c.in_ok-bytes.ensures)
     (length-piece c.args.len left within) c.deref_mut.ensures.value c.deref_mut.ensures.len c.close_record.ensures.bytes c.close_record.ensures.len c.close_record.auto.bytes c.of.ensures in
-    let at = first_instant-place c.args.own.now c.args.from c.part_at-at.result _ c.part_at-at.ensures c.requires.place in
+    let at = first_instant-cursor c.args.own.now c.args.from c.part_at-at.result _ c.part_at-at.ensures c.requires.cursor in
     piece_is c.args.sender.now c.args.own.now c.args.from c.in_ok-after.after c.args.len c.args.numbers.seq c.args.numbers.ack c.args.numbers.place _ _ _ _ c.key_at.result c.of.result
     at c.requires.len c.in_ok-after.ensures.left c.is_border.ensures c.piece_flags-flags.ensures c.header_with-header.ensures made
     c.key_at.ensures.moment c.key_at.ensures.conn c.key_at.ensures.turn c.key_at.ensures.place

@@ -1,5 +1,5 @@
 use Rattle.std.proofs.Common.{length, ◌-◌}
-use Rattle.segment_writer.specs.LinePlaces.{IsHeard}
+use Rattle.segment_writer.specs.LineCursors.{IsHeard}
 use Rattle.segment_writer.proofs.turns.hear.Given as goal
 
 abbrev pub invariant-loop-part : goal.invariant-loop-part

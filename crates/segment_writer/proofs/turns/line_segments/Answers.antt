@@ -4,7 +4,7 @@ use Rattle.segment_writer.proofs.TurnSteps.{going_starts, step_hears, step_early
 use Rattle.segment_writer.proofs.turns.line_segments.Goals as goal
 
 pub pieces-init : goal.pieces-init
-pieces-init c = going_starts c.args.sender.now c.args.own.now c.args.own_end.now c.args.peer.now c.args.peer_end.now _ _ c.new-list.ensures.items c.next_filled.ensures.place c.next_filled.ensures.left c.requires.own
+pieces-init c = going_starts c.args.sender.now c.args.own.now c.args.own_end.now c.args.peer.now c.args.peer_end.now _ _ c.new-list.ensures.items c.next_filled.ensures.cursor c.next_filled.ensures.left c.requires.own
 
 pub returns-then-is_late : goal.returns-then-is_late
 returns-then-is_late c = going_late _ _ _ _ _ _ _ _ _ _ c.pieces.invariant _ _ c.part_at.ensures (c.is_late.ensures.late c.if-is_late.true)
@@ -28,7 +28,7 @@ pieces-smaller c = step_falls _ _ _ _ _ _ _ _ _ _ c.pieces.invariant _ _ c.part_
 
 pub pieces-preserved : goal.pieces-preserved
 pieces-preserved c =
-    going_on _ _ _ _ _ _ _ _ _ _ c.pieces.invariant _ _ c.part_at.ensures _ c.piece_len-len.ensures c.in_ok-framed.after c.hear-heard.result _ _ _ _ _ (c.is_late.ensures.early c.if-is_late.false) c.in_ok-framed.ensures.place c.in_ok-framed.ensures.left
+    going_on _ _ _ _ _ _ _ _ _ _ c.pieces.invariant _ _ c.part_at.ensures _ c.piece_len-len.ensures c.in_ok-framed.after c.hear-heard.result _ _ _ _ _ (c.is_late.ensures.early c.if-is_late.false) c.in_ok-framed.ensures.cursor c.in_ok-framed.ensures.left
     c.hear-heard.ensures.heard c.hear-heard.ensures.all c.numbers_at-numbers.ensures.seq c.numbers_at-numbers.ensures.ack c.numbers_at-numbers.ensures.place c.in_ok-framed.ensures.framed c.in_ok-push.ensures.items
 
 pub returns-in_default : goal.returns-in_default

@@ -1,5 +1,5 @@
 use Rattle.std.proofs.Common.{length}
-use Rattle.segment_writer.specs.LinePlaces.{left_at}
+use Rattle.segment_writer.specs.LineCursors.{left_at}
 use Rattle.segment_writer.proofs.TurnSteps.{Going}
 use Rattle.segment_writer.proofs.turns.line_segments.Given as goal
 

@@ -1,6 +1,6 @@
 use Rattle.std.proofs.Common.{length, ◌-◌, ◌≡◌, ◌≤◌, drop}
 use Rattle.reassembly.specs.LineView.{bytes_of_parts}
-use Rattle.segment_writer.proofs.places.next_filled.Given as goal
+use Rattle.segment_writer.proofs.pieces.next_filled.Given as goal
 
 abbrev pub invariant-loop-next : goal.invariant-loop-next
 invariant-loop-next l = record {

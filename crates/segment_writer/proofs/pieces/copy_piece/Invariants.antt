@@ -1,11 +1,11 @@
 use Rattle.std.proofs.Common.{◌≡◌, ◌≤◌, ◌++◌, length, take, drop}
 use Rattle.segment_writer.specs.FirstPieces.{values}
-use Rattle.segment_writer.specs.LinePlaces.{left_at, IsPlace}
-use Rattle.segment_writer.proofs.places.copy_piece.Given as goal
+use Rattle.segment_writer.specs.LineCursors.{left_at, IsCursor}
+use Rattle.segment_writer.proofs.pieces.copy_piece.Given as goal
 
 abbrev pub invariant-loop-left : goal.invariant-loop-left
 invariant-loop-left l = record {
-  place : IsPlace l.parts (record { part = l.part; offset = l.offset });
+  cursor : IsCursor l.parts (record { part = l.part; offset = l.offset });
   within : l.left ≤ length (left_at l.parts (record { part = l.part; offset = l.offset }));
   bytes : l.out.items ++ values (take l.left (left_at l.parts (record { part = l.part; offset = l.offset }))) ≡ l.initial.out.items ++ values (take l.len (left_at l.parts l.fn.from));
   rest : drop l.left (left_at l.parts (record { part = l.part; offset = l.offset })) ≡ drop l.len (left_at l.parts l.fn.from);

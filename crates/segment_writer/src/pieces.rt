@@ -1,10 +1,10 @@
-//! Places in a line's parts, and the pieces that begin there. Parts without bytes count for nothing.
+//! Pieces of a line, and cursors over its parts. Parts without bytes count for nothing.
 ghost use Rattle.std.specs.Prelude.{◌≡◌, ◌≤◌, ◌<◌, ◌+◌, ◌++◌, ◌∷◌, length, drop, take, IfOk, OnOk};
 ghost use Rattle.frame_headers.specs.Layout.{payload_limit};
 ghost use Rattle.reassembly.specs.LineView.{bytes_of_parts};
 ghost use Rattle.segment_writer.specs.WrittenSegments.{is_chunk_border};
 ghost use Rattle.segment_writer.specs.FirstPieces.{piece_size, values};
-ghost use Rattle.segment_writer.specs.LinePlaces.{left_at, goes_on, IsPlace};
+ghost use Rattle.segment_writer.specs.LineCursors.{left_at, goes_on, IsCursor};
 
 use frame_headers::PAYLOAD_LIMIT;
 use reassembly::LinePart;
@@ -33,7 +33,7 @@ pub(crate) fn part_at<'a>(parts: &[LinePart<'a>], i: usize) -> LinePart<'a>
 /// The number of the first part from `from` on that has bytes, or how many parts there are.
 pub(crate) fn next_filled(parts: &[LinePart<'_>], from: usize) -> usize
     requires { from ≤ length parts.now }
-    ensures place { IsPlace parts.now (record { part = result; offset = 0 }) }
+    ensures cursor { IsCursor parts.now (record { part = result; offset = 0 }) }
     ensures left { bytes_of_parts (drop result parts.now) ≡ bytes_of_parts (drop from parts.now) }
 {
     let mut next = from;
@@ -50,14 +50,14 @@ fn goes_on(part: &LinePart<'_>) -> bool
     !part.starts || part.bytes.is_empty()
 }
 
-/// How many bytes the piece has that begins at a place.
-pub(crate) fn piece_len(parts: &[LinePart<'_>], place: Cursor) -> usize
-    requires place { IsPlace parts.now place }
-    requires before { place.part < length parts.now }
-    ensures { result ≡ piece_size payload_limit (left_at parts.now place) }
+/// How many bytes the piece has that begins at a cursor.
+pub(crate) fn piece_len(parts: &[LinePart<'_>], from: Cursor) -> usize
+    requires cursor { IsCursor parts.now from }
+    requires before { from.part < length parts.now }
+    ensures { result ≡ piece_size payload_limit (left_at parts.now from) }
 {
-    let mut len = part_at(parts, place.part).bytes.len() - place.offset;
-    let mut next = place.part + 1;
+    let mut len = part_at(parts, from.part).bytes.len() - from.offset;
+    let mut next = from.part + 1;
     while len < PAYLOAD_LIMIT && next < parts.len() && goes_on(&part_at(parts, next)) {
         len += part_at(parts, next).bytes.len();
         next += 1;
@@ -65,25 +65,25 @@ pub(crate) fn piece_len(parts: &[LinePart<'_>], place: Cursor) -> usize
     len.min(PAYLOAD_LIMIT)
 }
 
-/// Whether a chunk ends before a place.
-pub(crate) fn is_border(parts: &[LinePart<'_>], place: Cursor) -> bool
-    requires { IsPlace parts.now place }
-    ensures { result ≡ is_chunk_border (left_at parts.now place) }
+/// Whether a chunk ends before a cursor.
+pub(crate) fn is_border(parts: &[LinePart<'_>], from: Cursor) -> bool
+    requires { IsCursor parts.now from }
+    ensures { result ≡ is_chunk_border (left_at parts.now from) }
 {
-    place.part == parts.len() || (place.offset == 0 && part_at(parts, place.part).starts)
+    from.part == parts.len() || (from.offset == 0 && part_at(parts, from.part).starts)
 }
 
-/// Appends `len` bytes from a place on, and gives the place behind them.
+/// Appends `len` bytes from a cursor on, and gives the cursor after them.
 pub(crate) fn copy_piece(
     out: &mut Vec<u8>,
     parts: &[LinePart<'_>],
     from: Cursor,
     len: usize,
 ) -> Result<Cursor, AllocError>
-    requires place { IsPlace parts.now from }
+    requires cursor { IsCursor parts.now from }
     requires within { len ≤ length (left_at parts.now from) }
     ensures bytes { OnOk result (out.new.items ≡ out.old.items ++ values (take len (left_at parts.now from))) }
-    ensures place { IfOk result (λ after. IsPlace parts.now after) }
+    ensures cursor { IfOk result (λ after. IsCursor parts.now after) }
     ensures left { IfOk result (λ after. left_at parts.now after ≡ drop len (left_at parts.now from)) }
 {
     let mut part = from.part;

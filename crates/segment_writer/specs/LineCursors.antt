@@ -1,10 +1,10 @@
--- Where a pass over the parts of a line stands, and what was heard of the peer's line before an instant.
+-- How far a pass over the parts of a line is, and what was heard of the peer's line before an instant.
 use Rattle.std.specs.Prelude.{◌≡◌, ◌≤◌, ◌<◌, ℕ, ◌||◌, not, Bool, true, false, List, [], ◌∷◌, length, filter, drop, take, nat_lt}
 use Rattle.std.specs.List.{AllByRecursion}
 use Rattle.reassembly.specs.RecordedLines.{LineByte}
 use Rattle.reassembly.specs.LineView.{bytes_of_parts}
 use Rattle.reassembly.specs.declared.line_parts.LinePart.{LinePart}
-use Rattle.segment_writer.specs.declared.places.Cursor.{Cursor}
+use Rattle.segment_writer.specs.declared.pieces.Cursor.{Cursor}
 use Rattle.segment_writer.specs.declared.turns.Heard.{Heard}
 
 -- ---- in the line that is written
@@ -18,7 +18,7 @@ abbrev pub IsInside : List LinePart → ℕ → Type 0
 IsInside [] offset = offset ≡ 0
 IsInside (p ∷ ps) offset = offset < length p.bytes.now
 
-pub record IsPlace (parts : List LinePart) (c : Cursor) : Type 0 where
+pub record IsCursor (parts : List LinePart) (c : Cursor) : Type 0 where
   pub within : c.part ≤ length parts
   pub inside : IsInside (drop c.part parts) c.offset
 

@@ -28,14 +28,14 @@ pub line_written : (old mid new : Option (List ℕ)) (line : List ℕ) (before b
 line_written old mid new line before between after first same second = elim second [
   | inl whole ↦ inl (Appends-trans old mid new line (codes "\n") first whole.0, whole.1 ∙ same)
   | inr part ↦
-    let nothing : part.0 ≡ 0 = omega (arith, part.1) in
-    let rest : Appends mid new (take 0 (codes "\n")) = subst (λ n. Appends mid new (take n (codes "\n"))) nothing part.2 in
-    inr (
-      length line,
-      omega (arith, length-append line (codes "\n")),
-      subst (Appends old new) (append-nil line ∙ sym (take_at line (codes "\n") (length line) refl)) (Appends-trans old mid new line (take 0 (codes "\n")) first rest),
-      omega (arith, part.3, same),
-    )
+      let nothing : part.0 ≡ 0 = omega (arith, part.1) in
+      let rest : Appends mid new (take 0 (codes "\n")) = subst (λ n. Appends mid new (take n (codes "\n"))) nothing part.2 in
+      inr (
+        length line,
+        omega (arith, length-append line (codes "\n")),
+        subst (Appends old new) (append-nil line ∙ sym (take_at line (codes "\n") (length line) refl)) (Appends-trans old mid new line (take 0 (codes "\n")) first rest),
+        omega (arith, part.3, same),
+      )
 ]
 
 -- a text was written, as far as the writes go

@@ -140,11 +140,7 @@ fn cut_at_equals(text: &str) -> Option<(&str, &str)>
 // # Errors
 // [`RunFault::ReadFailed`] for the first that cannot be opened or read, [`RunFault::CaptureTooLong`] for one that is longer than
 // a capture may be; [`RunFault::Memory`].
-fn read_files<H: Files>(
-    rt: &H,
-    alloc: Global,
-    paths: &[&str],
-) -> Result<Vec<Vec<u8>>, RunFault>
+fn read_files<H: Files>(rt: &H, alloc: Global, paths: &[&str]) -> Result<Vec<Vec<u8>>, RunFault>
     ensures one_each { IfOk result (λ files. length files.items ≡ length paths.now) }
     ensures of_file { IfErr result (IsOfFiles (length paths.now)) }
 {

@@ -4,7 +4,7 @@ use Rattle.std.proofs.lemmas.List.{length-map}
 use Rattle.pcap_records.specs.CaptureView.{CaptureView, contents_of}
 use Rattle.conn_table.specs.SeenCapture.{seen_packets, seen_capture}
 use Rattle.conn_table.specs.IndexedSegments.{indexed_segments}
-use Rattle.conn_table.specs.Connections.{connections, unopened_count}
+use Rattle.conn_table.specs.Connections.{unopened_count}
 use Rattle.conn_table.specs.ClassCounts.{counts_of}
 use Rattle.conn_table.specs.IndexedConnections.{without_indices, IndexedConnectionsAgree}
 use Rattle.conn_table.specs.Tables.{table_in, conn_in}

@@ -6,7 +6,7 @@ ghost use Rattle.run_files.specs.RunFault.{run_refusal};
 ghost use Rattle.run_files.specs.Dumps.{is_foreign, digit_meaning, is_dump, dump_reading};
 
 use crate::error::RunFault;
-use std::alloc::Global;
+use std::alloc::{AllocError, Global};
 
 /// Whether a text is taken for a dump: its first byte is a hexadecimal digit.
 pub fn is_dump(text: &[u8]) -> bool
@@ -37,7 +37,7 @@ pub fn undump(alloc: Global, text: &[u8]) -> Result<Vec<u8>, RunFault>
             match higher {
                 None => higher = Some(value),
                 Some(first) => {
-                    bytes.push(first * 16 + value)?;
+                    bytes.push(first * 16 + value).map_err(AllocError::from)?;
                     higher = None;
                 }
             }

@@ -3,7 +3,7 @@ ghost use Rattle.std.specs.Prelude.{◌≡◌};
 
 use pcap_records::CaptureFault;
 use scenarios::Refusal;
-use std::alloc::{AllocError, AllocFailed};
+use std::alloc::AllocError;
 use std::io;
 use thiserror::Error;
 
@@ -82,16 +82,6 @@ impl From<AllocError> for RunFault {
     }
 }
 
-impl<T: Drop> From<AllocFailed<T>> for RunFault {
-    ghost use Rattle.run_files.specs.declared.error.RunFault.TheVariants.{Memory};
-
-    ghost from_gives = { λ _ r. r ≡ Memory };
-
-    fn from(_refused: AllocFailed<T>) -> RunFault {
-        RunFault::Memory
-    }
-}
-
 /// Why not all files were stored.
 #[derive(Clone, Copy, Debug, PartialEq, Eq, Error)]
 pub enum StoreFault {
@@ -129,12 +119,6 @@ impl From<io::Error> for ShelfError {
 
 impl From<AllocError> for ShelfError {
     fn from(_refused: AllocError) -> ShelfError {
-        ShelfError
-    }
-}
-
-impl<T: Drop> From<AllocFailed<T>> for ShelfError {
-    fn from(_refused: AllocFailed<T>) -> ShelfError {
         ShelfError
     }
 }

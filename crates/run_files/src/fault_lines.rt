@@ -105,7 +105,7 @@ fn entry_of(fault: &RunFault) -> FaultEntry
     }
 }
 
-// Adds a number that is known, behind the name of what it counts.
+// Adds a number that is known, after the name of what it counts.
 fn push_known(line: &mut String, name: &str, number: Option<usize>) -> Result<(), AllocError>
     ensures { OnOk result (string_bytes line.new ≡ string_bytes line.old ++ known_text name.now number) }
 {

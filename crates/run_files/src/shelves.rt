@@ -133,7 +133,7 @@ impl MemoryShelf {
     }
 
     // Keeps a copy of a file.
-    fn keep(&mut self, name: &str, bytes: &[u8]) -> Result<(), ShelfError>
+    fn keep(&mut self, name: &str, bytes: &[u8]) -> Result<(), AllocError>
         ensures files { self.new.files ≡ (if is_ok result then self.old.files ++ stored_file name.now bytes.now ∷ [] else self.old.files) }
         ensures failed { self.new.failed ≡ self.old.failed }
     {
@@ -155,7 +155,7 @@ impl Shelf for MemoryShelf {
         if kept.is_err() {
             self.failed += 1;
         }
-        kept
+        Ok(kept?)
     }
 }
 
@@ -213,7 +213,7 @@ impl<'a, F: Files> Folder<'a, F> {
     fn write_file(&mut self, name: &str, bytes: &[u8]) -> Result<(), ShelfError>
         ensures { self.new ≡ self.old }
     {
-        // A slash behind an empty path would be the root of the file system.
+        // A slash after an empty path would be the root of the file system.
         if self.folder.is_empty() || name.len() > NAME_LIMIT || name.contains('/') {
             return Err(ShelfError);
         }

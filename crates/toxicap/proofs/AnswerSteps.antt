@@ -1,10 +1,10 @@
 -- What a text calls for, by what its parts answer.
-use Rattle.std.proofs.Common.{◌≡◌, ℕ, ◌<◌, ◌≤◌, Bool, true, false, ◌==◌, nat_lt, [], ◌∷◌, ◌++◌, List, length, count_by, Option, Some, None, IfSome, Result, Ok, Err, refl, subst, IfErr, position, if◌then◌else◌, ◌%◌, arith}
-use Rattle.std.proofs.lemmas.Bool.{lt-ltb, le-ltb, ltb-false}
+use Rattle.std.proofs.Common.{◌≡◌, ℕ, ◌<◌, ◌≤◌, Bool, true, false, ◌==◌, nat_lt, [], ◌∷◌, ◌++◌, List, length, count_by, Option, Some, None, Result, Ok, Err, refl, subst, IfErr, position, if◌then◌else◌, ◌%◌, arith}
+use Rattle.std.proofs.lemmas.Bool.{lt-ltb, ltb-false}
 use Rattle.hex.specs.Hex.{is_hex_digit}
 use Rattle.pcap_records.specs.declared.fault.CaptureFault.{CaptureFault}
 use Rattle.pcap_records.specs.declared.fault.CaptureFault.TheVariants as of_capture
-use Rattle.pcap_records.specs.Agreement.{Refuses, Agrees, AgreesUnlessMemory}
+use Rattle.pcap_records.specs.Agreement.{AgreesUnlessMemory}
 use Rattle.pcap_records.specs.Reading.{capture_limit, reading}
 use Rattle.conn_table.specs.SeenCapture.{SeenCapture}
 use Rattle.scenarios.specs.Refusals.{after}

@@ -1,8 +1,8 @@
 -- Rows that are taken one after another.
-use Rattle.std.proofs.Common.{◌≡◌, ◌<◌, ◌≤◌, ℕ, ◌+◌, List, [], ◌∷◌, ◌++◌, map, length, take, drop, get_or, refl, sym, ap, ◌∙◌, arith}
+use Rattle.std.proofs.Common.{◌≡◌, ◌<◌, ◌≤◌, ℕ, ◌+◌, List, [], ◌∷◌, ◌++◌, map, length, take, drop, get_or, sym, ap, ◌∙◌, arith}
 use Rattle.std.specs.List.{enumerate_from}
 use Rattle.std.proofs.lemmas.List.{length-append, length-drop, length-map, take_at, drop_at, take_more, drop_more, map_push}
-use Rattle.std.proofs.lemmas.List.FromFn.{length-enumerate_from, get_or-enumerate_from}
+use Rattle.std.proofs.lemmas.List.FromFn.{get_or-enumerate_from}
 use Rattle.conn_workers.specs.DeliveryRows.{rows}
 
 module _ {R C V : Type 0} (f : R → C → V) (rs : List R) (cs : List C) (i : ℕ) (d : R) (within : i < length rs) where

@@ -1,5 +1,5 @@
 -- How a run ends, by what was answered and printed or stored.
-use Rattle.std.proofs.Common.{◌≡◌, ℕ, ◌<◌, ◌≤◌, List, [], length, take, Option, Some, None, inr, Result, Ok, Err, refl, sym, ◌∙◌, OnOk, OnErr, IfErr, arith}
+use Rattle.std.proofs.Common.{◌≡◌, ℕ, ◌≤◌, List, [], length, Option, Some, None, inr, Result, Ok, Err, arith}
 use Rattle.std.specs.Borrow.{Bor}
 use Rattle.pcap_records.specs.Reading.{capture_limit}
 use Rattle.scenarios.specs.declared.hosts.KnownHost.{KnownHost}
@@ -15,8 +15,7 @@ use Rattle.run_files.specs.declared.error.StoreFault.TheVariants as store
 use Rattle.toxicap.specs.Inputs.{TakesInputs}
 use Rattle.toxicap.specs.Commands.{Streams, AnswersInto, RunsBy}
 use Rattle.command_line.specs.declared.asked.Asked.{Asked}
-use Rattle.run_files.specs.WrittenOutputs.{reports_of}
-use Rattle.toxicap.specs.RunEnds.{PrintsBy, StoresBy, failed_reads}
+use Rattle.toxicap.specs.RunEnds.{StoresBy, failed_reads}
 
 -- an answer was stored in part
 pub stopped_storing : (fault : StoreFault) (wanted : Result (List Output) RunFault) (outputs : List Output) (text : List ℕ) (AtEnd : Type 0)

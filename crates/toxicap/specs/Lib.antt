@@ -7,9 +7,3 @@ pub mod Inputs
 pub mod Commands
 pub mod WrittenRows
 pub mod GroupingRows
-pub use Rattle.pcap_records.specs.Instants
-pub use Rattle.pcap_records.specs.Reading
-pub use Rattle.frame_headers.specs.Flags
-pub use Rattle.frame_headers.specs.Frame
-pub use Rattle.pcap_records.specs.CaptureView
-pub use Rattle.pcap_records.specs.Agreement

@@ -12,7 +12,7 @@ use crate::rehearsal::rehearse;
 use job_matrix::{Plan, Through};
 use run_files::{Counted, Outputs, RunFault, is_dump, load, undump};
 use scenarios::{Hosts, Scenario, ScenarioFault, read_scenario};
-use std::alloc::Global;
+use std::alloc::{AllocError, Global};
 use std::io::Read;
 use std::sync::Wait;
 use std::thread::Threads;
@@ -116,7 +116,7 @@ fn read_texts(alloc: Global, texts: &[&[u8]], hosts: &Hosts) -> Result<Vec<Scena
     let mut scenarios = Vec::with_capacity(alloc, texts.len())?;
     for (number, text) in texts.iter().enumerate() {
         let scenario = read_text(alloc, number, text, hosts)?;
-        scenarios.push(scenario)?;
+        scenarios.push(scenario).map_err(AllocError::from)?;
     }
     Ok(scenarios)
 }

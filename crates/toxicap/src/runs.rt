@@ -146,7 +146,8 @@ fn read_files<H: Files>(rt: &H, alloc: Global, paths: &[&str]) -> Result<Vec<Vec
 {
     let mut files = Vec::new(alloc);
     for path in paths {
-        files.push(read_file(rt, alloc, path)?)?;
+        let file = read_file(rt, alloc, path)?;
+        files.push(file).map_err(AllocError::from)?;
     }
     Ok(files)
 }

@@ -1,7 +1,7 @@
 -- The connections of a file of bytes: their numbers fit their fields, and their ends differ.
-use Rattle.std.proofs.Common.{◌≡◌, ◌<◌, ℕ, ◌+◌, ◌^◌, Bool, true, false, not, List, [], ◌∷◌, ◌++◌, map, filter, drop, find, Some, None, option_map, unwrap_or, Ok, refl, sym, ap, subst, arith, if◌then◌else◌}
-use Rattle.std.specs.List.{AllByRecursion, enumerate_from, zip, flat_map, filter_map, cons_option, prefix_len, take_while}
-use Rattle.std.proofs.lemmas.List.Elements.{All-drop, All-filter, All-from_recursion, All-take, recursion_from_All}
+use Rattle.std.proofs.Common.{◌≡◌, ◌<◌, ℕ, ◌+◌, ◌^◌, Bool, true, false, not, List, [], ◌∷◌, ◌++◌, map, drop, find, Some, None, option_map, unwrap_or, Ok, refl, sym, ap, subst, arith, if◌then◌else◌}
+use Rattle.std.specs.List.{AllByRecursion, enumerate_from, zip, flat_map, filter_map, cons_option}
+use Rattle.pcap_records.proofs.Lists.{all_drop, all_filter, all_left, all_right, all_take_while}
 use Rattle.pcap_records.specs.Instants.{instants}
 use Rattle.pcap_records.specs.Reading.{Heading, Packet, Reading, reading}
 use Rattle.pcap_records.specs.Grammar.{RawRecord, Splits, raw_bytes, packet_of_raw, ReadingsSplit}

@@ -9,7 +9,7 @@ ghost use Rattle.run_files.specs.WrittenOutputs.{four_digits, files_from, Stores
 use crate::error::{RunFault, StoreFault};
 use crate::shelves::Shelf;
 use crate::streams::{Counted, write_bytes};
-use job_matrix::Values;
+use pcap_records::Values;
 use std::alloc::{AllocError, Global};
 use std::io::Write;
 

@@ -4,6 +4,7 @@ use Rattle.std.specs.List.{AllByRecursion, enumerate_from, flat_map}
 use Rattle.std.proofs.lemmas.Bool.{ltb-false}
 use Rattle.pcap_records.specs.declared.fault.CaptureFault.TheVariants.{CaptureTooLong, ShortHeader, BadVersion, BadLink}
 use Rattle.pcap_records.specs.declared.heading.Order.TheVariants.{Big, Little}
+use Rattle.pcap_records.proofs.Lists.{all_append}
 use Rattle.pcap_records.specs.Instants.{microseconds}
 use Rattle.pcap_records.specs.Reading.{Heading, Packet, Contents, Reading, capture_limit, microsecond_heading, number_in, magic, checked_heading, file_heading, reading}
 use Rattle.pcap_records.specs.Writing.{file_header, record_bytes, written_capture, IsWritable, WrittenIsRead}
@@ -26,7 +27,7 @@ use Rattle.conn_workers.specs.Contributions.{contribution, contribution_of}
 use Rattle.conn_table.specs.SeenCapture.{SeenCapture, seen_packets, seen_capture}
 use Rattle.toxicap.specs.Rehearsal.{output, outputs_of, scenario_limit, answer}
 use Rattle.toxicap.specs.SoundOutputs.{NeverFall, IsSoundFrame, IsReadWhole, OutputsAreRead}
-use Rattle.toxicap.proofs.WrittenFrames.{all-append, IsSoundWritten, IsWritten, all-sorted_by_key, segments_are}
+use Rattle.toxicap.proofs.WrittenFrames.{IsSoundWritten, IsWritten, all-sorted_by_key, segments_are}
 use Rattle.toxicap.proofs.SoundConnections.{HasBytes, IsSoundConnection, packets_have, connections_are, server_base_fits}
 
 -- ---- packets of written segments
@@ -93,7 +94,7 @@ talk_is c is d = record {
 parts_are : HeadersAreSound → (seed : ℕ) (scenario : ℕ × List Proxy) (cs : List Connection) → AllByRecursion IsSoundConnection cs → AllByRecursion IsWritten (flat_map (λ p. p.segments) (map (contribution_of microseconds seed scenario) cs))
 unfolding contribution
 parts_are sound_headers seed scenario [] all = tt
-parts_are sound_headers seed (number_in, scenario) (c ∷ cs) all = all-append IsWritten _ _ (segments_are sound_headers _ (talk_is c all.0 (delivered_connection microseconds seed number_in c.number (met_proxy (server_of c) scenario) (recorded_connection c)))) (parts_are sound_headers seed (number_in, scenario) cs all.1)
+parts_are sound_headers seed (number_in, scenario) (c ∷ cs) all = all_append IsWritten _ _ (segments_are sound_headers _ (talk_is c all.0 (delivered_connection microseconds seed number_in c.number (met_proxy (server_of c) scenario) (recorded_connection c)))) (parts_are sound_headers seed (number_in, scenario) cs all.1)
 
 outputs_read : SortedNeverFalls → WrittenIsRead → HeadersAreSound → SegmentsFit → (packets : List Packet) (rest : ℕ) → AllByRecursion HasBytes packets → (seed n : ℕ) (scenarios : List (List Proxy))
     → let c : SeenCapture = seen_capture (record { ticks = microseconds; packets = packets; rest = rest }) in

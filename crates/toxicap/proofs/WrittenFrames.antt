@@ -2,6 +2,7 @@
 use Rattle.std.proofs.Common.{◌≡◌, ◌≢◌, ◌<◌, ◌≤◌, ℕ, zero, suc, ◌+◌, ◌-◌, ◌^◌, ◌==◌, Bool, true, false, ◌||◌, nat_lt, List, [], ◌∷◌, ◌++◌, length, map, refl, sym, arith, length-append, if◌then◌else◌}
 use Rattle.std.specs.List.{AllByRecursion, enumerate_from}
 use Rattle.std.proofs.lemmas.Bool.{ltb-true, or_parts}
+use Rattle.pcap_records.proofs.Lists.{all_append}
 use Rattle.pcap_records.specs.Instants.{microseconds, horizon}
 use Rattle.pcap_records.specs.Reading.{packet_limit}
 use Rattle.pcap_records.specs.Writing.{record_bytes}
@@ -14,13 +15,6 @@ use Rattle.segment_writer.specs.declared.framed.Framed.{Framed}
 use Rattle.reassembly.specs.RecordedLines.{LineByte, End, live, fin, close, reset}
 use Rattle.segment_writer.specs.WrittenSegments.{Host, WrittenSide, WrittenConnection, SentSegment, Piece, is_chunk_border, pieces_led_by, pieces, end_segments, segments_sent_from, segments_sent_by, frame_bytes, framed_segment, header_of, syn_segment, syn_ack_segment, ack_segment, refusal_segment, framed_by_client, framed_by_server, opening_turn, up_turn, down_turn, insert_by_key, is_key_below, sorted_by_key, segments_before_horizon, written_segments}
 use Rattle.toxicap.specs.SoundOutputs.{IsSoundFrame}
-
--- ---- lists
-
-module _ {X : Type 0} (P : X → Type 0) where
-  pub all-append : (xs ys : List X) → AllByRecursion P xs → AllByRecursion P ys → AllByRecursion P (xs ++ ys)
-  all-append [] ys all more = more
-  all-append (x ∷ xs) ys all more = (all.0, all-append xs ys all.1 more)
 
 -- ---- the record of a segment
 
@@ -192,6 +186,6 @@ unfolding written_segments
 segments_are sound t is =
     let up = turn_is sound t t.client.host t.server.host is.client is.server is.differ 1 0 (segments_sent_by t.client t.server) (sent_is t.client t.server) in
     let down = turn_is sound t t.server.host t.client.host is.server is.client (λ same. is.differ (sym same)) 2 0 (segments_sent_by t.server t.client) (sent_is t.server t.client) in
-    let lines = all-append IsRecord (opening_turn t.refused microseconds t ++ up_turn microseconds t) (down_turn microseconds t)
-    (all-append IsRecord (opening_turn t.refused microseconds t) (up_turn microseconds t) (opening_is sound t is t.refused) up) down in
+    let lines = all_append IsRecord (opening_turn t.refused microseconds t ++ up_turn microseconds t) (down_turn microseconds t)
+    (all_append IsRecord (opening_turn t.refused microseconds t) (up_turn microseconds t) (opening_is sound t is t.refused) up) down in
     all-sorted_by_key _ (kept_in_time _ lines)

@@ -1,5 +1,5 @@
 pub mod Peers
-pub mod GroupingFilters
+mod GroupingFilters
 mod GroupingOrder
 mod GroupingPairs
 mod GroupingBeginnings

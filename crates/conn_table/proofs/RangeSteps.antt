@@ -40,7 +40,7 @@ seen_packets-append carry (p ∷ xs) ys =
     let e : max (max carry p.stamp) g ≡ max carry (max p.stamp g) = omega arith in
     rw (seen_packets-cons carry p (xs ++ ys), seen_packets-cons carry p xs, seen_packets-append (max carry p.stamp) xs ys, e) refl
 
-length-seen_packets : (carry : ℕ) (ps : List Packet) → length (seen_packets carry ps) ≡ length ps
+pub length-seen_packets : (carry : ℕ) (ps : List Packet) → length (seen_packets carry ps) ≡ length ps
 length-seen_packets carry [] = rw (seen_packets-nil carry) refl
 length-seen_packets carry (p ∷ ps) = rw (seen_packets-cons carry p ps, length-seen_packets (max carry p.stamp) ps) refl
 

@@ -124,11 +124,7 @@ fn push_other_classes(text: &mut Vec<u8>, counts: Counts) -> Result<(), AllocErr
 
 // Appends how many connections and unopened segments there are.
 #[tactic(auto, unfolding(crate::specs::ReportText::connections_text))]
-fn push_connections(
-    text: &mut Vec<u8>,
-    connections: usize,
-    unopened: u64,
-) -> Result<(), AllocError>
+fn push_connections(text: &mut Vec<u8>, connections: usize, unopened: u64) -> Result<(), AllocError>
     ensures { OnOk result (text.new.items ≡ text.old.items ++ connections_text connections unopened) }
 {
     push_told(text, "connections ", connections as u64)?;

@@ -12,11 +12,15 @@ fn the_plain_session_under_latency(rt: HostRuntime) {
         "latency latency 100, jitter 0",
         &session(),
         ("latency", "\"latency\":100,\"jitter\":0"),
-        (449, &[
-            (234 + 58, &[0, 0, 3, 0xe9]),
-            (304 + 58, &[0, 0, 0x13, 0x8a]),
-            (379 + 58, &[0, 0, 0x13, 0x8a]),
-        ], "connections 1 unopened 0\n0 10.0.0.1:40000 > 10.0.0.2:80 proxy 0 up 5/5/0 fin+101000 max 100000 down 0/0/0 fin+3000 max 0\n"),
+        (
+            449,
+            &[
+                (234 + 58, &[0, 0, 3, 0xe9]),
+                (304 + 58, &[0, 0, 0x13, 0x8a]),
+                (379 + 58, &[0, 0, 0x13, 0x8a]),
+            ],
+            "connections 1 unopened 0\n0 10.0.0.1:40000 > 10.0.0.2:80 proxy 0 up 5/5/0 fin+101000 max 100000 down 0/0/0 fin+3000 max 0\n",
+        ),
     )
 }
 
@@ -27,21 +31,33 @@ fn the_plain_session_under_a_limit(rt: HostRuntime) {
         "limit_data bytes 5",
         &session(),
         ("limit_data", "\"bytes\":5"),
-        (449, &[], "connections 1 unopened 0\n0 10.0.0.1:40000 > 10.0.0.2:80 proxy 0 up 5/5/0 fin+2000 max 0 down 0/0/0 fin+3000 max 0\n"),
+        (
+            449,
+            &[],
+            "connections 1 unopened 0\n0 10.0.0.1:40000 > 10.0.0.2:80 proxy 0 up 5/5/0 fin+2000 max 0 down 0/0/0 fin+3000 max 0\n",
+        ),
     );
     check_through(
         &rt,
         "limit_data bytes 4",
         &session(),
         ("limit_data", "\"bytes\":4"),
-        (448, &[], "connections 1 unopened 0\n0 10.0.0.1:40000 > 10.0.0.2:80 proxy 0 up 4/5/0 close+1000 max 0 down 0/0/0 close+1000 max 0\n"),
+        (
+            448,
+            &[],
+            "connections 1 unopened 0\n0 10.0.0.1:40000 > 10.0.0.2:80 proxy 0 up 4/5/0 close+1000 max 0 down 0/0/0 close+1000 max 0\n",
+        ),
     );
     check_through(
         &rt,
         "limit_data bytes 0",
         &session(),
         ("limit_data", "\"bytes\":0"),
-        (374, &[], "connections 1 unopened 0\n0 10.0.0.1:40000 > 10.0.0.2:80 proxy 0 up 0/5/0 close+1000 max 0 down 0/0/0 close+1000 max 0\n"),
+        (
+            374,
+            &[],
+            "connections 1 unopened 0\n0 10.0.0.1:40000 > 10.0.0.2:80 proxy 0 up 0/5/0 close+1000 max 0 down 0/0/0 close+1000 max 0\n",
+        ),
     )
 }
 
@@ -52,28 +68,44 @@ fn the_plain_session_under_other_endings(rt: HostRuntime) {
         "timeout timeout 0",
         &session(),
         ("timeout", "\"timeout\":0"),
-        (304, &[], "connections 1 unopened 0\n0 10.0.0.1:40000 > 10.0.0.2:80 proxy 0 up 0/5/0 open max 0 down 0/0/0 fin+3000 max 0\n"),
+        (
+            304,
+            &[],
+            "connections 1 unopened 0\n0 10.0.0.1:40000 > 10.0.0.2:80 proxy 0 up 0/5/0 open max 0 down 0/0/0 fin+3000 max 0\n",
+        ),
     );
     check_through(
         &rt,
         "timeout timeout 1",
         &session(),
         ("timeout", "\"timeout\":1"),
-        (374, &[], "connections 1 unopened 0\n0 10.0.0.1:40000 > 10.0.0.2:80 proxy 0 up 0/5/0 close+1000 max 0 down 0/0/0 close+1000 max 0\n"),
+        (
+            374,
+            &[],
+            "connections 1 unopened 0\n0 10.0.0.1:40000 > 10.0.0.2:80 proxy 0 up 0/5/0 close+1000 max 0 down 0/0/0 close+1000 max 0\n",
+        ),
     );
     check_through(
         &rt,
         "reset_peer timeout 0",
         &session(),
         ("reset_peer", "\"timeout\":0"),
-        (374, &[], "connections 1 unopened 0\n0 10.0.0.1:40000 > 10.0.0.2:80 proxy 0 up 0/5/0 reset+0 max 0 down 0/0/0 reset+0 max 0\n"),
+        (
+            374,
+            &[],
+            "connections 1 unopened 0\n0 10.0.0.1:40000 > 10.0.0.2:80 proxy 0 up 0/5/0 reset+0 max 0 down 0/0/0 reset+0 max 0\n",
+        ),
     );
     check_through(
         &rt,
         "slow_close delay 2",
         &session(),
         ("slow_close", "\"delay\":2"),
-        (449, &[], "connections 1 unopened 0\n0 10.0.0.1:40000 > 10.0.0.2:80 proxy 0 up 5/5/0 fin+4000 max 0 down 0/0/0 fin+3000 max 0\n"),
+        (
+            449,
+            &[],
+            "connections 1 unopened 0\n0 10.0.0.1:40000 > 10.0.0.2:80 proxy 0 up 5/5/0 fin+4000 max 0 down 0/0/0 fin+3000 max 0\n",
+        ),
     )
 }
 

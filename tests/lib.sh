@@ -35,7 +35,8 @@ fault() {
 
 # difference WANTED FOUND: the lines in which two files differ; nothing where they are the same, byte for byte.
 difference() {
-    local wanted found line told=no
+    local wanted found line file told=no
+    for file in "$1" "$2"; do [ -f "$file" ] || { echo "  no file $file"; return 0; }; done
     ! cmp -s "$1" "$2" || return 0
     mapfile -t wanted < "$1"
     mapfile -t found < "$2"

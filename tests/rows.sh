@@ -49,6 +49,10 @@ stored() {
             printf '  capture %s, found:\n%s\n' "$name" "$(od -An -v -tx1 "$found")"
         fi
     done
+    for found in "$work"/outputs/*.pcap; do
+        name=$(basename "$found" .pcap)
+        [ -f "$1/$name.hex" ] || [ -f "$1/$name.sha256" ] || echo "  no wanted capture $name"
+    done
 }
 
 # row ROW: runs a row under all plans.

@@ -7,7 +7,7 @@ pub mod SentClimb
 pub mod TurnSteps
 pub mod Sorting
 pub mod InOrder
-pub mod MergedLists
+pub mod JoinSteps
 pub mod WholeSegments
 pub mod OneOrderLaw
 pub mod KeyTimes

@@ -20,7 +20,7 @@ pub fn scenarios_of(alloc: Global, texts: &[&str]) -> Result<Vec<Scenario>, RunF
     let mut scenarios = Vec::new(alloc);
     for text in texts {
         match read_scenario(alloc, text.as_bytes(), &Hosts::new(alloc)) {
-            Ok(scenario) => scenarios.push(scenario)?,
+            Ok(scenario) => scenarios.push(scenario).map_err(AllocError::from)?,
             Err(_) => return Err(RunFault::Memory),
         }
     }
@@ -169,7 +169,8 @@ fn are_pieces(alloc: Global, capture: &[u8], wanted: &[(u64, u32)]) -> Result<bo
     let mut pieces = Vec::new(alloc);
     for record in capture.records() {
         if record.len > 54 {
-            pieces.push((record.stamp.count(), record.len - 54))?;
+            let piece = (record.stamp.count(), record.len - 54);
+            pieces.push(piece).map_err(AllocError::from)?;
         }
     }
     Ok(pieces.as_slice() == wanted)

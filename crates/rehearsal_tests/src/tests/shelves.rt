@@ -111,10 +111,11 @@ fn a_shelf_that_fails_once(rt: HostRuntime) {
 fn many_files(alloc: Global) -> Result<Vec<MemoryFile>, RunFault> {
     let mut outputs = Vec::new(alloc);
     for _ in 0..10_001 {
-        outputs.push(Output {
+        let output = Output {
             capture: Values::of(Vec::new(alloc)),
             report: Values::of(Vec::new(alloc)),
-        })?;
+        };
+        outputs.push(output).map_err(AllocError::from)?;
     }
     let mut shelf = MemoryShelf::new(alloc);
     store_all(alloc, &Values::of(outputs), &mut shelf)?;

@@ -1,48 +1,63 @@
 -- What is written is read back: its records are a split of the file.
 use Rattle.std.proofs.Common.{◌≡◌, ◌<◌, ◌≤◌, inl, ℕ, ◌+◌, ◌*◌, ◌/◌, ◌%◌, ◌^◌, List, [], ◌∷◌, ◌++◌, length, map, drop, refl, sym, ap, ◌∙◌, arith, Ok}
 use Rattle.std.specs.List.{flat_map, AllByRecursion}
-use Rattle.std.proofs.Math.Nat.{div-add-mod, min-eq_left}
+use Rattle.std.proofs.Math.Nat.{div-add-mod, min-eq_left, mul_comm}
 use Rattle.std.proofs.lemmas.Bool.{le-ltb}
 use Rattle.std.proofs.lemmas.List.{append-nil}
 use Rattle.byteorder.specs.Endian.{little_bytes, little_number}
 use Rattle.byteorder.specs.Numbers.{little_number-reads_back}
 use Rattle.pcap_records.specs.declared.heading.Order.TheVariants.{Little}
-use Rattle.pcap_records.specs.Instants.{microseconds, horizon, instant}
+use Rattle.pcap_records.specs.Instants.{ticks_of, horizon, instant}
+use Rattle.pcap_records.specs.declared.unit.Unit.{Unit}
+use Rattle.pcap_records.specs.declared.unit.Unit.TheVariants.{Micros, Nanos}
 use Rattle.pcap_records.specs.Reading.{Heading, Packet, capture_limit, file_heading}
 use Rattle.pcap_records.specs.Grammar.{RawRecord, IsRawRecord, Splits, raw_bytes, packet_of_raw}
 use Rattle.pcap_records.specs.Writing.{file_header, record_header, record_bytes, written_capture, IsWritable, WrittenIsRead}
 use Rattle.pcap_records.proofs.Splitting.{splits_are_read}
 
-heading_written : Heading
-heading_written = record { order = Little; ticks = microseconds }
+heading_written : ℕ → Heading
+heading_written ticks = record { order = Little; ticks = ticks }
 
-raw_of : Packet → RawRecord
-raw_of p = record { header = record_header microseconds p.stamp (length p.bytes); packet = p.bytes }
+raw_of : ℕ → Packet → RawRecord
+raw_of ticks p = record { header = record_header ticks p.stamp (length p.bytes); packet = p.bytes }
 
-heading_is : (records : List ℕ) → length (file_header microseconds ++ records) ≤ capture_limit → file_heading (file_header microseconds ++ records) ≡ Ok heading_written
+heading_is : (unit : Unit) (records : List ℕ) → length (file_header (ticks_of unit) ++ records) ≤ capture_limit → file_heading (file_header (ticks_of unit) ++ records) ≡ Ok (heading_written (ticks_of unit))
 unfolding file_heading file_header heading_written
-heading_is records within =
-    let not_over = le-ltb capture_limit (length (file_header microseconds ++ records)) within in
-    let not_short = le-ltb (length (file_header microseconds ++ records)) 24 (omega arith) in
+heading_is Micros records within =
+    let not_over = le-ltb capture_limit (length (file_header (ticks_of Micros) ++ records)) within in
+    let not_short = le-ltb (length (file_header (ticks_of Micros) ++ records)) 24 (omega arith) in
+    rw (not_over, not_short) refl
+heading_is Nanos records within =
+    let not_over = le-ltb capture_limit (length (file_header (ticks_of Nanos) ++ records)) within in
+    let not_short = le-ltb (length (file_header (ticks_of Nanos) ++ records)) 24 (omega arith) in
     rw (not_over, not_short) refl
 
-raws_bytes : (packets : List Packet) → flat_map (λ p. record_bytes microseconds p.stamp p.bytes) packets ≡ flat_map raw_bytes (map raw_of packets)
+raws_bytes : (ticks : ℕ) (packets : List Packet) → flat_map (λ p. record_bytes ticks p.stamp p.bytes) packets ≡ flat_map raw_bytes (map (raw_of ticks) packets)
 unfolding raw_of
-raws_bytes [] = refl
-raws_bytes (p ∷ packets) = ap (λ bytes. record_bytes microseconds p.stamp p.bytes ++ bytes) (raws_bytes packets)
+raws_bytes ticks [] = refl
+raws_bytes ticks (p ∷ packets) = ap (λ bytes. record_bytes ticks p.stamp p.bytes ++ bytes) (raws_bytes ticks packets)
 
 -- a field of four bytes, wherever it stands
 field_read : (x : ℕ) (rest : List ℕ) → x < 2 ^ 32 → little_number 4 (little_bytes 4 x ++ rest) ≡ x
 field_read x rest fits = little_number-reads_back 4 x rest fits
 
+-- an instant before the horizon: its seconds have a field, and its ticks over these
+seconds_fit : (unit : Unit) (at : ℕ) → at < horizon (ticks_of unit) → at / ticks_of unit < 2 ^ 32
+seconds_fit Micros at before = omega (arith, before)
+seconds_fit Nanos at before = omega (arith, before)
+
+over_fits : (unit : Unit) (at : ℕ) → at % ticks_of unit < 2 ^ 32
+over_fits Micros at = omega arith
+over_fits Nanos at = omega arith
+
 -- seconds and ticks put together
-instant_read : (at seconds ticks : ℕ) → at < horizon microseconds → seconds ≡ at / microseconds → ticks ≡ at % microseconds → instant microseconds (seconds * microseconds + ticks) ≡ at
-instant_read at seconds ticks before whole part =
-    let sum : seconds * microseconds + ticks ≡ at = omega (arith, whole, part, div-add-mod at microseconds) in
+instant_read : (ticks at seconds over : ℕ) → at < horizon ticks → seconds ≡ at / ticks → over ≡ at % ticks → instant ticks (seconds * ticks + over) ≡ at
+instant_read ticks at seconds over before whole part =
+    let sum : seconds * ticks + over ≡ at = rw (whole, part, mul_comm (at / ticks) ticks) (div-add-mod at ticks) in
     rw sum (min-eq_left (omega (arith, before)))
 
-module _ (p : Packet) (is : IsWritable microseconds p) where
-  raw_is : IsRawRecord heading_written (raw_of p)
+module _ (unit : Unit) (p : Packet) (is : IsWritable (ticks_of unit) p) where
+  raw_is : IsRawRecord (heading_written (ticks_of unit)) (raw_of (ticks_of unit) p)
   unfolding heading_written raw_of record_header
   raw_is = record {
     whole_header = refl;
@@ -50,28 +65,30 @@ module _ (p : Packet) (is : IsWritable microseconds p) where
     limited = is.limited;
   }
 
-  packet_is : packet_of_raw heading_written (raw_of p) ≡ p
+  packet_is : packet_of_raw (heading_written (ticks_of unit)) (raw_of (ticks_of unit) p) ≡ p
   unfolding heading_written raw_of record_header
   packet_is =
       let len = little_bytes 4 (length p.bytes) in
-      let seconds = field_read (p.stamp / microseconds) (little_bytes 4 (p.stamp % microseconds) ++ (len ++ len)) (omega (arith, is.stamped)) in
-      let ticks = field_read (p.stamp % microseconds) (len ++ len) (omega arith) in
-      ap (λ (at : ℕ). record { stamp = at; bytes = p.bytes }) (instant_read p.stamp _ _ is.stamped seconds ticks)
+      let seconds = field_read (p.stamp / ticks_of unit) (little_bytes 4 (p.stamp % ticks_of unit) ++ (len ++ len)) (seconds_fit unit p.stamp is.stamped) in
+      let over = field_read (p.stamp % ticks_of unit) (len ++ len) (over_fits unit p.stamp) in
+      ap (λ (at : ℕ). record { stamp = at; bytes = p.bytes }) (instant_read (ticks_of unit) p.stamp _ _ is.stamped seconds over)
 
-raws_are : (packets : List Packet) → AllByRecursion (IsWritable microseconds) packets → AllByRecursion (IsRawRecord heading_written) (map raw_of packets)
-raws_are [] each = tt
-raws_are (p ∷ packets) each = (raw_is p each.0, raws_are packets each.1)
+raws_are : (unit : Unit) (packets : List Packet) → AllByRecursion (IsWritable (ticks_of unit)) packets → AllByRecursion (IsRawRecord (heading_written (ticks_of unit))) (map (raw_of (ticks_of unit)) packets)
+raws_are unit [] each = tt
+raws_are unit (p ∷ packets) each = (raw_is unit p each.0, raws_are unit packets each.1)
 
-packets_are : (packets : List Packet) → AllByRecursion (IsWritable microseconds) packets → map (packet_of_raw heading_written) (map raw_of packets) ≡ packets
-packets_are [] each = refl
-packets_are (p ∷ packets) each = rw (packet_is p each.0, packets_are packets each.1) refl
+packets_are : (unit : Unit) (packets : List Packet) → AllByRecursion (IsWritable (ticks_of unit)) packets → map (packet_of_raw (heading_written (ticks_of unit))) (map (raw_of (ticks_of unit)) packets) ≡ packets
+packets_are unit [] each = refl
+packets_are unit (p ∷ packets) each = rw (packet_is unit p each.0, packets_are unit packets each.1) refl
 
 pub written_is_read : WrittenIsRead
 unfolding heading_written file_header
-written_is_read packets each within =
-    let splits : Splits heading_written (drop 24 (written_capture microseconds packets)) (map raw_of packets) [] = record {
-      whole = raws_bytes packets ∙ sym (append-nil (flat_map raw_bytes (map raw_of packets)));
-      each = raws_are packets each;
+written_is_read unit packets each within =
+    let ticks = ticks_of unit in
+    let raws = map (raw_of ticks) packets in
+    let splits : Splits (heading_written ticks) (drop 24 (written_capture ticks packets)) raws [] = record {
+      whole = raws_bytes ticks packets ∙ sym (append-nil (flat_map raw_bytes raws));
+      each = raws_are unit packets each;
     } in
-    let read = splits_are_read (written_capture microseconds packets) heading_written (map raw_of packets) [] (heading_is (flat_map (λ p. record_bytes microseconds p.stamp p.bytes) packets) within) splits (inl (omega arith)) in
-    rw (packets_are packets each) at read
+    let read = splits_are_read (written_capture ticks packets) (heading_written ticks) raws [] (heading_is unit (flat_map (λ p. record_bytes ticks p.stamp p.bytes) packets) within) splits (inl (omega arith)) in
+    rw (packets_are unit packets each) at read

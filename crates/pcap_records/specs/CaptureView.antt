@@ -5,8 +5,9 @@ use Rattle.pcap_records.specs.declared.heading.Order.{Order}
 use Rattle.pcap_records.specs.declared.fault.CaptureFault.{CaptureFault}
 use Rattle.pcap_records.specs.declared.fault.CaptureFault.TheVariants.{CaptureTooLong, ShortHeader, BadMagic, BadVersion, BadLink, RecordTooLong, Memory}
 use Rattle.pcap_records.specs.declared.capture.Record.{Record}
-use Rattle.pcap_records.specs.Instants.{horizon}
-use Rattle.pcap_records.specs.Reading.{Packet, Contents, Reading, capture_limit, packet_limit}
+use Rattle.pcap_records.specs.declared.heading.Heading as code
+use Rattle.pcap_records.specs.Instants.{horizon, ticks_of}
+use Rattle.pcap_records.specs.Reading.{Packet, Contents, Heading, Reading, capture_limit, packet_limit}
 
 -- the file's bytes, the ticks of a second, the order of its fields, where its records lie, and how many bytes follow
 pub record CaptureView : Type 0 where
@@ -15,6 +16,10 @@ pub record CaptureView : Type 0 where
   pub order : Order
   pub records : List Record
   pub rest : ℕ
+
+-- what contracts see of what the magic number tells
+abbrev pub heading_of : code.Heading → Heading
+heading_of h = record { order = h.order; ticks = ticks_of h.unit }
 
 -- the packet that a record tells of
 abbrev pub packet_of : List ℕ → Record → Packet

@@ -1,10 +1,20 @@
 -- Time: the ticks that instants count; instants, whole ticks from 0 to a horizon; the greatest stamp so far.
 use Rattle.std.specs.Prelude.{◌≡◌, ◌≤◌, ℕ, ◌+◌, ◌*◌, ◌/◌, ◌^◌, min, max, List, [], ◌∷◌, length, map, take}
 use Rattle.std.specs.List.{range_with_len, slice_range}
+use Rattle.pcap_records.specs.declared.unit.Unit.{Unit}
+use Rattle.pcap_records.specs.declared.unit.Unit.TheVariants.{Micros, Nanos}
 
--- the ticks of a second where instants count microseconds
+-- the ticks of a second where instants count microseconds, and where they count nanoseconds
 abbrev pub microseconds : ℕ
 microseconds = 1000000
+
+abbrev pub nanoseconds : ℕ
+nanoseconds = 1000000000
+
+-- the ticks of a second in each unit
+abbrev pub ticks_of : Unit → ℕ
+ticks_of Micros = microseconds
+ticks_of Nanos = nanoseconds
 
 -- the ticks of a millisecond and of a microsecond, where a second has so many
 abbrev pub millisecond : ℕ → ℕ

@@ -1,12 +1,13 @@
 -- What a classic pcap file holds (pcap 2.4, "Savefile Format"): a file header of 24 bytes, then records,
 -- each a header of 16 bytes and a packet, then the rest, which begins with no whole record.
 use Rattle.std.specs.Prelude.{◌==◌, ℕ, zero, suc, ◌+◌, ◌-◌, ◌*◌, ◌^◌, nat_lt, ◌||◌, not, if◌then◌else◌, List, [], ◌∷◌, length, take, drop, Option, Some, None, Result, Ok, Err}
+use Rattle.std.specs.Option.{option_or}
 use Rattle.byteorder.specs.Endian.{big_number, little_number}
 use Rattle.pcap_records.specs.declared.heading.Order.{Order}
 use Rattle.pcap_records.specs.declared.heading.Order.TheVariants.{Big, Little}
 use Rattle.pcap_records.specs.declared.fault.CaptureFault.{CaptureFault}
 use Rattle.pcap_records.specs.declared.fault.CaptureFault.TheVariants.{CaptureTooLong, ShortHeader, BadMagic, BadVersion, BadLink, RecordTooLong}
-use Rattle.pcap_records.specs.Instants.{microseconds, instant}
+use Rattle.pcap_records.specs.Instants.{microseconds, nanoseconds, instant}
 
 -- ---- what is read
 
@@ -58,17 +59,22 @@ number_in Little n bytes = little_number n bytes
 
 -- ---- the file header
 
-abbrev pub microsecond_heading : Order → Heading
-microsecond_heading o = record { order = o; ticks = microseconds }
-
+-- the magic numbers of files in microseconds and in nanoseconds
 abbrev pub magic : ℕ
 magic = 0xa1b2c3d4
 
--- the heading in whose order the first four bytes are the magic number
+abbrev pub nanosecond_magic : ℕ
+nanosecond_magic = 0xa1b23c4d
+
+-- the heading in whose order the first four bytes are a magic number, that of files in so many ticks a second
+abbrev pub heading_by : ℕ → ℕ → List ℕ → Option Heading
+heading_by magic ticks bytes =
+    if number_in Big 4 bytes == magic then Some (record { order = Big; ticks = ticks }) else
+    (if number_in Little 4 bytes == magic then Some (record { order = Little; ticks = ticks }) else None)
+
+-- the heading that the first four bytes tell
 abbrev pub magic_heading : List ℕ → Option Heading
-magic_heading bytes =
-    if number_in Big 4 bytes == magic then Some (microsecond_heading Big) else
-    (if number_in Little 4 bytes == magic then Some (microsecond_heading Little) else None)
+magic_heading bytes = option_or (heading_by magic microseconds bytes) (heading_by nanosecond_magic nanoseconds bytes)
 
 -- version 2.4, and link type 1, which is Ethernet with no bits of a frame check sequence
 abbrev pub checked_heading : Option Heading → List ℕ → Result Heading CaptureFault

@@ -1,14 +1,15 @@
 -- Written captures (pcap 2.4): fields with the lowest byte first.
-use Rattle.std.specs.Prelude.{◌≡◌, ◌<◌, ◌≤◌, ℕ, ◌/◌, ◌%◌, List, ◌++◌, length, Ok}
+use Rattle.std.specs.Prelude.{◌≡◌, ◌<◌, ◌≤◌, ◌==◌, ℕ, ◌/◌, ◌%◌, if◌then◌else◌, List, ◌++◌, length, Ok}
 use Rattle.std.specs.List.{flat_map, AllByRecursion}
 use Rattle.byteorder.specs.Endian.{little_bytes}
 use Rattle.pcap_records.specs.declared.heading.Order.TheVariants.{Little}
-use Rattle.pcap_records.specs.Instants.{microseconds, horizon}
-use Rattle.pcap_records.specs.Reading.{Packet, magic, capture_limit, packet_limit, reading}
+use Rattle.pcap_records.specs.Instants.{nanoseconds, ticks_of, horizon}
+use Rattle.pcap_records.specs.declared.unit.Unit.{Unit}
+use Rattle.pcap_records.specs.Reading.{Packet, magic, nanosecond_magic, capture_limit, packet_limit, reading}
 
--- the magic number of files in so many ticks a second: there is one so far, that of microseconds
+-- the magic number of files in so many ticks a second
 abbrev pub magic_of : ℕ → ℕ
-magic_of ticks = magic
+magic_of ticks = if ticks == nanoseconds then nanosecond_magic else magic
 
 -- magic number, version 2.4, time zone 0, accuracy 0, longest packet 65,535, link type Ethernet
 unfoldable pub file_header : ℕ → List ℕ
@@ -34,10 +35,10 @@ pub record IsWritable (ticks : ℕ) (p : Packet) : Type 0 where
   pub stamped : p.stamp < horizon ticks
   pub limited : length p.bytes ≤ packet_limit
 
--- what is written is read back: the same packets with the same stamps, and no rest
+-- what is written in a unit is read back in it: the same packets with the same stamps, and no rest
 abbrev pub WrittenIsRead : Type 0
 WrittenIsRead =
-    (packets : List Packet) → AllByRecursion (IsWritable microseconds) packets
-    → length (written_capture microseconds packets) ≤ capture_limit
-    → reading (written_capture microseconds packets)
-    ≡ Ok (record { order = Little; contents = record { ticks = microseconds; packets = packets; rest = 0 } })
+    (unit : Unit) (packets : List Packet) → AllByRecursion (IsWritable (ticks_of unit)) packets
+    → length (written_capture (ticks_of unit) packets) ≤ capture_limit
+    → reading (written_capture (ticks_of unit) packets)
+    ≡ Ok (record { order = Little; contents = record { ticks = ticks_of unit; packets = packets; rest = 0 } })

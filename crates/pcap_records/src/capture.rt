@@ -1,6 +1,7 @@
 //! A file that was read, and where its records lie.
-use crate::heading::Order;
+use crate::heading::{Heading, Order};
 use crate::moment::Moment;
+use crate::unit::Unit;
 use std::alloc::{AllocError, Global};
 use std::marker::Model;
 
@@ -20,49 +21,51 @@ pub struct Record {
 pub struct Capture<'a> {
     bytes: &'a [u8],
     order: Order,
+    unit: Unit,
     records: Vec<Record>,
     rest: u32,
 }
 
 impl<'a> Model for Capture<'a> {
     ghost use Rattle.pcap_records.specs.CaptureView.{CaptureView, IsSoundCapture};
-    ghost use Rattle.pcap_records.specs.Instants.{microseconds};
+    ghost use Rattle.pcap_records.specs.Instants.{ticks_of};
 
     ghost Value = { CaptureView };
 
     ghost view = { λ c. record {
       bytes = c.bytes.now;
-      ticks = microseconds;
+      ticks = ticks_of c.unit;
       order = c.order;
       records = c.records.items;
       rest = c.rest;
     } };
 
-    ghost invariant = { λ c. IsSoundCapture microseconds c.bytes.now c.records.items };
+    ghost invariant = { λ c. IsSoundCapture (ticks_of c.unit) c.bytes.now c.records.items };
 }
 
 impl<'a> Capture<'a> {
     ghost use Rattle.std.specs.Prelude.{◌≡◌, ◌≤◌, ◌<◌, ◌-◌, length, Some, IfOk};
     ghost use Rattle.pcap_records.specs.CaptureView.{IsSoundCapture, packet_at, stamps_between};
-    ghost use Rattle.pcap_records.specs.Instants.{greatest, instants, microseconds};
+    ghost use Rattle.pcap_records.specs.Instants.{greatest, instants, ticks_of};
 
     // The capture of a file whose records were found.
     pub(crate) fn of_records(
         bytes: &'a [u8],
-        order: Order,
+        heading: Heading,
         records: Vec<Record>,
         rest: u32,
     ) -> Capture<'a>
-        requires { IsSoundCapture microseconds bytes.now records.items }
+        requires { IsSoundCapture (ticks_of heading.unit) bytes.now records.items }
         ensures bytes { result.bytes ≡ bytes.entry.now }
-        ensures ticks { result.ticks ≡ microseconds }
-        ensures order { result.order ≡ order }
+        ensures ticks { result.ticks ≡ ticks_of heading.unit }
+        ensures order { result.order ≡ heading.order }
         ensures records { result.records ≡ records.items }
         ensures rest { result.rest ≡ rest }
     {
         Capture {
             bytes,
-            order,
+            order: heading.order,
+            unit: heading.unit,
             records,
             rest,
         }
@@ -73,6 +76,13 @@ impl<'a> Capture<'a> {
         ensures { result ≡ self.now.order }
     {
         self.order
+    }
+
+    /// The unit of the stamps.
+    pub fn unit(&self) -> Unit
+        ensures { ticks_of result ≡ self.now.ticks }
+    {
+        self.unit
     }
 
     /// The whole records, in the file's order. Their number is below 2^26.
@@ -105,7 +115,6 @@ impl<'a> Capture<'a> {
     pub fn bytes(&self) -> &'a [u8]
         ensures bytes { result.now ≡ self.now.bytes }
         ensures sound { IsSoundCapture self.now.ticks self.now.bytes self.now.records }
-        ensures ticks { self.now.ticks ≡ microseconds }
     {
         self.bytes
     }
@@ -139,7 +148,7 @@ impl<'a> Capture<'a> {
         requires within { to ≤ length self.now.records }
         ensures { result ≡ greatest (stamps_between self.now from to) }
     {
-        let mut peak = Moment::of(0);
+        let mut peak = Moment::first();
         for record in &self.records[from..to] {
             peak = peak.greater(record.stamp);
         }

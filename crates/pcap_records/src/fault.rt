@@ -13,8 +13,8 @@ pub enum CaptureFault {
     /// The file is shorter than its header of 24 bytes.
     #[error("the file header is cut short")]
     ShortHeader,
-    /// The first four bytes are the magic number in neither byte order.
-    #[error("the magic number is that of no classic pcap file in microseconds")]
+    /// The first four bytes are no magic number, in neither byte order.
+    #[error("the magic number is that of no classic pcap file")]
     BadMagic,
     /// The version is not 2.4.
     #[error("the version is not 2.4")]

@@ -1,10 +1,12 @@
-//! The file header, and the order of the bytes in a file's fields.
+//! The file header: the order of the bytes in a file's fields, and the unit of its stamps.
 ghost use Rattle.std.specs.Prelude.{◌≡◌, ◌≤◌, length, option_map, OnOk};
-ghost use Rattle.pcap_records.specs.Reading.{capture_limit, file_header_len, file_heading, magic_heading, microsecond_heading, number_in};
-ghost use Rattle.pcap_records.specs.CaptureView.{refusal};
+ghost use Rattle.pcap_records.specs.Reading.{capture_limit, file_header_len, file_heading, heading_by, magic_heading, number_in};
+ghost use Rattle.pcap_records.specs.CaptureView.{heading_of, refusal};
+ghost use Rattle.pcap_records.specs.Instants.{ticks_of};
 ghost use Rattle.pcap_records.specs.Agreement.{AgreesWithoutMemory};
 
 use crate::fault::CaptureFault;
+use crate::unit::Unit;
 use byteorder::{BigEndian, ByteOrder, LittleEndian};
 
 /// The most bytes that a file may have.
@@ -15,14 +17,16 @@ pub const FILE_HEADER_LEN: usize = 24;
 
 const MAGIC: u32 = 0xa1b2_c3d4;
 
+const NANOSECOND_MAGIC: u32 = 0xa1b2_3c4d;
+
 const ETHERNET: u32 = 1;
 
 /// The order of the bytes in each field of a file.
 #[derive(Clone, Copy, Debug, PartialEq, Eq, Hash)]
 pub enum Order {
-    /// The highest byte first: the file begins with `a1 b2 c3 d4`.
+    /// The highest byte first: the file begins with `a1 b2 c3 d4` or `a1 b2 3c 4d`.
     Big,
-    /// The lowest byte first: the file begins with `d4 c3 b2 a1`.
+    /// The lowest byte first: the file begins with `d4 c3 b2 a1` or `4d 3c b2 a1`.
     Little,
 }
 
@@ -50,24 +54,43 @@ impl Order {
     }
 }
 
-// The byte order that the magic number tells.
-fn order_of(bytes: &[u8]) -> Option<Order>
+/// What the magic number tells.
+#[derive(Clone, Copy)]
+pub(crate) struct Heading {
+    /// The order of the bytes in each field of the file.
+    pub order: Order,
+    /// The unit of its stamps.
+    pub unit: Unit,
+}
+
+// What the first four bytes tell, where they are a magic number.
+fn told(bytes: &[u8]) -> Option<Heading>
     requires { 4 ≤ length bytes.now }
-    ensures { option_map microsecond_heading result ≡ magic_heading bytes.now }
+    ensures { option_map heading_of result ≡ magic_heading bytes.now }
 {
-    if Order::Big.u32_of(bytes) == MAGIC {
-        Some(Order::Big)
-    } else if Order::Little.u32_of(bytes) == MAGIC {
-        Some(Order::Little)
+    told_by(MAGIC, Unit::Micros, bytes).or(told_by(NANOSECOND_MAGIC, Unit::Nanos, bytes))
+}
+
+// What the first four bytes tell, where they are the magic number of a unit.
+fn told_by(magic: u32, unit: Unit, bytes: &[u8]) -> Option<Heading>
+    requires { 4 ≤ length bytes.now }
+    ensures { option_map heading_of result ≡ heading_by magic (ticks_of unit) bytes.now }
+{
+    if Order::Big.u32_of(bytes) == magic {
+        let order = Order::Big;
+        Some(Heading { order, unit })
+    } else if Order::Little.u32_of(bytes) == magic {
+        let order = Order::Little;
+        Some(Heading { order, unit })
     } else {
         None
     }
 }
 
-// The byte order of a file's fields, or the first fault of its length and header.
+// What a file's magic number tells, or the first fault of its length and header.
 #[tactic(auto, unfolding(crate::specs::Reading::file_heading))]
-pub(crate) fn read_heading(bytes: &[u8]) -> Result<Order, CaptureFault>
-    ensures exact { AgreesWithoutMemory refusal microsecond_heading result (file_heading bytes.now) }
+pub(crate) fn read_heading(bytes: &[u8]) -> Result<Heading, CaptureFault>
+    ensures exact { AgreesWithoutMemory refusal heading_of result (file_heading bytes.now) }
     ensures whole { OnOk result (file_header_len ≤ length bytes.now) }
     ensures limited { OnOk result (length bytes.now ≤ capture_limit) }
 {
@@ -77,14 +100,15 @@ pub(crate) fn read_heading(bytes: &[u8]) -> Result<Order, CaptureFault>
     if bytes.len() < FILE_HEADER_LEN {
         return Err(CaptureFault::ShortHeader);
     }
-    let Some(order) = order_of(bytes) else {
+    let Some(heading) = told(bytes) else {
         return Err(CaptureFault::BadMagic);
     };
+    let order = heading.order;
     if order.u16_of(&bytes[4..]) != 2 || order.u16_of(&bytes[6..]) != 4 {
         return Err(CaptureFault::BadVersion);
     }
     if order.u32_of(&bytes[20..]) != ETHERNET {
         return Err(CaptureFault::BadLink);
     }
-    Ok(order)
+    Ok(heading)
 }

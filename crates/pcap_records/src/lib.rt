@@ -10,6 +10,7 @@ mod heading;
 pub mod laws;
 mod moment;
 mod reader;
+mod unit;
 mod values;
 mod writing;
 
@@ -18,5 +19,6 @@ pub use fault::CaptureFault;
 pub use heading::{CAPTURE_LIMIT, FILE_HEADER_LEN, Order};
 pub use moment::Moment;
 pub use reader::{PACKET_LIMIT, RECORD_HEADER_LEN, read_capture};
+pub use unit::Unit;
 pub use values::Values;
 pub use writing::{record_header_bytes, write_header, write_record};

@@ -1,10 +1,11 @@
-//! Time: the ticks that instants count, and instants.
+//! Instants.
 ghost use Rattle.std.specs.Prelude.{◌≡◌, ◌+◌, max, nat_lt};
-ghost use Rattle.pcap_records.specs.Instants.{horizon, instant, microseconds};
+ghost use Rattle.pcap_records.specs.Instants.{horizon, instant, ticks_of};
 
+use crate::unit::Unit;
 use std::marker::Model;
 
-/// An instant: whole ticks, which are microseconds, since the first second that a file can tell.
+/// An instant of a capture: whole ticks of its unit since the first second that a file can tell.
 #[derive(Clone, Copy, Debug, PartialEq, Eq, PartialOrd, Ord, Hash)]
 pub struct Moment {
     ticks: u64,
@@ -21,24 +22,19 @@ impl Model for Moment {
 }
 
 impl Moment {
-    /// The ticks of a second.
-    pub const SECOND: u64 = 1_000_000;
+    /// The first instant.
+    pub fn first() -> Moment
+        ensures { result ≡ 0 }
+    {
+        Moment { ticks: 0 }
+    }
 
-    /// The ticks of a millisecond.
-    pub const MILLISECOND: u64 = Self::SECOND / 1000;
-
-    /// The ticks of a microsecond.
-    pub const MICROSECOND: u64 = Self::SECOND / 1_000_000;
-
-    /// The horizon, 2^32 seconds, past which no stamp lies.
-    pub const HORIZON: u64 = (1 << 32) * Self::SECOND;
-
-    /// The instant `ticks` ticks after the first, or the horizon where that is earlier.
-    pub fn of(ticks: u64) -> Moment
-        ensures { result ≡ instant microseconds ticks }
+    /// The instant `ticks` ticks of a unit after the first, or the horizon where that is earlier.
+    pub fn of(ticks: u64, unit: Unit) -> Moment
+        ensures { result ≡ instant (ticks_of unit) ticks }
     {
         Moment {
-            ticks: ticks.min(Self::HORIZON),
+            ticks: ticks.min(unit.horizon()),
         }
     }
 
@@ -49,11 +45,11 @@ impl Moment {
         self.ticks
     }
 
-    /// The instant `ticks` ticks after this one, or the horizon where that is earlier.
-    pub fn later(self, ticks: u64) -> Moment
-        ensures { result ≡ instant microseconds (self + ticks) }
+    /// The instant `ticks` ticks of a unit after this one, or the horizon where that is earlier.
+    pub fn later(self, ticks: u64, unit: Unit) -> Moment
+        ensures { result ≡ instant (ticks_of unit) (self + ticks) }
     {
-        Moment::of(self.ticks.saturating_add(ticks))
+        Moment::of(self.ticks.saturating_add(ticks), unit)
     }
 
     /// Whether this instant is before another.
@@ -63,11 +59,11 @@ impl Moment {
         self.ticks < other.ticks
     }
 
-    /// Whether this instant is before the horizon.
-    pub fn is_before_horizon(self) -> bool
-        ensures { result ≡ nat_lt self (horizon microseconds) }
+    /// Whether this instant is before a unit's horizon.
+    pub fn is_before_horizon(self, unit: Unit) -> bool
+        ensures { result ≡ nat_lt self (horizon (ticks_of unit)) }
     {
-        self.ticks < Self::HORIZON
+        self.ticks < unit.horizon()
     }
 
     /// The greater of two instants.

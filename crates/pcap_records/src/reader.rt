@@ -1,14 +1,14 @@
 //! Reading a whole file in one pass, record after record.
 ghost use Rattle.std.specs.Prelude.{◌≡◌, ◌≤◌, ◌<◌, ◌*◌, length, drop, IfOk};
-ghost use Rattle.pcap_records.specs.Reading.{reading, capture_limit, file_header_len, record_header_len, microsecond_heading, records_after};
+ghost use Rattle.pcap_records.specs.Reading.{reading, capture_limit, file_header_len, record_header_len, records_after};
 ghost use Rattle.pcap_records.specs.Agreement.{Agrees, Refuses};
-ghost use Rattle.pcap_records.specs.CaptureView.{reading_of, refusal, IsSoundCapture};
-ghost use Rattle.pcap_records.specs.Instants.{microseconds};
+ghost use Rattle.pcap_records.specs.CaptureView.{heading_of, reading_of, refusal, IsSoundCapture};
+ghost use Rattle.pcap_records.specs.Instants.{ticks_of};
 ghost use Rattle.pcap_records.specs.Listed.{listed_contents, IsFoundAt};
 
 use crate::capture::{Capture, Record};
 use crate::fault::CaptureFault;
-use crate::heading::{FILE_HEADER_LEN, Order, read_heading};
+use crate::heading::{FILE_HEADER_LEN, Heading, read_heading};
 use crate::moment::Moment;
 use std::alloc::{AllocError, Global};
 
@@ -34,25 +34,24 @@ pub(crate) struct RecordList {
 pub fn read_capture<'a>(alloc: Global, bytes: &'a [u8]) -> Result<Capture<'a>, CaptureFault>
     ensures exact { Agrees refusal reading_of result (reading bytes.now) }
     ensures of { IfOk result (λ capture. capture.bytes ≡ bytes.now) }
-    ensures ticks { IfOk result (λ capture. capture.ticks ≡ microseconds) }
 {
-    let order = read_heading(bytes)?;
-    let list = list_records(alloc, order, bytes)?;
-    Ok(Capture::of_records(bytes, order, list.records, list.rest))
+    let heading = read_heading(bytes)?;
+    let list = list_records(alloc, heading, bytes)?;
+    Ok(Capture::of_records(bytes, heading, list.records, list.rest))
 }
 
 // Lists the records after the file header.
-fn list_records(alloc: Global, order: Order, bytes: &[u8]) -> Result<RecordList, CaptureFault>
+fn list_records(alloc: Global, heading: Heading, bytes: &[u8]) -> Result<RecordList, CaptureFault>
     requires header { file_header_len ≤ length bytes.now }
     requires limited { length bytes.now ≤ capture_limit }
-    ensures exact { Agrees refusal (listed_contents microseconds bytes.now) result
-        (records_after 0 (microsecond_heading order) 0 (drop file_header_len bytes.now)) }
-    ensures sound { IfOk result (λ list. IsSoundCapture microseconds bytes.now list.records.items) }
+    ensures exact { Agrees refusal (listed_contents (ticks_of heading.unit) bytes.now) result
+        (records_after 0 (heading_of heading) 0 (drop file_header_len bytes.now)) }
+    ensures sound { IfOk result (λ list. IsSoundCapture (ticks_of heading.unit) bytes.now list.records.items) }
 {
     let mut records = Vec::new(alloc);
     let mut at = FILE_HEADER_LEN;
     'records: loop {
-        match found_at(order, bytes, at) {
+        match found_at(heading, bytes, at) {
             Found::Torn => {
                 let rest = (bytes.len() - at) as u32;
                 return Ok(RecordList { records, rest });
@@ -65,7 +64,7 @@ fn list_records(alloc: Global, order: Order, bytes: &[u8]) -> Result<RecordList,
                 at += RECORD_HEADER_LEN + record.len as usize;
                 let count = records.len() as u32 + 1;
                 let Ok(()) = records.push(record) else {
-                    return Err(fault_after(order, bytes, at, count));
+                    return Err(fault_after(heading, bytes, at, count));
                 };
             }
         }
@@ -74,16 +73,16 @@ fn list_records(alloc: Global, order: Order, bytes: &[u8]) -> Result<RecordList,
 
 // Why a file is refused of which a record found no memory, where `count` records stand before `at`: the fault of a
 // later record, if one has any, and else want of memory.
-fn fault_after(order: Order, bytes: &[u8], at: usize, count: u32) -> CaptureFault
+fn fault_after(heading: Heading, bytes: &[u8], at: usize, count: u32) -> CaptureFault
     requires inside { at ≤ length bytes.now }
     requires limited { length bytes.now ≤ capture_limit }
     requires header_each { record_header_len * count ≤ at }
-    ensures { Refuses (refusal result) (records_after 0 (microsecond_heading order) count (drop at bytes.now)) }
+    ensures { Refuses (refusal result) (records_after 0 (heading_of heading) count (drop at bytes.now)) }
 {
     let mut at = at;
     let mut count = count;
     'records: loop {
-        match found_at(order, bytes, at) {
+        match found_at(heading, bytes, at) {
             Found::Torn => return CaptureFault::Memory(AllocError),
             Found::TooLong => return CaptureFault::RecordTooLong { at: count },
             Found::Whole(record) => {
@@ -107,11 +106,12 @@ pub(crate) enum Found {
 
 // What begins at `at`. The announced length is tested before it is asked whether the file holds so many bytes.
 #[tactic(auto, unfolding(crate::specs::Reading::next_record))]
-pub(crate) fn found_at(order: Order, bytes: &[u8], at: usize) -> Found
+pub(crate) fn found_at(heading: Heading, bytes: &[u8], at: usize) -> Found
     requires inside { at ≤ length bytes.now }
     requires limited { length bytes.now ≤ capture_limit }
-    ensures { IsFoundAt (microsecond_heading order) bytes.now at result }
+    ensures { IsFoundAt (heading_of heading) bytes.now at result }
 {
+    let Heading { order, unit } = heading;
     let rest = &bytes[at..];
     if rest.len() < RECORD_HEADER_LEN {
         return Found::Torn;
@@ -123,10 +123,9 @@ pub(crate) fn found_at(order: Order, bytes: &[u8], at: usize) -> Found
     if rest.len() - RECORD_HEADER_LEN < len as usize {
         return Found::Torn;
     }
-    let seconds = u64::from(order.u32_of(rest));
-    let ticks = u64::from(order.u32_of(&rest[4..]));
+    let ticks = unit.seconds(order.u32_of(rest)) + u64::from(order.u32_of(&rest[4..]));
     Found::Whole(Record {
-        stamp: Moment::of(seconds * Moment::SECOND + ticks),
+        stamp: Moment::of(ticks, unit),
         start: (at + RECORD_HEADER_LEN) as u32,
         len,
     })

@@ -1,7 +1,8 @@
 -- What contracts see of a `Line`: its bytes one by one, its end, and the ticks of a second.
 use Rattle.std.specs.Prelude.{◌≡◌, ℕ, Bool, false, List, [], ◌∷◌, map, Option, Some, None}
 use Rattle.std.specs.List.{flat_map}
-use Rattle.pcap_records.specs.Instants.{microseconds}
+use Rattle.pcap_records.specs.declared.unit.Unit.{Unit}
+use Rattle.pcap_records.specs.Instants.{ticks_of}
 use Rattle.reassembly.specs.RecordedLines.{LineByte, Line, End, live, fin, close, reset}
 use Rattle.reassembly.specs.declared.line_parts.LinePart.{LinePart}
 use Rattle.reassembly.specs.declared.line_parts.End as code
@@ -49,5 +50,5 @@ IsMovedBy R (reset at) moved = (m : ℕ) × R at m × (moved ≡ reset m)
 abbrev pub line_of : List LinePart → code.End → Line
 line_of parts end = record { bytes = bytes_of_parts parts; end = end_view end }
 
-abbrev pub line_view : List LinePart → code.End → LineView
-line_view parts end = record { ticks = microseconds; line = line_of parts end }
+abbrev pub line_view : Unit → List LinePart → code.End → LineView
+line_view unit parts end = record { ticks = ticks_of unit; line = line_of parts end }

@@ -6,6 +6,7 @@ use Rattle.conn_table.specs.declared.conns.Member.{Member}
 use Rattle.reassembly.specs.declared.sides.CountedFin.{CountedFin}
 use Rattle.reassembly.specs.declared.sides.SideLine.{SideLine}
 use Rattle.reassembly.specs.Positions.{origin}
+use Rattle.reassembly.specs.LineView.{line_of}
 use Rattle.reassembly.specs.RecordedLines.{LineByte, End, fin, RecordedSide, fin_position, fin_segment, side_of}
 use Rattle.reassembly.specs.Spans.{Span, TimedByte, limit, first_byte}
 use Rattle.reassembly.specs.MemberSpans.{member_position, segment_span, member_spans, own_members, is_fin_member}
@@ -92,4 +93,4 @@ IsSideOf (Some base) client file members other s =
 -- ---- of the code
 
 abbrev pub side_view : SideLine → RecordedSide
-side_view s = record { line = s.line.line; lost = s.lost }
+side_view s = record { line = line_of s.parts.items s.end; lost = s.lost }

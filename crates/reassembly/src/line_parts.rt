@@ -2,7 +2,7 @@
 ghost use Rattle.std.specs.Prelude.{◌≡◌, ◌++◌, IfOk, OnOk};
 ghost use Rattle.reassembly.specs.LineView.{bytes_of_parts, bytes_with_mark};
 
-use pcap_records::Moment;
+use pcap_records::{Moment, Unit};
 use std::alloc::{AllocError, Global};
 use std::marker::Model;
 use std::slice;
@@ -58,9 +58,11 @@ impl End {
     }
 }
 
-/// A line: the bytes of its parts in turn, each at its part's instant, and its end. Contracts see the bytes one by one.
+/// A line: the unit of its instants, the bytes of its parts in turn, each at its part's instant, and its end. Contracts
+/// see the bytes one by one.
 #[derive(Debug, Drop)]
 pub struct Line<'a> {
+    unit: Unit,
     parts: Vec<LinePart<'a>>,
     end: End,
 }
@@ -70,17 +72,25 @@ impl<'a> Model for Line<'a> {
 
     ghost Value = { LineView };
 
-    ghost view = { λ l. line_view l.parts.items l.end };
+    ghost view = { λ l. line_view l.unit l.parts.items l.end };
 }
 
 impl<'a> Line<'a> {
     ghost use Rattle.reassembly.specs.LineView.{line_view, bytes_of_parts, end_view};
+    ghost use Rattle.pcap_records.specs.Instants.{ticks_of};
 
-    /// The line of these parts and this end.
-    pub fn of_parts(parts: Vec<LinePart<'a>>, end: End) -> Line<'a>
-        ensures { result ≡ line_view parts.entry.items end }
+    /// The line of these parts and this end, in a unit.
+    pub fn of_parts(unit: Unit, parts: Vec<LinePart<'a>>, end: End) -> Line<'a>
+        ensures { result ≡ line_view unit parts.entry.items end }
     {
-        Line { parts, end }
+        Line { unit, parts, end }
+    }
+
+    /// The unit of its instants, which is the capture's.
+    pub fn unit(&self) -> Unit
+        ensures { ticks_of result ≡ self.now.ticks }
+    {
+        self.unit
     }
 
     /// Its parts.
@@ -110,6 +120,7 @@ impl<'a> Line<'a> {
     {
         let parts = Vec::from_slice(alloc, &self.parts)?;
         Ok(Line {
+            unit: self.unit,
             parts,
             end: self.end,
         })

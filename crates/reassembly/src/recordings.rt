@@ -9,14 +9,14 @@ ghost use Rattle.reassembly.specs.LineView.{end_view};
 ghost use Rattle.reassembly.specs.MemberSpans.{IsInFile};
 ghost use Rattle.reassembly.specs.RecordedLines.{recorded_connection};
 ghost use Rattle.reassembly.specs.RecordedView.{recorded_view, IsConnOf, IsConnectionOf, IsOfMembers, other_end, first_seq};
-ghost use Rattle.pcap_records.specs.Instants.{microseconds};
+ghost use Rattle.pcap_records.specs.Instants.{ticks_of};
 
 use crate::line_parts::{End, Line};
 use crate::positions::{effective_members, reset_at, server_base};
-use crate::sides::{SideLine, recorded_side};
+use crate::sides::recorded_side;
 use conn_table::{Conn, Member};
 use frame_headers::{Class, classify, laws};
-use pcap_records::{Capture, Moment};
+use pcap_records::{Capture, Moment, Unit};
 use std::alloc::{AllocError, Global};
 
 /// What a connection's two sides sent, as far as the capture tells.
@@ -65,12 +65,14 @@ pub fn lines<'a>(
     laws::payloads_are_in_place();
     let file = capture.bytes();
     let macs = macs_at(capture, conn.opening);
-    recorded_by_members(alloc, conn.opened, macs, conn.members.as_slice(), file)
+    let members = conn.members.as_slice();
+    recorded_by_members(alloc, capture.unit(), conn.opened, macs, members, file)
 }
 
-// The lines of members whose payloads lie in a file.
+// The lines of members whose payloads lie in a file, with instants in a unit.
 fn recorded_by_members<'a>(
     alloc: Global,
+    unit: Unit,
     opened: Moment,
     macs: Macs,
     members: &[Member],
@@ -82,8 +84,8 @@ fn recorded_by_members<'a>(
     ensures opened { IfOk result (λ r. r.opened ≡ opened) }
     ensures client { IfOk result (λ r. r.mac_client ≡ macs.client) }
     ensures server { IfOk result (λ r. r.mac_server ≡ macs.server) }
-    ensures up_ticks { IfOk result (λ r. r.up.ticks ≡ microseconds) }
-    ensures down_ticks { IfOk result (λ r. r.down.ticks ≡ microseconds) }
+    ensures up_ticks { IfOk result (λ r. r.up.ticks ≡ ticks_of unit) }
+    ensures down_ticks { IfOk result (λ r. r.down.ticks ≡ ticks_of unit) }
 {
     let client_base = first_seq(members);
     let counted = effective_members(members);
@@ -97,23 +99,13 @@ fn recorded_by_members<'a>(
         end_else(members),
     )?;
     let down = recorded_side(alloc, server_base, false, counted, file, end_else(members))?;
-    let SideLine {
-        line: up,
-        len: _,
-        lost: up_lost,
-    } = up;
-    let SideLine {
-        line: down,
-        len: _,
-        lost: down_lost,
-    } = down;
     let mac_client = macs.client;
     let mac_server = macs.server;
     Ok(Recorded {
-        up,
-        down,
-        up_lost,
-        down_lost,
+        up: Line::of_parts(unit, up.parts, up.end),
+        down: Line::of_parts(unit, down.parts, down.end),
+        up_lost: up.lost,
+        down_lost: down.lost,
         client_base,
         server_base,
         opened,

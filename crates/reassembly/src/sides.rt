@@ -5,7 +5,7 @@ ghost use Rattle.reassembly.specs.MemberSpans.{IsInFile, is_fin_member, own_memb
 ghost use Rattle.reassembly.specs.SideLines.{IsFront, IsSideOf, end_by, fin_of, first_from, latest_below, len_of, line_bytes, side_by, side_view, stop_of};
 ghost use Rattle.reassembly.specs.Spans.{AreOrdered, first_byte, limit, spans};
 
-use crate::line_parts::{End, Line, LinePart, add_part};
+use crate::line_parts::{End, LinePart, add_part};
 use crate::passes::side_patches;
 use crate::patches::{Patch, end, front, patch_at};
 use crate::positions::{ORIGIN, shifted_end};
@@ -39,7 +39,8 @@ fn without_base<'a>(alloc: Global, other: End) -> SideLine<'a>
     ensures { side_view result ≡ record { line = record { bytes = []; end = end_view other }; lost = 0 } }
 {
     SideLine {
-        line: Line::of_parts(Vec::new(alloc), other),
+        parts: Vec::new(alloc),
+        end: other,
         len: 0,
         lost: 0,
     }
@@ -69,10 +70,11 @@ fn first_fin(base: u32, client: bool, members: &[Member]) -> Option<CountedFin>
 /// No position reaches it.
 const LIMIT: usize = 1 << 33;
 
-/// The line of one side, its length, and how many bytes lie after it.
+/// The line of one side by its parts and its end, its length, and how many bytes lie after it.
 #[derive(Drop)]
 pub(crate) struct SideLine<'a> {
-    pub line: Line<'a>,
+    pub parts: Vec<LinePart<'a>>,
+    pub end: End,
     pub len: usize,
     pub lost: u64,
 }
@@ -93,8 +95,12 @@ fn side_line<'a>(
     let all = count_bytes(patches);
     let lost = (all - len) as u64;
     let end = end_at(len, latest, &fin, &other);
-    let line = Line::of_parts(parts, end);
-    Ok(SideLine { line, len, lost })
+    Ok(SideLine {
+        parts,
+        end,
+        len,
+        lost,
+    })
 }
 
 // The position by which the line ends.
@@ -154,7 +160,7 @@ fn front_parts<'a>(
     let mut parts = Vec::with_capacity(alloc, patches.len())?;
     let mut i = 0;
     let mut len = 0;
-    let mut latest = Moment::of(0);
+    let mut latest = Moment::first();
     'walk: while i < patches.len() && from_at(patches, i) == len && len < stop {
         let patch = front(&patch_at(patches, i), stop);
         let at = latest.greater(patch.at);

@@ -1,16 +1,16 @@
 use Rattle.std.proofs.Common.{drop, ◌+◌, Some, None, arith}
 use Rattle.std.proofs.lemmas.List.{drop-drop}
 use Rattle.pcap_records.specs.declared.fault.CaptureFault.TheVariants.{RecordTooLong}
-use Rattle.pcap_records.specs.Reading.{microsecond_heading}
+use Rattle.pcap_records.specs.CaptureView.{heading_of}
 use Rattle.pcap_records.proofs.Passes.{refuses-whole, refuses-torn, refuses-too_long}
 use Rattle.pcap_records.proofs.reader.fault_after.Goals as goal
 
 pub returns-in-Torn : goal.returns-in-Torn
-returns-in-Torn c = c.records.invariant.back None (refuses-torn (microsecond_heading c.args.order) c.records.count (drop c.records.at c.args.bytes.now) c.in-Torn.ensures)
+returns-in-Torn c = c.records.invariant.back None (refuses-torn (heading_of c.args.heading) c.records.count (drop c.records.at c.args.bytes.now) c.in-Torn.ensures)
 
 pub returns-in-TooLong : goal.returns-in-TooLong
 returns-in-TooLong c =
-    c.records.invariant.back (Some (RecordTooLong c.records.count)) (refuses-too_long (microsecond_heading c.args.order) c.records.count (drop c.records.at c.args.bytes.now) c.in-TooLong.ensures)
+    c.records.invariant.back (Some (RecordTooLong c.records.count)) (refuses-too_long (heading_of c.args.heading) c.records.count (drop c.records.at c.args.bytes.now) c.in-TooLong.ensures)
 
 pub records-preserved : goal.records-preserved
 records-preserved c =
@@ -19,6 +19,6 @@ records-preserved c =
     record {
       inside = omega (arith, found.within.ends, found.start);
       header_each = omega arith;
-      back = λ o refused. c.records.invariant.back o (refuses-whole (microsecond_heading c.args.order) c.records.count (drop c.records.at bytes) o found.is_whole
+      back = λ o refused. c.records.invariant.back o (refuses-whole (heading_of c.args.heading) c.records.count (drop c.records.at bytes) o found.is_whole
           (rw (← drop-drop (16 + c.in-Whole.record.len) c.records.at bytes, found.len) at refused));
     }

@@ -1,6 +1,7 @@
 use Rattle.std.proofs.Common.{◌≡◌, drop, arith, refl}
 use Rattle.std.proofs.lemmas.List.{take_rest}
-use Rattle.pcap_records.specs.Reading.{microsecond_heading, stamp_of}
+use Rattle.pcap_records.specs.Reading.{stamp_of}
+use Rattle.pcap_records.specs.CaptureView.{heading_of}
 use Rattle.pcap_records.proofs.Passes.{record_stands_at}
 use Rattle.pcap_records.proofs.reader.found_at.Goals as goal
 
@@ -11,9 +12,9 @@ returns c =
     let rest = take_rest bytes at in
     let len = rw (rest, take_rest (drop at bytes) 8) at c.u32_of-len.ensures in
     let seconds = rw rest at c.u32_of.ensures in
-    let ticks = rw (rest, take_rest (drop at bytes) 4) at c.u32_of-2.ensures in
-    let stamped : c.of.result ≡ stamp_of (microsecond_heading c.args.order) (drop at bytes) =
-    rw (c.of.ensures, c.from-seconds.ensures, c.from-ticks.ensures, seconds, ticks) refl in
+    let over = rw (rest, take_rest (drop at bytes) 4) at c.u32_of-2.ensures in
+    let stamped : c.of.result ≡ stamp_of (heading_of c.args.heading) (drop at bytes) =
+    rw (c.of.ensures, c.seconds.ensures, c.from.ensures, seconds, over) refl in
     let long = rw rest at c.if-rest-lt-RECORD_HEADER_LEN.false in
     let held = rw rest at c.if-rest-len.false in
-    record_stands_at (microsecond_heading c.args.order) bytes at _ refl len stamped long c.if-len-gt-PACKET_LIMIT.false held (rw c.of.ensures (omega arith))
+    record_stands_at (heading_of c.args.heading) bytes at _ refl len stamped long c.if-len-gt-PACKET_LIMIT.false held (rw c.of.ensures (omega arith))

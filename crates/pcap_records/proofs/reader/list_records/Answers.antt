@@ -1,10 +1,9 @@
 use Rattle.std.proofs.Common.{◌≡◌, length, map, drop, ◌+◌, sym, subst, ◌∙◌, arith, length-drop}
 use Rattle.std.proofs.lemmas.List.{drop-drop, map_push, length_push}
 use Rattle.std.proofs.lemmas.List.Elements.{All-push, All-nil}
-use Rattle.pcap_records.specs.Instants.{microseconds}
+use Rattle.pcap_records.specs.Instants.{ticks_of}
 use Rattle.pcap_records.specs.Agreement.{Refuses}
-use Rattle.pcap_records.specs.Reading.{microsecond_heading}
-use Rattle.pcap_records.specs.CaptureView.{IsWithinFile, packet_of, refusal}
+use Rattle.pcap_records.specs.CaptureView.{heading_of, IsWithinFile, packet_of, refusal}
 use Rattle.pcap_records.proofs.Passes.{listed_before-none, listed-whole, listed-torn, listed-too_long, refuses-listed}
 use Rattle.pcap_records.proofs.reader.list_records.Goals as goal
 
@@ -12,14 +11,14 @@ pub records-init : goal.records-init
 records-init c = record {
   inside = omega arith;
   header_each = rw c.new-records.ensures.items (omega arith);
-  within = rw c.new-records.ensures.items (All-nil (IsWithinFile microseconds c.args.bytes.now));
+  within = rw c.new-records.ensures.items (All-nil (IsWithinFile (ticks_of c.args.heading.unit) c.args.bytes.now));
   same = rw c.new-records.ensures.items (listed_before-none _);
 }
 
 pub returns-in-Torn-clause-exact : goal.returns-in-Torn-clause-exact
 returns-in-Torn-clause-exact c =
     let bytes = c.args.bytes.now in
-    let h = microsecond_heading c.args.order in
+    let h = heading_of c.args.heading in
     sym c.records.invariant.same
     ∙ (rw (← length-drop c.records.at bytes) (listed-torn h (map (packet_of bytes) c.records.records.items) (length c.records.records.items) (drop c.records.at bytes) c.in-Torn.ensures))
 
@@ -28,18 +27,18 @@ returns-in-TooLong-clause-exact c =
     let bytes = c.args.bytes.now in
     let count : c.len-at.result ≡ length c.records.records.items = omega (arith, c.len-at.ensures, c.records.records.ok.0) in
     sym c.records.invariant.same
-    ∙ (rw count (listed-too_long (microsecond_heading c.args.order) (map (packet_of bytes) c.records.records.items) (length c.records.records.items) (drop c.records.at bytes) c.in-TooLong.ensures))
+    ∙ (rw count (listed-too_long (heading_of c.args.heading) (map (packet_of bytes) c.records.records.items) (length c.records.records.items) (drop c.records.at bytes) c.in-TooLong.ensures))
 
 pub records-preserved : goal.records-preserved
 records-preserved c =
     let bytes = c.args.bytes.now in
-    let h = microsecond_heading c.args.order in
+    let h = heading_of c.args.heading in
     let found = c.in-Whole.ensures in
     let before = c.records.records.items in
     record {
       inside = omega (arith, found.within.ends, found.start);
       header_each = rw (c.in-Ok.ensures.items, length_push before c.in-Whole.record) (omega (arith, c.records.invariant.header_each));
-      within = rw c.in-Ok.ensures.items (All-push (IsWithinFile microseconds bytes) before c.in-Whole.record c.records.invariant.within found.within);
+      within = rw c.in-Ok.ensures.items (All-push (IsWithinFile (ticks_of c.args.heading.unit) bytes) before c.in-Whole.record c.records.invariant.within found.within);
       same =
           rw (c.in-Ok.ensures.items, map_push (packet_of bytes) before c.in-Whole.record, length_push before c.in-Whole.record, found.packet, ← drop-drop (16 + c.in-Whole.record.len) c.records.at bytes, found.len)
           (sym (listed-whole h (map (packet_of bytes) before) (length before) (drop c.records.at bytes) found.is_whole) ∙ c.records.invariant.same);
@@ -49,7 +48,7 @@ records-preserved c =
 pub returns-in_default-clause-exact : goal.returns-in_default-clause-exact
 returns-in_default-clause-exact c =
     let bytes = c.args.bytes.now in
-    let h = microsecond_heading c.args.order in
+    let h = heading_of c.args.heading in
     let found = c.in-Whole.ensures in
     let before = c.records.records.items in
     let count : c.len.result + 1 ≡ length before + 1 = omega (arith, c.len.ensures, c.records.records.ok.0) in

@@ -1,7 +1,7 @@
 use Rattle.std.proofs.Common.{◌≡◌, ◌≤◌, length, map, drop, ◌-◌, ◌+◌, ◌*◌, All}
-use Rattle.pcap_records.specs.Instants.{microseconds}
-use Rattle.pcap_records.specs.Reading.{microsecond_heading, records_after}
-use Rattle.pcap_records.specs.CaptureView.{IsWithinFile, packet_of}
+use Rattle.pcap_records.specs.Instants.{ticks_of}
+use Rattle.pcap_records.specs.Reading.{records_after}
+use Rattle.pcap_records.specs.CaptureView.{heading_of, IsWithinFile, packet_of}
 use Rattle.pcap_records.proofs.Passes.{listed_before}
 use Rattle.pcap_records.proofs.reader.list_records.Given as goal
 
@@ -9,8 +9,8 @@ abbrev pub invariant-records : goal.invariant-records
 invariant-records l = record {
   inside : l.at ≤ length l.bytes;
   header_each : 16 * length l.records.items + 24 ≤ l.at;
-  within : All (IsWithinFile microseconds l.bytes) l.records.items;
-  same : listed_before (map (packet_of l.bytes) l.records.items) (records_after 0 (microsecond_heading l.order) (length l.records.items) (drop l.at l.bytes)) ≡ records_after 0 (microsecond_heading l.order) 0 (drop 24 l.bytes);
+  within : All (IsWithinFile (ticks_of l.heading.unit) l.bytes) l.records.items;
+  same : listed_before (map (packet_of l.bytes) l.records.items) (records_after 0 (heading_of l.heading) (length l.records.items) (drop l.at l.bytes)) ≡ records_after 0 (heading_of l.heading) 0 (drop 24 l.bytes);
 }
 
 abbrev pub decreases-records : goal.decreases-records

@@ -11,7 +11,7 @@ use Rattle.reassembly.proofs.recordings.lines.Goals as goal
 
 pub recorded_by_members-requires-clause-filed : goal.recorded_by_members-requires-clause-filed
 recorded_by_members-requires-clause-filed c =
-    all_in_file _ _ _ _ _ _ c.bytes-file.ensures.sound c.payloads_are_in_place.ensures c.requires.of_capture c.bytes-file.ensures.bytes c.as_slice.ensures c.requires.shown
+    all_in_file _ _ _ _ _ _ c.bytes-file.ensures.sound c.payloads_are_in_place.ensures c.requires.of_capture c.bytes-file.ensures.bytes c.as_slice-members.ensures c.requires.shown
 
 -- the result is what the definition gives of any connection of the capture that the table shows so
 told : (c : goal.After-recorded_by_members)
@@ -19,7 +19,7 @@ told : (c : goal.After-recorded_by_members)
 told c =
     four_ok c.recorded_by_members.result c.recorded_by_members.ensures.sides c.recorded_by_members.ensures.opened c.recorded_by_members.ensures.client c.recorded_by_members.ensures.server
     (λ r sides opened client server. (λ x of shown.
-    recorded_is _ _ x _ c.args.conn.now _ (recorded_view r) c.bytes-file.ensures.sound c.payloads_are_in_place.ensures of c.bytes-file.ensures.bytes c.as_slice.ensures shown sides opened
+    recorded_is _ _ x _ c.args.conn.now _ (recorded_view r) c.bytes-file.ensures.sound c.payloads_are_in_place.ensures of c.bytes-file.ensures.bytes c.as_slice-members.ensures shown sides opened
     (client ∙ c.macs_at-macs.ensures.client) (server ∙ c.macs_at-macs.ensures.server)))
 
 lines_are : (c : goal.After-recorded_by_members) → IfOk c.recorded_by_members.result (λ r. AreLines (recorded_view r))

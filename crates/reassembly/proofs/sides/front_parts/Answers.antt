@@ -8,7 +8,7 @@ use Rattle.reassembly.proofs.sides.front_parts.Goals.{then-walk-test+then-from_a
 pub walk-init : goal.walk-init
 walk-init c = record {
   within = omega arith;
-  walk = walk_begin _ _ _ _ _ c.requires (λ x. refl) c.of-latest.ensures (ap bytes_of_parts c.in_ok-parts.ensures.items);
+  walk = walk_begin _ _ _ _ _ c.requires (λ x. refl) c.first-latest.ensures (ap bytes_of_parts c.in_ok-parts.ensures.items);
 }
 
 pub end-len-requires : goal.end-len-requires

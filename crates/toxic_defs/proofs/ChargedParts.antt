@@ -1,9 +1,12 @@
 -- What the wire has to do, in units of 1/rate tick, part by part, and chunks that leave as one.
 use Rattle.std.proofs.Common.{◌≡◌, ◌≤◌, ◌<◌, ◌⊎◌, inl, inr, ℕ, suc, ◌+◌, ◌-◌, ◌*◌, ◌/◌, min, max, Bool, false, List, [], ◌∷◌, ◌++◌, length, sym, ap, ◌∙◌, arith, append_assoc, take, drop, get_or, set, true, cond, Some, None, unwrap_or, refl}
-use Rattle.std.proofs.Math.Nat.{add-mul-div_right, mul-le-mul}
+use Rattle.std.proofs.Math.Nat.{add-mul-div_right, mul-le-mul, mul_comm}
 use Rattle.std.proofs.lemmas.List.{map-append, length_push, append-nil, length-map, length-append, take_more, take_more_set}
 use Rattle.std.proofs.lemmas.List.Folds.{length-flat_map-take}
 use Rattle.std.proofs.lemmas.List.Elements.{All-tail, All-cons}
+use Rattle.pcap_records.specs.Instants.{millisecond, ticks_of}
+use Rattle.pcap_records.specs.declared.unit.Unit.{Unit}
+use Rattle.pcap_records.specs.declared.unit.Unit.TheVariants.{Micros, Nanos}
 use Rattle.reassembly.specs.RecordedLines.{LineByte}
 use Rattle.reassembly.specs.LineView.{bytes_with_mark, bytes_without_mark, bytes_of_part, bytes_of_parts}
 use Rattle.reassembly.specs.declared.line_parts.LinePart.{LinePart}
@@ -131,14 +134,20 @@ charged_there leaves parts initial i at d lt lt' rest done e =
 pub own_small : (rate at : ℕ) → rate ≤ 1000000 → at < 18446744073709551616 → rate * at ≤ 1000000 * 18446744073709551616
 own_small rate at le lt = let le' : at ≤ 18446744073709551616 = omega arith in mul-le-mul le le'
 
+-- a millisecond has a million ticks at most
+pub milliseconds_small : (unit : Unit) (n : ℕ) → millisecond (ticks_of unit) * n ≤ 1000000 * n
+milliseconds_small Micros n = omega arith
+milliseconds_small Nanos n = omega arith
+
 -- when a part after others leaves, by what was owed before
-pub leaves_there : (limit rate at : ℕ) (s : Bool) (front : List LineByte) (bytes : List ℕ) → 0 < rate → 0 < length bytes
-    → bandwidth_leaves limit 1000 rate (front ++ bytes_with_mark at s bytes) ≡ min (ceiling (max (rate * at) (owed_of rate 1000 front) + 1000 * length bytes) rate) limit
-leaves_there limit rate at s front bytes some filled =
+pub leaves_there : (limit ticks rate at : ℕ) (s : Bool) (front : List LineByte) (bytes : List ℕ) → 0 < rate → 0 < length bytes
+    → bandwidth_leaves limit ticks rate (front ++ bytes_with_mark at s bytes) ≡ min (ceiling (max (rate * at) (owed_of rate ticks front) + ticks * length bytes) rate) limit
+leaves_there limit ticks rate at s front bytes some filled =
     let n = length_marked at s bytes in
     let m = length-append front (bytes_with_mark at s bytes) in
-    let e : max (owed_of rate 1000 front) (rate * at) + length bytes * 1000 ≡ max (rate * at) (owed_of rate 1000 front) + 1000 * length bytes = omega arith in
-    leaves_owed limit 1000 rate (front ++ bytes_with_mark at s bytes) some (omega (arith, n, m)) ∙ ap (λ q. min (ceiling q rate) limit) (owed_part rate 1000 at s front bytes filled ∙ e)
+    let turned = mul_comm (length bytes) ticks in
+    let e : max (owed_of rate ticks front) (rate * at) + length bytes * ticks ≡ max (rate * at) (owed_of rate ticks front) + ticks * length bytes = omega (arith, turned) in
+    leaves_owed limit ticks rate (front ++ bytes_with_mark at s bytes) some (omega (arith, n, m)) ∙ ap (λ q. min (ceiling q rate) limit) (owed_part rate ticks at s front bytes filled ∙ e)
 
 -- ---- chunks that leave as one: all bytes of a part leave with the last one
 

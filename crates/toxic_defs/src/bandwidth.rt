@@ -1,6 +1,6 @@
 //! A limited bandwidth: chunks in slices that leave when the wire has taken their last byte.
 ghost use Rattle.std.specs.Prelude.{◌≡◌, ◌≤◌, ◌<◌, ◌^◌, [], length, IfOk};
-ghost use Rattle.pcap_records.specs.Instants.{horizon, microseconds, millisecond};
+ghost use Rattle.pcap_records.specs.Instants.{horizon, millisecond, ticks_of};
 ghost use Rattle.reassembly.specs.LineLaws.{IsLine};
 ghost use Rattle.reassembly.specs.LineView.{bytes_of_parts};
 ghost use Rattle.toxic_defs.specs.Bandwidth.{bandwidth_leaves, charged, rated_line, settled, settled_parts};
@@ -11,17 +11,14 @@ ghost use Rattle.toxic_defs.specs.Slices.{AreFilled};
 
 use crate::end_rule::finished;
 use crate::slices::{Sizes, slice_parts};
-use pcap_records::Moment;
+use pcap_records::{Moment, Unit};
 use reassembly::{Line, LinePart};
 use std::alloc::{AllocError, Global};
-
-/// The ticks of a millisecond. A rate is in bytes a millisecond.
-const MILLISECOND: u128 = Moment::MILLISECOND as u128;
 
 /// How many milliseconds a slice takes.
 const SLICE: u64 = 100;
 
-/// A line under a bandwidth of `rate` KB a second, of 1000 bytes each: each chunk in slices of what passes in 100
+/// A line under a bandwidth of `rate` KB a second, of 1000 bytes each, which are as many bytes a millisecond: each chunk in slices of what passes in 100
 /// milliseconds, each of which leaves when its last byte has passed. The slices share the bytes.
 pub(crate) fn run_bandwidth<'a>(
     alloc: Global,
@@ -31,48 +28,49 @@ pub(crate) fn run_bandwidth<'a>(
     requires some { 0 < rate }
     requires rate { rate ≤ greatest_rate }
     requires line { IsLine line.line }
-    ensures line { IfOk result (λ l. l.line ≡ ended (rated_line microseconds rate line.entry.line)) }
-    ensures ticks { IfOk result (λ l. l.ticks ≡ microseconds) }
+    ensures line { IfOk result (λ l. l.line ≡ ended (rated_line line.entry.ticks rate line.entry.line)) }
+    ensures ticks { IfOk result (λ l. l.ticks ≡ line.entry.ticks) }
 {
+    let unit = line.unit();
     let end = line.end();
     let parts = line.into_parts();
     let sizes = Sizes::same((SLICE * rate) as usize);
     let mut slices = slice_parts(alloc, &parts, sizes)?;
-    pass_chunks(&mut slices, rate);
-    Ok(finished(slices, &end))
+    pass_chunks(&mut slices, unit, rate);
+    Ok(finished(unit, slices, &end))
 }
 
 // Moves chunks, in place, to the instants at which their last bytes have passed.
-fn pass_chunks(parts: &mut [LinePart<'_>], rate: u64)
+fn pass_chunks(parts: &mut [LinePart<'_>], unit: Unit, rate: u64)
     requires some { 0 < rate }
     requires rate { rate ≤ greatest_rate }
     requires filled { AreFilled parts.old }
     requires short { length (bytes_of_parts parts.old) < 2 ^ 32 }
     ensures { bytes_of_parts parts.new
-        ≡ settled (moved (bandwidth_leaves (horizon microseconds) (millisecond microseconds) rate)
+        ≡ settled (moved (bandwidth_leaves (horizon (ticks_of unit)) (millisecond (ticks_of unit)) rate)
         (bytes_of_parts parts.old)) }
 {
-    charge_parts(parts, rate);
+    charge_parts(parts, unit, rate);
     settle_chunks(parts);
 }
 
 // Moves each part, in place, to the instant at which its last byte has passed. What the wire has to do is counted in
-// units of 1/rate microsecond, so that nothing is rounded on the way.
-fn charge_parts(parts: &mut [LinePart<'_>], rate: u64)
+// units of 1/rate tick, so that nothing is rounded on the way.
+fn charge_parts(parts: &mut [LinePart<'_>], unit: Unit, rate: u64)
     requires some { 0 < rate }
     requires rate { rate ≤ greatest_rate }
     requires filled { AreFilled parts.old }
     requires short { length (bytes_of_parts parts.old) < 2 ^ 32 }
     ensures { parts.new
-        ≡ charged (bandwidth_leaves (horizon microseconds) (millisecond microseconds) rate) [] parts.old }
+        ≡ charged (bandwidth_leaves (horizon (ticks_of unit)) (millisecond (ticks_of unit)) rate) [] parts.old }
 {
     let rate = u128::from(rate);
     let mut busy = 0;
     for part in parts.iter_mut() {
         let own = rate * u128::from(part.at.count());
-        busy = own.max(busy) + MILLISECOND * part.bytes.len() as u128;
+        busy = own.max(busy) + u128::from(unit.milliseconds(part.bytes.len() as u64));
         let leaves = (busy + (rate - 1)) / rate;
-        part.at = Moment::of(leaves.min(u128::from(Moment::HORIZON)) as u64);
+        part.at = Moment::of(leaves.min(u128::from(unit.horizon())) as u64, unit);
     }
 }
 

@@ -1,6 +1,5 @@
 //! What each side of a connection is delivered.
 ghost use Rattle.std.specs.Prelude.{◌≡◌, ◌≤◌, IfOk, IfSome, length, option_map};
-ghost use Rattle.pcap_records.specs.Instants.{microseconds};
 ghost use Rattle.reassembly.specs.LineLaws.{IsLine};
 ghost use Rattle.reassembly.specs.RecordedView.{recorded_view};
 ghost use Rattle.toxic_defs.specs.Limits.{most_toxics};
@@ -10,6 +9,7 @@ use crate::laws::cut_lines_are_lines;
 use crate::running::chain;
 use crate::session_cut::cut_both;
 use crate::toxic::Toxic;
+use pcap_records::Unit;
 use reassembly::{End, Line, Recorded};
 use std::alloc::{AllocError, Global};
 
@@ -57,10 +57,11 @@ pub fn delivered_by<'a>(
 ) -> Result<Delivered<'a>, AllocError>
     requires up { IsLine recorded.now.up.line }
     requires down { IsLine recorded.now.down.line }
+    requires one_unit { recorded.now.down.ticks ≡ recorded.now.up.ticks }
     requires few_up { IfSome met (λ m. length m.up.now ≤ most_toxics) }
     requires few_down { IfSome met (λ m. length m.down.now ≤ most_toxics) }
     ensures value { IfOk result (λ d. delivered_view d
-        ≡ delivered_connection microseconds seed s c (option_map met_view met.entry) (recorded_view recorded.now)) }
+        ≡ delivered_connection recorded.now.up.ticks seed s c (option_map met_view met.entry) (recorded_view recorded.now)) }
     ensures up { IfOk result (λ d. IsLine d.up.line) }
     ensures down { IfOk result (λ d. IsLine d.down.line) }
 {
@@ -70,13 +71,13 @@ pub fn delivered_by<'a>(
             let down = recorded.down.copy(alloc)?;
             Ok(cut_lines(None, up, down))
         }
-        Some(met) if !met.enabled => Ok(refused(alloc, met.number)),
+        Some(met) if !met.enabled => Ok(refused(alloc, recorded.up.unit(), met.number)),
         Some(met) => lines_through(alloc, recorded, &met, seed, s, c),
     }
 }
 
 // What is delivered of a connection that a disabled proxy refuses.
-fn refused<'a>(alloc: Global, number: u32) -> Delivered<'a>
+fn refused<'a>(alloc: Global, unit: Unit, number: u32) -> Delivered<'a>
     ensures value { delivered_view result ≡ refused_connection number }
     ensures up { IsLine result.up.line }
     ensures down { IsLine result.down.line }
@@ -84,8 +85,8 @@ fn refused<'a>(alloc: Global, number: u32) -> Delivered<'a>
     Delivered {
         proxy: Some(number),
         refused: true,
-        up: Line::of_parts(Vec::new(alloc), End::Live),
-        down: Line::of_parts(Vec::new(alloc), End::Live),
+        up: Line::of_parts(unit, Vec::new(alloc), End::Live),
+        down: Line::of_parts(unit, Vec::new(alloc), End::Live),
     }
 }
 
@@ -100,10 +101,11 @@ fn lines_through<'a>(
 ) -> Result<Delivered<'a>, AllocError>
     requires up { IsLine recorded.now.up.line }
     requires down { IsLine recorded.now.down.line }
+    requires one_unit { recorded.now.down.ticks ≡ recorded.now.up.ticks }
     requires few_up { length met.now.up.now ≤ most_toxics }
     requires few_down { length met.now.down.now ≤ most_toxics }
     ensures value { IfOk result (λ d. delivered_view d
-        ≡ connection_through microseconds seed s c (met_view met.now) (recorded_view recorded.now)) }
+        ≡ connection_through recorded.now.up.ticks seed s c (met_view met.now) (recorded_view recorded.now)) }
     ensures up { IfOk result (λ d. IsLine d.up.line) }
     ensures down { IfOk result (λ d. IsLine d.down.line) }
 {
@@ -119,7 +121,8 @@ fn lines_through<'a>(
 fn cut_lines<'a>(proxy: Option<u32>, up: Line<'a>, down: Line<'a>) -> Delivered<'a>
     requires up { IsLine up.line }
     requires down { IsLine down.line }
-    ensures value { delivered_view result ≡ connection_by_cut microseconds proxy up.entry.line down.entry.line }
+    requires one_unit { down.ticks ≡ up.ticks }
+    ensures value { delivered_view result ≡ connection_by_cut up.entry.ticks proxy up.entry.line down.entry.line }
     ensures up { IsLine result.up.line }
     ensures down { IsLine result.down.line }
 {

@@ -1,21 +1,21 @@
 //! The rule of ends: the end of a line whose bytes were changed is not before the last one.
 ghost use Rattle.std.specs.Prelude.{◌≡◌};
-ghost use Rattle.pcap_records.specs.Instants.{microseconds};
+ghost use Rattle.pcap_records.specs.Instants.{ticks_of};
 ghost use Rattle.reassembly.specs.LineLaws.{last_instant};
 ghost use Rattle.reassembly.specs.LineView.{bytes_of_parts, end_view};
 ghost use Rattle.toxic_defs.specs.EndRule.{ended, not_before};
 
-use pcap_records::Moment;
+use pcap_records::{Moment, Unit};
 use reassembly::{End, Line, LinePart};
 
-/// The line of these parts, its end moved to the last byte's instant where it is before it.
-pub(crate) fn finished<'a>(parts: Vec<LinePart<'a>>, end: &End) -> Line<'a>
+/// The line of these parts in a unit, its end moved to the last byte's instant where it is before it.
+pub(crate) fn finished<'a>(unit: Unit, parts: Vec<LinePart<'a>>, end: &End) -> Line<'a>
     ensures line { result.line
         ≡ ended (record { bytes = bytes_of_parts parts.entry.items; end = end_view end.now }) }
-    ensures ticks { result.ticks ≡ microseconds }
+    ensures ticks { result.ticks ≡ ticks_of unit }
 {
     let last = last_instant(&parts);
-    Line::of_parts(parts, not_before(last, end))
+    Line::of_parts(unit, parts, not_before(last, end))
 }
 
 // The instant of the last byte, or 0 where there is none. Parts without bytes are passed from the back.
@@ -30,7 +30,7 @@ fn last_instant(parts: &[LinePart<'_>]) -> Moment
         }
         count -= 1;
     }
-    Moment::of(0)
+    Moment::first()
 }
 
 // An end that is not before an instant: one before it moves to it.

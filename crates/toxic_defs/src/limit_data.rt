@@ -11,12 +11,14 @@ use reassembly::{End, Line, LinePart};
 /// The first bytes of a line: one with more than `most` is closed when the next one would have come. It takes no
 /// memory.
 pub(crate) fn run_limit_data<'a>(line: Line<'a>, most: u64) -> Line<'a>
-    ensures { result.line ≡ ended (limited most line.entry.line) }
+    ensures line { result.line ≡ ended (limited most line.entry.line) }
+    ensures ticks { result.ticks ≡ line.entry.ticks }
 {
+    let unit = line.unit();
     let end = line.end();
     let mut parts = line.into_parts();
     let next = keep_bytes(&mut parts, most);
-    finished(parts, &limited_end(next, &end))
+    finished(unit, parts, &limited_end(next, &end))
 }
 
 // Keeps the first bytes, and tells when the next one would have come.

@@ -13,13 +13,15 @@ use reassembly::{End, Line};
 /// A line that is reset at an instant, unless it ended before: bytes from then on are lost. It takes no memory.
 pub(crate) fn run_reset_peer<'a>(line: Line<'a>, at: Moment) -> Line<'a>
     requires { IsLine line.line }
-    ensures { result.line ≡ ended (reset_at at line.entry.line) }
+    ensures line { result.line ≡ ended (reset_at at line.entry.line) }
+    ensures ticks { result.ticks ≡ line.entry.ticks }
 {
+    let unit = line.unit();
     let end = line.end();
     let mut parts = line.into_parts();
     let kept = kept_parts(&parts, at);
     parts.truncate(kept);
-    finished(parts, &reset_end(at, &end))
+    finished(unit, parts, &reset_end(at, &end))
 }
 
 // An end before an instant, or else a reset at it.

@@ -1,6 +1,5 @@
 //! Toxics on a line: one, and those of a direction in turn.
 ghost use Rattle.std.specs.Prelude.{◌≡◌, ◌≤◌, length, IfOk, IsTrue};
-ghost use Rattle.pcap_records.specs.Instants.{microseconds};
 ghost use Rattle.reassembly.specs.LineLaws.{IsLine};
 ghost use Rattle.toxic_defs.specs.Toxics.{effect, run, chain, fits, IsInRange, AreInRange};
 ghost use Rattle.toxic_defs.specs.Limits.{most_toxics};
@@ -38,8 +37,9 @@ pub fn chain<'a>(
 ) -> Result<Line<'a>, AllocError>
     requires few { length toxics.now ≤ most_toxics }
     requires line { IsLine line.line }
-    ensures line { IfOk result (λ l. l.line ≡ chain microseconds toxics.now opened seed s c d line.entry.line) }
+    ensures line { IfOk result (λ l. l.line ≡ chain line.entry.ticks toxics.now opened seed s c d line.entry.line) }
     ensures is_line { IfOk result (λ l. IsLine l.line) }
+    ensures ticks { IfOk result (λ l. l.ticks ≡ line.entry.ticks) }
     ensures ranges { IfOk result (λ l. AreInRange toxics.now) }
 {
     let mut line = line;
@@ -63,8 +63,9 @@ pub fn run<'a>(
     key: Key,
 ) -> Result<Line<'a>, AllocError>
     requires { IsLine line.line }
-    ensures line { IfOk result (λ l. l.line ≡ run microseconds toxic.now key opened line.entry.line) }
+    ensures line { IfOk result (λ l. l.line ≡ run line.entry.ticks toxic.now key opened line.entry.line) }
     ensures is_line { IfOk result (λ l. IsLine l.line) }
+    ensures ticks { IfOk result (λ l. l.ticks ≡ line.entry.ticks) }
     ensures range { IsInRange toxic.now }
 {
     let kind = toxic.kind();
@@ -85,17 +86,20 @@ fn effect<'a>(
 ) -> Result<Line<'a>, AllocError>
     requires range { IsTrue (fits kind) }
     requires line { IsLine line.line }
-    ensures { IfOk result (λ l. l.line ≡ ended (effect microseconds (word_of key) opened kind line.entry.line)) }
+    ensures line { IfOk result (λ l. l.line
+        ≡ ended (effect line.entry.ticks (word_of key) opened kind line.entry.line)) }
+    ensures ticks { IfOk result (λ l. l.ticks ≡ line.entry.ticks) }
 {
+    let unit = line.unit();
     match kind {
         Kind::Latency { latency, jitter } => Ok(run_latency(line, key, latency, jitter)),
         Kind::Bandwidth { rate } => run_bandwidth(alloc, line, rate),
-        Kind::SlowClose { delay } => Ok(run_slow_close(line, Moment::MILLISECOND * delay)),
+        Kind::SlowClose { delay } => Ok(run_slow_close(line, unit.milliseconds(delay))),
         Kind::Timeout { timeout } => {
-            Ok(run_timeout(line, timeout, opened.later(Moment::MILLISECOND * timeout)))
+            Ok(run_timeout(line, timeout, opened.later(unit.milliseconds(timeout), unit)))
         }
         Kind::ResetPeer { timeout } => {
-            Ok(run_reset_peer(line, opened.later(Moment::MILLISECOND * timeout)))
+            Ok(run_reset_peer(line, opened.later(unit.milliseconds(timeout), unit)))
         }
         Kind::Slicer {
             average_size,

@@ -1,11 +1,11 @@
 //! The session cut of two lines, and the closing that cuts them.
 ghost use Rattle.std.specs.Prelude.{◌≡◌, ◌&&◌, [], nat_lt, length, take, filter, option_map};
-ghost use Rattle.pcap_records.specs.Instants.{horizon, microseconds};
+ghost use Rattle.pcap_records.specs.Instants.{horizon, ticks_of};
 ghost use Rattle.reassembly.specs.LineLaws.{IsLine, IsInChunks};
 ghost use Rattle.reassembly.specs.LineView.{bytes_of_parts, end_view};
 ghost use Rattle.toxic_defs.specs.SessionCut.{closing_end, closing_view, cut_limit, cut_line, first_closing, is_after, line_before, line_up_to};
 
-use pcap_records::Moment;
+use pcap_records::{Moment, Unit};
 use reassembly::{End, Line, LinePart};
 
 // A closing: a close or a reset, and its instant.
@@ -15,15 +15,16 @@ struct Closing {
     end: End,
 }
 
-/// Two lines of a connection under the session cut: the first close or reset of either ends both, so that bytes after
+/// Two lines of a connection, with instants in one unit, under the session cut: the first close or reset of either ends both, so that bytes after
 /// it are lost and an end after it becomes that one. Nothing is delivered at the horizon. It takes no memory.
 pub fn cut_both<'a>(up: Line<'a>, down: Line<'a>) -> (Line<'a>, Line<'a>)
     requires up { IsLine up.line }
     requires down { IsLine down.line }
-    ensures up { result.0.line ≡ cut_line microseconds up.entry.line down.entry.line up.entry.line }
-    ensures down { result.1.line ≡ cut_line microseconds up.entry.line down.entry.line down.entry.line }
-    ensures up_ticks { result.0.ticks ≡ microseconds }
-    ensures down_ticks { result.1.ticks ≡ microseconds }
+    requires one_unit { down.ticks ≡ up.ticks }
+    ensures up { result.0.line ≡ cut_line up.entry.ticks up.entry.line down.entry.line up.entry.line }
+    ensures down { result.1.line ≡ cut_line up.entry.ticks up.entry.line down.entry.line down.entry.line }
+    ensures up_ticks { result.0.ticks ≡ up.entry.ticks }
+    ensures down_ticks { result.1.ticks ≡ up.entry.ticks }
 {
     let closing = first_closing(&up.end(), &down.end());
     let up = cut_at(&closing, up);
@@ -35,14 +36,15 @@ pub fn cut_both<'a>(up: Line<'a>, down: Line<'a>) -> (Line<'a>, Line<'a>)
 fn cut_at<'a>(closing: &Option<Closing>, line: Line<'a>) -> Line<'a>
     requires { IsLine line.line }
     ensures line { result.line
-        ≡ line_before (horizon microseconds) (line_up_to (option_map closing_view closing.now) line.entry.line) }
-    ensures ticks { result.ticks ≡ microseconds }
+        ≡ line_before (horizon line.entry.ticks) (line_up_to (option_map closing_view closing.now) line.entry.line) }
+    ensures ticks { result.ticks ≡ line.entry.ticks }
 {
+    let unit = line.unit();
     let end = line.end();
     let mut parts = line.into_parts();
-    let kept = kept_parts(&parts, cut_limit(closing));
+    let kept = kept_parts(&parts, cut_limit(closing, unit));
     parts.truncate(kept);
-    Line::of_parts(parts, end_before_horizon(&end_up_to(closing, &end)))
+    Line::of_parts(unit, parts, end_before_horizon(&end_up_to(closing, &end), unit))
 }
 
 // An end that is a close or a reset.
@@ -88,23 +90,23 @@ fn is_after(at: Moment, end: &End) -> bool
 }
 
 // An end before the horizon; one at the horizon never comes.
-fn end_before_horizon(end: &End) -> End
+fn end_before_horizon(end: &End, unit: Unit) -> End
     ensures { end_view result
-        ≡ (line_before (horizon microseconds) (record { bytes = []; end = end_view end.now })).end }
+        ≡ (line_before (horizon (ticks_of unit)) (record { bytes = []; end = end_view end.now })).end }
 {
     match end.at() {
-        Some(at) if !at.is_before_horizon() => End::Live,
+        Some(at) if !at.is_before_horizon(unit) => End::Live,
         _ => *end,
     }
 }
 
 // The first instant whose bytes are lost: the one after the closing, or the horizon.
-fn cut_limit(closing: &Option<Closing>) -> Moment
-    ensures { result ≡ cut_limit (horizon microseconds) (option_map closing_view closing.now) }
+fn cut_limit(closing: &Option<Closing>, unit: Unit) -> Moment
+    ensures { result ≡ cut_limit (horizon (ticks_of unit)) (option_map closing_view closing.now) }
 {
     match closing {
-        Some(closing) => closing.at.later(1),
-        None => Moment::of(Moment::HORIZON),
+        Some(closing) => closing.at.later(1, unit),
+        None => Moment::of(unit.horizon(), unit),
     }
 }
 

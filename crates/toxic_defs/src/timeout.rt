@@ -11,11 +11,13 @@ use reassembly::{End, Line};
 /// A line without its bytes, closed at an instant; it is never closed where the time until then is 0. It takes no
 /// memory.
 pub(crate) fn run_timeout<'a>(line: Line<'a>, time: u64, at: Moment) -> Line<'a>
-    ensures { result.line ≡ ended (timed_out time at) }
+    ensures line { result.line ≡ ended (timed_out time at) }
+    ensures ticks { result.ticks ≡ line.entry.ticks }
 {
+    let unit = line.unit();
     let mut parts = line.into_parts();
     parts.truncate(0);
-    finished(parts, &end_after(time, at))
+    finished(unit, parts, &end_after(time, at))
 }
 
 // No end after the time 0, else a close at the instant.

@@ -1,5 +1,5 @@
 use Rattle.std.proofs.Common.{◌≡◌, ◌≤◌, ◌+◌, ◌*◌, [], length, take, drop}
-use Rattle.pcap_records.specs.Instants.{horizon, microseconds}
+use Rattle.pcap_records.specs.Instants.{horizon, millisecond, ticks_of}
 use Rattle.reassembly.specs.LineView.{bytes_of_parts}
 use Rattle.toxic_defs.specs.Bandwidth.{bandwidth_leaves, charged}
 use Rattle.toxic_defs.specs.Slices.{AreFilled}
@@ -12,7 +12,7 @@ invariant-loop-part l =
     record {
       filled : AreFilled l.parts;
       rest : drop l.part-index l.parts ≡ drop l.part-index l.initial.parts;
-      charged : take l.part-index l.parts ≡ charged (bandwidth_leaves (horizon microseconds) 1000 l.fn.rate) [] (take l.part-index l.initial.parts);
-      busy : l.busy ≡ owed_of l.fn.rate 1000 front;
-      small : l.busy ≤ 1000000 * 18446744073709551616 + 1000 * length front;
+      charged : take l.part-index l.parts ≡ charged (bandwidth_leaves (horizon (ticks_of l.unit)) (millisecond (ticks_of l.unit)) l.fn.rate) [] (take l.part-index l.initial.parts);
+      busy : l.busy ≡ owed_of l.fn.rate (millisecond (ticks_of l.unit)) front;
+      small : l.busy ≤ 1000000 * 18446744073709551616 + 1000000 * length front;
     }

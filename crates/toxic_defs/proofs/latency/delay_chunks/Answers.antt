@@ -1,5 +1,5 @@
 use Rattle.std.proofs.Common.{◌≡◌, ℕ, ◌+◌, ◌-◌, ◌*◌, ◌<◌, min, max, true, false, ◌&&◌, nat_lt, List, ◌++◌, length, take, get_or, arith, subst, sym, ap, ◌∙◌}
-use Rattle.pcap_records.specs.Instants.{horizon, microseconds}
+use Rattle.pcap_records.specs.Instants.{horizon, millisecond, ticks_of}
 use Rattle.reassembly.specs.RecordedLines.{LineByte}
 use Rattle.reassembly.specs.LineView.{bytes_of_part, bytes_of_parts, bytes_with_mark}
 use Rattle.reassembly.specs.declared.line_parts.LinePart.{LinePart}
@@ -22,8 +22,8 @@ loop-part-preserved c =
     let front : List LineByte = bytes_of_parts (take i initial) in
     let inv = c.loop-part.invariant in
     let k : ℕ = length (begins front) in
-    let delay : ℕ → ℕ = drawn_delay microseconds (word_of c.args.key) c.args.latency c.args.jitter in
-    let leaves : List LineByte → ℕ = latency_leaves (horizon microseconds) delay in
+    let delay : ℕ → ℕ = drawn_delay (ticks_of c.args.unit) (word_of c.args.key) c.args.latency c.args.jitter in
+    let leaves : List LineByte → ℕ = latency_leaves (horizon (ticks_of c.args.unit)) delay in
     let lt : i < length ps = omega arith in
     let lt' : i < length initial = omega arith in
     let there : bytes_of_parts (take (i + 1) initial) ≡ front ++ bytes_of_part p = front_there ps initial i c.part-item.result lt' inv.rest in
@@ -32,19 +32,19 @@ loop-part-preserved c =
       | then-begins_chunk w ↦
           let h : (p.starts && nat_lt 0 (length p.bytes.now)) ≡ true = sym c.begins_chunk.ensures ∙ w.if-begins_chunk.true in
           let number = w.next.ensures.number c.args.key c.args.jitter (1 + k) inv.numbers in
-          let e : 1000 * w.saturating_sub-delay.result ≡ delay k = ap (λ n. 1000 * n) (w.saturating_sub-delay.ensures ∙ ap (λ n. c.args.latency + n - c.args.jitter) number) in
+          let e : w.milliseconds-delay.result ≡ delay k = w.milliseconds-delay.ensures ∙ ap (λ n. millisecond (ticks_of c.args.unit) * n) (w.saturating_sub.ensures ∙ ap (λ n. c.args.latency + n - c.args.jitter) number) in
           let count : 1 + k + 1 ≡ 1 + length (begins (front ++ bytes_of_part p)) = omega (arith, count_one_more front p.at p.starts p.bytes.now h) in
           let next = w.next.ensures.next c.args.key c.args.jitter (1 + k) inv.numbers in (
             w.last-is ∙ w.greater-last.ensures ∙ ap (λ at. max at w.later.result) inv.last
-                ∙ ap (λ at. max (leaves front) at) (w.later.ensures ∙ ap (λ d. min (p.at + d) (horizon microseconds)) e)
-                ∙ sym (leaves_one_more (horizon microseconds) delay front p.at p.starts p.bytes.now h),
+                ∙ ap (λ at. max (leaves front) at) (w.later.ensures ∙ ap (λ d. min (p.at + d) (horizon (ticks_of c.args.unit))) e)
+                ∙ sym (leaves_one_more (horizon (ticks_of c.args.unit)) delay front p.at p.starts p.bytes.now h),
             subst (λ (s : Spread). GivesNext s c.args.key c.args.jitter (1 + length (begins (front ++ bytes_of_part p)))) (sym w.numbers-is)
                 (subst (λ (n : ℕ). GivesNext w.next.new.self c.args.key c.args.jitter n) count next),
           )
       | else-begins_chunk w ↦
           let h : (p.starts && nat_lt 0 (length p.bytes.now)) ≡ false = sym c.begins_chunk.ensures ∙ w.if-begins_chunk.false in
           let count : 1 + k ≡ 1 + length (begins (front ++ bytes_of_part p)) = omega (arith, count_no_more front p.at p.starts p.bytes.now h) in (
-            w.last-is ∙ inv.last ∙ sym (leaves_no_more (horizon microseconds) delay front p.at p.starts p.bytes.now h),
+            w.last-is ∙ inv.last ∙ sym (leaves_no_more (horizon (ticks_of c.args.unit)) delay front p.at p.starts p.bytes.now h),
             subst (λ (s : Spread). GivesNext s c.args.key c.args.jitter (1 + length (begins (front ++ bytes_of_part p)))) (sym w.numbers-is)
                 (subst (λ (n : ℕ). GivesNext c.loop-part.numbers c.args.key c.args.jitter n) count inv.numbers),
           )
@@ -52,7 +52,7 @@ loop-part-preserved c =
     record {
       rest = rest_there ps initial i (record { at = c.if-begins_chunk.last; starts = p.starts; bytes = p.bytes }) inv.rest;
       bytes = written_there ps initial i c.part-item.result (record { at = c.if-begins_chunk.last; starts = p.starts; bytes = p.bytes }) leaves lt lt' inv.rest inv.bytes
-          (ap (λ at. bytes_with_mark at p.starts p.bytes.now) steps.0 ∙ sym (along_part (latest (λ j at. min (at + delay j) (horizon microseconds))) front p.at p.starts p.bytes.now));
+          (ap (λ at. bytes_with_mark at p.starts p.bytes.now) steps.0 ∙ sym (along_part (latest (λ j at. min (at + delay j) (horizon (ticks_of c.args.unit)))) front p.at p.starts p.bytes.now));
       last = steps.0 ∙ ap leaves (sym there);
       numbers = subst (λ (bs : List LineByte). GivesNext c.if-begins_chunk.numbers c.args.key c.args.jitter (1 + length (begins bs))) (sym there) steps.1;
     }

@@ -1,5 +1,5 @@
 use Rattle.std.proofs.Common.{◌≡◌, ◌+◌, length, take, drop}
-use Rattle.pcap_records.specs.Instants.{horizon, microseconds}
+use Rattle.pcap_records.specs.Instants.{horizon, ticks_of}
 use Rattle.reassembly.specs.LineView.{bytes_of_parts}
 use Rattle.toxic_defs.specs.RandomWords.{word_of}
 use Rattle.toxic_defs.specs.DelayedBytes.{begins}
@@ -12,7 +12,7 @@ invariant-loop-part l =
     let front = bytes_of_parts (take l.part-index l.initial.parts) in
     record {
       rest : drop l.part-index l.parts ≡ drop l.part-index l.initial.parts;
-      bytes : bytes_of_parts (take l.part-index l.parts) ≡ late_bytes microseconds (word_of l.fn.key) l.fn.latency l.fn.jitter front;
-      last : l.last ≡ latency_leaves (horizon microseconds) (drawn_delay microseconds (word_of l.fn.key) l.fn.latency l.fn.jitter) front;
+      bytes : bytes_of_parts (take l.part-index l.parts) ≡ late_bytes (ticks_of l.unit) (word_of l.fn.key) l.fn.latency l.fn.jitter front;
+      last : l.last ≡ latency_leaves (horizon (ticks_of l.unit)) (drawn_delay (ticks_of l.unit) (word_of l.fn.key) l.fn.latency l.fn.jitter) front;
       numbers : GivesNext l.numbers l.fn.key l.fn.jitter (1 + length (begins front));
     }

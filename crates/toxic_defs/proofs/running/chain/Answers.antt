@@ -1,11 +1,11 @@
-use Rattle.std.proofs.Common.{refl, arith}
+use Rattle.std.proofs.Common.{refl, arith, ◌∙◌}
 use Rattle.toxic_defs.specs.Toxics.{chain}
 use Rattle.toxic_defs.proofs.ToxicLines.{chain_step, chain_end, range_step, range_end}
 use Rattle.toxic_defs.proofs.running.chain.Goals as goal
 
 pub loop-t-init : goal.loop-t-init
 unfolding chain
-loop-t-init c = record { line = c.requires.line; ranges = tt; done = refl }
+loop-t-init c = record { line = c.requires.line; ticks = refl; ranges = tt; done = refl }
 
 pub run-requires : goal.run-requires
 run-requires c = c.loop-t.invariant.line
@@ -13,8 +13,9 @@ run-requires c = c.loop-t.invariant.line
 pub loop-t-preserved : goal.loop-t-preserved
 loop-t-preserved c = record {
   line = c.in_ok-line.ensures.is_line;
+  ticks = c.in_ok-line.ensures.ticks ∙ c.loop-t.invariant.ticks;
   ranges = range_step c.loop-t.t c.args.toxics.now c.index-toxics-t.result (omega arith) c.index-toxics-t.is c.in_ok-line.ensures.range c.loop-t.invariant.ranges;
-  done = chain_step _ _ _ _ _ _ c.loop-t.t c.args.toxics.now c.index-toxics-t.result _ _ _ (omega arith) c.index-toxics-t.is c.in_ok-line.ensures.line c.loop-t.invariant.done;
+  done = chain_step _ _ _ _ _ _ c.loop-t.t c.args.toxics.now c.index-toxics-t.result _ _ _ (omega arith) c.index-toxics-t.is (rw c.loop-t.invariant.ticks at c.in_ok-line.ensures.line) c.loop-t.invariant.done;
 }
 
 pub returns-clause-line : goal.returns-clause-line

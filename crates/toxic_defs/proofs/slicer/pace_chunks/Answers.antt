@@ -1,7 +1,7 @@
 use Rattle.std.proofs.Common.{◌≡◌, ℕ, ◌+◌, ◌-◌, ◌<◌, min, max, true, false, ◌&&◌, Bool, nat_lt, List, ◌++◌, length, take, get_or, arith, refl, sym, ap, ◌∙◌}
 use Rattle.std.proofs.lemmas.Bool.{lt-ltb}
 use Rattle.std.proofs.lemmas.List.Elements.{All-set}
-use Rattle.pcap_records.specs.Instants.{horizon, microseconds}
+use Rattle.pcap_records.specs.Instants.{horizon, ticks_of}
 use Rattle.reassembly.specs.RecordedLines.{LineByte}
 use Rattle.reassembly.specs.LineView.{bytes_of_part, bytes_of_parts, bytes_with_mark}
 use Rattle.reassembly.specs.declared.line_parts.LinePart.{LinePart}
@@ -26,7 +26,7 @@ loop-part-preserved c =
     let p : LinePart = get_or ps i c.part-item.result in
     let front : List LineByte = bytes_of_parts (take i initial) in
     let inv = c.loop-part.invariant in
-    let limit : ℕ = horizon microseconds in
+    let limit : ℕ = horizon (ticks_of c.args.unit) in
     let gap : ℕ = c.args.gap in
     let leaves : List LineByte → ℕ = slicer_leaves limit gap in
     let lt : i < length ps = omega arith in

@@ -1,5 +1,5 @@
 use Rattle.std.proofs.Common.{◌≡◌, length, take, drop}
-use Rattle.pcap_records.specs.Instants.{horizon, microseconds}
+use Rattle.pcap_records.specs.Instants.{horizon, ticks_of}
 use Rattle.reassembly.specs.LineView.{bytes_of_parts}
 use Rattle.toxic_defs.specs.DelayedBytes.{begins, moved}
 use Rattle.toxic_defs.specs.Slicer.{slicer_leaves, paced}
@@ -12,7 +12,7 @@ invariant-loop-part l =
     record {
       filled : AreFilled l.parts;
       rest : drop l.part-index l.parts ≡ drop l.part-index l.initial.parts;
-      bytes : bytes_of_parts (take l.part-index l.parts) ≡ moved (slicer_leaves (horizon microseconds) l.gap) front;
-      last : l.last ≡ slicer_leaves (horizon microseconds) l.gap front;
-      next : l.next ≡ paced (horizon microseconds) l.gap (length (begins front)) (begins front);
+      bytes : bytes_of_parts (take l.part-index l.parts) ≡ moved (slicer_leaves (horizon (ticks_of l.unit)) l.gap) front;
+      last : l.last ≡ slicer_leaves (horizon (ticks_of l.unit)) l.gap front;
+      next : l.next ≡ paced (horizon (ticks_of l.unit)) l.gap (length (begins front)) (begins front);
     }

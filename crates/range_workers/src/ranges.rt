@@ -30,7 +30,7 @@ pub(crate) fn ranges_of(
     let count = capture.records().len();
     let mut ranges = Vec::with_capacity(alloc, count / cut + 1)?;
     let mut from = 0;
-    let mut carry = Moment::of(0);
+    let mut carry = Moment::first();
     'cuts: loop {
         let to = from + cut.min(count - from);
         ranges.push(Range { from, to, carry })?;

@@ -2,11 +2,17 @@
 #     1.001000 c>s PSH ACK 1001 5001 "hello"
 # c, s and d are the hosts of the worked rows; another host is ADDRESS:PORT. A payload is a text in quotes (no quote and no blank in it),
 # or 0x and hexadecimal digits, and is repeated by *N. A line `record TIME HEX` has any bytes. Checksums are left unfilled.
+# A first line `nanoseconds` gives the file that magic number: TIME has nine digits after the point then. A line `highest` puts the highest
+# byte of each field first.
 function field(number, digits) { return sprintf("%0" digits "x", number) }
-# a number of 32 bits, its lowest byte first
-function little(number,    text) {
-    text = sprintf("%04x%04x", int(number / 65536), number % 65536)
-    return substr(text, 7, 2) substr(text, 5, 2) substr(text, 3, 2) substr(text, 1, 2)
+# a number of 32 bits as the file has it: its lowest byte first, or its highest
+function ordered(number,    text) {
+    text = wide(number)
+    return highest ? text : substr(text, 7, 2) substr(text, 5, 2) substr(text, 3, 2) substr(text, 1, 2)
+}
+function heading() {
+    if (headed++) return
+    print ordered(nanoseconds ? 2712812621 : 2712847316) " " (highest ? "00020004" : "02000400") " 00000000 00000000 " ordered(65535) " " ordered(1)
 }
 function wide(number) { return sprintf("%04x%04x", int(number / 65536), number % 65536) }
 function host(name,    parts, places) {
@@ -34,14 +40,17 @@ function payload(text,    parts, digits, times, i) {
 function record(time, bytes,    parts) {
     split(time, parts, ".")
     len = length(bytes) / 2
-    print little(parts[1]) " " little(parts[2]) " " little(len) " " little(len) " " bytes
+    heading()
+    print ordered(parts[1]) " " ordered(parts[2]) " " ordered(len) " " ordered(len) " " bytes
 }
 BEGIN {
     for (i = 32; i < 127; i++) codes[sprintf("%c", i)] = field(i, 2)
     values["FIN"] = 1; values["SYN"] = 2; values["RST"] = 4; values["PSH"] = 8; values["ACK"] = 16
-    print "d4c3b2a1 02000400 00000000 00000000 ffff0000 01000000"
 }
+END { heading() }
 /^#/ || NF == 0 { next }
+$1 == "nanoseconds" { nanoseconds = 1; next }
+$1 == "highest" { highest = 1; next }
 $1 == "record" { record($2, $3); next }
 {
     split($2, ends, ">")

@@ -8,7 +8,7 @@ It reads FOLDER/segments (through tests/capture.awk), FOLDER/segments.awk or FOL
 name. It refuses nothing: a row that is refused has its line written by hand."""
 import hashlib, json, pathlib, re, struct, subprocess, sys
 
-MILLION, HORIZON, M32, M64 = 10**6, 2**32 * 10**6, 2**32, 2**64
+MILLION, M32, M64 = 10**6, 2**32, 2**64
 FIN, SYN, RST, PSH, ACK = 1, 2, 4, 8, 16
 CLASSES = 'segment short notipv4 badipv4 fragment nottcp cut badtcp sameends'.split()
 
@@ -31,13 +31,16 @@ def classify(p):
 
 
 def read(b):
-    """Records with their stamps, and the rest."""
-    e = '<' if b[:4] == b'\xd4\xc3\xb2\xa1' else '>'
+    """Records with their stamps, and the rest. The magic number tells how many ticks a second has, here and for all that follows."""
+    global SECOND, HORIZON
+    e = '<' if b[3:4] == b'\xa1' else '>'
+    SECOND = {0xa1b2c3d4: 10**6, 0xa1b23c4d: 10**9}[struct.unpack(e + 'I', b[:4])[0]]
+    HORIZON = 2**32 * SECOND
     records, at = [], 24
     while at + 16 <= len(b):
-        sec, usec, n, _ = struct.unpack(e + 'IIII', b[at:at + 16])
+        sec, over, n, _ = struct.unpack(e + 'IIII', b[at:at + 16])
         if at + 16 + n > len(b): break
-        records.append((min(sec * MILLION + usec, HORIZON), b[at + 16:at + 16 + n]))
+        records.append((min(sec * SECOND + over, HORIZON), b[at + 16:at + 16 + n]))
         at += 16 + n
     return records, len(b) - at
 
@@ -90,7 +93,11 @@ def word(seed, stream, k):
     return (folded >> turn | folded << (32 - turn)) % M32
 
 
-def later(at, micros): return min(at + micros, HORIZON)
+def later(at, ticks): return min(at + ticks, HORIZON)
+
+
+def milliseconds(n): return n * SECOND // 1000
+def microseconds(n): return n * SECOND // 10**6
 
 
 def chunks(line):
@@ -112,7 +119,7 @@ def through(toxic, line, end, opened, draw):
         now, out = 0, []
         for j, (at, data) in enumerate(chunks(line)):
             delay = max(0, a('latency') - a('jitter') + draw(1 + j) % (2 * a('jitter') + 1))
-            now = max(now, later(at, 1000 * delay))
+            now = max(now, later(at, milliseconds(delay)))
             out.append((now, data))
         line = joined(out)
     elif kind == 'bandwidth':
@@ -122,7 +129,7 @@ def through(toxic, line, end, opened, draw):
                 piece = data[i:i + 100 * rate]
                 place += len(piece)
                 e = place - 1
-                instant = max(later(line[y][0], -(-(e - y + 1) * 1000 // rate)) for y in range(e + 1))
+                instant = max(later(line[y][0], -(-milliseconds(e - y + 1) // rate)) for y in range(e + 1))
                 ends.append((instant, piece))
         line = joined(ends)
     elif kind == 'slicer':
@@ -133,17 +140,17 @@ def through(toxic, line, end, opened, draw):
                 slices.append((at, data[:size]))
                 data = data[size:]
                 k += 1
-        line = joined([(max(later(slices[j][0], (k - j) * a('delay')) for j in range(k + 1)), data) for k, (_, data) in enumerate(slices)])
+        line = joined([(max(later(slices[j][0], (k - j) * microseconds(a('delay'))) for j in range(k + 1)), data) for k, (_, data) in enumerate(slices)])
     elif kind == 'limit_data':
         if len(line) > a('bytes'): line, end = line[:a('bytes')], ('close', line[a('bytes')][0])
     elif kind == 'timeout':
-        line, end = [], ('close', later(opened, 1000 * a('timeout'))) if a('timeout') else None
+        line, end = [], ('close', later(opened, milliseconds(a('timeout')))) if a('timeout') else None
     elif kind == 'reset_peer':
-        c = later(opened, 1000 * a('timeout'))
+        c = later(opened, milliseconds(a('timeout')))
         line = [b for b in line if b[0] < c]
         if not (end and end[1] < c): end = ('reset', c)
     elif kind == 'slow_close':
-        if end and end[0] in ('fin', 'close'): end = (end[0], later(end[1], 1000 * a('delay')))
+        if end and end[0] in ('fin', 'close'): end = (end[0], later(end[1], milliseconds(a('delay'))))
     if end and line and end[1] < line[-1][0]: end = (end[0], line[-1][0])
     return line, end
 
@@ -252,9 +259,9 @@ def rehearse(b, scenario, number, seed, hosts):
         everything += written(conn, x, y or 0, lines, refused)
         both = [told(lines[d], sides[d][0], sides[d][1], o, refused) for d in (0, 1)]
         report.append('%d %s > %s proxy %s up %s down %s' % (c, peer(conn['client']), peer(conn['server']), '-' if met is None else met, *both))
-    out = bytes.fromhex('d4c3b2a1020004000000000000000000ffff000001000000')
+    out = struct.pack('<I', 0xa1b2c3d4 if SECOND == 10**6 else 0xa1b23c4d) + bytes.fromhex('020004000000000000000000ffff000001000000')
     for key, f in sorted(everything):
-        if key[0] < HORIZON: out += struct.pack('<IIII', *divmod(key[0], MILLION), len(f), len(f)) + f
+        if key[0] < HORIZON: out += struct.pack('<IIII', *divmod(key[0], SECOND), len(f), len(f)) + f
     return '\n'.join(report) + '\n', out
 
 

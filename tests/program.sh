@@ -59,11 +59,11 @@ reported /dev/null --capture "$stored" --seed 7 --workers 2 --cut 1
 reported "$stored" --seed 18446744073709551615 --workers 16 --cut 1048576
 
 # captures that are refused
-printf 'a1b23c4d 00020004 00000000 00000000 0000ffff 00000001' > "$work/nano"
+printf 'a1b2cd34 00020004 00000000 00000000 0000ffff 00000001' > "$work/unknown"
 printf 'd4c' > "$work/broken"
 printf 'd4c3b2a1 02000400 00000000 00000000 ffff0000 01000000 00000000 00000000 01000400 01000400' > "$work/long"
 check 1 "" "refused 1 ShortHeader" /dev/null
-check 1 "" "refused 2 BadMagic" "$work/nano"
+check 1 "" "refused 2 BadMagic" "$work/unknown"
 check 1 "" "refused 5 RecordTooLong at 0" "$work/long"
 check 1 "" "refused 55 BadDump at 3" "$work/broken"
 

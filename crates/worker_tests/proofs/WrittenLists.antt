@@ -7,7 +7,6 @@ use Rattle.std.proofs.lemmas.List.Concat.{flat_map-append}
 use Rattle.std.proofs.lemmas.List.Elements.{All-nil, All-cons}
 use Rattle.std.proofs.lemmas.List.Sorted.{IsPermutation-refl, IsPermutation-trans, IsPermutation-append_comm, IsPermutation-append_left}
 use Rattle.pcap_records.specs.CaptureView.{CaptureView}
-use Rattle.pcap_records.specs.Instants.{microseconds}
 use Rattle.conn_table.specs.declared.conns.Conn.{Conn}
 use Rattle.conn_table.specs.Tables.{TableView, table_in}
 use Rattle.reassembly.specs.RecordedView.{IsConnOf}
@@ -32,42 +31,42 @@ conn_of_capture are c table is conns have i within conn read =
     let all : AllByRecursion (IsConnOf c) conns = rw shown (are c 0 (length c.records) 0) in
     rw read (all_at (IsConnOf c) conns i conn all within)
 
--- lists that are written of so many connections, numbered from 0 on
-pub record AreWritten (lists : List (List Framed)) (count : ℕ) : Type 0 where
+-- lists that are written of so many connections, numbered from 0 on, where a second has so many ticks
+pub record AreWritten (ticks : ℕ) (lists : List (List Framed)) (count : ℕ) : Type 0 where
   pub conns : List WrittenConnection
   pub numbered : AreNumbered 0 conns
   pub many : length conns ≡ count
-  pub shown : lists ≡ map (written_segments microseconds) conns
+  pub shown : lists ≡ map (written_segments ticks) conns
 
 numbered_more : (n : ℕ) (cs : List WrittenConnection) (c : WrittenConnection) → AreNumbered n cs → c.number ≡ n + length cs → AreNumbered n (cs ++ c ∷ [])
 numbered_more n [] c numbered is = (omega arith, tt)
 numbered_more n (d ∷ cs) c numbered is = (numbered.0, numbered_more (n + 1) cs c numbered.1 (omega arith))
 
-pub none_written : AreWritten [] 0
-none_written = record { conns = []; numbered = tt; many = refl; shown = refl }
+pub none_written : (ticks : ℕ) → AreWritten ticks [] 0
+none_written ticks = record { conns = []; numbered = tt; many = refl; shown = refl }
 
-pub one_more : (lists more : List (List Framed)) (count : ℕ) (c : WrittenConnection) (xs : List Framed) → AreWritten lists count → c.number ≡ count → xs ≡ written_segments microseconds c → more ≡ lists ++ xs ∷ [] → AreWritten more (count + 1)
-one_more lists more count c xs were number is added = record {
+pub one_more : (ticks : ℕ) (lists more : List (List Framed)) (count : ℕ) (c : WrittenConnection) (xs : List Framed) → AreWritten ticks lists count → c.number ≡ count → xs ≡ written_segments ticks c → more ≡ lists ++ xs ∷ [] → AreWritten ticks more (count + 1)
+one_more ticks lists more count c xs were number is added = record {
   conns = were.conns ++ c ∷ [];
   numbered = numbered_more 0 were.conns c were.numbered (omega (arith, were.many));
   many = length-append were.conns (c ∷ []) ∙ omega (arith, were.many);
-  shown = added ∙ ap₂ (λ ls x. ls ++ x ∷ []) were.shown is ∙ sym (map_push (written_segments microseconds) were.conns c);
+  shown = added ∙ ap₂ (λ ls x. ls ++ x ∷ []) were.shown is ∙ sym (map_push (written_segments ticks) were.conns c);
 }
 
-each_sorted : KeysRise → RisingIsSorted → (cs : List WrittenConnection) → All (λ list. sorted_by_key list ≡ list) (map (written_segments microseconds) cs)
-each_sorted rise sorted [] = All-nil (λ list. sorted_by_key list ≡ list)
-each_sorted rise sorted (c ∷ cs) =
-    All-cons (λ list. sorted_by_key list ≡ list) (written_segments microseconds c) (map (written_segments microseconds) cs) (sorted (written_segments microseconds c) (rise microseconds c)) (each_sorted rise sorted cs)
+each_sorted : KeysRise → RisingIsSorted → (ticks : ℕ) (cs : List WrittenConnection) → All (λ list. sorted_by_key list ≡ list) (map (written_segments ticks) cs)
+each_sorted rise sorted ticks [] = All-nil (λ list. sorted_by_key list ≡ list)
+each_sorted rise sorted ticks (c ∷ cs) =
+    All-cons (λ list. sorted_by_key list ≡ list) (written_segments ticks c) (map (written_segments ticks) cs) (sorted (written_segments ticks c) (rise ticks c)) (each_sorted rise sorted ticks cs)
 
-pub lists_sorted : KeysRise → RisingIsSorted → (lists : List (List Framed)) (count : ℕ) → AreWritten lists count → All (λ list. sorted_by_key list ≡ list) lists
-lists_sorted rise sorted lists count are = subst (λ (ls : List (List Framed)). All (λ list. sorted_by_key list ≡ list) ls) (sym are.shown) (each_sorted rise sorted are.conns)
+pub lists_sorted : KeysRise → RisingIsSorted → (ticks : ℕ) (lists : List (List Framed)) (count : ℕ) → AreWritten ticks lists count → All (λ list. sorted_by_key list ≡ list) lists
+lists_sorted rise sorted ticks lists count are = subst (λ (ls : List (List Framed)). All (λ list. sorted_by_key list ≡ list) ls) (sym are.shown) (each_sorted rise sorted ticks are.conns)
 
-all_of : (cs : List WrittenConnection) → all_segments (map (written_segments microseconds) cs) ≡ flat_map (written_segments microseconds) cs
-all_of [] = refl
-all_of (c ∷ cs) = ap (λ ys. written_segments microseconds c ++ ys) (all_of cs)
+all_of : (ticks : ℕ) (cs : List WrittenConnection) → all_segments (map (written_segments ticks) cs) ≡ flat_map (written_segments ticks) cs
+all_of ticks [] = refl
+all_of ticks (c ∷ cs) = ap (λ ys. written_segments ticks c ++ ys) (all_of ticks cs)
 
-pub lists_once : KeysStandOnce → (lists : List (List Framed)) (count : ℕ) → AreWritten lists count → HasNoKeyTwice (all_segments lists)
-lists_once once lists count are = subst (λ (xs : List Framed). HasNoKeyTwice xs) (sym (ap all_segments are.shown ∙ all_of are.conns)) (once microseconds 0 are.conns are.numbered)
+pub lists_once : KeysStandOnce → (ticks : ℕ) (lists : List (List Framed)) (count : ℕ) → AreWritten ticks lists count → HasNoKeyTwice (all_segments lists)
+lists_once once ticks lists count are = subst (λ (xs : List Framed). HasNoKeyTwice xs) (sym (ap all_segments are.shown ∙ all_of ticks are.conns)) (once ticks 0 are.conns are.numbered)
 
 -- ---- the last one first
 

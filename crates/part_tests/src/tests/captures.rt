@@ -1,7 +1,7 @@
 //! Reading and writing captures.
 use super::checks::check;
 use pcap_records::{
-    Capture, CaptureFault, Moment, Order, read_capture, write_header, write_record,
+    Capture, CaptureFault, Moment, Order, Unit, read_capture, write_header, write_record,
 };
 use std::alloc::{AllocError, Global};
 use std::process::Abort;
@@ -14,6 +14,14 @@ pub(super) const BIG: [u8; 24] = [
 
 pub(super) const LITTLE: [u8; 24] = [
     0xd4, 0xc3, 0xb2, 0xa1, 2, 0, 4, 0, 0, 0, 0, 0, 0, 0, 0, 0, 0xff, 0xff, 0, 0, 1, 0, 0, 0,
+];
+
+const BIG_NANOS: [u8; 24] = [
+    0xa1, 0xb2, 0x3c, 0x4d, 0, 2, 0, 4, 0, 0, 0, 0, 0, 0, 0, 0, 0, 0, 0xff, 0xff, 0, 0, 0, 1,
+];
+
+const LITTLE_NANOS: [u8; 24] = [
+    0x4d, 0x3c, 0xb2, 0xa1, 2, 0, 4, 0, 0, 0, 0, 0, 0, 0, 0, 0, 0xff, 0xff, 0, 0, 1, 0, 0, 0,
 ];
 
 // A field of four bytes.
@@ -92,26 +100,47 @@ fn refused_and_empty_headers(rt: HostRuntime) {
     );
 }
 
-// An unknown magic number in both orders; then that of nanoseconds.
+// An unknown magic number in both orders.
 #[test]
 fn unknown_magic_numbers(rt: HostRuntime) {
     let alloc = rt.alloc();
     check_changed(&rt, alloc, &BIG, (2, 0xcd), Outcome::Magic);
     check_changed(&rt, alloc, &LITTLE, (1, 0xcd), Outcome::Magic);
-    let mut nanos = BIG;
-    nanos[..4].copy_from_slice(&[0xa1, 0xb2, 0x3c, 0x4d]);
-    check(
-        &rt,
-        "nanoseconds, big",
-        told(alloc, &nanos) == Outcome::Magic,
-    );
-    let mut nanos = LITTLE;
-    nanos[..4].copy_from_slice(&[0x4d, 0x3c, 0xb2, 0xa1]);
-    check(
-        &rt,
-        "nanoseconds, little",
-        told(alloc, &nanos) == Outcome::Magic,
-    );
+}
+
+// A file of this header, and then of one record at a second and 1,500,000,000 ticks.
+fn stamped(alloc: Global, header: &[u8], order: Order) -> Result<Vec<u8>, AllocError> {
+    let mut file = Vec::from_slice(alloc, header)?;
+    put_record_header(&mut file, order, (1, 1_500_000_000), 0)?;
+    Ok(file)
+}
+
+// That a file has this unit, and its first record this stamp.
+fn check_unit(rt: &impl Abort, alloc: Global, file: &[u8], unit: Unit, stamp: u64) {
+    let told = match read_capture(alloc, file) {
+        Ok(capture) if !capture.records().is_empty() => {
+            Some((capture.unit(), capture.records()[0].stamp.count()))
+        }
+        _ => None,
+    };
+    check(rt, "unit and stamp", told == Some((unit, stamp)));
+}
+
+// The magic numbers of microseconds and of nanoseconds, in both orders.
+#[test]
+fn units(rt: HostRuntime) -> Result<(), Fail> {
+    let alloc = rt.alloc();
+    let micros = 1_501_000_000;
+    let nanos = 2_500_000_000;
+    let big = stamped(alloc, &BIG, Order::Big)?;
+    check_unit(&rt, alloc, &big, Unit::Micros, micros);
+    let big = stamped(alloc, &BIG_NANOS, Order::Big)?;
+    check_unit(&rt, alloc, &big, Unit::Nanos, nanos);
+    let little = stamped(alloc, &LITTLE, Order::Little)?;
+    check_unit(&rt, alloc, &little, Unit::Micros, micros);
+    let little = stamped(alloc, &LITTLE_NANOS, Order::Little)?;
+    check_unit(&rt, alloc, &little, Unit::Nanos, nanos);
+    Ok(())
 }
 
 // Version 2.3 and 3.4; link types 113 and 1 with bits of a frame check sequence. Time zone, accuracy and longest packet are not
@@ -295,13 +324,30 @@ fn first_bytes_of_the_plain_session(rt: HostRuntime) {
 #[test]
 fn written_bytes(rt: HostRuntime) -> Result<(), Fail> {
     let mut out = Vec::from_slice(rt.alloc(), b"!")?;
-    write_header(&mut out)?;
-    write_record(&mut out, Moment::of(1_000_100), &[7, 8])?;
-    write_record(&mut out, Moment::of(4_294_967_295_999_999), &[])?;
+    let unit = Unit::Micros;
+    write_header(&mut out, unit)?;
+    write_record(&mut out, Moment::of(1_000_100, unit), &[7, 8], unit)?;
+    let last = Moment::of(4_294_967_295_999_999, unit);
+    write_record(&mut out, last, &[], unit)?;
     let want: [u8; 59] = [
         b'!', 0xd4, 0xc3, 0xb2, 0xa1, 2, 0, 4, 0, 0, 0, 0, 0, 0, 0, 0, 0, 0xff, 0xff, 0, 0, 1, 0,
         0, 0, 1, 0, 0, 0, 100, 0, 0, 0, 2, 0, 0, 0, 2, 0, 0, 0, 7, 8, 0xff, 0xff, 0xff, 0xff, 0x3f,
         0x42, 0x0f, 0, 0, 0, 0, 0, 0, 0, 0, 0,
+    ];
+    check(&rt, "bytes", out.as_slice() == want.as_slice());
+    Ok(())
+}
+
+#[test]
+fn written_bytes_in_nanoseconds(rt: HostRuntime) -> Result<(), Fail> {
+    let mut out = Vec::new(rt.alloc());
+    let unit = Unit::Nanos;
+    write_header(&mut out, unit)?;
+    let last = Moment::of(4_294_967_295_999_999_999, unit);
+    write_record(&mut out, last, &[9], unit)?;
+    let want: [u8; 41] = [
+        0x4d, 0x3c, 0xb2, 0xa1, 2, 0, 4, 0, 0, 0, 0, 0, 0, 0, 0, 0, 0xff, 0xff, 0, 0, 1, 0, 0, 0,
+        0xff, 0xff, 0xff, 0xff, 0xff, 0xc9, 0x9a, 0x3b, 1, 0, 0, 0, 1, 0, 0, 0, 9,
     ];
     check(&rt, "bytes", out.as_slice() == want.as_slice());
     Ok(())

@@ -1,7 +1,7 @@
 //! Instants: stamps that fall back, greatest stamps, and the horizon.
 use super::captures::{LITTLE, put_record_header};
 use super::checks::check;
-use pcap_records::{Capture, Moment, Order, read_capture};
+use pcap_records::{Capture, Moment, Order, Unit, read_capture};
 use std::alloc::Global;
 use std::process::Abort;
 use std::test::Fail;
@@ -19,7 +19,7 @@ fn check_times(
         check(rt, "a range of the capture", false);
         return Ok(());
     }
-    let times = capture.times(alloc, from, to, Moment::of(carry))?;
+    let times = capture.times(alloc, from, to, Moment::of(carry, Unit::Micros))?;
     let mut counts = Vec::new(alloc);
     for time in times.as_slice() {
         counts.push(time.count())?;
@@ -84,19 +84,24 @@ fn stamps_that_fall_back(rt: HostRuntime) -> Result<(), Fail> {
     Ok(())
 }
 
+// That the instants of a unit stop at this one.
+fn check_horizon(rt: &impl Abort, unit: Unit, horizon: u64) {
+    let at = |ticks| Moment::of(ticks, unit);
+    let last = horizon.saturating_sub(1);
+    check(rt, "the last", at(last).count() == last);
+    check(rt, "the horizon", at(horizon).count() == horizon);
+    check(rt, "past it", at(u64::MAX).count() == horizon);
+    check(rt, "later", at(last).later(1, unit) == at(horizon));
+    check(rt, "no later", at(horizon).later(9, unit) == at(horizon));
+}
+
 #[test]
 fn instants_stop_at_the_horizon(rt: HostRuntime) {
-    let horizon = 4_294_967_296_000_000;
-    check(&rt, "zero", Moment::of(0).count() == 0);
-    check(
-        &rt,
-        "the last",
-        Moment::of(horizon - 1).count() == horizon - 1,
-    );
-    check(&rt, "the horizon", Moment::of(horizon).count() == horizon);
-    check(&rt, "past it", Moment::of(u64::MAX).count() == horizon);
-    let zero = Moment::of(0);
-    let three = Moment::of(3);
+    check_horizon(&rt, Unit::Micros, 4_294_967_296_000_000);
+    check_horizon(&rt, Unit::Nanos, 4_294_967_296_000_000_000);
+    let zero = Moment::first();
+    let three = Moment::of(3, Unit::Micros);
+    check(&rt, "zero", zero.count() == 0);
     check(&rt, "greater", zero.greater(three).count() == 3);
     check(&rt, "the other way", three.greater(zero).count() == 3);
 }

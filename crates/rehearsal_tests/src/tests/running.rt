@@ -80,8 +80,8 @@ fn headers(rt: HostRuntime) {
     check_header(&rt, big, (Ok(()), EMPTY_REPORT));
     check_header(&rt, short, (Err(RunFault::ShortHeader), ""));
     check_header(&rt, unknown, (Err(RunFault::BadMagic), ""));
-    check_header(&rt, nanos, (Err(RunFault::BadMagic), ""));
-    check_header(&rt, little_nanos, (Err(RunFault::BadMagic), ""));
+    check_header(&rt, nanos, (Ok(()), EMPTY_REPORT));
+    check_header(&rt, little_nanos, (Ok(()), EMPTY_REPORT));
     check_header(&rt, version, (Err(RunFault::BadVersion), ""));
     check_header(&rt, link, (Err(RunFault::BadLink), ""))
 }

@@ -78,7 +78,7 @@ fn whole_table(alloc: Global, capture: &Capture<'_>) -> Result<Table, AllocError
 {
     tables_agree();
     let count = capture.records().len();
-    let whole = Partial::of_range(alloc, capture, 0, count, Moment::of(0))?;
+    let whole = Partial::of_range(alloc, capture, 0, count, Moment::first())?;
     finish(alloc, whole)
 }
 

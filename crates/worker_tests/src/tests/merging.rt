@@ -8,7 +8,7 @@ ghost use Rattle.time_merge.specs.MergedCapture.{all_segments};
 use super::checks::check;
 use conn_table::laws::tables_agree;
 use conn_table::{Partial, Table, finish};
-use pcap_records::{Capture, Moment, read_capture};
+use pcap_records::{Capture, Moment, Unit, read_capture};
 use reassembly::laws::conns_are_of_capture;
 use reassembly::lines;
 use segment_writer::laws::{keys_rise, keys_stand_once, once_in_any_order, rising_is_sorted};
@@ -28,7 +28,7 @@ fn whole(alloc: Global, capture: &Capture<'_>) -> Result<Table, AllocError>
 {
     tables_agree();
     let count = capture.records().len();
-    let records = Partial::of_range(alloc, capture, 0, count, Moment::of(0))?;
+    let records = Partial::of_range(alloc, capture, 0, count, Moment::first())?;
     finish(alloc, records)
 }
 
@@ -88,7 +88,7 @@ fn captured(alloc: Global, lists: Vec<SegList>) -> Result<Vec<u8>, AllocError>
     requires sorted { All (λ list. sorted_by_key list ≡ list) lists.items }
     requires once { HasNoKeyTwice (all_segments lists.items) }
 {
-    merge(alloc, lists)?.capture(alloc)
+    merge(alloc, lists)?.capture(alloc, Unit::Micros)
 }
 
 // The capture of what is written of these recorded segments: the same whichever list comes first, and among empty lists.

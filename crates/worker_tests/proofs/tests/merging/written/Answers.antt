@@ -7,7 +7,7 @@ use Rattle.worker_tests.proofs.WrittenLists.{AreWritten, conn_of_capture, none_w
 use Rattle.worker_tests.proofs.tests.merging.written.Goals as goal
 
 pub loop-number-init : goal.loop-number-init
-loop-number-init g c = subst (λ ls. AreWritten ls 0) (sym c.new-lists.ensures.items) none_written
+loop-number-init g c = subst (λ ls. AreWritten c.args.capture.now.ticks ls 0) (sym c.new-lists.ensures.items) (none_written c.args.capture.now.ticks)
 
 pub lines-requires : goal.lines-requires
 lines-requires g c =
@@ -18,12 +18,12 @@ pub loop-number-preserved : goal.loop-number-preserved
 loop-number-preserved g c =
     let conn = c.conn-item.result in
     let is : conn.number ≡ c.loop-number.number-counter = grind (arith, nat_tests) in
-    one_more c.loop-number.lists.items c.push.new.self.items c.loop-number.number-counter
+    one_more c.args.capture.now.ticks c.loop-number.lists.items c.push.new.self.items c.loop-number.number-counter
     (written_connection conn.number conn.client conn.server (recorded_view c.in_ok-recorded.recorded) (delivered_view c.in_ok-delivered.delivered))
-    c.in_ok-segments.field-0 c.loop-number.invariant is c.in_ok-segments.ensures c.in_ok-push.ensures.items
+    c.in_ok-segments.field-0 c.loop-number.invariant is (rw c.in_ok-recorded.ensures.up_ticks at c.in_ok-segments.ensures) c.in_ok-push.ensures.items
 
 pub returns-clause-sorted : goal.returns-clause-sorted
-returns-clause-sorted g c = lists_sorted c.keys_rise.ensures c.rising_is_sorted.ensures c.loop-number.lists.items c.loop-number.number-counter c.loop-number.invariant
+returns-clause-sorted g c = lists_sorted c.keys_rise.ensures c.rising_is_sorted.ensures c.args.capture.now.ticks c.loop-number.lists.items c.loop-number.number-counter c.loop-number.invariant
 
 pub returns-clause-once : goal.returns-clause-once
-returns-clause-once g c = lists_once c.keys_stand_once.ensures c.loop-number.lists.items c.loop-number.number-counter c.loop-number.invariant
+returns-clause-once g c = lists_once c.keys_stand_once.ensures c.args.capture.now.ticks c.loop-number.lists.items c.loop-number.number-counter c.loop-number.invariant

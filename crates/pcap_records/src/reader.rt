@@ -1,6 +1,6 @@
 //! Reading a whole file in one pass, record after record.
 ghost use Rattle.std.specs.Prelude.{◌≡◌, ◌≤◌, ◌<◌, ◌*◌, length, drop, IfOk};
-ghost use Rattle.pcap_records.specs.Reading.{reading, capture_limit, file_header_len, record_header_len, records_after};
+ghost use Rattle.pcap_records.specs.Reading.{reading, capture_limit, file_header_len, record_header_len, records_after, stamp_of};
 ghost use Rattle.pcap_records.specs.Agreement.{Agrees, Refuses};
 ghost use Rattle.pcap_records.specs.CaptureView.{heading_of, reading_of, refusal, IsSoundCapture};
 ghost use Rattle.pcap_records.specs.Instants.{ticks_of};
@@ -93,6 +93,16 @@ fn fault_after(heading: Heading, bytes: &[u8], at: usize, count: u32) -> Capture
     }
 }
 
+// The stamp of a record that begins with these bytes: its seconds, and ticks however many.
+fn stamp_of(heading: Heading, record: &[u8]) -> Moment
+    requires { record_header_len ≤ length record.now }
+    ensures { result ≡ stamp_of (heading_of heading) record.now }
+{
+    let Heading { order, unit } = heading;
+    let ticks = unit.seconds(order.u32_of(record)) + u64::from(order.u32_of(&record[4..]));
+    Moment::of(ticks, unit)
+}
+
 /// What is found where a record may begin.
 #[derive(Clone, Copy)]
 pub(crate) enum Found {
@@ -111,21 +121,19 @@ pub(crate) fn found_at(heading: Heading, bytes: &[u8], at: usize) -> Found
     requires limited { length bytes.now ≤ capture_limit }
     ensures { IsFoundAt (heading_of heading) bytes.now at result }
 {
-    let Heading { order, unit } = heading;
     let rest = &bytes[at..];
     if rest.len() < RECORD_HEADER_LEN {
         return Found::Torn;
     }
-    let len = order.u32_of(&rest[8..]);
+    let len = heading.order.u32_of(&rest[8..]);
     if len > PACKET_LIMIT {
         return Found::TooLong;
     }
     if rest.len() - RECORD_HEADER_LEN < len as usize {
         return Found::Torn;
     }
-    let ticks = unit.seconds(order.u32_of(rest)) + u64::from(order.u32_of(&rest[4..]));
     Found::Whole(Record {
-        stamp: Moment::of(ticks, unit),
+        stamp: stamp_of(heading, rest),
         start: (at + RECORD_HEADER_LEN) as u32,
         len,
     })

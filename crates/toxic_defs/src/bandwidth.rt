@@ -1,9 +1,9 @@
 //! A limited bandwidth: chunks in slices that leave when the wire has taken their last byte.
-ghost use Rattle.std.specs.Prelude.{◌≡◌, ◌≤◌, ◌<◌, ◌^◌, [], length, IfOk};
-ghost use Rattle.pcap_records.specs.Instants.{horizon, millisecond, ticks_of};
+ghost use Rattle.std.specs.Prelude.{◌≡◌, ◌≤◌, ◌<◌, ◌+◌, ◌^◌, [], length, IfOk};
+ghost use Rattle.pcap_records.specs.Instants.{horizon, instant, millisecond, ticks_of};
 ghost use Rattle.reassembly.specs.LineLaws.{IsLine};
 ghost use Rattle.reassembly.specs.LineView.{bytes_of_parts};
-ghost use Rattle.toxic_defs.specs.Bandwidth.{bandwidth_leaves, charged, rated_line, settled, settled_parts};
+ghost use Rattle.toxic_defs.specs.Bandwidth.{bandwidth_leaves, ceiling, charged, rated_line, settled, settled_parts};
 ghost use Rattle.toxic_defs.specs.DelayedBytes.{moved};
 ghost use Rattle.toxic_defs.specs.EndRule.{ended};
 ghost use Rattle.toxic_defs.specs.Limits.{greatest_rate};
@@ -69,9 +69,18 @@ fn charge_parts(parts: &mut [LinePart<'_>], unit: Unit, rate: u64)
     for part in parts.iter_mut() {
         let own = rate * u128::from(part.at.count());
         busy = own.max(busy) + u128::from(unit.milliseconds(part.bytes.len() as u64));
-        let leaves = (busy + (rate - 1)) / rate;
-        part.at = Moment::of(leaves.min(u128::from(unit.horizon())) as u64, unit);
+        part.at = done_at(busy, rate, unit);
     }
+}
+
+// The first instant at which so much is done, in units of 1/rate tick.
+fn done_at(busy: u128, rate: u128, unit: Unit) -> Moment
+    requires some { 0 < rate }
+    requires fits { busy + rate < 2 ^ 128 }
+    ensures { result ≡ instant (ticks_of unit) (ceiling busy rate) }
+{
+    let ticks = (busy + (rate - 1)) / rate;
+    Moment::of(ticks.min(u128::from(unit.horizon())) as u64, unit)
 }
 
 // Moves the parts of each chunk, in place, to the instant of its last one.

@@ -11,10 +11,7 @@ returns c =
     let at = c.args.at in
     let rest = take_rest bytes at in
     let len = rw (rest, take_rest (drop at bytes) 8) at c.u32_of-len.ensures in
-    let seconds = rw rest at c.u32_of.ensures in
-    let over = rw (rest, take_rest (drop at bytes) 4) at c.u32_of-2.ensures in
-    let stamped : c.of.result ≡ stamp_of (heading_of c.args.heading) (drop at bytes) =
-    rw (c.of.ensures, c.seconds.ensures, c.from.ensures, seconds, over) refl in
+    let stamped : c.stamp_of.result ≡ stamp_of (heading_of c.args.heading) (drop at bytes) = rw rest at c.stamp_of.ensures in
     let long = rw rest at c.if-rest-lt-RECORD_HEADER_LEN.false in
     let held = rw rest at c.if-rest-len.false in
-    record_stands_at (heading_of c.args.heading) bytes at _ refl len stamped long c.if-len-gt-PACKET_LIMIT.false held (rw c.of.ensures (omega arith))
+    record_stands_at (heading_of c.args.heading) bytes at _ refl len stamped long c.if-len-gt-PACKET_LIMIT.false held (rw c.stamp_of.ensures (omega arith))

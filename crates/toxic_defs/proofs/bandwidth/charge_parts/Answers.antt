@@ -35,8 +35,8 @@ overflow_add-busy c =
     c.from-rate.ensures c.count.ensures c.requires.rate c.count.type_inv (rw c.from.ensures at c.max.ensures) inv.small (rw (c.from-in-loop-part.ensures, c.milliseconds.ensures) (milliseconds_small c.args.unit (length p.bytes.now))) in
     omega (arith, small, there, short)
 
-pub overflow_add-leaves : goal.overflow_add-leaves
-overflow_add-leaves c =
+pub done_at-part-requires-clause-fits : goal.done_at-part-requires-clause-fits
+done_at-part-requires-clause-fits c =
     let i : ℕ = c.loop-part.part-index in
     let p : LinePart = get_or c.loop-part.parts i c.part-item.result in
     let inv = c.loop-part.invariant in
@@ -68,20 +68,17 @@ loop-part-preserved c =
     c.max.ensures ∙ ap (λ r. max (r * c.from.result) c.loop-part.busy) c.from-rate.ensures ∙ ap (λ f. max (rate * f) c.loop-part.busy) (c.from.ensures ∙ c.count.ensures)
     ∙ ap (λ b. max (rate * p.at) b) inv.busy in
     let wire : c.from-in-loop-part.result ≡ milli * length p.bytes.now = c.from-in-loop-part.ensures ∙ c.milliseconds.ensures in
-    let at : c.of-part.result ≡ bandwidth_leaves limit milli rate (front ++ bytes_of_part p) =
-    c.of-part.ensures ∙ ap (λ n. min n limit) (c.min.ensures ∙ ap (λ h. min ((c.max.result + c.from-in-loop-part.result + (c.from-rate.result - 1)) / c.from-rate.result) h) (c.from-in-loop-part-2.ensures ∙ c.horizon.ensures))
-    ∙ ap (λ r. min (min (ceiling (c.max.result + c.from-in-loop-part.result) r) limit) limit) c.from-rate.ensures
-    ∙ ap (λ m. min (min (ceiling (m + c.from-in-loop-part.result) rate) limit) limit) own
-    ∙ ap (λ n. min (min (ceiling (max (rate * p.at) (owed_of rate milli front) + n) rate) limit) limit) wire
-    ∙ omega arith
+    let at : c.done_at-part.result ≡ bandwidth_leaves limit milli rate (front ++ bytes_of_part p) =
+    c.done_at-part.ensures ∙ ap (λ r. min (ceiling (c.max.result + c.from-in-loop-part.result) r) limit) c.from-rate.ensures
+    ∙ ap₂ (λ m n. min (ceiling (m + n) rate) limit) own wire
     ∙ sym (leaves_there limit milli rate p.at p.starts front p.bytes.now c.requires.some filled) in
     let owing : ℕ = owed_of rate milli front in
     let turned = mul_comm milli (length p.bytes.now) in
     let sums : max (rate * p.at) owing + milli * length p.bytes.now ≡ max owing (rate * p.at) + length p.bytes.now * milli = omega (arith, turned) in
     record {
-      filled = All-set IsFilled ps i (part_at c.of-part.result p) filled inv.filled;
-      rest = rest_there ps initial i (part_at c.of-part.result p) inv.rest;
-      charged = charged_there (bandwidth_leaves limit milli rate) ps initial i c.of-part.result c.part-item.result lt lt' inv.rest inv.charged at;
+      filled = All-set IsFilled ps i (part_at c.done_at-part.result p) filled inv.filled;
+      rest = rest_there ps initial i (part_at c.done_at-part.result p) inv.rest;
+      charged = charged_there (bandwidth_leaves limit milli rate) ps initial i c.done_at-part.result c.part-item.result lt lt' inv.rest inv.charged at;
       busy = ap₂ (λ m n. m + n) own wire ∙ sums ∙ sym (owed_part rate milli p.at p.starts front p.bytes.now filled) ∙ ap (owed_of rate milli) (sym there);
       small = omega (arith, small, more);
     }

@@ -2,7 +2,7 @@
 use Rattle.std.proofs.Common.{◌≡◌, ◌≤◌, ◌<◌, ℕ, ◌+◌, ◌-◌, Bool, true, false, if◌then◌else◌, List, [], ◌∷◌, ◌++◌, length, take, drop, replicate, refl, sym, ap, ◌∙◌, arith, append-nil, append_assoc, length-append, length-drop, length-take, take_all, take_at, drop_at, drop-drop}
 use Rattle.std.proofs.lemmas.List.{drop_all, length-map}
 use borrow.Rule.Slice.PartMut.{put_mid}
-use Rattle.pcap_records.specs.Instants.{microseconds}
+use Rattle.pcap_records.specs.Instants.{ticks_of}
 use Rattle.pcap_records.specs.Reading.{record_header_len}
 use Rattle.pcap_records.specs.Writing.{record_header, record_bytes}
 use Rattle.frame_headers.specs.Flags.{psh_flag, ack_flag}
@@ -50,31 +50,31 @@ closed_is h xs frame is =
 
 -- ---- a record that was opened, filled with its payload and closed
 
-length-record_header : (at n : ℕ) → length (record_header microseconds at n) ≡ record_header_len
+length-record_header : (ticks at n : ℕ) → length (record_header ticks at n) ≡ record_header_len
 unfolding record_header
-length-record_header at n = refl
+length-record_header ticks at n = refl
 
-abbrev pub opened_record : ℕ → ℕ → List ℕ
-opened_record at n = record_header microseconds at n ++ replicate headers_len 0
+abbrev pub opened_record : ℕ → ℕ → ℕ → List ℕ
+opened_record ticks at n = record_header ticks at n ++ replicate headers_len 0
 
-length-opened : (at n : ℕ) → length (opened_record at n) ≡ whole_len
-length-opened at n = length-append (record_header microseconds at n) (replicate headers_len 0) ∙ ap (λ k. k + headers_len) (length-record_header at n)
+length-opened : (ticks at n : ℕ) → length (opened_record ticks at n) ≡ whole_len
+length-opened ticks at n = length-append (record_header ticks at n) (replicate headers_len 0) ∙ ap (λ k. k + headers_len) (length-record_header ticks at n)
 
-pub length-filled : (at n : ℕ) (payload : List ℕ) → length (opened_record at n ++ payload) ≡ whole_len + length payload
-length-filled at n payload = length-append (opened_record at n) payload ∙ ap (λ k. k + length payload) (length-opened at n)
+pub length-filled : (ticks at n : ℕ) (payload : List ℕ) → length (opened_record ticks at n ++ payload) ≡ whole_len + length payload
+length-filled ticks at n payload = length-append (opened_record ticks at n) payload ∙ ap (λ k. k + length payload) (length-opened ticks at n)
 
 -- a slice that was written over, in the vector that holds it
 written_over : (n : ℕ) (new old : List ℕ) → length new ≡ length old → n ≡ length old → take n (new ++ drop (length new) old) ≡ new
 written_over n new old same count = ap (λ k. take k (new ++ drop (length new) old)) (let e : n ≡ length new = omega arith in e) ∙ take_at new (drop (length new) old) (length new) refl
 
-pub record_is : (h : Header) (at len : ℕ) (xs payload : List ℕ) → xs ≡ opened_record at (headers_len + len) ++ payload → length payload ≡ len → length (headers h (drop whole_len xs)) ≡ headers_len
-    → take record_header_len xs ++ frame_with h (drop whole_len xs) ≡ record_bytes microseconds at (frame_with h payload)
-record_is h at len xs payload is count room =
-    let back : drop whole_len xs ≡ payload = ap (drop whole_len) is ∙ drop_at (opened_record at (headers_len + len)) payload whole_len (length-opened at (headers_len + len)) in
-    let front : take record_header_len xs ≡ record_header microseconds at (headers_len + len) =
-    ap (take record_header_len) (is ∙ append_assoc (record_header microseconds at (headers_len + len)) (replicate headers_len 0) payload) ∙ take_at (record_header microseconds at (headers_len + len)) (replicate headers_len 0 ++ payload) record_header_len (length-record_header at (headers_len + len)) in
+pub record_is : (h : Header) (ticks at len : ℕ) (xs payload : List ℕ) → xs ≡ opened_record ticks at (headers_len + len) ++ payload → length payload ≡ len → length (headers h (drop whole_len xs)) ≡ headers_len
+    → take record_header_len xs ++ frame_with h (drop whole_len xs) ≡ record_bytes ticks at (frame_with h payload)
+record_is h ticks at len xs payload is count room =
+    let back : drop whole_len xs ≡ payload = ap (drop whole_len) is ∙ drop_at (opened_record ticks at (headers_len + len)) payload whole_len (length-opened ticks at (headers_len + len)) in
+    let front : take record_header_len xs ≡ record_header ticks at (headers_len + len) =
+    ap (take record_header_len) (is ∙ append_assoc (record_header ticks at (headers_len + len)) (replicate headers_len 0) payload) ∙ take_at (record_header ticks at (headers_len + len)) (replicate headers_len 0 ++ payload) record_header_len (length-record_header ticks at (headers_len + len)) in
     let size : headers_len + len ≡ length (headers h payload ++ payload) = omega (arith, length-append (headers h payload) payload, room, ap (λ ys. length (headers h ys)) back, count) in
-    ap (λ ys. take record_header_len xs ++ frame_with h ys) back ∙ ap (λ ys. ys ++ (headers h payload ++ payload)) (front ∙ ap (record_header microseconds at) size)
+    ap (λ ys. take record_header_len xs ++ frame_with h ys) back ∙ ap (λ ys. ys ++ (headers h payload ++ payload)) (front ∙ ap (record_header ticks at) size)
 
 -- ---- pieces
 
@@ -106,15 +106,15 @@ first_instant-cursor parts c p ps e place =
 -- ---- segments
 
 -- a vector with an opened record and its payload, of which a slice was closed
-pub made_is : (h : Header) (at len vec_len : ℕ) (old slice new made payload : List ℕ) → old ≡ opened_record at (headers_len + len) ++ payload → length payload ≡ len → slice ≡ old → length slice ≡ vec_len
+pub made_is : (h : Header) (ticks at len vec_len : ℕ) (old slice new made payload : List ℕ) → old ≡ opened_record ticks at (headers_len + len) ++ payload → length payload ≡ len → slice ≡ old → length slice ≡ vec_len
     → new ≡ take record_header_len slice ++ frame_with h (drop whole_len slice) → length (headers h (drop whole_len slice)) ≡ headers_len → length new ≡ length slice
-    → made ≡ take vec_len (new ++ drop (length new) old) → made ≡ record_bytes microseconds at (frame_with h payload)
-made_is h at len vec_len old slice new made payload is count same size closed room kept made_of =
+    → made ≡ take vec_len (new ++ drop (length new) old) → made ≡ record_bytes ticks at (frame_with h payload)
+made_is h ticks at len vec_len old slice new made payload is count same size closed room kept made_of =
     let same_len : length slice ≡ length old = ap length same in
-    made_of ∙ written_over vec_len new old (omega arith) (omega arith) ∙ closed ∙ record_is h at len slice payload (same ∙ is) count room
+    made_of ∙ written_over vec_len new old (omega arith) (omega arith) ∙ closed ∙ record_is h ticks at len slice payload (same ∙ is) count room
 
 pub framed_is : (s : Sender) (place : ℕ) (sent : SentSegment) (key : SegKey) (bytes : List ℕ) → key.moment ≡ sent.at → key.conn ≡ s.conn → key.turn ≡ s.turn → key.place ≡ place
-    → bytes ≡ record_bytes microseconds sent.at (frame_with (header_with s sent.seq sent.ack sent.flags) sent.payload)
+    → bytes ≡ record_bytes (ticks_of s.unit) sent.at (frame_with (header_with s sent.seq sent.ack sent.flags) sent.payload)
     → ◌≡◌ {A = Framed} (record { key = key; bytes = bytes }) (framed_by s (place, sent))
 framed_is s place sent key bytes moment conn turn at_place is =
     λ i. record { key = record { moment = moment i; conn = conn i; turn = turn i; place = at_place i }; bytes = is i }
@@ -122,7 +122,7 @@ framed_is s place sent key bytes moment conn turn at_place is =
 pub piece_is : (s : Sender) (own : List LinePart) (from after : Cursor) (len seq ack place at flags : ℕ) (border : Bool) (h : Header) (key : SegKey) (bytes : List ℕ)
     → at ≡ first_instant (left_at own from) → len ≡ piece_size payload_limit (left_at own from) → left_at own after ≡ drop len (left_at own from)
     → border ≡ is_chunk_border (left_at own after) → flags ≡ (if border then psh_flag + ack_flag else ack_flag) → h ≡ header_with s seq ack flags
-    → bytes ≡ record_bytes microseconds at (frame_with h (values (take len (left_at own from))))
+    → bytes ≡ record_bytes (ticks_of s.unit) at (frame_with h (values (take len (left_at own from))))
     → key.moment ≡ at → key.conn ≡ s.conn → key.turn ≡ s.turn → key.place ≡ place
     → ◌≡◌ {A = Framed} (record { key = key; bytes = bytes }) (framed_by s (place, piece_segment seq ack (first_of payload_limit (left_at own from))))
 piece_is s own from after len seq ack place at flags border h key bytes at_is len_is left border_is flags_are header is moment conn turn at_place =
@@ -130,4 +130,4 @@ piece_is s own from after len seq ack place at flags border h key bytes at_is le
     let flags' : flags ≡ sent.flags = flags_are ∙ ap (λ (b : Bool). if b then psh_flag + ack_flag else ack_flag) (border_is ∙ ap is_chunk_border (left ∙ ap (λ n. drop n (left_at own from)) len_is)) in
     let header' : h ≡ header_with s seq ack sent.flags = header ∙ ap (header_with s seq ack) flags' in
     framed_is s place sent key bytes (moment ∙ at_is) conn turn at_place
-    (is ∙ (λ i. record_bytes microseconds (at_is i) (frame_with (header' i) (values (take (len_is i) (left_at own from))))))
+    (is ∙ (λ i. record_bytes (ticks_of s.unit) (at_is i) (frame_with (header' i) (values (take (len_is i) (left_at own from))))))

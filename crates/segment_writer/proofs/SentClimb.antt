@@ -2,7 +2,7 @@
 use Rattle.std.proofs.Common.{◌≡◌, ◌≤◌, ◌<◌, ℕ, ◌+◌, ◌-◌, ◌==◌, Bool, true, false, ◌||◌, List, [], ◌∷◌, length, map, refl, arith, if◌then◌else◌}
 use Rattle.std.specs.List.{enumerate_from}
 use Rattle.std.proofs.lemmas.Bool.{lt-ltb, le-ltb}
-use Rattle.pcap_records.specs.Instants.{horizon, microseconds}
+use Rattle.pcap_records.specs.Instants.{horizon, ticks_of}
 use Rattle.reassembly.specs.RecordedLines.{LineByte, End, live, fin, close, reset}
 use Rattle.reassembly.specs.LineLaws.{IsNotBefore}
 use Rattle.reassembly.proofs.LineBytes.{IsNotBefore-weaker}
@@ -70,14 +70,14 @@ line_climbs limit room low own peer n bytes climbs = sent_climb low own peer n (
 -- ---- what is written of them
 
 abbrev pub written_from : Sender → ℕ → List SentSegment → List Framed
-written_from s place sent = segments_before_horizon microseconds (map (framed_by s) (enumerate_from place sent))
+written_from s place sent = segments_before_horizon (ticks_of s.unit) (map (framed_by s) (enumerate_from place sent))
 
-pub written_next : (s : Sender) (place : ℕ) (sent : SentSegment) (more : List SentSegment) → sent.at < horizon microseconds → written_from s place (sent ∷ more) ≡ framed_by s (place, sent) ∷ written_from s (place + 1) more
-written_next s place sent more early = rw (lt-ltb sent.at (horizon microseconds) early) refl
+pub written_next : (s : Sender) (place : ℕ) (sent : SentSegment) (more : List SentSegment) → sent.at < horizon (ticks_of s.unit) → written_from s place (sent ∷ more) ≡ framed_by s (place, sent) ∷ written_from s (place + 1) more
+written_next s place sent more early = rw (lt-ltb sent.at (horizon (ticks_of s.unit)) early) refl
 
-pub written_late : (s : Sender) (place low : ℕ) (sent : List SentSegment) → horizon microseconds ≤ low → SentClimbs low sent → written_from s place sent ≡ []
+pub written_late : (s : Sender) (place low : ℕ) (sent : List SentSegment) → horizon (ticks_of s.unit) ≤ low → SentClimbs low sent → written_from s place sent ≡ []
 written_late s place low [] late climb = refl
 written_late s place low (x ∷ sent) late climb =
     let up : low ≤ x.at = climb.0 in
-    let late' : horizon microseconds ≤ x.at = omega arith in
-    rw (le-ltb x.at (horizon microseconds) late') (written_late s (place + 1) x.at sent late' climb.1)
+    let late' : horizon (ticks_of s.unit) ≤ x.at = omega arith in
+    rw (le-ltb x.at (horizon (ticks_of s.unit)) late') (written_late s (place + 1) x.at sent late' climb.1)

@@ -1,7 +1,7 @@
 -- Steps of the pass over a line: what was written, before what is left to write, is the whole.
 use Rattle.std.proofs.Common.{◌≡◌, ◌≤◌, ◌<◌, ℕ, ◌+◌, ◌%◌, ◌^◌, List, [], ◌∷◌, ◌++◌, length, take, drop, Option, Some, None, refl, sym, ap, ◌∙◌, subst, arith, append-nil, append_assoc, length-drop}
 use Rattle.std.proofs.lemmas.List.{drop_all, take-append-drop}
-use Rattle.pcap_records.specs.Instants.{horizon, microseconds}
+use Rattle.pcap_records.specs.Instants.{horizon, ticks_of}
 use Rattle.frame_headers.specs.Layout.{payload_limit}
 use Rattle.reassembly.specs.RecordedLines.{LineByte, Line, End}
 use Rattle.reassembly.specs.LineView.{bytes_of_parts, end_view, line_of}
@@ -45,7 +45,7 @@ unfolding pieces
 no_pieces limit room = refl
 
 -- the first segment, and the others
-next_written : (s : Sender) (own peer : Line) (place n size : ℕ) (bytes : List LineByte) → 0 < length bytes → size ≡ piece_size payload_limit bytes → first_instant bytes < horizon microseconds
+next_written : (s : Sender) (own peer : Line) (place n size : ℕ) (bytes : List LineByte) → 0 < length bytes → size ≡ piece_size payload_limit bytes → first_instant bytes < horizon (ticks_of s.unit)
     → left_written s own peer place n bytes ≡ framed_by s (place, first_segment s own peer n bytes) ∷ left_written s own peer (place + 1) (n + size) (drop size bytes)
 next_written s own peer place n size [] some is early = absurd (omega arith)
 next_written s own peer place n size (b ∷ bytes) some is early =
@@ -118,10 +118,10 @@ module _ (s : Sender) (own : List LinePart) (own_end : code.End) (peer : List Li
       pub step_hears : IsHeard peer heard p.at
       step_hears = heard_later peer heard going.last p.at going.heard_is (omega (arith, at_is, climbs_here.0))
 
-      pub step_early : p.at < horizon microseconds → first_instant (left_at own from) < horizon microseconds
+      pub step_early : p.at < horizon (ticks_of s.unit) → first_instant (left_at own from) < horizon (ticks_of s.unit)
       step_early early = omega (arith, at_is)
 
-      pub going_late : horizon microseconds ≤ p.at → list ≡ line_written s (line_of own own_end) (line_of peer peer_end)
+      pub going_late : horizon (ticks_of s.unit) ≤ p.at → list ≡ line_written s (line_of own own_end) (line_of peer peer_end)
       going_late late =
           let climb = line_climbs payload_limit payload_limit (first_instant (left_at own from)) (own_side s (line_of own own_end)) (peer_side s (line_of peer peer_end)) sent (left_at own from) climbs_here.1 in
           let none : left_written s (line_of own own_end) (line_of peer peer_end) place sent (left_at own from) ≡ [] =
@@ -138,7 +138,7 @@ module _ (s : Sender) (own : List LinePart) (own_end : code.End) (peer : List Li
             let more : 0 < piece_size payload_limit (left_at own from) = some_piece payload_limit (left_at own from) (omega arith) some in
             omega (arith, ap length is, length-drop size (left_at own from))
 
-        pub going_on : (after : Cursor) (h : Heard) (seq ack at_place : ℕ) (framed : Framed) (more : List Framed) → p.at < horizon microseconds
+        pub going_on : (after : Cursor) (h : Heard) (seq ack at_place : ℕ) (framed : Framed) (more : List Framed) → p.at < horizon (ticks_of s.unit)
             → IsCursor own after → left_at own after ≡ drop size (left_at own from)
             → IsHeard peer h p.at → h.bytes ≡ bytes_before p.at (bytes_of_parts peer)
             → seq ≡ (s.base + 1 + sent) % sequence_space → ack ≡ (s.peer_base + 1 + h.bytes + end_numbers_before p.at (end_view peer_end)) % sequence_space → at_place ≡ place
@@ -201,10 +201,10 @@ module _ (s : Sender) (own : List LinePart) (own_end : code.End) (peer : List Li
             let climb = subst (λ (xs : List SentSegment). SentClimbs going.last xs) (is a b sent) (end_climbs going.last a b sent (end_view own_end) not_before) in
             heard_later peer heard going.last o.at going.heard_is climb.0
 
-        pub going_ends_late : horizon microseconds ≤ o.at → list ≡ line_written s (line_of own own_end) (line_of peer peer_end)
+        pub going_ends_late : horizon (ticks_of s.unit) ≤ o.at → list ≡ line_written s (line_of own own_end) (line_of peer peer_end)
         going_ends_late late = ended (Some o) is (written_late s place o.at (ending_segments (own_side s (line_of own own_end)) (peer_side s (line_of peer peer_end)) sent (Some o)) late ((let same : o.at ≤ o.at = omega arith in same), tt))
 
-        pub going_ends_with : (h : Heard) (seq ack at_place : ℕ) (framed : Framed) (more : List Framed) → o.at < horizon microseconds → h.bytes ≡ bytes_before o.at (bytes_of_parts peer)
+        pub going_ends_with : (h : Heard) (seq ack at_place : ℕ) (framed : Framed) (more : List Framed) → o.at < horizon (ticks_of s.unit) → h.bytes ≡ bytes_before o.at (bytes_of_parts peer)
             → seq ≡ (s.base + 1 + sent) % sequence_space → ack ≡ (s.peer_base + 1 + h.bytes + end_numbers_before o.at (end_view peer_end)) % sequence_space → at_place ≡ place
             → framed ≡ framed_by s (at_place, opening_segment o.at seq ack o.flags) → more ≡ list ++ framed ∷ []
             → more ≡ line_written s (line_of own own_end) (line_of peer peer_end)

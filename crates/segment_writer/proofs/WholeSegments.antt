@@ -2,7 +2,8 @@
 use Rattle.std.proofs.Common.{◌≡◌, ◌≤◌, ◌<◌, inl, inr, ℕ, ◌+◌, nat_lt, Bool, true, false, List, [], ◌∷◌, ◌++◌, refl, sym, ap, ap₂, ◌∙◌, arith}
 use Rattle.std.proofs.lemmas.Bool.{cases_lt, lt-ltb, le-ltb, eq-eqb}
 use Rattle.std.proofs.lemmas.List.Elements.{filter-append}
-use Rattle.pcap_records.specs.Instants.{horizon, microseconds}
+use Rattle.pcap_records.specs.declared.unit.Unit.{Unit}
+use Rattle.pcap_records.specs.Instants.{horizon, ticks_of}
 use Rattle.frame_headers.specs.Layout.{payload_limit}
 use Rattle.reassembly.specs.RecordedLines.{LineByte, Line, End}
 use Rattle.reassembly.specs.LineLaws.{IsInChunks, GoesOn, IsNotBefore, last_instant}
@@ -40,7 +41,7 @@ turn_rises : (s : Sender) (m p place : ℕ) (sent : List SentSegment) → p < pl
 turn_rises s m p place [] next climb = tt
 turn_rises s m p place (x ∷ sent) next climb =
     let up : m ≤ x.at = climb.0 in
-    elim (cases_lt x.at (horizon microseconds)) [
+    elim (cases_lt x.at (horizon (ticks_of s.unit))) [
       | inl early ↦ rw (written_next s place x sent early) (later_key m s.conn s.turn p x.at place up next, turn_rises s x.at place (place + 1) sent (let more : place < place + 1 = omega arith in more) climb.1)
       | inr late ↦ rw (written_late s place x.at (x ∷ sent) late ((let same : x.at ≤ x.at = omega arith in same), climb.1)) tt
     ]
@@ -48,7 +49,7 @@ turn_rises s m p place (x ∷ sent) next climb =
 turn_is_rising : (s : Sender) (place low : ℕ) (sent : List SentSegment) → SentClimbs low sent → AreRising (written_from s place sent)
 turn_is_rising s place low [] climb = tt
 turn_is_rising s place low (x ∷ sent) climb =
-    elim (cases_lt x.at (horizon microseconds)) [
+    elim (cases_lt x.at (horizon (ticks_of s.unit))) [
       | inl early ↦ rw (written_next s place x sent early) (turn_rises s x.at place (place + 1) sent (let more : place < place + 1 = omega arith in more) climb.1)
       | inr late ↦ rw (written_late s place x.at (x ∷ sent) late ((let same : x.at ≤ x.at = omega arith in same), climb.1)) tt
     ]
@@ -60,12 +61,12 @@ line_sorted s own peer timely =
 
 -- ---- the opening
 
-opening_rises : (refused : Bool) (c : WrittenConnection) (at : ℕ) → AreRising (opening_by refused (client_in c 0) (server_in c 0) at)
-opening_rises true c at = (first_below_second at c.number, tt)
+opening_rises : (unit : Unit) (refused : Bool) (c : WrittenConnection) (at : ℕ) → AreRising (opening_by refused (client_in unit c 0) (server_in unit c 0) at)
+opening_rises unit true c at = (first_below_second at c.number, tt)
   where
     first_below_second : (m n : ℕ) → is_key_below (record { moment = m; conn = n; turn = 0; place = 0 }) (record { moment = m; conn = n; turn = 0; place = 1 }) ≡ true
     first_below_second m n = later_key m n 0 0 m 1 (omega arith) (omega arith)
-opening_rises false c at = (first_below_second at c.number, (second_below_third at c.number, tt))
+opening_rises unit false c at = (first_below_second at c.number, (second_below_third at c.number, tt))
   where
     first_below_second : (m n : ℕ) → is_key_below (record { moment = m; conn = n; turn = 0; place = 0 }) (record { moment = m; conn = n; turn = 0; place = 1 }) ≡ true
     first_below_second m n = later_key m n 0 0 m 1 (omega arith) (omega arith)
@@ -73,58 +74,62 @@ opening_rises false c at = (first_below_second at c.number, (second_below_third 
     second_below_third : (m n : ℕ) → is_key_below (record { moment = m; conn = n; turn = 0; place = 1 }) (record { moment = m; conn = n; turn = 0; place = 2 }) ≡ true
     second_below_third m n = later_key m n 0 1 m 2 (omega arith) (omega arith)
 
-opening_kept : (refused : Bool) (a b : Sender) (at : ℕ) → at < horizon microseconds → opening_written refused a b at ≡ opening_by refused a b at
-opening_kept true a b at early = rw (lt-ltb at (horizon microseconds) early) refl
-opening_kept false a b at early = rw (lt-ltb at (horizon microseconds) early) refl
+opening_kept : (refused : Bool) (a b : Sender) (at : ℕ) → at < horizon (ticks_of a.unit) → opening_written refused a b at ≡ opening_by refused a b at
+opening_kept true a b at early = rw (lt-ltb at (horizon (ticks_of a.unit)) early) refl
+opening_kept false a b at early = rw (lt-ltb at (horizon (ticks_of a.unit)) early) refl
 
-opening_late : (refused : Bool) (a b : Sender) (at : ℕ) → horizon microseconds ≤ at → opening_written refused a b at ≡ []
-opening_late true a b at late = rw (le-ltb at (horizon microseconds) late) refl
-opening_late false a b at late = rw (le-ltb at (horizon microseconds) late) refl
+opening_late : (refused : Bool) (a b : Sender) (at : ℕ) → horizon (ticks_of a.unit) ≤ at → opening_written refused a b at ≡ []
+opening_late true a b at late = rw (le-ltb at (horizon (ticks_of a.unit)) late) refl
+opening_late false a b at late = rw (le-ltb at (horizon (ticks_of a.unit)) late) refl
 
-opening_is_rising : (refused : Bool) (c : WrittenConnection) (at : ℕ) → AreRising (opening_written refused (client_in c 0) (server_in c 0) at)
-opening_is_rising refused c at = elim (cases_lt at (horizon microseconds)) [
-  | inl early ↦ rw (opening_kept refused (client_in c 0) (server_in c 0) at early) (opening_rises refused c at)
-  | inr late ↦ rw (opening_late refused (client_in c 0) (server_in c 0) at late) tt
+opening_is_rising : (unit : Unit) (refused : Bool) (c : WrittenConnection) (at : ℕ) → AreRising (opening_written refused (client_in unit c 0) (server_in unit c 0) at)
+opening_is_rising unit refused c at = elim (cases_lt at (horizon (ticks_of unit))) [
+  | inl early ↦ rw (opening_kept refused (client_in unit c 0) (server_in unit c 0) at early) (opening_rises unit refused c at)
+  | inr late ↦ rw (opening_late refused (client_in unit c 0) (server_in unit c 0) at late) tt
 ]
 
-pub opening_sorted : (refused : Bool) (c : WrittenConnection) (at : ℕ) → sorted_by_key (opening_written refused (client_in c 0) (server_in c 0) at) ≡ opening_written refused (client_in c 0) (server_in c 0) at
-opening_sorted refused c at = rising_is_sorted (opening_written refused (client_in c 0) (server_in c 0) at) (opening_is_rising refused c at)
+pub opening_sorted : (unit : Unit) (refused : Bool) (c : WrittenConnection) (at : ℕ)
+    → sorted_by_key (opening_written refused (client_in unit c 0) (server_in unit c 0) at) ≡ opening_written refused (client_in unit c 0) (server_in unit c 0) at
+opening_sorted unit refused c at = rising_is_sorted (opening_written refused (client_in unit c 0) (server_in unit c 0) at) (opening_is_rising unit refused c at)
 
-opening_is : (refused : Bool) (c : WrittenConnection) → opening_by refused (client_in c 0) (server_in c 0) c.opened ≡ opening_turn refused microseconds c
+opening_is : (unit : Unit) (refused : Bool) (c : WrittenConnection) → opening_by refused (client_in unit c 0) (server_in unit c 0) c.opened ≡ opening_turn refused (ticks_of unit) c
 unfolding frame_bytes
-opening_is true c = refl
-opening_is false c = refl
+opening_is unit true c = refl
+opening_is unit false c = refl
 
--- ---- the three turns
+-- ---- the three turns, by senders of units of so many ticks
 
-ups_are : (c : WrittenConnection) → line_written (client_in c 1) c.client.line c.server.line ≡ segments_before_horizon microseconds (up_turn microseconds c)
+opening_of : (unit : Unit) (ticks : ℕ) (c : WrittenConnection) → ticks_of unit ≡ ticks → opening_written c.refused (client_in unit c 0) (server_in unit c 0) c.opened ≡ segments_before_horizon ticks (opening_turn c.refused ticks c)
+opening_of unit ticks c same = ap (segments_before_horizon (ticks_of unit)) (opening_is unit c.refused c) ∙ ap (λ n. segments_before_horizon n (opening_turn c.refused n c)) same
+
+ups_are : (unit : Unit) (c : WrittenConnection) → line_written (client_in unit c 1) c.client.line c.server.line ≡ segments_before_horizon (ticks_of unit) (up_turn (ticks_of unit) c)
 unfolding line_written frame_bytes
-ups_are c = refl
+ups_are unit c = refl
 
-downs_are : (c : WrittenConnection) → line_written (server_in c 2) c.server.line c.client.line ≡ segments_before_horizon microseconds (down_turn microseconds c)
+downs_are : (unit : Unit) (c : WrittenConnection) → line_written (server_in unit c 2) c.server.line c.client.line ≡ segments_before_horizon (ticks_of unit) (down_turn (ticks_of unit) c)
 unfolding line_written frame_bytes
-downs_are c = refl
+downs_are unit c = refl
 
 pub sorted_twice : (xs : List Framed) → sorted_by_key (sorted_by_key xs) ≡ sorted_by_key xs
 sorted_twice xs = is_sorted (sorted_by_key xs) (ordered-sorted_by_key xs)
 
-whole_is : (c : WrittenConnection) → sorted_by_key (segments_before_horizon microseconds ((opening_turn c.refused microseconds c ++ up_turn microseconds c) ++ down_turn microseconds c)) ≡ written_segments microseconds c
+whole_is : (ticks : ℕ) (c : WrittenConnection) → sorted_by_key (segments_before_horizon ticks ((opening_turn c.refused ticks c ++ up_turn ticks c) ++ down_turn ticks c)) ≡ written_segments ticks c
 unfolding written_segments
-whole_is c = refl
+whole_is ticks c = refl
 
-abbrev in_time : Framed → Bool
-in_time x = nat_lt x.key.moment (horizon microseconds)
-
-pub segments_are : (c : WrittenConnection) → IsTimely c.server.line
-    → sorted_by_key (sorted_by_key (opening_written c.refused (client_in c 0) (server_in c 0) c.opened ++ line_written (client_in c 1) c.client.line c.server.line) ++ line_written (server_in c 2) c.server.line c.client.line) ≡ written_segments microseconds c
-segments_are c timely =
-    let opening : List Framed = opening_written c.refused (client_in c 0) (server_in c 0) c.opened in
-    let ups : List Framed = line_written (client_in c 1) c.client.line c.server.line in
-    let downs : List Framed = line_written (server_in c 2) c.server.line c.client.line in
-    let opening' : opening ≡ segments_before_horizon microseconds (opening_turn c.refused microseconds c) = ap (segments_before_horizon microseconds) (opening_is c.refused c) in
-    ap (λ xs. sorted_by_key (sorted_by_key (opening ++ ups) ++ xs)) (sym (line_sorted (server_in c 2) c.server.line c.client.line timely))
+-- the opening by one sender, the lines by another of as many ticks
+pub segments_are : (opener unit : Unit) (ticks : ℕ) (c : WrittenConnection) → ticks_of opener ≡ ticks → ticks_of unit ≡ ticks → IsTimely c.server.line
+    → sorted_by_key (sorted_by_key (opening_written c.refused (client_in opener c 0) (server_in opener c 0) c.opened ++ line_written (client_in unit c 1) c.client.line c.server.line) ++ line_written (server_in unit c 2) c.server.line c.client.line) ≡ written_segments ticks c
+segments_are opener unit ticks c first same timely =
+    let opening : List Framed = opening_written c.refused (client_in opener c 0) (server_in opener c 0) c.opened in
+    let ups : List Framed = line_written (client_in unit c 1) c.client.line c.server.line in
+    let downs : List Framed = line_written (server_in unit c 2) c.server.line c.client.line in
+    let ups' : ups ≡ segments_before_horizon ticks (up_turn ticks c) = ups_are unit c ∙ ap (λ n. segments_before_horizon n (up_turn n c)) same in
+    let downs' : downs ≡ segments_before_horizon ticks (down_turn ticks c) = downs_are unit c ∙ ap (λ n. segments_before_horizon n (down_turn n c)) same in
+    let in_time : Framed → Bool = λ x. nat_lt x.key.moment (horizon ticks) in
+    ap (λ xs. sorted_by_key (sorted_by_key (opening ++ ups) ++ xs)) (sym (line_sorted (server_in unit c 2) c.server.line c.client.line timely))
     ∙ parts_are_sorted_first (opening ++ ups) downs
     ∙ ap sorted_by_key
-    (ap₂ (λ xs ys. xs ++ ys) (ap₂ (λ xs ys. xs ++ ys) opening' (ups_are c) ∙ sym (filter-append in_time (opening_turn c.refused microseconds c) (up_turn microseconds c))) (downs_are c)
-    ∙ sym (filter-append in_time (opening_turn c.refused microseconds c ++ up_turn microseconds c) (down_turn microseconds c)))
-    ∙ whole_is c
+    (ap₂ (λ xs ys. xs ++ ys) (ap₂ (λ xs ys. xs ++ ys) (opening_of opener ticks c first) ups' ∙ sym (filter-append in_time (opening_turn c.refused ticks c) (up_turn ticks c))) downs'
+    ∙ sym (filter-append in_time (opening_turn c.refused ticks c ++ up_turn ticks c) (down_turn ticks c)))
+    ∙ whole_is ticks c

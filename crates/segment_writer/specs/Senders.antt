@@ -1,7 +1,8 @@
 -- What a sender writes in its turn.
 use Rattle.std.specs.Prelude.{ℕ, ◌+◌, ◌%◌, Bool, true, false, List, [], ◌∷◌, ◌++◌, map, Option, Some, None, if◌then◌else◌}
 use Rattle.std.specs.List.{enumerate_from}
-use Rattle.pcap_records.specs.Instants.{microseconds}
+use Rattle.pcap_records.specs.declared.unit.Unit.{Unit}
+use Rattle.pcap_records.specs.Instants.{ticks_of}
 use Rattle.pcap_records.specs.Writing.{record_bytes}
 use Rattle.frame_headers.specs.Flags
 use Rattle.frame_headers.specs.Headers.{headers}
@@ -15,9 +16,10 @@ use Rattle.segment_writer.specs.declared.turns.Ending.{Ending}
 
 -- ---- who sends
 
--- the client of a connection in a turn
-abbrev pub client_in : WrittenConnection → ℕ → Sender
-client_in c turn = record {
+-- the client of a connection in a turn, where instants count in a unit
+abbrev pub client_in : Unit → WrittenConnection → ℕ → Sender
+client_in unit c turn = record {
+  unit = unit;
   conn = c.number;
   turn = turn;
   mac_from = c.client.host.mac;
@@ -31,6 +33,7 @@ client_in c turn = record {
 -- who answers a sender, in a turn
 abbrev pub peer_in : Sender → ℕ → Sender
 peer_in s turn = record {
+  unit = s.unit;
   conn = s.conn;
   turn = turn;
   mac_from = s.mac_to;
@@ -42,8 +45,8 @@ peer_in s turn = record {
 }
 
 -- its server
-abbrev pub server_in : WrittenConnection → ℕ → Sender
-server_in c turn = peer_in (client_in c turn) turn
+abbrev pub server_in : Unit → WrittenConnection → ℕ → Sender
+server_in unit c turn = peer_in (client_in unit c turn) turn
 
 -- a sender's own side with a line, and its peer's
 abbrev pub own_side : Sender → Line → WrittenSide
@@ -72,7 +75,7 @@ frame_with h payload = headers h payload ++ payload
 abbrev pub framed_by : Sender → ℕ × SentSegment → Framed
 framed_by s (place, sent) = record {
   key = record { moment = sent.at; conn = s.conn; turn = s.turn; place = place };
-  bytes = record_bytes microseconds sent.at (frame_with (header_with s sent.seq sent.ack sent.flags) sent.payload);
+  bytes = record_bytes (ticks_of s.unit) sent.at (frame_with (header_with s sent.seq sent.ack sent.flags) sent.payload);
 }
 
 -- the segment of a piece; PSH stands on a chunk's last one
@@ -92,7 +95,7 @@ ending_segments own peer n (Some e) = record { at = e.at; seq = sequence_number 
 
 -- all segments that it writes of its line, before the horizon
 unfoldable pub line_written : Sender → Line → Line → List Framed
-line_written s own peer = segments_before_horizon microseconds (map (framed_by s) (enumerate_from 0 (segments_sent_by (own_side s own) (peer_side s peer))))
+line_written s own peer = segments_before_horizon (ticks_of s.unit) (map (framed_by s) (enumerate_from 0 (segments_sent_by (own_side s own) (peer_side s peer))))
 
 -- ---- the opening
 
@@ -110,4 +113,4 @@ opening_by true client server at =
     ∷ framed_by server (1, opening_segment at 0 (next_number client.base) (Flags.rst_flag + Flags.ack_flag)) ∷ []
 
 abbrev pub opening_written : Bool → Sender → Sender → ℕ → List Framed
-opening_written refused client server at = segments_before_horizon microseconds (opening_by refused client server at)
+opening_written refused client server at = segments_before_horizon (ticks_of client.unit) (opening_by refused client server at)

@@ -1,12 +1,11 @@
 //! All segments of a connection as they are written.
 ghost use Rattle.std.specs.Prelude.{◌≡◌, IfOk};
-ghost use Rattle.pcap_records.specs.Instants.{microseconds};
 ghost use Rattle.reassembly.specs.LineLaws.{IsLine};
 ghost use Rattle.reassembly.specs.RecordedView.{recorded_view};
 ghost use Rattle.toxic_defs.specs.DeliveredLines.{delivered_view};
 ghost use Rattle.segment_writer.specs.WrittenConnections.{written_connection};
 ghost use Rattle.segment_writer.specs.WrittenSegments.{written_segments};
-ghost use Rattle.segment_writer.specs.Senders.{line_written, opening_written};
+ghost use Rattle.segment_writer.specs.Senders.{peer_in, line_written, opening_written};
 ghost use Rattle.segment_writer.specs.TimelyLines.{IsTimely};
 
 use crate::framed::{Framed, SegList};
@@ -34,19 +33,12 @@ pub fn segments(
 ) -> Result<SegList, AllocError>
     requires up { IsLine delivered.now.up.line }
     requires down { IsLine delivered.now.down.line }
-    ensures { IfOk result (λ list. list ≡ written_segments microseconds
+    ensures { IfOk result (λ list. list ≡ written_segments recorded.now.up.ticks
         (written_connection conn.now.number conn.now.client conn.now.server (recorded_view recorded.now)
         (delivered_view delivered.now))) }
 {
     let opener = client_in(conn, recorded, 0);
-    let answerer = peer_in(&opener, 0);
-    let opening = opening_segments(
-        alloc,
-        &opener,
-        &answerer,
-        recorded.opened,
-        delivered.refused,
-    )?;
+    let opening = opening_segments(alloc, &opener, recorded.opened, delivered.refused)?;
     let client = client_in(conn, recorded, 1);
     let server = peer_in(&client, 2);
     let ups = turn(alloc, &client, &delivered.up, &delivered.down)?;
@@ -83,14 +75,14 @@ fn turn(
 fn opening_segments(
     alloc: Global,
     client: &Sender,
-    server: &Sender,
     at: Moment,
     refused: bool,
 ) -> Result<Vec<Framed>, AllocError>
-    ensures { IfOk result (λ list. list.items ≡ opening_written refused client.now server.now at) }
+    ensures { IfOk result (λ list. list.items ≡ opening_written refused client.now (peer_in client.now 0) at) }
 {
+    let server = peer_in(client, 0);
     let mut list = Vec::new(alloc);
-    if !at.is_before_horizon() {
+    if !at.is_before_horizon(client.unit) {
         return Ok(list);
     }
     let syn = numbers(client.base, 0, 0);
@@ -98,11 +90,11 @@ fn opening_segments(
     let client_next = client.base.wrapping_add(1);
     if refused {
         let refusal = numbers(0, client_next, 1);
-        list.push(bare_framed(alloc, server, at, refusal, Flags::RST.with(Flags::ACK))?)?;
+        list.push(bare_framed(alloc, &server, at, refusal, Flags::RST.with(Flags::ACK))?)?;
         return Ok(list);
     }
     let answer = numbers(server.base, client_next, 1);
-    list.push(bare_framed(alloc, server, at, answer, Flags::SYN.with(Flags::ACK))?)?;
+    list.push(bare_framed(alloc, &server, at, answer, Flags::SYN.with(Flags::ACK))?)?;
     let third = numbers(client_next, server.base.wrapping_add(1), 2);
     list.push(bare_framed(alloc, client, at, third, Flags::ACK)?)?;
     Ok(list)

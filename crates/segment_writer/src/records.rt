@@ -1,6 +1,6 @@
 //! The records of segments, each made in one exact growth.
 ghost use Rattle.std.specs.Prelude.{◌≡◌, ◌≤◌, ◌<◌, ◌+◌, ◌++◌, length, drop, take, replicate, IfOk, if◌then◌else◌};
-ghost use Rattle.pcap_records.specs.Instants.{horizon, microseconds};
+ghost use Rattle.pcap_records.specs.Instants.{horizon, ticks_of};
 ghost use Rattle.pcap_records.specs.Reading.{record_header_len};
 ghost use Rattle.pcap_records.specs.Writing.{record_header};
 ghost use Rattle.frame_headers.specs.Flags.{psh_flag, ack_flag};
@@ -15,19 +15,19 @@ use crate::framed::Framed;
 use crate::pieces::{Cursor, copy_piece, is_border, part_at};
 use crate::senders::{Numbers, Sender, header_with, key_at};
 use frame_headers::{Flags, HEADERS_LEN, Header, put_headers};
-use pcap_records::{Moment, RECORD_HEADER_LEN, Values, record_header_bytes};
+use pcap_records::{Moment, RECORD_HEADER_LEN, Unit, Values, record_header_bytes};
 use reassembly::LinePart;
 use std::alloc::{AllocError, Global};
 
 // The header of a record whose frame has `len` bytes of payload, and room for the frame: 0 in place of its headers.
-fn open_record(alloc: Global, at: Moment, len: usize) -> Result<Vec<u8>, AllocError>
-    requires early { at < horizon microseconds }
+fn open_record(alloc: Global, at: Moment, len: usize, unit: Unit) -> Result<Vec<u8>, AllocError>
+    requires early { at < horizon (ticks_of unit) }
     requires small { len ≤ payload_limit }
-    ensures { IfOk result (λ bytes. bytes.items ≡ record_header microseconds at (headers_len + len)
+    ensures { IfOk result (λ bytes. bytes.items ≡ record_header (ticks_of unit) at (headers_len + len)
         ++ replicate headers_len 0) }
 {
     let mut bytes = Vec::with_capacity(alloc, RECORD_HEADER_LEN + HEADERS_LEN + len)?;
-    let header = record_header_bytes(at, (HEADERS_LEN + len) as u32);
+    let header = record_header_bytes(at, (HEADERS_LEN + len) as u32, unit);
     bytes.extend_from_slice(&header)?;
     bytes.extend_from_slice(&[0; HEADERS_LEN])?;
     Ok(bytes)
@@ -63,11 +63,11 @@ pub(crate) fn bare_framed(
     numbers: Numbers,
     flags: Flags,
 ) -> Result<Framed, AllocError>
-    requires { at < horizon microseconds }
+    requires { at < horizon (ticks_of sender.now.unit) }
     ensures { IfOk result (λ framed. framed
         ≡ framed_by sender.now (numbers.place, opening_segment at numbers.seq numbers.ack flags)) }
 {
-    let mut bytes = open_record(alloc, at, 0)?;
+    let mut bytes = open_record(alloc, at, 0, sender.unit)?;
     let header = header_with(sender, numbers, flags);
     close_record(&mut bytes, &header);
     Ok(Framed {
@@ -88,7 +88,7 @@ pub(crate) fn piece_framed(
     requires cursor { IsCursor own.now from }
     requires before { from.part < length own.now }
     requires len { len ≡ piece_size payload_limit (left_at own.now from) }
-    requires early { first_instant (left_at own.now from) < horizon microseconds }
+    requires early { first_instant (left_at own.now from) < horizon (ticks_of sender.now.unit) }
     ensures framed { IfOk result (λ r. r.0
         ≡ framed_by sender.now
         (numbers.place, piece_segment numbers.seq numbers.ack (first_of payload_limit (left_at own.now from)))) }
@@ -96,7 +96,7 @@ pub(crate) fn piece_framed(
     ensures left { IfOk result (λ r. left_at own.now r.1 ≡ drop len (left_at own.now from)) }
 {
     let at = part_at(own, from.part).at;
-    let mut bytes = open_record(alloc, at, len)?;
+    let mut bytes = open_record(alloc, at, len, sender.unit)?;
     let after = copy_piece(&mut bytes, own, from, len)?;
     let flags = piece_flags(is_border(own, after));
     let header = header_with(sender, numbers, flags);

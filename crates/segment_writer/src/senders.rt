@@ -1,5 +1,6 @@
 //! Who sends segments, and what the headers of these say.
 ghost use Rattle.std.specs.Prelude.{◌≡◌};
+ghost use Rattle.pcap_records.specs.Instants.{ticks_of};
 ghost use Rattle.reassembly.specs.RecordedView.{recorded_view};
 ghost use Rattle.toxic_defs.specs.DeliveredLines.{DeliveredConnection};
 ghost use Rattle.segment_writer.specs.WrittenConnections.{written_connection};
@@ -8,12 +9,13 @@ ghost use Rattle.segment_writer.specs.Senders.{client_in, peer_in, header_with};
 use crate::framed::SegKey;
 use conn_table::Conn;
 use frame_headers::{Flags, Header, Peer};
-use pcap_records::Moment;
+use pcap_records::{Moment, Unit};
 use reassembly::Recorded;
 
-/// Who sends the segments of a turn.
+/// Who sends the segments of a turn, and in which unit instants count.
 #[derive(Clone, Copy)]
 pub(crate) struct Sender {
+    pub unit: Unit,
     pub conn: u32,
     pub turn: u8,
     pub mac_from: [u8; 6],
@@ -34,12 +36,14 @@ pub(crate) struct Numbers {
 
 /// The client of a connection, in a turn.
 pub(crate) fn client_in(conn: &Conn, recorded: &Recorded<'_>, turn: u8) -> Sender
-    ensures { (d : DeliveredConnection) → result ≡ client_in
+    ensures ticks { ticks_of result.unit ≡ recorded.now.up.ticks }
+    ensures sender { (d : DeliveredConnection) → result ≡ client_in result.unit
         (written_connection conn.now.number conn.now.client conn.now.server (recorded_view recorded.now) d) turn }
 {
     let mac_from = recorded.mac_client;
     let mac_to = recorded.mac_server;
     Sender {
+        unit: recorded.up.unit(),
         conn: conn.number,
         turn,
         mac_from,
@@ -58,6 +62,7 @@ pub(crate) fn peer_in(sender: &Sender, turn: u8) -> Sender
     let mac_from = sender.mac_to;
     let mac_to = sender.mac_from;
     Sender {
+        unit: sender.unit,
         conn: sender.conn,
         turn,
         mac_from,

@@ -1,7 +1,7 @@
 //! The segments of a line, in one pass over its parts and those of the peer's line, and the numbers that say what was delivered of
 //! the peer's line before an instant (RFC 9293 section 3.4).
 ghost use Rattle.std.specs.Prelude.{◌≡◌, ◌≤◌, ◌<◌, ◌+◌, ◌%◌, ◌||◌, true, false, ℕ, length, nat_lt, IfOk};
-ghost use Rattle.pcap_records.specs.Instants.{horizon, microseconds};
+ghost use Rattle.pcap_records.specs.Instants.{horizon, ticks_of};
 ghost use Rattle.reassembly.specs.LineView.{bytes_of_parts, line_of, end_view};
 ghost use Rattle.reassembly.specs.RecordedLines.{live};
 ghost use Rattle.reassembly.specs.Positions.{sequence_space};
@@ -15,7 +15,7 @@ use crate::pieces::{Cursor, next_filled, part_at, piece_len};
 use crate::records::{bare_framed, piece_framed};
 use crate::senders::{Numbers, Sender};
 use frame_headers::Flags;
-use pcap_records::Moment;
+use pcap_records::{Moment, Unit};
 use reassembly::{End, LinePart};
 use std::alloc::{AllocError, Global};
 
@@ -43,7 +43,7 @@ pub(crate) fn line_segments(
     let mut place = 0u32;
     'pieces: while from.part < own.len() {
         let at = part_at(own, from.part).at;
-        if is_late(at) {
+        if is_late(at, sender.unit) {
             return Ok(list);
         }
         heard = hear(peer, heard, at);
@@ -58,7 +58,7 @@ pub(crate) fn line_segments(
     let Some(ending) = ending_of(own_end) else {
         return Ok(list);
     };
-    if is_late(ending.at) {
+    if is_late(ending.at, sender.unit) {
         return Ok(list);
     }
     let all = hear(peer, heard, ending.at);
@@ -67,12 +67,12 @@ pub(crate) fn line_segments(
     Ok(list)
 }
 
-// Whether an instant is the horizon.
-fn is_late(at: Moment) -> bool
-    ensures late { result ≡ true → horizon microseconds ≤ at }
-    ensures early { result ≡ false → at < horizon microseconds }
+// Whether an instant is a unit's horizon.
+fn is_late(at: Moment, unit: Unit) -> bool
+    ensures late { result ≡ true → horizon (ticks_of unit) ≤ at }
+    ensures early { result ≡ false → at < horizon (ticks_of unit) }
 {
-    !at.is_before_horizon()
+    !at.is_before_horizon(unit)
 }
 
 // The numbers of a segment after so many bytes, when so much of the peer's line was heard.

@@ -1,5 +1,6 @@
 use Rattle.std.proofs.Common.{◌≡◌, ◌∙◌, ◌++◌, ap, sym}
 use Rattle.std.proofs.lemmas.Result.{IfOk-weaker}
+use Rattle.pcap_records.specs.declared.unit.Unit.{Unit}
 use Rattle.reassembly.specs.RecordedView.{recorded_view}
 use Rattle.toxic_defs.specs.DeliveredLines.{DeliveredConnection, delivered_view}
 use Rattle.segment_writer.specs.WrittenConnections.{written_connection}
@@ -24,11 +25,11 @@ pub join-requires-clause-left : goal.join-requires-clause-left
 join-requires-clause-left c =
     let d : DeliveredConnection = delivered_view c.args.delivered.now in
     let w : WrittenConnection = written_connection c.args.conn.now.number c.args.conn.now.client c.args.conn.now.server (recorded_view c.args.recorded.now) d in
-    let opener = c.client_in-opener.ensures d in
-    let answerer = c.peer_in-answerer.ensures ∙ ap (λ s. peer_in s 0) opener in
-    let is : c.of.result ≡ opening_written w.refused (client_in w 0) (server_in w 0) w.opened =
-    c.of.ensures ∙ c.in_ok-opening.ensures ∙ (λ i. opening_written w.refused (opener i) (answerer i) w.opened) in
-    ap sorted_by_key is ∙ opening_sorted w.refused w w.opened ∙ sym is
+    let unit : Unit = c.client_in-opener.result.unit in
+    let opener = c.client_in-opener.ensures.sender d in
+    let is : c.of.result ≡ opening_written w.refused (client_in unit w 0) (server_in unit w 0) w.opened =
+    c.of.ensures ∙ c.in_ok-opening.ensures ∙ ap (λ s. opening_written w.refused s (peer_in s 0) w.opened) opener in
+    ap sorted_by_key is ∙ opening_sorted unit w.refused w w.opened ∙ sym is
 
 pub join-requires-clause-right : goal.join-requires-clause-right
 join-requires-clause-right c =
@@ -49,13 +50,15 @@ pub returns : goal.returns
 returns c =
     let d : DeliveredConnection = delivered_view c.args.delivered.now in
     let w : WrittenConnection = written_connection c.args.conn.now.number c.args.conn.now.client c.args.conn.now.server (recorded_view c.args.recorded.now) d in
-    let opener = c.client_in-opener.ensures d in
-    let answerer = c.peer_in-answerer.ensures ∙ ap (λ s. peer_in s 0) opener in
-    let opening : c.of.result ≡ opening_written w.refused (client_in w 0) (server_in w 0) w.opened =
-    c.of.ensures ∙ c.in_ok-opening.ensures ∙ (λ i. opening_written w.refused (opener i) (answerer i) w.opened) in
-    let ups : c.in_ok-ups.ups ≡ line_written (client_in w 1) w.client.line w.server.line = c.in_ok-ups.ensures ∙ ap (λ s. line_written s w.client.line w.server.line) (c.client_in-client.ensures d) in
-    let server = c.peer_in-server.ensures ∙ ap (λ s. peer_in s 2) (c.client_in-client.ensures d) in
-    let downs : c.in_ok-downs.downs ≡ line_written (server_in w 2) w.server.line w.client.line = c.in_ok-downs.ensures ∙ ap (λ s. line_written s w.server.line w.client.line) server in
-    let begun : c.in_ok-begun.begun ≡ sorted_by_key (opening_written w.refused (client_in w 0) (server_in w 0) w.opened ++ line_written (client_in w 1) w.client.line w.server.line) =
+    let first : Unit = c.client_in-opener.result.unit in
+    let unit : Unit = c.client_in-client.result.unit in
+    let opener = c.client_in-opener.ensures.sender d in
+    let client = c.client_in-client.ensures.sender d in
+    let opening : c.of.result ≡ opening_written w.refused (client_in first w 0) (server_in first w 0) w.opened =
+    c.of.ensures ∙ c.in_ok-opening.ensures ∙ ap (λ s. opening_written w.refused s (peer_in s 0) w.opened) opener in
+    let ups : c.in_ok-ups.ups ≡ line_written (client_in unit w 1) w.client.line w.server.line = c.in_ok-ups.ensures ∙ ap (λ s. line_written s w.client.line w.server.line) client in
+    let server = c.peer_in-server.ensures ∙ ap (λ s. peer_in s 2) client in
+    let downs : c.in_ok-downs.downs ≡ line_written (server_in unit w 2) w.server.line w.client.line = c.in_ok-downs.ensures ∙ ap (λ s. line_written s w.server.line w.client.line) server in
+    let begun : c.in_ok-begun.begun ≡ sorted_by_key (opening_written w.refused (client_in first w 0) (server_in first w 0) w.opened ++ line_written (client_in unit w 1) w.client.line w.server.line) =
     c.in_ok-begun.ensures ∙ (λ i. sorted_by_key (opening i ++ ups i)) in
-    IfOk-weaker c.join-2.result _ _ (λ list h. h ∙ (λ i. sorted_by_key (begun i ++ downs i)) ∙ segments_are w (lines_are_timely _ c.requires.down)) c.join-2.ensures
+    IfOk-weaker c.join-2.result _ _ (λ list h. h ∙ (λ i. sorted_by_key (begun i ++ downs i)) ∙ segments_are first unit _ w c.client_in-opener.ensures.ticks c.client_in-client.ensures.ticks (lines_are_timely _ c.requires.down)) c.join-2.ensures

@@ -1,5 +1,5 @@
 -- The order of keyed segments: it is that of keys, and a list in order of key has its keyed segments in order.
-use Rattle.std.proofs.Common.{◌≡◌, ℕ, zero, suc, ◌+◌, ◌<◌, ◌≤◌, Bool, true, false, cond, ◌||◌, ◌&&◌, ◌==◌, nat_lt, nat_cmp, is_lt, List, [], ◌∷◌, length, map, slice_index_or, refl, sym, ap, ap₂, ◌∙◌, subst, Ordering, Less, Equal, Greater, arith, add-one}
+use Rattle.std.proofs.Common.{◌≡◌, ℕ, zero, suc, ◌+◌, ◌<◌, ◌≤◌, Bool, false, ◌==◌, nat_lt, nat_cmp, is_lt, List, [], ◌∷◌, length, map, slice_index_or, refl, sym, ap₂, ◌∙◌, subst, Ordering, Less, Equal, Greater, arith, add-one}
 use Rattle.std.specs.Ordering.{ordering_then, is_some_and, partial_lt}
 use Rattle.std.specs.Cmp.{IsStrictWeakOrder}
 use Rattle.std.specs.List.{All}

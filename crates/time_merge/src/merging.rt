@@ -7,7 +7,7 @@ ghost use Rattle.time_merge.specs.MergedCapture.{all_segments};
 ghost use Rattle.time_merge.specs.KeyedSegments.{IsKeyed, all_keyed_segments, keyed_cmp, segment_of};
 
 use itertools::Itertools;
-use pcap_records::{FILE_HEADER_LEN, write_header};
+use pcap_records::{FILE_HEADER_LEN, Unit, write_header};
 use segment_writer::laws::{one_order, sorted_never_falls};
 use segment_writer::{Framed, SegKey, SegList};
 use std::alloc::{AllocError, Global};
@@ -64,7 +64,7 @@ impl Model for Merged {
 
 impl Merged {
     ghost use Rattle.std.specs.Prelude.{All, IfOk, map};
-    ghost use Rattle.pcap_records.specs.Instants.{microseconds};
+    ghost use Rattle.pcap_records.specs.Instants.{ticks_of};
     ghost use Rattle.time_merge.specs.MergedCapture.{capture_in_turn};
     ghost use Rattle.time_merge.specs.KeyedSegments.{IsKeyed, segment_of};
 
@@ -76,16 +76,16 @@ impl Merged {
         Merged { lists, order }
     }
 
-    /// The capture of the segments: the header of a file, and the record of each segment in turn. Its length is known before the
-    /// first byte is written, so that memory is asked for once.
+    /// The capture of the segments, whose instants count in `unit`: the header of a file, and the record of each segment in turn.
+    /// Its length is known before the first byte is written, so that memory is asked for once.
     ///
     /// # Errors
     /// Where that growth is refused.
-    pub fn capture(&self, alloc: Global) -> Result<Vec<u8>, AllocError>
-        ensures { IfOk result (λ bytes. bytes.items ≡ capture_in_turn microseconds self.now) }
+    pub fn capture(&self, alloc: Global, unit: Unit) -> Result<Vec<u8>, AllocError>
+        ensures { IfOk result (λ bytes. bytes.items ≡ capture_in_turn (ticks_of unit) self.now) }
     {
         let mut bytes = Vec::with_capacity(alloc, self.capture_len())?;
-        write_header(&mut bytes)?;
+        write_header(&mut bytes, unit)?;
         for keyed in &self.order {
             let segment = segment_of(&self.lists, keyed);
             bytes.extend_from_slice(segment.bytes.as_slice())?;

@@ -18,32 +18,32 @@ use Rattle.conn_workers.proofs.RowLemmas.{length-rows, some_columns, at_place, r
 use Rattle.conn_workers.proofs.TableConnections.{connections_are, conns_are}
 
 -- of the table's connection and what is recorded of it, or of the connection
-delivery_is : (ticks seed : ℕ) (c : CaptureView) (s : ℕ × List Proxy) (x : IndexedConnection) → recorded_delivery ticks seed s (recording_in c x) ≡ delivery_of ticks seed s (without_indices x)
+delivery_is : (seed : ℕ) (c : CaptureView) (s : ℕ × List Proxy) (x : IndexedConnection) → recorded_delivery seed s (recording_in c x) ≡ delivery_of c.ticks seed s (without_indices x)
 unfolding contribution
-delivery_is ticks seed c s x = refl
+delivery_is seed c s x = refl
 
-pub deliveries_are : IndexedConnectionsAgree → (ticks seed : ℕ) (c : CaptureView) (scenarios : List (List Proxy))
-    → recorded_deliveries ticks seed (recordings_of c) scenarios ≡ deliveries ticks seed (connections_of (seen_capture (contents_of c))) scenarios
+pub deliveries_are : IndexedConnectionsAgree → (seed : ℕ) (c : CaptureView) (scenarios : List (List Proxy))
+    → recorded_deliveries seed (recordings_of c) scenarios ≡ deliveries c.ticks seed (connections_of (seen_capture (contents_of c))) scenarios
 unfolding recorded_deliveries deliveries
-deliveries_are agree ticks seed c scenarios =
-    rows_alike (recorded_delivery ticks seed) (delivery_of ticks seed) (recording_in c) without_indices (delivery_is ticks seed c) (enumerate_from 0 scenarios) (whole_connections c)
-    ∙ ap (λ conns. deliveries ticks seed conns scenarios) (connections_are agree c)
+deliveries_are agree seed c scenarios =
+    rows_alike (recorded_delivery seed) (delivery_of c.ticks seed) (recording_in c) without_indices (delivery_is seed c) (enumerate_from 0 scenarios) (whole_connections c)
+    ∙ ap (λ conns. deliveries c.ticks seed conns scenarios) (connections_are agree c)
 
 -- ---- by jobs
 
-pub length-recorded_deliveries : (ticks seed : ℕ) (recordings : List RecordingView) (scenarios : List (List Proxy))
-    → length (recorded_deliveries ticks seed recordings scenarios) ≡ length scenarios * length recordings
+pub length-recorded_deliveries : (seed : ℕ) (recordings : List RecordingView) (scenarios : List (List Proxy))
+    → length (recorded_deliveries seed recordings scenarios) ≡ length scenarios * length recordings
 unfolding recorded_deliveries
-length-recorded_deliveries ticks seed recordings scenarios =
-    length-rows (recorded_delivery ticks seed) (enumerate_from 0 scenarios) recordings ∙ ap (λ n. n * length recordings) (length-enumerate_from 0 scenarios)
+length-recorded_deliveries seed recordings scenarios =
+    length-rows (recorded_delivery seed) (enumerate_from 0 scenarios) recordings ∙ ap (λ n. n * length recordings) (length-enumerate_from 0 scenarios)
 
 -- the delivery of a job, whatever stands past the last of either list
-pub job_is : (ticks seed : ℕ) (recordings : List RecordingView) (scenarios : List (List Proxy)) (job : ℕ) (r : RecordingView) (proxies : List Proxy)
+pub job_is : (seed : ℕ) (recordings : List RecordingView) (scenarios : List (List Proxy)) (job : ℕ) (r : RecordingView) (proxies : List Proxy)
     → job < length scenarios * length recordings
-    → recorded_delivery ticks seed (job / length recordings, get_or scenarios (job / length recordings) proxies) (get_or recordings (job % length recordings) r)
-    ≡ get_or (recorded_deliveries ticks seed recordings scenarios) job no_delivery
+    → recorded_delivery seed (job / length recordings, get_or scenarios (job / length recordings) proxies) (get_or recordings (job % length recordings) r)
+    ≡ get_or (recorded_deliveries seed recordings scenarios) job no_delivery
 unfolding recorded_deliveries
-job_is ticks seed recordings scenarios job r proxies below =
+job_is seed recordings scenarios job r proxies below =
     let count : ℕ = length recordings in
     let some : 0 < count = some_columns job (length scenarios) count below in
     let row : job / count < length scenarios = div_below job count (length scenarios) some below in
@@ -52,8 +52,8 @@ job_is ticks seed recordings scenarios job r proxies below =
     get_or-enumerate_from 0 scenarios (job / count) (0, proxies) row
     ∙ ap (λ (n : ℕ). let p : ℕ × List Proxy = (n, get_or scenarios (job / count) proxies) in p) zero_on in
     let inside : job < length (enumerate_from 0 scenarios) * count = rw (length-enumerate_from 0 scenarios) below in
-    sym (at_place (recorded_delivery ticks seed) (enumerate_from 0 scenarios) recordings job no_delivery (0, proxies) r some inside
-    ∙ ap (λ s. recorded_delivery ticks seed s (get_or recordings (job % count) r)) numbered)
+    sym (at_place (recorded_delivery seed) (enumerate_from 0 scenarios) recordings job no_delivery (0, proxies) r some inside
+    ∙ ap (λ s. recorded_delivery seed s (get_or recordings (job % count) r)) numbered)
 
 -- all jobs of the first work give the recordings
 pub all_recordings : (c : CaptureView) (n : ℕ) → n ≡ length (whole_table c).conns → map (λ j. get_or (recordings_of c) j no_recording) (range_with_len 0 n) ≡ recordings_of c

@@ -1,6 +1,6 @@
 -- What the table of a capture shows of its connections, with what is recorded of them, and what they contribute by
 -- that.
-use Rattle.std.specs.Prelude.{List, [], map, None, ℕ}
+use Rattle.std.specs.Prelude.{◌≡◌, List, [], map, None, ℕ}
 use Rattle.pcap_records.specs.CaptureView.{CaptureView}
 use Rattle.frame_headers.specs.declared.peers.Peer.{Peer}
 use Rattle.conn_table.specs.IndexedConnections.{IndexedConnection, without_indices}
@@ -20,43 +20,46 @@ use Rattle.conn_workers.specs.declared.deliveries.Delivery.{Delivery}
 use Rattle.conn_workers.specs.DeliveryRows.{rows}
 use Rattle.conn_workers.specs.MetProxies.{met_proxy}
 
+-- the ticks of a second, what the table shows of a connection, and what is recorded of it
 pub record RecordingView : Type 0 where
+  pub ticks : ℕ
   pub conn : Conn
   pub recorded : RecordedConnection
 
 abbrev pub recording_in : CaptureView → IndexedConnection → RecordingView
-recording_in c x = record { conn = conn_in c x; recorded = recorded_connection (without_indices x) }
+recording_in c x = record { ticks = c.ticks; conn = conn_in c x; recorded = recorded_connection (without_indices x) }
 
 -- those of all connections of the table of all records
 abbrev pub recordings_of : CaptureView → List RecordingView
 recordings_of c = map (recording_in c) (whole_connections c)
 
--- what is recorded of both sides are lines
+-- what is recorded of both sides are lines, with as many ticks a second
 pub record HasLines (r : Recorded) : Type 0 where
   pub up : IsLine r.up.line
   pub down : IsLine r.down.line
+  pub one_unit : r.down.ticks ≡ r.up.ticks
 
 -- ---- what they contribute to scenarios
 
 -- what a connection contributes, by what is delivered of it
-abbrev pub recorded_delivery_by : ℕ → ℕ → RecordingView → DeliveredConnection → Delivery
-recorded_delivery_by ticks number r d = record {
+abbrev pub recorded_delivery_by : ℕ → RecordingView → DeliveredConnection → Delivery
+recorded_delivery_by number r d = record {
   scenario = number;
   conn = r.conn.number;
-  segments = written_segments ticks (written_connection r.conn.number r.conn.client r.conn.server r.recorded d);
+  segments = written_segments r.ticks (written_connection r.conn.number r.conn.client r.conn.server r.recorded d);
   line = connection_text r.conn.number r.conn.client r.conn.server r.recorded d;
 }
 
 -- the same to a scenario with its number
-abbrev pub recorded_delivery : ℕ → ℕ → ℕ × List Proxy → RecordingView → Delivery
-recorded_delivery ticks seed (number, proxies) r =
-    recorded_delivery_by ticks number r
-    (delivered_connection ticks seed number r.conn.number (met_proxy r.conn.server proxies) r.recorded)
+abbrev pub recorded_delivery : ℕ → ℕ × List Proxy → RecordingView → Delivery
+recorded_delivery seed (number, proxies) r =
+    recorded_delivery_by number r
+    (delivered_connection r.ticks seed number r.conn.number (met_proxy r.conn.server proxies) r.recorded)
 
 -- what all contribute to all scenarios, row by row
-unfoldable pub recorded_deliveries : ℕ → ℕ → List RecordingView → List (List Proxy) → List Delivery
-recorded_deliveries ticks seed recordings scenarios =
-    rows (recorded_delivery ticks seed) (enumerate_from 0 scenarios) recordings
+unfoldable pub recorded_deliveries : ℕ → List RecordingView → List (List Proxy) → List Delivery
+recorded_deliveries seed recordings scenarios =
+    rows (recorded_delivery seed) (enumerate_from 0 scenarios) recordings
 
 -- ---- what stands past the last of a list
 
@@ -68,6 +71,7 @@ no_side = record { line = empty_line; lost = 0 }
 
 abbrev pub no_recording : RecordingView
 no_recording = record {
+  ticks = 0;
   conn = record { number = 0; opening = 0; opened = 0; client = no_peer; server = no_peer; members = [] };
   recorded = record {
     up = no_side;

@@ -1,7 +1,6 @@
 //! What each connection of a capture contributes to each scenario.
 ghost use Rattle.std.specs.Prelude.{◌≡◌, ◌≤◌, length, IfOk};
 ghost use Rattle.pcap_records.specs.CaptureView.{contents_of};
-ghost use Rattle.pcap_records.specs.Instants.{microseconds};
 ghost use Rattle.conn_table.specs.SeenCapture.{seen_capture};
 ghost use Rattle.conn_workers.specs.DeliveryRows.{scenario_limit, connections_of, deliveries};
 ghost use Rattle.conn_workers.specs.CaptureTables.{whole_table};
@@ -55,7 +54,7 @@ pub fn deliver<R: Threads + Sync, G: Gate>(
     requires table { table.now ≡ whole_table capture.now }
     requires few { length scenarios.now ≤ scenario_limit }
     ensures { IfOk result (λ v.
-        v ≡ deliveries microseconds seed (connections_of (seen_capture (contents_of capture.now))) scenarios.now) }
+        v ≡ deliveries capture.now.ticks seed (connections_of (seen_capture (contents_of capture.now))) scenarios.now) }
 {
     indexed_connections_agree();
     let workers = plan.workers() as u64;

@@ -1,7 +1,6 @@
 //! The two works of a delivery: what is recorded of each connection, and what each connection contributes to each
 //! scenario.
 ghost use Rattle.std.specs.Prelude.{◌≡◌, ◌≤◌, IfOk, IfSome, length, option_map};
-ghost use Rattle.pcap_records.specs.Instants.{microseconds};
 ghost use Rattle.toxic_defs.specs.DeliveredLines.{met_view};
 ghost use Rattle.toxic_defs.specs.Limits.{most_toxics};
 ghost use Rattle.conn_workers.specs.CaptureTables.{whole_table};
@@ -38,7 +37,11 @@ impl<'w, 'a> Model for Recording<'w, 'a> {
 
     ghost Value = { RecordingView };
 
-    ghost view = { λ r. record { conn = r.conn.now; recorded = recorded_view r.recorded } };
+    ghost view = { λ r. record {
+      ticks = r.recorded.up.ticks;
+      conn = r.conn.now;
+      recorded = recorded_view r.recorded;
+    } };
 
     ghost invariant = { λ r. HasLines r.recorded };
 }
@@ -93,13 +96,12 @@ impl<'w, 'v, 'a> Work for ContributionJobs<'w, 'v, 'a> {
     type Out = Delivery;
 
     ghost use Rattle.std.specs.Prelude.{◌≡◌, ◌<◌, ◌*◌, length, get_or, IfOk};
-    ghost use Rattle.pcap_records.specs.Instants.{microseconds};
     ghost use Rattle.conn_workers.specs.Recordings.{recorded_deliveries, no_delivery};
 
     ghost jobs = { λ w. length w.scenarios.now * length w.recordings.now };
 
     ghost meaning = { λ w job.
-        get_or (recorded_deliveries microseconds w.seed w.recordings.now w.scenarios.now) job no_delivery };
+        get_or (recorded_deliveries w.seed w.recordings.now w.scenarios.now) job no_delivery };
 
     #[tactic(auto, using(crate::proofs::DeliverySteps::job_is))]
     fn value(&self, job: u64) -> Result<Delivery, AllocError> {
@@ -119,7 +121,7 @@ fn delivery(
     scenario: &Scenario,
     seed: u64,
 ) -> Result<Delivery, AllocError>
-    ensures { IfOk result (λ d. d ≡ recorded_delivery microseconds seed (number, scenario.now) recording.now) }
+    ensures { IfOk result (λ d. d ≡ recorded_delivery seed (number, scenario.now) recording.now) }
 {
     let conn = recording.conn;
     let recorded = &recording.recorded;

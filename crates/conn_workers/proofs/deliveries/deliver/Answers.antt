@@ -1,6 +1,5 @@
 use Rattle.std.proofs.Common.{◌*◌, length, sym, ap, ◌∙◌, arith}
 use Rattle.std.proofs.lemmas.Result.{IfOk-weaker}
-use Rattle.pcap_records.specs.Instants.{microseconds}
 use Rattle.conn_workers.specs.Recordings.{recorded_deliveries, no_delivery}
 use Rattle.pcap_records.proofs.Lists.{listed}
 use Rattle.conn_workers.proofs.TableConnections.{few_conns}
@@ -28,8 +27,8 @@ returns g c =
     let conns = ap length (c.conns-conns.ensures ∙ ap (λ t. t.conns) c.requires.table) in
     let recorded = c.as_slice.ensures ∙ c.in_ok-recordings.ensures ∙ all_recordings capture (length c.conns-conns.result.now) conns in
     let same = ap length recorded ∙ as_many capture ∙ sym conns in
-    let len = length-recorded_deliveries microseconds c.args.seed c.as_slice.result.now scenarios ∙ ap (λ n. length scenarios * n) same in
+    let len = length-recorded_deliveries c.args.seed c.as_slice.result.now scenarios ∙ ap (λ n. length scenarios * n) same in
     IfOk-weaker c.work_all-2.result _ _
-    (λ v is. is ∙ listed (recorded_deliveries microseconds c.args.seed c.as_slice.result.now scenarios) (length scenarios * length c.conns-conns.result.now) no_delivery len
-    ∙ ap (λ rs. recorded_deliveries microseconds c.args.seed rs scenarios) recorded ∙ deliveries_are c.indexed_connections_agree.ensures microseconds c.args.seed capture scenarios)
+    (λ v is. is ∙ listed (recorded_deliveries c.args.seed c.as_slice.result.now scenarios) (length scenarios * length c.conns-conns.result.now) no_delivery len
+    ∙ ap (λ rs. recorded_deliveries c.args.seed rs scenarios) recorded ∙ deliveries_are c.indexed_connections_agree.ensures c.args.seed capture scenarios)
     c.work_all-2.ensures

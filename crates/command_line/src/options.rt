@@ -32,8 +32,8 @@ const VERSION: &str = "1.0.0";
 
 const FORMS: &str = "\
 1.0.0
-captures:  classic pcap 2.4 in microseconds, Ethernet, IPv4, TCP;
-           or a dump of one as hexadecimal digits
+captures:  classic pcap 2.4 in microseconds or nanoseconds, Ethernet,
+           IPv4, TCP; or a dump of one as hexadecimal digits
 scenarios: JSON in the form of Toxiproxy's populate call, with each proxy's
            toxics as its member \"toxics\"";
 

@@ -4,7 +4,6 @@ use Rattle.std.specs.List.{All, enumerate_from, flat_map}
 use Rattle.std.proofs.lemmas.List.Elements.{All-nil, All-cons}
 use Rattle.std.proofs.lemmas.List.Folds.{flat_map-map}
 use Rattle.std.proofs.lemmas.List.FromFn.{length-enumerate_from}
-use Rattle.pcap_records.specs.Instants.{microseconds}
 use Rattle.conn_table.specs.SeenCapture.{SeenCapture}
 use Rattle.conn_table.specs.IndexedSegments.{IndexedSegment, indexed_segments}
 use Rattle.conn_table.specs.Connections.{Connection, connection_of, beginnings, connections, unopened_count}
@@ -86,25 +85,23 @@ next_number scenarios number within = own_number scenarios number (0, []) within
 
 -- the next so many deliveries are those of the next scenario
 pub next_row : (seed : ℕ) (c : SeenCapture) (scenarios : List (List Proxy)) (number : ℕ) → number < length scenarios → (count : ℕ) (left : List Delivery) → count ≡ length (connections_of c)
-    → left ≡ rows (delivery_of microseconds seed) (drop number (enumerate_from 0 scenarios)) (connections_of c)
-    → take count left ≡ map (delivery_of microseconds seed (next_scenario scenarios number)) (connections_of c)
+    → left ≡ rows (delivery_of c.ticks seed) (drop number (enumerate_from 0 scenarios)) (connections_of c)
+    → take count left ≡ map (delivery_of c.ticks seed (next_scenario scenarios number)) (connections_of c)
 next_row seed c scenarios number within count left wide is =
     let inside : number < length (enumerate_from 0 scenarios) = omega (arith, within, length-enumerate_from 0 scenarios) in
-    ap₂ take wide is ∙ row_taken (delivery_of microseconds seed) (enumerate_from 0 scenarios) (connections_of c) number (0, []) inside
+    ap₂ take wide is ∙ row_taken (delivery_of c.ticks seed) (enumerate_from 0 scenarios) (connections_of c) number (0, []) inside
 
 -- ---- what is gathered of a row is the output of its scenario
 
-pub gathered_is : (c : SeenCapture) → c.ticks ≡ microseconds → (seed : ℕ) (s : ℕ × List Proxy) (number unopened : ℕ) → number ≡ s.0 → unopened ≡ unopened_count (indexed_segments 0 c.packets)
-    → let row = map (delivery_of microseconds seed s) (connections_of c) in
+pub gathered_is : (c : SeenCapture) (seed : ℕ) (s : ℕ × List Proxy) (number unopened : ℕ) → number ≡ s.0 → unopened ≡ unopened_count (indexed_segments 0 c.packets)
+    → let row = map (delivery_of c.ticks seed s) (connections_of c) in
     gathered_output c number unopened (segments_in row) (lines_in row) ≡ output c seed s
 unfolding output
-gathered_is c counted seed s number unopened own count =
+gathered_is c seed s number unopened own count =
     let cs : List Connection = connections_of c in
-    let captures : capture_of microseconds (all_segments (segments_in (map (delivery_of microseconds seed s) cs))) ≡ capture_of c.ticks (flat_map (λ (p : Contribution). p.segments) (contributions c seed s)) =
-    ap (capture_of microseconds) (parts_segments microseconds seed s cs)
-    ∙ ap (λ (t : ℕ). capture_of t (flat_map (λ (p : Contribution). p.segments) (map (contribution_of t seed s) cs))) (sym counted) in
-    let reports : report_text number c unopened (lines_in (map (delivery_of microseconds seed s) cs)) ≡ report_text s.0 c (unopened_count (indexed_segments 0 c.packets)) (map (λ (p : Contribution). p.line) (contributions c seed s)) =
-    ap₂ (λ n u. report_text n c u (lines_in (map (delivery_of microseconds seed s) cs))) own count
-    ∙ ap (report_text s.0 c (unopened_count (indexed_segments 0 c.packets))) (parts_lines microseconds seed s cs
-    ∙ ap (λ (t : ℕ). map (λ (p : Contribution). p.line) (map (contribution_of t seed s) cs)) (sym counted)) in
+    let captures : capture_of c.ticks (all_segments (segments_in (map (delivery_of c.ticks seed s) cs))) ≡ capture_of c.ticks (flat_map (λ (p : Contribution). p.segments) (contributions c seed s)) =
+    ap (capture_of c.ticks) (parts_segments c.ticks seed s cs) in
+    let reports : report_text number c unopened (lines_in (map (delivery_of c.ticks seed s) cs)) ≡ report_text s.0 c (unopened_count (indexed_segments 0 c.packets)) (map (λ (p : Contribution). p.line) (contributions c seed s)) =
+    ap₂ (λ n u. report_text n c u (lines_in (map (delivery_of c.ticks seed s) cs))) own count
+    ∙ ap (report_text s.0 c (unopened_count (indexed_segments 0 c.packets))) (parts_lines c.ticks seed s cs) in
     ap₂ (λ (a b : List ℕ). let o : Output = record { capture = a; report = b } in o) captures reports

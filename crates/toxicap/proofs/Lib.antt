@@ -1,6 +1,8 @@
 mod WrittenFrames
 mod SoundConnections
+mod ReadTicks
 mod OutputsRead
+mod AnswersKept
 mod Evaluated
 mod AnswerSteps
 mod RunSteps

@@ -1,12 +1,11 @@
 -- Output captures are read back whole.
-use Rattle.std.proofs.Common.{◌≡◌, ◌≤◌, ℕ, ◌+◌, Bool, true, false, ◌||◌, not, nat_lt, ◌==◌, List, [], ◌∷◌, ◌++◌, length, map, drop, Some, None, Ok, Err, refl, sym, ap, ◌∙◌, subst, arith, if◌then◌else◌}
+use Rattle.std.proofs.Common.{◌≡◌, ◌≤◌, ℕ, ◌+◌, Bool, true, false, ◌||◌, nat_lt, List, [], ◌∷◌, ◌++◌, length, map, Ok, Err, refl, sym, ap, ◌∙◌, subst, arith, if◌then◌else◌}
 use Rattle.std.specs.List.{AllByRecursion, enumerate_from, flat_map}
 use Rattle.std.proofs.lemmas.Bool.{ltb-false}
-use Rattle.pcap_records.specs.declared.fault.CaptureFault.TheVariants.{CaptureTooLong, ShortHeader, BadVersion, BadLink}
-use Rattle.pcap_records.specs.declared.heading.Order.TheVariants.{Big, Little}
 use Rattle.pcap_records.proofs.Lists.{all_append}
-use Rattle.pcap_records.specs.Instants.{microseconds}
-use Rattle.pcap_records.specs.Reading.{Heading, Packet, Contents, Reading, capture_limit, microsecond_heading, number_in, magic, checked_heading, file_heading, reading}
+use Rattle.pcap_records.specs.declared.unit.Unit.{Unit}
+use Rattle.pcap_records.specs.Instants.{ticks_of}
+use Rattle.pcap_records.specs.Reading.{Packet, Contents, capture_limit}
 use Rattle.pcap_records.specs.Writing.{file_header, record_bytes, written_capture, IsWritable, WrittenIsRead}
 use Rattle.pcap_records.specs.Grammar.{ReadingsSplit}
 use Rattle.frame_headers.specs.HeaderLaws.{HeadersAreSound, SegmentsFit}
@@ -27,27 +26,11 @@ use Rattle.conn_workers.specs.Contributions.{contribution, contribution_of}
 use Rattle.conn_table.specs.SeenCapture.{SeenCapture, seen_packets, seen_capture}
 use Rattle.toxicap.specs.Rehearsal.{output, outputs_of, scenario_limit, answer}
 use Rattle.toxicap.specs.SoundOutputs.{NeverFall, IsSoundFrame, IsReadWhole, OutputsAreRead}
+use Rattle.toxicap.proofs.ReadTicks.{reading_unit}
 use Rattle.toxicap.proofs.WrittenFrames.{IsSoundWritten, IsWritten, all-sorted_by_key, segments_are}
 use Rattle.toxicap.proofs.SoundConnections.{HasBytes, IsSoundConnection, packets_have, connections_are, server_base_fits}
 
 -- ---- packets of written segments
-
-packet_with : (x : Framed) → IsWritten x → Packet
-packet_with x is = record { stamp = x.key.moment; bytes = is.is.frame }
-
-packets_of : (xs : List Framed) → AllByRecursion IsWritten xs → List Packet
-packets_of [] all = []
-packets_of (x ∷ xs) all = packet_with x all.0 ∷ packets_of xs all.1
-
-bytes_are : (xs : List Framed) (all : AllByRecursion IsWritten xs) → flat_map (λ x. x.bytes) xs ≡ flat_map (λ p. record_bytes microseconds p.stamp p.bytes) (packets_of xs all)
-unfolding packets_of packet_with
-bytes_are [] all = refl
-bytes_are (x ∷ xs) all = rw (all.0.is.bytes, bytes_are xs all.1) refl
-
-writable : (xs : List Framed) (all : AllByRecursion IsWritten xs) → AllByRecursion (IsWritable microseconds) (packets_of xs all)
-unfolding packets_of packet_with
-writable [] all = tt
-writable (x ∷ xs) all = (record { stamped = all.0.in_time; limited = all.0.is.limited }, writable xs all.1)
 
 -- a key that is not lower is no earlier
 not_earlier : (a b : ℕ) (later : Bool) → nat_lt a b || later ≡ false → b ≤ a
@@ -57,28 +40,53 @@ not_earlier a b later test = by (nat_lt a b) refl test
     by true is test = absurd cc
     by false is test = ltb-false a b is
 
-never_fall : (x : Framed) (xs : List Framed) (all : AllByRecursion IsWritten xs) → NoneLower x.key xs → NeverFalls xs → NeverFall x.key.moment (packets_of xs all)
-unfolding packets_of packet_with
-never_fall x [] all none ordered = tt
-never_fall x (y ∷ ys) all none ordered = (not_earlier y.key.moment x.key.moment _ none.0, never_fall y ys all.1 ordered.0 ordered.1)
+module _ (ticks : ℕ) where
+  packet_with : (x : Framed) → IsWritten ticks x → Packet
+  packet_with x is = record { stamp = x.key.moment; bytes = is.is.frame }
 
-in_time_order : (xs : List Framed) (all : AllByRecursion IsWritten xs) → NeverFalls xs → NeverFall 0 (packets_of xs all)
-unfolding packets_of packet_with
-in_time_order [] all ordered = tt
-in_time_order (x ∷ xs) all ordered = (omega arith, never_fall x xs all.1 ordered.0 ordered.1)
+  packets_of : (xs : List Framed) → AllByRecursion (IsWritten ticks) xs → List Packet
+  packets_of [] all = []
+  packets_of (x ∷ xs) all = packet_with x all.0 ∷ packets_of xs all.1
 
-sound : (xs : List Framed) (all : AllByRecursion IsWritten xs) → AllByRecursion (λ p. IsSoundFrame p.bytes) (packets_of xs all)
-unfolding packets_of packet_with
-sound [] all = tt
-sound (x ∷ xs) all = (all.0.is.sound, sound xs all.1)
+  bytes_are : (xs : List Framed) (all : AllByRecursion (IsWritten ticks) xs) → flat_map (λ x. x.bytes) xs ≡ flat_map (λ p. record_bytes ticks p.stamp p.bytes) (packets_of xs all)
+  unfolding packets_of packet_with
+  bytes_are [] all = refl
+  bytes_are (x ∷ xs) all = rw (all.0.is.bytes, bytes_are xs all.1) refl
 
-capture_read : SortedNeverFalls → WrittenIsRead → (xs : List Framed) → AllByRecursion IsWritten xs → length (capture_of microseconds xs) ≤ capture_limit → IsReadWhole microseconds (capture_of microseconds xs)
+  writable : (xs : List Framed) (all : AllByRecursion (IsWritten ticks) xs) → AllByRecursion (IsWritable ticks) (packets_of xs all)
+  unfolding packets_of packet_with
+  writable [] all = tt
+  writable (x ∷ xs) all = (record { stamped = all.0.in_time; limited = all.0.is.limited }, writable xs all.1)
+
+  never_fall : (x : Framed) (xs : List Framed) (all : AllByRecursion (IsWritten ticks) xs) → NoneLower x.key xs → NeverFalls xs → NeverFall x.key.moment (packets_of xs all)
+  unfolding packets_of packet_with
+  never_fall x [] all none ordered = tt
+  never_fall x (y ∷ ys) all none ordered = (not_earlier y.key.moment x.key.moment _ none.0, never_fall y ys all.1 ordered.0 ordered.1)
+
+  in_time_order : (xs : List Framed) (all : AllByRecursion (IsWritten ticks) xs) → NeverFalls xs → NeverFall 0 (packets_of xs all)
+  unfolding packets_of packet_with
+  in_time_order [] all ordered = tt
+  in_time_order (x ∷ xs) all ordered = (omega arith, never_fall x xs all.1 ordered.0 ordered.1)
+
+  sound : (xs : List Framed) (all : AllByRecursion (IsWritten ticks) xs) → AllByRecursion (λ p. IsSoundFrame p.bytes) (packets_of xs all)
+  unfolding packets_of packet_with
+  sound [] all = tt
+  sound (x ∷ xs) all = (all.0.is.sound, sound xs all.1)
+
+capture_read : SortedNeverFalls → WrittenIsRead → (unit : Unit) (xs : List Framed) → AllByRecursion (IsWritten (ticks_of unit)) xs
+    → length (capture_of (ticks_of unit) xs) ≤ capture_limit → IsReadWhole (ticks_of unit) (capture_of (ticks_of unit) xs)
 unfolding capture_of
-capture_read never_falls written_is_read xs written within =
-    let all = all-sorted_by_key xs written in
-    let packets : List Packet = packets_of (sorted_by_key xs) all in
-    let bytes : file_header microseconds ++ flat_map (λ x. x.bytes) (sorted_by_key xs) ≡ written_capture microseconds packets = ap (λ bs. file_header microseconds ++ bs) (bytes_are (sorted_by_key xs) all) in
-    (packets, rw bytes (written_is_read packets (writable (sorted_by_key xs) all) (rw bytes at within)), in_time_order (sorted_by_key xs) all (never_falls xs), sound (sorted_by_key xs) all)
+capture_read never_falls written_is_read unit xs written within =
+    let ticks : ℕ = ticks_of unit in
+    let all = all-sorted_by_key ticks xs written in
+    let packets : List Packet = packets_of ticks (sorted_by_key xs) all in
+    let bytes : file_header ticks ++ flat_map (λ x. x.bytes) (sorted_by_key xs) ≡ written_capture ticks packets = ap (λ bs. file_header ticks ++ bs) (bytes_are ticks (sorted_by_key xs) all) in
+    (
+      packets,
+      rw bytes (written_is_read unit packets (writable ticks (sorted_by_key xs) all) (rw bytes at within)),
+      in_time_order ticks (sorted_by_key xs) all (never_falls xs),
+      sound ticks (sorted_by_key xs) all,
+    )
 
 -- ---- outputs
 
@@ -91,69 +99,48 @@ talk_is c is d = record {
   server_base = server_base_fits c is;
 }
 
-parts_are : HeadersAreSound → (seed : ℕ) (scenario : ℕ × List Proxy) (cs : List Connection) → AllByRecursion IsSoundConnection cs → AllByRecursion IsWritten (flat_map (λ p. p.segments) (map (contribution_of microseconds seed scenario) cs))
+parts_are : HeadersAreSound → (ticks seed : ℕ) (scenario : ℕ × List Proxy) (cs : List Connection) → AllByRecursion IsSoundConnection cs
+    → AllByRecursion (IsWritten ticks) (flat_map (λ p. p.segments) (map (contribution_of ticks seed scenario) cs))
 unfolding contribution
-parts_are sound_headers seed scenario [] all = tt
-parts_are sound_headers seed (number_in, scenario) (c ∷ cs) all = all_append IsWritten _ _ (segments_are sound_headers _ (talk_is c all.0 (delivered_connection microseconds seed number_in c.number (met_proxy (server_of c) scenario) (recorded_connection c)))) (parts_are sound_headers seed (number_in, scenario) cs all.1)
+parts_are sound_headers ticks seed scenario [] all = tt
+parts_are sound_headers ticks seed (number, proxies) (c ∷ cs) all =
+    all_append (IsWritten ticks) _ _
+    (segments_are ticks sound_headers _ (talk_is c all.0 (delivered_connection ticks seed number c.number (met_proxy (server_of c) proxies) (recorded_connection c))))
+    (parts_are sound_headers ticks seed (number, proxies) cs all.1)
 
-outputs_read : SortedNeverFalls → WrittenIsRead → HeadersAreSound → SegmentsFit → (packets : List Packet) (rest : ℕ) → AllByRecursion HasBytes packets → (seed n : ℕ) (scenarios : List (List Proxy))
-    → let c : SeenCapture = seen_capture (record { ticks = microseconds; packets = packets; rest = rest }) in
-    AllByRecursion (λ o. length o.capture ≤ capture_limit → IsReadWhole microseconds o.capture) (map (output c seed) (enumerate_from n scenarios))
+outputs_read : SortedNeverFalls → WrittenIsRead → HeadersAreSound → SegmentsFit → (unit : Unit) (packets : List Packet) (rest : ℕ) → AllByRecursion HasBytes packets → (seed n : ℕ) (scenarios : List (List Proxy))
+    → let c : SeenCapture = seen_capture (record { ticks = ticks_of unit; packets = packets; rest = rest }) in
+    AllByRecursion (λ o. length o.capture ≤ capture_limit → IsReadWhole (ticks_of unit) o.capture) (map (output c seed) (enumerate_from n scenarios))
 unfolding output
-outputs_read never_falls written_is_read sound_headers fit packets rest have seed n [] = tt
-outputs_read never_falls written_is_read sound_headers fit packets rest have seed n (s ∷ scenarios) =
-    let all = parts_are sound_headers seed (n, s) (connections (indexed_segments 0 (seen_packets 0 packets))) (connections_are fit packets have) in
-    (capture_read never_falls written_is_read _ all, outputs_read never_falls written_is_read sound_headers fit packets rest have seed (n + 1) scenarios)
+outputs_read never_falls written_is_read sound_headers fit unit packets rest have seed n [] = tt
+outputs_read never_falls written_is_read sound_headers fit unit packets rest have seed n (s ∷ scenarios) =
+    let all = parts_are sound_headers (ticks_of unit) seed (n, s) (connections (indexed_segments 0 (seen_packets 0 packets))) (connections_are fit packets have) in
+    (capture_read never_falls written_is_read unit _ all, outputs_read never_falls written_is_read sound_headers fit unit packets rest have seed (n + 1) scenarios)
 
--- ---- a file that is read counts microseconds
-
-checked_ticks : (h read : Heading) (bytes : List ℕ) → h.ticks ≡ microseconds → checked_heading (Some h) bytes ≡ Ok read → read.ticks ≡ microseconds
-checked_ticks h read bytes counts_with is = by (not (number_in h.order 2 (drop 4 bytes) == 2) || not (number_in h.order 2 (drop 6 bytes) == 4)) (not (number_in h.order 4 (drop 20 bytes) == 1)) is
-  where
-    by : (v l : Bool) → (if v then Err BadVersion else (if l then Err BadLink else Ok h)) ≡ Ok read → read.ticks ≡ microseconds
-    by true l is = absurd cc
-    by false true is = absurd cc
-    by false false is = let same : h ≡ read = cc in sym (ap (λ (x : Heading). x.ticks) same) ∙ counts_with
-
-header_ticks : (bytes : List ℕ) (h : Heading) → file_heading bytes ≡ Ok h → h.ticks ≡ microseconds
-unfolding file_heading
-header_ticks bytes h is = by (nat_lt capture_limit (length bytes)) (nat_lt (length bytes) 24) (number_in Big 4 bytes == magic) (number_in Little 4 bytes == magic) is
-  where
-    by : (over short big little : Bool)
-        → (if over then Err CaptureTooLong else (if short then Err ShortHeader else checked_heading (if big then Some (microsecond_heading Big) else (if little then Some (microsecond_heading Little) else None)) bytes)) ≡ Ok h
-        → h.ticks ≡ microseconds
-    by true short big little is = absurd cc
-    by false true big little is = absurd cc
-    by false false true little is = checked_ticks (microsecond_heading Big) h bytes refl is
-    by false false false true is = checked_ticks (microsecond_heading Little) h bytes refl is
-    by false false false false is = absurd cc
-
-reading_ticks : ReadingsSplit → (bytes : List ℕ) (r : Reading) → reading bytes ≡ Ok r → r.contents.ticks ≡ microseconds
-reading_ticks readings_split bytes r is =
-    let split = readings_split bytes r is in
-    ap (λ (x : Reading). x.contents.ticks) split.3.3 ∙ header_ticks bytes split.0 split.3.0
-
--- what was read in microseconds
-in_microseconds : (c : Contents) → c.ticks ≡ microseconds → c ≡ record { ticks = microseconds; packets = c.packets; rest = c.rest }
-in_microseconds c counted = ap (λ (ticks : ℕ). let d : Contents = record { ticks = ticks; packets = c.packets; rest = c.rest } in d) counted
+-- what was read, with its ticks
+with_ticks : (c : Contents) (ticks : ℕ) → c.ticks ≡ ticks → c ≡ record { ticks = ticks; packets = c.packets; rest = c.rest }
+with_ticks c ticks counted = ap (λ (t : ℕ). let d : Contents = record { ticks = t; packets = c.packets; rest = c.rest } in d) counted
 
 pub outputs_are_read : SortedNeverFalls → ReadingsSplit → WrittenIsRead → HeadersAreSound → SegmentsFit → OutputsAreRead
 unfolding answer outputs_of
 outputs_are_read never_falls readings_split written_is_read sound_headers fit bytes read scenarios seed outputs are is answered =
     by (nat_lt scenario_limit (length scenarios)) (rw is at answered)
   where
-    counted : read.contents.ticks ≡ microseconds
-    counted = reading_ticks readings_split bytes read is
+    unit : Unit
+    unit = (reading_unit readings_split bytes read is).0
 
-    each : AllByRecursion (λ o. length o.capture ≤ capture_limit → IsReadWhole microseconds o.capture)
-        (outputs_of (seen_capture (record { ticks = microseconds; packets = read.contents.packets; rest = read.contents.rest })) scenarios seed)
-    each = outputs_read never_falls written_is_read sound_headers fit read.contents.packets read.contents.rest (packets_have readings_split bytes read is are) seed 0 scenarios
+    counted : read.contents.ticks ≡ ticks_of unit
+    counted = (reading_unit readings_split bytes read is).1
+
+    each : AllByRecursion (λ o. length o.capture ≤ capture_limit → IsReadWhole (ticks_of unit) o.capture)
+        (outputs_of (seen_capture (record { ticks = ticks_of unit; packets = read.contents.packets; rest = read.contents.rest })) scenarios seed)
+    each = outputs_read never_falls written_is_read sound_headers fit unit read.contents.packets read.contents.rest (packets_have readings_split bytes read is are) seed 0 scenarios
 
     by : (over : Bool) → (if over then Err TooManyScenarios else Ok (outputs_of (seen_capture read.contents) scenarios seed)) ≡ Ok outputs
         → AllByRecursion (λ o. length o.capture ≤ capture_limit → IsReadWhole read.contents.ticks o.capture) outputs
     by true answered = absurd cc
     by false answered =
         let same : outputs_of (seen_capture read.contents) scenarios seed ≡ outputs = cc in
-        let alike : outputs_of (seen_capture (record { ticks = microseconds; packets = read.contents.packets; rest = read.contents.rest })) scenarios seed ≡ outputs =
-        sym (ap (λ (c : Contents). outputs_of (seen_capture c) scenarios seed) (in_microseconds read.contents counted)) ∙ same in
-        rw counted (subst (λ os. AllByRecursion (λ o. length o.capture ≤ capture_limit → IsReadWhole microseconds o.capture) os) alike each)
+        let alike : outputs_of (seen_capture (record { ticks = ticks_of unit; packets = read.contents.packets; rest = read.contents.rest })) scenarios seed ≡ outputs =
+        sym (ap (λ (c : Contents). outputs_of (seen_capture c) scenarios seed) (with_ticks read.contents (ticks_of unit) counted)) ∙ same in
+        rw counted (subst (λ os. AllByRecursion (λ o. length o.capture ≤ capture_limit → IsReadWhole (ticks_of unit) o.capture) os) alike each)

@@ -3,7 +3,7 @@ use Rattle.std.proofs.Common.{◌≡◌, ◌≢◌, ◌<◌, ◌≤◌, ℕ, zer
 use Rattle.std.specs.List.{AllByRecursion, enumerate_from}
 use Rattle.std.proofs.lemmas.Bool.{ltb-true, or_parts}
 use Rattle.pcap_records.proofs.Lists.{all_append}
-use Rattle.pcap_records.specs.Instants.{microseconds, horizon}
+use Rattle.pcap_records.specs.Instants.{horizon}
 use Rattle.pcap_records.specs.Reading.{packet_limit}
 use Rattle.pcap_records.specs.Writing.{record_bytes}
 use Rattle.frame_headers.specs.Flags
@@ -19,11 +19,11 @@ use Rattle.toxicap.specs.SoundOutputs.{IsSoundFrame}
 -- ---- the record of a segment
 
 -- a record with a sound frame that a file can hold
-pub record IsRecord (x : Framed) : Type 0 where
+pub record IsRecord (ticks : ℕ) (x : Framed) : Type 0 where
   pub frame : List ℕ
   pub limited : length frame ≤ packet_limit
   pub sound : IsSoundFrame frame
-  pub bytes : x.bytes ≡ record_bytes microseconds x.key.moment frame
+  pub bytes : x.bytes ≡ record_bytes ticks x.key.moment frame
 
 -- what a host and a segment have to be for headers to hold them
 pub record IsHost (h : Host) : Type 0 where
@@ -37,8 +37,8 @@ pub record IsSentSegment (s : SentSegment) : Type 0 where
   pub ack : s.ack < 2 ^ 32
   pub flags : s.flags < 2 ^ 8
 
-module _ (sound : HeadersAreSound) (c : WrittenConnection) (from to : Host) (is_from : IsHost from) (is_to : IsHost to) (differ : from.peer ≢ to.peer) where
-  framed_is : (turn place : ℕ) (s : SentSegment) → IsSentSegment s → IsRecord (framed_segment microseconds c turn from to (place, s))
+module _ (ticks : ℕ) (sound : HeadersAreSound) (c : WrittenConnection) (from to : Host) (is_from : IsHost from) (is_to : IsHost to) (differ : from.peer ≢ to.peer) where
+  framed_is : (turn place : ℕ) (s : SentSegment) → IsSentSegment s → IsRecord ticks (framed_segment ticks c turn from to (place, s))
   unfolding frame_bytes
   framed_is turn place s sent =
       let h : Header = header_of c from to s in
@@ -63,7 +63,7 @@ module _ (sound : HeadersAreSound) (c : WrittenConnection) (from to : Host) (is_
         bytes = refl;
       }
 
-  turn_is : (turn n : ℕ) (sent : List SentSegment) → AllByRecursion IsSentSegment sent → AllByRecursion IsRecord (map (framed_segment microseconds c turn from to) (enumerate_from n sent))
+  turn_is : (turn n : ℕ) (sent : List SentSegment) → AllByRecursion IsSentSegment sent → AllByRecursion (IsRecord ticks) (map (framed_segment ticks c turn from to) (enumerate_from n sent))
   turn_is turn n [] are = tt
   turn_is turn n (s ∷ sent) are = (framed_is turn n s are.0, turn_is turn (n + 1) sent are.1)
 
@@ -134,14 +134,14 @@ pub record IsSoundWritten (t : WrittenConnection) : Type 0 where
   pub client_base : t.client.base < 2 ^ 32
   pub server_base : t.server.base < 2 ^ 32
 
-module _ (sound : HeadersAreSound) (t : WrittenConnection) (is : IsSoundWritten t) where
-  by_client_is : (turn place : ℕ) (s : SentSegment) → IsSentSegment s → IsRecord (framed_by_client microseconds t turn (place, s))
-  by_client_is turn place s sent = framed_is sound t t.client.host t.server.host is.client is.server is.differ turn place s sent
+module _ (ticks : ℕ) (sound : HeadersAreSound) (t : WrittenConnection) (is : IsSoundWritten t) where
+  by_client_is : (turn place : ℕ) (s : SentSegment) → IsSentSegment s → IsRecord ticks (framed_by_client ticks t turn (place, s))
+  by_client_is turn place s sent = framed_is ticks sound t t.client.host t.server.host is.client is.server is.differ turn place s sent
 
-  by_server_is : (turn place : ℕ) (s : SentSegment) → IsSentSegment s → IsRecord (framed_by_server microseconds t turn (place, s))
-  by_server_is turn place s sent = framed_is sound t t.server.host t.client.host is.server is.client (λ same. is.differ (sym same)) turn place s sent
+  by_server_is : (turn place : ℕ) (s : SentSegment) → IsSentSegment s → IsRecord ticks (framed_by_server ticks t turn (place, s))
+  by_server_is turn place s sent = framed_is ticks sound t t.server.host t.client.host is.server is.client (λ same. is.differ (sym same)) turn place s sent
 
-  opening_is : (refused : Bool) → AllByRecursion IsRecord (opening_turn refused microseconds t)
+  opening_is : (refused : Bool) → AllByRecursion (IsRecord ticks) (opening_turn refused ticks t)
   opening_is false = (
     by_client_is 0 0 (syn_segment t) (record { short = omega arith; seq = is.client_base; ack = omega arith; flags = omega arith }),
     (
@@ -155,37 +155,37 @@ module _ (sound : HeadersAreSound) (t : WrittenConnection) (is : IsSoundWritten 
   )
 
 -- a record before the horizon
-pub record IsWritten (x : Framed) : Type 0 where
-  pub is : IsRecord x
-  pub in_time : x.key.moment < horizon microseconds
+pub record IsWritten (ticks : ℕ) (x : Framed) : Type 0 where
+  pub is : IsRecord ticks x
+  pub in_time : x.key.moment < horizon ticks
 
-kept_in_time : (xs : List Framed) → AllByRecursion IsRecord xs → AllByRecursion IsWritten (segments_before_horizon microseconds xs)
-kept_in_time [] all = tt
-kept_in_time (x ∷ xs) all = by (nat_lt x.key.moment (horizon microseconds)) refl (kept_in_time xs all.1)
+kept_in_time : (ticks : ℕ) (xs : List Framed) → AllByRecursion (IsRecord ticks) xs → AllByRecursion (IsWritten ticks) (segments_before_horizon ticks xs)
+kept_in_time ticks [] all = tt
+kept_in_time ticks (x ∷ xs) all = by (nat_lt x.key.moment (horizon ticks)) refl (kept_in_time ticks xs all.1)
   where
-    by : (b : Bool) → nat_lt x.key.moment (horizon microseconds) ≡ b → AllByRecursion IsWritten (segments_before_horizon microseconds xs)
-        → AllByRecursion IsWritten (if b then x ∷ segments_before_horizon microseconds xs else segments_before_horizon microseconds xs)
+    by : (b : Bool) → nat_lt x.key.moment (horizon ticks) ≡ b → AllByRecursion (IsWritten ticks) (segments_before_horizon ticks xs)
+        → AllByRecursion (IsWritten ticks) (if b then x ∷ segments_before_horizon ticks xs else segments_before_horizon ticks xs)
     by true early rest = (record { is = all.0; in_time = ltb-true _ _ early }, rest)
     by false late rest = rest
 
-all-insert_by_key : (x : Framed) (ys : List Framed) → IsWritten x → AllByRecursion IsWritten ys → AllByRecursion IsWritten (insert_by_key x ys)
-all-insert_by_key x [] is all = (is, tt)
-all-insert_by_key x (y ∷ ys) is all = by (is_key_below y.key x.key) (all-insert_by_key x ys is all.1)
+all-insert_by_key : (ticks : ℕ) (x : Framed) (ys : List Framed) → IsWritten ticks x → AllByRecursion (IsWritten ticks) ys → AllByRecursion (IsWritten ticks) (insert_by_key x ys)
+all-insert_by_key ticks x [] is all = (is, tt)
+all-insert_by_key ticks x (y ∷ ys) is all = by (is_key_below y.key x.key) (all-insert_by_key ticks x ys is all.1)
   where
-    by : (b : Bool) → AllByRecursion IsWritten (insert_by_key x ys) → AllByRecursion IsWritten (if b then y ∷ insert_by_key x ys else x ∷ y ∷ ys)
+    by : (b : Bool) → AllByRecursion (IsWritten ticks) (insert_by_key x ys) → AllByRecursion (IsWritten ticks) (if b then y ∷ insert_by_key x ys else x ∷ y ∷ ys)
     by true rest = (all.0, rest)
     by false rest = (is, all)
 
-pub all-sorted_by_key : (xs : List Framed) → AllByRecursion IsWritten xs → AllByRecursion IsWritten (sorted_by_key xs)
+pub all-sorted_by_key : (ticks : ℕ) (xs : List Framed) → AllByRecursion (IsWritten ticks) xs → AllByRecursion (IsWritten ticks) (sorted_by_key xs)
 unfolding sorted_by_key
-all-sorted_by_key [] all = tt
-all-sorted_by_key (x ∷ xs) all = all-insert_by_key x (sorted_by_key xs) all.0 (all-sorted_by_key xs all.1)
+all-sorted_by_key ticks [] all = tt
+all-sorted_by_key ticks (x ∷ xs) all = all-insert_by_key ticks x (sorted_by_key xs) all.0 (all-sorted_by_key ticks xs all.1)
 
-pub segments_are : HeadersAreSound → (t : WrittenConnection) → IsSoundWritten t → AllByRecursion IsWritten (written_segments microseconds t)
+pub segments_are : (ticks : ℕ) → HeadersAreSound → (t : WrittenConnection) → IsSoundWritten t → AllByRecursion (IsWritten ticks) (written_segments ticks t)
 unfolding written_segments
-segments_are sound t is =
-    let up = turn_is sound t t.client.host t.server.host is.client is.server is.differ 1 0 (segments_sent_by t.client t.server) (sent_is t.client t.server) in
-    let down = turn_is sound t t.server.host t.client.host is.server is.client (λ same. is.differ (sym same)) 2 0 (segments_sent_by t.server t.client) (sent_is t.server t.client) in
-    let lines = all_append IsRecord (opening_turn t.refused microseconds t ++ up_turn microseconds t) (down_turn microseconds t)
-    (all_append IsRecord (opening_turn t.refused microseconds t) (up_turn microseconds t) (opening_is sound t is t.refused) up) down in
-    all-sorted_by_key _ (kept_in_time _ lines)
+segments_are ticks sound t is =
+    let up = turn_is ticks sound t t.client.host t.server.host is.client is.server is.differ 1 0 (segments_sent_by t.client t.server) (sent_is t.client t.server) in
+    let down = turn_is ticks sound t t.server.host t.client.host is.server is.client (λ same. is.differ (sym same)) 2 0 (segments_sent_by t.server t.client) (sent_is t.server t.client) in
+    let lines = all_append (IsRecord ticks) (opening_turn t.refused ticks t ++ up_turn ticks t) (down_turn ticks t)
+    (all_append (IsRecord ticks) (opening_turn t.refused ticks t) (up_turn ticks t) (opening_is ticks sound t is t.refused) up) down in
+    all-sorted_by_key ticks _ (kept_in_time ticks _ lines)

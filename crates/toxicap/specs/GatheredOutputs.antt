@@ -1,6 +1,5 @@
 -- What a scenario answers, of what each connection contributes to it.
 use Rattle.std.specs.Prelude.{ℕ, List, map}
-use Rattle.pcap_records.specs.Instants.{microseconds}
 use Rattle.conn_table.specs.SeenCapture.{SeenCapture}
 use Rattle.segment_writer.specs.declared.framed.Framed.{Framed}
 use Rattle.time_merge.specs.MergedCapture.{all_segments, capture_of}
@@ -18,6 +17,6 @@ lines_in row = map (λ d. d.line) row
 -- of the number of the scenario, how many segments belong to no connection, and each connection's segments and line
 abbrev pub gathered_output : SeenCapture → ℕ → ℕ → List (List Framed) → List (List ℕ) → Output
 gathered_output c number unopened segments lines = record {
-  capture = capture_of microseconds (all_segments segments);
+  capture = capture_of c.ticks (all_segments segments);
   report = report_text number c unopened lines;
 }

@@ -1,6 +1,10 @@
 pub mod Rehearsal
 pub mod GatheredOutputs
 pub mod SoundOutputs
+pub mod ReadingBefore
+pub mod WritingBefore
+pub mod AnswersBefore
+pub mod OldAnswers
 pub mod Answering
 pub mod RunEnds
 pub mod Inputs

@@ -1,6 +1,7 @@
 //! Theorems about the definitions of this crate. Each function does nothing, or names the theorems that it stands on: its
 //! contract is the theorem.
 ghost use Rattle.toxicap.specs.SoundOutputs.{OutputsAreRead};
+ghost use Rattle.toxicap.specs.OldAnswers.{OldAnswersAreKept};
 ghost use Rattle.toxicap.specs.Rehearsal.{ByteOrderDoesNotMatter};
 
 use frame_headers::laws::{headers_are_sound, segments_fit};
@@ -25,4 +26,12 @@ pub fn outputs_are_read()
     headers_are_sound();
     segments_fit();
     sorted_never_falls();
+}
+
+/// A capture whose first four bytes are the first magic number, that of files in microseconds, is answered as it was before
+/// captures in nanoseconds: with the same outputs, or with the same refusal. `answer_before` is the outcome as it was defined then.
+pub fn old_answers_are_kept()
+    ensures { OldAnswersAreKept }
+{
+    readings_split();
 }

@@ -4,7 +4,6 @@ ghost use Rattle.toxicap.specs.Rehearsal.{answer, outputs_of, scenario_limit};
 ghost use Rattle.run_files.specs.RunFault.{run_refusal};
 ghost use Rattle.std.specs.Prelude.{◌≡◌, ◌≤◌, All, IfOk, length, ◌+◌, OnOk, drop, take};
 ghost use Rattle.pcap_records.specs.CaptureView.{contents_of};
-ghost use Rattle.pcap_records.specs.Instants.{microseconds};
 ghost use Rattle.conn_table.specs.SeenCapture.{seen_capture};
 ghost use Rattle.conn_workers.specs.CaptureTables.{whole_table};
 ghost use Rattle.segment_writer.specs.KeyLaws.{HasNoKeyTwice};
@@ -74,7 +73,6 @@ fn list_outputs<R: Threads + Sync, G: Gate>(
     gate: &G,
 ) -> Result<Vec<Output>, AllocError>
     requires few { length scenarios.now ≤ scenario_limit }
-    requires ticks { capture.now.ticks ≡ microseconds }
     ensures { IfOk result (λ outputs. outputs.items ≡ outputs_of (seen_capture (contents_of capture.now)) scenarios.now seed) }
 {
     indexed_connections_agree();
@@ -111,7 +109,7 @@ fn gathered_output(
         ≡ gathered_output (seen_capture (contents_of capture.now)) number table.now.unopened row.segments.items row.lines.items) }
 {
     let report = report(alloc, number, capture, table, &row.lines)?;
-    let capture = merge(alloc, row.segments)?.capture(alloc)?;
+    let capture = merge(alloc, row.segments)?.capture(alloc, capture.unit())?;
     Ok(Output {
         capture: Values::of(capture),
         report: Values::of(report.into_vec()),

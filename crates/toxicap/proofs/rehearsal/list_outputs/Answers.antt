@@ -5,7 +5,6 @@ use Rattle.std.proofs.lemmas.List.{length-drop, take_all}
 use Rattle.std.proofs.lemmas.List.Elements.{All-same}
 use Rattle.std.proofs.lemmas.List.FromFn.{length-enumerate_from}
 use Rattle.pcap_records.specs.CaptureView.{contents_of}
-use Rattle.pcap_records.specs.Instants.{microseconds}
 use Rattle.conn_table.specs.Connections.{Connection}
 use Rattle.conn_table.specs.SeenCapture.{SeenCapture, seen_capture}
 use Rattle.segment_writer.specs.declared.framed.Framed.{Framed}
@@ -40,7 +39,7 @@ take_row-requires g c =
       c.loop-number.invariant.wide,
       c.loop-number.invariant.fewer,
       ap length c.loop-number.invariant.left,
-      row_fits (delivery_of microseconds c.args.seed) (enumerate_from 0 scenarios) cs c.loop-number.number (0, []) within,
+      row_fits (delivery_of c.args.capture.now.ticks c.args.seed) (enumerate_from 0 scenarios) cs c.loop-number.number (0, []) within,
     )
 
 pub gathered_output-requires-clause-sorted : goal.gathered_output-requires-clause-sorted
@@ -49,14 +48,14 @@ gathered_output-requires-clause-sorted g c =
     let s = next_scenario c.args.scenarios.now c.loop-number.number in
     let row = next_row c.args.seed seen c.args.scenarios.now c.loop-number.number c.loop-number-test.true _ _ c.loop-number.invariant.wide c.loop-number.invariant.left in
     All-same (λ (list : List Framed). sorted_by_key list ≡ list) _ _ (c.in_ok-row.ensures.segments ∙ ap segments_in row)
-    (row_is_sorted microseconds c.args.seed s c.keys_rise.ensures c.rising_is_sorted.ensures (connections_of seen))
+    (row_is_sorted seen.ticks c.args.seed s c.keys_rise.ensures c.rising_is_sorted.ensures (connections_of seen))
 
 pub gathered_output-requires-clause-once : goal.gathered_output-requires-clause-once
 gathered_output-requires-clause-once g c =
     let seen : SeenCapture = seen_capture (contents_of c.args.capture.now) in
     let s = next_scenario c.args.scenarios.now c.loop-number.number in
     let row = next_row c.args.seed seen c.args.scenarios.now c.loop-number.number c.loop-number-test.true _ _ c.loop-number.invariant.wide c.loop-number.invariant.left in
-    subst (λ (xs : List Framed). HasNoKeyTwice xs) (sym (ap all_segments (c.in_ok-row.ensures.segments ∙ ap segments_in row))) (row_stands_once microseconds c.args.seed s c.keys_stand_once.ensures seen)
+    subst (λ (xs : List Framed). HasNoKeyTwice xs) (sym (ap all_segments (c.in_ok-row.ensures.segments ∙ ap segments_in row))) (row_stands_once seen.ticks c.args.seed s c.keys_stand_once.ensures seen)
 
 pub loop-number-preserved : goal.loop-number-preserved
 loop-number-preserved g c =
@@ -72,11 +71,11 @@ loop-number-preserved g c =
     let unopened = ap (λ t. t.unopened) c.in_ok-table.ensures ∙ unopened_is c.args.capture.now in
     let gathered = c.in_ok-output.ensures
     ∙ ap₂ (gathered_output seen number c.in_ok-table.table.unopened) (c.in_ok-row.ensures.segments ∙ ap segments_in row) (c.in_ok-row.ensures.lines ∙ ap lines_in row)
-    ∙ gathered_is seen c.requires.ticks seed s number c.in_ok-table.table.unopened (sym (next_number scenarios number c.loop-number-test.true)) unopened in
+    ∙ gathered_is seen seed s number c.in_ok-table.table.unopened (sym (next_number scenarios number c.loop-number-test.true)) unopened in
     record {
       made = c.in_ok-push.ensures.items ∙ ap₂ (λ xs o. xs ++ o ∷ []) c.loop-number.invariant.made gathered ∙ mapped_more (output seen seed) (enumerate_from 0 scenarios) number (0, []) within;
       left = c.in_ok-row.ensures.left ∙ ap₂ drop c.loop-number.invariant.wide c.loop-number.invariant.left
-          ∙ row_left (delivery_of microseconds seed) (enumerate_from 0 scenarios) (connections_of seen) number (0, []) within;
+          ∙ row_left (delivery_of seen.ticks seed) (enumerate_from 0 scenarios) (connections_of seen) number (0, []) within;
       fewer = omega (arith, c.loop-number.invariant.fewer, c.in_ok-row.ensures.fewer, ap length c.in_ok-row.ensures.left, length-drop count before);
       wide = c.loop-number.invariant.wide;
     }

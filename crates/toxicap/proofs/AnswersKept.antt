@@ -1,0 +1,95 @@
+-- Captures of the first magic number are answered as they were before captures in nanoseconds.
+use Rattle.std.proofs.Common.{◌≡◌, ℕ, Bool, true, false, ◌==◌, ◌++◌, nat_lt, List, [], ◌∷◌, length, map, Option, Some, None, Result, Ok, Err, inl, inr, refl, sym, ap, ap₂, ◌∙◌, if◌then◌else◌}
+use Rattle.std.specs.Prelude.{◌⊎◌}
+use Rattle.std.specs.Option.{option_or}
+use Rattle.std.specs.List.{enumerate_from, flat_map}
+use Rattle.pcap_records.specs.declared.fault.CaptureFault.{CaptureFault}
+use Rattle.pcap_records.specs.declared.fault.CaptureFault.TheVariants.{CaptureTooLong, ShortHeader}
+use Rattle.pcap_records.specs.declared.heading.Order.TheVariants.{Big, Little}
+use Rattle.pcap_records.specs.Instants.{microseconds, nanoseconds}
+use Rattle.pcap_records.specs.Reading.{Heading, Reading, capture_limit, file_header_len, number_in, magic, nanosecond_magic, heading_by, magic_heading, checked_heading, file_heading, reading_with, reading}
+use Rattle.pcap_records.specs.Writing.{file_header}
+use Rattle.pcap_records.specs.Grammar.{ReadingsSplit}
+use Rattle.segment_writer.specs.declared.framed.Framed.{Framed}
+use Rattle.segment_writer.specs.WrittenSegments.{sorted_by_key}
+use Rattle.time_merge.specs.MergedCapture.{capture_of}
+use Rattle.conn_table.specs.IndexedSegments.{indexed_segments}
+use Rattle.conn_table.specs.Connections.{unopened_count}
+use Rattle.conn_table.specs.SeenCapture.{SeenCapture, seen_capture}
+use Rattle.report.specs.ReportText.{report_text}
+use Rattle.run_files.specs.declared.error.RunFault.{RunFault}
+use Rattle.run_files.specs.declared.error.RunFault.TheVariants.{TooManyScenarios}
+use Rattle.run_files.specs.declared.outputs.Output.{Output}
+use Rattle.scenarios.specs.declared.proxies.Proxy.{Proxy}
+use Rattle.toxicap.specs.Rehearsal.{contributions, output, outputs_of, scenario_limit, seen_file, answer_to, answer}
+use Rattle.toxicap.specs.ReadingBefore.{magic_heading_before, file_heading_before, reading_before}
+use Rattle.toxicap.specs.WritingBefore.{file_header_before}
+use Rattle.toxicap.specs.AnswersBefore.{capture_of_before, output_before, outputs_of_before, answer_to_before, answer_before}
+use Rattle.toxicap.specs.OldAnswers.{HasFirstMagic, OldAnswersAreKept}
+use Rattle.toxicap.proofs.ReadTicks.{reading_heading, ticks_by}
+
+-- ---- the file is read as before
+
+-- where the first magic number is found, no other is asked for
+found : {A : Type 0} (big little : Bool) (x y : A) (other : Option A) → (big ≡ true) ⊎ (little ≡ true)
+    → option_or (if big then Some x else (if little then Some y else None)) other ≡ (if big then Some x else (if little then Some y else None))
+found true little x y other has = refl
+found false true x y other has = refl
+found false false x y other (inl has) = absurd cc
+found false false x y other (inr has) = absurd cc
+
+passes : (bytes : List ℕ) → HasFirstMagic bytes → ((number_in Big 4 bytes == magic) ≡ true) ⊎ ((number_in Little 4 bytes == magic) ≡ true)
+passes bytes (inl has) = inl (ap (λ n. n == magic) has)
+passes bytes (inr has) = inr (ap (λ n. n == magic) has)
+
+heading_kept : (bytes : List ℕ) → HasFirstMagic bytes → magic_heading bytes ≡ magic_heading_before bytes
+heading_kept bytes has =
+    found (number_in Big 4 bytes == magic) (number_in Little 4 bytes == magic) _ _ (heading_by nanosecond_magic nanoseconds bytes) (passes bytes has)
+
+reading_kept : (bytes : List ℕ) → HasFirstMagic bytes → reading bytes ≡ reading_before bytes
+unfolding file_heading file_heading_before reading reading_before
+reading_kept bytes has =
+    ap (λ (told : Option Heading). reading_with (if nat_lt capture_limit (length bytes) then Err CaptureTooLong else (if nat_lt (length bytes) file_header_len then Err ShortHeader else checked_heading told bytes)) bytes)
+    (heading_kept bytes has)
+
+-- it counts microseconds
+counts_as_before : ReadingsSplit → (bytes : List ℕ) → HasFirstMagic bytes → (r : Reading) → reading bytes ≡ Ok r → r.contents.ticks ≡ microseconds
+counts_as_before readings_split bytes has r is =
+    let read = reading_heading readings_split bytes r is in
+    read.2 ∙ ticks_by magic microseconds bytes read.0 (sym (heading_kept bytes has) ∙ read.1)
+
+-- ---- and so are outputs written
+
+microsecond_header_kept : file_header microseconds ≡ file_header_before microseconds
+unfolding file_header file_header_before
+microsecond_header_kept = refl
+
+header_kept : (ticks : ℕ) → ticks ≡ microseconds → file_header ticks ≡ file_header_before ticks
+header_kept ticks counted = ap file_header counted ∙ microsecond_header_kept ∙ ap file_header_before (sym counted)
+
+capture_kept : (ticks : ℕ) → ticks ≡ microseconds → (segments : List Framed) → capture_of ticks segments ≡ capture_of_before ticks segments
+unfolding capture_of capture_of_before
+capture_kept ticks counted segments = ap (λ (header : List ℕ). header ++ flat_map (λ x. x.bytes) (sorted_by_key segments)) (header_kept ticks counted)
+
+output_kept : (c : SeenCapture) → c.ticks ≡ microseconds → (seed : ℕ) (s : ℕ × List Proxy) → output c seed s ≡ output_before c seed s
+unfolding output output_before
+output_kept c counted seed s =
+    ap (λ (bytes : List ℕ). let o : Output = record { capture = bytes; report = report_text s.0 c (unopened_count (indexed_segments 0 c.packets)) (map (λ p. p.line) (contributions c seed s)) } in o)
+    (capture_kept c.ticks counted (flat_map (λ p. p.segments) (contributions c seed s)))
+
+each_kept : (c : SeenCapture) → c.ticks ≡ microseconds → (seed : ℕ) (ss : List (ℕ × List Proxy)) → map (output c seed) ss ≡ map (output_before c seed) ss
+each_kept c counted seed [] = refl
+each_kept c counted seed (s ∷ ss) = ap₂ (λ o os. o ∷ os) (output_kept c counted seed s) (each_kept c counted seed ss)
+
+answer_kept : (file : Result Reading CaptureFault) → ((r : Reading) → file ≡ Ok r → r.contents.ticks ≡ microseconds)
+    → (scenarios : List (List Proxy)) (seed : ℕ) → answer_to (seen_file file) scenarios seed ≡ answer_to_before (seen_file file) scenarios seed
+unfolding outputs_of outputs_of_before
+answer_kept (Ok r) counts scenarios seed = ap Ok (each_kept (seen_capture r.contents) (counts r refl) seed (enumerate_from 0 scenarios))
+answer_kept (Err f) counts scenarios seed = refl
+
+pub old_answers_are_kept : ReadingsSplit → OldAnswersAreKept
+unfolding answer answer_before
+old_answers_are_kept readings_split bytes has scenarios seed =
+    ap (λ (a : Result (List Output) RunFault). if nat_lt scenario_limit (length scenarios) then Err TooManyScenarios else a)
+    (answer_kept (reading bytes) (counts_as_before readings_split bytes has) scenarios seed
+    ∙ ap (λ (file : Result Reading CaptureFault). answer_to_before (seen_file file) scenarios seed) (reading_kept bytes has))

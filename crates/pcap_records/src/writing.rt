@@ -39,7 +39,12 @@ pub fn write_header(out: &mut Vec<u8>, unit: Unit) -> Result<(), AllocError>
 ///
 /// # Errors
 /// Where a growth is refused; `out` is then unchanged.
-pub fn write_record(out: &mut Vec<u8>, at: Moment, packet: &[u8], unit: Unit) -> Result<(), AllocError>
+pub fn write_record(
+    out: &mut Vec<u8>,
+    at: Moment,
+    packet: &[u8],
+    unit: Unit,
+) -> Result<(), AllocError>
     requires before_horizon { at < horizon (ticks_of unit) }
     requires limited { length packet.now ≤ packet_limit }
     ensures ok { OnOk result (out.new.items ≡ out.old.items ++ record_bytes (ticks_of unit) at packet.now) }

@@ -96,7 +96,11 @@ fn effect<'a>(
         Kind::Bandwidth { rate } => run_bandwidth(alloc, line, rate),
         Kind::SlowClose { delay } => Ok(run_slow_close(line, unit.milliseconds(delay))),
         Kind::Timeout { timeout } => {
-            Ok(run_timeout(line, timeout, opened.later(unit.milliseconds(timeout), unit)))
+            Ok(run_timeout(
+                line,
+                timeout,
+                opened.later(unit.milliseconds(timeout), unit),
+            ))
         }
         Kind::ResetPeer { timeout } => {
             Ok(run_reset_peer(line, opened.later(unit.milliseconds(timeout), unit)))

@@ -44,7 +44,11 @@ fn cut_at<'a>(closing: &Option<Closing>, line: Line<'a>) -> Line<'a>
     let mut parts = line.into_parts();
     let kept = kept_parts(&parts, cut_limit(closing, unit));
     parts.truncate(kept);
-    Line::of_parts(unit, parts, end_before_horizon(&end_up_to(closing, &end), unit))
+    Line::of_parts(
+        unit,
+        parts,
+        end_before_horizon(&end_up_to(closing, &end), unit),
+    )
 }
 
 // An end that is a close or a reset.

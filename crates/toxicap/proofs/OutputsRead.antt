@@ -80,8 +80,7 @@ capture_read never_falls written_is_read unit xs written within =
     let ticks : ℕ = ticks_of unit in
     let all = all-sorted_by_key ticks xs written in
     let packets : List Packet = packets_of ticks (sorted_by_key xs) all in
-    let bytes : file_header ticks ++ flat_map (λ x. x.bytes) (sorted_by_key xs) ≡ written_capture ticks packets = ap (λ bs. file_header ticks ++ bs) (bytes_are ticks (sorted_by_key xs) all) in
-    (
+    let bytes : file_header ticks ++ flat_map (λ x. x.bytes) (sorted_by_key xs) ≡ written_capture ticks packets = ap (λ bs. file_header ticks ++ bs) (bytes_are ticks (sorted_by_key xs) all) in (
       packets,
       rw bytes (written_is_read unit packets (writable ticks (sorted_by_key xs) all) (rw bytes at within)),
       in_time_order ticks (sorted_by_key xs) all (never_falls xs),

@@ -94,12 +94,12 @@ fn fault_after(heading: Heading, bytes: &[u8], at: usize, count: u32) -> Capture
 }
 
 // The stamp of a record that begins with these bytes: its seconds, and ticks however many.
-fn stamp_of(heading: Heading, record: &[u8]) -> Moment
-    requires { record_header_len ≤ length record.now }
-    ensures { result ≡ stamp_of (heading_of heading) record.now }
+fn stamp_of(heading: Heading, bytes: &[u8]) -> Moment
+    requires { record_header_len ≤ length bytes.now }
+    ensures { result ≡ stamp_of (heading_of heading) bytes.now }
 {
     let Heading { order, unit } = heading;
-    let ticks = unit.seconds(order.u32_of(record)) + u64::from(order.u32_of(&record[4..]));
+    let ticks = unit.seconds(order.u32_of(bytes)) + u64::from(order.u32_of(&bytes[4..]));
     Moment::of(ticks, unit)
 }
 

@@ -19,7 +19,7 @@ pub values-marked : (at : ℕ) (s : Bool) (xs : List ℕ) → values (bytes_with
 values-marked at s [] = refl
 values-marked at s (x ∷ xs) = ap (λ ys. x ∷ ys) (values-unmarked at xs)
 
--- the mark of what is left behind n bytes
+-- the mark of what is left after n bytes
 abbrev pub mark : Bool → ℕ → Bool
 mark s zero = s
 mark s (suc n) = false
@@ -33,7 +33,7 @@ pub run-unmarked : (at : ℕ) (xs : List ℕ) (rest : List LineByte) → run (by
 run-unmarked at [] rest = omega arith
 run-unmarked at (x ∷ xs) rest = omega (arith, run-unmarked at xs rest)
 
--- ---- a part, and the parts behind it
+-- ---- a part, and the parts after it
 
 run-on : (at : ℕ) (s : Bool) (xs : List ℕ) (rest : List LineByte) → not s || has_none xs ≡ true → run (bytes_with_mark at s xs ++ rest) ≡ length xs + run rest
 run-on at s [] rest h = omega arith

@@ -92,7 +92,7 @@ rest_is n xs = take_all (length xs - n) (drop n xs) (omega (arith, length-drop n
 length-rest : (n : ℕ) (xs : List ℕ) → length (rest_of n xs) ≡ length xs - n
 length-rest n xs = ap length (rest_is n xs) ∙ length-drop n xs
 
--- what is left to copy, behind what was copied, is the whole
+-- what is left to copy, after what was copied, is the whole
 pub record Copying (parts : List LinePart) (here : Cursor) (left : ℕ) (out whole : List ℕ) (behind : List LineByte) : Type 0 where
   pub cursor : IsCursor parts here
   pub within : left ≤ length (left_at parts here)

@@ -24,7 +24,7 @@ use Rattle.segment_writer.proofs.PartBytes.{inside_is, length-left}
 use Rattle.segment_writer.proofs.Listening.{climbs_behind, heard_later}
 use Rattle.segment_writer.proofs.SentClimb.{climbs_from, line_climbs, end_climbs, SentClimbs, written_from, written_next, written_late}
 
--- what is written of these bytes and the end, behind n bytes
+-- what is written of these bytes and the end, after n bytes
 abbrev pub left_written : Sender → Line → Line → ℕ → ℕ → List LineByte → List Framed
 left_written s own peer place n bytes = written_from s place (segments_sent_from (own_side s own) (peer_side s peer) n (pieces payload_limit payload_limit bytes))
 
@@ -172,7 +172,7 @@ module _ (s : Sender) (own : List LinePart) (own_end : code.End) (peer : List Li
                   ∙ ap (λ xs. list ++ xs) (sym next) ∙ going.done;
             }
 
-    -- ---- behind all parts
+    -- ---- after all parts
 
     module _ (over : length own ≤ from.part) where
       nothing_left : left_at own from ≡ []

@@ -65,7 +65,7 @@ BothSidesGrouped =
     map summary_of (connections (row_segment 0 client server 2 1000 ∷ row_segment 1 server client 2 1000 ∷ []))
     ≡ record { number = 0; client = client; first = 1000; members = 1; server_base = None } ∷ record { number = 1; client = server; first = 1000; members = 1; server_base = None } ∷ []
 
--- an answer behind the first reset, one that is itself the reset, and one of the client's give no number
+-- an answer after the first reset, one that is itself the reset, and one of the client's give no number
 abbrev pub LateAnswersGrouped : Type 0
 LateAnswersGrouped =
     (map summary_of (connections (row_segment 0 client server 2 1000 ∷ row_segment 1 client server 4 1001 ∷ row_segment 2 server client 18 5000 ∷ []))

@@ -68,7 +68,7 @@ fn backwards(mut lists: Vec<SegList>) -> Vec<SegList>
     lists
 }
 
-// The same lists, and three empty ones: one before them and two behind.
+// The same lists, and three empty ones: one before them and two after.
 #[tactic(auto, unfolding(segment_writer::specs::WrittenSegments::sorted_by_key))]
 fn among_empty_ones(alloc: Global, mut lists: Vec<SegList>) -> Result<Vec<SegList>, AllocError>
     requires sorted { All (λ list. sorted_by_key list ≡ list) lists.items }
@@ -160,7 +160,7 @@ fn the_plain_session(rt: HostRuntime) -> Result<(), Fail> {
     Ok(())
 }
 
-// The second connection is recorded earlier than the first, but stands behind it in the file: all is at one instant.
+// The second connection is recorded earlier than the first, but stands after it in the file: all is at one instant.
 #[test]
 fn connections_in_order_of_number(rt: HostRuntime) -> Result<(), Fail> {
     let data = segment(

@@ -1,5 +1,6 @@
 //! What each side of a connection is delivered.
 ghost use Rattle.std.specs.Prelude.{◌≡◌, ◌≤◌, IfOk, IfSome, length, option_map};
+ghost use Rattle.pcap_records.specs.Instants.{ticks_of};
 ghost use Rattle.reassembly.specs.LineLaws.{IsLine};
 ghost use Rattle.reassembly.specs.RecordedView.{recorded_view};
 ghost use Rattle.toxic_defs.specs.Limits.{most_toxics};
@@ -64,6 +65,8 @@ pub fn delivered_by<'a>(
         ≡ delivered_connection recorded.now.up.ticks seed s c (option_map met_view met.entry) (recorded_view recorded.now)) }
     ensures up { IfOk result (λ d. IsLine d.up.line) }
     ensures down { IfOk result (λ d. IsLine d.down.line) }
+    ensures up_ticks { IfOk result (λ d. d.up.ticks ≡ recorded.now.up.ticks) }
+    ensures down_ticks { IfOk result (λ d. d.down.ticks ≡ recorded.now.up.ticks) }
 {
     match met {
         None => {
@@ -81,6 +84,8 @@ fn refused<'a>(alloc: Global, unit: Unit, number: u32) -> Delivered<'a>
     ensures value { delivered_view result ≡ refused_connection number }
     ensures up { IsLine result.up.line }
     ensures down { IsLine result.down.line }
+    ensures up_ticks { result.up.ticks ≡ ticks_of unit }
+    ensures down_ticks { result.down.ticks ≡ ticks_of unit }
 {
     Delivered {
         proxy: Some(number),
@@ -108,6 +113,8 @@ fn lines_through<'a>(
         ≡ connection_through recorded.now.up.ticks seed s c (met_view met.now) (recorded_view recorded.now)) }
     ensures up { IfOk result (λ d. IsLine d.up.line) }
     ensures down { IfOk result (λ d. IsLine d.down.line) }
+    ensures up_ticks { IfOk result (λ d. d.up.ticks ≡ recorded.now.up.ticks) }
+    ensures down_ticks { IfOk result (λ d. d.down.ticks ≡ recorded.now.up.ticks) }
 {
     let opened = recorded.opened;
     let up = recorded.up.copy(alloc)?;
@@ -125,6 +132,8 @@ fn cut_lines<'a>(proxy: Option<u32>, up: Line<'a>, down: Line<'a>) -> Delivered<
     ensures value { delivered_view result ≡ connection_by_cut up.entry.ticks proxy up.entry.line down.entry.line }
     ensures up { IsLine result.up.line }
     ensures down { IsLine result.down.line }
+    ensures up_ticks { result.up.ticks ≡ up.entry.ticks }
+    ensures down_ticks { result.down.ticks ≡ up.entry.ticks }
 {
     cut_lines_are_lines();
     let (up, down) = cut_both(up, down);

@@ -1,11 +1,11 @@
 -- Peers and pairs: when two are the same, and who sends a segment of a pair.
-use Rattle.std.proofs.Common.{◌≡◌, ℕ, ◌==◌, Bool, true, false, not, List, cond, refl, sym, ap, ◌∙◌, rules}
+use Rattle.std.proofs.Common.{◌≡◌, ℕ, ◌==◌, ◌&&◌, Bool, true, false, not, Option, Some, None, List, cond, refl, sym, ap, ◌∙◌, rules}
 use Rattle.std.specs.Bool.{beq}
 use Rattle.std.proofs.lemmas.Bool.{and_parts, eqb-true, false_from_ne_true}
 use Rattle.frame_headers.specs.declared.peers.Peer.{Peer}
-use Rattle.frame_headers.specs.Frame.{FrameClass, short, not_ipv4, bad_ipv4, fragment, not_tcp, cut, bad_tcp, same_ends, segment, frame_class, segment_fields, is_short, is_not_ipv4, is_bad_ipv4, is_fragment, is_not_tcp, is_cut, is_bad_tcp, is_same_ends, datagram, ip_payload}
+use Rattle.frame_headers.specs.Frame.{FrameClass, short, not_ipv4, bad_ipv4, fragment, not_tcp, cut, bad_tcp, same_ends, segment, frame_class, segment_fields, is_tagged, is_short, is_not_ipv4, is_bad_ipv4, is_fragment, is_not_tcp, is_cut, is_bad_tcp, is_same_ends, datagram, ip_payload}
 use Rattle.conn_table.specs.declared.conns.Pair.{Pair}
-use Rattle.conn_table.specs.IndexedSegments.{IndexedSegment, is_segment, same_peer, peer_le, same_pair, pair_of, pair_of_segment}
+use Rattle.conn_table.specs.IndexedSegments.{IndexedSegment, is_segment, same_peer, peer_le, same_vlan, same_pair, pair_of, pair_of_segment}
 use Rattle.conn_table.specs.Connections.{of_one_pair}
 
 -- ---- the same
@@ -22,14 +22,25 @@ same_peer-itself p = search rules
 pub same_peer-sym : (a b : Peer) → same_peer a b ≡ false → same_peer b a ≡ false
 same_peer-sym a b other = false_from_ne_true (same_peer b a) (λ same. let e : b ≡ a = same_peer-is b a same in let is : same_peer a b ≡ true = rw e (same_peer-itself a) in cc)
 
+same_vlan-is : (v w : Option ℕ) → same_vlan v w ≡ true → v ≡ w
+same_vlan-is None None same = refl
+same_vlan-is (Some v) (Some w) same = ap Some (eqb-true v w same)
+same_vlan-is None (Some w) same = absurd cc
+same_vlan-is (Some v) None same = absurd cc
+
+same_vlan-itself : (v : Option ℕ) → same_vlan v v ≡ true
+same_vlan-itself None = refl
+same_vlan-itself (Some v) = search rules
+
 pub same_pair-is : (p q : Pair) → same_pair p q ≡ true → p ≡ q
 same_pair-is p q same =
-    let parts = and_parts (same_peer p.low q.low) (same_peer p.high q.high) same in
-    let pair : Peer → Peer → Pair = λ low high. record { low = low; high = high } in
-    ap (λ x. pair x p.high) (same_peer-is p.low q.low parts.0) ∙ ap (λ x. pair q.low x) (same_peer-is p.high q.high parts.1)
+    let parts = and_parts (same_vlan p.vlan q.vlan) (same_peer p.low q.low && same_peer p.high q.high) same in
+    let peers = and_parts (same_peer p.low q.low) (same_peer p.high q.high) parts.1 in
+    let pair : Option ℕ → Peer → Peer → Pair = λ vlan low high. record { vlan = vlan; low = low; high = high } in
+    ap (λ v. pair v p.low p.high) (same_vlan-is p.vlan q.vlan parts.0) ∙ ap (λ x. pair q.vlan x p.high) (same_peer-is p.low q.low peers.0) ∙ ap (λ x. pair q.vlan q.low x) (same_peer-is p.high q.high peers.1)
 
 pub same_pair-itself : (p : Pair) → same_pair p p ≡ true
-same_pair-itself p = search rules
+same_pair-itself p = rw (same_vlan-itself p.vlan, same_peer-itself p.low, same_peer-itself p.high) refl
 
 pub same_pair-sym : (p q : Pair) → same_pair p q ≡ false → same_pair q p ≡ false
 same_pair-sym p q other = false_from_ne_true (same_pair q p) (λ same. let e : q ≡ p = same_pair-is q p same in let is : same_pair p q ≡ true = rw e (same_pair-itself p) in cc)
@@ -72,14 +83,14 @@ last_test false false false false false false false false is = refl
 pub peers_differ : (frame : List ℕ) → frame_class frame ≡ segment → same_peer (segment_fields frame).from (segment_fields frame).to ≡ false
 unfolding frame_class segment_fields
 peers_differ frame is =
-    last_test (is_short frame) (is_not_ipv4 frame) (is_bad_ipv4 (datagram frame)) (is_fragment (datagram frame)) (is_not_tcp (datagram frame)) (is_cut (datagram frame)) (is_bad_tcp (ip_payload (datagram frame))) (is_same_ends (datagram frame)) is
+    last_test (is_short (is_tagged frame) frame) (is_not_ipv4 (is_tagged frame) frame) (is_bad_ipv4 (datagram frame)) (is_fragment (datagram frame)) (is_not_tcp (datagram frame)) (is_cut (datagram frame)) (is_bad_tcp (ip_payload (datagram frame))) (is_same_ends (datagram frame)) is
 
 -- ---- who sends
 
 -- of two peers that are a pair with a and b, the sender is b where it is not a
-pub other_sender : (a b from to : Peer) → same_peer a b ≡ false → same_pair (pair_of from to) (pair_of a b) ≡ true → same_peer from b ≡ not (same_peer from a)
-other_sender a b from to differ same =
-    let pair = same_pair-is (pair_of from to) (pair_of a b) same in
+pub other_sender : (v w : Option ℕ) (a b from to : Peer) → same_peer a b ≡ false → same_pair (pair_of v from to) (pair_of w a b) ≡ true → same_peer from b ≡ not (same_peer from a)
+other_sender v w a b from to differ same =
+    let pair = same_pair-is (pair_of v from to) (pair_of w a b) same in
     by_order (peer_le from to) (peer_le a b) (ap (λ (p : Pair). p.low) pair) (ap (λ (p : Pair). p.high) pair)
   where
     is_first : from ≡ a → same_peer from b ≡ not (same_peer from a)

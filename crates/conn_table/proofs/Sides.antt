@@ -43,7 +43,7 @@ members_have c earlier b (s ∷ segs) opened differ = by (of_one_pair b s) (begi
     by : (t g : Bool) → of_one_pair b s ≡ t → AllByRecursion (HasSide c) (map (λ x. x.timed) more)
         → AllByRecursion (HasSide c) (map (λ x. x.timed) (if t then (if g then [] else s ∷ more) else more))
     by true true is all = tt
-    by true false is all = (rw opened (other_sender b.timed.fields.from b.timed.fields.to s.timed.fields.from s.timed.fields.to differ is), all)
+    by true false is all = (rw opened (other_sender s.timed.fields.vlan b.timed.fields.vlan b.timed.fields.from b.timed.fields.to s.timed.fields.from s.timed.fields.to differ is), all)
     by false g is all = all
 
 connections_have : (n : ℕ) (earlier segs : List IndexedSegment) → AllByRecursion HasTwoPeers segs → AllByRecursion HasSides (connections_after n earlier segs)

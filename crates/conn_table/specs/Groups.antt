@@ -1,6 +1,6 @@
 -- A partial read by pairs: for each pair of its range, in the order of its first segment, its segments split before each
 -- beginning.
-use Rattle.std.specs.Prelude.{◌≡◌, ℕ, List, [], ◌∷◌, map, filter, not, if◌then◌else◌}
+use Rattle.std.specs.Prelude.{◌≡◌, ℕ, List, [], ◌∷◌, map, filter, not, if◌then◌else◌, None}
 use Rattle.pcap_records.specs.CaptureView.{CaptureView}
 use Rattle.frame_headers.specs.declared.peers.Peer.{Peer}
 use Rattle.conn_table.specs.declared.conns.Pair.{Pair}
@@ -48,7 +48,7 @@ row_segment index from to flags seq = record {
   index = index;
   timed = record {
     at = index;
-    fields = record { mac_from = []; mac_to = []; from = from; to = to; seq = seq; ack = 0; flags = flags; payload = [] };
+    fields = record { mac_from = []; mac_to = []; vlan = None; from = from; to = to; seq = seq; ack = 0; flags = flags; payload = [] };
   };
 }
 

@@ -38,12 +38,18 @@ same_peer a b = a.addr == b.addr && a.port == b.port
 abbrev pub peer_le : Peer → Peer → Bool
 peer_le a b = nat_lt a.addr b.addr || (a.addr == b.addr && nat_le a.port b.port)
 
--- two peers without order
-abbrev pub pair_of : Peer → Peer → Pair
-pair_of a b = record { low = if peer_le a b then a else b; high = if peer_le a b then b else a }
+-- the same VLAN, or none in both
+abbrev pub same_vlan : Option ℕ → Option ℕ → Bool
+same_vlan None None = true
+same_vlan (Some v) (Some w) = v == w
+same_vlan v w = false
+
+-- two peers without order, and their VLAN
+abbrev pub pair_of : Option ℕ → Peer → Peer → Pair
+pair_of vlan a b = record { vlan = vlan; low = if peer_le a b then a else b; high = if peer_le a b then b else a }
 
 abbrev pub same_pair : Pair → Pair → Bool
-same_pair p q = same_peer p.low q.low && same_peer p.high q.high
+same_pair p q = same_vlan p.vlan q.vlan && (same_peer p.low q.low && same_peer p.high q.high)
 
 abbrev pub pair_of_segment : IndexedSegment → Pair
-pair_of_segment s = pair_of s.timed.fields.from s.timed.fields.to
+pair_of_segment s = pair_of s.timed.fields.vlan s.timed.fields.from s.timed.fields.to

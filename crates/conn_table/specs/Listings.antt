@@ -1,5 +1,5 @@
 -- What a listing of segments shows, and what holds of it.
-use Rattle.std.specs.Prelude.{◌≡◌, ◌<◌, ◌≤◌, ℕ, ◌-◌, ◌^◌, List, map, length, All, Some, get_or, slice_get}
+use Rattle.std.specs.Prelude.{◌≡◌, ◌<◌, ◌≤◌, ℕ, ◌-◌, ◌^◌, List, map, length, All, Some, get_or, slice_get, None}
 use Rattle.indexmap.specs.IndexSet.{IsUnique}
 use Rattle.frame_headers.specs.Frame.{FrameClass}
 use Rattle.conn_table.specs.declared.class_counts.Counts.{Counts}
@@ -12,7 +12,7 @@ use Rattle.conn_table.specs.KeptSegments.{KeptSegment, last_opening}
 use Rattle.conn_table.specs.Partials.{MarkedKept, kept_of}
 
 abbrev pub nowhere : Pair
-nowhere = record { low = record { addr = 0; port = 0 }; high = record { addr = 0; port = 0 } }
+nowhere = record { vlan = None; low = record { addr = 0; port = 0 }; high = record { addr = 0; port = 0 } }
 
 abbrev pub pair_at : List Pair → ℕ → Pair
 pair_at pairs g = get_or pairs g nowhere

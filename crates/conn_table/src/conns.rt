@@ -1,4 +1,4 @@
-//! Connections, their members, and the pairs of peers that they join.
+//! Connections, their members, and the pairs that they join: two peers and their VLAN.
 ghost use Rattle.std.specs.Prelude.{◌≡◌, if◌then◌else◌};
 ghost use Rattle.conn_table.specs.IndexedSegments.{peer_le, pair_of};
 
@@ -17,6 +17,8 @@ pub struct Conn {
     pub opening: u32,
     /// The instant of its beginning.
     pub opened: Moment,
+    /// The number of its VLAN, if it has one (IEEE 802.1Q).
+    pub vlan: Option<u16>,
     /// The sender of its beginning.
     pub client: Peer,
     /// The other peer.
@@ -95,9 +97,11 @@ impl Members {
     }
 }
 
-/// Two peers without order: the lower one first, by address and then by port.
+/// Two peers without order, the lower one first, by address and then by port, and their VLAN: peers in another VLAN are others.
 #[derive(Clone, Copy, Debug, PartialEq, Eq, Hash)]
 pub struct Pair {
+    /// The number of their VLAN, if they have one.
+    pub vlan: Option<u16>,
     /// The lower peer.
     pub low: Peer,
     /// The higher peer.
@@ -127,13 +131,14 @@ pub(crate) fn is_lower_or_same(a: Peer, b: Peer) -> bool
     a.addr < b.addr || (a.addr == b.addr && a.port <= b.port)
 }
 
-// The pair of two peers.
-pub(crate) fn pair_of(a: Peer, b: Peer) -> Pair
-    ensures { result ≡ pair_of a b }
+// The pair of two peers in a VLAN, or in none.
+pub(crate) fn pair_of(vlan: Option<u16>, a: Peer, b: Peer) -> Pair
+    ensures { result ≡ pair_of vlan a b }
 {
-    if is_lower_or_same(a, b) {
-        Pair { low: a, high: b }
+    let (low, high) = if is_lower_or_same(a, b) {
+        (a, b)
     } else {
-        Pair { low: b, high: a }
-    }
+        (b, a)
+    };
+    Pair { vlan, low, high }
 }

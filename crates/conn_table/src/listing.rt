@@ -174,7 +174,7 @@ impl Listing {
             ≡ marks_of self.old ++ mark_behind (kept_of (marks_of self.old))
             (kept_at (start + segment.now.offset) (segment_read index at (fields_of_segment segment.now))) ∷ []) }
     {
-        let group = self.group_of(pair_of(segment.from, segment.to))?;
+        let group = self.group_of(pair_of(segment.vlan, segment.from, segment.to))?;
         let member = Member {
             at,
             index,

@@ -171,6 +171,7 @@ impl Growth {
             number,
             opening: entry.member.index,
             opened: entry.member.at,
+            vlan: pair.vlan,
             client: pair.sender(from_low),
             server: pair.receiver(from_low),
             members: Members::of_first(alloc, room, entry.member_of(from_low))?,

@@ -2,7 +2,7 @@
 use Rattle.std.specs.Prelude.{ℕ, List, Option}
 use Rattle.segment_writer.specs.declared.framed.Framed.{Framed}
 use Rattle.conn_table.specs.Connections.{Connection}
-use Rattle.reassembly.specs.Positions.{client_of, server_of}
+use Rattle.reassembly.specs.Positions.{client_of, server_of, vlan_of}
 use Rattle.reassembly.specs.RecordedLines.{RecordedConnection, recorded_connection}
 use Rattle.toxic_defs.specs.DeliveredLines.{MetProxy, DeliveredConnection, delivered_connection}
 use Rattle.segment_writer.specs.WrittenSegments.{written_segments}
@@ -17,8 +17,8 @@ pub record Contribution : Type 0 where
 
 abbrev pub contribution_by : ℕ → Connection → RecordedConnection → DeliveredConnection → Contribution
 contribution_by ticks c r d = record {
-  segments = written_segments ticks (written_connection c.number (client_of c) (server_of c) r d);
-  line = connection_text c.number (client_of c) (server_of c) r d;
+  segments = written_segments ticks (written_connection c.number (vlan_of c) (client_of c) (server_of c) r d);
+  line = connection_text c.number (vlan_of c) (client_of c) (server_of c) r d;
 }
 
 -- The contribution of a connection: of the ticks of a second, its members with their instants and its number, the

@@ -46,8 +46,8 @@ abbrev pub recorded_delivery_by : ℕ → RecordingView → DeliveredConnection 
 recorded_delivery_by number r d = record {
   scenario = number;
   conn = r.conn.number;
-  segments = written_segments r.ticks (written_connection r.conn.number r.conn.client r.conn.server r.recorded d);
-  line = connection_text r.conn.number r.conn.client r.conn.server r.recorded d;
+  segments = written_segments r.ticks (written_connection r.conn.number r.conn.vlan r.conn.client r.conn.server r.recorded d);
+  line = connection_text r.conn.number r.conn.vlan r.conn.client r.conn.server r.recorded d;
 }
 
 -- the same to a scenario with its number
@@ -72,7 +72,7 @@ no_side = record { line = empty_line; lost = 0 }
 abbrev pub no_recording : RecordingView
 no_recording = record {
   ticks = 0;
-  conn = record { number = 0; opening = 0; opened = 0; client = no_peer; server = no_peer; members = [] };
+  conn = record { number = 0; opening = 0; opened = 0; vlan = None; client = no_peer; server = no_peer; members = [] };
   recorded = record {
     up = no_side;
     down = no_side;

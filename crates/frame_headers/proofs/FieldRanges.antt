@@ -1,14 +1,14 @@
 -- The fields of a segment fit their places in written headers, where a frame is made of bytes.
-use Rattle.std.proofs.Common.{◌≡◌, ◌≢◌, ◌<◌, ◌≤◌, ℕ, zero, suc, ◌-◌, ◌^◌, ◌==◌, true, false, ◌&&◌, List, [], ◌∷◌, length, take, drop, slice_index, sym, ◌∙◌, true≢false, arith, rules, length-take, length-drop}
+use Rattle.std.proofs.Common.{◌≡◌, ◌≢◌, ◌<◌, ◌≤◌, ℕ, zero, suc, ◌-◌, ◌%◌, ◌^◌, ◌==◌, Bool, true, false, ◌&&◌, if◌then◌else◌, Some, None, refl, List, [], ◌∷◌, length, take, drop, slice_index, sym, ◌∙◌, true≢false, arith, rules, length-take, length-drop}
 use Rattle.std.specs.List.{AllByRecursion}
 use Rattle.std.proofs.lemmas.List.Elements.{All-from_recursion, recursion_from_All, All-take, All-drop}
 use Rattle.std.proofs.lemmas.Bool.{ltb-false}
 use Rattle.byteorder.specs.Numbers.{big_from-lt}
-use Rattle.frame_headers.specs.HeaderLaws.{SegmentsFit}
+use Rattle.frame_headers.specs.HeaderLaws.{IsVlan, SegmentsFit}
 use Rattle.frame_headers.specs.declared.peers.Peer.{Peer}
-use Rattle.frame_headers.specs.Frame.{number_at, datagram, ip_payload, sender, receiver, header_len, total_len, segment_fields}
+use Rattle.frame_headers.specs.Frame.{number_at, is_tagged, vlan_numbered, vlan_in, datagram, ip_payload, sender, receiver, header_len, total_len, segment_fields}
 use Rattle.frame_headers.proofs.SegmentTests.{segment_tests}
-use Rattle.frame_headers.specs.Layout.{link_len}
+use Rattle.frame_headers.specs.Layout.{ethernet_len, link_len, vlan_limit}
 
 abbrev IsByte : ℕ → Type 0
 IsByte x = x < 256
@@ -30,13 +30,29 @@ differs a b test same = true≢false (sym (itself b) ∙ rw same at test)
     itself : (p : Peer) → (p.addr == p.addr && p.port == p.port) ≡ true
     itself p = search rules
 
+link_least : (tagged : Bool) → ethernet_len ≤ link_len tagged
+link_least true = omega arith
+link_least false = omega arith
+
+numbered_fits : (n : ℕ) → n < vlan_limit → IsVlan (vlan_numbered n)
+numbered_fits n limited = by (n == 0) refl
+  where
+    by : (b : Bool) → (n == 0) ≡ b → IsVlan (if b then None else Some n)
+    by true is = tt
+    by false is = record { some = grind (arith, is); limited = limited }
+
+vlan_fits : (tagged : Bool) (frame : List ℕ) → IsVlan (vlan_in tagged frame)
+vlan_fits false frame = tt
+vlan_fits true frame = numbered_fits (number_at 2 ethernet_len frame % vlan_limit) (omega arith)
+
 pub segments_fit : SegmentsFit
 unfolding segment_fields
 segments_fit frame are is =
     let told = segment_tests frame is in
-    let long : link_len ≤ length frame = ltb-false (length frame) link_len told.short in
+    let whole : link_len (is_tagged frame) ≤ length frame = ltb-false (length frame) (link_len (is_tagged frame)) told.short in
+    let long : ethernet_len ≤ length frame = omega (arith, whole, link_least (is_tagged frame)) in
     let ip : List ℕ = datagram frame in
-    let ip_bytes : AllByRecursion IsByte ip = bytes_left link_len frame are in
+    let ip_bytes : AllByRecursion IsByte ip = bytes_left (link_len (is_tagged frame)) frame are in
     let tcp : List ℕ = ip_payload ip in
     let tcp_bytes : AllByRecursion IsByte tcp =
     bytes_taken (total_len ip - header_len ip) (drop (header_len ip) ip) (bytes_left (header_len ip) ip ip_bytes) in
@@ -44,6 +60,7 @@ segments_fit frame are is =
     record {
       mac_from = omega (arith, length-take 6 (drop 6 frame), length-drop 6 frame, long);
       mac_to = omega (arith, length-take 6 frame, long);
+      vlan = vlan_fits (is_tagged frame) frame;
       from_addr = fits 4 12 ip ip_bytes;
       from_port = fits 2 0 tcp tcp_bytes;
       to_addr = fits 4 16 ip ip_bytes;

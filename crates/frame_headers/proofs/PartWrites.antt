@@ -1,5 +1,5 @@
 -- A write to all of a list after its first elements.
-use Rattle.std.proofs.Common.{◌≡◌, ℕ, ◌+◌, ◌-◌, ◌≤◌, List, [], ◌++◌, length, take, drop, refl, sym, ap, ◌∙◌, arith, append-nil, append_assoc, length-append, length-drop, take_all, take_at, drop_at, drop-drop}
+use Rattle.std.proofs.Common.{◌≡◌, ℕ, ◌+◌, ◌-◌, ◌≤◌, List, [], ◌++◌, length, take, drop, is_some, refl, sym, ap, ◌∙◌, arith, append-nil, append_assoc, length-append, length-drop, take_all, take_at, drop_at, drop-drop}
 use Rattle.std.proofs.lemmas.List.{drop_all}
 use borrow.Rule.Slice.PartMut.{put_mid}
 use Rattle.byteorder.specs.Endian.{big_bytes}
@@ -29,11 +29,11 @@ addresses_put to from xs t f =
     rw (take_at to (drop 6 xs) 6 t, drop_at to (drop 6 xs) 6 t, drop-drop 6 6 xs) (sym (append_assoc to from (drop 12 xs)))
 
 -- the Ethernet header, its addresses written before
-pub ethernet_put : (to from xs ys two : List ℕ) → length to ≡ 6 → length from ≡ 6 → ys ≡ put_mid 6 6 (to ++ drop 6 xs) from → two ≡ big_bytes 2 2048 ++ drop 2 (left_from 12 ys) → put_mid 12 (length ys - 12) ys two ≡ ((to ++ from) ++ big_bytes 2 2048) ++ drop link_len xs
-ethernet_put to from xs ys two t f e g =
+pub ethernet_put : (to from xs ys rest link : List ℕ) (l : ℕ) → length to ≡ 6 → length from ≡ 6 → ys ≡ put_mid 6 6 (to ++ drop 6 xs) from → rest ≡ link ++ drop l (left_from 12 ys) → put_mid 12 (length ys - 12) ys rest ≡ ((to ++ from) ++ link) ++ drop (12 + l) xs
+ethernet_put to from xs ys rest link l t f e g =
     let len : length (to ++ from) ≡ 12 = omega (arith, length-append to from) in
-    rw (g, e, addresses_put to from xs t f, left_from-append (to ++ from) (drop 12 xs) 12 len, put_mid-append (to ++ from) (drop 12 xs) (big_bytes 2 2048 ++ drop 2 (drop 12 xs)) 12 len, drop-drop 2 12 xs)
-    (sym (append_assoc (to ++ from) (big_bytes 2 2048) (drop link_len xs)))
+    rw (g, e, addresses_put to from xs t f, left_from-append (to ++ from) (drop 12 xs) 12 len, put_mid-append (to ++ from) (drop 12 xs) (link ++ drop l (drop 12 xs)) 12 len, drop-drop l 12 xs)
+    (sym (append_assoc (to ++ from) link (drop (12 + l) xs)))
 
 -- the TCP header, written with 0 in the place of its checksum before
 pub tcp_put : (h : Header) (xs head two : List ℕ) (sum : ℕ) → head ≡ tcp_with 0 h ++ drop 20 xs → sum ≡ tcp_sum h.from.addr h.to.addr head → two ≡ big_bytes 2 sum ++ drop 2 (left_from 16 head) → put_mid 16 (length head - 16) head two ≡ tcp h (drop 20 xs) ++ drop 20 xs
@@ -47,16 +47,20 @@ length-ipv4 : (h : Header) (n : ℕ) → length (ipv4 h n) ≡ 20
 unfolding ipv4
 length-ipv4 h n = refl
 
--- the three headers, one after another
-pub headers_put : (h : Header) (n : ℕ) (xs link ip frame segment : List ℕ) → headers_len ≤ length xs → length link ≡ length xs → n ≡ length xs - (link_len + ipv4_len) → link ≡ ethernet h ++ drop link_len xs → ip ≡ ipv4 h n ++ drop 20 (left_from link_len link) → frame ≡ put_mid link_len (length link - link_len) link ip → segment ≡ tcp h (drop 20 (left_from (link_len + ipv4_len) frame)) ++ drop 20 (left_from (link_len + ipv4_len) frame) → put_mid (link_len + ipv4_len) (length frame - (link_len + ipv4_len)) frame segment ≡ headers h (drop headers_len xs) ++ drop headers_len xs
+-- the three headers, one after another, the first of them so long
+pub headers_put : (h : Header) (n l : ℕ) (xs link ip frame segment : List ℕ) → l ≡ link_len (is_some h.vlan) → headers_len h.vlan ≤ length xs → length link ≡ length xs → n ≡ length xs - (l + ipv4_len) → link ≡ ethernet h ++ drop (link_len (is_some h.vlan)) xs → ip ≡ ipv4 h n ++ drop 20 (left_from l link) → frame ≡ put_mid l (length link - l) link ip → segment ≡ tcp h (drop 20 (left_from (l + ipv4_len) frame)) ++ drop 20 (left_from (l + ipv4_len) frame) → put_mid (l + ipv4_len) (length frame - (l + ipv4_len)) frame segment ≡ headers h (drop (headers_len h.vlan) xs) ++ drop (headers_len h.vlan) xs
 unfolding headers
-headers_put h n xs link ip frame segment room same count e i f s =
-    let len : length (ethernet h) ≡ link_len = omega (arith, length-append (ethernet h) (drop link_len xs), length-drop link_len xs, ap length e) in
+headers_put h n l xs link ip frame segment is room same count e i f s =
+    let all : ℕ = l + ipv4_len + 20 in
+    let e_l : link ≡ ethernet h ++ drop l xs = rw is e in
+    let len : length (ethernet h) ≡ l = omega (arith, length-append (ethernet h) (drop l xs), length-drop l xs, ap length e_l, is) in
     let head : List ℕ = ethernet h ++ ipv4 h n in
-    let head_len : length head ≡ (link_len + ipv4_len) = omega (arith, length-append (ethernet h) (ipv4 h n), length-ipv4 h n) in
-    let ip_is : ip ≡ ipv4 h n ++ drop (link_len + ipv4_len) xs = i ∙ rw (e, left_from-append (ethernet h) (drop link_len xs) link_len len, drop-drop 20 link_len xs) refl in
-    let frame_is : frame ≡ head ++ drop (link_len + ipv4_len) xs =
-    f ∙ rw (ip_is, e, put_mid-append (ethernet h) (drop link_len xs) (ipv4 h n ++ drop (link_len + ipv4_len) xs) link_len len) (sym (append_assoc (ethernet h) (ipv4 h n) (drop (link_len + ipv4_len) xs))) in
-    let segment_is : segment ≡ tcp h (drop headers_len xs) ++ drop headers_len xs = s ∙ rw (frame_is, left_from-append head (drop (link_len + ipv4_len) xs) (link_len + ipv4_len) head_len, drop-drop 20 (link_len + ipv4_len) xs) refl in
-    let number_at : n ≡ 20 + length (drop headers_len xs) = omega (arith, length-drop headers_len xs) in
-    rw (segment_is, frame_is, put_mid-append head (drop (link_len + ipv4_len) xs) (tcp h (drop headers_len xs) ++ drop headers_len xs) (link_len + ipv4_len) head_len, number_at) (sym (append_assoc _ (tcp h (drop headers_len xs)) (drop headers_len xs)))
+    let head_len : length head ≡ l + ipv4_len = omega (arith, length-append (ethernet h) (ipv4 h n), length-ipv4 h n, len) in
+    let ip_is : ip ≡ ipv4 h n ++ drop (l + ipv4_len) xs = i ∙ rw (e_l, left_from-append (ethernet h) (drop l xs) l len, drop-drop 20 l xs) refl in
+    let frame_is : frame ≡ head ++ drop (l + ipv4_len) xs =
+    f ∙ rw (ip_is, e_l, put_mid-append (ethernet h) (drop l xs) (ipv4 h n ++ drop (l + ipv4_len) xs) l len) (sym (append_assoc (ethernet h) (ipv4 h n) (drop (l + ipv4_len) xs))) in
+    let segment_is : segment ≡ tcp h (drop all xs) ++ drop all xs = s ∙ rw (frame_is, left_from-append head (drop (l + ipv4_len) xs) (l + ipv4_len) head_len, drop-drop 20 (l + ipv4_len) xs) refl in
+    let number_at : n ≡ 20 + length (drop all xs) = omega (arith, length-drop all xs, is) in
+    let made : put_mid (l + ipv4_len) (length frame - (l + ipv4_len)) frame segment ≡ headers h (drop all xs) ++ drop all xs =
+    rw (segment_is, frame_is, put_mid-append head (drop (l + ipv4_len) xs) (tcp h (drop all xs) ++ drop all xs) (l + ipv4_len) head_len, number_at) (sym (append_assoc _ (tcp h (drop all xs)) (drop all xs))) in
+    made ∙ ap (λ k. headers h (drop (k + ipv4_len + 20) xs) ++ drop (k + ipv4_len + 20) xs) is

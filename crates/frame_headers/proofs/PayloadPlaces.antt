@@ -3,13 +3,13 @@ use Rattle.std.proofs.Common.{◌≡◌, ◌≤◌, ℕ, ◌+◌, ◌-◌, ◌==
 use Rattle.std.proofs.lemmas.Bool.{ltb-false, or_parts}
 use Rattle.std.proofs.lemmas.List.{drop-take, take-take, drop-drop}
 use Rattle.frame_headers.specs.HeaderLaws.{IsPayloadInPlace, PayloadsAreInPlace}
-use Rattle.frame_headers.specs.Frame.{segment, version, frame_class, datagram, ip_payload, header_len, total_len, data_offset, segment_fields}
+use Rattle.frame_headers.specs.Frame.{segment, is_tagged, version, frame_class, datagram, ip_payload, header_len, total_len, data_offset, segment_fields}
 use Rattle.frame_headers.proofs.SegmentTests.{segment_tests}
 use Rattle.frame_headers.specs.Layout.{link_len}
 
 -- which lengths of a segment's frame, datagram and TCP bytes fit one another
 record HasWholeHeaders (frame : List ℕ) : Type 0 where
-  link : link_len ≤ length frame
+  link : link_len (is_tagged frame) ≤ length frame
   header : header_len (datagram frame) ≤ total_len (datagram frame)
   total : total_len (datagram frame) ≤ length (datagram frame)
   carried : length (ip_payload (datagram frame)) ≡ total_len (datagram frame) - header_len (datagram frame)
@@ -25,7 +25,7 @@ HasWholeHeaders-segment frame is =
     let header : header_len ip ≤ total_len ip = ltb-false (total_len ip) (header_len ip) ipv4.1 in
     let total : total_len ip ≤ length ip = ltb-false (length ip) (total_len ip) told.cut in
     record {
-      link = ltb-false (length frame) link_len told.short;
+      link = ltb-false (length frame) (link_len (is_tagged frame)) told.short;
       header = header;
       total = total;
       carried = omega (arith, length-take (total_len ip - header_len ip) (drop (header_len ip) ip), length-drop (header_len ip) ip, header, total);
@@ -50,23 +50,24 @@ length-payload frame whole =
 in_place : (frame : List ℕ) → HasWholeHeaders frame → IsPayloadInPlace frame
 unfolding segment_fields
 in_place frame whole =
+    let l : ℕ = link_len (is_tagged frame) in
     let ip : List ℕ = datagram frame in
     let tcp : List ℕ = ip_payload ip in
     let h : ℕ = header_len ip in
     let t : ℕ = total_len ip in
     let d : ℕ = data_offset tcp in
     let len : length (segment_fields frame).payload ≡ t - h - d = length-payload frame whole in
-    let count : link_len + h + d + (t - h - d) - (link_len + h + d) ≡ t - h - d = omega arith in
-    let first : drop (link_len + h + d) frame ≡ drop d (drop h ip) = rw (drop-drop d h ip, drop-drop (h + d) link_len frame) (reorder h d frame) in
+    let count : l + h + d + (t - h - d) - (l + h + d) ≡ t - h - d = omega arith in
+    let first : drop (l + h + d) frame ≡ drop d (drop h ip) = rw (drop-drop d h ip, drop-drop (h + d) l frame) (reorder l h d frame) in
     let cut : drop d tcp ≡ take (t - h - d) (drop d (drop h ip)) = part d (t - h) (drop h ip) (omega (arith, whole.carried, whole.offset)) in
     let all : length tcp - d ≡ t - h - d = omega (arith, whole.carried) in
     record {
-      within = omega (arith, len, length-drop link_len frame, whole.link, whole.total, whole.header, whole.carried, whole.offset);
+      within = omega (arith, len, length-drop l frame, whole.link, whole.total, whole.header, whole.carried, whole.offset);
       bytes = rw (len, count, first, all, cut, take-take (t - h - d) (t - h - d) (drop d (drop h ip)) (omega arith)) refl;
     }
   where
-    reorder : (h d : ℕ) (frame : List ℕ) → drop (link_len + h + d) frame ≡ drop (link_len + (h + d)) frame
-    reorder h d frame = let e : link_len + h + d ≡ link_len + (h + d) = omega arith in rw e refl
+    reorder : (l h d : ℕ) (frame : List ℕ) → drop (l + h + d) frame ≡ drop (l + (h + d)) frame
+    reorder l h d frame = let e : l + h + d ≡ l + (h + d) = omega arith in rw e refl
 
 pub payloads_are_in_place : PayloadsAreInPlace
 payloads_are_in_place frame is = in_place frame (HasWholeHeaders-segment frame is)

@@ -1,10 +1,10 @@
 -- Of a segment none of the tests holds by which a frame has another class.
 use Rattle.std.proofs.Common.{◌≡◌, ℕ, Bool, true, false, List, refl, if◌then◌else◌}
-use Rattle.frame_headers.specs.Frame.{short, not_ipv4, bad_ipv4, fragment, not_tcp, cut, bad_tcp, same_ends, segment, is_short, is_not_ipv4, is_bad_ipv4, is_fragment, is_not_tcp, is_cut, is_bad_tcp, is_same_ends, frame_class, datagram, ip_payload}
+use Rattle.frame_headers.specs.Frame.{short, not_ipv4, bad_ipv4, fragment, not_tcp, cut, bad_tcp, same_ends, segment, is_tagged, is_short, is_not_ipv4, is_bad_ipv4, is_fragment, is_not_tcp, is_cut, is_bad_tcp, is_same_ends, frame_class, datagram, ip_payload}
 
 pub record FailsTests (frame : List ℕ) : Type 0 where
-  pub short : is_short frame ≡ false
-  pub not_ipv4 : is_not_ipv4 frame ≡ false
+  pub short : is_short (is_tagged frame) frame ≡ false
+  pub not_ipv4 : is_not_ipv4 (is_tagged frame) frame ≡ false
   pub bad_ipv4 : is_bad_ipv4 (datagram frame) ≡ false
   pub fragment : is_fragment (datagram frame) ≡ false
   pub not_tcp : is_not_tcp (datagram frame) ≡ false
@@ -28,7 +28,7 @@ by_tests false false false false false false false false is = (refl, refl, refl,
 pub segment_tests : (frame : List ℕ) → frame_class frame ≡ segment → FailsTests frame
 unfolding frame_class
 segment_tests frame is =
-    let told = by_tests (is_short frame) (is_not_ipv4 frame) (is_bad_ipv4 (datagram frame)) (is_fragment (datagram frame)) (is_not_tcp (datagram frame)) (is_cut (datagram frame)) (is_bad_tcp (ip_payload (datagram frame))) (is_same_ends (datagram frame)) is in
+    let told = by_tests (is_short (is_tagged frame) frame) (is_not_ipv4 (is_tagged frame) frame) (is_bad_ipv4 (datagram frame)) (is_fragment (datagram frame)) (is_not_tcp (datagram frame)) (is_cut (datagram frame)) (is_bad_tcp (ip_payload (datagram frame))) (is_same_ends (datagram frame)) is in
     record {
       short = told.0;
       not_ipv4 = told.1;

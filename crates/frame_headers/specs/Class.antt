@@ -22,6 +22,7 @@ abbrev pub fields_of_segment : Segment → SegmentFields
 fields_of_segment s = record {
   mac_from = s.mac_from;
   mac_to = s.mac_to;
+  vlan = s.vlan;
   from = s.from;
   to = s.to;
   seq = s.seq;

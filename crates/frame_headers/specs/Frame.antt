@@ -1,31 +1,48 @@
 -- What a captured Ethernet frame is, and the fields of the TCP segment in it. A frame is the list of its bytes, and
 -- each field is the number at the place where its standard puts it.
-use Rattle.std.specs.Prelude.{ℕ, ◌+◌, ◌-◌, ◌*◌, ◌/◌, ◌%◌, List, length, drop, slice_index, slice_range, Bool, ◌||◌, ◌&&◌, not, nat_lt, ◌==◌, if◌then◌else◌}
+use Rattle.std.specs.Prelude.{ℕ, ◌+◌, ◌-◌, ◌*◌, ◌/◌, ◌%◌, List, length, drop, slice_index, slice_range, Bool, true, false, ◌||◌, ◌&&◌, not, nat_lt, nat_le, ◌==◌, Option, Some, None, if◌then◌else◌}
 use Rattle.byteorder.specs.Endian.{big_number}
 use Rattle.frame_headers.specs.declared.peers.Peer.{Peer}
-use Rattle.frame_headers.specs.Layout.{mac_len, link_len, type_len, ipv4_type, ipv4_len, total_len_at, fragment_at, protocol_at, source_at, destination_at, tcp_protocol, tcp_len, to_port_at, seq_at, ack_at, data_offset_at, flags_at}
+use Rattle.frame_headers.specs.Layout.{mac_len, ethernet_len, link_len, type_len, tag_type, vlan_limit, ipv4_type, ipv4_len, total_len_at, fragment_at, protocol_at, source_at, destination_at, tcp_protocol, tcp_len, to_port_at, seq_at, ack_at, data_offset_at, flags_at}
 
 -- the number in the n bytes from a place on, the highest byte first
 abbrev pub number_at : ℕ → ℕ → List ℕ → ℕ
 number_at n place bytes = big_number n (drop place bytes)
 
--- Ethernet II: the receiver's address and the sender's, 6 bytes each, and the type of what follows.
+-- Ethernet II: the receiver's address and the sender's, 6 bytes each, a tag if there is one (IEEE 802.1Q), and the type
+-- of what follows. `tagged` says whether there is a tag.
 
 -- the type of what follows
-abbrev pub link_type : List ℕ → ℕ
-link_type frame = number_at 2 (link_len - type_len) frame
+abbrev pub link_type : Bool → List ℕ → ℕ
+link_type tagged frame = number_at 2 (link_len tagged - type_len) frame
+
+-- whether a frame has a tag: in place of a type it has that of a tag
+abbrev pub is_tagged : List ℕ → Bool
+is_tagged frame = nat_le ethernet_len (length frame) && link_type false frame == tag_type
+
+-- the VLAN of that number; 0 stands in a tag that tells a priority alone
+abbrev pub vlan_numbered : ℕ → Option ℕ
+vlan_numbered n = if n == 0 then None else Some n
+
+-- the VLAN of a frame, if it has one
+abbrev pub vlan_in : Bool → List ℕ → Option ℕ
+vlan_in false frame = None
+vlan_in true frame = vlan_numbered (number_at 2 ethernet_len frame % vlan_limit)
 
 -- what follows: an IPv4 datagram, where the type says so, and whatever stands after it
+abbrev pub datagram_in : Bool → List ℕ → List ℕ
+datagram_in tagged frame = drop (link_len tagged) frame
+
 abbrev pub datagram : List ℕ → List ℕ
-datagram frame = drop link_len frame
+datagram frame = datagram_in (is_tagged frame) frame
 
 -- no whole Ethernet header
-abbrev pub is_short : List ℕ → Bool
-is_short frame = nat_lt (length frame) link_len
+abbrev pub is_short : Bool → List ℕ → Bool
+is_short tagged frame = nat_lt (length frame) (link_len tagged)
 
--- another type than IPv4's
-abbrev pub is_not_ipv4 : List ℕ → Bool
-is_not_ipv4 frame = not (link_type frame == ipv4_type)
+-- another type than IPv4's; a second tag has one
+abbrev pub is_not_ipv4 : Bool → List ℕ → Bool
+is_not_ipv4 tagged frame = not (link_type tagged frame == ipv4_type)
 
 -- IPv4 (RFC 791 section 3.1). `ip` is a datagram and whatever stands after it.
 
@@ -105,7 +122,7 @@ payload_of tcp = slice_range tcp (data_offset tcp) (length tcp)
 
 -- where the payload lies in a segment's frame: after the headers of Ethernet, IPv4 and TCP
 abbrev pub payload_offset : List ℕ → ℕ
-payload_offset frame = link_len + header_len (datagram frame) + data_offset (ip_payload (datagram frame))
+payload_offset frame = link_len (is_tagged frame) + header_len (datagram frame) + data_offset (ip_payload (datagram frame))
 
 -- the classes of frames
 pub data FrameClass : Type 0 where
@@ -120,24 +137,28 @@ pub data FrameClass : Type 0 where
   segment : FrameClass
 
 -- the class of a frame: the first whose test holds, and a segment where none does
-unfoldable pub frame_class : List ℕ → FrameClass
-frame_class frame =
-    if is_short frame then short
-    else if is_not_ipv4 frame then not_ipv4
-    else if is_bad_ipv4 (datagram frame) then bad_ipv4
-    else if is_fragment (datagram frame) then fragment
-    else if is_not_tcp (datagram frame) then not_tcp
-    else if is_cut (datagram frame) then cut
-    else if is_bad_tcp (ip_payload (datagram frame)) then bad_tcp
-    else if is_same_ends (datagram frame) then same_ends
+abbrev pub frame_class_in : Bool → List ℕ → FrameClass
+frame_class_in tagged frame =
+    if is_short tagged frame then short
+    else if is_not_ipv4 tagged frame then not_ipv4
+    else if is_bad_ipv4 (datagram_in tagged frame) then bad_ipv4
+    else if is_fragment (datagram_in tagged frame) then fragment
+    else if is_not_tcp (datagram_in tagged frame) then not_tcp
+    else if is_cut (datagram_in tagged frame) then cut
+    else if is_bad_tcp (ip_payload (datagram_in tagged frame)) then bad_tcp
+    else if is_same_ends (datagram_in tagged frame) then same_ends
     else segment
 
--- The fields of a TCP segment and of the headers that carry it: the Ethernet addresses, the two peers, the sequence and
+unfoldable pub frame_class : List ℕ → FrameClass
+frame_class frame = frame_class_in (is_tagged frame) frame
+
+-- The fields of a TCP segment and of the headers that carry it: the Ethernet addresses, the VLAN, the two peers, the sequence and
 -- acknowledgment numbers, the flags byte and the payload. Checksums are none of them: a capture of outgoing packets
 -- commonly holds unfilled ones.
 pub record SegmentFields : Type 0 where
   pub mac_from : List ℕ
   pub mac_to : List ℕ
+  pub vlan : Option ℕ
   pub from : Peer
   pub to : Peer
   pub seq : ℕ
@@ -146,17 +167,21 @@ pub record SegmentFields : Type 0 where
   pub payload : List ℕ
 
 -- the fields of the segment in a frame of that class
-unfoldable pub segment_fields : List ℕ → SegmentFields
-segment_fields frame = record {
+abbrev pub segment_fields_in : Bool → List ℕ → SegmentFields
+segment_fields_in tagged frame = record {
   mac_from = slice_range frame mac_len (mac_len + mac_len);
   mac_to = slice_range frame 0 mac_len;
-  from = sender (datagram frame);
-  to = receiver (datagram frame);
-  seq = number_at 4 seq_at (ip_payload (datagram frame));
-  ack = number_at 4 ack_at (ip_payload (datagram frame));
-  flags = slice_index (ip_payload (datagram frame)) flags_at;
-  payload = payload_of (ip_payload (datagram frame));
+  vlan = vlan_in tagged frame;
+  from = sender (datagram_in tagged frame);
+  to = receiver (datagram_in tagged frame);
+  seq = number_at 4 seq_at (ip_payload (datagram_in tagged frame));
+  ack = number_at 4 ack_at (ip_payload (datagram_in tagged frame));
+  flags = slice_index (ip_payload (datagram_in tagged frame)) flags_at;
+  payload = payload_of (ip_payload (datagram_in tagged frame));
 }
+
+unfoldable pub segment_fields : List ℕ → SegmentFields
+segment_fields frame = segment_fields_in (is_tagged frame) frame
 
 -- a captured frame as everything above sees it: its class, and the fields that it has where it is a segment
 pub record SeenFrame : Type 0 where

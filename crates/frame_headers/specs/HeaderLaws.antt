@@ -1,11 +1,19 @@
 -- What holds of written headers: their checksums are filled, and their fields are read back.
-use Rattle.std.specs.Prelude.{◌≡◌, ◌≢◌, ℕ, ◌+◌, ◌<◌, ◌≤◌, ◌^◌, List, ◌++◌, length, drop, slice_range}
+use Rattle.std.specs.Prelude.{◌≡◌, ◌≢◌, ℕ, ◌+◌, ◌<◌, ◌≤◌, ◌^◌, Option, IfSome, List, ◌++◌, length, drop, slice_range}
 use Rattle.std.specs.List.{AllByRecursion}
 use Rattle.frame_headers.specs.Frame.{SegmentFields, datagram, frame_class, segment_fields, segment, payload_offset}
-use Rattle.frame_headers.specs.Layout.{mac_len, ipv4_len, headers_len, payload_limit}
+use Rattle.frame_headers.specs.Layout.{mac_len, vlan_limit, ipv4_len, headers_len, payload_limit}
 use Rattle.frame_headers.specs.Headers.{headers}
 use Rattle.frame_headers.specs.Sum.{sum16, tcp_sum}
 use Rattle.frame_headers.specs.declared.written.Header.{Header}
+
+-- a VLAN's number, if there is one: above 0, which tells none, and of 12 bits
+pub record IsVlanNumber (n : ℕ) : Type 0 where
+  pub some : 0 < n
+  pub limited : n < vlan_limit
+
+abbrev pub IsVlan : Option ℕ → Type 0
+IsVlan vlan = IfSome vlan IsVlanNumber
 
 -- the fields of a header lie in the ranges of their types
 pub record IsHeader (h : Header) : Type 0 where
@@ -24,6 +32,7 @@ abbrev pub fields_with : Header → List ℕ → SegmentFields
 fields_with h bytes = record {
   mac_from = h.mac_from;
   mac_to = h.mac_to;
+  vlan = h.vlan;
   from = h.from;
   to = h.to;
   seq = h.seq;
@@ -45,17 +54,19 @@ pub record IsReadBack (h : Header) (bytes frame : List ℕ) : Type 0 where
 
 -- ---- laws
 
--- headers that are written before a payload: so many bytes, whose checksums are filled and whose fields are read back
+-- headers that are written before a payload: so many bytes, whose checksums are filled and whose fields are read back, where
+-- the VLAN, if there is one, has a number that a tag can tell
 abbrev pub HeadersAreSound : Type 0
 HeadersAreSound =
     (h : Header) (bytes : List ℕ) → IsHeader h → length bytes ≤ payload_limit
-    → (length (headers h bytes) ≡ headers_len) × SumsToNothing h (headers h bytes ++ bytes)
-    × IsReadBack h bytes (headers h bytes ++ bytes)
+    → (length (headers h bytes) ≡ headers_len h.vlan) × SumsToNothing h (headers h bytes ++ bytes)
+    × (IsVlan h.vlan → IsReadBack h bytes (headers h bytes ++ bytes))
 
 -- the fields of a captured segment fit their places in written headers, and its peers differ
 pub record FieldsFit (f : SegmentFields) : Type 0 where
   pub mac_from : length f.mac_from ≡ mac_len
   pub mac_to : length f.mac_to ≡ mac_len
+  pub vlan : IsVlan f.vlan
   pub from_addr : f.from.addr < 2 ^ 32
   pub from_port : f.from.port < 2 ^ 16
   pub to_addr : f.to.addr < 2 ^ 32

@@ -1,14 +1,19 @@
 -- The headers of a TCP segment that is written: Ethernet II, IPv4 and TCP without options.
-use Rattle.std.specs.Prelude.{ℕ, ◌+◌, List, length, ◌++◌}
+use Rattle.std.specs.Prelude.{ℕ, ◌+◌, List, length, ◌++◌, Option, Some, None}
 use Rattle.byteorder.specs.Endian.{big_bytes}
 use Rattle.frame_headers.specs.Sum.{sum16, tcp_sum}
 pub use Rattle.frame_headers.specs.Layout.{headers_len, payload_limit}
-use Rattle.frame_headers.specs.Layout.{ipv4_type, ipv4_len, tcp_len}
+use Rattle.frame_headers.specs.Layout.{tag_type, ipv4_type, ipv4_len, tcp_len}
 use Rattle.frame_headers.specs.declared.written.Header.{Header}
 
--- Ethernet II: the receiver's address, the sender's, and the type IPv4
+-- the type IPv4, and before it the tag of a VLAN (IEEE 802.1Q), with no priority
+abbrev pub link_bytes : Option ℕ → List ℕ
+link_bytes None = big_bytes 2 ipv4_type
+link_bytes (Some vlan) = (big_bytes 2 tag_type ++ big_bytes 2 vlan) ++ big_bytes 2 ipv4_type
+
+-- Ethernet II: the receiver's address, the sender's, and that
 abbrev pub ethernet : Header → List ℕ
-ethernet h = (h.mac_to ++ h.mac_from) ++ big_bytes 2 ipv4_type
+ethernet h = (h.mac_to ++ h.mac_from) ++ link_bytes h.vlan
 
 -- what IPv4 (RFC 791 section 3.1) says of a datagram alone, before n bytes: version 4 and 5 words of header, the total
 -- length, no identification, "don't fragment" and no offset

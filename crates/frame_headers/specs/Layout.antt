@@ -1,15 +1,28 @@
--- Where the fields of a frame's headers stand: Ethernet II, IPv4 (RFC 791 section 3.1) and TCP (RFC 9293 section 3.1).
+-- Where the fields of a frame's headers stand: Ethernet II with at most one tag (IEEE 802.1Q), IPv4 (RFC 791 section 3.1) and TCP (RFC 9293 section 3.1).
 -- A place is counted from the first byte of its own header.
-use Rattle.std.specs.Prelude.{ℕ, ◌+◌, ◌-◌}
+use Rattle.std.specs.Prelude.{ℕ, ◌+◌, ◌-◌, Bool, true, false, Option, is_some}
 
 -- ---- Ethernet II: the receiver's address, the sender's, and the type of what follows
 
 abbrev pub mac_len : ℕ
 mac_len = 6
 
--- the bytes of the Ethernet header, which the type of what follows ends
-abbrev pub link_len : ℕ
-link_len = 14
+-- the bytes of the Ethernet header without a tag, which the type of what follows ends
+abbrev pub ethernet_len : ℕ
+ethernet_len = 14
+
+-- the bytes of a tag, which stands before that type: a type of its own, and 16 bits, the lower 12 a VLAN's number
+abbrev pub tag_len : ℕ
+tag_len = 4
+
+-- the numbers of VLANs are below it
+abbrev pub vlan_limit : ℕ
+vlan_limit = 4096
+
+-- the bytes of the Ethernet header, with a tag or without
+abbrev pub link_len : Bool → ℕ
+link_len true = ethernet_len + tag_len
+link_len false = ethernet_len
 
 abbrev pub type_len : ℕ
 type_len = 2
@@ -17,6 +30,10 @@ type_len = 2
 -- the type of a frame that carries an IPv4 datagram
 abbrev pub ipv4_type : ℕ
 ipv4_type = 0x0800
+
+-- the type that begins a tag
+abbrev pub tag_type : ℕ
+tag_type = 0x8100
 
 -- ---- IPv4
 
@@ -66,9 +83,9 @@ flags_at = 13
 
 -- ---- what is written
 
--- the bytes of the headers of a written segment, neither IPv4's nor TCP's with options
-abbrev pub headers_len : ℕ
-headers_len = link_len + ipv4_len + tcp_len
+-- the bytes of the headers of a written segment of a VLAN, or of none; neither IPv4's nor TCP's with options
+abbrev pub headers_len : Option ℕ → ℕ
+headers_len vlan = link_len (is_some vlan) + ipv4_len + tcp_len
 
 -- the most bytes of payload after them, so that the datagram fits an Ethernet frame of 1,500 bytes
 abbrev pub payload_limit : ℕ

@@ -1,13 +1,14 @@
 //! Which class a captured frame has, and the fields of the TCP segment in it.
 ghost use Rattle.std.specs.Prelude.{◌≡◌, ◌+◌, ◌≤◌, ◌<◌, ◌^◌, length, slice_range};
+ghost use Rattle.frame_headers.specs.Layout.{link_len};
 ghost use Rattle.frame_headers.specs.Class.{frame_class_of, HasFields, HasPayloadIn, IsPayloadIn, fields_of_segment};
-ghost use Rattle.frame_headers.specs.Frame.{frame_class, segment_fields, datagram, header_len, total_len, is_not_ipv4, is_bad_ipv4, is_fragment, is_bad_tcp, ip_payload, data_offset};
+ghost use Rattle.frame_headers.specs.Frame.{frame_class, segment_fields, datagram_in, header_len, total_len, is_tagged, vlan_in, is_not_ipv4, is_bad_ipv4, is_fragment, is_bad_tcp, ip_payload, data_offset};
 
 use crate::flag_bits::Flags;
 use crate::layout::{
-    ACK_AT, DATA_OFFSET_AT, DESTINATION_AT, FLAGS_AT, FRAGMENT_AT, IPV4_LEN, IPV4_TYPE, LINK_LEN,
-    MAC_LEN, PROTOCOL_AT, SEQ_AT, SOURCE_AT, TCP_LEN, TCP_PROTOCOL, TO_PORT_AT, TOTAL_LEN_AT,
-    TYPE_LEN,
+    ACK_AT, DATA_OFFSET_AT, DESTINATION_AT, ETHERNET_LEN, FLAGS_AT, FRAGMENT_AT, IPV4_LEN,
+    IPV4_TYPE, MAC_LEN, PROTOCOL_AT, SEQ_AT, SOURCE_AT, TAG_TYPE, TCP_LEN, TCP_PROTOCOL,
+    TO_PORT_AT, TOTAL_LEN_AT, TYPE_LEN, VLAN_LIMIT, link_len,
 };
 use crate::peers::Peer;
 use byteorder::{BigEndian, ByteOrder};
@@ -16,9 +17,9 @@ use byteorder::{BigEndian, ByteOrder};
 /// outgoing packets commonly holds unfilled ones.
 #[derive(Clone, Copy, Debug, PartialEq, Eq)]
 pub enum Class<'a> {
-    /// Fewer than the 14 bytes of an Ethernet II header.
+    /// Fewer than the 14 bytes of an Ethernet II header, or the 18 of one with a tag.
     Short,
-    /// The type is another than IPv4's, `0x0800`.
+    /// The type, after the tag if there is one, is another than IPv4's, `0x0800`: a second tag's is too.
     NotIpv4,
     /// Fewer bytes than an IPv4 header has, or a version, a header length or a total length that cannot be (RFC 791
     /// section 3.1).
@@ -44,6 +45,8 @@ pub struct Segment<'a> {
     pub mac_from: [u8; MAC_LEN],
     /// The receiver's Ethernet address.
     pub mac_to: [u8; MAC_LEN],
+    /// The number of its VLAN, 1 to 4095, where it has a tag that tells one (IEEE 802.1Q).
+    pub vlan: Option<u16>,
     /// The sender.
     pub from: Peer,
     /// The receiver.
@@ -68,13 +71,14 @@ pub fn classify(packet: &[u8]) -> Class<'_>
     ensures segment { HasFields result (segment_fields packet.now) }
     ensures payload { HasPayloadIn packet.now result }
 {
-    if packet.len() < LINK_LEN {
+    let tagged = is_tagged(packet);
+    if packet.len() < link_len(tagged) {
         return Class::Short;
     }
-    if is_not_ipv4(packet) {
+    if is_not_ipv4(packet, tagged) {
         return Class::NotIpv4;
     }
-    let ip = after_link(packet);
+    let ip = after_link(packet, tagged);
     if is_bad_ipv4(ip) {
         return Class::BadIpv4;
     }
@@ -91,27 +95,47 @@ pub fn classify(packet: &[u8]) -> Class<'_>
     if is_bad_tcp(tcp) {
         return Class::BadTcp;
     }
-    let segment = segment_in(packet, ip, tcp);
+    let segment = segment_in(packet, tagged, ip, tcp);
     if segment.from == segment.to {
         return Class::SameEnds;
     }
     Class::Segment(segment)
 }
 
-// Whether the frame carries something else than an IPv4 datagram.
-fn is_not_ipv4(packet: &[u8]) -> bool
-    requires { LINK_LEN ≤ length packet.now }
-    ensures { result ≡ is_not_ipv4 packet.now }
+// Whether a frame has a tag.
+fn is_tagged(packet: &[u8]) -> bool
+    ensures { result ≡ is_tagged packet.now }
 {
-    BigEndian::read_u16(&packet[LINK_LEN - TYPE_LEN..]) != IPV4_TYPE
+    packet.len() >= ETHERNET_LEN
+        && BigEndian::read_u16(&packet[ETHERNET_LEN - TYPE_LEN..]) == TAG_TYPE
+}
+
+// The VLAN of a frame that has a tag or none.
+fn vlan_in(packet: &[u8], tagged: bool) -> Option<u16>
+    requires { link_len tagged ≤ length packet.now }
+    ensures { result ≡ vlan_in tagged packet.now }
+{
+    if !tagged {
+        return None;
+    }
+    let number = BigEndian::read_u16(&packet[ETHERNET_LEN..]) % VLAN_LIMIT;
+    if number == 0 { None } else { Some(number) }
+}
+
+// Whether the frame carries something else than an IPv4 datagram.
+fn is_not_ipv4(packet: &[u8], tagged: bool) -> bool
+    requires { link_len tagged ≤ length packet.now }
+    ensures { result ≡ is_not_ipv4 tagged packet.now }
+{
+    BigEndian::read_u16(&packet[link_len(tagged) - TYPE_LEN..]) != IPV4_TYPE
 }
 
 // What follows the Ethernet header.
-fn after_link(packet: &[u8]) -> &[u8]
-    requires { LINK_LEN ≤ length packet.now }
-    ensures { result.now ≡ datagram packet.now }
+fn after_link(packet: &[u8], tagged: bool) -> &[u8]
+    requires { link_len tagged ≤ length packet.now }
+    ensures { result.now ≡ datagram_in tagged packet.now }
 {
-    &packet[LINK_LEN..]
+    &packet[link_len(tagged)..]
 }
 
 // The bytes of an IPv4 header.
@@ -167,14 +191,15 @@ fn is_bad_tcp(tcp: &[u8]) -> bool
 // The fields of the segment in a frame, whose datagram is `ip` and whose TCP bytes are `tcp`.
 #[inline(always)]
 #[tactic(auto, unfolding(crate::specs::Frame::segment_fields))]
-fn segment_in<'a>(packet: &[u8], ip: &[u8], tcp: &'a [u8]) -> Segment<'a>
-    requires datagram { ip.now ≡ datagram packet.now }
+fn segment_in<'a>(packet: &[u8], tagged: bool, ip: &[u8], tcp: &'a [u8]) -> Segment<'a>
+    requires tagged { tagged ≡ is_tagged packet.now }
+    requires datagram { ip.now ≡ datagram_in tagged packet.now }
     requires ipv4 { IPV4_LEN ≤ length ip.now }
     requires whole { total_len ip.now ≤ length ip.now }
     requires carried { tcp.now ≡ ip_payload ip.now }
     requires tcp { TCP_LEN ≤ length tcp.now }
     requires offset { data_offset tcp.now ≤ length tcp.now }
-    requires within { LINK_LEN + header_len ip.now + length tcp.now ≤ length packet.now }
+    requires within { link_len tagged + header_len ip.now + length tcp.now ≤ length packet.now }
     requires short { length tcp.now < 2 ^ 16 }
     ensures fields { fields_of_segment result ≡ segment_fields packet.now }
     ensures payload { IsPayloadIn packet.now result }
@@ -182,6 +207,7 @@ fn segment_in<'a>(packet: &[u8], ip: &[u8], tcp: &'a [u8]) -> Segment<'a>
     Segment {
         mac_from: mac_at(packet, MAC_LEN),
         mac_to: mac_at(packet, 0),
+        vlan: vlan_in(packet, tagged),
         from: Peer {
             addr: BigEndian::read_u32(&ip[SOURCE_AT..]),
             port: BigEndian::read_u16(tcp),
@@ -194,7 +220,7 @@ fn segment_in<'a>(packet: &[u8], ip: &[u8], tcp: &'a [u8]) -> Segment<'a>
         ack: BigEndian::read_u32(&tcp[ACK_AT..]),
         flags: Flags::of(tcp[FLAGS_AT]),
         payload: &tcp[data_offset(tcp)..],
-        offset: (LINK_LEN + header_len(ip) + data_offset(tcp)) as u16,
+        offset: (link_len(tagged) + header_len(ip) + data_offset(tcp)) as u16,
     }
 }
 

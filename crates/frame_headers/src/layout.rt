@@ -1,12 +1,25 @@
-//! Where the fields of a frame's headers stand: Ethernet II, IPv4 (RFC 791 section 3.1) and TCP (RFC 9293 section 3.1).
+//! Where the fields of a frame's headers stand: Ethernet II with at most one tag (IEEE 802.1Q), IPv4 (RFC 791 section 3.1)
+//! and TCP (RFC 9293 section 3.1).
 //!
 //! A place is counted from the first byte of its own header. What is read and what is written both take it from here.
+
+ghost use Rattle.std.specs.Prelude.{◌≡◌};
+ghost use Rattle.frame_headers.specs.Layout.{headers_len, link_len};
 
 /// The bytes of an Ethernet address. A frame begins with the receiver's, then comes the sender's.
 pub(crate) const MAC_LEN: usize = 6;
 
-/// The bytes of the Ethernet header: two addresses and the type of what follows, which ends it.
-pub(crate) const LINK_LEN: usize = 14;
+/// The bytes of the Ethernet header without a tag: two addresses and the type of what follows, which ends it.
+pub(crate) const ETHERNET_LEN: usize = 14;
+
+/// The bytes of a tag, which stands before that type: a type of its own, and 16 bits, the lower 12 a VLAN's number.
+pub(crate) const TAG_LEN: usize = 4;
+
+/// The type that begins a tag.
+pub(crate) const TAG_TYPE: u16 = 0x8100;
+
+/// The numbers of VLANs are below it.
+pub(crate) const VLAN_LIMIT: u16 = 4096;
 
 /// The bytes of the type of what follows.
 pub(crate) const TYPE_LEN: usize = 2;
@@ -59,8 +72,26 @@ pub(crate) const FLAGS_AT: usize = 13;
 /// In a TCP header: its checksum.
 pub(crate) const TCP_SUM_AT: usize = 16;
 
-/// The bytes of the headers of a written segment: Ethernet II, IPv4 and TCP, neither with options.
-pub const HEADERS_LEN: usize = LINK_LEN + IPV4_LEN + TCP_LEN;
+// The bytes of the Ethernet header, with a tag or without.
+pub(crate) fn link_len(tagged: bool) -> usize
+    ensures { result ≡ link_len tagged }
+{
+    if tagged {
+        ETHERNET_LEN + TAG_LEN
+    } else {
+        ETHERNET_LEN
+    }
+}
+
+/// The bytes of the headers of a written segment of a VLAN, or of none: Ethernet II, IPv4 and TCP, neither with options.
+pub fn headers_len(vlan: Option<u16>) -> usize
+    ensures { result ≡ headers_len vlan }
+{
+    link_len(vlan.is_some()) + IPV4_LEN + TCP_LEN
+}
+
+/// The most bytes of such headers: those of a VLAN.
+pub const MOST_HEADERS_LEN: usize = ETHERNET_LEN + TAG_LEN + IPV4_LEN + TCP_LEN;
 
 /// The most payload bytes of a written segment: what an Ethernet frame has room for after the headers of IPv4 and TCP.
 pub const PAYLOAD_LIMIT: usize = 1500 - IPV4_LEN - TCP_LEN;

@@ -1,13 +1,13 @@
 //! The headers of frames that are written.
-ghost use Rattle.std.specs.Prelude.{◌≡◌, ℕ, ◌+◌, ◌≤◌, ◌++◌, length, drop};
-ghost use Rattle.frame_headers.specs.HeaderLaws.{IsHeader, IsReadBack, SumsToNothing};
-ghost use Rattle.frame_headers.specs.Layout.{link_len, ipv4_len, tcp_len, headers_len, payload_limit};
-ghost use Rattle.frame_headers.specs.Headers.{ethernet, headers, ipv4, ipv4_lengths, ipv4_route, ipv4_with, tcp, tcp_numbers, tcp_state, tcp_with};
+ghost use Rattle.std.specs.Prelude.{◌≡◌, ℕ, ◌+◌, ◌-◌, ◌*◌, ◌≤◌, ◌++◌, is_some, length, drop};
+ghost use Rattle.frame_headers.specs.HeaderLaws.{IsHeader, IsReadBack, IsVlan, SumsToNothing};
+ghost use Rattle.frame_headers.specs.Layout.{mac_len, link_len, ipv4_len, tcp_len, headers_len, payload_limit};
+ghost use Rattle.frame_headers.specs.Headers.{ethernet, headers, link_bytes, ipv4, ipv4_lengths, ipv4_route, ipv4_with, tcp, tcp_numbers, tcp_state, tcp_with};
 
 use crate::flag_bits::Flags;
 use crate::layout::{
-    ACK_AT, DATA_OFFSET_AT, DESTINATION_AT, FRAGMENT_AT, IPV4_LEN, IPV4_SUM_AT, IPV4_TYPE,
-    LINK_LEN, MAC_LEN, SEQ_AT, SOURCE_AT, TCP_LEN, TCP_SUM_AT, TO_PORT_AT, TOTAL_LEN_AT, TYPE_LEN,
+    ACK_AT, DATA_OFFSET_AT, DESTINATION_AT, FRAGMENT_AT, IPV4_LEN, IPV4_SUM_AT, IPV4_TYPE, MAC_LEN,
+    SEQ_AT, SOURCE_AT, TAG_TYPE, TCP_LEN, TCP_SUM_AT, TO_PORT_AT, TOTAL_LEN_AT, link_len,
 };
 use crate::peers::Peer;
 use crate::sums::{checksum, tcp_checksum};
@@ -20,6 +20,8 @@ pub struct Header {
     pub mac_from: [u8; MAC_LEN],
     /// The receiver's Ethernet address.
     pub mac_to: [u8; MAC_LEN],
+    /// The number of its VLAN, 1 to 4095, if it has one.
+    pub vlan: Option<u16>,
     /// The sender.
     pub from: Peer,
     /// The receiver.
@@ -32,15 +34,17 @@ pub struct Header {
     pub flags: Flags,
 }
 
-/// Writes the headers before a payload that is in place already: Ethernet II, IPv4 (RFC 791 section 3.1) and
-/// TCP (RFC 9293 section 3.1), neither with options, both checksums filled. A frame has at most 1,460 bytes of payload.
-/// `classify` reads the same fields back where the two peers differ.
+/// Writes the headers before a payload that is in place already: Ethernet II, with a tag where there is a VLAN (IEEE
+/// 802.1Q), IPv4 (RFC 791 section 3.1) and TCP (RFC 9293 section 3.1), neither with options, both checksums filled. A
+/// frame has at most 1,460 bytes of payload.
+/// `classify` reads the same fields back where the two peers differ and a VLAN's number is 1 to 4095.
 pub fn put_headers(frame: &mut [u8], header: &Header)
-    requires room { headers_len ≤ length frame.old }
-    requires small { length frame.old ≤ headers_len + payload_limit }
-    ensures bytes { frame.new ≡ headers header.now (drop headers_len frame.old) ++ drop headers_len frame.old }
+    requires room { headers_len header.now.vlan ≤ length frame.old }
+    requires small { length frame.old ≤ headers_len header.now.vlan + payload_limit }
+    ensures bytes { frame.new
+        ≡ headers header.now (drop (headers_len header.now.vlan) frame.old) ++ drop (headers_len header.now.vlan) frame.old }
     ensures sums { SumsToNothing header.now frame.new }
-    ensures read { IsReadBack header.now (drop headers_len frame.old) frame.new }
+    ensures read { IsVlan header.now.vlan → IsReadBack header.now (drop (headers_len header.now.vlan) frame.old) frame.new }
 {
     header_fits(*header);
     write_headers(frame, header);
@@ -53,24 +57,41 @@ fn header_fits(header: Header)
 
 // Writes the headers one after another.
 fn write_headers(frame: &mut [u8], header: &Header)
-    requires room { headers_len ≤ length frame.old }
-    requires small { length frame.old ≤ headers_len + payload_limit }
-    ensures { frame.new ≡ headers header.now (drop headers_len frame.old) ++ drop headers_len frame.old }
+    requires room { headers_len header.now.vlan ≤ length frame.old }
+    requires small { length frame.old ≤ headers_len header.now.vlan + payload_limit }
+    ensures { frame.new
+        ≡ headers header.now (drop (headers_len header.now.vlan) frame.old) ++ drop (headers_len header.now.vlan) frame.old }
 {
-    let segment_len = (frame.len() - (LINK_LEN + IPV4_LEN)) as u16;
+    let link = link_len(header.vlan.is_some());
+    let segment_len = (frame.len() - (link + IPV4_LEN)) as u16;
     put_ethernet(frame, header);
-    put_ipv4(&mut frame[LINK_LEN..], header, segment_len);
-    put_tcp(&mut frame[LINK_LEN + IPV4_LEN..], header);
+    put_ipv4(&mut frame[link..], header, segment_len);
+    put_tcp(&mut frame[link + IPV4_LEN..], header);
 }
 
 // Writes the Ethernet header.
 fn put_ethernet(frame: &mut [u8], header: &Header)
-    requires { link_len ≤ length frame.old }
-    ensures { frame.new ≡ ethernet header.now ++ drop link_len frame.old }
+    requires { link_len (is_some header.now.vlan) ≤ length frame.old }
+    ensures { frame.new ≡ ethernet header.now ++ drop (link_len (is_some header.now.vlan)) frame.old }
 {
     frame[..MAC_LEN].copy_from_slice(&header.mac_to);
     frame[MAC_LEN..2 * MAC_LEN].copy_from_slice(&header.mac_from);
-    BigEndian::write_u16(&mut frame[LINK_LEN - TYPE_LEN..], IPV4_TYPE);
+    put_link(&mut frame[2 * MAC_LEN..], header.vlan);
+}
+
+// Writes what follows the two addresses: the tag of a VLAN, if there is one, and the type.
+fn put_link(rest: &mut [u8], vlan: Option<u16>)
+    requires { link_len (is_some vlan) - 2 * mac_len ≤ length rest.old }
+    ensures { rest.new ≡ link_bytes vlan ++ drop (link_len (is_some vlan) - 2 * mac_len) rest.old }
+{
+    match vlan {
+        Some(vlan) => {
+            BigEndian::write_u16(rest, TAG_TYPE);
+            BigEndian::write_u16(&mut rest[2..], vlan);
+            BigEndian::write_u16(&mut rest[4..], IPV4_TYPE);
+        }
+        None => BigEndian::write_u16(rest, IPV4_TYPE),
+    }
 }
 
 // Writes the IPv4 header before a number of TCP bytes.

@@ -178,7 +178,7 @@ both P p (x ∷ xs) all = step (p x) refl (both P p xs all.1)
 at_one_record : (c : CaptureView) (b y : IndexedSegment) → IsRecorded c b → IsRecorded c y → y.index ≡ b.index → pair_of_segment y ≡ pair_of_segment b
 at_one_record c b y rec_b rec_y e =
     let fields : y.timed.fields ≡ b.timed.fields = rec_y.fields ∙ ap (λ k. segment_fields (frame_at c k)) e ∙ sym rec_b.fields in
-    ap (λ f. pair_of f.from f.to) fields
+    ap (λ f. pair_of f.vlan f.from f.to) fields
 
 paired_by : (c : CaptureView) (segs : List IndexedSegment) (b s : IndexedSegment) → AllByRecursion (IsRecorded c) (beginnings segs) → IsRecorded c b → is_at b (beginning_of segs s) ≡ true → of_one_pair b s ≡ true
 paired_by c segs b s all rec_b is = by_beginning (beginning_of segs s) refl is

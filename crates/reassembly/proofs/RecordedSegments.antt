@@ -65,5 +65,5 @@ heard ticks c b s sound law rec_b rec paired =
     record {
       in_file = p.within;
       payload = p.bytes;
-      server_sent = other_sender b.timed.fields.from b.timed.fields.to s.timed.fields.from s.timed.fields.to (rw rec_b.fields (peers_differ (frame_at c b.index) rec_b.class)) paired;
+      server_sent = other_sender s.timed.fields.vlan b.timed.fields.vlan b.timed.fields.from b.timed.fields.to s.timed.fields.from s.timed.fields.to (rw rec_b.fields (peers_differ (frame_at c b.index) rec_b.class)) paired;
     }

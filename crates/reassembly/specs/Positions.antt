@@ -20,6 +20,9 @@ client_of c = c.opening.fields.from
 abbrev pub server_of : Connection → Peer
 server_of c = c.opening.fields.to
 
+abbrev pub vlan_of : Connection → Option ℕ
+vlan_of c = c.opening.fields.vlan
+
 abbrev pub is_reset : TimedSegment → Bool
 is_reset m = has_flag m.fields.flags rst_flag
 

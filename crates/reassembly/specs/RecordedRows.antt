@@ -14,11 +14,11 @@ server = record { addr = 0x0a000002; port = 80 }
 -- a segment of each side: instant, sequence number, flags, payload
 abbrev pub from_client : ℕ → ℕ → ℕ → List ℕ → TimedSegment
 from_client at seq flags payload =
-    record { at = at; fields = record { mac_from = []; mac_to = []; from = client; to = server; seq = seq; ack = 0; flags = flags; payload = payload } }
+    record { at = at; fields = record { mac_from = []; mac_to = []; vlan = None; from = client; to = server; seq = seq; ack = 0; flags = flags; payload = payload } }
 
 abbrev pub from_server : ℕ → ℕ → ℕ → List ℕ → TimedSegment
 from_server at seq flags payload =
-    record { at = at; fields = record { mac_from = []; mac_to = []; from = server; to = client; seq = seq; ack = 0; flags = flags; payload = payload } }
+    record { at = at; fields = record { mac_from = []; mac_to = []; vlan = None; from = server; to = client; seq = seq; ack = 0; flags = flags; payload = payload } }
 
 abbrev pub first_of_chunk : ℕ → ℕ → LineByte
 first_of_chunk at value = record { value = value; at = at; starts = true }

@@ -44,18 +44,18 @@ both_cut up down = record { proxy = Some 0; refused = false; up = cut_line 10000
 
 -- what is told of a session where its lines became these
 abbrev pub text_of : RecordedConnection → Line → Line → List ℕ
-text_of recorded up down = connection_text 0 client server recorded (both_cut up down)
+text_of recorded up down = connection_text 0 None client server recorded (both_cut up down)
 
 -- ---- as recorded, and refused
 
 abbrev pub SessionTold : Type 0
 SessionTold =
-    connection_text 0 client server session (delivered_connection 1000000 42 0 0 None session)
+    connection_text 0 None client server session (delivered_connection 1000000 42 0 0 None session)
     ≡ codes "0 10.0.0.1:40000 > 10.0.0.2:80 proxy - up 5/5/0 fin+2000 max 0 down 0/0/0 fin+3000 max 0\n"
 
 abbrev pub RefusedTold : Type 0
 RefusedTold =
-    connection_text 7 client server session (delivered_connection 1000000 42 0 7 (Some (record { number = 3; enabled = false; up = []; down = [] })) session)
+    connection_text 7 None client server session (delivered_connection 1000000 42 0 7 (Some (record { number = 3; enabled = false; up = []; down = [] })) session)
     ≡ codes "7 10.0.0.1:40000 > 10.0.0.2:80 proxy 3 up 0/5/0 refused max 0 down 0/0/0 refused max 0\n"
 
 -- ---- cut

@@ -1,5 +1,5 @@
 -- The text of a report: ASCII, one space between words, numbers in decimal, each of its lines ended by LF.
-use Rattle.std.specs.Prelude.{ℕ, ◌-◌, ◌<◌, ◌/◌, ◌%◌, ◌^◌, List, ◌++◌, length, map, codes, Option, Some, None, Bool, true, false}
+use Rattle.std.specs.Prelude.{ℕ, ◌-◌, ◌<◌, ◌/◌, ◌%◌, ◌^◌, List, [], ◌++◌, length, map, codes, Option, Some, None, Bool, true, false}
 use Rattle.std.specs.List.{zip, flat_map}
 use Rattle.std.specs.Fmt.{decimal}
 use Rattle.pcap_records.specs.Instants.{greatest}
@@ -74,15 +74,24 @@ side_text opened refused s f =
     decimal (length f.bytes) ++ (codes "/" ++ (decimal (length s.line.bytes) ++ (codes "/" ++ (decimal s.lost
     ++ (codes " " ++ (end_word refused opened f.end ++ (codes " max " ++ decimal (longest_delay s.line.bytes f.bytes))))))))
 
--- number client > server proxy P
-abbrev pub peers_text : ℕ → Peer → Peer → Option ℕ → List ℕ
-peers_text number client server proxy =
-    decimal number ++ (codes " " ++ (peer_text client ++ (codes " > " ++ (peer_text server ++ (codes " proxy " ++ proxy_text proxy)))))
+-- the VLAN, if there is one
+abbrev pub vlan_text : Option ℕ → List ℕ
+vlan_text None = []
+vlan_text (Some n) = codes " vlan " ++ decimal n
 
--- the connection of a number between a client and a server
-unfoldable pub connection_text : ℕ → Peer → Peer → RecordedConnection → DeliveredConnection → List ℕ
-connection_text number client server r d =
-    peers_text number client server d.proxy
+-- proxy P, and before it vlan V where there is one
+abbrev pub met_text : Option ℕ → Option ℕ → List ℕ
+met_text vlan proxy = vlan_text vlan ++ (codes " proxy " ++ proxy_text proxy)
+
+-- number client > server, and then that
+abbrev pub peers_text : ℕ → Option ℕ → Peer → Peer → Option ℕ → List ℕ
+peers_text number vlan client server proxy =
+    decimal number ++ (codes " " ++ (peer_text client ++ (codes " > " ++ (peer_text server ++ met_text vlan proxy))))
+
+-- the connection of a number between a client and a server, in a VLAN or in none
+unfoldable pub connection_text : ℕ → Option ℕ → Peer → Peer → RecordedConnection → DeliveredConnection → List ℕ
+connection_text number vlan client server r d =
+    peers_text number vlan client server d.proxy
     ++ (codes " up " ++ (side_text r.opened d.refused r.up d.up ++ (codes " down " ++ (side_text r.opened d.refused r.down d.down ++ codes "\n"))))
 
 -- ---- lines that a report can tell of

@@ -2,7 +2,7 @@
 ghost use Rattle.std.specs.Prelude.{◌≡◌, ◌++◌, IfOk, OnOk};
 ghost use Rattle.reassembly.specs.RecordedView.{recorded_view};
 ghost use Rattle.toxic_defs.specs.DeliveredLines.{delivered_view};
-ghost use Rattle.report.specs.ReportText.{AreShort, peer_text, proxy_text, peers_text, connection_text};
+ghost use Rattle.report.specs.ReportText.{AreShort, peer_text, proxy_text, vlan_text, met_text, peers_text, connection_text};
 
 use crate::sides::push_side;
 use crate::texts::{ReportText, push, push_number, push_told};
@@ -15,7 +15,7 @@ use toxic_defs::Delivered;
 /// The room of a connection's line, which is seldom longer.
 pub(crate) const LINE_ROOM: usize = 112;
 
-/// The line of a connection, with its line feed: its number and peers, the proxy that it met, and for each direction the number of
+/// The line of a connection, with its line feed: its number and peers, their VLAN if they have one, the proxy that it met, and for each direction the number of
 /// delivered, recorded and lost bytes, how it ends, and the longest that a byte was held back.
 ///
 /// # Errors
@@ -29,7 +29,7 @@ pub fn line(
 ) -> Result<ReportText, AllocError>
     requires recorded { AreShort recorded.now.up.line recorded.now.down.line }
     requires delivered { AreShort delivered.now.up.line delivered.now.down.line }
-    ensures { IfOk result (λ text. text ≡ connection_text conn.now.number conn.now.client conn.now.server
+    ensures { IfOk result (λ text. text ≡ connection_text conn.now.number conn.now.vlan conn.now.client conn.now.server
         (recorded_view recorded.now) (delivered_view delivered.now)) }
 {
     let mut text = Vec::with_capacity(alloc, LINE_ROOM)?;
@@ -61,13 +61,21 @@ pub fn line(
 // Appends a connection's number and peers, and the proxy that it met.
 fn push_peers(text: &mut Vec<u8>, conn: &Conn, proxy: Option<u32>) -> Result<(), AllocError>
     ensures { OnOk result (text.new.items ≡ text.old.items
-        ++ peers_text conn.now.number conn.now.client conn.now.server proxy) }
+        ++ peers_text conn.now.number conn.now.vlan conn.now.client conn.now.server proxy) }
 {
     push_number(text, u64::from(conn.number))?;
     push(text, " ")?;
     push_peer(text, conn.client)?;
     push(text, " > ")?;
     push_peer(text, conn.server)?;
+    push_met(text, conn.vlan, proxy)
+}
+
+// Appends the VLAN, if there is one, and the proxy that was met.
+fn push_met(text: &mut Vec<u8>, vlan: Option<u16>, proxy: Option<u32>) -> Result<(), AllocError>
+    ensures { OnOk result (text.new.items ≡ text.old.items ++ met_text vlan proxy) }
+{
+    push_vlan(text, vlan)?;
     push(text, " proxy ")?;
     push_proxy(text, proxy)
 }
@@ -81,6 +89,16 @@ fn push_peer(text: &mut Vec<u8>, peer: Peer) -> Result<(), AllocError>
     push_told(text, ".", u64::from(peer.addr / 256 % 256))?;
     push_told(text, ".", u64::from(peer.addr % 256))?;
     push_told(text, ":", u64::from(peer.port))
+}
+
+// Appends the number of a VLAN, if there is one.
+fn push_vlan(text: &mut Vec<u8>, vlan: Option<u16>) -> Result<(), AllocError>
+    ensures { OnOk result (text.new.items ≡ text.old.items ++ vlan_text vlan) }
+{
+    match vlan {
+        Some(number) => push_told(text, " vlan ", u64::from(number)),
+        None => Ok(()),
+    }
 }
 
 // Appends the number of the proxy that was met.

@@ -1,13 +1,13 @@
 -- The bytes of a record: its header, the headers of its frame, and the payload.
-use Rattle.std.proofs.Common.{◌≡◌, ◌≤◌, ◌<◌, ℕ, ◌+◌, ◌-◌, Bool, true, false, if◌then◌else◌, List, [], ◌∷◌, ◌++◌, length, take, drop, replicate, refl, sym, ap, ◌∙◌, arith, append-nil, append_assoc, length-append, length-drop, length-take, take_all, take_at, drop_at, drop-drop}
-use Rattle.std.proofs.lemmas.List.{drop_all, length-map}
+use Rattle.std.proofs.Common.{◌≡◌, ◌≤◌, ◌<◌, ℕ, ◌+◌, ◌-◌, Bool, true, false, if◌then◌else◌, List, [], ◌∷◌, ◌++◌, length, take, drop, replicate, refl, sym, ap, ap₂, ◌∙◌, arith, append-nil, append_assoc, length-append, length-drop, length-take, take_all, take_at, drop_at, drop-drop}
+use Rattle.std.proofs.lemmas.List.{drop_all, length-map, length-replicate}
 use borrow.Rule.Slice.PartMut.{put_mid}
 use Rattle.pcap_records.specs.Instants.{ticks_of}
 use Rattle.pcap_records.specs.Reading.{record_header_len}
 use Rattle.pcap_records.specs.Writing.{record_header, record_bytes}
 use Rattle.frame_headers.specs.Flags.{psh_flag, ack_flag}
 use Rattle.frame_headers.specs.Headers.{headers}
-use Rattle.frame_headers.specs.Layout.{headers_len, payload_limit}
+use Rattle.frame_headers.specs.Layout.{payload_limit}
 use Rattle.frame_headers.specs.declared.written.Header.{Header}
 use Rattle.reassembly.specs.RecordedLines.{LineByte}
 use Rattle.reassembly.specs.LineView.{bytes_of_parts}
@@ -24,9 +24,9 @@ use Rattle.segment_writer.proofs.PartBytes.{mark, inside_is, left_is, first_inst
 
 -- ---- the headers are written into a record
 
--- the length of a record with no payload
-abbrev pub whole_len : ℕ
-whole_len = record_header_len + headers_len
+-- the length of a record with no payload, of so many bytes of headers
+abbrev pub whole_len : ℕ → ℕ
+whole_len n = record_header_len + n
 
 abbrev behind_header : List ℕ → List ℕ
 behind_header xs = take (length xs - record_header_len) (drop record_header_len xs)
@@ -34,19 +34,19 @@ behind_header xs = take (length xs - record_header_len) (drop record_header_len 
 behind_is : (xs : List ℕ) → behind_header xs ≡ drop record_header_len xs
 behind_is xs = take_all (length xs - record_header_len) (drop record_header_len xs) (omega (arith, length-drop record_header_len xs))
 
-frame_behind : (xs : List ℕ) → drop headers_len (behind_header xs) ≡ drop whole_len xs
-frame_behind xs = ap (drop headers_len) (behind_is xs) ∙ drop-drop headers_len record_header_len xs
+frame_behind : (n : ℕ) (xs : List ℕ) → drop n (behind_header xs) ≡ drop (whole_len n) xs
+frame_behind n xs = ap (drop n) (behind_is xs) ∙ drop-drop n record_header_len xs
 
-pub headers_len_is : (h : Header) (xs frame : List ℕ) → whole_len ≤ length xs → length frame ≡ length (behind_header xs) → frame ≡ headers h (drop headers_len (behind_header xs)) ++ drop headers_len (behind_header xs) → length (headers h (drop whole_len xs)) ≡ headers_len
-headers_len_is h xs frame room same is =
-    let whole = ap length (is ∙ ap (λ ys. headers h ys ++ ys) (frame_behind xs)) ∙ length-append (headers h (drop whole_len xs)) (drop whole_len xs) in
-    omega (arith, length-drop whole_len xs, length-drop record_header_len xs, ap length (behind_is xs))
+pub headers_len_is : (n : ℕ) (h : Header) (xs frame : List ℕ) → (whole_len n) ≤ length xs → length frame ≡ length (behind_header xs) → frame ≡ headers h (drop n (behind_header xs)) ++ drop n (behind_header xs) → length (headers h (drop (whole_len n) xs)) ≡ n
+headers_len_is n h xs frame room same is =
+    let whole = ap length (is ∙ ap (λ ys. headers h ys ++ ys) (frame_behind n xs)) ∙ length-append (headers h (drop (whole_len n) xs)) (drop (whole_len n) xs) in
+    omega (arith, length-drop (whole_len n) xs, length-drop record_header_len xs, ap length (behind_is xs))
 
-pub closed_is : (h : Header) (xs frame : List ℕ) → frame ≡ headers h (drop headers_len (behind_header xs)) ++ drop headers_len (behind_header xs) → put_mid record_header_len (length xs - record_header_len) xs frame ≡ take record_header_len xs ++ frame_with h (drop whole_len xs)
-closed_is h xs frame is =
+pub closed_is : (n : ℕ) (h : Header) (xs frame : List ℕ) → frame ≡ headers h (drop n (behind_header xs)) ++ drop n (behind_header xs) → put_mid record_header_len (length xs - record_header_len) xs frame ≡ take record_header_len xs ++ frame_with h (drop (whole_len n) xs)
+closed_is n h xs frame is =
     let nothing : drop (length xs - record_header_len) (drop record_header_len xs) ≡ [] = drop_all (length xs - record_header_len) (drop record_header_len xs) (omega (arith, length-drop record_header_len xs)) in
-    ap (put_mid record_header_len (length xs - record_header_len) xs) (is ∙ ap (λ ys. headers h ys ++ ys) (frame_behind xs))
-    ∙ rw (nothing, append-nil (headers h (drop whole_len xs) ++ drop whole_len xs)) refl
+    ap (put_mid record_header_len (length xs - record_header_len) xs) (is ∙ ap (λ ys. headers h ys ++ ys) (frame_behind n xs))
+    ∙ rw (nothing, append-nil (headers h (drop (whole_len n) xs) ++ drop (whole_len n) xs)) refl
 
 -- ---- a record that was opened, filled with its payload and closed
 
@@ -54,26 +54,26 @@ length-record_header : (ticks at n : ℕ) → length (record_header ticks at n) 
 unfolding record_header
 length-record_header ticks at n = refl
 
-abbrev pub opened_record : ℕ → ℕ → ℕ → List ℕ
-opened_record ticks at n = record_header ticks at n ++ replicate headers_len 0
+abbrev pub opened_record : ℕ → ℕ → ℕ → ℕ → List ℕ
+opened_record n ticks at len = record_header ticks at len ++ replicate n 0
 
-length-opened : (ticks at n : ℕ) → length (opened_record ticks at n) ≡ whole_len
-length-opened ticks at n = length-append (record_header ticks at n) (replicate headers_len 0) ∙ ap (λ k. k + headers_len) (length-record_header ticks at n)
+length-opened : (n ticks at len : ℕ) → length (opened_record n ticks at len) ≡ whole_len n
+length-opened n ticks at len = length-append (record_header ticks at len) (replicate n 0) ∙ ap₂ (λ k m. k + m) (length-record_header ticks at len) (length-replicate n 0)
 
-pub length-filled : (ticks at n : ℕ) (payload : List ℕ) → length (opened_record ticks at n ++ payload) ≡ whole_len + length payload
-length-filled ticks at n payload = length-append (opened_record ticks at n) payload ∙ ap (λ k. k + length payload) (length-opened ticks at n)
+pub length-filled : (n ticks at len : ℕ) (payload : List ℕ) → length (opened_record n ticks at len ++ payload) ≡ whole_len n + length payload
+length-filled n ticks at len payload = length-append (opened_record n ticks at len) payload ∙ ap (λ k. k + length payload) (length-opened n ticks at len)
 
 -- a slice that was written over, in the vector that holds it
 written_over : (n : ℕ) (new old : List ℕ) → length new ≡ length old → n ≡ length old → take n (new ++ drop (length new) old) ≡ new
 written_over n new old same count = ap (λ k. take k (new ++ drop (length new) old)) (let e : n ≡ length new = omega arith in e) ∙ take_at new (drop (length new) old) (length new) refl
 
-pub record_is : (h : Header) (ticks at len : ℕ) (xs payload : List ℕ) → xs ≡ opened_record ticks at (headers_len + len) ++ payload → length payload ≡ len → length (headers h (drop whole_len xs)) ≡ headers_len
-    → take record_header_len xs ++ frame_with h (drop whole_len xs) ≡ record_bytes ticks at (frame_with h payload)
-record_is h ticks at len xs payload is count room =
-    let back : drop whole_len xs ≡ payload = ap (drop whole_len) is ∙ drop_at (opened_record ticks at (headers_len + len)) payload whole_len (length-opened ticks at (headers_len + len)) in
-    let front : take record_header_len xs ≡ record_header ticks at (headers_len + len) =
-    ap (take record_header_len) (is ∙ append_assoc (record_header ticks at (headers_len + len)) (replicate headers_len 0) payload) ∙ take_at (record_header ticks at (headers_len + len)) (replicate headers_len 0 ++ payload) record_header_len (length-record_header ticks at (headers_len + len)) in
-    let size : headers_len + len ≡ length (headers h payload ++ payload) = omega (arith, length-append (headers h payload) payload, room, ap (λ ys. length (headers h ys)) back, count) in
+pub record_is : (n : ℕ) (h : Header) (ticks at len : ℕ) (xs payload : List ℕ) → xs ≡ opened_record n ticks at (n + len) ++ payload → length payload ≡ len → length (headers h (drop (whole_len n) xs)) ≡ n
+    → take record_header_len xs ++ frame_with h (drop (whole_len n) xs) ≡ record_bytes ticks at (frame_with h payload)
+record_is n h ticks at len xs payload is count room =
+    let back : drop (whole_len n) xs ≡ payload = ap (drop (whole_len n)) is ∙ drop_at (opened_record n ticks at (n + len)) payload (whole_len n) (length-opened n ticks at (n + len)) in
+    let front : take record_header_len xs ≡ record_header ticks at (n + len) =
+    ap (take record_header_len) (is ∙ append_assoc (record_header ticks at (n + len)) (replicate n 0) payload) ∙ take_at (record_header ticks at (n + len)) (replicate n 0 ++ payload) record_header_len (length-record_header ticks at (n + len)) in
+    let size : n + len ≡ length (headers h payload ++ payload) = omega (arith, length-append (headers h payload) payload, room, ap (λ ys. length (headers h ys)) back, count) in
     ap (λ ys. take record_header_len xs ++ frame_with h ys) back ∙ ap (λ ys. ys ++ (headers h payload ++ payload)) (front ∙ ap (record_header ticks at) size)
 
 -- ---- pieces
@@ -106,12 +106,12 @@ first_instant-cursor parts c p ps e place =
 -- ---- segments
 
 -- a vector with an opened record and its payload, of which a slice was closed
-pub made_is : (h : Header) (ticks at len vec_len : ℕ) (old slice new made payload : List ℕ) → old ≡ opened_record ticks at (headers_len + len) ++ payload → length payload ≡ len → slice ≡ old → length slice ≡ vec_len
-    → new ≡ take record_header_len slice ++ frame_with h (drop whole_len slice) → length (headers h (drop whole_len slice)) ≡ headers_len → length new ≡ length slice
+pub made_is : (n : ℕ) (h : Header) (ticks at len vec_len : ℕ) (old slice new made payload : List ℕ) → old ≡ opened_record n ticks at (n + len) ++ payload → length payload ≡ len → slice ≡ old → length slice ≡ vec_len
+    → new ≡ take record_header_len slice ++ frame_with h (drop (whole_len n) slice) → length (headers h (drop (whole_len n) slice)) ≡ n → length new ≡ length slice
     → made ≡ take vec_len (new ++ drop (length new) old) → made ≡ record_bytes ticks at (frame_with h payload)
-made_is h ticks at len vec_len old slice new made payload is count same size closed room kept made_of =
+made_is n h ticks at len vec_len old slice new made payload is count same size closed room kept made_of =
     let same_len : length slice ≡ length old = ap length same in
-    made_of ∙ written_over vec_len new old (omega arith) (omega arith) ∙ closed ∙ record_is h ticks at len slice payload (same ∙ is) count room
+    made_of ∙ written_over vec_len new old (omega arith) (omega arith) ∙ closed ∙ record_is n h ticks at len slice payload (same ∙ is) count room
 
 pub framed_is : (s : Sender) (place : ℕ) (sent : SentSegment) (key : SegKey) (bytes : List ℕ) → key.moment ≡ sent.at → key.conn ≡ s.conn → key.turn ≡ s.turn → key.place ≡ place
     → bytes ≡ record_bytes (ticks_of s.unit) sent.at (frame_with (header_with s sent.seq sent.ack sent.flags) sent.payload)

@@ -1,5 +1,5 @@
 -- Worked rows: the segments of small connections, beside values from outside.
-use Rattle.std.specs.Prelude.{◌≡◌, ℕ, List, [], ◌∷◌, map, Bool, true, false}
+use Rattle.std.specs.Prelude.{◌≡◌, ℕ, List, [], ◌∷◌, map, Bool, true, false, None}
 use Rattle.frame_headers.specs.declared.peers.Peer.{Peer}
 use Rattle.reassembly.specs.RecordedLines.{LineByte, Line, End, live, fin, close, reset, empty_line}
 use Rattle.segment_writer.specs.declared.framed.Framed.{Framed}
@@ -16,6 +16,7 @@ abbrev pub connection_with : Bool → Line → Line → WrittenConnection
 connection_with refused up down = record {
   number = 7;
   opened = 1000000;
+  vlan = None;
   refused = refused;
   client = record { host = record { mac = 2 ∷ 0 ∷ 0 ∷ 0 ∷ 0 ∷ 1 ∷ []; peer = client }; base = 1000; line = up };
   server = record { host = record { mac = 2 ∷ 0 ∷ 0 ∷ 0 ∷ 0 ∷ 2 ∷ []; peer = server }; base = 5000; line = down };

@@ -1,5 +1,5 @@
 -- The segments of a connection as they are written (RFC 9293 section 3.1), and the order in which a capture has them.
-use Rattle.std.specs.Prelude.{ℕ, ◌+◌, ◌-◌, ◌%◌, List, [], ◌∷◌, ◌++◌, length, map, filter, Bool, true, false, ◌||◌, ◌&&◌, ◌==◌, nat_lt, if◌then◌else◌}
+use Rattle.std.specs.Prelude.{ℕ, ◌+◌, ◌-◌, ◌%◌, List, [], ◌∷◌, ◌++◌, length, map, filter, Bool, true, false, ◌||◌, ◌&&◌, ◌==◌, nat_lt, if◌then◌else◌, Option}
 use Rattle.std.specs.List.{enumerate_from}
 use Rattle.pcap_records.specs.Instants.{horizon}
 use Rattle.pcap_records.specs.Writing.{record_bytes}
@@ -30,6 +30,7 @@ pub record WrittenSide : Type 0 where
 pub record WrittenConnection : Type 0 where
   pub number : ℕ
   pub opened : ℕ
+  pub vlan : Option ℕ
   pub refused : Bool
   pub client : WrittenSide
   pub server : WrittenSide
@@ -115,6 +116,7 @@ abbrev pub header_of : WrittenConnection → Host → Host → SentSegment → H
 header_of c from to s = record {
   mac_from = from.mac;
   mac_to = to.mac;
+  vlan = c.vlan;
   from = from.peer;
   to = to.peer;
   seq = s.seq;

@@ -34,7 +34,7 @@ pub fn segments(
     requires up { IsLine delivered.now.up.line }
     requires down { IsLine delivered.now.down.line }
     ensures { IfOk result (λ list. list ≡ written_segments recorded.now.up.ticks
-        (written_connection conn.now.number conn.now.client conn.now.server (recorded_view recorded.now)
+        (written_connection conn.now.number conn.now.vlan conn.now.client conn.now.server (recorded_view recorded.now)
         (delivered_view delivered.now))) }
 {
     let opener = client_in(conn, recorded, 0);

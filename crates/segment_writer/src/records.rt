@@ -14,32 +14,40 @@ ghost use Rattle.segment_writer.specs.Senders.{frame_with, framed_by, piece_segm
 use crate::framed::Framed;
 use crate::pieces::{Cursor, copy_piece, is_border, part_at};
 use crate::senders::{Numbers, Sender, header_with, key_at};
-use frame_headers::{Flags, HEADERS_LEN, Header, put_headers};
+use frame_headers::{Flags, Header, MOST_HEADERS_LEN, headers_len, put_headers};
 use pcap_records::{Moment, RECORD_HEADER_LEN, Unit, Values, record_header_bytes};
 use reassembly::LinePart;
 use std::alloc::{AllocError, Global};
 
 // The header of a record whose frame has `len` bytes of payload, and room for the frame: 0 in place of its headers.
-fn open_record(alloc: Global, at: Moment, len: usize, unit: Unit) -> Result<Vec<u8>, AllocError>
+fn open_record(
+    alloc: Global,
+    at: Moment,
+    vlan: Option<u16>,
+    len: usize,
+    unit: Unit,
+) -> Result<Vec<u8>, AllocError>
     requires early { at < horizon (ticks_of unit) }
     requires small { len ≤ payload_limit }
-    ensures { IfOk result (λ bytes. bytes.items ≡ record_header (ticks_of unit) at (headers_len + len)
-        ++ replicate headers_len 0) }
+    ensures { IfOk result (λ bytes. bytes.items ≡ record_header (ticks_of unit) at (headers_len vlan + len)
+        ++ replicate (headers_len vlan) 0) }
 {
-    let mut bytes = Vec::with_capacity(alloc, RECORD_HEADER_LEN + HEADERS_LEN + len)?;
-    let header = record_header_bytes(at, (HEADERS_LEN + len) as u32, unit);
+    let headers = headers_len(vlan);
+    let mut bytes = Vec::with_capacity(alloc, RECORD_HEADER_LEN + headers + len)?;
+    let header = record_header_bytes(at, (headers + len) as u32, unit);
     bytes.extend_from_slice(&header)?;
-    bytes.extend_from_slice(&[0; HEADERS_LEN])?;
+    bytes.extend_from_slice(&[0; MOST_HEADERS_LEN][..headers])?;
     Ok(bytes)
 }
 
 // Writes the headers of a record's frame, whose payload is in place.
 fn close_record(bytes: &mut [u8], header: &Header)
-    requires room { record_header_len + headers_len ≤ length bytes.old }
-    requires small { length bytes.old ≤ record_header_len + headers_len + payload_limit }
-    ensures len { length (headers header.now (drop (record_header_len + headers_len) bytes.old)) ≡ headers_len }
+    requires room { record_header_len + headers_len header.now.vlan ≤ length bytes.old }
+    requires small { length bytes.old ≤ record_header_len + headers_len header.now.vlan + payload_limit }
+    ensures len { length (headers header.now (drop (record_header_len + headers_len header.now.vlan) bytes.old))
+        ≡ headers_len header.now.vlan }
     ensures bytes { bytes.new ≡ take record_header_len bytes.old
-        ++ frame_with header.now (drop (record_header_len + headers_len) bytes.old) }
+        ++ frame_with header.now (drop (record_header_len + headers_len header.now.vlan) bytes.old) }
 {
     put_headers(&mut bytes[RECORD_HEADER_LEN..], header);
 }
@@ -67,7 +75,7 @@ pub(crate) fn bare_framed(
     ensures { IfOk result (λ framed. framed
         ≡ framed_by sender.now (numbers.place, opening_segment at numbers.seq numbers.ack flags)) }
 {
-    let mut bytes = open_record(alloc, at, 0, sender.unit)?;
+    let mut bytes = open_record(alloc, at, sender.vlan, 0, sender.unit)?;
     let header = header_with(sender, numbers, flags);
     close_record(&mut bytes, &header);
     Ok(Framed {
@@ -96,7 +104,7 @@ pub(crate) fn piece_framed(
     ensures left { IfOk result (λ r. left_at own.now r.1 ≡ drop len (left_at own.now from)) }
 {
     let at = part_at(own, from.part).at;
-    let mut bytes = open_record(alloc, at, len, sender.unit)?;
+    let mut bytes = open_record(alloc, at, sender.vlan, len, sender.unit)?;
     let after = copy_piece(&mut bytes, own, from, len)?;
     let flags = piece_flags(is_border(own, after));
     let header = header_with(sender, numbers, flags);

@@ -20,6 +20,7 @@ pub(crate) struct Sender {
     pub turn: u8,
     pub mac_from: [u8; 6],
     pub mac_to: [u8; 6],
+    pub vlan: Option<u16>,
     pub from: Peer,
     pub to: Peer,
     pub base: u32,
@@ -38,7 +39,7 @@ pub(crate) struct Numbers {
 pub(crate) fn client_in(conn: &Conn, recorded: &Recorded<'_>, turn: u8) -> Sender
     ensures ticks { ticks_of result.unit ≡ recorded.now.up.ticks }
     ensures sender { (d : DeliveredConnection) → result ≡ client_in result.unit
-        (written_connection conn.now.number conn.now.client conn.now.server (recorded_view recorded.now) d) turn }
+        (written_connection conn.now.number conn.now.vlan conn.now.client conn.now.server (recorded_view recorded.now) d) turn }
 {
     let mac_from = recorded.mac_client;
     let mac_to = recorded.mac_server;
@@ -48,6 +49,7 @@ pub(crate) fn client_in(conn: &Conn, recorded: &Recorded<'_>, turn: u8) -> Sende
         turn,
         mac_from,
         mac_to,
+        vlan: conn.vlan,
         from: conn.client,
         to: conn.server,
         base: recorded.client_base,
@@ -67,6 +69,7 @@ pub(crate) fn peer_in(sender: &Sender, turn: u8) -> Sender
         turn,
         mac_from,
         mac_to,
+        vlan: sender.vlan,
         from: sender.to,
         to: sender.from,
         base: sender.peer_base,
@@ -83,6 +86,7 @@ pub(crate) fn header_with(sender: &Sender, numbers: Numbers, flags: Flags) -> He
     Header {
         mac_from,
         mac_to,
+        vlan: sender.vlan,
         from: sender.from,
         to: sender.to,
         seq: numbers.seq,

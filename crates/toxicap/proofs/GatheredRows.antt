@@ -7,7 +7,7 @@ use Rattle.std.proofs.lemmas.List.FromFn.{length-enumerate_from}
 use Rattle.conn_table.specs.SeenCapture.{SeenCapture}
 use Rattle.conn_table.specs.IndexedSegments.{IndexedSegment, indexed_segments}
 use Rattle.conn_table.specs.Connections.{Connection, connection_of, beginnings, connections, unopened_count}
-use Rattle.reassembly.specs.Positions.{client_of, server_of}
+use Rattle.reassembly.specs.Positions.{client_of, server_of, vlan_of}
 use Rattle.reassembly.specs.RecordedLines.{recorded_connection}
 use Rattle.toxic_defs.specs.DeliveredLines.{delivered_connection}
 use Rattle.segment_writer.specs.declared.framed.Framed.{Framed}
@@ -30,7 +30,7 @@ use Rattle.toxicap.proofs.RowSteps.{row_taken, own_number}
 module _ (ticks seed : ℕ) (s : ℕ × List Proxy) where
   -- a connection as it is written under the scenario
   written : Connection → WrittenConnection
-  written c = written_connection c.number (client_of c) (server_of c) (recorded_connection c)
+  written c = written_connection c.number (vlan_of c) (client_of c) (server_of c) (recorded_connection c)
       (delivered_connection ticks seed s.0 c.number (met_proxy (server_of c) s.1) (recorded_connection c))
 
   row_segments : (cs : List Connection) → segments_in (map (delivery_of ticks seed s) cs) ≡ map (written_segments ticks) (map written cs)

@@ -16,7 +16,7 @@ use Rattle.conn_table.specs.IndexedSegments.{indexed_segments}
 use Rattle.conn_table.specs.Connections.{Connection, connections}
 use Rattle.segment_writer.specs.WrittenSegments.{sorted_by_key}
 use Rattle.time_merge.specs.MergedCapture.{capture_of}
-use Rattle.reassembly.specs.Positions.{client_of, server_of}
+use Rattle.reassembly.specs.Positions.{client_of, server_of, vlan_of}
 use Rattle.reassembly.specs.RecordedLines.{recorded_connection}
 use Rattle.toxic_defs.specs.DeliveredLines.{DeliveredConnection, delivered_connection}
 use Rattle.segment_writer.specs.WrittenConnections.{written_connection}
@@ -89,13 +89,14 @@ capture_read never_falls written_is_read unit xs written within =
 
 -- ---- outputs
 
-talk_is : (c : Connection) → IsSoundConnection c → (d : DeliveredConnection) → IsSoundWritten (written_connection c.number (client_of c) (server_of c) (recorded_connection c) d)
+talk_is : (c : Connection) → IsSoundConnection c → (d : DeliveredConnection) → IsSoundWritten (written_connection c.number (vlan_of c) (client_of c) (server_of c) (recorded_connection c) d)
 talk_is c is d = record {
   client = record { mac = is.opening.mac_from; addr = is.opening.from_addr; port = is.opening.from_port };
   server = record { mac = is.opening.mac_to; addr = is.opening.to_addr; port = is.opening.to_port };
   differ = is.opening.differ;
   client_base = is.opening.seq;
   server_base = server_base_fits c is;
+  vlan = is.opening.vlan;
 }
 
 parts_are : HeadersAreSound → (ticks seed : ℕ) (scenario : ℕ × List Proxy) (cs : List Connection) → AllByRecursion IsSoundConnection cs

@@ -1,5 +1,5 @@
 -- Each written segment is a record before the horizon whose frame is a TCP segment with both checksums right.
-use Rattle.std.proofs.Common.{◌≡◌, ◌≢◌, ◌<◌, ◌≤◌, ℕ, zero, suc, ◌+◌, ◌-◌, ◌^◌, ◌==◌, Bool, true, false, ◌||◌, nat_lt, List, [], ◌∷◌, ◌++◌, length, map, refl, sym, arith, length-append, if◌then◌else◌}
+use Rattle.std.proofs.Common.{◌≡◌, ◌≢◌, ◌<◌, ◌≤◌, ℕ, zero, suc, ◌+◌, ◌-◌, ◌^◌, ◌==◌, Bool, true, false, ◌||◌, nat_lt, Option, Some, None, List, [], ◌∷◌, ◌++◌, length, map, refl, sym, arith, length-append, if◌then◌else◌}
 use Rattle.std.specs.List.{AllByRecursion, enumerate_from}
 use Rattle.std.proofs.lemmas.Bool.{ltb-true, or_parts}
 use Rattle.pcap_records.proofs.Lists.{all_append}
@@ -7,9 +7,9 @@ use Rattle.pcap_records.specs.Instants.{horizon}
 use Rattle.pcap_records.specs.Reading.{packet_limit}
 use Rattle.pcap_records.specs.Writing.{record_bytes}
 use Rattle.frame_headers.specs.Flags
-use Rattle.frame_headers.specs.HeaderLaws.{IsHeader, HeadersAreSound}
+use Rattle.frame_headers.specs.HeaderLaws.{IsHeader, IsVlan, HeadersAreSound}
 use Rattle.frame_headers.specs.Headers.{headers}
-use Rattle.frame_headers.specs.Layout.{payload_limit}
+use Rattle.frame_headers.specs.Layout.{headers_len, payload_limit}
 use Rattle.frame_headers.specs.declared.written.Header.{Header}
 use Rattle.segment_writer.specs.declared.framed.Framed.{Framed}
 use Rattle.reassembly.specs.RecordedLines.{LineByte, End, live, fin, close, reset}
@@ -37,7 +37,12 @@ pub record IsSentSegment (s : SentSegment) : Type 0 where
   pub ack : s.ack < 2 ^ 32
   pub flags : s.flags < 2 ^ 8
 
-module _ (ticks : ℕ) (sound : HeadersAreSound) (c : WrittenConnection) (from to : Host) (is_from : IsHost from) (is_to : IsHost to) (differ : from.peer ≢ to.peer) where
+-- headers with a tag are the longest
+headers_few : (vlan : Option ℕ) → headers_len vlan ≤ 58
+headers_few None = omega arith
+headers_few (Some v) = omega arith
+
+module _ (ticks : ℕ) (sound : HeadersAreSound) (c : WrittenConnection) (vlan : IsVlan c.vlan) (from to : Host) (is_from : IsHost from) (is_to : IsHost to) (differ : from.peer ≢ to.peer) where
   framed_is : (turn place : ℕ) (s : SentSegment) → IsSentSegment s → IsRecord ticks (framed_segment ticks c turn from to (place, s))
   unfolding frame_bytes
   framed_is turn place s sent =
@@ -55,10 +60,10 @@ module _ (ticks : ℕ) (sound : HeadersAreSound) (c : WrittenConnection) (from t
       } in
       let written = sound h s.payload is sent.short in
       let sums = written.1 in
-      let read = written.2 in
+      let read = written.2 vlan in
       record {
         frame = frame_bytes c from to s;
-        limited = omega (arith, length-append (headers h s.payload) s.payload, written.0, sent.short);
+        limited = omega (arith, length-append (headers h s.payload) s.payload, written.0, sent.short, headers_few c.vlan);
         sound = (read.class differ, sums.ipv4, rw read.fields sums.tcp);
         bytes = refl;
       }
@@ -133,13 +138,14 @@ pub record IsSoundWritten (t : WrittenConnection) : Type 0 where
   pub differ : t.client.host.peer ≢ t.server.host.peer
   pub client_base : t.client.base < 2 ^ 32
   pub server_base : t.server.base < 2 ^ 32
+  pub vlan : IsVlan t.vlan
 
 module _ (ticks : ℕ) (sound : HeadersAreSound) (t : WrittenConnection) (is : IsSoundWritten t) where
   by_client_is : (turn place : ℕ) (s : SentSegment) → IsSentSegment s → IsRecord ticks (framed_by_client ticks t turn (place, s))
-  by_client_is turn place s sent = framed_is ticks sound t t.client.host t.server.host is.client is.server is.differ turn place s sent
+  by_client_is turn place s sent = framed_is ticks sound t is.vlan t.client.host t.server.host is.client is.server is.differ turn place s sent
 
   by_server_is : (turn place : ℕ) (s : SentSegment) → IsSentSegment s → IsRecord ticks (framed_by_server ticks t turn (place, s))
-  by_server_is turn place s sent = framed_is ticks sound t t.server.host t.client.host is.server is.client (λ same. is.differ (sym same)) turn place s sent
+  by_server_is turn place s sent = framed_is ticks sound t is.vlan t.server.host t.client.host is.server is.client (λ same. is.differ (sym same)) turn place s sent
 
   opening_is : (refused : Bool) → AllByRecursion (IsRecord ticks) (opening_turn refused ticks t)
   opening_is false = (
@@ -184,8 +190,8 @@ all-sorted_by_key ticks (x ∷ xs) all = all-insert_by_key ticks x (sorted_by_ke
 pub segments_are : (ticks : ℕ) → HeadersAreSound → (t : WrittenConnection) → IsSoundWritten t → AllByRecursion (IsWritten ticks) (written_segments ticks t)
 unfolding written_segments
 segments_are ticks sound t is =
-    let up = turn_is ticks sound t t.client.host t.server.host is.client is.server is.differ 1 0 (segments_sent_by t.client t.server) (sent_is t.client t.server) in
-    let down = turn_is ticks sound t t.server.host t.client.host is.server is.client (λ same. is.differ (sym same)) 2 0 (segments_sent_by t.server t.client) (sent_is t.server t.client) in
+    let up = turn_is ticks sound t is.vlan t.client.host t.server.host is.client is.server is.differ 1 0 (segments_sent_by t.client t.server) (sent_is t.client t.server) in
+    let down = turn_is ticks sound t is.vlan t.server.host t.client.host is.server is.client (λ same. is.differ (sym same)) 2 0 (segments_sent_by t.server t.client) (sent_is t.server t.client) in
     let lines = all_append (IsRecord ticks) (opening_turn t.refused ticks t ++ up_turn ticks t) (down_turn ticks t)
     (all_append (IsRecord ticks) (opening_turn t.refused ticks t) (up_turn ticks t) (opening_is ticks sound t is t.refused) up) down in
     all-sorted_by_key ticks _ (kept_in_time ticks _ lines)

@@ -14,7 +14,7 @@ row_segment index from to flags seq = record {
   index = index;
   timed = record {
     at = 1000000 + index;
-    fields = record { mac_from = []; mac_to = []; from = from; to = to; seq = seq; ack = 0; flags = flags; payload = [] };
+    fields = record { mac_from = []; mac_to = []; vlan = None; from = from; to = to; seq = seq; ack = 0; flags = flags; payload = [] };
   };
 }
 

@@ -40,13 +40,13 @@ session_connection number = record {
   number = number;
   opening = record {
     at = 1000000;
-    fields = record { mac_from = session.mac_client; mac_to = session.mac_server; from = client; to = server; seq = 1000; ack = 0; flags = 2; payload = [] };
+    fields = record { mac_from = session.mac_client; mac_to = session.mac_server; vlan = None; from = client; to = server; seq = 1000; ack = 0; flags = 2; payload = [] };
   };
   later = [];
 }
 
 abbrev pub session_under : Option MetProxy → WrittenConnection
-session_under met = written_connection 0 client server session (delivered_connection 1000000 42 0 0 met session)
+session_under met = written_connection 0 None client server session (delivered_connection 1000000 42 0 0 met session)
 
 -- the capture of the plain session, 449 bytes
 abbrev pub session_bytes : List ℕ

@@ -44,6 +44,7 @@ fn sent(seq: u32, ack: u32, flags: Flags) -> Header {
     Header {
         mac_from: CLIENT_MAC,
         mac_to: SERVER_MAC,
+        vlan: None,
         from: CLIENT,
         to: SERVER,
         seq,
@@ -57,6 +58,7 @@ fn answered(seq: u32, ack: u32, flags: Flags) -> Header {
     Header {
         mac_from: SERVER_MAC,
         mac_to: CLIENT_MAC,
+        vlan: None,
         from: SERVER,
         to: CLIENT,
         seq,
@@ -86,6 +88,7 @@ fn is_read_as(frame: &[u8], header: &Header, payload: &[u8]) -> bool {
         Class::Segment(segment) => {
             segment.mac_from == header.mac_from
                 && segment.mac_to == header.mac_to
+                && segment.vlan == header.vlan
                 && segment.from == header.from
                 && segment.to == header.to
                 && segment.seq == header.seq

@@ -24,7 +24,7 @@ turn-requires-2-clause-peer c = lines_are_timely _ c.requires.up
 pub join-requires-clause-left : goal.join-requires-clause-left
 join-requires-clause-left c =
     let d : DeliveredConnection = delivered_view c.args.delivered.now in
-    let w : WrittenConnection = written_connection c.args.conn.now.number c.args.conn.now.client c.args.conn.now.server (recorded_view c.args.recorded.now) d in
+    let w : WrittenConnection = written_connection c.args.conn.now.number c.args.conn.now.vlan c.args.conn.now.client c.args.conn.now.server (recorded_view c.args.recorded.now) d in
     let unit : Unit = c.client_in-opener.result.unit in
     let opener = c.client_in-opener.ensures.sender d in
     let is : c.of.result ≡ opening_written w.refused (client_in unit w 0) (server_in unit w 0) w.opened =
@@ -49,7 +49,7 @@ join-requires-2-clause-right c =
 pub returns : goal.returns
 returns c =
     let d : DeliveredConnection = delivered_view c.args.delivered.now in
-    let w : WrittenConnection = written_connection c.args.conn.now.number c.args.conn.now.client c.args.conn.now.server (recorded_view c.args.recorded.now) d in
+    let w : WrittenConnection = written_connection c.args.conn.now.number c.args.conn.now.vlan c.args.conn.now.client c.args.conn.now.server (recorded_view c.args.recorded.now) d in
     let first : Unit = c.client_in-opener.result.unit in
     let unit : Unit = c.client_in-client.result.unit in
     let opener = c.client_in-opener.ensures.sender d in

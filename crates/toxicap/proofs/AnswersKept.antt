@@ -1,8 +1,8 @@
--- Captures of the first magic number are answered as they were before captures in nanoseconds.
+-- Captures of the first magic number without a tagged frame are answered as they were before captures in nanoseconds and frames with a tag.
 use Rattle.std.proofs.Common.{◌≡◌, ℕ, Bool, true, false, ◌==◌, ◌++◌, nat_lt, List, [], ◌∷◌, length, map, Option, Some, None, Result, Ok, Err, inl, inr, refl, sym, ap, ap₂, ◌∙◌, if◌then◌else◌}
-use Rattle.std.specs.Prelude.{◌⊎◌}
+use Rattle.std.specs.Prelude.{◌⊎◌, IfOk}
 use Rattle.std.specs.Option.{option_or}
-use Rattle.std.specs.List.{enumerate_from, flat_map}
+use Rattle.std.specs.List.{AllByRecursion, enumerate_from, flat_map}
 use Rattle.pcap_records.specs.declared.fault.CaptureFault.{CaptureFault}
 use Rattle.pcap_records.specs.declared.fault.CaptureFault.TheVariants.{CaptureTooLong, ShortHeader}
 use Rattle.pcap_records.specs.declared.heading.Order.TheVariants.{Big, Little}
@@ -13,20 +13,27 @@ use Rattle.pcap_records.specs.Grammar.{ReadingsSplit}
 use Rattle.segment_writer.specs.declared.framed.Framed.{Framed}
 use Rattle.segment_writer.specs.WrittenSegments.{sorted_by_key}
 use Rattle.time_merge.specs.MergedCapture.{capture_of}
-use Rattle.conn_table.specs.IndexedSegments.{indexed_segments}
-use Rattle.conn_table.specs.Connections.{unopened_count}
-use Rattle.conn_table.specs.SeenCapture.{SeenCapture, seen_capture}
+use Rattle.conn_table.specs.IndexedSegments.{IndexedSegment, indexed_segments}
+use Rattle.conn_table.specs.Connections.{Connection, connections}
+use Rattle.conn_table.specs.SeenCapture.{SeenCapture}
+use Rattle.reassembly.specs.Positions.{vlan_of}
+use Rattle.reassembly.proofs.MappedLists.{map_same}
 use Rattle.report.specs.ReportText.{report_text}
 use Rattle.run_files.specs.declared.error.RunFault.{RunFault}
 use Rattle.run_files.specs.declared.error.RunFault.TheVariants.{TooManyScenarios}
 use Rattle.run_files.specs.declared.outputs.Output.{Output}
 use Rattle.scenarios.specs.declared.proxies.Proxy.{Proxy}
+use Rattle.conn_workers.specs.Contributions.{Contribution, contribution_of}
 use Rattle.toxicap.specs.Rehearsal.{contributions, output, outputs_of, scenario_limit, seen_file, answer_to, answer}
 use Rattle.toxicap.specs.ReadingBefore.{magic_heading_before, file_heading_before, reading_before}
 use Rattle.toxicap.specs.WritingBefore.{file_header_before}
-use Rattle.toxicap.specs.AnswersBefore.{capture_of_before, output_before, outputs_of_before, answer_to_before, answer_before}
-use Rattle.toxicap.specs.OldAnswers.{HasFirstMagic, OldAnswersAreKept}
+use Rattle.toxicap.specs.ConnectionsBefore.{seen_capture_before, connections_before, unopened_count_before}
+use Rattle.toxicap.specs.AnswersBefore.{contribution_of_before, contributions_before, capture_of_before, output_before, outputs_of_before, seen_file_before, answer_to_before, answer_before}
+use Rattle.toxicap.specs.OldAnswers.{HasFirstMagic, AreUntagged, OldAnswersAreKept}
 use Rattle.toxicap.proofs.ReadTicks.{reading_heading, ticks_by}
+use Rattle.toxicap.proofs.FramesKept.{HasNoVlan, seen_kept, segments_have_none}
+use Rattle.toxicap.proofs.ConnectionsKept.{connections_kept, unopened_kept, connections_have_none}
+use Rattle.toxicap.proofs.ContributionsKept.{contribution_is_kept}
 
 -- ---- the file is read as before
 
@@ -71,25 +78,51 @@ capture_kept : (ticks : ℕ) → ticks ≡ microseconds → (segments : List Fra
 unfolding capture_of capture_of_before
 capture_kept ticks counted segments = ap (λ (header : List ℕ). header ++ flat_map (λ x. x.bytes) (sorted_by_key segments)) (header_kept ticks counted)
 
-output_kept : (c : SeenCapture) → c.ticks ≡ microseconds → (seed : ℕ) (s : ℕ × List Proxy) → output c seed s ≡ output_before c seed s
+-- a capture that counts microseconds and has no segment with a VLAN
+record IsOld (c : SeenCapture) : Type 0 where
+  counted : c.ticks ≡ microseconds
+  none : AllByRecursion HasNoVlan (indexed_segments 0 c.packets)
+
+contributions_kept : (c : SeenCapture) → IsOld c → (seed : ℕ) (s : ℕ × List Proxy) → contributions c seed s ≡ contributions_before c seed s
+contributions_kept c old seed s =
+    ap (λ (cs : List Connection). map (contribution_of c.ticks seed s) cs) (connections_kept segs old.none)
+    ∙ map_same (contribution_of c.ticks seed s) (contribution_of_before c.ticks seed s) (connections_before segs)
+    (each (connections_before segs) (connections_have_none segs old.none))
+  where
+    segs : List IndexedSegment
+    segs = indexed_segments 0 c.packets
+
+    each : (cs : List Connection) → AllByRecursion (λ (x : Connection). vlan_of x ≡ None) cs
+        → AllByRecursion (λ x. contribution_of c.ticks seed s x ≡ contribution_of_before c.ticks seed s x) cs
+    each [] none = tt
+    each (x ∷ cs) none = (contribution_is_kept c.ticks seed s x none.0, each cs none.1)
+
+output_kept : (c : SeenCapture) → IsOld c → (seed : ℕ) (s : ℕ × List Proxy) → output c seed s ≡ output_before c seed s
 unfolding output output_before
-output_kept c counted seed s =
-    ap (λ (bytes : List ℕ). let o : Output = record { capture = bytes; report = report_text s.0 c (unopened_count (indexed_segments 0 c.packets)) (map (λ p. p.line) (contributions c seed s)) } in o)
-    (capture_kept c.ticks counted (flat_map (λ p. p.segments) (contributions c seed s)))
+output_kept c old seed s =
+    ap₂ (λ (parts : List Contribution) (unopened : ℕ). made (capture_of c.ticks (flat_map (λ p. p.segments) parts)) (report_text s.0 c unopened (map (λ p. p.line) parts)))
+    (contributions_kept c old seed s) (unopened_kept (indexed_segments 0 c.packets) old.none)
+    ∙ ap (λ (bytes : List ℕ). made bytes (report_text s.0 c (unopened_count_before (indexed_segments 0 c.packets)) (map (λ p. p.line) (contributions_before c seed s))))
+    (capture_kept c.ticks old.counted (flat_map (λ p. p.segments) (contributions_before c seed s)))
+  where
+    made : List ℕ → List ℕ → Output
+    made capture report = record { capture = capture; report = report }
 
-each_kept : (c : SeenCapture) → c.ticks ≡ microseconds → (seed : ℕ) (ss : List (ℕ × List Proxy)) → map (output c seed) ss ≡ map (output_before c seed) ss
-each_kept c counted seed [] = refl
-each_kept c counted seed (s ∷ ss) = ap₂ (λ o os. o ∷ os) (output_kept c counted seed s) (each_kept c counted seed ss)
+each_kept : (c : SeenCapture) → IsOld c → (seed : ℕ) (ss : List (ℕ × List Proxy)) → map (output c seed) ss ≡ map (output_before c seed) ss
+each_kept c old seed [] = refl
+each_kept c old seed (s ∷ ss) = ap₂ (λ o os. o ∷ os) (output_kept c old seed s) (each_kept c old seed ss)
 
-answer_kept : (file : Result Reading CaptureFault) → ((r : Reading) → file ≡ Ok r → r.contents.ticks ≡ microseconds)
-    → (scenarios : List (List Proxy)) (seed : ℕ) → answer_to (seen_file file) scenarios seed ≡ answer_to_before (seen_file file) scenarios seed
+answer_kept : (file : Result Reading CaptureFault) → ((r : Reading) → file ≡ Ok r → r.contents.ticks ≡ microseconds) → IfOk file (λ r. AreUntagged r.contents.packets)
+    → (scenarios : List (List Proxy)) (seed : ℕ) → answer_to (seen_file file) scenarios seed ≡ answer_to_before (seen_file_before file) scenarios seed
 unfolding outputs_of outputs_of_before
-answer_kept (Ok r) counts scenarios seed = ap Ok (each_kept (seen_capture r.contents) (counts r refl) seed (enumerate_from 0 scenarios))
-answer_kept (Err f) counts scenarios seed = refl
+answer_kept (Ok r) counts untagged scenarios seed =
+    ap (λ (c : SeenCapture). answer_to (Ok c) scenarios seed) (seen_kept r.contents untagged)
+    ∙ ap Ok (each_kept (seen_capture_before r.contents) (record { counted = counts r refl; none = segments_have_none r.contents.packets }) seed (enumerate_from 0 scenarios))
+answer_kept (Err f) counts untagged scenarios seed = refl
 
 pub old_answers_are_kept : ReadingsSplit → OldAnswersAreKept
 unfolding answer answer_before
-old_answers_are_kept readings_split bytes has scenarios seed =
+old_answers_are_kept readings_split bytes has untagged scenarios seed =
     ap (λ (a : Result (List Output) RunFault). if nat_lt scenario_limit (length scenarios) then Err TooManyScenarios else a)
-    (answer_kept (reading bytes) (counts_as_before readings_split bytes has) scenarios seed
-    ∙ ap (λ (file : Result Reading CaptureFault). answer_to_before (seen_file file) scenarios seed) (reading_kept bytes has))
+    (answer_kept (reading bytes) (counts_as_before readings_split bytes has) untagged scenarios seed
+    ∙ ap (λ (file : Result Reading CaptureFault). answer_to_before (seen_file_before file) scenarios seed) (reading_kept bytes has))

@@ -2,6 +2,9 @@ mod WrittenFrames
 mod SoundConnections
 mod ReadTicks
 mod OutputsRead
+mod FramesKept
+mod ConnectionsKept
+mod ContributionsKept
 mod AnswersKept
 mod Evaluated
 mod AnswerSteps

@@ -1,22 +1,56 @@
--- The outcome of a rehearsal before captures in nanoseconds: the definitions of then, word for word, each name with `_before`.
--- Words without `_before` are those of today, which the captures in nanoseconds left as they were.
-use Rattle.std.specs.Prelude.{ℕ, List, ◌++◌, length, map, nat_lt, if◌then◌else◌, Result, Ok, Err}
+-- The outcome of a rehearsal before captures in nanoseconds and frames with a tag: the definitions of then, word for word, each name
+-- with `_before`. Words without `_before` are those of today, which both left as they were.
+use Rattle.std.specs.Prelude.{ℕ, List, ◌++◌, length, map, nat_lt, if◌then◌else◌, Option, Result, Ok, Err}
 use Rattle.std.specs.List.{enumerate_from, flat_map}
 use Rattle.pcap_records.specs.declared.fault.CaptureFault.{CaptureFault}
+use Rattle.pcap_records.specs.Reading.{Reading}
 use Rattle.run_files.specs.declared.error.RunFault.{RunFault}
 use Rattle.run_files.specs.declared.error.RunFault.TheVariants.{TooManyScenarios}
 use Rattle.run_files.specs.declared.outputs.Output.{Output}
 use Rattle.run_files.specs.RunFault.{run_fault}
 use Rattle.conn_table.specs.SeenCapture.{SeenCapture}
 use Rattle.conn_table.specs.IndexedSegments.{indexed_segments}
-use Rattle.conn_table.specs.Connections.{unopened_count}
+use Rattle.conn_table.specs.Connections.{Connection}
+use Rattle.reassembly.specs.Positions.{client_of, server_of}
+use Rattle.reassembly.specs.RecordedLines.{RecordedConnection, recorded_connection}
+use Rattle.toxic_defs.specs.DeliveredLines.{MetProxy, DeliveredConnection, delivered_connection}
 use Rattle.segment_writer.specs.declared.framed.Framed.{Framed}
 use Rattle.segment_writer.specs.WrittenSegments.{sorted_by_key}
 use Rattle.scenarios.specs.declared.proxies.Proxy.{Proxy}
+use Rattle.conn_workers.specs.MetProxies.{met_proxy}
+use Rattle.conn_workers.specs.Contributions.{Contribution}
 use Rattle.report.specs.ReportText.{report_text}
 use Rattle.toxicap.specs.ReadingBefore.{reading_before}
 use Rattle.toxicap.specs.WritingBefore.{file_header_before}
-use Rattle.toxicap.specs.Rehearsal.{contributions, scenario_limit, seen_file}
+use Rattle.toxicap.specs.ConnectionsBefore.{seen_capture_before, connections_before, unopened_count_before}
+use Rattle.toxicap.specs.SegmentsBefore.{written_segments_before, written_connection_before}
+use Rattle.toxicap.specs.ReportsBefore.{connection_text_before}
+use Rattle.toxicap.specs.Rehearsal.{scenario_limit}
+
+-- ---- what a connection contributes
+
+abbrev pub contribution_by_before : ℕ → Connection → RecordedConnection → DeliveredConnection → Contribution
+contribution_by_before ticks c r d = record {
+  segments = written_segments_before ticks (written_connection_before c.number (client_of c) (server_of c) r d);
+  line = connection_text_before c.number (client_of c) (server_of c) r d;
+}
+
+-- The contribution of a connection: of the ticks of a second, its members with their instants and its number, the
+-- scenario's number, the seed, and the proxy that it meets, and of nothing else.
+unfoldable pub contribution_before : ℕ → Connection → ℕ → ℕ → Option MetProxy → Contribution
+contribution_before ticks c scenario seed met =
+    contribution_by_before ticks c (recorded_connection c)
+    (delivered_connection ticks seed scenario c.number met (recorded_connection c))
+
+-- what a connection contributes to a scenario with its number
+abbrev pub contribution_of_before : ℕ → ℕ → ℕ × List Proxy → Connection → Contribution
+contribution_of_before ticks seed (number, proxies) c = contribution_before ticks c number seed (met_proxy (server_of c) proxies)
+
+-- what each connection contributes, in order of number, under a scenario with its number; a scenario is seen as its proxies in order
+abbrev pub contributions_before : SeenCapture → ℕ → ℕ × List Proxy → List Contribution
+contributions_before c seed scenario = map (contribution_of_before c.ticks seed scenario) (connections_before (indexed_segments 0 c.packets))
+
+-- ---- an output
 
 -- the capture of segments in the order in which they stand
 abbrev pub capture_in_turn_before : ℕ → List Framed → List ℕ
@@ -28,13 +62,20 @@ capture_of_before ticks segments = capture_in_turn_before ticks (sorted_by_key s
 
 unfoldable pub output_before : SeenCapture → ℕ → ℕ × List Proxy → Output
 output_before c seed scenario = record {
-  capture = capture_of_before c.ticks (flat_map (λ p. p.segments) (contributions c seed scenario));
-  report = report_text scenario.0 c (unopened_count (indexed_segments 0 c.packets)) (map (λ p. p.line) (contributions c seed scenario));
+  capture = capture_of_before c.ticks (flat_map (λ p. p.segments) (contributions_before c seed scenario));
+  report = report_text scenario.0 c (unopened_count_before (indexed_segments 0 c.packets)) (map (λ p. p.line) (contributions_before c seed scenario));
 }
 
 -- an output for each scenario; the order of the bytes of the capture's fields is no part of what is seen
 unfoldable pub outputs_of_before : SeenCapture → List (List Proxy) → ℕ → List Output
 outputs_of_before c scenarios seed = map (output_before c seed) (enumerate_from 0 scenarios)
+
+-- ---- the answer to a file
+
+-- what is seen of a file
+abbrev pub seen_file_before : Result Reading CaptureFault → Result SeenCapture CaptureFault
+seen_file_before (Ok r) = Ok (seen_capture_before r.contents)
+seen_file_before (Err f) = Err f
 
 abbrev pub answer_to_before : Result SeenCapture CaptureFault → List (List Proxy) → ℕ → Result (List Output) RunFault
 answer_to_before (Ok c) scenarios seed = Ok (outputs_of_before c scenarios seed)
@@ -43,4 +84,4 @@ answer_to_before (Err f) scenarios seed = Err (run_fault f)
 -- too many scenarios are refused before the capture is looked at
 unfoldable pub answer_before : List ℕ → List (List Proxy) → ℕ → Result (List Output) RunFault
 answer_before bytes scenarios seed =
-    if nat_lt scenario_limit (length scenarios) then Err TooManyScenarios else answer_to_before (seen_file (reading_before bytes)) scenarios seed
+    if nat_lt scenario_limit (length scenarios) then Err TooManyScenarios else answer_to_before (seen_file_before (reading_before bytes)) scenarios seed

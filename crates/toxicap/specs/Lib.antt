@@ -2,6 +2,10 @@ pub mod Rehearsal
 pub mod GatheredOutputs
 pub mod SoundOutputs
 pub mod ReadingBefore
+pub mod FramesBefore
+pub mod ConnectionsBefore
+pub mod SegmentsBefore
+pub mod ReportsBefore
 pub mod WritingBefore
 pub mod AnswersBefore
 pub mod OldAnswers

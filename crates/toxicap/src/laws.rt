@@ -28,8 +28,9 @@ pub fn outputs_are_read()
     sorted_never_falls();
 }
 
-/// A capture whose first four bytes are the first magic number, that of files in microseconds, is answered as it was before
-/// captures in nanoseconds: with the same outputs, or with the same refusal. `answer_before` is the outcome as it was defined then.
+/// A capture whose first four bytes are the first magic number, that of files in microseconds, and in which no frame has a tag
+/// (bytes 12 and 13 are `81 00`), is answered as it was before captures in nanoseconds and frames with a tag: with the same
+/// outputs, or with the same refusal. `answer_before` is the outcome as it was defined then.
 pub fn old_answers_are_kept()
     ensures { OldAnswersAreKept }
 {

@@ -9,7 +9,7 @@ use Rattle.frame_headers.specs.HeaderLaws.{IsHeader, IsVlan, IsReadBack, SumsToN
 use Rattle.frame_headers.specs.declared.peers.Peer.{Peer}
 use Rattle.frame_headers.specs.declared.written.Header.{Header}
 use Rattle.frame_headers.proofs.FilledSums.{sum16-ipv4, tcp_sum-tcp}
-use Rattle.frame_headers.specs.Layout.{ethernet_len, link_len, vlan_limit, ipv4_len, headers_len, payload_limit}
+use Rattle.frame_headers.specs.Layout.{ethernet_len, link_len, vlan_limit, ipv4_len, source_at, destination_at, to_port_at, seq_at, ack_at, data_offset_at, headers_len, payload_limit}
 
 -- what stands at the places of a frame of a VLAN, or of none, with this header and payload
 record Reads (vlan : Option ℕ) (to from : List ℕ) (h : Header) (bytes frame : List ℕ) : Type 0 where
@@ -76,14 +76,14 @@ reads_bytes None h bytes r small a b c d e f i j k l m n =
       total = omega arith;
       fragment = refl;
       protocol = refl;
-      source = big_number-reads_back 4 h.from.addr (drop 30 frame) (omega (arith, r.from_addr));
-      destination = big_number-reads_back 4 h.to.addr (drop 34 frame) (omega (arith, r.to_addr));
+      source = big_number-reads_back 4 h.from.addr (drop (link_len false + source_at + 4) frame) (omega (arith, r.from_addr));
+      destination = big_number-reads_back 4 h.to.addr (drop (link_len false + destination_at + 4) frame) (omega (arith, r.to_addr));
       ip = refl;
       segment = refl;
-      from_port = big_number-reads_back 2 h.from.port (drop 2 segment) (omega (arith, r.from_port));
-      to_port = big_number-reads_back 2 h.to.port (drop 4 segment) (omega (arith, r.to_port));
-      seq = big_number-reads_back 4 h.seq (drop 8 segment) (omega (arith, r.seq));
-      ack = big_number-reads_back 4 h.ack (drop 12 segment) (omega (arith, r.ack));
+      from_port = big_number-reads_back 2 h.from.port (drop to_port_at segment) (omega (arith, r.from_port));
+      to_port = big_number-reads_back 2 h.to.port (drop seq_at segment) (omega (arith, r.to_port));
+      seq = big_number-reads_back 4 h.seq (drop ack_at segment) (omega (arith, r.seq));
+      ack = big_number-reads_back 4 h.ack (drop data_offset_at segment) (omega (arith, r.ack));
       offset = omega (arith, r.flags);
       flags = omega (arith, r.flags);
       segment_len = omega arith;
@@ -97,20 +97,20 @@ reads_bytes (Some v) h bytes r small a b c d e f i j k l m n =
       mac_to = refl;
       mac_from = refl;
       tagged = rw (le-leb ethernet_len (length frame) (omega arith)) refl;
-      number = λ is. numbered v is.some is.limited (number_at 2 ethernet_len frame) (big_number-reads_back 2 v (drop 16 frame) (omega (arith, is.limited)));
+      number = λ is. numbered v is.some is.limited (number_at 2 ethernet_len frame) (big_number-reads_back 2 v (drop (ethernet_len + 2) frame) (omega (arith, is.limited)));
       link_type = refl;
       first = refl;
       total = omega arith;
       fragment = refl;
       protocol = refl;
-      source = big_number-reads_back 4 h.from.addr (drop 34 frame) (omega (arith, r.from_addr));
-      destination = big_number-reads_back 4 h.to.addr (drop 38 frame) (omega (arith, r.to_addr));
+      source = big_number-reads_back 4 h.from.addr (drop (link_len true + source_at + 4) frame) (omega (arith, r.from_addr));
+      destination = big_number-reads_back 4 h.to.addr (drop (link_len true + destination_at + 4) frame) (omega (arith, r.to_addr));
       ip = refl;
       segment = refl;
-      from_port = big_number-reads_back 2 h.from.port (drop 2 segment) (omega (arith, r.from_port));
-      to_port = big_number-reads_back 2 h.to.port (drop 4 segment) (omega (arith, r.to_port));
-      seq = big_number-reads_back 4 h.seq (drop 8 segment) (omega (arith, r.seq));
-      ack = big_number-reads_back 4 h.ack (drop 12 segment) (omega (arith, r.ack));
+      from_port = big_number-reads_back 2 h.from.port (drop to_port_at segment) (omega (arith, r.from_port));
+      to_port = big_number-reads_back 2 h.to.port (drop seq_at segment) (omega (arith, r.to_port));
+      seq = big_number-reads_back 4 h.seq (drop ack_at segment) (omega (arith, r.seq));
+      ack = big_number-reads_back 4 h.ack (drop data_offset_at segment) (omega (arith, r.ack));
       offset = omega (arith, r.flags);
       flags = omega (arith, r.flags);
       segment_len = omega arith;

@@ -38,7 +38,7 @@ pub record IsSentSegment (s : SentSegment) : Type 0 where
   pub flags : s.flags < 2 ^ 8
 
 -- headers with a tag are the longest
-headers_few : (vlan : Option ℕ) → headers_len vlan ≤ 58
+headers_few : (vlan : Option ℕ) → headers_len vlan ≤ headers_len (Some 0)
 headers_few None = omega arith
 headers_few (Some v) = omega arith
 

@@ -4,5 +4,7 @@ mod checks;
 mod frames;
 mod instants;
 mod scenario_files;
+mod tagged_frames;
 mod toxic_files;
 mod toxics;
+mod written_headers;

@@ -12,6 +12,7 @@ mod rehearsed;
 mod running;
 mod shelves;
 mod streams;
+mod tags;
 mod toxics;
 mod usage;
 mod writers;

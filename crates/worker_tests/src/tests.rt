@@ -6,4 +6,5 @@ mod joining;
 mod merging;
 mod range_tables;
 mod tables;
+mod vlans;
 mod workers;

@@ -64,7 +64,7 @@ fn with_another_record(alloc: Global) -> Result<Vec<u8>, AllocError> {
 }
 
 // The scenario of some proxies.
-fn scenario(alloc: Global, proxies: &[&str]) -> Result<Scenario, Fail> {
+pub(super) fn scenario(alloc: Global, proxies: &[&str]) -> Result<Scenario, Fail> {
     let text = format!(in alloc; "[{}]", proxies.join(alloc, ",")?)?;
     match read_scenario(alloc, text.as_bytes(), &Hosts::new(alloc)) {
         Ok(scenario) => Ok(scenario),
@@ -83,7 +83,7 @@ fn whole_table(alloc: Global, capture: &Capture<'_>) -> Result<Table, AllocError
 }
 
 // The deliveries of a file by so many workers, who pass a gate, with seed 42.
-fn delivered<R: Threads + Sync, G: Gate>(
+pub(super) fn delivered<R: Threads + Sync, G: Gate>(
     rt: &R,
     alloc: Global,
     bytes: &[u8],
@@ -101,7 +101,7 @@ fn delivered<R: Threads + Sync, G: Gate>(
 }
 
 // Whether the delivery at a place of a list has these numbers, so many segments and this line.
-fn is_delivery(
+pub(super) fn is_delivery(
     deliveries: &[Delivery],
     place: usize,
     numbers: (u32, u32),

@@ -35,12 +35,16 @@ fn partial(
 }
 
 // The table of all records in one range.
-fn whole(alloc: Global, capture: &Capture<'_>) -> Result<Table, AllocError> {
+pub(super) fn whole(alloc: Global, capture: &Capture<'_>) -> Result<Table, AllocError> {
     finish(alloc, partial(alloc, capture, 0, capture.records().len())?)
 }
 
 // The table by ranges of `cut` records, joined from the left.
-fn from_left(alloc: Global, capture: &Capture<'_>, cut: usize) -> Result<Table, AllocError> {
+pub(super) fn from_left(
+    alloc: Global,
+    capture: &Capture<'_>,
+    cut: usize,
+) -> Result<Table, AllocError> {
     let count = capture.records().len();
     let mut done = partial(alloc, capture, 0, 0)?;
     let mut at = 0;
@@ -54,7 +58,7 @@ fn from_left(alloc: Global, capture: &Capture<'_>, cut: usize) -> Result<Table, 
 }
 
 // The partial of the records from `at` on, by ranges of `cut` records, joined from the right.
-fn from_right(
+pub(super) fn from_right(
     alloc: Global,
     capture: &Capture<'_>,
     at: usize,
@@ -77,7 +81,7 @@ fn from_right(
 pub(super) type Wanted = (Host, &'static [u32]);
 
 // Whether a connection has this number, this client and these members.
-fn is_wanted(conn: &Conn, number: u32, wanted: &Wanted) -> bool {
+pub(super) fn is_wanted(conn: &Conn, number: u32, wanted: &Wanted) -> bool {
     let (client, members) = wanted;
     let listed = conn.members.as_slice();
     let same = listed

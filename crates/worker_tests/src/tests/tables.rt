@@ -81,7 +81,7 @@ pub(super) fn from_right(
 pub(super) type Wanted = (Host, &'static [u32]);
 
 // Whether a connection has this number, this client and these members.
-pub(super) fn is_wanted(conn: &Conn, number: u32, wanted: &Wanted) -> bool {
+fn is_wanted(conn: &Conn, number: u32, wanted: &Wanted) -> bool {
     let (client, members) = wanted;
     let listed = conn.members.as_slice();
     let same = listed

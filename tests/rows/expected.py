@@ -6,15 +6,18 @@ for time. It was written from those rules alone and shares nothing with the prog
 
 It reads FOLDER/segments (through tests/capture.awk), FOLDER/segments.awk or FOLDER/dump, FOLDER/arguments and the scenario files that these
 name. It refuses nothing: a row that is refused has its line written by hand."""
-import hashlib, json, pathlib, re, struct, subprocess, sys
+import hashlib, json, pathlib, struct, subprocess, sys
 
 MILLION, M32, M64 = 10**6, 2**32, 2**64
 FIN, SYN, RST, PSH, ACK = 1, 2, 4, 8, 16
+TAG = b'\x81\x00'
 CLASSES = 'segment short notipv4 badipv4 fragment nottcp cut badtcp sameends'.split()
 
 
 def classify(p):
-    """Its class and, of a segment, its fields."""
+    """Its class and, of a segment, its fields. A frame with a tag is read as the frame without these four bytes."""
+    vlan = None
+    if p[12:14] == TAG: vlan, p = int.from_bytes(p[14:16], 'big') % 4096 or None, p[:12] + p[16:]
     if len(p) < 14: return 'short', None
     if p[12:14] != b'\x08\x00': return 'notipv4', None
     ihl, total = (4 * (p[14] & 15), int.from_bytes(p[16:18], 'big')) if len(p) >= 34 else (0, 0)
@@ -27,7 +30,7 @@ def classify(p):
     sport, dport, seq, ack = struct.unpack('>HHII', t[:12])
     frm, to = (p[26:30], sport), (p[30:34], dport)
     if frm == to: return 'sameends', None
-    return 'segment', dict(mac_from=p[6:12], mac_to=p[:6], frm=frm, to=to, seq=seq, flags=t[13], payload=t[4 * (t[12] >> 4):])
+    return 'segment', dict(mac_from=p[6:12], mac_to=p[:6], vlan=vlan, frm=frm, to=to, seq=seq, flags=t[13], payload=t[4 * (t[12] >> 4):])
 
 
 def read(b):
@@ -49,7 +52,7 @@ def connections(segments):
     """Connections with their members, and how many segments are of none."""
     last, conns, open_now, unopened = {}, [], {}, 0
     for s in segments:
-        pair = frozenset((s['frm'], s['to']))
+        pair = s['vlan'], frozenset((s['frm'], s['to']))
         if s['flags'] & (SYN | ACK | RST) == SYN:
             opening = (s['frm'], s['seq'])
             if last.get(pair) != opening:
@@ -181,7 +184,8 @@ def frame(conn, client, seq, ack, flags, data=b''):
     tcp = struct.pack('>HHIIBBHHH', frm[1], to[1], seq % M32, ack % M32, 0x50, flags, 65535, 0, 0) + bytes(data)
     seen = frm[0] + to[0] + struct.pack('>BBH', 0, 6, len(tcp))
     tcp = tcp[:16] + struct.pack('>H', sum16(seen + tcp)) + tcp[18:]
-    return mac_to + mac_from + b'\x08\x00' + ip + tcp
+    tag = TAG + struct.pack('>H', f['vlan']) if f['vlan'] else b''
+    return mac_to + mac_from + tag + b'\x08\x00' + ip + tcp
 
 
 def written(conn, x, y, delivered, refused):
@@ -216,6 +220,9 @@ def told(line, before, lost, opened, refused):
     what = 'refused' if refused else 'open' if not end else '%s+%d' % (end[0], end[1] - opened)
     late = max([a[0] - b[0] for a, b in zip(bytes_now, bytes_before)], default=0)
     return '%d/%d/%d %s max %d' % (len(bytes_now), len(bytes_before), lost, what, late)
+
+
+def vlan_of(conn): return ' vlan %d' % conn['first']['vlan'] if conn['first']['vlan'] else ''
 
 
 def peer(end): return '%d.%d.%d.%d:%d' % (*end[0], end[1])
@@ -258,7 +265,8 @@ def rehearse(b, scenario, number, seed, hosts):
         lines = [([], None), ([], None)] if refused else cut(lines)
         everything += written(conn, x, y or 0, lines, refused)
         both = [told(lines[d], sides[d][0], sides[d][1], o, refused) for d in (0, 1)]
-        report.append('%d %s > %s proxy %s up %s down %s' % (c, peer(conn['client']), peer(conn['server']), '-' if met is None else met, *both))
+        ends = peer(conn['client']), peer(conn['server']), vlan_of(conn)
+        report.append('%d %s > %s%s proxy %s up %s down %s' % (c, *ends, '-' if met is None else met, *both))
     out = struct.pack('<I', 0xa1b2c3d4 if SECOND == 10**6 else 0xa1b23c4d) + bytes.fromhex('020004000000000000000000ffff000001000000')
     for key, f in sorted(everything):
         if key[0] < HORIZON: out += struct.pack('<IIII', *divmod(key[0], SECOND), len(f), len(f)) + f
@@ -292,7 +300,9 @@ def main():
             records, at = [out[:24].hex(' ', 4)], 24
             while at < len(out):
                 n = int.from_bytes(out[at + 8:at + 12], 'little')
-                records.append(out[at:at + 16].hex(' ', 4) + ' ' + re.sub('(.{108})', r'\1 ', out[at + 16:at + 16 + n].hex(), count=1).strip())
+                headers = 58 if out[at + 28:at + 30] == TAG else 54
+                f = out[at + 16:at + 16 + n]
+                records.append(' '.join((out[at:at + 16].hex(' ', 4), f[:headers].hex(), f[headers:].hex())).strip())
                 at += 16 + n
             (row / f'{number:04}.hex').write_text('\n'.join(records) + '\n')
     (row / 'report').write_text(reports)

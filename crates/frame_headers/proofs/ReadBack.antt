@@ -1,7 +1,6 @@
 -- Written headers are read back.
-use Rattle.std.proofs.Common.{◌≡◌, ◌≢◌, ◌<◌, ℕ, ◌+◌, ◌-◌, ◌%◌, ◌≤◌, Bool, true, false, eqb, nat_le, ◌==◌, ◌&&◌, Option, Some, None, is_some, if◌then◌else◌, List, [], ◌∷◌, ◌++◌, length, take, drop, slice_index, slice_range, refl, ap, ◌∙◌, arith, length-append, length-drop, take_all}
+use Rattle.std.proofs.Common.{◌≡◌, ◌≢◌, ◌<◌, ℕ, ◌+◌, ◌-◌, ◌%◌, ◌≤◌, Bool, true, false, eqb, ◌==◌, ◌&&◌, Option, Some, None, is_some, List, [], ◌∷◌, ◌++◌, length, take, drop, slice_index, slice_range, refl, ap, ◌∙◌, arith, length-append, length-drop, take_all}
 use Rattle.std.proofs.lemmas.Bool.{le-ltb, le-leb, ne_eqb, eqb-true}
-use Rattle.byteorder.specs.Endian.{big_bytes}
 use Rattle.byteorder.specs.Numbers.{big_number-reads_back}
 use Rattle.frame_headers.specs.Frame.{number_at, link_type, is_tagged, vlan_numbered, vlan_in, datagram_in, ip_payload, frame_class, frame_class_in, segment_fields, segment, is_short, is_not_ipv4, is_bad_ipv4, is_fragment, is_not_tcp, is_cut, is_bad_tcp, is_same_ends}
 use Rattle.frame_headers.specs.Headers.{headers, link_bytes, ipv4, tcp}
@@ -9,7 +8,7 @@ use Rattle.frame_headers.specs.HeaderLaws.{IsHeader, IsVlan, IsReadBack, SumsToN
 use Rattle.frame_headers.specs.declared.peers.Peer.{Peer}
 use Rattle.frame_headers.specs.declared.written.Header.{Header}
 use Rattle.frame_headers.proofs.FilledSums.{sum16-ipv4, tcp_sum-tcp}
-use Rattle.frame_headers.specs.Layout.{ethernet_len, link_len, vlan_limit, ipv4_len, source_at, destination_at, to_port_at, seq_at, ack_at, data_offset_at, headers_len, payload_limit}
+use Rattle.frame_headers.specs.Layout.{ethernet_len, link_len, vlan_limit, source_at, destination_at, to_port_at, seq_at, ack_at, data_offset_at, headers_len, payload_limit}
 
 -- what stands at the places of a frame of a VLAN, or of none, with this header and payload
 record Reads (vlan : Option ℕ) (to from : List ℕ) (h : Header) (bytes frame : List ℕ) : Type 0 where

@@ -9,7 +9,7 @@ use Rattle.std.proofs.lemmas.Option.{slice_get_within}
 use Rattle.pcap_records.specs.CaptureView.{CaptureView, contents_of, packet_of}
 use Rattle.pcap_records.specs.Reading.{Packet}
 use Rattle.pcap_records.specs.Instants.{greatest, greatest_so_far, instants}
-use Rattle.frame_headers.specs.Frame.{segment, frame_class, segment_fields}
+use Rattle.frame_headers.specs.Frame.{frame_class, segment_fields}
 use Rattle.conn_table.specs.SeenCapture.{seen_packet, seen_packets}
 use Rattle.conn_table.specs.IndexedSegments.{IndexedSegment, is_segment, indexed_segment, indexed_segments, same_pair, pair_of, pair_of_segment}
 use Rattle.conn_table.specs.Connections.{last_of, of_one_pair, begins, beginnings, beginning_of, is_at, later_members}

@@ -14,7 +14,7 @@ use Rattle.segment_writer.specs.declared.framed.Framed.{Framed}
 use Rattle.segment_writer.specs.WrittenSegments.{sorted_by_key}
 use Rattle.time_merge.specs.MergedCapture.{capture_of}
 use Rattle.conn_table.specs.IndexedSegments.{IndexedSegment, indexed_segments}
-use Rattle.conn_table.specs.Connections.{Connection, connections}
+use Rattle.conn_table.specs.Connections.{Connection}
 use Rattle.conn_table.specs.SeenCapture.{SeenCapture}
 use Rattle.reassembly.specs.Positions.{vlan_of}
 use Rattle.reassembly.proofs.MappedLists.{map_same}

@@ -8,13 +8,13 @@ use Rattle.reassembly.specs.Positions.{client_of, server_of, vlan_of}
 use Rattle.reassembly.specs.RecordedLines.{RecordedConnection, recorded_connection}
 use Rattle.toxic_defs.specs.DeliveredLines.{MetProxy, DeliveredConnection, delivered_connection}
 use Rattle.segment_writer.specs.declared.framed.Framed.{Framed}
-use Rattle.segment_writer.specs.WrittenSegments.{WrittenConnection, SentSegment, frame_bytes, framed_by_client, framed_by_server, opening_turn, segments_sent_by, up_turn, down_turn, segments_before_horizon, sorted_by_key, written_segments}
+use Rattle.segment_writer.specs.WrittenSegments.{WrittenConnection, SentSegment, frame_bytes, framed_by_client, framed_by_server, opening_turn, segments_sent_by, down_turn, segments_before_horizon, sorted_by_key, written_segments}
 use Rattle.segment_writer.specs.WrittenConnections.{written_connection}
 use Rattle.report.specs.ReportText.{connection_text}
 use Rattle.scenarios.specs.declared.proxies.Proxy.{Proxy}
 use Rattle.conn_workers.specs.MetProxies.{met_proxy}
 use Rattle.conn_workers.specs.Contributions.{Contribution, contribution, contribution_of}
-use Rattle.toxicap.specs.SegmentsBefore.{headers_before, frame_bytes_before, framed_by_client_before, framed_by_server_before, opening_turn_before, up_turn_before, down_turn_before, written_segments_before, written_connection_before}
+use Rattle.toxicap.specs.SegmentsBefore.{headers_before, frame_bytes_before, framed_by_client_before, framed_by_server_before, opening_turn_before, up_turn_before, written_segments_before, written_connection_before}
 use Rattle.toxicap.specs.ReportsBefore.{connection_text_before}
 use Rattle.toxicap.specs.AnswersBefore.{contribution_before, contribution_of_before}
 

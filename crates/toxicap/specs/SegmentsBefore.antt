@@ -1,7 +1,7 @@
 -- The segments of a connection as they were written before frames with a tag: the definitions of then, word for word, each name
 -- with `_before`. Words without `_before` are those of today, which the tag left as they were. Where a record of today has a
 -- VLAN, these words say that there is none.
-use Rattle.std.specs.Prelude.{ℕ, ◌+◌, ◌%◌, List, [], ◌∷◌, ◌++◌, length, map, Bool, true, false, None, unwrap_or}
+use Rattle.std.specs.Prelude.{ℕ, ◌+◌, List, [], ◌∷◌, ◌++◌, length, map, Bool, true, false, None, unwrap_or}
 use Rattle.std.specs.List.{enumerate_from}
 use Rattle.pcap_records.specs.Writing.{record_bytes}
 use Rattle.pcap_records.specs.Endian.{big_bytes}

@@ -60,7 +60,7 @@ fn check_class(rt: &impl Abort, alloc: Global, tags: &[u8], class: &str) -> Resu
     Ok(())
 }
 
-// Two tags, tags of another type, a byte before or after the tag's place, and a type after the tag that is not IPv4's.
+// Two tags, other types in a tag's place, of which 88a8 begins a tag of another kind, and a type after the tag that is not IPv4's.
 #[test]
 fn more_than_one_tag_of_one_type(rt: HostRuntime) -> Result<(), Fail> {
     let alloc = rt.alloc();

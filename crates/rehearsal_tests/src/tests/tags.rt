@@ -27,7 +27,16 @@ const TWO_TAGS_REPORT: &str =
 
 // The plain session with these tags in each frame.
 fn session_with(tags: &[u16]) -> [RecordedSegment<'_>; 7] {
-    session().map(|segment| segment.tagged(tags))
+    let [opening, answer, third, data, end, answered, last] = session();
+    [
+        opening.tagged(tags),
+        answer.tagged(tags),
+        third.tagged(tags),
+        data.tagged(tags),
+        end.tagged(tags),
+        answered.tagged(tags),
+        last.tagged(tags),
+    ]
 }
 
 // The plain session with these tags in each frame of the client, and none in those of the server.

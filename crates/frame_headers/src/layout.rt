@@ -90,8 +90,11 @@ pub fn headers_len(vlan: Option<u16>) -> usize
     link_len(vlan.is_some()) + IPV4_LEN + TCP_LEN
 }
 
+/// The least bytes of such headers: those of no VLAN.
+pub const LEAST_HEADERS_LEN: usize = ETHERNET_LEN + IPV4_LEN + TCP_LEN;
+
 /// The most bytes of such headers: those of a VLAN.
-pub const MOST_HEADERS_LEN: usize = ETHERNET_LEN + TAG_LEN + IPV4_LEN + TCP_LEN;
+pub const MOST_HEADERS_LEN: usize = LEAST_HEADERS_LEN + TAG_LEN;
 
 /// The most payload bytes of a written segment: what an Ethernet frame has room for after the headers of IPv4 and TCP.
 pub const PAYLOAD_LIMIT: usize = 1500 - IPV4_LEN - TCP_LEN;

@@ -12,7 +12,7 @@ mod written;
 
 pub use classes::{Class, Segment, classify};
 pub use flag_bits::Flags;
-pub use layout::{MOST_HEADERS_LEN, PAYLOAD_LIMIT, headers_len};
+pub use layout::{LEAST_HEADERS_LEN, MOST_HEADERS_LEN, PAYLOAD_LIMIT, headers_len};
 pub use peers::Peer;
 pub use sums::{checksum, tcp_checksum};
 pub use written::{Header, put_headers};

@@ -17,6 +17,7 @@ pub fn checksum(bytes: &[u8]) -> u16
 /// The checksum of a TCP header and its payload as they stand (RFC 9293 section 3.1), sent from one address to another.
 /// It covers a pseudo header of the two addresses, TCP's protocol number and the length. Of bytes that hold their own
 /// checksum it is 0.
+#[inline(never)]
 #[tactic(auto, unfolding(crate::specs::Sum::tcp_sum))]
 pub fn tcp_checksum(from: u32, to: u32, tcp: &[u8]) -> u16
     requires { length tcp.now ≤ 65535 }

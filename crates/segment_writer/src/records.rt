@@ -14,7 +14,9 @@ ghost use Rattle.segment_writer.specs.Senders.{frame_with, framed_by, piece_segm
 use crate::framed::Framed;
 use crate::pieces::{Cursor, copy_piece, is_border, part_at};
 use crate::senders::{Numbers, Sender, header_with, key_at};
-use frame_headers::{Flags, Header, MOST_HEADERS_LEN, headers_len, put_headers};
+use frame_headers::{
+    Flags, Header, LEAST_HEADERS_LEN, MOST_HEADERS_LEN, headers_len, put_headers,
+};
 use pcap_records::{Moment, RECORD_HEADER_LEN, Unit, Values, record_header_bytes};
 use reassembly::LinePart;
 use std::alloc::{AllocError, Global};
@@ -36,7 +38,10 @@ fn open_record(
     let mut bytes = Vec::with_capacity(alloc, RECORD_HEADER_LEN + headers + len)?;
     let header = record_header_bytes(at, (headers + len) as u32, unit);
     bytes.extend_from_slice(&header)?;
-    bytes.extend_from_slice(&[0; MOST_HEADERS_LEN][..headers])?;
+    match vlan {
+        Some(_) => bytes.extend_from_slice(&[0; MOST_HEADERS_LEN])?,
+        None => bytes.extend_from_slice(&[0; LEAST_HEADERS_LEN])?,
+    }
     Ok(bytes)
 }
 

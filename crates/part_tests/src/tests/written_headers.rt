@@ -4,8 +4,8 @@ ghost use Rattle.std.specs.Prelude.{◌≤◌};
 use super::checks::check;
 use super::frames::{answered, is_read_as, sent};
 use frame_headers::{
-    Flags, Header, MOST_HEADERS_LEN, PAYLOAD_LIMIT, checksum, headers_len, put_headers,
-    tcp_checksum,
+    Flags, Header, LEAST_HEADERS_LEN, MOST_HEADERS_LEN, PAYLOAD_LIMIT, checksum, headers_len,
+    put_headers, tcp_checksum,
 };
 use std::process::Abort;
 use worked_sessions::written_frames::{
@@ -117,6 +117,7 @@ fn long_payloads_read_back(rt: HostRuntime) {
 fn lengths_of_headers(rt: HostRuntime) {
     check(&rt, "of no VLAN", headers_len(None) == 54);
     check(&rt, "of VLAN 7", headers_len(Some(7)) == 58);
+    check(&rt, "the least", LEAST_HEADERS_LEN == 54);
     check(&rt, "the most", MOST_HEADERS_LEN == 58);
     check(&rt, "payload", PAYLOAD_LIMIT == 1460);
 }

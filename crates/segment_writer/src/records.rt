@@ -14,9 +14,7 @@ ghost use Rattle.segment_writer.specs.Senders.{frame_with, framed_by, piece_segm
 use crate::framed::Framed;
 use crate::pieces::{Cursor, copy_piece, is_border, part_at};
 use crate::senders::{Numbers, Sender, header_with, key_at};
-use frame_headers::{
-    Flags, Header, LEAST_HEADERS_LEN, MOST_HEADERS_LEN, headers_len, put_headers,
-};
+use frame_headers::{Flags, Header, LEAST_HEADERS_LEN, MOST_HEADERS_LEN, headers_len, put_headers};
 use pcap_records::{Moment, RECORD_HEADER_LEN, Unit, Values, record_header_bytes};
 use reassembly::LinePart;
 use std::alloc::{AllocError, Global};

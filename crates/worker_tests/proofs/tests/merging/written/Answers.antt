@@ -19,7 +19,7 @@ loop-number-preserved g c =
     let conn = c.conn-item.result in
     let is : conn.number ≡ c.loop-number.number-counter = grind (arith, nat_tests) in
     one_more c.args.capture.now.ticks c.loop-number.lists.items c.push.new.self.items c.loop-number.number-counter
-    (written_connection conn.number conn.client conn.server (recorded_view c.in_ok-recorded.recorded) (delivered_view c.in_ok-delivered.delivered))
+    (written_connection conn.number conn.vlan conn.client conn.server (recorded_view c.in_ok-recorded.recorded) (delivered_view c.in_ok-delivered.delivered))
     c.in_ok-segments.field-0 c.loop-number.invariant is (rw c.in_ok-recorded.ensures.up_ticks at c.in_ok-segments.ensures) c.in_ok-push.ensures.items
 
 pub returns-clause-sorted : goal.returns-clause-sorted

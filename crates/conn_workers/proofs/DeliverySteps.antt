@@ -1,5 +1,5 @@
 -- What is made of recordings, against the definition of what connections contribute.
-use Rattle.std.proofs.Common.{◌≡◌, ◌<◌, ℕ, ◌+◌, ◌*◌, ◌/◌, ◌%◌, List, length, map, get_or, refl, sym, ap, ◌∙◌, arith}
+use Rattle.std.proofs.Common.{◌≡◌, ◌<◌, ℕ, ◌+◌, ◌*◌, ◌/◌, ◌%◌, List, [], ◌∷◌, length, map, get_or, refl, sym, ap, ap₂, ◌∙◌, arith}
 use Rattle.std.specs.List.{enumerate_from, range_with_len}
 use Rattle.std.proofs.lemmas.Nat.{div_below}
 use Rattle.std.proofs.lemmas.List.{length-map}
@@ -10,10 +10,13 @@ use Rattle.conn_table.specs.SeenCapture.{seen_capture}
 use Rattle.conn_table.specs.IndexedConnections.{IndexedConnection, without_indices, IndexedConnectionsAgree}
 use Rattle.conn_table.specs.Tables.{conn_in}
 use Rattle.scenarios.specs.declared.proxies.Proxy.{Proxy}
-use Rattle.conn_workers.specs.Contributions.{contribution}
+use Rattle.conn_table.specs.Connections.{Connection}
+use Rattle.conn_workers.specs.Contributions.{Contribution, contribution, contribution_of}
+use Rattle.conn_workers.specs.declared.deliveries.Delivery.{Delivery}
+use Rattle.conn_workers.specs.DeliveryLaws.{LinesAreContributed}
 use Rattle.conn_workers.specs.DeliveryRows.{connections_of, delivery_of, deliveries}
 use Rattle.conn_workers.specs.CaptureTables.{whole_table, whole_connections}
-use Rattle.conn_workers.specs.Recordings.{RecordingView, recording_in, recordings_of, no_recording, recorded_delivery, recorded_deliveries, no_delivery}
+use Rattle.conn_workers.specs.Recordings.{RecordingView, recording_in, recordings_of, no_recording, recorded_delivery, recorded_deliveries, recorded_lines, no_delivery}
 use Rattle.conn_workers.proofs.RowLemmas.{length-rows, some_columns, at_place, rows_alike}
 use Rattle.conn_workers.proofs.TableConnections.{connections_are, conns_are}
 
@@ -28,6 +31,16 @@ unfolding recorded_deliveries deliveries
 deliveries_are agree seed c scenarios =
     rows_alike (recorded_delivery seed) (delivery_of c.ticks seed) (recording_in c) without_indices (delivery_is seed c) (enumerate_from 0 scenarios) (whole_connections c)
     ∙ ap (λ conns. deliveries c.ticks seed conns scenarios) (connections_are agree c)
+
+lines_alike : (seed : ℕ) (c : CaptureView) (s : ℕ × List Proxy) (xs : List IndexedConnection)
+    → recorded_lines seed s (map (recording_in c) xs) ≡ map (λ (p : Contribution). p.line) (map (contribution_of c.ticks seed s) (map without_indices xs))
+lines_alike seed c s [] = refl
+lines_alike seed c s (x ∷ xs) = ap₂ (λ (l : List ℕ) (ls : List (List ℕ)). l ∷ ls) (ap (λ (d : Delivery). d.line) (delivery_is seed c s x)) (lines_alike seed c s xs)
+
+pub lines_are_contributed : IndexedConnectionsAgree → LinesAreContributed
+lines_are_contributed agree seed c s =
+    lines_alike seed c s (whole_connections c)
+    ∙ ap (λ (cs : List Connection). map (λ (p : Contribution). p.line) (map (contribution_of c.ticks seed s) cs)) (connections_are agree c)
 
 -- ---- by jobs
 

@@ -1,6 +1,7 @@
 -- Where each delivery stands, and what it does not depend on.
-use Rattle.std.specs.Prelude.{◌≡◌, ℕ, ◌+◌, ◌*◌, List, length, Option, Some, slice_get}
-use Rattle.conn_table.specs.SeenCapture.{SeenCapture}
+use Rattle.std.specs.Prelude.{◌≡◌, ℕ, ◌+◌, ◌*◌, List, length, map, Option, Some, slice_get}
+use Rattle.pcap_records.specs.CaptureView.{CaptureView, contents_of}
+use Rattle.conn_table.specs.SeenCapture.{SeenCapture, seen_capture}
 use Rattle.conn_table.specs.Connections.{Connection}
 use Rattle.reassembly.specs.Positions.{members_of, server_of}
 use Rattle.scenarios.specs.declared.proxies.Proxy.{Proxy}
@@ -8,6 +9,7 @@ use Rattle.conn_workers.specs.declared.deliveries.Delivery.{Delivery}
 use Rattle.conn_workers.specs.MetProxies.{met_proxy}
 use Rattle.conn_workers.specs.Contributions.{contribution_of}
 use Rattle.conn_workers.specs.DeliveryRows.{connections_of, delivery, deliveries}
+use Rattle.conn_workers.specs.Recordings.{recordings_of, recorded_lines}
 
 -- what is seen of a capture, and the scenarios that it is rehearsed under
 pub record Rehearsed : Type 0 where
@@ -51,3 +53,12 @@ ContributionsAreIsolated =
     → members_of x ≡ members_of y → met_proxy (server_of x) a ≡ met_proxy (server_of y) b
     → (contribution_of ticks seed (s, a) x ≡ contribution_of ticks seed (s, b) y)
     × (delivery_at ticks seed first number s ≡ delivery_at ticks seed second number s)
+
+-- ---- lines of a report
+
+-- what is recorded of a capture tells the lines that its connections contribute
+abbrev pub LinesAreContributed : Type 0
+LinesAreContributed =
+    (seed : ℕ) (c : CaptureView) (s : ℕ × List Proxy)
+    → recorded_lines seed s (recordings_of c)
+    ≡ map (λ p. p.line) (map (contribution_of c.ticks seed s) (connections_of (seen_capture (contents_of c))))

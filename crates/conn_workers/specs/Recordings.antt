@@ -61,6 +61,10 @@ unfoldable pub recorded_deliveries : ℕ → List RecordingView → List (List P
 recorded_deliveries seed recordings scenarios =
     rows (recorded_delivery seed) (enumerate_from 0 scenarios) recordings
 
+-- the lines of all connections in the report of a scenario with its number
+abbrev pub recorded_lines : ℕ → ℕ × List Proxy → List RecordingView → List (List ℕ)
+recorded_lines seed s recordings = map (λ r. (recorded_delivery seed s r).line) recordings
+
 -- ---- what stands past the last of a list
 
 abbrev pub no_peer : Peer

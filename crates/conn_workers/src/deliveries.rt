@@ -5,7 +5,8 @@ ghost use Rattle.conn_table.specs.SeenCapture.{seen_capture};
 ghost use Rattle.conn_workers.specs.DeliveryRows.{scenario_limit, connections_of, deliveries};
 ghost use Rattle.conn_workers.specs.CaptureTables.{whole_table};
 
-use crate::jobs::{ContributionJobs, LineJobs};
+use crate::jobs::ContributionJobs;
+use crate::recordings::record;
 use conn_table::Table;
 use conn_table::laws::indexed_connections_agree;
 use job_matrix::{Gate, Phase, Plan, Values, work_all};
@@ -57,25 +58,18 @@ pub fn deliver<R: Threads + Sync, G: Gate>(
         v ≡ deliveries capture.now.ticks seed (connections_of (seen_capture (contents_of capture.now))) scenarios.now) }
 {
     indexed_connections_agree();
-    let workers = plan.workers() as u64;
-    let conns = table.conns();
-    let records = capture.records();
-    // each connection begins at a record of its own
-    prove!(conns.len() <= records.len());
-    let count = conns.len() as u64;
-    let line_jobs = LineJobs {
-        alloc,
-        capture,
-        conns,
-    };
-    let recordings = work_all(rt, alloc, count, workers, Phase::Lines, gate, &line_jobs)?;
+    let recordings = record(rt, alloc, capture, table, plan, gate)?;
     let contribution_jobs = ContributionJobs {
         alloc,
         recordings: recordings.as_slice(),
         scenarios,
         seed,
     };
+    let count = recordings.as_slice().len() as u64;
+    // each connection begins at a record of its own
+    prove!(count <= capture.records().len() as u64);
     let jobs = scenarios.len() as u64 * count;
+    let workers = plan.workers() as u64;
     work_all(
         rt,
         alloc,

@@ -1,5 +1,8 @@
-//! Theorems about what connections contribute. Each function does nothing: its contract is the theorem.
-ghost use Rattle.conn_workers.specs.DeliveryLaws.{RowsAreWhole, DeliveriesArePlaced, ContributionsAreIsolated};
+//! Theorems about what connections contribute. Each function does nothing, or names the theorem that it stands on: its contract is the
+//! theorem.
+ghost use Rattle.conn_workers.specs.DeliveryLaws.{RowsAreWhole, DeliveriesArePlaced, ContributionsAreIsolated, LinesAreContributed};
+
+use conn_table::laws::indexed_connections_agree;
 
 /// There is a delivery for each scenario and each connection of a capture. Of C connections, that of number c under
 /// scenario s stands at place s * C + c, has these two numbers, and is what that connection contributes to that
@@ -15,3 +18,10 @@ pub fn deliveries_are_placed()
 pub fn contributions_are_isolated()
     ensures { ContributionsAreIsolated }
 {}
+
+/// The lines that reports tell of what is recorded of a capture are those that its connections contribute.
+pub fn lines_are_contributed()
+    ensures { LinesAreContributed }
+{
+    indexed_connections_agree();
+}

@@ -9,5 +9,8 @@
 mod deliveries;
 mod jobs;
 pub mod laws;
+mod recordings;
 
 pub use deliveries::{Deliveries, Delivery, deliver};
+pub use jobs::Recording;
+pub use recordings::{Recordings, record, report_lines};

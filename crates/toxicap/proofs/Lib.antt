@@ -8,6 +8,7 @@ mod ContributionsKept
 mod AnswersKept
 mod Evaluated
 mod AnswerSteps
+mod PrintedSteps
 mod RunSteps
 mod FirstPlaces
 mod WrittenLines

@@ -10,6 +10,7 @@ use Rattle.conn_table.specs.IndexedConnections.{without_indices, IndexedConnecti
 use Rattle.conn_table.specs.Tables.{table_in, conn_in}
 use Rattle.conn_workers.specs.CaptureTables.{whole_table, whole_connections}
 use Rattle.conn_workers.specs.DeliveryRows.{connections_of}
+use Rattle.conn_workers.specs.Recordings.{recording_in, recordings_of}
 use Rattle.conn_workers.proofs.TableConnections.{all_packets, all_segments, connections_are}
 
 -- a connection of the table for each connection of the capture
@@ -18,6 +19,11 @@ unfolding table_in
 as_many agree c =
     length-map (whole_connections c) (conn_in c) ∙ sym (length-map (whole_connections c) without_indices)
     ∙ ap length (connections_are agree c)
+
+-- and what is recorded of each
+pub as_many_recorded : (c : CaptureView) → length (recordings_of c) ≡ length (whole_table c).conns
+unfolding table_in
+as_many_recorded c = length-map (whole_connections c) (recording_in c) ∙ sym (length-map (whole_connections c) (conn_in c))
 
 pub unopened_is : (c : CaptureView) → (whole_table c).unopened ≡ unopened_count (indexed_segments 0 (seen_packets 0 (contents_of c).packets))
 unfolding table_in

@@ -10,6 +10,7 @@ pub mod WritingBefore
 pub mod AnswersBefore
 pub mod OldAnswers
 pub mod Answering
+pub mod PrintedReports
 pub mod RunEnds
 pub mod Inputs
 pub mod Commands

@@ -5,11 +5,14 @@ ghost use Rattle.pcap_records.specs.Agreement.{Agrees, AgreesUnlessMemory};
 ghost use Rattle.pcap_records.specs.Reading.{capture_limit};
 ghost use Rattle.scenarios.specs.Populate.{scenario};
 ghost use Rattle.toxicap.specs.Answering.{AnswersBy, answer_under, called_for, capture_bytes_of, numbered, scenarios_from};
+ghost use Rattle.toxicap.specs.PrintedReports.{ReportsBy, reports_in};
 ghost use Rattle.toxicap.specs.RunEnds.{failed_reads};
 ghost use Rattle.run_files.specs.RunFault.{run_refusal};
 
 use crate::rehearsal::rehearse;
+use crate::reports::rehearse_reports;
 use job_matrix::{Plan, Through};
+use report::ReportText;
 use run_files::{Counted, Outputs, RunFault, is_dump, load, undump};
 use scenarios::{Hosts, Scenario, ScenarioFault, read_scenario};
 use std::alloc::{AllocError, Global};
@@ -56,6 +59,27 @@ pub fn answers<H: Threads + Wait + Sync, R: Read>(
     answer_to_text(rt, alloc, text, texts, options)
 }
 
+/// Reads a capture to its end as [`answers`] does, and gives the reports of these answers alone, one after another.
+///
+/// # Errors
+/// Those of [`answers`].
+pub(crate) fn reports<H: Threads + Wait + Sync, R: Read>(
+    rt: &H,
+    alloc: Global,
+    reader: &mut Counted<R>,
+    texts: &[&[u8]],
+    options: &Options,
+) -> Result<ReportText, RunFault>
+    requires { reader.old.failed < 2 ^ 64 - 1 }
+    ensures answer { (text : List ℕ)
+        × Consumes (R.remaining reader.old.inner) (R.remaining reader.new.inner) text
+        × ReportsBy result (called_for options.now.hosts (map (λ t. t.now) texts.now) options.now.seed text) text (IsAtEnd (R.remaining reader.new.inner)) }
+    ensures failed { reader.new.failed ≡ reader.old.failed + failed_reads result }
+{
+    let text = load(alloc, reader)?;
+    reports_to_text(rt, alloc, text, texts, options)
+}
+
 // What a text calls for.
 #[tactic(auto, unfolding(crate::specs::Answering::called_for))]
 fn answer_to_text<H: Threads + Wait + Sync>(
@@ -70,6 +94,22 @@ fn answer_to_text<H: Threads + Wait + Sync>(
 {
     let bytes = capture_bytes(alloc, text)?;
     answer_to_bytes(rt, alloc, &bytes, texts, options)
+}
+
+// The reports that a text calls for.
+#[tactic(auto, unfolding(crate::specs::Answering::called_for))]
+fn reports_to_text<H: Threads + Wait + Sync>(
+    rt: &H,
+    alloc: Global,
+    text: Vec<u8>,
+    texts: &[&[u8]],
+    options: &Options,
+) -> Result<ReportText, RunFault>
+    requires { length text.items ≤ capture_limit }
+    ensures { AgreesUnlessMemory run_refusal (λ reports. reports) result (reports_in (called_for options.now.hosts (map (λ t. t.now) texts.now) options.now.seed text.items)) }
+{
+    let bytes = capture_bytes(alloc, text)?;
+    reports_to_bytes(rt, alloc, &bytes, texts, options)
 }
 
 // The bytes of the capture that a text holds: those of the dump where the text is taken for one,
@@ -106,6 +146,20 @@ fn answer_to_bytes<H: Threads + Wait + Sync>(
         options.plan,
         &Through,
     )
+}
+
+// The reports of the answer to a capture's bytes.
+fn reports_to_bytes<H: Threads + Wait + Sync>(
+    rt: &H,
+    alloc: Global,
+    bytes: &[u8],
+    texts: &[&[u8]],
+    options: &Options,
+) -> Result<ReportText, RunFault>
+    ensures { AgreesUnlessMemory run_refusal (λ reports. reports) result (reports_in (answer_under options.now.hosts (map (λ t. t.now) texts.now) options.now.seed bytes.now)) }
+{
+    let read = read_texts(alloc, texts, &options.hosts)?;
+    rehearse_reports(rt, alloc, bytes, &read, options.seed, options.plan)
 }
 
 // The scenarios of some texts.

@@ -9,6 +9,7 @@ mod answering;
 mod commands;
 pub mod laws;
 mod rehearsal;
+mod reports;
 mod rows;
 mod runs;
 

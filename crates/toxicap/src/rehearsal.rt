@@ -12,13 +12,14 @@ ghost use Rattle.time_merge.specs.MergedCapture.{all_segments};
 ghost use Rattle.toxicap.specs.GatheredOutputs.{gathered_output, lines_in, segments_in};
 ghost use Rattle.std.specs.Vec.Iter.{into_iter_items, into_iter_len};
 
+use crate::reports::gathered_report;
 use conn_table::Table;
 use conn_table::laws::indexed_connections_agree;
 use conn_workers::{Delivery, deliver};
 use job_matrix::{Gate, Plan};
 use pcap_records::{Capture, Values, read_capture};
 use range_workers::table;
-use report::{ReportText, report};
+use report::ReportText;
 use run_files::{Output, Outputs, RunFault};
 use scenarios::Scenario;
 use segment_writer::SegList;
@@ -30,7 +31,7 @@ use std::vec::IntoIter;
 use time_merge::merge;
 
 // The most scenarios of a rehearsal.
-const SCENARIO_LIMIT: usize = 256;
+pub(crate) const SCENARIO_LIMIT: usize = 256;
 
 /// Rehearses a capture under each of the scenarios: for each, in order, a capture of what each side would have received and a
 /// report. The answer is that of the definition, `answer` in `specs/Rehearsal.antt`, whatever the plan and the gate; no scenario gives no output.
@@ -108,7 +109,7 @@ fn gathered_output(
     ensures { IfOk result (λ output. output
         ≡ gathered_output (seen_capture (contents_of capture.now)) number table.now.unopened row.segments.items row.lines.items) }
 {
-    let report = report(alloc, number, capture, table, &row.lines)?;
+    let report = gathered_report(alloc, capture, table, number, &row.lines)?;
     let capture = merge(alloc, row.segments)?.capture(alloc, capture.unit())?;
     Ok(Output {
         capture: Values::of(capture),

@@ -10,10 +10,10 @@ ghost use Rattle.pcap_records.specs.Agreement.{AgreesUnlessMemory};
 ghost use Rattle.toxicap.specs.Inputs.{AddsHost, IsOfFiles, IsOfHost, cut_at_first, equals_sign, host_written, hosts_from, texts_or_bare};
 ghost use Rattle.run_files.specs.RunFault.{run_refusal};
 
-use crate::answering::{Options, answers};
+use crate::answering::{Options, answers, reports};
 use command_line::Asked;
 use job_matrix::Plan;
-use run_files::{Counted, Folder, RunFault, load, print_reports, store_all};
+use run_files::{Counted, Folder, RunFault, load, store_all, write_bytes};
 use scenarios::{HostFault, Hosts};
 use std::alloc::{AllocError, Global};
 use std::fs;
@@ -86,10 +86,11 @@ fn answer_into<H: Files + Threads + Wait + Sync, R: Read, W: Write>(
     ensures failed_writes { writer.new.failed ≡ writer.old.failed + failed_writes result }
     ensures untouched { IfErr result (λ fault. fault ≢ RunFault.WriteFailed → writer.new ≡ writer.old) }
 {
-    let outputs = answers(rt, alloc, reader, texts, options)?;
     let Some(folder) = out else {
-        return print_reports(&outputs, writer);
+        let reports = reports(rt, alloc, reader, texts, options)?;
+        return write_bytes(writer, reports.as_slice());
     };
+    let outputs = answers(rt, alloc, reader, texts, options)?;
     let mut shelf = Folder::new(alloc, rt, folder)?;
     store_all(alloc, &outputs, &mut shelf)?;
     Ok(())

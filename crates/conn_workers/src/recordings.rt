@@ -1,0 +1,80 @@
+//! What is recorded of each connection of a capture, and the lines that reports tell of it.
+ghost use Rattle.std.specs.Prelude.{◌≡◌, ◌≤◌, length, IfOk};
+ghost use Rattle.job_matrix.specs.Boards.{number_limit};
+ghost use Rattle.conn_workers.specs.CaptureTables.{whole_table};
+ghost use Rattle.conn_workers.specs.Recordings.{recordings_of, recorded_lines};
+
+use crate::jobs::{LineJobs, Recording, ReportLineJobs};
+use conn_table::Table;
+use job_matrix::{Gate, Phase, Plan, Values, work_all};
+use pcap_records::Capture;
+use report::ReportText;
+use scenarios::Scenario;
+use std::alloc::{AllocError, Global};
+use std::thread::Threads;
+
+/// The connections of a capture's table, in order of number, each with what is recorded of it.
+pub type Recordings<'w, 'a> = Values<Recording<'w, 'a>>;
+
+/// What is recorded of each connection of a capture. Workers make it in phase `Lines`, with one job for each connection. The
+/// answer is the same whatever the plan and the gate.
+///
+/// The table is that of all records of the capture, however it was made.
+///
+/// # Errors
+/// A growth was refused.
+pub fn record<'w, 'a, R: Threads + Sync, G: Gate>(
+    rt: &R,
+    alloc: Global,
+    capture: &'w Capture<'a>,
+    table: &'w Table,
+    plan: Plan,
+    gate: &G,
+) -> Result<Recordings<'w, 'a>, AllocError>
+    requires table { table.now ≡ whole_table capture.now }
+    ensures { IfOk result (λ v. v ≡ recordings_of capture.now) }
+{
+    let conns = table.conns();
+    let records = capture.records();
+    // each connection begins at a record of its own
+    prove!(conns.len() <= records.len());
+    let jobs = LineJobs {
+        alloc,
+        capture,
+        conns,
+    };
+    let count = conns.len() as u64;
+    let workers = plan.workers() as u64;
+    work_all(rt, alloc, count, workers, Phase::Lines, gate, &jobs)
+}
+
+/// The line of each connection in the report of a scenario with its number, in order of the connections' numbers. Workers make
+/// them in phase `Jobs`, with one job for each connection. The answer is the same whatever the plan and the gate.
+///
+/// # Errors
+/// A growth was refused.
+pub fn report_lines<R: Threads + Sync, G: Gate>(
+    rt: &R,
+    alloc: Global,
+    recordings: &Recordings<'_, '_>,
+    number: u32,
+    scenario: &Scenario,
+    seed: u64,
+    plan: Plan,
+    gate: &G,
+) -> Result<Values<ReportText>, AllocError>
+    requires { length recordings.now ≤ number_limit }
+    ensures { IfOk result (λ v. v ≡ recorded_lines seed (number, scenario.now) recordings.now) }
+{
+    let recordings = recordings.as_slice();
+    let jobs = ReportLineJobs {
+        alloc,
+        recordings,
+        number,
+        scenario,
+        seed,
+    };
+    let count = recordings.len() as u64;
+    let workers = plan.workers() as u64;
+    work_all(rt, alloc, count, workers, Phase::Jobs, gate, &jobs)
+}

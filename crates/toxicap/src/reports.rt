@@ -1,0 +1,108 @@
+//! The reports of a rehearsal alone: no segment is written, and no capture made.
+ghost use Rattle.std.specs.Prelude.{◌≡◌, ◌≤◌, IfOk, length};
+ghost use Rattle.pcap_records.specs.Agreement.{Agrees};
+ghost use Rattle.pcap_records.specs.CaptureView.{contents_of};
+ghost use Rattle.conn_table.specs.SeenCapture.{seen_capture};
+ghost use Rattle.conn_workers.specs.CaptureTables.{whole_table};
+ghost use Rattle.report.specs.ReportText.{report_text};
+ghost use Rattle.run_files.specs.RunFault.{run_refusal};
+ghost use Rattle.run_files.specs.WrittenOutputs.{reports_of};
+ghost use Rattle.toxicap.specs.PrintedReports.{reports_in};
+ghost use Rattle.toxicap.specs.Rehearsal.{answer, outputs_of, scenario_limit};
+
+use crate::rehearsal::SCENARIO_LIMIT;
+use conn_table::Table;
+use conn_table::laws::indexed_connections_agree;
+use conn_workers::laws::lines_are_contributed;
+use conn_workers::{record, report_lines};
+use job_matrix::{Plan, Through};
+use pcap_records::{Capture, read_capture};
+use range_workers::table;
+use report::{ReportText, report};
+use run_files::RunFault;
+use scenarios::Scenario;
+use std::alloc::{AllocError, Global};
+use std::sync::Wait;
+use std::thread::Threads;
+
+/// The reports of a rehearsal of a capture under each of the scenarios, one after another: those of the outputs that `rehearse` gives.
+///
+/// # Errors
+/// Those of `rehearse`.
+#[tactic(auto, unfolding(crate::specs::Rehearsal::answer))]
+pub(crate) fn rehearse_reports<R: Threads + Wait + Sync>(
+    rt: &R,
+    alloc: Global,
+    capture: &[u8],
+    scenarios: &[Scenario],
+    seed: u64,
+    plan: Plan,
+) -> Result<ReportText, RunFault>
+    ensures { Agrees run_refusal (λ text. text) result (reports_in (answer capture.now scenarios.now seed)) }
+{
+    if scenarios.len() > SCENARIO_LIMIT {
+        return Err(RunFault::TooManyScenarios);
+    }
+    let capture = read_capture(alloc, capture)?;
+    let text = join_reports(rt, alloc, &capture, scenarios, seed, plan)?;
+    Ok(ReportText::of(text))
+}
+
+// The reports of all scenarios, one after another. Workers make the table of the capture, range by range, and what is recorded of each
+// connection; then for one scenario after another the lines of its report.
+//
+// # Errors
+// A growth was refused.
+fn join_reports<R: Threads + Sync>(
+    rt: &R,
+    alloc: Global,
+    capture: &Capture<'_>,
+    scenarios: &[Scenario],
+    seed: u64,
+    plan: Plan,
+) -> Result<Vec<u8>, AllocError>
+    requires few { length scenarios.now ≤ scenario_limit }
+    ensures { IfOk result (λ text. text.items
+        ≡ reports_of (outputs_of (seen_capture (contents_of capture.now)) scenarios.now seed)) }
+{
+    indexed_connections_agree();
+    lines_are_contributed();
+    let table = table(rt, alloc, capture, plan, &Through)?;
+    let recordings = record(rt, alloc, capture, &table, plan, &Through)?;
+    let count = recordings.as_slice().len();
+    // each connection begins at a record of its own
+    prove!(count <= capture.records().len());
+    let mut text = Vec::new(alloc);
+    for number in 0..scenarios.len() {
+        let scenario = &scenarios[number];
+        let lines = report_lines(
+            rt,
+            alloc,
+            &recordings,
+            number as u32,
+            scenario,
+            seed,
+            plan,
+            &Through,
+        )?;
+        let report = gathered_report(alloc, capture, &table, number as u32, lines.as_slice())?;
+        text.extend_from_slice(report.as_slice())?;
+    }
+    Ok(text)
+}
+
+// The report of the scenario of a number, of its lines.
+pub(crate) fn gathered_report(
+    alloc: Global,
+    capture: &Capture<'_>,
+    table: &Table,
+    number: u32,
+    lines: &[ReportText],
+) -> Result<ReportText, AllocError>
+    requires table { table.now ≡ whole_table capture.now }
+    requires each { length lines.now ≡ length table.now.conns }
+    ensures { IfOk result (λ text. text
+        ≡ report_text number (seen_capture (contents_of capture.now)) table.now.unopened lines.now) }
+{
+    report(alloc, number, capture, table, lines)
+}

@@ -13,10 +13,10 @@ use Rattle.scenarios.specs.declared.proxies.Proxy.{Proxy}
 use Rattle.conn_table.specs.Connections.{Connection}
 use Rattle.conn_workers.specs.Contributions.{Contribution, contribution, contribution_of}
 use Rattle.conn_workers.specs.declared.deliveries.Delivery.{Delivery}
-use Rattle.conn_workers.specs.DeliveryLaws.{LinesAreContributed}
+use Rattle.conn_workers.specs.DeliveryLaws.{LinesAreContributed, RowsAreContributed}
 use Rattle.conn_workers.specs.DeliveryRows.{connections_of, delivery_of, deliveries}
 use Rattle.conn_workers.specs.CaptureTables.{whole_table, whole_connections}
-use Rattle.conn_workers.specs.Recordings.{RecordingView, recording_in, recordings_of, no_recording, recorded_delivery, recorded_deliveries, recorded_lines, no_delivery}
+use Rattle.conn_workers.specs.Recordings.{RecordingView, recording_in, recordings_of, no_recording, recorded_delivery, recorded_deliveries, recorded_row, recorded_lines, no_delivery}
 use Rattle.conn_workers.proofs.RowLemmas.{length-rows, some_columns, at_place, rows_alike}
 use Rattle.conn_workers.proofs.TableConnections.{connections_are, conns_are}
 
@@ -31,6 +31,15 @@ unfolding recorded_deliveries deliveries
 deliveries_are agree seed c scenarios =
     rows_alike (recorded_delivery seed) (delivery_of c.ticks seed) (recording_in c) without_indices (delivery_is seed c) (enumerate_from 0 scenarios) (whole_connections c)
     ∙ ap (λ conns. deliveries c.ticks seed conns scenarios) (connections_are agree c)
+
+row_alike : (seed : ℕ) (c : CaptureView) (s : ℕ × List Proxy) (xs : List IndexedConnection)
+    → recorded_row seed s (map (recording_in c) xs) ≡ map (delivery_of c.ticks seed s) (map without_indices xs)
+row_alike seed c s [] = refl
+row_alike seed c s (x ∷ xs) = ap₂ (λ (d : Delivery) (ds : List Delivery). d ∷ ds) (delivery_is seed c s x) (row_alike seed c s xs)
+
+pub rows_are_contributed : IndexedConnectionsAgree → RowsAreContributed
+rows_are_contributed agree seed c s =
+    row_alike seed c s (whole_connections c) ∙ ap (λ (cs : List Connection). map (delivery_of c.ticks seed s) cs) (connections_are agree c)
 
 lines_alike : (seed : ℕ) (c : CaptureView) (s : ℕ × List Proxy) (xs : List IndexedConnection)
     → recorded_lines seed s (map (recording_in c) xs) ≡ map (λ (p : Contribution). p.line) (map (contribution_of c.ticks seed s) (map without_indices xs))

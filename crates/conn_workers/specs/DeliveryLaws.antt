@@ -8,8 +8,8 @@ use Rattle.scenarios.specs.declared.proxies.Proxy.{Proxy}
 use Rattle.conn_workers.specs.declared.deliveries.Delivery.{Delivery}
 use Rattle.conn_workers.specs.MetProxies.{met_proxy}
 use Rattle.conn_workers.specs.Contributions.{contribution_of}
-use Rattle.conn_workers.specs.DeliveryRows.{connections_of, delivery, deliveries}
-use Rattle.conn_workers.specs.Recordings.{recordings_of, recorded_lines}
+use Rattle.conn_workers.specs.DeliveryRows.{connections_of, delivery, delivery_of, deliveries}
+use Rattle.conn_workers.specs.Recordings.{recordings_of, recorded_row, recorded_lines}
 
 -- what is seen of a capture, and the scenarios that it is rehearsed under
 pub record Rehearsed : Type 0 where
@@ -53,6 +53,15 @@ ContributionsAreIsolated =
     → members_of x ≡ members_of y → met_proxy (server_of x) a ≡ met_proxy (server_of y) b
     → (contribution_of ticks seed (s, a) x ≡ contribution_of ticks seed (s, b) y)
     × (delivery_at ticks seed first number s ≡ delivery_at ticks seed second number s)
+
+-- ---- one scenario
+
+-- what is recorded of a capture tells what its connections contribute to a scenario
+abbrev pub RowsAreContributed : Type 0
+RowsAreContributed =
+    (seed : ℕ) (c : CaptureView) (s : ℕ × List Proxy)
+    → recorded_row seed s (recordings_of c)
+    ≡ map (delivery_of c.ticks seed s) (connections_of (seen_capture (contents_of c)))
 
 -- ---- lines of a report
 

@@ -61,6 +61,10 @@ unfoldable pub recorded_deliveries : ℕ → List RecordingView → List (List P
 recorded_deliveries seed recordings scenarios =
     rows (recorded_delivery seed) (enumerate_from 0 scenarios) recordings
 
+-- what all contribute to a scenario with its number
+abbrev pub recorded_row : ℕ → ℕ × List Proxy → List RecordingView → List Delivery
+recorded_row seed s recordings = map (recorded_delivery seed s) recordings
+
 -- the lines of all connections in the report of a scenario with its number
 abbrev pub recorded_lines : ℕ → ℕ × List Proxy → List RecordingView → List (List ℕ)
 recorded_lines seed s recordings = map (λ r. (recorded_delivery seed s r).line) recordings

@@ -15,7 +15,7 @@ use job_matrix::Work;
 use pcap_records::Capture;
 use reassembly::laws::{connections_are_of_capture, conns_are_of_capture};
 use reassembly::{Recorded, lines};
-use report::{ReportText, line};
+use report::line;
 use scenarios::{Proxy, Scenario};
 use segment_writer::segments;
 use std::alloc::{AllocError, Global};
@@ -113,50 +113,8 @@ impl<'w, 'v, 'a> Work for ContributionJobs<'w, 'v, 'a> {
     }
 }
 
-/// Recordings of connections, and a scenario with its number: job c makes the line of connection c in its report.
-#[derive(Drop)]
-pub(crate) struct ReportLineJobs<'w, 'v, 'a> {
-    /// Where lines are kept.
-    pub(crate) alloc: Global,
-    /// The connections with what is recorded of them.
-    pub(crate) recordings: &'w [Recording<'v, 'a>],
-    /// The number of the scenario.
-    pub(crate) number: u32,
-    /// The scenario.
-    pub(crate) scenario: &'w Scenario,
-    /// The seed of the random words.
-    pub(crate) seed: u64,
-}
-
-impl<'w, 'v, 'a> Work for ReportLineJobs<'w, 'v, 'a> {
-    type Out = ReportText;
-
-    ghost use Rattle.std.specs.Prelude.{◌≡◌, ◌<◌, length, get_or, IfOk, []};
-    ghost use Rattle.conn_workers.specs.Recordings.{recorded_lines};
-
-    ghost jobs = { λ w. length w.recordings.now };
-
-    ghost meaning = { λ w job. get_or (recorded_lines w.seed (w.number, w.scenario.now) w.recordings.now) job [] };
-
-    fn value(&self, job: u64) -> Result<ReportText, AllocError> {
-        let recording = &self.recordings[job as usize];
-        let conn = recording.conn;
-        let recorded = &recording.recorded;
-        let met = met_proxy(self.scenario, conn.server);
-        let delivered = delivered_by(
-            self.alloc,
-            recorded,
-            met,
-            self.seed,
-            self.number,
-            conn.number,
-        )?;
-        line(self.alloc, conn, recorded, &delivered)
-    }
-}
-
 // What a connection contributes to a scenario with its number.
-fn delivery(
+pub(crate) fn delivery(
     alloc: Global,
     recording: &Recording<'_, '_>,
     number: u32,
@@ -194,7 +152,7 @@ fn met_of(number: u32, proxy: &Proxy) -> MetProxy<'_>
 }
 
 // The proxy of a scenario that a connection to a server meets: the first that stands before it.
-fn met_proxy(scenario: &Scenario, server: Peer) -> Option<MetProxy<'_>>
+pub(crate) fn met_proxy(scenario: &Scenario, server: Peer) -> Option<MetProxy<'_>>
     ensures met { option_map met_view result ≡ met_proxy server scenario.now }
     ensures few_up { IfSome result (λ m. length m.up.now ≤ most_toxics) }
     ensures few_down { IfSome result (λ m. length m.down.now ≤ most_toxics) }

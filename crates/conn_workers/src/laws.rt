@@ -1,6 +1,6 @@
 //! Theorems about what connections contribute. Each function does nothing, or names the theorem that it stands on: its contract is the
 //! theorem.
-ghost use Rattle.conn_workers.specs.DeliveryLaws.{RowsAreWhole, DeliveriesArePlaced, ContributionsAreIsolated, LinesAreContributed};
+ghost use Rattle.conn_workers.specs.DeliveryLaws.{RowsAreWhole, DeliveriesArePlaced, ContributionsAreIsolated, LinesAreContributed, RowsAreContributed};
 
 use conn_table::laws::indexed_connections_agree;
 
@@ -18,6 +18,13 @@ pub fn deliveries_are_placed()
 pub fn contributions_are_isolated()
     ensures { ContributionsAreIsolated }
 {}
+
+/// What is recorded of a capture gives what its connections contribute to a scenario.
+pub fn rows_are_contributed()
+    ensures { RowsAreContributed }
+{
+    indexed_connections_agree();
+}
 
 /// The lines that reports tell of what is recorded of a capture are those that its connections contribute.
 pub fn lines_are_contributed()

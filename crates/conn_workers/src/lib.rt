@@ -10,7 +10,10 @@ mod deliveries;
 mod jobs;
 pub mod laws;
 mod recordings;
+mod rows;
+mod scenario_jobs;
 
 pub use deliveries::{Deliveries, Delivery, deliver};
 pub use jobs::Recording;
 pub use recordings::{Recordings, record, report_lines};
+pub use rows::{deliver_row, deliver_row_alone};

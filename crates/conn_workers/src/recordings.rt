@@ -4,7 +4,8 @@ ghost use Rattle.job_matrix.specs.Boards.{number_limit};
 ghost use Rattle.conn_workers.specs.CaptureTables.{whole_table};
 ghost use Rattle.conn_workers.specs.Recordings.{recordings_of, recorded_lines};
 
-use crate::jobs::{LineJobs, Recording, ReportLineJobs};
+use crate::jobs::{LineJobs, Recording};
+use crate::scenario_jobs::ReportLineJobs;
 use conn_table::Table;
 use job_matrix::{Gate, Phase, Plan, Values, work_all};
 use pcap_records::Capture;

@@ -14,5 +14,5 @@ pub use boards::{Board, Chief, Pass, SplitFault};
 pub use pcap_records::Values;
 pub use plans::Plan;
 pub use trays::{PutFault, Tray};
-pub use workers::work_all;
+pub use workers::{work_all, work_alone};
 pub use works::{Gate, Phase, Through, Work};

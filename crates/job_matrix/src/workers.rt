@@ -129,6 +129,29 @@ fn put_in_order<V: Drop>(
     Ok(values)
 }
 
+/// The values of the jobs below `n`, in order, made by this thread alone. It passes the gate before each job.
+pub fn work_alone<W: Work, G: Gate>(
+    alloc: Global,
+    n: u64,
+    phase: Phase,
+    gate: &G,
+    work: &W,
+) -> Result<Values<W::Out>, AllocError>
+where
+    W::Out: Drop,
+    requires few { n ≤ number_limit }
+    requires jobs { n ≤ W.jobs work.now }
+    ensures { IfOk result (λ v. v ≡ map (W.meaning work.now) (range_with_len 0 n)) }
+{
+    let mut values = Vec::with_capacity(alloc, n as usize)?;
+    for job in 0..n {
+        gate.pass(phase, job);
+        let value = work.value(job)?;
+        values.push(value)?;
+    }
+    Ok(Values::of(values))
+}
+
 /// The values of the jobs below `n`, in order. They are the same for every number of workers and in whatever order these
 /// come.
 pub fn work_all<W: Work, G: Gate, R: Threads + Sync>(
@@ -147,6 +170,9 @@ where
     requires jobs { n ≤ W.jobs work.now }
     ensures { IfOk result (λ v. v ≡ map (W.meaning work.now) (range_with_len 0 n)) }
 {
+    if workers == 1 {
+        return work_alone(alloc, n, phase, gate, work);
+    }
     let (board, chief) = Board::open(alloc, n)?;
     let (chief, done) = spread(rt, alloc, &board, chief, phase, gate, work, workers);
     let Ok(count) = board.close(chief) else {

@@ -1,0 +1,69 @@
+//! What each connection of a capture contributes to one scenario.
+ghost use Rattle.std.specs.Prelude.{◌≡◌, ◌≤◌, length, IfOk};
+ghost use Rattle.job_matrix.specs.Boards.{number_limit};
+ghost use Rattle.conn_workers.specs.Recordings.{recorded_row};
+
+use crate::deliveries::Deliveries;
+use crate::recordings::Recordings;
+use crate::scenario_jobs::RowJobs;
+use job_matrix::{Gate, Phase, Plan, Through, work_all, work_alone};
+use scenarios::Scenario;
+use std::alloc::{AllocError, Global};
+use std::thread::Threads;
+
+/// What each connection contributes to a scenario with its number, in order of the connections' numbers. Workers make it in phase
+/// `Jobs`, with one job for each connection. The answer is the same whatever the plan and the gate.
+///
+/// # Errors
+/// A growth was refused.
+pub fn deliver_row<R: Threads + Sync, G: Gate>(
+    rt: &R,
+    alloc: Global,
+    recordings: &Recordings<'_, '_>,
+    number: u32,
+    scenario: &Scenario,
+    seed: u64,
+    plan: Plan,
+    gate: &G,
+) -> Result<Deliveries, AllocError>
+    requires { length recordings.now ≤ number_limit }
+    ensures { IfOk result (λ v. v ≡ recorded_row seed (number, scenario.now) recordings.now) }
+{
+    let recordings = recordings.as_slice();
+    let jobs = RowJobs {
+        alloc,
+        recordings,
+        number,
+        scenario,
+        seed,
+    };
+    let count = recordings.len() as u64;
+    let workers = plan.workers() as u64;
+    work_all(rt, alloc, count, workers, Phase::Jobs, gate, &jobs)
+}
+
+/// What each connection contributes to a scenario with its number, as [`deliver_row`] gives it, made by this thread alone.
+///
+/// # Errors
+/// A growth was refused.
+pub fn deliver_row_alone(
+    alloc: Global,
+    recordings: &Recordings<'_, '_>,
+    number: u32,
+    scenario: &Scenario,
+    seed: u64,
+) -> Result<Deliveries, AllocError>
+    requires { length recordings.now ≤ number_limit }
+    ensures { IfOk result (λ v. v ≡ recorded_row seed (number, scenario.now) recordings.now) }
+{
+    let recordings = recordings.as_slice();
+    let jobs = RowJobs {
+        alloc,
+        recordings,
+        number,
+        scenario,
+        seed,
+    };
+    let count = recordings.len() as u64;
+    work_alone(alloc, count, Phase::Jobs, &Through, &jobs)
+}

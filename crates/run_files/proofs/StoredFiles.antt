@@ -1,5 +1,5 @@
 -- How files come to stand on a shelf, one after another.
-use Rattle.std.proofs.Common.{◌≡◌, ◌<◌, ◌≤◌, ℕ, ◌+◌, ◌-◌, ◌*◌, ◌^◌, List, [], ◌∷◌, ◌++◌, length, take, drop, get_or, false, Option, Some, None, Err, refl, sym, ap, subst, ◌∙◌, arith, append_assoc, take-add, length-drop}
+use Rattle.std.proofs.Common.{◌≡◌, ◌<◌, ◌≤◌, ℕ, ◌+◌, ◌-◌, ◌*◌, ◌^◌, List, [], ◌∷◌, ◌++◌, length, take, drop, get_or, false, Option, Some, None, Err, refl, sym, ap, subst, Result, Ok, ◌∙◌, arith, append_assoc, take-add, length-drop}
 use Rattle.std.proofs.lemmas.Grind.{common_steps}
 use Rattle.std.proofs.lemmas.List.{drop_more, drop_all, take_all}
 use Rattle.std.specs.Fmt.{decimal, padded_integral, format_spec, char_count}
@@ -7,7 +7,7 @@ use Rattle.run_files.specs.declared.outputs.Output.{Output}
 use Rattle.run_files.specs.declared.error.StoreFault.{StoreFault}
 use Rattle.run_files.specs.declared.error.StoreFault.TheVariants.{ShelfFailed, Memory}
 use Rattle.run_files.specs.Shelves.{StoredFile, Takes}
-use Rattle.run_files.specs.WrittenOutputs.{four_digits, capture_file, report_file, files_from, Stores, PutsAfter}
+use Rattle.run_files.specs.WrittenOutputs.{four_digits, capture_file, report_file, files_from, Stores, StoresAfter, PutsAfter}
 
 -- what std writes for a number with zeros in front
 pub padded_is_four_digits : (n : ℕ) → padded_integral (format_spec 32 0 4 4 (2 ^ 64 - 1)) false [] (decimal n) ≡ four_digits n
@@ -35,12 +35,12 @@ pub taken_one : (files : List StoredFile) (k : ℕ) (x : StoredFile) (rest : Lis
 taken_one files k x rest had a b next before one =
     subst (Takes had b) (sym (at_next files k x rest next).1) (Takes-append had a b (take k files) (x ∷ []) before one)
 
--- the files of the next output come next
-pub next_files : (outputs : List Output) (n : ℕ) (o : Output) (files : List StoredFile) → n < length outputs → o ≡ get_or outputs n o
-    → files ≡ files_from n (drop n outputs)
-    → files ≡ capture_file n o ∷ report_file n o ∷ files_from (n + 1) (drop (n + 1) outputs)
-next_files outputs n o files within is next =
-    next ∙ ap (files_from n) (drop_more outputs n o within ∙ ap (λ x. x ∷ drop (n + 1) outputs) (sym is))
+-- the files of the next output, at this place and with this number, come next
+pub next_files : (outputs : List Output) (k n : ℕ) (o : Output) (files : List StoredFile) → k < length outputs → o ≡ get_or outputs k o
+    → files ≡ files_from n (drop k outputs)
+    → files ≡ capture_file n o ∷ report_file n o ∷ files_from (n + 1) (drop (k + 1) outputs)
+next_files outputs k n o files within is next =
+    next ∙ ap (files_from n) (drop_more outputs k o within ∙ ap (λ x. x ∷ drop (k + 1) outputs) (sym is))
 
 -- two files more
 pub taken_two : (files : List StoredFile) (n : ℕ) (x y : StoredFile) (rest : List StoredFile) (had a b c : Option (List StoredFile))
@@ -54,19 +54,31 @@ taken_two files n x y rest had a b c next before one two =
       subst (λ k. drop k files ≡ rest) both (at_next files (2 * n + 1) y rest behind).2,
     )
 
--- the file that comes next is not taken
-pub stops_here : (files : List StoredFile) (k : ℕ) (x : StoredFile) (rest : List StoredFile) (had a b : Option (List StoredFile)) (old between new : ℕ)
-    (fault : StoreFault) → drop k files ≡ x ∷ rest → Takes had a (take k files) → between ≡ old
-    → PutsAfter k (Takes a b (x ∷ [])) (b ≡ a) between new (Err fault) → Stores files (Takes had b) old new (Err fault)
-stops_here files k x rest had a b old between new (ShelfFailed after) next before same puts =
-    rw (puts.0, puts.1, puts.2, same) ((at_next files k x rest next).0, before, refl)
-stops_here files k x rest had a b old between new (Memory after) next before same puts =
-    rw (puts.0, puts.1, puts.2, same) ((at_next files k x rest next).0, before, refl)
+-- the file that comes next, after so many others before the first of them, is not taken
+pub stops_here : (first before : ℕ) (files : List StoredFile) (k : ℕ) (x : StoredFile) (rest : List StoredFile) (had a b : Option (List StoredFile)) (old between new : ℕ)
+    (fault : StoreFault) → before ≡ first + k → drop k files ≡ x ∷ rest → Takes had a (take k files) → between ≡ old
+    → PutsAfter before (Takes a b (x ∷ [])) (b ≡ a) between new (Err fault) → StoresAfter first files (Takes had b) old new (Err fault)
+stops_here first before files k x rest had a b old between new (ShelfFailed after) place next taken same puts =
+    rw (puts.1, puts.2, same) (k, puts.0 ∙ place, (at_next files k x rest next).0, taken, refl)
+stops_here first before files k x rest had a b old between new (Memory after) place next taken same puts =
+    rw (puts.1, puts.2, same) (k, puts.0 ∙ place, (at_next files k x rest next).0, taken, refl)
 
 -- none comes next
-pub all_taken : (outputs : List Output) (n : ℕ) (files : List StoredFile) (had a : Option (List StoredFile)) → length outputs ≤ n
-    → drop (2 * n) files ≡ files_from n (drop n outputs) → Takes had a (take (2 * n) files) → Takes had a files
-all_taken outputs n files had a behind next before =
-    let none : drop (2 * n) files ≡ [] = next ∙ ap (files_from n) (drop_all n outputs behind) in
-    let past : length files ≤ 2 * n = omega (arith, length-drop (2 * n) files, ap length none) in
-    subst (Takes had a) (take_all (2 * n) files past) before
+pub all_taken : (outputs : List Output) (k n : ℕ) (files : List StoredFile) (had a : Option (List StoredFile)) → length outputs ≤ k
+    → drop (2 * k) files ≡ files_from n (drop k outputs) → Takes had a (take (2 * k) files) → Takes had a files
+all_taken outputs k n files had a over next before =
+    let none : drop (2 * k) files ≡ [] = next ∙ ap (files_from n) (drop_all k outputs over) in
+    let past : length files ≤ 2 * k = omega (arith, length-drop (2 * k) files, ap length none) in
+    subst (Takes had a) (take_all (2 * k) files past) before
+
+-- ---- where none comes before them
+
+pub stores_all : (files : List StoredFile) (Took : List StoredFile → Type 0) (old new : ℕ) (result : Result (Unit {0}) StoreFault)
+    → StoresAfter 0 files Took old new result → Stores files Took old new result
+stores_all files Took old new (Ok _) is = is
+stores_all files Took old new (Err (ShelfFailed after)) is =
+    let same : is.0 ≡ after = omega (arith, is.1) in
+    rw (← same) (is.2, is.3, is.4)
+stores_all files Took old new (Err (Memory after)) is =
+    let same : is.0 ≡ after = omega (arith, is.1) in
+    rw (← same) (is.2, is.3, is.4)

@@ -39,6 +39,14 @@ Stores files Took old_failures new_failures (Err (ShelfFailed after)) =
 Stores files Took old_failures new_failures (Err (Memory after)) =
     (after < length files) × Took (take after files) × (new_failures ≡ old_failures)
 
+-- The same of files that come after so many others, which are counted too.
+abbrev pub StoresAfter : ℕ → List StoredFile → (List StoredFile → Type 0) → ℕ → ℕ → Result (Unit {0}) StoreFault → Type 0
+StoresAfter before files Took old_failures new_failures (Ok _) = Took files × (new_failures ≡ old_failures)
+StoresAfter before files Took old_failures new_failures (Err (ShelfFailed after)) =
+    (stored : ℕ) × (after ≡ before + stored) × (stored < length files) × Took (take stored files) × (new_failures ≡ old_failures + 1)
+StoresAfter before files Took old_failures new_failures (Err (Memory after)) =
+    (stored : ℕ) × (after ≡ before + stored) × (stored < length files) × Took (take stored files) × (new_failures ≡ old_failures)
+
 -- how one file was put after so many: it was taken; or the shelf failed, or there was no memory, and it has what it had
 abbrev pub PutsAfter : ℕ → Type 0 → Type 0 → ℕ → ℕ → Result (Unit {0}) StoreFault → Type 0
 PutsAfter before Taken AsBefore old_failures new_failures (Ok _) = Taken × (new_failures ≡ old_failures)

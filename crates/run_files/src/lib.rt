@@ -14,6 +14,6 @@ mod streams;
 pub use dumps::{is_dump, undump};
 pub use error::{RunFault, ShelfError, StoreFault};
 pub use fault_lines::fault_line;
-pub use outputs::{Output, Outputs, print_reports, store_all};
+pub use outputs::{Output, Outputs, print_reports, store_all, store_from};
 pub use shelves::{Folder, MemoryFile, MemoryShelf, Shelf};
 pub use streams::{Counted, load, write_bytes};

@@ -1,10 +1,10 @@
 //! What a rehearsal answers, its reports printed and its files stored.
-ghost use Rattle.std.specs.Prelude.{◌≡◌, ℕ, ◌+◌, ◌-◌, ◌^◌, ◌<◌, length, take, OnOk, OnErr, IfErr, ◌*◌, ◌++◌, [], ◌∷◌, IfOk};
+ghost use Rattle.std.specs.Prelude.{◌≡◌, ℕ, ◌+◌, ◌-◌, ◌^◌, ◌<◌, length, take, OnOk, OnErr, IfErr, ◌≤◌, ◌*◌, ◌++◌, [], ◌∷◌, IfOk};
 ghost use Rattle.std.specs.Io.KnownBytes.{Appends};
 ghost use Rattle.run_files.specs.WrittenOutputs.{reports_of};
 ghost use Rattle.std.specs.String.{string_bytes};
 ghost use Rattle.run_files.specs.Shelves.{stored_file, Takes};
-ghost use Rattle.run_files.specs.WrittenOutputs.{four_digits, files_from, Stores, PutsAfter};
+ghost use Rattle.run_files.specs.WrittenOutputs.{four_digits, files_from, Stores, StoresAfter, PutsAfter};
 
 use crate::error::{RunFault, StoreFault};
 use crate::shelves::Shelf;
@@ -62,8 +62,27 @@ pub fn store_all<S: Shelf>(
     ensures { Stores (files_from 0 outputs.now) (Takes (S.files shelf.old) (S.files shelf.new))
         (S.failures shelf.old) (S.failures shelf.new) result }
 {
-    let outputs = outputs.as_slice();
-    for (number, output) in outputs.iter().enumerate() {
+    store_from(alloc, 0, outputs.as_slice(), shelf)
+}
+
+/// Puts the files of some outputs on a shelf, of which the first has this number, as [`store_all`] does.
+///
+/// # Errors
+/// The first file that cannot be stored ends it; none is tried again. The shelf then has the files before that one and no other;
+/// `after` says how many they are, with those of the outputs before the first number.
+pub fn store_from<S: Shelf>(
+    alloc: Global,
+    first: usize,
+    outputs: &[Output],
+    shelf: &mut S,
+) -> Result<(), StoreFault>
+    requires failures { S.failures shelf.old < 2 ^ 64 - 1 }
+    requires numbers { first ≤ 2 ^ 32 }
+    ensures { StoresAfter (2 * first) (files_from first outputs.now) (Takes (S.files shelf.old) (S.files shelf.new))
+        (S.failures shelf.old) (S.failures shelf.new) result }
+{
+    for (place, output) in outputs.iter().enumerate() {
+        let number = first + place;
         let after = 2 * number as u64;
         put_file(
             alloc,

@@ -1,4 +1,4 @@
 mod DumpTable
 mod DumpLemmas
 mod PrintedPart
-mod StoredFiles
+pub mod StoredFiles

@@ -15,7 +15,7 @@ unfolding padded_integral char_count
 padded_is_four_digits n = grind (arith, common_steps)
 
 -- what was taken in two steps
-Takes-append : (a b c : Option (List StoredFile)) (xs ys : List StoredFile) → Takes a b xs → Takes b c ys → Takes a c (xs ++ ys)
+pub Takes-append : (a b c : Option (List StoredFile)) (xs ys : List StoredFile) → Takes a b xs → Takes b c ys → Takes a c (xs ++ ys)
 Takes-append None b c xs ys p q = tt
 Takes-append (Some a) None c xs ys p q = absurd p
 Takes-append (Some a) (Some b) None xs ys p q = absurd q

@@ -9,6 +9,8 @@ mod AnswersKept
 mod Evaluated
 mod AnswerSteps
 mod PrintedSteps
+mod OutputSteps
+mod StoredSteps
 mod RunSteps
 mod FirstPlaces
 mod WrittenLines

@@ -11,6 +11,7 @@ pub mod AnswersBefore
 pub mod OldAnswers
 pub mod Answering
 pub mod PrintedReports
+pub mod StoredOutputs
 pub mod RunEnds
 pub mod Inputs
 pub mod Commands

@@ -7,11 +7,14 @@
 
 mod answering;
 mod commands;
+mod gathering;
 pub mod laws;
 mod rehearsal;
 mod reports;
 mod rows;
 mod runs;
+mod sources;
+mod storing;
 
 pub use answering::{Options, answers};
 pub use commands::{command, refuse_words};

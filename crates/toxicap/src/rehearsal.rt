@@ -2,33 +2,22 @@
 ghost use Rattle.pcap_records.specs.Agreement.{Agrees};
 ghost use Rattle.toxicap.specs.Rehearsal.{answer, outputs_of, scenario_limit};
 ghost use Rattle.run_files.specs.RunFault.{run_refusal};
-ghost use Rattle.std.specs.Prelude.{◌≡◌, ◌≤◌, All, IfOk, length, ◌+◌, OnOk, drop, take};
+ghost use Rattle.std.specs.Prelude.{◌≡◌, ◌≤◌, IfOk, length};
 ghost use Rattle.pcap_records.specs.CaptureView.{contents_of};
 ghost use Rattle.conn_table.specs.SeenCapture.{seen_capture};
-ghost use Rattle.conn_workers.specs.CaptureTables.{whole_table};
-ghost use Rattle.segment_writer.specs.KeyLaws.{HasNoKeyTwice};
-ghost use Rattle.segment_writer.specs.WrittenSegments.{sorted_by_key};
-ghost use Rattle.time_merge.specs.MergedCapture.{all_segments};
-ghost use Rattle.toxicap.specs.GatheredOutputs.{gathered_output, lines_in, segments_in};
-ghost use Rattle.std.specs.Vec.Iter.{into_iter_items, into_iter_len};
 
-use crate::reports::gathered_report;
-use conn_table::Table;
+use crate::gathering::{gathered_output, take_row};
 use conn_table::laws::indexed_connections_agree;
-use conn_workers::{Delivery, deliver};
+use conn_workers::deliver;
 use job_matrix::{Gate, Plan};
 use pcap_records::{Capture, Values, read_capture};
 use range_workers::table;
-use report::ReportText;
 use run_files::{Output, Outputs, RunFault};
 use scenarios::Scenario;
-use segment_writer::SegList;
 use segment_writer::laws::{keys_rise, keys_stand_once, rising_is_sorted};
 use std::alloc::{AllocError, Global};
 use std::sync::Wait;
 use std::thread::Threads;
-use std::vec::IntoIter;
-use time_merge::merge;
 
 // The most scenarios of a rehearsal.
 pub(crate) const SCENARIO_LIMIT: usize = 256;
@@ -91,64 +80,4 @@ fn list_outputs<R: Threads + Sync, G: Gate>(
         outputs.push(output)?;
     }
     Ok(outputs)
-}
-
-// What the scenario of a number answers, of its row.
-#[tactic(auto, unfolding(time_merge::specs::MergedCapture::capture_of))]
-fn gathered_output(
-    alloc: Global,
-    capture: &Capture<'_>,
-    table: &Table,
-    number: u32,
-    row: DeliveryRow,
-) -> Result<Output, AllocError>
-    requires table { table.now ≡ whole_table capture.now }
-    requires each { length row.lines.items ≡ length table.now.conns }
-    requires sorted { All (λ list. sorted_by_key list ≡ list) row.segments.items }
-    requires once { HasNoKeyTwice (all_segments row.segments.items) }
-    ensures { IfOk result (λ output. output
-        ≡ gathered_output (seen_capture (contents_of capture.now)) number table.now.unopened row.segments.items row.lines.items) }
-{
-    let report = gathered_report(alloc, capture, table, number, &row.lines)?;
-    let capture = merge(alloc, row.segments)?.capture(alloc, capture.unit())?;
-    Ok(Output {
-        capture: Values::of(capture),
-        report: Values::of(report.into_vec()),
-    })
-}
-
-// What each connection contributes to one scenario, in order of number.
-#[derive(Drop)]
-struct DeliveryRow {
-    // The written segments of each connection.
-    segments: Vec<SegList>,
-    // The line of each connection.
-    lines: Vec<ReportText>,
-}
-
-// Takes the next row, of so many deliveries.
-//
-// # Errors
-// A growth was refused.
-fn take_row(
-    alloc: Global,
-    deliveries: &mut IntoIter<Delivery>,
-    count: usize,
-) -> Result<DeliveryRow, AllocError>
-    requires { count ≤ into_iter_len deliveries.old }
-    ensures segments { IfOk result (λ row. row.segments.items ≡ segments_in (take count (into_iter_items deliveries.old))) }
-    ensures lines { IfOk result (λ row. row.lines.items ≡ lines_in (take count (into_iter_items deliveries.old))) }
-    ensures left { OnOk result (into_iter_items deliveries.new ≡ drop count (into_iter_items deliveries.old)) }
-    ensures fewer { OnOk result (into_iter_len deliveries.new + count ≡ into_iter_len deliveries.old) }
-{
-    let mut segments = Vec::with_capacity(alloc, count)?;
-    let mut lines = Vec::with_capacity(alloc, count)?;
-    for taken in 0..count {
-        let Some(delivery) = deliveries.next() else {
-            unreachable!();
-        };
-        segments.push(delivery.segments)?;
-        lines.push(delivery.line)?;
-    }
-    Ok(DeliveryRow { segments, lines })
 }

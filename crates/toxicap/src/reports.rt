@@ -3,22 +3,20 @@ ghost use Rattle.std.specs.Prelude.{◌≡◌, ◌≤◌, IfOk, length};
 ghost use Rattle.pcap_records.specs.Agreement.{Agrees};
 ghost use Rattle.pcap_records.specs.CaptureView.{contents_of};
 ghost use Rattle.conn_table.specs.SeenCapture.{seen_capture};
-ghost use Rattle.conn_workers.specs.CaptureTables.{whole_table};
-ghost use Rattle.report.specs.ReportText.{report_text};
 ghost use Rattle.run_files.specs.RunFault.{run_refusal};
 ghost use Rattle.run_files.specs.WrittenOutputs.{reports_of};
 ghost use Rattle.toxicap.specs.PrintedReports.{reports_in};
 ghost use Rattle.toxicap.specs.Rehearsal.{answer, outputs_of, scenario_limit};
 
+use crate::gathering::gathered_report;
 use crate::rehearsal::SCENARIO_LIMIT;
-use conn_table::Table;
 use conn_table::laws::indexed_connections_agree;
 use conn_workers::laws::lines_are_contributed;
 use conn_workers::{record, report_lines};
 use job_matrix::{Plan, Through};
 use pcap_records::{Capture, read_capture};
 use range_workers::table;
-use report::{ReportText, report};
+use report::ReportText;
 use run_files::RunFault;
 use scenarios::Scenario;
 use std::alloc::{AllocError, Global};
@@ -89,20 +87,4 @@ fn join_reports<R: Threads + Sync>(
         text.extend_from_slice(report.as_slice())?;
     }
     Ok(text)
-}
-
-// The report of the scenario of a number, of its lines.
-pub(crate) fn gathered_report(
-    alloc: Global,
-    capture: &Capture<'_>,
-    table: &Table,
-    number: u32,
-    lines: &[ReportText],
-) -> Result<ReportText, AllocError>
-    requires table { table.now ≡ whole_table capture.now }
-    requires each { length lines.now ≡ length table.now.conns }
-    ensures { IfOk result (λ text. text
-        ≡ report_text number (seen_capture (contents_of capture.now)) table.now.unopened lines.now) }
-{
-    report(alloc, number, capture, table, lines)
 }

@@ -1,7 +1,7 @@
 use Rattle.std.proofs.Common.{◌≡◌, ◌+◌, take, drop}
 use Rattle.std.specs.Vec.Iter.{into_iter_items, into_iter_len}
 use Rattle.toxicap.specs.GatheredOutputs.{segments_in, lines_in}
-use Rattle.toxicap.proofs.rehearsal.take_row.Given as goal
+use Rattle.toxicap.proofs.gathering.take_row.Given as goal
 
 abbrev pub invariant-loop-taken : goal.invariant-loop-taken
 invariant-loop-taken l = record {

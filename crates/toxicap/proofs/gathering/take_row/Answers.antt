@@ -2,7 +2,7 @@ use Rattle.std.proofs.Common.{List, [], ◌∷◌, ◌++◌, sym, ap, ◌∙◌,
 use Rattle.std.specs.Vec.Iter.{into_iter_items}
 use Rattle.conn_workers.specs.declared.deliveries.Delivery.{Delivery}
 use Rattle.toxicap.proofs.RowSteps.{takes_one, mapped_push}
-use Rattle.toxicap.proofs.rehearsal.take_row.Goals as goal
+use Rattle.toxicap.proofs.gathering.take_row.Goals as goal
 
 pub loop-taken-preserved : goal.loop-taken-preserved
 loop-taken-preserved c =

@@ -1,0 +1,35 @@
+-- Outputs that are stored as they are made: the files of each scenario before the next ones are made.
+use Rattle.std.specs.Prelude.{◌≡◌, ℕ, ◌+◌, ◌<◌, List, [], length, take, Result, Ok, Err, IsOk}
+use Rattle.run_files.specs.declared.error.RunFault.{RunFault}
+use Rattle.run_files.specs.declared.error.RunFault.TheVariants.{Memory, ShelfFailed}
+use Rattle.run_files.specs.declared.outputs.Output.{Output}
+use Rattle.run_files.specs.Shelves.{StoredFile}
+use Rattle.run_files.specs.WrittenOutputs.{files_from}
+
+-- the files of the outputs that are called for; a refusal calls for none
+abbrev pub files_in : Result (List Output) RunFault → List StoredFile
+files_in (Ok outputs) = files_from 0 outputs
+files_in (Err fault) = []
+
+-- How storing ends, by what is called for: well where outputs are; the shelf fails before it has all files; any other refusal but
+-- want of memory is what is called for.
+abbrev pub StoresOf : Result (Unit {0}) RunFault → Result (List Output) RunFault → Type 0
+StoresOf (Ok _) wanted = IsOk wanted
+StoresOf (Err (ShelfFailed after)) wanted = after < length (files_in wanted)
+StoresOf (Err Memory) wanted = Unit {0}
+StoresOf (Err fault) wanted = wanted ≡ Err fault
+
+-- What the shelf took then, given what it is that it took some files, by the count of its failures before and after: all of them; or
+-- where it failed or memory was wanting, a first part; and none of them where the run was refused.
+abbrev pub TakenOf : Result (Unit {0}) RunFault → Result (List Output) RunFault → (List StoredFile → Type 0) → ℕ → ℕ → Type 0
+TakenOf (Ok _) wanted Took old_failures new_failures = Took (files_in wanted) × (new_failures ≡ old_failures)
+TakenOf (Err (ShelfFailed after)) wanted Took old_failures new_failures =
+    Took (take after (files_in wanted)) × (new_failures ≡ old_failures + 1)
+TakenOf (Err Memory) wanted Took old_failures new_failures =
+    ((stored : ℕ) × Took (take stored (files_in wanted))) × (new_failures ≡ old_failures)
+TakenOf (Err fault) wanted Took old_failures new_failures = Took [] × (new_failures ≡ old_failures)
+
+-- ---- what stands past the last of a list
+
+abbrev pub no_output : Output
+no_output = record { capture = []; report = [] }

@@ -107,7 +107,7 @@ module _ (hosts : List KnownHost) (texts : List (List ℕ)) (seed : ℕ) where
       by false = of_after (capture_bytes_of text) (answer_under hosts texts seed) (of_capture_bytes text) of_bytes
 
   -- so no such fault is what was called for
-  never : {A : Type 0} {fault : RunFault} (text : List ℕ) → called_for hosts texts seed text ≡ Err fault → (IsOfText fault → ⊥) → A
+  pub never : {A : Type 0} {fault : RunFault} (text : List ℕ) → called_for hosts texts seed text ≡ Err fault → (IsOfText fault → ⊥) → A
   never text is other = absurd (other (subst (λ wanted. IfErr wanted IsOfText) is (of_called text)))
 
   -- what agrees with what was called for is its answer

@@ -11,6 +11,7 @@ mod AnswerSteps
 mod PrintedSteps
 mod OutputSteps
 mod StoredSteps
+mod StoringEnds
 mod RunSteps
 mod FirstPlaces
 mod WrittenLines

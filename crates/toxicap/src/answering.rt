@@ -6,14 +6,17 @@ ghost use Rattle.pcap_records.specs.Reading.{capture_limit};
 ghost use Rattle.scenarios.specs.Populate.{scenario};
 ghost use Rattle.toxicap.specs.Answering.{AnswersBy, answer_under, called_for, capture_bytes_of, numbered, scenarios_from};
 ghost use Rattle.toxicap.specs.PrintedReports.{ReportsBy, reports_in};
-ghost use Rattle.toxicap.specs.RunEnds.{failed_reads};
+ghost use Rattle.toxicap.specs.RunEnds.{StoresBy, failed_reads};
+ghost use Rattle.toxicap.specs.StoredOutputs.{StoresOf, TakenOf};
+ghost use Rattle.run_files.specs.Shelves.{Takes};
 ghost use Rattle.run_files.specs.RunFault.{run_refusal};
 
 use crate::rehearsal::rehearse;
 use crate::reports::rehearse_reports;
+use crate::storing::store_rehearsal;
 use job_matrix::{Plan, Through};
 use report::ReportText;
-use run_files::{Counted, Outputs, RunFault, is_dump, load, undump};
+use run_files::{Counted, Outputs, RunFault, Shelf, is_dump, load, undump};
 use scenarios::{Hosts, Scenario, ScenarioFault, read_scenario};
 use std::alloc::{AllocError, Global};
 use std::io::Read;
@@ -80,6 +83,32 @@ pub(crate) fn reports<H: Threads + Wait + Sync, R: Read>(
     reports_to_text(rt, alloc, text, texts, options)
 }
 
+/// Reads a capture to its end as [`answers`] does, and puts the files of these answers on a shelf as they are made: those that
+/// `store_all` puts of them.
+///
+/// # Errors
+/// Those of [`answers`], and [`RunFault::ShelfFailed`] at the first file that the shelf does not take.
+pub(crate) fn store_answers<H: Threads + Wait + Sync, R: Read, S: Shelf>(
+    rt: &H,
+    alloc: Global,
+    reader: &mut Counted<R>,
+    texts: &[&[u8]],
+    options: &Options,
+    shelf: &mut S,
+) -> Result<(), RunFault>
+    requires reads { reader.old.failed < 2 ^ 64 - 1 }
+    requires failures { S.failures shelf.old < 2 ^ 64 - 1 }
+    ensures answer { (text : List ℕ)
+        × Consumes (R.remaining reader.old.inner) (R.remaining reader.new.inner) text
+        × StoresBy result (called_for options.now.hosts (map (λ t. t.now) texts.now) options.now.seed text) text (IsAtEnd (R.remaining reader.new.inner))
+        × TakenOf result (called_for options.now.hosts (map (λ t. t.now) texts.now) options.now.seed text)
+        (Takes (S.files shelf.old) (S.files shelf.new)) (S.failures shelf.old) (S.failures shelf.new) }
+    ensures failed { reader.new.failed ≡ reader.old.failed + failed_reads result }
+{
+    let text = load(alloc, reader)?;
+    store_for_text(rt, alloc, text, texts, options, shelf)
+}
+
 // What a text calls for.
 #[tactic(auto, unfolding(crate::specs::Answering::called_for))]
 fn answer_to_text<H: Threads + Wait + Sync>(
@@ -110,6 +139,35 @@ fn reports_to_text<H: Threads + Wait + Sync>(
 {
     let bytes = capture_bytes(alloc, text)?;
     reports_to_bytes(rt, alloc, &bytes, texts, options)
+}
+
+// Stores what a text calls for.
+#[tactic(auto, unfolding(crate::specs::Answering::called_for))]
+fn store_for_text<H: Threads + Wait + Sync, S: Shelf>(
+    rt: &H,
+    alloc: Global,
+    text: Vec<u8>,
+    texts: &[&[u8]],
+    options: &Options,
+    shelf: &mut S,
+) -> Result<(), RunFault>
+    requires text { length text.items ≤ capture_limit }
+    requires failures { S.failures shelf.old < 2 ^ 64 - 1 }
+    ensures ends { StoresOf result (called_for options.now.hosts (map (λ t. t.now) texts.now) options.now.seed text.items) }
+    ensures taken { TakenOf result (called_for options.now.hosts (map (λ t. t.now) texts.now) options.now.seed text.items)
+        (Takes (S.files shelf.old) (S.files shelf.new)) (S.failures shelf.old) (S.failures shelf.new) }
+{
+    let bytes = capture_bytes(alloc, text)?;
+    let read = read_texts(alloc, texts, &options.hosts)?;
+    store_rehearsal(
+        rt,
+        alloc,
+        &bytes,
+        &read,
+        options.seed,
+        options.plan,
+        shelf,
+    )
 }
 
 // The bytes of the capture that a text holds: those of the dump where the text is taken for one,

@@ -10,10 +10,10 @@ ghost use Rattle.pcap_records.specs.Agreement.{AgreesUnlessMemory};
 ghost use Rattle.toxicap.specs.Inputs.{AddsHost, IsOfFiles, IsOfHost, cut_at_first, equals_sign, host_written, hosts_from, texts_or_bare};
 ghost use Rattle.run_files.specs.RunFault.{run_refusal};
 
-use crate::answering::{Options, answers, reports};
+use crate::answering::{Options, reports, store_answers};
 use command_line::Asked;
 use job_matrix::Plan;
-use run_files::{Counted, Folder, RunFault, load, store_all, write_bytes};
+use run_files::{Counted, Folder, RunFault, load, write_bytes};
 use scenarios::{HostFault, Hosts};
 use std::alloc::{AllocError, Global};
 use std::fs;
@@ -64,8 +64,8 @@ pub(crate) fn run_asked<H: Files + Threads + Wait + Sync, R: Read, W: Write>(
     answer_into(rt, alloc, &mut file, writer, asked.out, &texts, &options)
 }
 
-// The answers to a reader's capture, stored in a folder, or without one their reports printed. Nothing is written before they
-// are whole, so every refusal but a failed write leaves the writer as it was.
+// The answers to a reader's capture, stored in a folder as they are made, or without one their reports printed. Nothing is printed
+// before all reports are whole, so every refusal but a failed write leaves the writer as it was.
 fn answer_into<H: Files + Threads + Wait + Sync, R: Read, W: Write>(
     rt: &H,
     alloc: Global,
@@ -90,10 +90,8 @@ fn answer_into<H: Files + Threads + Wait + Sync, R: Read, W: Write>(
         let reports = reports(rt, alloc, reader, texts, options)?;
         return write_bytes(writer, reports.as_slice());
     };
-    let outputs = answers(rt, alloc, reader, texts, options)?;
     let mut shelf = Folder::new(alloc, rt, folder)?;
-    store_all(alloc, &outputs, &mut shelf)?;
-    Ok(())
+    store_answers(rt, alloc, reader, texts, options, &mut shelf)
 }
 
 // A scenario without proxies.

@@ -1,0 +1,91 @@
+-- How storing ends, by what a text calls for.
+use Rattle.std.proofs.Common.{◌≡◌, ℕ, ◌<◌, ◌≤◌, List, [], length, Option, Some, None, Result, Ok, Err, refl, sym, ◌∙◌, append-nil, arith}
+use Rattle.std.proofs.lemmas.Bool.{le-ltb}
+use Rattle.std.specs.Io.KnownBytes.{Consumes}
+use Rattle.pcap_records.specs.Agreement.{Agrees, AgreesUnlessMemory}
+use Rattle.pcap_records.specs.Reading.{capture_limit}
+use Rattle.scenarios.specs.declared.hosts.KnownHost.{KnownHost}
+use Rattle.scenarios.specs.declared.proxies.Proxy.{Proxy}
+use Rattle.run_files.specs.declared.error.RunFault.{RunFault}
+use Rattle.run_files.specs.declared.error.RunFault.TheVariants.{CaptureTooLong, Memory, ReadFailed, ShelfFailed, WriteFailed, BadHost}
+use Rattle.run_files.specs.declared.outputs.Output.{Output}
+use Rattle.run_files.specs.RunFault.{run_refusal}
+use Rattle.run_files.specs.Shelves.{StoredFile, Takes}
+use Rattle.run_files.specs.Streams.{StopsLoading}
+use Rattle.run_files.specs.WrittenOutputs.{files_from}
+use Rattle.toxicap.specs.Answering.{called_for, capture_bytes_of, scenarios_from}
+use Rattle.toxicap.specs.RunEnds.{StoresBy, failed_reads}
+use Rattle.toxicap.specs.StoredOutputs.{StoresOf, TakenOf}
+use Rattle.toxicap.proofs.AnswerSteps.{never, stopped}
+
+-- a shelf took no file
+pub nothing_taken : (had : Option (List StoredFile)) → Takes had had []
+nothing_taken None = tt
+nothing_taken (Some files) = sym (append-nil files)
+
+-- nor was any byte read
+pub none_consumed : (left : Option (List ℕ)) → Consumes left left []
+none_consumed None = tt
+none_consumed (Some bytes) = refl
+
+module _ (hosts : List KnownHost) (texts : List (List ℕ)) (seed : ℕ) where
+  -- the bytes of the capture are refused
+  called_bytes : (fault : RunFault) (text : List ℕ) → length text ≤ capture_limit → capture_bytes_of text ≡ Err fault → called_for hosts texts seed text ≡ Err fault
+  unfolding called_for
+  called_bytes fault text within is = rw (le-ltb, is) refl
+
+  -- or a scenario is
+  called_scenarios : (fault : RunFault) (text bytes : List ℕ) → length text ≤ capture_limit → capture_bytes_of text ≡ Ok bytes → scenarios_from hosts [] texts ≡ Err fault
+      → called_for hosts texts seed text ≡ Err fault
+  unfolding called_for
+  called_scenarios fault text bytes within is refused = rw (le-ltb, is, refused) refl
+
+  pub refused_bytes : (fault : RunFault) (text : List ℕ) → length text ≤ capture_limit → Agrees run_refusal (λ (bytes : List ℕ). bytes) (Err fault) (capture_bytes_of text)
+      → AgreesUnlessMemory run_refusal (λ (outputs : List Output). outputs) (Err fault) (called_for hosts texts seed text)
+  refused_bytes Memory text within is = tt
+  refused_bytes fault text within is = called_bytes fault text within is
+
+  pub refused_scenarios : (fault : RunFault) (text bytes : List ℕ) → length text ≤ capture_limit → capture_bytes_of text ≡ Ok bytes
+      → AgreesUnlessMemory run_refusal (λ (scenarios : List (List Proxy)). scenarios) (Err fault) (scenarios_from hosts [] texts)
+      → AgreesUnlessMemory run_refusal (λ (outputs : List Output). outputs) (Err fault) (called_for hosts texts seed text)
+  refused_scenarios Memory text bytes within is refused = tt
+  refused_scenarios fault text bytes within is refused = called_scenarios fault text bytes within is refused
+
+  -- where a text is refused nothing is stored
+  pub none_stored : (fault : RunFault) (text : List ℕ) (had : Option (List StoredFile)) (failures : ℕ)
+      → AgreesUnlessMemory run_refusal (λ (outputs : List Output). outputs) (Err fault) (called_for hosts texts seed text)
+      → StoresOf (Err fault) (called_for hosts texts seed text) × TakenOf (Err fault) (called_for hosts texts seed text) (Takes had had) failures failures
+  none_stored Memory text had failures is = (tt, ((0, nothing_taken had), refl))
+  none_stored (ShelfFailed after) text had failures is = never hosts texts seed text is (λ own. own)
+  none_stored fault text had failures is = (is, (nothing_taken had, refl))
+
+  -- nor where loading stopped
+  pub stopped_unstored : (fault : RunFault) (text : List ℕ) (old new : ℕ) (AtEnd : Type 0) (had : Option (List StoredFile)) (failures : ℕ) → StopsLoading fault (length text) old new
+      → StoresBy (Err fault) (called_for hosts texts seed text) text AtEnd × TakenOf (Err fault) (called_for hosts texts seed text) (Takes had had) failures failures
+  stopped_unstored CaptureTooLong text old new AtEnd had failures is = (stopped hosts texts seed CaptureTooLong text old new AtEnd is, (nothing_taken had, refl))
+  stopped_unstored ReadFailed text old new AtEnd had failures is = (is.0, (nothing_taken had, refl))
+  stopped_unstored Memory text old new AtEnd had failures is = (is.0, ((0, nothing_taken had), refl))
+  stopped_unstored _ text old new AtEnd had failures is = absurd is
+
+  -- how storing ends, by the text that was read
+  pub stores_by : (result : Result (Unit {0}) RunFault) (text : List ℕ) (AtEnd : Type 0) → length text ≤ capture_limit → AtEnd → StoresOf result (called_for hosts texts seed text)
+      → StoresBy result (called_for hosts texts seed text) text AtEnd
+  stores_by (Ok u) text AtEnd within at_end is = (at_end, is)
+  stores_by (Err (ShelfFailed after)) text AtEnd within at_end is = (at_end, of_files (called_for hosts texts seed text) is)
+    where
+      of_files : (wanted : Result (List Output) RunFault) → StoresOf (Err (ShelfFailed after)) wanted
+          → (outputs : List Output) × (wanted ≡ Ok outputs) × (after < length (files_from 0 outputs))
+      of_files (Ok outputs) is = (outputs, refl, is)
+      of_files (Err fault) is = absurd (omega arith)
+  stores_by (Err Memory) text AtEnd within at_end is = within
+  stores_by (Err ReadFailed) text AtEnd within at_end is = never hosts texts seed text is (λ own. own)
+  stores_by (Err WriteFailed) text AtEnd within at_end is = never hosts texts seed text is (λ own. own)
+  stores_by (Err (BadHost at)) text AtEnd within at_end is = never hosts texts seed text is (λ own. own)
+  stores_by (Err CaptureTooLong) text AtEnd within at_end is = is
+  stores_by (Err fault) text AtEnd within at_end is = (at_end, is)
+
+  -- and no read has failed
+  pub none_failed : (result : Result (Unit {0}) RunFault) (text : List ℕ) → StoresOf result (called_for hosts texts seed text) → failed_reads result ≡ 0
+  none_failed (Ok u) text is = refl
+  none_failed (Err ReadFailed) text is = never hosts texts seed text is (λ own. own)
+  none_failed (Err _) text is = refl

@@ -84,7 +84,19 @@ impl Merged {
     pub fn capture(&self, alloc: Global, unit: Unit) -> Result<Vec<u8>, AllocError>
         ensures { IfOk result (λ bytes. bytes.items ≡ capture_in_turn (ticks_of unit) self.now) }
     {
-        let mut bytes = Vec::with_capacity(alloc, self.capture_len())?;
+        self.capture_in(Vec::new(alloc), unit)
+    }
+
+    /// The same capture, in a vector whose room is used again: what it held is let go.
+    ///
+    /// # Errors
+    /// Where the growth that it needs is refused.
+    pub fn capture_in(&self, room: Vec<u8>, unit: Unit) -> Result<Vec<u8>, AllocError>
+        ensures { IfOk result (λ bytes. bytes.items ≡ capture_in_turn (ticks_of unit) self.now) }
+    {
+        let mut bytes = room;
+        bytes.clear();
+        bytes.reserve_exact(self.capture_len())?;
         write_header(&mut bytes, unit)?;
         for keyed in &self.order {
             let segment = segment_of(&self.lists, keyed);

@@ -36,7 +36,7 @@ pub(crate) fn gathered_report(
     report(alloc, number, capture, table, lines)
 }
 
-// What the scenario of a number answers, of its row.
+// What the scenario of a number answers, of its row. Its capture is written into `room`, whose bytes are let go.
 #[tactic(auto, unfolding(time_merge::specs::MergedCapture::capture_of))]
 pub(crate) fn gathered_output(
     alloc: Global,
@@ -44,6 +44,7 @@ pub(crate) fn gathered_output(
     table: &Table,
     number: u32,
     row: DeliveryRow,
+    room: Vec<u8>,
 ) -> Result<Output, AllocError>
     requires table { table.now ≡ whole_table capture.now }
     requires each { length row.lines.items ≡ length table.now.conns }
@@ -52,8 +53,10 @@ pub(crate) fn gathered_output(
     ensures { IfOk result (λ output. output
         ≡ gathered_output (seen_capture (contents_of capture.now)) number table.now.unopened row.segments.items row.lines.items) }
 {
-    let report = gathered_report(alloc, capture, table, number, &row.lines)?;
-    let capture = merge(alloc, row.segments)?.capture(alloc, capture.unit())?;
+    let DeliveryRow { segments, lines } = row;
+    let report = gathered_report(alloc, capture, table, number, &lines)?;
+    drop(lines);
+    let capture = merge(alloc, segments)?.capture_in(room, capture.unit())?;
     Ok(Output {
         capture: Values::of(capture),
         report: Values::of(report.into_vec()),

@@ -59,10 +59,10 @@ impl<'w, 'v, 'a> Sources<'w, 'v, 'a> {
         let scenario = &self.scenarios[number];
         let number = number as u32;
         let row = deliver_row_alone(self.alloc, self.recordings, number, scenario, self.seed)?;
-        self.output_of(number, scenario, row)
+        self.output_of(number, scenario, row, Vec::new(self.alloc))
     }
 
-    // The output of the scenario of a number, with the connections spread over workers.
+    // The output of the scenario of a number, with the connections spread over workers. Its capture is written into `room`.
     //
     // # Errors
     // A growth was refused.
@@ -71,6 +71,7 @@ impl<'w, 'v, 'a> Sources<'w, 'v, 'a> {
         rt: &R,
         number: usize,
         plan: Plan,
+        room: Vec<u8>,
     ) -> Result<Output, AllocError>
         requires { number < length self.now.scenarios.now }
         ensures { IfOk result (λ o. o
@@ -88,7 +89,7 @@ impl<'w, 'v, 'a> Sources<'w, 'v, 'a> {
             plan,
             &Through,
         )?;
-        self.output_of(number, scenario, row)
+        self.output_of(number, scenario, row, room)
     }
 
     // The output of a scenario with its number, of what each connection contributes to it.
@@ -97,6 +98,7 @@ impl<'w, 'v, 'a> Sources<'w, 'v, 'a> {
         number: u32,
         scenario: &Scenario,
         row: Deliveries,
+        room: Vec<u8>,
     ) -> Result<Output, AllocError>
         requires { row ≡ recorded_row self.now.seed (number, scenario.now) self.now.recordings.now }
         ensures { IfOk result (λ o. o ≡ output (seen_capture (contents_of self.now.capture.now)) self.now.seed (number, scenario.now)) }
@@ -109,6 +111,7 @@ impl<'w, 'v, 'a> Sources<'w, 'v, 'a> {
         let count = self.table.conns().len();
         let mut deliveries = row.into_vec().into_iter();
         let row = take_row(self.alloc, &mut deliveries, count)?;
-        gathered_output(self.alloc, self.capture, self.table, number, row)
+        drop(deliveries);
+        gathered_output(self.alloc, self.capture, self.table, number, row, room)
     }
 }

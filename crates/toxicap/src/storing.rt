@@ -93,16 +93,26 @@ fn store_each<R: Threads + Sync, S: Shelf>(
         (Takes (S.files shelf.old) (S.files shelf.new)) (S.failures shelf.old) (S.failures shelf.new) }
 {
     let mut number = 0;
+    let mut room = Vec::new(sources.alloc);
     'groups: while number < sources.scenarios.len() {
-        let outputs = outputs_from(rt, sources, number, plan)?;
+        let outputs = outputs_from(rt, sources, number, plan, room)?;
         store_from(sources.alloc, number, outputs.as_slice(), shelf)?;
         number += outputs.as_slice().len();
+        room = room_of(sources.alloc, outputs);
     }
     Ok(())
 }
 
+// The room that the last capture of some outputs takes: the next capture is written there, in pages that are this program's already.
+fn room_of(alloc: Global, outputs: Outputs) -> Vec<u8> {
+    match outputs.into_vec().pop() {
+        Some(output) => output.capture.into_vec(),
+        None => Vec::new(alloc),
+    }
+}
+
 // The outputs of some scenarios from a number on, one at least: as many as there are workers, each made by one of them; or, where
-// fewer are left, one, with the connections spread over the workers.
+// fewer are left or one works alone, one, with the connections spread over the workers. One capture alone is written into `room`.
 //
 // # Errors
 // A growth was refused.
@@ -111,6 +121,7 @@ fn outputs_from<R: Threads + Sync>(
     sources: &Sources<'_, '_, '_>,
     number: usize,
     plan: Plan,
+    room: Vec<u8>,
 ) -> Result<Outputs, AllocError>
     requires { number < length sources.now.scenarios.now }
     ensures some { IfOk result (λ v. 0 < length v) }
@@ -118,8 +129,9 @@ fn outputs_from<R: Threads + Sync>(
         (outputs_of (seen_capture (contents_of sources.now.capture.now)) sources.now.scenarios.now sources.now.seed))) }
 {
     let workers = plan.workers() as u64;
-    if ((sources.scenarios.len() - number) as u64) < workers {
-        let output = sources.output_by_workers(rt, number, plan)?;
+    let left = (sources.scenarios.len() - number) as u64;
+    if workers == 1 || left < workers {
+        let output = sources.output_by_workers(rt, number, plan, room)?;
         return Ok(Values::of(vec![in sources.alloc; output]?));
     }
     let jobs = OutputJobs {

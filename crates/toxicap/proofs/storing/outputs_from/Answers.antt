@@ -11,8 +11,8 @@ use Rattle.toxicap.proofs.OutputSteps.{length-outputs_of, some_from}
 use Rattle.toxicap.proofs.storing.outputs_from.Goals as goal
 
 -- one output is made
-pub returns-then-sources-number-clause-next : goal.returns-then-sources-number-clause-next
-returns-then-sources-number-clause-next g c =
+pub returns-then-workers-eq1-clause-next : goal.returns-then-workers-eq1-clause-next
+returns-then-workers-eq1-clause-next g c =
     let own = c.args.sources.now in
     let seen : SeenCapture = seen_capture (contents_of own.capture.now) in
     let all : List Output = outputs_of seen own.scenarios.now own.seed in
@@ -39,7 +39,7 @@ returns-clause-next g c =
     let all : List Output = outputs_of seen own.scenarios.now own.seed in
     let number : ℕ = c.args.number in
     let workers : ℕ = c.workers-workers.result in
-    let left : workers ≤ length all - number = omega (arith, c.if-sources-number.false, length-outputs_of seen own.scenarios.now own.seed) in
+    let left : workers ≤ length all - number = omega (arith, c.if-left-workers.false, length-outputs_of seen own.scenarios.now own.seed) in
     IfOk-weaker c.work_all.result _ _
     (λ v is. (is ∙ some_from all number workers no_output left)
     ∙ ap (λ k. take k (drop number all)) (sym (ap length is ∙ length-map-range_with_len (λ (j : ℕ). get_or all (number + j) no_output) 0 workers)))

@@ -1,6 +1,8 @@
 //! One capture of many lists of written segments.
 #![tactic(auto)]
 
+mod captures;
 mod merging;
 
+pub use captures::merged_capture;
 pub use merging::{Merged, merge};

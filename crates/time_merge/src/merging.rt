@@ -84,19 +84,7 @@ impl Merged {
     pub fn capture(&self, alloc: Global, unit: Unit) -> Result<Vec<u8>, AllocError>
         ensures { IfOk result (λ bytes. bytes.items ≡ capture_in_turn (ticks_of unit) self.now) }
     {
-        self.capture_in(Vec::new(alloc), unit)
-    }
-
-    /// The same capture, in a vector whose room is used again: what it held is let go.
-    ///
-    /// # Errors
-    /// Where the growth that it needs is refused.
-    pub fn capture_in(&self, room: Vec<u8>, unit: Unit) -> Result<Vec<u8>, AllocError>
-        ensures { IfOk result (λ bytes. bytes.items ≡ capture_in_turn (ticks_of unit) self.now) }
-    {
-        let mut bytes = room;
-        bytes.clear();
-        bytes.reserve_exact(self.capture_len())?;
+        let mut bytes = Vec::with_capacity(alloc, capture_len(&self.lists))?;
         write_header(&mut bytes, unit)?;
         for keyed in &self.order {
             let segment = segment_of(&self.lists, keyed);
@@ -104,22 +92,22 @@ impl Merged {
         }
         Ok(bytes)
     }
+}
 
-    // The length of the capture, or the greatest number where it is past that.
-    fn capture_len(&self) -> usize {
-        let mut len = FILE_HEADER_LEN;
-        for list in &self.lists {
-            for segment in list.as_slice() {
-                len = len.saturating_add(segment.bytes.as_slice().len());
-            }
+// The length of the capture of some lists, or the greatest number where it is past that.
+pub(crate) fn capture_len(lists: &[SegList]) -> usize {
+    let mut len = FILE_HEADER_LEN;
+    for list in lists {
+        for segment in list.as_slice() {
+            len = len.saturating_add(segment.bytes.as_slice().len());
         }
-        len
     }
+    len
 }
 
 // A segment of some lists: its key, the number of its list, and its index there. Keyed segments are ordered by all three.
 #[derive(Clone, Copy, Debug, PartialEq, Eq, PartialOrd, Ord)]
-struct KeyedSegment {
+pub(crate) struct KeyedSegment {
     key: SegKey,
     list: usize,
     index: usize,
@@ -127,10 +115,10 @@ struct KeyedSegment {
 
 // The keyed segments of a list, from one of them on.
 #[derive(Drop)]
-struct KeyedSegments<'a> {
-    segments: &'a [Framed],
-    list: usize,
-    index: usize,
+pub(crate) struct KeyedSegments<'a> {
+    pub(crate) segments: &'a [Framed],
+    pub(crate) list: usize,
+    pub(crate) index: usize,
 }
 
 impl Iterator for KeyedSegments<'_> {
@@ -156,7 +144,7 @@ impl Iterator for KeyedSegments<'_> {
 }
 
 // The segment that a keyed one stands for.
-fn segment_of<'a>(lists: &'a [SegList], keyed: &KeyedSegment) -> &'a Framed
+pub(crate) fn segment_of<'a>(lists: &'a [SegList], keyed: &KeyedSegment) -> &'a Framed
     requires { IsKeyed lists.now keyed.now }
     ensures { result.now ≡ segment_of lists.now keyed.now }
 {

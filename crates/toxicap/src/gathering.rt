@@ -18,7 +18,7 @@ use run_files::Output;
 use segment_writer::SegList;
 use std::alloc::{AllocError, Global};
 use std::vec::IntoIter;
-use time_merge::merge;
+use time_merge::merged_capture;
 
 // The report of the scenario of a number, of its lines.
 pub(crate) fn gathered_report(
@@ -37,7 +37,6 @@ pub(crate) fn gathered_report(
 }
 
 // What the scenario of a number answers, of its row. Its capture is written into `room`, whose bytes are let go.
-#[tactic(auto, unfolding(time_merge::specs::MergedCapture::capture_of))]
 pub(crate) fn gathered_output(
     alloc: Global,
     capture: &Capture<'_>,
@@ -54,11 +53,11 @@ pub(crate) fn gathered_output(
         ≡ gathered_output (seen_capture (contents_of capture.now)) number table.now.unopened row.segments.items row.lines.items) }
 {
     let DeliveryRow { segments, lines } = row;
+    let bytes = merged_capture(alloc, &segments, room, capture.unit())?;
+    drop(segments);
     let report = gathered_report(alloc, capture, table, number, &lines)?;
-    drop(lines);
-    let capture = merge(alloc, segments)?.capture_in(room, capture.unit())?;
     Ok(Output {
-        capture: Values::of(capture),
+        capture: Values::of(bytes),
         report: Values::of(report.into_vec()),
     })
 }

@@ -1,4 +1,5 @@
 mod AddressSteps
+mod IndexedHosts
 mod LastPlaces
 mod MappedNames
 mod PortSteps

@@ -1,8 +1,9 @@
 -- Hosts: their names and addresses as texts, and lists of those that are known.
-use Rattle.std.specs.Prelude.{◌≡◌, ℕ, ◌||◌, ◌&&◌, ◌==◌, Bool, List, [], ◌∷◌, ◌++◌, length, find, Option, Some, None, IsSome, is_none, nat_lt, nat_le, option_map, Result, Ok, Err, ⊤, bytes_eq, if◌then◌else◌}
+use Rattle.std.specs.Prelude.{◌≡◌, ℕ, ◌||◌, ◌&&◌, ◌==◌, Bool, List, [], ◌∷◌, ◌++◌, length, find, Option, Some, None, IsSome, is_none, nat_lt, nat_le, option_map, Result, Ok, Err, ⊤, bytes_eq, String, if◌then◌else◌}
 use Rattle.std.specs.List.{list_all}
 use Rattle.std.specs.Int.{w32, from_be_bytes}
 use Rattle.std.specs.Net.Reader.{read_ipv4, whole_value}
+use Rattle.std.specs.BTreeMap.{BTreeMap, get_by_text}
 use Rattle.scenarios.specs.declared.hosts.KnownHost.{KnownHost}
 use Rattle.scenarios.specs.declared.error.HostFault.{HostFault}
 use Rattle.scenarios.specs.declared.error.HostFault.TheVariants.{BadHost, Memory}
@@ -26,6 +27,11 @@ is_host_name text = nat_lt 0 (length text) && list_all is_name_byte text && is_n
 -- the address of a name
 abbrev pub look_up : List KnownHost → List ℕ → Option ℕ
 look_up hosts name = option_map (λ h. h.addr) (find (λ h. bytes_eq h.name name) hosts)
+
+module _ {Y : Type 0} where
+  -- an index has the address of each known name, and nothing at any other text
+  abbrev pub IsIndexOf : BTreeMap (String Y) ℕ → List KnownHost → Type 0
+  IsIndexOf index hosts = (name : List ℕ) → get_by_text index name ≡ look_up hosts name
 
 -- the host that a name and an address make, if they are valid and the name is free
 abbrev pub host_for : List KnownHost → List ℕ → List ℕ → Option KnownHost

@@ -6,6 +6,7 @@ ghost use Rattle.scenarios.specs.Hosts.{address, is_name_byte, is_host_name};
 use crate::error::HostFault;
 use pcap_records::Values;
 use std::alloc::{AllocError, Global};
+use std::collections::BTreeMap;
 use std::marker::Model;
 use std::net::Ipv4Addr;
 
@@ -51,19 +52,26 @@ pub(crate) struct KnownHost {
 }
 
 /// The hosts that upstreams may name: each name once, with its address.
+///
+/// Contracts see `list`, which has them as they were added. A name is found in `index`, in the logarithm of their count
+/// whatever the names are.
 #[derive(Debug, Drop)]
 pub struct Hosts {
     alloc: Global,
     list: Vec<KnownHost>,
+    index: BTreeMap<String, u32>,
 }
 
 impl Model for Hosts {
     ghost use Rattle.std.specs.Prelude.{List};
     ghost use Rattle.scenarios.specs.declared.hosts.KnownHost.{KnownHost};
+    ghost use Rattle.scenarios.specs.Hosts.{IsIndexOf};
 
     ghost Value = { List KnownHost };
 
     ghost view = { λ h. h.list.items };
+
+    ghost invariant = { λ h. IsIndexOf h.index h.list.items };
 }
 
 impl Hosts {
@@ -77,6 +85,7 @@ impl Hosts {
         Hosts {
             alloc,
             list: Vec::new(alloc),
+            index: BTreeMap::new(alloc),
         }
     }
 
@@ -95,7 +104,11 @@ impl Hosts {
         if !is_host_name(name) || self.look_up(name).is_some() {
             return Err(HostFault::BadHost);
         }
+        // What the index and the list need is there before either changes.
+        let key = String::from_str(self.alloc, name)?;
         let name = NameText::of(name.as_bytes().to_vec(self.alloc)?);
+        self.list.reserve(1)?;
+        self.index.insert(key, addr).map_err(AllocError::from)?;
         self.list
             .push(KnownHost { name, addr })
             .map_err(AllocError::from)?;
@@ -106,9 +119,6 @@ impl Hosts {
     pub(crate) fn look_up(&self, name: &str) -> Option<u32>
         ensures { result ≡ look_up self.now name.now }
     {
-        self.list
-            .iter()
-            .find(|host| host.name.as_slice() == name.as_bytes())
-            .map(|host| host.addr)
+        self.index.get(name).copied()
     }
 }

@@ -1,5 +1,5 @@
 mod AddressSteps
-mod IndexedHosts
+mod LastHosts
 mod LastPlaces
 mod MappedNames
 mod PortSteps

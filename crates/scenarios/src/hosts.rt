@@ -53,8 +53,8 @@ pub(crate) struct KnownHost {
 
 /// The hosts that upstreams may name: each name once, with its address.
 ///
-/// Contracts see `list`, which has them as they were added. A name is found in `index`, in the logarithm of their count
-/// whatever the names are.
+/// Contracts see `list`, which has them as they were added. A name is found in `index`, an ordered map, which no choice
+/// of names makes slow.
 #[derive(Debug, Drop)]
 pub struct Hosts {
     alloc: Global,
@@ -75,7 +75,7 @@ impl Model for Hosts {
 }
 
 impl Hosts {
-    ghost use Rattle.std.specs.Prelude.{◌≡◌, []};
+    ghost use Rattle.std.specs.Prelude.{◌≡◌, [], ◌∷◌, ◌++◌, OnOk, OnErr};
     ghost use Rattle.scenarios.specs.Hosts.{host_for, look_up, HostAdded};
 
     /// A list without hosts. It takes no memory.
@@ -104,14 +104,21 @@ impl Hosts {
         if !is_host_name(name) || self.look_up(name).is_some() {
             return Err(HostFault::BadHost);
         }
+        self.put(name, addr)?;
+        Ok(())
+    }
+
+    // Puts a host last, or changes nothing. A name that is there already keeps its address in the index.
+    fn put(&mut self, name: &str, addr: u32) -> Result<(), AllocError>
+        ensures ok { OnOk result (self.new ≡ self.old ++ record { name = name.now; addr = addr } ∷ []) }
+        ensures err { OnErr result (self.new ≡ self.old) }
+    {
         // What the index and the list need is there before either changes.
         let key = String::from_str(self.alloc, name)?;
         let name = NameText::of(name.as_bytes().to_vec(self.alloc)?);
         self.list.reserve(1)?;
-        self.index.insert(key, addr).map_err(AllocError::from)?;
-        self.list
-            .push(KnownHost { name, addr })
-            .map_err(AllocError::from)?;
+        self.index.entry(key)?.or_insert(addr);
+        self.list.push(KnownHost { name, addr })?;
         Ok(())
     }
 

@@ -7,6 +7,7 @@ mod GroupingMembers
 mod GroupingUnopened
 mod GroupingForms
 mod CountingSteps
+mod PairTrees
 mod ListingSteps
 mod MarkSteps
 pub mod RangeSteps

@@ -14,11 +14,12 @@ use Rattle.conn_table.specs.IndexedSegments.{same_pair}
 use Rattle.conn_table.specs.Connections.{last_of}
 use Rattle.conn_table.specs.KeptSegments.{KeptSegment, opens, opening_of, last_opening, lasts_after}
 use Rattle.conn_table.specs.Partials.{MarkedKept, kept_of}
-use Rattle.indexmap.specs.IndexSet.{IsUnique}
+use Rattle.conn_table.specs.PairNumbers.{IsTree}
 use Rattle.conn_table.specs.declared.listing.Listing.{Listing}
 use Rattle.conn_table.specs.Listings.{nowhere, pair_at, segment_of, mark_of, marks_of, IsListing}
 use Rattle.conn_table.proofs.GroupingFilters.{last_or-push}
 use Rattle.conn_table.proofs.Peers.{same_pair-itself, same_pair-sym}
+use Rattle.conn_table.proofs.PairTrees.{slice_get-end}
 
 -- ---- places of lists
 
@@ -26,10 +27,6 @@ pub slice_get-append : {X : Type 0} (xs ys : List X) (i : ℕ) (x : X) → slice
 slice_get-append [] ys i x is = absurd cc
 slice_get-append (y ∷ xs) ys zero x is = is
 slice_get-append (y ∷ xs) ys (suc i) x is = slice_get-append xs ys i x is
-
-slice_get-end : {X : Type 0} (xs : List X) (x : X) → slice_get (xs ++ x ∷ []) (length xs) ≡ Some x
-slice_get-end [] x = refl
-slice_get-end (y ∷ xs) x = slice_get-end xs x
 
 -- ---- pairs
 
@@ -121,29 +118,19 @@ length-lasts_after lasts k g = cond_both (opens k) _ _ (λ xs. length xs ≡ len
 pub record IsGrown (old new : Listing) : Type 0 where
   pub listing : IsListing new
   pub marks : marks_of new ≡ marks_of old
-  pub kept : (g : ℕ) (p : Pair) → slice_get old.pairs.keys g ≡ Some p → slice_get new.pairs.keys g ≡ Some p
+  pub kept : (g : ℕ) (p : Pair) → slice_get old.pairs.keys.items g ≡ Some p → slice_get new.pairs.keys.items g ≡ Some p
 
--- the groups are those of the same entries, where the pair is there already or goes last
-pub IsGrown-pair : (old new : Listing) (p : Pair) (there : Bool) → IsListing old → IsUnique same_pair new.pairs → list_any (same_pair p) old.pairs.keys ≡ there
-    → new.pairs.keys ≡ cond there old.pairs.keys (old.pairs.keys ++ p ∷ []) → new.lasts.items ≡ cond there old.lasts.items (old.lasts.items ++ None ∷ [])
+-- the groups are those of the same entries, where a new pair goes last
+pub IsGrown-pair : (old new : Listing) (p : Pair) → IsListing old → IsTree new.pairs → list_any (same_pair p) old.pairs.keys.items ≡ false
+    → new.pairs.keys.items ≡ old.pairs.keys.items ++ p ∷ [] → new.lasts.items ≡ old.lasts.items ++ None ∷ []
     → new.entries.items ≡ old.entries.items → IsGrown old new
-IsGrown-pair old new p true is apart found pairs lasts entries = record {
+IsGrown-pair old new p is tree absent pairs lasts entries = record {
   listing = record {
-    groups = rw (pairs, entries) is.groups;
-    apart = apart;
-    each = rw (pairs, lasts) is.each;
-    last = rw (pairs, lasts, entries) is.last;
+    groups = rw (pairs, entries) (GroupsAreIn-more_pairs old.pairs.keys.items p old.entries.items is.groups);
+    tree = tree;
+    each = rw (pairs, lasts) (omega (arith, length_push old.lasts.items None, length_push old.pairs.keys.items p, is.each));
+    last = rw (pairs, lasts, entries) (LastsAre-more_pairs old.pairs.keys.items p old.lasts.items old.entries.items is.groups is.each absent is.last);
   };
-  marks = rw (pairs, entries) refl;
-  kept = λ g q at. rw pairs at;
-}
-IsGrown-pair old new p false is apart found pairs lasts entries = record {
-  listing = record {
-    groups = rw (pairs, entries) (GroupsAreIn-more_pairs old.pairs.keys p old.entries.items is.groups);
-    apart = apart;
-    each = rw (pairs, lasts) (omega (arith, length_push old.lasts.items None, length_push old.pairs.keys p, is.each));
-    last = rw (pairs, lasts, entries) (LastsAre-more_pairs old.pairs.keys p old.lasts.items old.entries.items is.groups is.each found is.last);
-  };
-  marks = rw (pairs, entries) (marks-more_pairs old.pairs.keys p old.entries.items is.groups);
-  kept = λ g q at. rw pairs (slice_get-append old.pairs.keys (p ∷ []) g q at);
+  marks = rw (pairs, entries) (marks-more_pairs old.pairs.keys.items p old.entries.items is.groups);
+  kept = λ g q at. rw pairs (slice_get-append old.pairs.keys.items (p ∷ []) g q at);
 }

@@ -33,13 +33,13 @@ current_of p (m ∷ ms) =
 
 -- the marks of a listing's first n segments
 abbrev pub marks_to : Listing → ℕ → List MarkedKept
-marks_to l n = map (mark_of l.pairs.keys) (take n l.entries.items)
+marks_to l n = map (mark_of l.pairs.keys.items) (take n l.entries.items)
 
 -- what has grown of a listing's first segments: the connections, for each group its last one, and how many segments are
 -- unopened
 pub record HasGrown (listing : Listing) (n : ℕ) (g : Growth) : Type 0 where
   pub conns : g.conns.items ≡ conns_from 0 (marks_to listing n)
   pub unopened : g.unopened ≡ unopened_after [] (marks_to listing n)
-  pub each : length g.current.items ≡ length listing.pairs.keys
-  pub current : (q : ℕ) → q < length listing.pairs.keys
-      → slice_get g.current.items q ≡ Some (current_of (pair_at listing.pairs.keys q) (marks_to listing n))
+  pub each : length g.current.items ≡ length listing.pairs.keys.items
+  pub current : (q : ℕ) → q < length listing.pairs.keys.items
+      → slice_get g.current.items q ≡ Some (current_of (pair_at listing.pairs.keys.items q) (marks_to listing n))

@@ -7,6 +7,7 @@ pub mod KeptSegments
 pub mod Partials
 pub mod Groups
 pub mod Tables
+pub mod PairNumbers
 pub mod Listings
 pub mod Growing
 pub mod TableFacts

@@ -1,21 +1,15 @@
 -- What a listing of segments shows, and what holds of it.
-use Rattle.std.specs.Prelude.{◌≡◌, ◌<◌, ◌≤◌, ℕ, ◌-◌, ◌^◌, List, map, length, All, Some, get_or, slice_get, None}
-use Rattle.indexmap.specs.IndexSet.{IsUnique}
+use Rattle.std.specs.Prelude.{◌≡◌, ◌<◌, ◌≤◌, ℕ, ◌-◌, ◌^◌, List, map, length, All, Some, slice_get}
+pub use Rattle.conn_table.specs.PairNumbers.{nowhere, pair_at}
+use Rattle.conn_table.specs.PairNumbers.{IsTree}
 use Rattle.frame_headers.specs.Frame.{FrameClass}
 use Rattle.conn_table.specs.declared.class_counts.Counts.{Counts}
 use Rattle.conn_table.specs.ClassCounts.{count_at}
 use Rattle.conn_table.specs.declared.conns.Pair.{Pair}
 use Rattle.conn_table.specs.declared.listing.Entry.{Entry}
 use Rattle.conn_table.specs.declared.listing.Listing.{Listing}
-use Rattle.conn_table.specs.IndexedSegments.{same_pair}
 use Rattle.conn_table.specs.KeptSegments.{KeptSegment, last_opening}
 use Rattle.conn_table.specs.Partials.{MarkedKept, kept_of}
-
-abbrev pub nowhere : Pair
-nowhere = record { vlan = None; low = record { addr = 0; port = 0 }; high = record { addr = 0; port = 0 } }
-
-abbrev pub pair_at : List Pair → ℕ → Pair
-pair_at pairs g = get_or pairs g nowhere
 
 -- the segment of a pair that an entry keeps
 abbrev pub segment_with : Pair → Entry → KeptSegment
@@ -29,15 +23,15 @@ abbrev pub mark_of : List Pair → Entry → MarkedKept
 mark_of pairs e = record { begins = e.begins; kept = segment_of pairs e }
 
 abbrev pub marks_of : Listing → List MarkedKept
-marks_of l = map (mark_of l.pairs.keys) l.entries.items
+marks_of l = map (mark_of l.pairs.keys.items) l.entries.items
 
--- each entry's group has a pair, no two pairs are the same, and for each pair its last opening is kept
+-- each entry's group has a pair, each pair is found at its number and no other, and for each pair its last opening is kept
 pub record IsListing (l : Listing) : Type 0 where
-  pub groups : All (λ e. e.group < length l.pairs.keys) l.entries.items
-  pub apart : IsUnique same_pair l.pairs
-  pub each : length l.lasts.items ≡ length l.pairs.keys
-  pub last : (g : ℕ) → g < length l.pairs.keys
-      → slice_get l.lasts.items g ≡ Some (last_opening (kept_of (marks_of l)) (pair_at l.pairs.keys g))
+  pub groups : All (λ e. e.group < length l.pairs.keys.items) l.entries.items
+  pub tree : IsTree l.pairs
+  pub each : length l.lasts.items ≡ length l.pairs.keys.items
+  pub last : (g : ℕ) → g < length l.pairs.keys.items
+      → slice_get l.lasts.items g ≡ Some (last_opening (kept_of (marks_of l)) (pair_at l.pairs.keys.items g))
 
 -- the groups are those of the pairs, one by one
 abbrev pub AreGroupsOf : List Pair → List ℕ → List Pair → Type 0
@@ -50,5 +44,5 @@ pub record IsPartial (from to : ℕ) (counts : Counts) (l : Listing) : Type 0 wh
   pub ordered : from ≤ to
   pub few : to < 2 ^ 26
   pub segments : length l.entries.items ≤ to - from
-  pub pairs : length l.pairs.keys ≤ to - from
+  pub pairs : length l.pairs.keys.items ≤ to - from
   pub counted : (k : FrameClass) → count_at k counts ≤ to - from

@@ -8,6 +8,7 @@ mod class_counts;
 mod conns;
 pub mod laws;
 mod listing;
+mod pair_numbers;
 mod partial;
 mod rows;
 mod table;

@@ -3,8 +3,8 @@ ghost use Rattle.std.specs.Prelude.{◌≡◌, ◌==◌, ◌&&◌};
 ghost use Rattle.std.specs.Bool.{beq};
 
 use crate::conns::{Member, Pair, is_lower_or_same, pair_of};
+use crate::pair_numbers::PairNumbers;
 use frame_headers::{Flags, Segment};
-use indexmap::IndexSet;
 use pcap_records::Moment;
 use std::alloc::{AllocError, Global};
 
@@ -72,7 +72,7 @@ impl Entry {
 /// Segments in the order of the file, and for each pair, in the order of its first segment, its last opening.
 #[derive(Drop)]
 pub(crate) struct Listing {
-    pub(crate) pairs: IndexSet<Pair>,
+    pub(crate) pairs: PairNumbers,
     pub(crate) lasts: Vec<Option<Opening>>,
     pub(crate) entries: Vec<Entry>,
 }
@@ -89,11 +89,11 @@ impl Listing {
     pub(crate) fn with_room(alloc: Global, room: usize) -> Result<Listing, AllocError>
         ensures listing { IfOk result IsListing }
         ensures empty { IfOk result (λ l. l.entries.items ≡ []) }
-        ensures pairs { IfOk result (λ l. l.pairs.keys ≡ []) }
+        ensures pairs { IfOk result (λ l. l.pairs.keys.items ≡ []) }
     {
         let entries = Vec::with_capacity(alloc, room)?;
         Ok(Listing {
-            pairs: IndexSet::new(alloc),
+            pairs: PairNumbers::with_room(alloc, room)?,
             lasts: Vec::new(alloc),
             entries,
         })
@@ -102,34 +102,34 @@ impl Listing {
     // The number of a pair's group, which is made where there is none.
     pub(crate) fn group_of(&mut self, pair: Pair) -> Result<u32, AllocError>
         requires listing { IsListing self.old }
-        requires few { length self.old.pairs.keys < 2 ^ 31 }
+        requires few { length self.old.pairs.keys.items < 2 ^ 31 }
         ensures listing { OnOk result (IsListing self.new) }
         ensures marks { OnOk result (marks_of self.new ≡ marks_of self.old) }
         ensures entries { OnOk result (self.new.entries.items ≡ self.old.entries.items) }
-        ensures pair { IfOk result (λ g. slice_get self.new.pairs.keys g ≡ Some pair) }
-        ensures grown { OnOk result (length self.new.pairs.keys ≤ length self.old.pairs.keys + 1) }
+        ensures pair { IfOk result (λ g. slice_get self.new.pairs.keys.items g ≡ Some pair) }
+        ensures grown { OnOk result (length self.new.pairs.keys.items ≤ length self.old.pairs.keys.items + 1) }
 
         // The groups that there were keep their numbers.
         ensures kept { OnOk result ((g : ℕ) (p : Pair)
-            → slice_get self.old.pairs.keys g ≡ Some p → slice_get self.new.pairs.keys g ≡ Some p) }
+            → slice_get self.old.pairs.keys.items g ≡ Some p → slice_get self.new.pairs.keys.items g ≡ Some p) }
     {
-        let (group, is_new) = self.pairs.insert_full(pair)?;
+        let (group, is_new) = self.pairs.number_of(pair)?;
         if is_new {
             self.lasts.push(None)?;
         }
-        Ok(group as u32)
+        Ok(group)
     }
 
     // Lists one segment more, with the mark whether it begins a connection.
     pub(crate) fn add(&mut self, entry: Entry) -> Result<(), AllocError>
         requires listing { IsListing self.old }
-        requires group { entry.group < length self.old.pairs.keys }
+        requires group { entry.group < length self.old.pairs.keys.items }
         ensures listing { OnOk result (IsListing self.new) }
         ensures pairs { OnOk result (self.new.pairs ≡ self.old.pairs) }
         ensures len { OnOk result (length self.new.entries.items ≡ length self.old.entries.items + 1) }
         ensures marks { OnOk result (marks_of self.new
             ≡ marks_of self.old
-            ++ mark_behind (kept_of (marks_of self.old)) (segment_of self.old.pairs.keys entry) ∷ []) }
+            ++ mark_behind (kept_of (marks_of self.old)) (segment_of self.old.pairs.keys.items entry) ∷ []) }
     {
         let begins = self.takes_opening(&entry);
         self.entries.push(Entry { begins, ..entry })?;
@@ -139,13 +139,13 @@ impl Listing {
     // Whether an entry begins a connection. Its opening becomes the last one of its pair.
     fn takes_opening(&mut self, entry: &Entry) -> bool
         requires listing { IsListing self.old }
-        requires group { entry.now.group < length self.old.pairs.keys }
+        requires group { entry.now.group < length self.old.pairs.keys.items }
         ensures begins { result
-            ≡ begins_behind (kept_of (marks_of self.old)) (segment_of self.old.pairs.keys entry.now) }
+            ≡ begins_behind (kept_of (marks_of self.old)) (segment_of self.old.pairs.keys.items entry.now) }
         ensures pairs { self.new.pairs ≡ self.old.pairs }
         ensures entries { self.new.entries.items ≡ self.old.entries.items }
         ensures lasts { self.new.lasts.items
-            ≡ lasts_after self.old.lasts.items (segment_of self.old.pairs.keys entry.now) entry.now.group }
+            ≡ lasts_after self.old.lasts.items (segment_of self.old.pairs.keys.items entry.now) entry.now.group }
     {
         if !entry.opens() {
             return false;
@@ -164,12 +164,12 @@ impl Listing {
         segment: &Segment<'_>,
     ) -> Result<(), AllocError>
         requires listing { IsListing self.old }
-        requires few { length self.old.pairs.keys < 2 ^ 31 }
+        requires few { length self.old.pairs.keys.items < 2 ^ 31 }
         requires within { start + segment.now.offset < 2 ^ 32 }
         requires short { length segment.now.payload.now < 2 ^ 16 }
         ensures listing { OnOk result (IsListing self.new) }
         ensures len { OnOk result (length self.new.entries.items ≡ length self.old.entries.items + 1) }
-        ensures grown { OnOk result (length self.new.pairs.keys ≤ length self.old.pairs.keys + 1) }
+        ensures grown { OnOk result (length self.new.pairs.keys.items ≤ length self.old.pairs.keys.items + 1) }
         ensures marks { OnOk result (marks_of self.new
             ≡ marks_of self.old ++ mark_behind (kept_of (marks_of self.old))
             (kept_at (start + segment.now.offset) (segment_read index at (fields_of_segment segment.now))) ∷ []) }
@@ -195,12 +195,12 @@ impl Listing {
     pub(crate) fn append(&mut self, next: &Listing) -> Result<(), AllocError>
         requires listing { IsListing self.old }
         requires next { IsListing next.now }
-        requires few { length self.old.pairs.keys + length next.now.pairs.keys < 2 ^ 31 }
+        requires few { length self.old.pairs.keys.items + length next.now.pairs.keys.items < 2 ^ 31 }
         ensures listing { OnOk result (IsListing self.new) }
         ensures len { OnOk result (length self.new.entries.items
             ≡ length self.old.entries.items + length next.now.entries.items) }
-        ensures grown { OnOk result (length self.new.pairs.keys
-            ≤ length self.old.pairs.keys + length next.now.pairs.keys) }
+        ensures grown { OnOk result (length self.new.pairs.keys.items
+            ≤ length self.old.pairs.keys.items + length next.now.pairs.keys.items) }
         ensures marks { OnOk result (marks_of self.new
             ≡ marks_of self.old ++ marked_behind (kept_of (marks_of self.old)) (kept_of (marks_of next.now))) }
     {
@@ -215,12 +215,12 @@ impl Listing {
     // For each of some pairs the number of its group here.
     fn groups_of(&mut self, pairs: &[Pair]) -> Result<Vec<u32>, AllocError>
         requires listing { IsListing self.old }
-        requires few { length self.old.pairs.keys + length pairs.now < 2 ^ 31 }
+        requires few { length self.old.pairs.keys.items + length pairs.now < 2 ^ 31 }
         ensures listing { OnOk result (IsListing self.new) }
         ensures marks { OnOk result (marks_of self.new ≡ marks_of self.old) }
         ensures entries { OnOk result (self.new.entries.items ≡ self.old.entries.items) }
-        ensures grown { OnOk result (length self.new.pairs.keys ≤ length self.old.pairs.keys + length pairs.now) }
-        ensures groups { IfOk result (λ groups. AreGroupsOf self.new.pairs.keys groups.items pairs.now) }
+        ensures grown { OnOk result (length self.new.pairs.keys.items ≤ length self.old.pairs.keys.items + length pairs.now) }
+        ensures groups { IfOk result (λ groups. AreGroupsOf self.new.pairs.keys.items groups.items pairs.now) }
     {
         let alloc = *self.entries.allocator();
         let mut groups = Vec::with_capacity(alloc, pairs.len())?;

@@ -14,10 +14,10 @@ returns-clause-listing c =
     record {
       groups =
           rw (pushed, told.entries, told.pairs)
-          (All-push (λ (e : Entry). e.group < length old.pairs.keys) old.entries.items _ was.groups c.requires.group);
-      apart = rw told.pairs was.apart;
-      each = rw (told.lasts, told.pairs) (length-lasts_after old.lasts.items (segment_of old.pairs.keys c.args.entry) c.args.entry.group ∙ was.each);
+          (All-push (λ (e : Entry). e.group < length old.pairs.keys.items) old.entries.items _ was.groups c.requires.group);
+      tree = rw told.pairs was.tree;
+      each = rw (told.lasts, told.pairs) (length-lasts_after old.lasts.items (segment_of old.pairs.keys.items c.args.entry) c.args.entry.group ∙ was.each);
       last =
           rw (pushed, told.entries, told.pairs, told.lasts)
-          (LastsAre-push old.pairs.keys old.lasts.items old.entries.items _ was.apart was.each c.requires.group was.last);
+          (LastsAre-push old.pairs.keys.items old.lasts.items old.entries.items _ was.tree.apart was.each c.requires.group was.last);
     }

@@ -14,5 +14,5 @@ loop-pair-preserved c =
       grown = omega (arith, told.grown, was.grown);
       groups =
           rw c.in_ok-push.ensures.items
-          (AreGroupsOf-more c.loop-pair.self.pairs.keys _ c.loop-pair.groups.items c.args.pairs.now c.loop-pair.pair-index c.in_ok-group_of.field-0 _ told.kept was.groups c.loop-pair-test.true (get_or_default c.args.pairs.now c.loop-pair.pair-index _ _ c.loop-pair-test.true) told.pair);
+          (AreGroupsOf-more c.loop-pair.self.pairs.keys.items _ c.loop-pair.groups.items c.args.pairs.now c.loop-pair.pair-index c.in_ok-group_of.field-0 _ told.kept was.groups c.loop-pair-test.true (get_or_default c.args.pairs.now c.loop-pair.pair-index _ _ c.loop-pair-test.true) told.pair);
     }

@@ -7,6 +7,6 @@ invariant-loop-pair l = record {
   listing : IsListing l.self;
   marks : marks_of l.self ≡ marks_of l.fn.self;
   entries : l.self.entries.items ≡ l.fn.self.entries.items;
-  grown : length l.self.pairs.keys ≤ length l.fn.self.pairs.keys + l.pair-index;
-  groups : AreGroupsOf l.self.pairs.keys l.groups.items (take l.pair-index l.pairs);
+  grown : length l.self.pairs.keys.items ≤ length l.fn.self.pairs.keys.items + l.pair-index;
+  groups : AreGroupsOf l.self.pairs.keys.items l.groups.items (take l.pair-index l.pairs);
 }

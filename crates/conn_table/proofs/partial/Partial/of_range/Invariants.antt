@@ -8,7 +8,7 @@ abbrev pub invariant-loop-index : goal.invariant-loop-index
 invariant-loop-index l = record {
   listing : IsListing l.listing;
   segments : length l.listing.entries.items ≤ l.index - l.from;
-  pairs : length l.listing.pairs.keys ≤ l.index - l.from;
+  pairs : length l.listing.pairs.keys.items ≤ l.index - l.from;
   at : l.at ≡ carried l.capture l.from l.index l.fn.carry;
   counts : l.counts ≡ counts_of (packets_between l.capture l.from l.index l.fn.carry);
   marks : marks_of l.listing ≡ map (marked_in l.capture) (marked_after [] (segments_between l.capture l.from l.index l.fn.carry));

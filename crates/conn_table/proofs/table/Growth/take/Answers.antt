@@ -18,7 +18,7 @@ add_member-requires c =
     let at : IsEntryAt l c.args.at e = record {
       within = c.requires.within;
       is = c.index.ensures;
-      group = group_of_item l.pairs.keys l.entries.items c.args.at e c.requires.listing.groups c.requires.within c.index.ensures;
+      group = group_of_item l.pairs.keys.items l.entries.items c.args.at e c.requires.listing.groups c.requires.within c.index.ensures;
     } in
     let found = current_at l c.args.at e c.args.self.now c.index-else-entry.result.now at c.requires.grown c.index-else-entry.ensures ∙ c.in-Some.is in
     number-few l c.args.at e c.args.self.now c.in-Some.current at c.requires.grown found
@@ -31,9 +31,9 @@ returns-in_ok-begin c =
     let at : IsEntryAt l c.args.at e = record {
       within = c.requires.within;
       is = c.index.ensures;
-      group = group_of_item l.pairs.keys l.entries.items c.args.at e c.requires.listing.groups c.requires.within c.index.ensures;
+      group = group_of_item l.pairs.keys.items l.entries.items c.args.at e c.requires.listing.groups c.requires.within c.index.ensures;
     } in
-    grown-begun l c.args.at e c.args.self.now c.begin.new.self c.requires.listing at c.requires.grown c.if-entry.true (rw c.as_slice.ensures.keys at told.conns) told.current told.unopened
+    grown-begun l c.args.at e c.args.self.now c.begin.new.self c.requires.listing at c.requires.grown c.if-entry.true (rw c.as_slice.ensures at told.conns) told.current told.unopened
 
 pub returns-in_ok-add_member : goal.returns-in_ok-add_member
 returns-in_ok-add_member c =
@@ -42,7 +42,7 @@ returns-in_ok-add_member c =
     let at : IsEntryAt l c.args.at e = record {
       within = c.requires.within;
       is = c.index.ensures;
-      group = group_of_item l.pairs.keys l.entries.items c.args.at e c.requires.listing.groups c.requires.within c.index.ensures;
+      group = group_of_item l.pairs.keys.items l.entries.items c.args.at e c.requires.listing.groups c.requires.within c.index.ensures;
     } in
     let found = current_at l c.args.at e c.args.self.now c.index-else-entry.result.now at c.requires.grown c.index-else-entry.ensures ∙ c.in-Some.is in
     grown-member l c.args.at e c.args.self.now _ c.in-Some.current at c.requires.grown c.if-entry.false found (rw c.member_of.ensures at c.in_ok-add_member.ensures) refl refl
@@ -54,7 +54,7 @@ returns-in_default c =
     let at : IsEntryAt l c.args.at e = record {
       within = c.requires.within;
       is = c.index.ensures;
-      group = group_of_item l.pairs.keys l.entries.items c.args.at e c.requires.listing.groups c.requires.within c.index.ensures;
+      group = group_of_item l.pairs.keys.items l.entries.items c.args.at e c.requires.listing.groups c.requires.within c.index.ensures;
     } in
     let none = current_at l c.args.at e c.args.self.now c.index-else-entry.result.now at c.requires.grown c.index-else-entry.ensures ∙ c.in_default.is in
     grown-unopened l c.args.at e c.args.self.now _ at c.requires.grown c.if-entry.false none refl refl refl

@@ -11,6 +11,6 @@ returns c =
     record {
       conns = c.in_ok-with_capacity.ensures.items;
       unopened = refl;
-      each = rw items (length-replicate c.len.result None ∙ c.len.ensures.len);
+      each = rw items (length-replicate c.len.result None ∙ c.len.ensures);
       current = λ q within. rw items (slice_get-replicate c.len.result q None (omega arith));
     }

@@ -26,15 +26,15 @@ returns-then-number c =
     let slot = c.loop-pair.slot in
     let number = c.index-number.result.now in
     let holds : number ≡ held t.links.items slot = c.index-number.ensures ∙ get_or_default t.links.items slot number no_number was.within in
-    let free : held t.links.items slot ≡ no_number = sym holds ∙ c.if-number.true in
+    let free : held t.links.items slot ≡ no_number = omega (arith, holds, c.if-number.true) in
     record {
       absent =
           absent-from t.keys.items c.args.pair
           (λ g within same. let is : g ≡ no_number = none-behind t.links.items t.heads slot c.loop-pair.rest g (was.left g within same) free in
           omega (arith, is, within, c.requires.few));
-      within = was.within;
+      within = omega (arith, was.within);
       leads = record { steps = was.walked.0; to = slot; rest = c.loop-pair.rest; leads = was.walked.1; holds = free };
-      ends = refl;
+      ends = omega arith;
     }
 
 pub returns-then-eq : goal.returns-then-eq

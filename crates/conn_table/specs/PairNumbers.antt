@@ -15,8 +15,12 @@ pair_at pairs g = get_or pairs g nowhere
 
 -- ---- paths
 
-unfoldable pub stirred : ℕ → ℕ → ℕ
-stirred bits factor = (bit_xor bits (bits / 2 ^ 64) * factor) % 2 ^ 128
+-- the upper half of 128 bits put into the lower one
+abbrev pub folded : ℕ → ℕ
+folded bits = bit_xor bits (bits / 2 ^ 64)
+
+unfoldable pub mixed : ℕ → ℕ → ℕ
+mixed bits factor = (folded bits * factor) % 2 ^ 128
 
 abbrev pub vlan_bits : Option ℕ → ℕ
 vlan_bits None = 0
@@ -26,12 +30,9 @@ vlan_bits (Some v) = 2 * v + 1
 abbrev pub pair_bits : Pair → ℕ
 pair_bits p = (p.low.addr * 2 ^ 32 + p.high.addr) * 2 ^ 64 + (vlan_bits p.vlan * 2 ^ 32 + p.low.port * 2 ^ 16 + p.high.port)
 
-abbrev pub folded : ℕ → ℕ
-folded bits = bit_xor bits (bits / 2 ^ 64)
-
 -- no proof asks more of a path than that a pair has one
 unfoldable pub path_of : Pair → ℕ
-path_of p = folded (stirred (stirred (pair_bits p) 0x2d35_8dcc_aa6c_78a5_8bb8_4b93_962e_acc9) 0xda94_2042_e4dd_58b5_a076_1d64_78bd_642f)
+path_of p = folded (mixed (mixed (pair_bits p) 0x2d35_8dcc_aa6c_78a5_8bb8_4b93_962e_acc9) 0xda94_2042_e4dd_58b5_a076_1d64_78bd_642f)
 
 unfoldable pub first_slot : ℕ → ℕ → ℕ
 first_slot heads path = bit_and (path / 2 ^ 64) (heads - 1)
@@ -39,7 +40,7 @@ first_slot heads path = bit_and (path / 2 ^ 64) (heads - 1)
 -- ---- slots
 
 abbrev pub no_number : ℕ
-no_number = 4294967295
+no_number = 2 ^ 32 - 1
 
 abbrev pub held : List ℕ → ℕ → ℕ
 held links slot = get_or links slot no_number
@@ -64,7 +65,7 @@ pub record LeadsToNumber (links : List ℕ) (heads slot path number : ℕ) : Typ
 
 -- ---- trees
 
--- no pair stands twice, the path of each leads to its number, and numbers rise along every path
+-- no pair stands twice, the path of each leads to its number, and along every path slots stand further and further on
 pub record IsTree (t : PairNumbers) : Type 0 where
   pub some : 0 < t.heads
   pub few : t.heads ≤ 2 ^ 33

@@ -1,9 +1,10 @@
 //! The numbers of pairs, in the order in which they came.
 //!
-//! A number is found in a tree whose branches are the bits of the pair's path. Two pairs have two paths, so that no look-up takes
-//! more steps than a path has bits, whatever pairs there are: no choice of pairs makes it slow.
+//! A number is found in a tree. The path of a pair, its bits well mixed, begins at one of many heads, and each of its bits leads
+//! from a number on to one of two slots. A number that stands k steps further on has the same first k bits as the path. Two pairs
+//! have two paths, so after 128 steps the pair itself has come: no look-up takes more, whatever pairs a capture has.
 ghost use Rattle.std.specs.Prelude.{◌≡◌, ◌<◌, ◌^◌};
-ghost use Rattle.conn_table.specs.PairNumbers.{stirred, path_of, first_slot};
+ghost use Rattle.conn_table.specs.PairNumbers.{mixed, path_of, first_slot};
 
 use crate::conns::Pair;
 use std::alloc::{AllocError, Global};
@@ -12,7 +13,7 @@ use std::alloc::{AllocError, Global};
 const NO_NUMBER: u32 = u32::MAX;
 
 /// The most heads that a tree begins with.
-const MOST_ROOM: usize = 1 << 16;
+const MOST_FIRST_HEADS: usize = 1 << 16;
 
 /// Pairs without repeats, each with its place as its number, and the tree in which they are found.
 #[derive(Drop)]
@@ -32,17 +33,20 @@ pub(crate) enum Place {
     Free(usize),
 }
 
-#[tactic(auto, unfolding(crate::specs::PairNumbers::stirred))]
-// Half of the bits stirred into the others. It can be undone: each half of the bits is known before the other is used, and an
-// odd factor has an inverse.
-fn stirred(bits: u128, factor: u128) -> u128
-    ensures { result ≡ stirred bits factor }
+// The bits mixed. It can be undone: the upper half stays as it is and is taken out of the lower one, and an odd factor has an
+// inverse.
+#[tactic(auto, unfolding(crate::specs::PairNumbers::mixed))]
+#[inline(always)]
+fn mixed(bits: u128, factor: u128) -> u128
+    ensures { result ≡ mixed bits factor }
 {
     (bits ^ (bits >> 64)).wrapping_mul(factor)
 }
 
+// The path of a pair: its fields side by side, mixed. Two pairs have two paths, since all that is done can be undone. No proof
+// needs that: it bounds the time alone.
 #[tactic(auto, unfolding(crate::specs::PairNumbers::path_of))]
-// The path of a pair: its fields side by side, stirred. Two pairs have two paths, since each step can be undone.
+#[inline(always)]
 fn path_of(pair: Pair) -> u128
     ensures { result ≡ path_of pair }
 {
@@ -53,13 +57,14 @@ fn path_of(pair: Pair) -> u128
     let ports = (vlan << 32) + (u128::from(pair.low.port) << 16) + u128::from(pair.high.port);
     let peers = (u128::from(pair.low.addr) << 32) + u128::from(pair.high.addr);
     let bits = (peers << 64) + ports;
-    let bits = stirred(bits, 0x2d35_8dcc_aa6c_78a5_8bb8_4b93_962e_acc9);
-    let bits = stirred(bits, 0xda94_2042_e4dd_58b5_a076_1d64_78bd_642f);
+    let bits = mixed(bits, 0x2d35_8dcc_aa6c_78a5_8bb8_4b93_962e_acc9);
+    let bits = mixed(bits, 0xda94_2042_e4dd_58b5_a076_1d64_78bd_642f);
     bits ^ (bits >> 64)
 }
 
-#[tactic(auto, unfolding(crate::specs::PairNumbers::first_slot), using(std::proofs::lemmas::Nat::and_le_r))]
 // The slot at which a path begins. It is chosen by the path's higher bits, and the steps by the lower ones first.
+#[tactic(auto, unfolding(crate::specs::PairNumbers::first_slot), using(std::proofs::lemmas::Nat::and_le_r))]
+#[inline(always)]
 fn first_slot(heads: usize, path: u128) -> usize
     requires some { 0 < heads }
     requires fits { path < 2 ^ 128 }
@@ -81,7 +86,7 @@ impl PairNumbers {
         ensures empty { IfOk result (λ numbers. numbers.keys.items ≡ []) }
     {
         let mut heads = 1;
-        while heads < room && heads < MOST_ROOM {
+        while heads < room && heads < MOST_FIRST_HEADS {
             heads *= 2;
         }
         PairNumbers::with_heads(alloc, heads)
@@ -115,7 +120,8 @@ impl PairNumbers {
         &self.keys
     }
 
-    // Where the path of a pair ends.
+    // Where the path of a pair ends. Each step takes a bit of the path, and leads to a slot that stands further on.
+    #[inline(always)]
     fn place_of(&self, pair: Pair) -> Place
         requires tree { IsTree self.now }
         requires few { length self.now.keys.items ≤ 2 ^ 31 }
@@ -136,7 +142,7 @@ impl PairNumbers {
         }
     }
 
-    // The next number for a pair, whose path ends at a free slot.
+    // The next number for a pair whose path ends at a free slot.
     fn push(&mut self, pair: Pair, slot: usize) -> Result<(), AllocError>
         requires tree { IsTree self.old }
         requires few { length self.old.keys.items < 2 ^ 31 }
@@ -177,7 +183,7 @@ impl PairNumbers {
         ensures keys { IfOk result (λ r. self.new.keys.items
             ≡ (if r.1 then self.old.keys.items ++ pair ∷ [] else self.old.keys.items)) }
         ensures number { IfOk result (λ r. slice_get self.new.keys.items r.0 ≡ Some pair) }
-        ensures apart { IfOk result (λ r. r.1 ≡ not (list_any (same_pair pair) self.old.keys.items)) }
+        ensures is_new { IfOk result (λ r. r.1 ≡ not (list_any (same_pair pair) self.old.keys.items)) }
     {
         match self.place_of(pair) {
             Place::Number(number) => Ok((number, false)),

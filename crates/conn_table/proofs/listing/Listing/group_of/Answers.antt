@@ -9,7 +9,7 @@ grown : (c : goal.In_ok-push) → IsGrown c.args.self.now (record c.args.self.no
 grown c =
     let told = c.in_ok-group.ensures in
     let there : Bool = list_any (same_pair c.args.pair) c.args.self.now.pairs.keys.items in
-    let absent : there ≡ false = not-true there (sym told.apart ∙ c.if-is_new.true) in
+    let absent : there ≡ false = not-true there (sym told.is_new ∙ c.if-is_new.true) in
     IsGrown-pair c.args.self.now _ c.args.pair c.requires.listing told.tree absent (rw c.if-is_new.true at told.keys) c.in_ok-push.ensures.items refl
 
 pub returns-in_ok-push-clause-listing : goal.returns-in_ok-push-clause-listing

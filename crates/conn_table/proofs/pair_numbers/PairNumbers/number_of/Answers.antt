@@ -2,8 +2,8 @@ use Rattle.std.proofs.Common.{not, sym, ap}
 use Rattle.conn_table.proofs.PairTrees.{slice_get-end, found-any}
 use Rattle.conn_table.proofs.pair_numbers.PairNumbers.number_of.Goals as goal
 
-pub returns-in-Number-clause-apart : goal.returns-in-Number-clause-apart
-returns-in-Number-clause-apart c = sym (ap not (found-any c.args.self.now.keys.items c.args.pair c.in-Number.number c.in-Number.ensures))
+pub returns-in-Number-clause-is_new : goal.returns-in-Number-clause-is_new
+returns-in-Number-clause-is_new c = sym (ap not (found-any c.args.self.now.keys.items c.args.pair c.in-Number.number c.in-Number.ensures))
 
 pub returns-in_ok-self-in-Free-clause-number : goal.returns-in_ok-self-in-Free-clause-number
 returns-in_ok-self-in-Free-clause-number c =

@@ -1,4 +1,4 @@
--- Walks along the paths of pairs, and the tree with one more pair.
+-- Walks along the mixes of pairs, and the tree with one more pair.
 use Rattle.std.proofs.Common.{◌≡◌, ◌≢◌, ◌<◌, ◌≤◌, ◌^◌, ◌/◌, ℕ, zero, suc, ◌+◌, ◌*◌, ◌⊎◌, Bool, true, false, List, [], ◌∷◌, ◌++◌, length, replicate, set, take, get_or, slice_get, Some, refl, sym, ap, ◌∙◌, arith, inl, inr}
 use Rattle.std.specs.List.{list_any, IsDistinct}
 use Rattle.std.specs.Cmp.{IsEquivalence}
@@ -11,51 +11,51 @@ use Rattle.std.proofs.lemmas.Map.Keys.{IsDistinct-push}
 use Rattle.conn_table.specs.declared.conns.Pair.{Pair}
 use Rattle.conn_table.specs.declared.pair_numbers.PairNumbers.{PairNumbers}
 use Rattle.conn_table.specs.IndexedSegments.{same_pair}
-use Rattle.conn_table.specs.PairNumbers.{nowhere, pair_at, path_of, first_slot, no_number, held, slot_behind, Leads, LeadsToNumber, IsTree, IsFree}
+use Rattle.conn_table.specs.PairNumbers.{nowhere, pair_at, mix_of, first_slot, no_number, held, slot_after, Leads, LeadsToNumber, IsTree, IsFree}
 use Rattle.conn_table.proofs.Peers.{same_pair-is, same_pair-itself, same_pair-sym}
 
 -- ---- walks
 
 -- one step more at the end
-pub leads-more : (links : List ℕ) (heads n slot path to rest : ℕ) → Leads links heads n slot path to rest → held links to ≢ no_number
-    → Leads links heads (suc n) slot path (slot_behind heads (held links to) rest) (rest / 2)
-leads-more links heads zero slot path to rest at taken = rw (at.0, at.1) (taken, (refl, refl))
-leads-more links heads (suc n) slot path to rest at taken = (at.0, leads-more links heads n (slot_behind heads (held links slot) path) (path / 2) to rest at.1 taken)
+pub leads-more : (links : List ℕ) (heads n slot mix to rest : ℕ) → Leads links heads n slot mix to rest → held links to ≢ no_number
+    → Leads links heads (suc n) slot mix (slot_after heads (held links to) rest) (rest / 2)
+leads-more links heads zero slot mix to rest at taken = rw (at.0, at.1) (taken, (refl, refl))
+leads-more links heads (suc n) slot mix to rest at taken = (at.0, leads-more links heads n (slot_after heads (held links slot) mix) (mix / 2) to rest at.1 taken)
 
 -- a slot that holds no number leads to none
-by_end : (links : List ℕ) (heads n slot path to rest g : ℕ) → Leads links heads n slot path to rest → held links to ≡ g → held links slot ≡ no_number → g ≡ no_number
-by_end links heads zero slot path to rest g at holds free = sym holds ∙ (ap (held links) (sym at.0) ∙ free)
-by_end links heads (suc n) slot path to rest g at holds free = absurd (at.0 free)
+by_end : (links : List ℕ) (heads n slot mix to rest g : ℕ) → Leads links heads n slot mix to rest → held links to ≡ g → held links slot ≡ no_number → g ≡ no_number
+by_end links heads zero slot mix to rest g at holds free = sym holds ∙ (ap (held links) (sym at.0) ∙ free)
+by_end links heads (suc n) slot mix to rest g at holds free = absurd (at.0 free)
 
-pub none-behind : (links : List ℕ) (heads slot path g : ℕ) → LeadsToNumber links heads slot path g → held links slot ≡ no_number → g ≡ no_number
-none-behind links heads slot path g led free = by_end links heads led.steps slot path led.to led.rest g led.leads led.holds free
+pub none-after : (links : List ℕ) (heads slot mix g : ℕ) → LeadsToNumber links heads slot mix g → held links slot ≡ no_number → g ≡ no_number
+none-after links heads slot mix g led free = by_end links heads led.steps slot mix led.to led.rest g led.leads led.holds free
 
 -- a slot that holds another number leads on behind that
-by_step : (links : List ℕ) (heads n slot path to rest g : ℕ) → Leads links heads n slot path to rest → held links to ≡ g → (held links slot ≡ g → ⊥)
-    → LeadsToNumber links heads (slot_behind heads (held links slot) path) (path / 2) g
-by_step links heads zero slot path to rest g at holds other = absurd (other (ap (held links) at.0 ∙ holds))
-by_step links heads (suc n) slot path to rest g at holds other = record { steps = n; to = to; rest = rest; leads = at.1; holds = holds }
+by_step : (links : List ℕ) (heads n slot mix to rest g : ℕ) → Leads links heads n slot mix to rest → held links to ≡ g → (held links slot ≡ g → ⊥)
+    → LeadsToNumber links heads (slot_after heads (held links slot) mix) (mix / 2) g
+by_step links heads zero slot mix to rest g at holds other = absurd (other (ap (held links) at.0 ∙ holds))
+by_step links heads (suc n) slot mix to rest g at holds other = record { steps = n; to = to; rest = rest; leads = at.1; holds = holds }
 
-pub left-behind : (links : List ℕ) (heads slot path g : ℕ) → LeadsToNumber links heads slot path g → (held links slot ≡ g → ⊥)
-    → LeadsToNumber links heads (slot_behind heads (held links slot) path) (path / 2) g
-left-behind links heads slot path g led other = by_step links heads led.steps slot path led.to led.rest g led.leads led.holds other
+pub left-after : (links : List ℕ) (heads slot mix g : ℕ) → LeadsToNumber links heads slot mix g → (held links slot ≡ g → ⊥)
+    → LeadsToNumber links heads (slot_after heads (held links slot) mix) (mix / 2) g
+left-after links heads slot mix g led other = by_step links heads led.steps slot mix led.to led.rest g led.leads led.holds other
 
 -- ---- more slots are taken
 
 abbrev pub KeepsTaken : List ℕ → List ℕ → Type 0
 KeepsTaken old new = (slot : ℕ) → held old slot ≢ no_number → held new slot ≡ held old slot
 
-pub leads-kept : (old new : List ℕ) (heads n slot path to rest : ℕ) → KeepsTaken old new → Leads old heads n slot path to rest → Leads new heads n slot path to rest
-leads-kept old new heads zero slot path to rest kept at = at
-leads-kept old new heads (suc n) slot path to rest kept at =
-    rw (kept slot at.0) (at.0, leads-kept old new heads n (slot_behind heads (held old slot) path) (path / 2) to rest kept at.1)
+pub leads-kept : (old new : List ℕ) (heads n slot mix to rest : ℕ) → KeepsTaken old new → Leads old heads n slot mix to rest → Leads new heads n slot mix to rest
+leads-kept old new heads zero slot mix to rest kept at = at
+leads-kept old new heads (suc n) slot mix to rest kept at =
+    rw (kept slot at.0) (at.0, leads-kept old new heads n (slot_after heads (held old slot) mix) (mix / 2) to rest kept at.1)
 
-pub number-kept : (old new : List ℕ) (heads slot path g : ℕ) → KeepsTaken old new → g ≢ no_number → LeadsToNumber old heads slot path g → LeadsToNumber new heads slot path g
-number-kept old new heads slot path g kept some led = record {
+pub number-kept : (old new : List ℕ) (heads slot mix g : ℕ) → KeepsTaken old new → g ≢ no_number → LeadsToNumber old heads slot mix g → LeadsToNumber new heads slot mix g
+number-kept old new heads slot mix g kept some led = record {
   steps = led.steps;
   to = led.to;
   rest = led.rest;
-  leads = leads-kept old new heads led.steps slot path led.to led.rest kept led.leads;
+  leads = leads-kept old new heads led.steps slot mix led.to led.rest kept led.leads;
   holds = kept led.to (λ none. some (sym led.holds ∙ none)) ∙ led.holds;
 }
 
@@ -109,10 +109,10 @@ absent-from keys p none =
     (λ k d within. false_from_ne_true (same_pair p (get_or keys k d))
     (λ same. none k within (get_or_default keys k nowhere d within ∙ sym (same_pair-is p (get_or keys k d) same))))
 
--- the paths of the pairs lead to their numbers
+-- the mixes of the pairs lead to their numbers
 abbrev pub AreFound : ℕ → List Pair → List ℕ → Type 0
 AreFound heads keys links =
-    (g : ℕ) → g < length keys → LeadsToNumber links heads (first_slot heads (path_of (pair_at keys g))) (path_of (pair_at keys g)) g
+    (g : ℕ) → g < length keys → LeadsToNumber links heads (first_slot heads (mix_of (pair_at keys g))) (mix_of (pair_at keys g)) g
 
 AreFound-push : (t : PairNumbers) (p : Pair) (slot : ℕ) → IsTree t → IsFree t p slot → length t.keys.items < 2 ^ 31
     → AreFound t.heads (t.keys.items ++ p ∷ []) (with_number t.links.items slot (length t.keys.items))
@@ -128,7 +128,7 @@ AreFound-push t p slot is free few g within = by_place (cases_eq g (length t.key
     kept = taken-kept t.links.items slot (length t.keys.items) none
 
     by_place : (g ≡ length t.keys.items) ⊎ (g ≡ length t.keys.items → ⊥)
-        → LeadsToNumber (with_number t.links.items slot (length t.keys.items)) t.heads (first_slot t.heads (path_of (pair_at (t.keys.items ++ p ∷ []) g))) (path_of (pair_at (t.keys.items ++ p ∷ []) g)) g
+        → LeadsToNumber (with_number t.links.items slot (length t.keys.items)) t.heads (first_slot t.heads (mix_of (pair_at (t.keys.items ++ p ∷ []) g))) (mix_of (pair_at (t.keys.items ++ p ∷ []) g)) g
     by_place (inl last) =
         let new : pair_at (t.keys.items ++ p ∷ []) g ≡ p = get_or_at t.keys.items p [] nowhere g (sym last) in
         let there : held (with_number t.links.items slot (length t.keys.items)) free.leads.to ≡ g =
@@ -137,14 +137,14 @@ AreFound-push t p slot is free few g within = by_place (cases_eq g (length t.key
           steps = free.leads.steps;
           to = free.leads.to;
           rest = free.leads.rest;
-          leads = leads-kept t.links.items (with_number t.links.items slot (length t.keys.items)) t.heads free.leads.steps (first_slot t.heads (path_of p)) (path_of p) free.leads.to free.leads.rest kept free.leads.leads;
+          leads = leads-kept t.links.items (with_number t.links.items slot (length t.keys.items)) t.heads free.leads.steps (first_slot t.heads (mix_of p)) (mix_of p) free.leads.to free.leads.rest kept free.leads.leads;
           holds = there;
         })
     by_place (inr before) =
         let old : g < length t.keys.items = omega (arith, length_push t.keys.items p, before) in
         let few_g : g ≢ no_number = omega (arith, old, few) in
         rw (get_or_append_left t.keys.items (p ∷ []) nowhere g old)
-        (number-kept t.links.items (with_number t.links.items slot (length t.keys.items)) t.heads (first_slot t.heads (path_of (pair_at t.keys.items g))) (path_of (pair_at t.keys.items g)) g kept few_g (is.found g old))
+        (number-kept t.links.items (with_number t.links.items slot (length t.keys.items)) t.heads (first_slot t.heads (mix_of (pair_at t.keys.items g))) (mix_of (pair_at t.keys.items g)) g kept few_g (is.found g old))
 
 pub IsTree-push : (old new : PairNumbers) (p : Pair) (slot : ℕ) → IsTree old → IsFree old p slot → length old.keys.items < 2 ^ 31
     → new.heads ≡ old.heads → new.keys.items ≡ old.keys.items ++ p ∷ [] → new.links.items ≡ with_number old.links.items slot (length old.keys.items) → IsTree new

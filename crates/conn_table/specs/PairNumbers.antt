@@ -13,7 +13,7 @@ nowhere = record { vlan = None; low = record { addr = 0; port = 0 }; high = reco
 abbrev pub pair_at : List Pair → ℕ → Pair
 pair_at pairs g = get_or pairs g nowhere
 
--- ---- paths
+-- ---- mixes
 
 -- the upper half of 128 bits put into the lower one
 abbrev pub folded : ℕ → ℕ
@@ -30,12 +30,12 @@ vlan_bits (Some v) = 2 * v + 1
 abbrev pub pair_bits : Pair → ℕ
 pair_bits p = (p.low.addr * 2 ^ 32 + p.high.addr) * 2 ^ 64 + (vlan_bits p.vlan * 2 ^ 32 + p.low.port * 2 ^ 16 + p.high.port)
 
--- no proof asks more of a path than that a pair has one
-unfoldable pub path_of : Pair → ℕ
-path_of p = folded (mixed (mixed (pair_bits p) 0x2d35_8dcc_aa6c_78a5_8bb8_4b93_962e_acc9) 0xda94_2042_e4dd_58b5_a076_1d64_78bd_642f)
+-- no proof asks more of a mix than that a pair has one
+unfoldable pub mix_of : Pair → ℕ
+mix_of p = folded (mixed (mixed (pair_bits p) 0x2d35_8dcc_aa6c_78a5_8bb8_4b93_962e_acc9) 0xda94_2042_e4dd_58b5_a076_1d64_78bd_642f)
 
 unfoldable pub first_slot : ℕ → ℕ → ℕ
-first_slot heads path = bit_and (path / 2 ^ 64) (heads - 1)
+first_slot heads mix = bit_and (mix / 2 ^ 64) (heads - 1)
 
 -- ---- slots
 
@@ -45,27 +45,27 @@ no_number = 2 ^ 32 - 1
 abbrev pub held : List ℕ → ℕ → ℕ
 held links slot = get_or links slot no_number
 
--- the slot behind a number, by the next bit of a path
-abbrev pub slot_behind : ℕ → ℕ → ℕ → ℕ
-slot_behind heads number path = heads + 2 * number + path % 2
+-- the slot after a number, by the next bit of a mix
+abbrev pub slot_after : ℕ → ℕ → ℕ → ℕ
+slot_after heads number mix = heads + 2 * number + mix % 2
 
--- from a slot along a path, so many steps over numbers lead to a slot, with the rest of the path
+-- from a slot along a mix, so many steps over numbers lead to a slot, with the rest of the mix
 abbrev pub Leads : List ℕ → ℕ → ℕ → ℕ → ℕ → ℕ → ℕ → Type 0
-Leads links heads zero slot path to rest = (slot ≡ to) × (path ≡ rest)
-Leads links heads (suc n) slot path to rest =
-    (held links slot ≢ no_number) × Leads links heads n (slot_behind heads (held links slot) path) (path / 2) to rest
+Leads links heads zero slot mix to rest = (slot ≡ to) × (mix ≡ rest)
+Leads links heads (suc n) slot mix to rest =
+    (held links slot ≢ no_number) × Leads links heads n (slot_after heads (held links slot) mix) (mix / 2) to rest
 
--- from a slot along a path some steps lead to a slot that holds a number
-pub record LeadsToNumber (links : List ℕ) (heads slot path number : ℕ) : Type 0 where
+-- from a slot along a mix some steps lead to a slot that holds a number
+pub record LeadsToNumber (links : List ℕ) (heads slot mix number : ℕ) : Type 0 where
   pub steps : ℕ
   pub to : ℕ
   pub rest : ℕ
-  pub leads : Leads links heads steps slot path to rest
+  pub leads : Leads links heads steps slot mix to rest
   pub holds : held links to ≡ number
 
 -- ---- trees
 
--- no pair stands twice, the path of each leads to its number, and along every path slots stand further and further on
+-- no pair stands twice, the mix of each leads to its number, and along every mix slots stand further and further on
 pub record IsTree (t : PairNumbers) : Type 0 where
   pub some : 0 < t.heads
   pub few : t.heads ≤ 2 ^ 33
@@ -73,14 +73,14 @@ pub record IsTree (t : PairNumbers) : Type 0 where
   pub known : (slot : ℕ) → held t.links.items slot ≢ no_number → held t.links.items slot < length t.keys.items
   pub rising : (slot : ℕ) → held t.links.items slot ≢ no_number → slot < t.heads + 2 * held t.links.items slot
   pub found : (g : ℕ) → g < length t.keys.items
-      → LeadsToNumber t.links.items t.heads (first_slot t.heads (path_of (pair_at t.keys.items g))) (path_of (pair_at t.keys.items g)) g
+      → LeadsToNumber t.links.items t.heads (first_slot t.heads (mix_of (pair_at t.keys.items g))) (mix_of (pair_at t.keys.items g)) g
   pub apart : IsDistinct same_pair t.keys.items
 
--- no number is the pair's, and its path leads to a free slot
+-- no number is the pair's, and its mix leads to a free slot
 pub record IsFree (t : PairNumbers) (p : Pair) (slot : ℕ) : Type 0 where
   pub absent : list_any (same_pair p) t.keys.items ≡ false
   pub within : slot < length t.links.items
-  pub leads : LeadsToNumber t.links.items t.heads (first_slot t.heads (path_of p)) (path_of p) no_number
+  pub leads : LeadsToNumber t.links.items t.heads (first_slot t.heads (mix_of p)) (mix_of p) no_number
   pub ends : leads.to ≡ slot
 
 abbrev pub IsPlaceOf : PairNumbers → Pair → Place → Type 0

@@ -1,10 +1,11 @@
 //! The numbers of pairs, in the order in which they came.
 //!
-//! A number is found in a tree. The path of a pair, its bits well mixed, begins at one of many heads, and each of its bits leads
-//! from a number on to one of two slots. A number that stands k steps further on has the same first k bits as the path. Two pairs
-//! have two paths, so after 128 steps the pair itself has come: no look-up takes more, whatever pairs a capture has.
+//! A number is found in a tree. The mix of a pair, its fields well mixed in 128 bits, tells at which of many heads the search begins,
+//! and each of its bits leads from a number on to one of two slots. A number that stands k steps further on has the same first k bits
+//! in its pair's mix. Two pairs have two mixes, so after 128 steps the pair itself has come: no look-up takes more, whatever pairs a
+//! capture has.
 ghost use Rattle.std.specs.Prelude.{◌≡◌, ◌<◌, ◌^◌};
-ghost use Rattle.conn_table.specs.PairNumbers.{mixed, path_of, first_slot};
+ghost use Rattle.conn_table.specs.PairNumbers.{mixed, mix_of, first_slot};
 
 use crate::conns::Pair;
 use std::alloc::{AllocError, Global};
@@ -18,15 +19,15 @@ const MOST_FIRST_HEADS: usize = 1 << 16;
 /// Pairs without repeats, each with its place as its number, and the tree in which they are found.
 #[derive(Drop)]
 pub(crate) struct PairNumbers {
-    /// How many slots a path may begin at: a power of two.
+    /// How many slots a search may begin at: a power of two.
     pub(crate) heads: usize,
     /// The pairs, in the order of their numbers.
     pub(crate) keys: Vec<Pair>,
-    /// The slots: the heads, and behind them two for each number, for paths that go on with a 0 or a 1.
+    /// The slots: the heads, and after them two for each number, for mixes that go on with a 0 or a 1.
     pub(crate) links: Vec<u32>,
 }
 
-/// Where a path ends: at the number of its pair, or at a free slot.
+/// Where a search ends: at the number of its pair, or at a free slot.
 #[derive(Clone, Copy, Debug)]
 pub(crate) enum Place {
     Number(u32),
@@ -43,12 +44,12 @@ fn mixed(bits: u128, factor: u128) -> u128
     (bits ^ (bits >> 64)).wrapping_mul(factor)
 }
 
-// The path of a pair: its fields side by side, mixed. Two pairs have two paths, since all that is done can be undone. No proof
+// The mix of a pair: its fields side by side, mixed. Two pairs have two mixes, since all that is done can be undone. No proof
 // needs that: it bounds the time alone.
-#[tactic(auto, unfolding(crate::specs::PairNumbers::path_of))]
+#[tactic(auto, unfolding(crate::specs::PairNumbers::mix_of))]
 #[inline(always)]
-fn path_of(pair: Pair) -> u128
-    ensures { result ≡ path_of pair }
+fn mix_of(pair: Pair) -> u128
+    ensures { result ≡ mix_of pair }
 {
     let vlan = match pair.vlan {
         Some(vlan) => 2 * u128::from(vlan) + 1,
@@ -62,16 +63,16 @@ fn path_of(pair: Pair) -> u128
     bits ^ (bits >> 64)
 }
 
-// The slot at which a path begins. It is chosen by the path's higher bits, and the steps by the lower ones first.
+// The slot at which the search for a mix begins. It is chosen by its higher bits, and the steps by the lower ones first.
 #[tactic(auto, unfolding(crate::specs::PairNumbers::first_slot), using(std::proofs::lemmas::Nat::and_le_r))]
 #[inline(always)]
-fn first_slot(heads: usize, path: u128) -> usize
+fn first_slot(heads: usize, mix: u128) -> usize
     requires some { 0 < heads }
-    requires fits { path < 2 ^ 128 }
-    ensures slot { result ≡ first_slot heads path }
+    requires fits { mix < 2 ^ 128 }
+    ensures slot { result ≡ first_slot heads mix }
     ensures within { result < heads }
 {
-    (path >> 64) as usize & (heads - 1)
+    (mix >> 64) as usize & (heads - 1)
 }
 
 impl PairNumbers {
@@ -120,14 +121,14 @@ impl PairNumbers {
         &self.keys
     }
 
-    // Where the path of a pair ends. Each step takes a bit of the path, and leads to a slot that stands further on.
+    // Where the search for a pair ends. Each step takes a bit of its mix, and leads to a slot that stands further on.
     #[inline(always)]
     fn place_of(&self, pair: Pair) -> Place
         requires tree { IsTree self.now }
         requires few { length self.now.keys.items ≤ 2 ^ 31 }
         ensures { IsPlaceOf self.now pair result }
     {
-        let mut rest = path_of(pair);
+        let mut rest = mix_of(pair);
         let mut slot = first_slot(self.heads, rest);
         loop {
             let number = self.links[slot];
@@ -142,7 +143,7 @@ impl PairNumbers {
         }
     }
 
-    // The next number for a pair whose path ends at a free slot.
+    // The next number for a pair whose search ends at a free slot.
     fn push(&mut self, pair: Pair, slot: usize) -> Result<(), AllocError>
         requires tree { IsTree self.old }
         requires few { length self.old.keys.items < 2 ^ 31 }
@@ -158,7 +159,7 @@ impl PairNumbers {
         Ok(())
     }
 
-    // The same pairs with four times the heads, so that paths stay short.
+    // The same pairs with four times the heads, so that searches stay short.
     fn widened(&self, alloc: Global) -> Result<PairNumbers, AllocError>
         requires tree { IsTree self.now }
         requires few { length self.now.keys.items ≤ 2 ^ 31 }

@@ -3,20 +3,20 @@ use Rattle.std.proofs.lemmas.List.{get_or_default}
 use Rattle.std.proofs.lemmas.Option.{slice_get_read}
 use Rattle.conn_table.specs.declared.conns.Pair.{Pair}
 use Rattle.conn_table.specs.IndexedSegments.{same_pair}
-use Rattle.conn_table.specs.PairNumbers.{nowhere, pair_at, path_of, first_slot, no_number, held}
+use Rattle.conn_table.specs.PairNumbers.{nowhere, pair_at, mix_of, first_slot, no_number, held}
 use Rattle.conn_table.proofs.Peers.{same_pair-is, same_pair-itself}
-use Rattle.conn_table.proofs.PairTrees.{leads-more, none-behind, left-behind, absent-from, number-known}
+use Rattle.conn_table.proofs.PairTrees.{leads-more, none-after, left-after, absent-from, number-known}
 use Rattle.conn_table.proofs.pair_numbers.PairNumbers.place_of.Goals as goal
 
 pub loop-pair-init : goal.loop-pair-init
 loop-pair-init c =
     let tree = c.requires.tree in
-    let path = c.path_of-rest.ensures in
-    let slot = rw path at c.first_slot-slot.ensures.slot in
+    let mix = c.mix_of-rest.ensures in
+    let slot = rw mix at c.first_slot-slot.ensures.slot in
     record {
       within = omega (arith, c.first_slot-slot.ensures.within, tree.slots);
-      walked = (0, (sym slot, sym path));
-      left = λ g within same. rw (slot, path) (rw same at (tree.found g within));
+      walked = (0, (sym slot, sym mix));
+      left = λ g within same. rw (slot, mix) (rw same at (tree.found g within));
     }
 
 pub returns-then-number : goal.returns-then-number
@@ -30,7 +30,7 @@ returns-then-number c =
     record {
       absent =
           absent-from t.keys.items c.args.pair
-          (λ g within same. let is : g ≡ no_number = none-behind t.links.items t.heads slot c.loop-pair.rest g (was.left g within same) free in
+          (λ g within same. let is : g ≡ no_number = none-after t.links.items t.heads slot c.loop-pair.rest g (was.left g within same) free in
           omega (arith, is, within, c.requires.few));
       within = omega (arith, was.within);
       leads = record { steps = was.walked.0; to = slot; rest = c.loop-pair.rest; leads = was.walked.1; holds = free };
@@ -62,10 +62,10 @@ loop-pair-preserved c =
     record {
       within = omega (arith, known.0, c.requires.tree.slots);
       walked =
-          (suc was.walked.0, rw holds (leads-more t.links.items t.heads was.walked.0 (first_slot t.heads (path_of c.args.pair)) (path_of c.args.pair) slot rest was.walked.1 taken));
+          (suc was.walked.0, rw holds (leads-more t.links.items t.heads was.walked.0 (first_slot t.heads (mix_of c.args.pair)) (mix_of c.args.pair) slot rest was.walked.1 taken));
       left = λ g within same.
           rw holds
-          (left-behind t.links.items t.heads slot rest g (was.left g within same)
+          (left-after t.links.items t.heads slot rest g (was.left g within same)
           (λ here.
           let is : key ≡ c.args.pair = c.index.ensures ∙ (get_or_default t.keys.items number key nowhere known.0 ∙ (ap (pair_at t.keys.items) (holds ∙ here) ∙ same)) in
           let equal : c.eq.result ≡ true = c.eq.ensures ∙ (ap (λ (p : Pair). same_pair p c.args.pair) is ∙ same_pair-itself c.args.pair) in

@@ -5,7 +5,7 @@ ghost use Rattle.conn_workers.specs.CaptureTables.{whole_table};
 use super::checks::check;
 use conn_table::laws::tables_agree;
 use conn_table::{Partial, Table, finish};
-use conn_workers::{Delivery, deliver};
+use conn_workers::{Delivery, Recordings, deliver, deliver_row, deliver_row_alone, record};
 use job_matrix::{Gate, Phase, Plan, Through};
 use pcap_records::{Capture, Moment, read_capture};
 use scenarios::{Hosts, Scenario, read_scenario};
@@ -164,6 +164,55 @@ fn a_row_for_each_scenario(rt: HostRuntime) -> Result<(), Fail> {
     check_rows(&rt, alloc, &scenarios, 2)?;
     check_rows(&rt, alloc, &scenarios, 4)?;
     check_rows(&rt, alloc, &scenarios, 16)?;
+    Ok(())
+}
+
+// Whether a row is the second one of these.
+fn is_second_row(row: &[Delivery]) -> bool {
+    let first = is_delivery(row, 0, (1, 0), 3, FIRST_LINE);
+    first && is_delivery(row, 1, (1, 1), 2, REFUSED_LINE) && row.len() == 2
+}
+
+// That one thread alone and workers give the second row, of what is recorded.
+fn check_second_row<R: Abort + Threads + Sync>(
+    rt: &R,
+    alloc: Global,
+    recordings: &Recordings<'_, '_>,
+    plan: Plan,
+) -> Result<(), Fail>
+    requires { length recordings.now ≤ 256 }
+{
+    let second = scenario(alloc, &[DISABLED])?;
+    let row = deliver_row_alone(alloc, recordings, 1, &second, 42)?;
+    check(rt, "alone", is_second_row(row.as_slice()));
+    let row = deliver_row(rt, alloc, recordings, 1, &second, 42, plan, &Through)?;
+    check(rt, "by workers", is_second_row(row.as_slice()));
+    Ok(())
+}
+
+// The same of what is recorded of a file, by so many workers.
+fn check_recorded_row<R: Abort + Threads + Sync>(
+    rt: &R,
+    alloc: Global,
+    bytes: &[u8],
+    workers: u32,
+) -> Result<(), Fail> {
+    let capture = read_capture(alloc, bytes)?;
+    let table = whole_table(alloc, &capture)?;
+    let plan = Plan::new(workers, 4096).ok_or("no such plan")?;
+    let recordings = record(rt, alloc, &capture, &table, plan, &Through)?;
+    if recordings.as_slice().len() != 2 {
+        return Err("not two recordings")?;
+    }
+    check_second_row(rt, alloc, &recordings, plan)
+}
+
+#[test]
+fn a_row_of_what_is_recorded(rt: HostRuntime) -> Result<(), Fail> {
+    let alloc = rt.alloc();
+    let bytes = file(alloc, true, &segments())?;
+    check_recorded_row(&rt, alloc, &bytes, 1)?;
+    check_recorded_row(&rt, alloc, &bytes, 2)?;
     Ok(())
 }
 

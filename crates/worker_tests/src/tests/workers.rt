@@ -2,7 +2,7 @@
 ghost use Rattle.std.specs.Prelude.{◌≤◌, ◌^◌};
 
 use super::checks::check;
-use job_matrix::{Gate, Phase, Through, Work, work_all};
+use job_matrix::{Gate, Phase, Through, Work, work_all, work_alone};
 use std::alloc::{AllocError, Global};
 use std::process::Abort;
 use std::sync::atomic::{AtomicU64, Ordering};
@@ -109,6 +109,16 @@ fn want_of_memory_in_one_job(rt: HostRuntime) {
 }
 
 #[test]
+fn values_after_want_of_memory_alone(rt: HostRuntime) -> Result<(), Fail> {
+    let work = Tripled { refused: Some(3) };
+    let answer = work_alone(rt.alloc(), 5, Phase::Jobs, &Through, &work);
+    check(&rt, "want of memory", answer.is_err());
+    let values = work_alone(rt.alloc(), 3, Phase::Jobs, &Through, &work)?;
+    check(&rt, "values", are_tripled(values.as_slice(), 3));
+    Ok(())
+}
+
+#[test]
 fn job_held_until_the_next_has_passed(rt: HostRuntime) -> Result<(), Fail> {
     let work = Tripled { refused: None };
     let gate = Holding::new(Phase::Jobs);
@@ -190,5 +200,67 @@ fn each_job_passes_the_gate_first_and_is_done_once(rt: HostRuntime) -> Result<()
         lanes.passed.load(Ordering::SeqCst) == once,
     );
     check(&rt, "done once", lanes.done.load(Ordering::SeqCst) == once);
+    Ok(())
+}
+
+// A gate and a work whose jobs come in turn, each after it has passed the gate once: at any other job there is no memory.
+#[derive(Drop)]
+struct InTurn {
+    passed: AtomicU64,
+    done: AtomicU64,
+}
+
+impl Gate for InTurn {
+    fn pass(&self, phase: Phase, job: u64) {
+        let in_turn = phase == Phase::Lines && self.passed.load(Ordering::SeqCst) == job;
+        let passed = if in_turn {
+            job.saturating_add(1)
+        } else {
+            u64::MAX
+        };
+        self.passed.store(passed, Ordering::SeqCst);
+    }
+}
+
+impl Work for InTurn {
+    type Out = u64;
+
+    ghost use Rattle.std.specs.Prelude.{◌^◌};
+
+    ghost jobs = { λ work. 2 ^ 32 };
+
+    ghost meaning = { λ work job. job };
+
+    fn value(&self, job: u64) -> Result<u64, AllocError> {
+        if self.passed.load(Ordering::SeqCst) != job.saturating_add(1) {
+            return Err(AllocError);
+        }
+        self.done.fetch_add(1, Ordering::SeqCst);
+        Ok(job)
+    }
+}
+
+// Whether five jobs were done, once each, and these are their values.
+fn are_in_turn(work: &InTurn, values: &[u64]) -> bool {
+    let passed = work.passed.load(Ordering::SeqCst);
+    let done = work.done.load(Ordering::SeqCst);
+    passed == 5 && done == 5 && values == [0, 1, 2, 3, 4].as_slice()
+}
+
+// No clause speaks of the order in which one worker passes the gate.
+#[test]
+fn one_worker_does_the_jobs_in_turn(rt: HostRuntime) -> Result<(), Fail> {
+    let work = InTurn {
+        passed: AtomicU64::new(0),
+        done: AtomicU64::new(0),
+    };
+    let values = work_alone(rt.alloc(), 5, Phase::Lines, &work, &work)?;
+    check(&rt, "alone", are_in_turn(&work, values.as_slice()));
+    let work = InTurn {
+        passed: AtomicU64::new(0),
+        done: AtomicU64::new(0),
+    };
+    let values = work_all(&rt, rt.alloc(), 5, 1, Phase::Lines, &work, &work)?;
+    check(&rt, "one worker", are_in_turn(&work, values.as_slice()));
     Ok(())
 }

@@ -159,15 +159,7 @@ fn store_for_text<H: Threads + Wait + Sync, S: Shelf>(
 {
     let bytes = capture_bytes(alloc, text)?;
     let read = read_texts(alloc, texts, &options.hosts)?;
-    store_rehearsal(
-        rt,
-        alloc,
-        &bytes,
-        &read,
-        options.seed,
-        options.plan,
-        shelf,
-    )
+    store_rehearsal(rt, alloc, &bytes, &read, options.seed, options.plan, shelf)
 }
 
 // The bytes of the capture that a text holds: those of the dump where the text is taken for one,

@@ -1,5 +1,5 @@
 -- Outputs of scenarios, one of them or some from a number on.
-use Rattle.std.proofs.Common.{◌≡◌, ◌<◌, ◌≤◌, ℕ, ◌+◌, ◌-◌, List, [], ◌∷◌, length, map, take, drop, get_or, refl, sym, ap, ◌∙◌, arith}
+use Rattle.std.proofs.Common.{◌≡◌, ◌<◌, ◌≤◌, ℕ, ◌+◌, ◌-◌, List, length, map, take, drop, get_or, sym, ap, ◌∙◌, arith}
 use Rattle.std.specs.List.{enumerate_from, range_with_len}
 use Rattle.std.proofs.lemmas.List.{get_or-map, length-map, length-drop, length-append, length-take-le, take_all, take-append-drop, get_or-take, get_or-drop}
 use Rattle.std.proofs.lemmas.List.FromFn.{length-enumerate_from, fill_by_all}
@@ -11,7 +11,6 @@ use Rattle.conn_workers.specs.DeliveryLaws.{RowsAreContributed}
 use Rattle.conn_workers.specs.DeliveryRows.{connections_of, delivery_of}
 use Rattle.conn_workers.specs.Recordings.{RecordingView, recordings_of, recorded_delivery, recorded_row}
 use Rattle.toxicap.proofs.WholeTables.{as_many_recorded}
-use Rattle.run_files.specs.declared.outputs.Output.{Output}
 use Rattle.scenarios.specs.declared.proxies.Proxy.{Proxy}
 use Rattle.toxicap.specs.Rehearsal.{output, outputs_of}
 use Rattle.toxicap.specs.StoredOutputs.{no_output}

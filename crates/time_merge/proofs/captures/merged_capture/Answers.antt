@@ -1,4 +1,4 @@
-use Rattle.std.proofs.Common.{rules, ◌≡◌, true, false, List, ◌∷◌, [], ◌++◌, refl, ap, ◌∙◌, subst}
+use Rattle.std.proofs.Common.{rules, true, false, List, ◌∷◌, [], ◌++◌, refl, ap, ◌∙◌, subst}
 use Rattle.std.specs.List.Sorted.{IsPermutation}
 use Rattle.std.proofs.lemmas.Iterator.{YieldsList-from_slice, YieldsList-from_map_by}
 use Rattle.std.proofs.lemmas.Iterator.Consumers.{YieldsList-from_enumerate, YieldsList-at}

@@ -1,4 +1,4 @@
-use Rattle.std.proofs.Common.{◌≡◌, [], length, refl, arith}
+use Rattle.std.proofs.Common.{[], refl, arith}
 use Rattle.std.proofs.lemmas.Result.{err_from_is_err_and}
 use Rattle.toxicap.proofs.StoringEnds.{none_consumed}
 use Rattle.toxicap.proofs.runs.answer_into.Goals as goal

@@ -1,11 +1,9 @@
-use Rattle.std.proofs.Common.{◌≡◌, ◌≤◌, ℕ, List, length, take, drop, sym, ap, ◌∙◌, arith}
+use Rattle.std.proofs.Common.{◌≤◌, List, length, take, drop, sym, ap, ◌∙◌, arith}
 use Rattle.std.proofs.lemmas.List.{take_all}
 use Rattle.std.proofs.lemmas.Result.{err_from_is_err_and}
 use Rattle.pcap_records.specs.CaptureView.{contents_of}
 use Rattle.conn_table.specs.SeenCapture.{SeenCapture, seen_capture}
 use Rattle.run_files.specs.declared.outputs.Output.{Output}
-use Rattle.run_files.specs.Shelves.{StoredFile, Takes}
-use Rattle.run_files.specs.WrittenOutputs.{files_from}
 use Rattle.toxicap.specs.Rehearsal.{outputs_of}
 use Rattle.toxicap.proofs.OutputSteps.{length-outputs_of}
 use Rattle.toxicap.proofs.StoredSteps.{taken_more, stops_among, stops_before}

@@ -1,4 +1,4 @@
-use Rattle.std.proofs.Common.{ℕ, List, ap, ◌∙◌}
+use Rattle.std.proofs.Common.{◌∙◌}
 use Rattle.std.proofs.lemmas.Result.{IfOk-weaker}
 use Rattle.pcap_records.specs.CaptureView.{contents_of}
 use Rattle.conn_table.specs.SeenCapture.{SeenCapture, seen_capture}

@@ -7,13 +7,13 @@
 #![tactic(auto)]
 
 mod deliveries;
+mod delivery_rows;
 mod jobs;
 pub mod laws;
 mod recordings;
-mod rows;
 mod scenario_jobs;
 
 pub use deliveries::{Deliveries, Delivery, deliver};
+pub use delivery_rows::{deliver_row, deliver_row_alone};
 pub use jobs::Recording;
 pub use recordings::{Recordings, record, report_lines};
-pub use rows::{deliver_row, deliver_row_alone};

@@ -4,13 +4,13 @@ use Rattle.std.proofs.lemmas.Result.{IfOk-weaker}
 use Rattle.pcap_records.proofs.Lists.{listed}
 use Rattle.scenarios.specs.declared.proxies.Proxy.{Proxy}
 use Rattle.conn_workers.specs.Recordings.{recorded_delivery, recorded_row, no_delivery}
-use Rattle.conn_workers.proofs.rows.deliver_row_alone.Goals as goal
+use Rattle.conn_workers.proofs.delivery_rows.deliver_row.Goals as goal
 
 pub returns : goal.returns
-returns c =
+returns g c =
     let under : ℕ × List Proxy = (c.args.number, c.args.scenario.now) in
     let own = c.as_slice-recordings.result.now in
-    IfOk-weaker c.work_alone.result _ _
+    IfOk-weaker c.work_all.result _ _
     (λ v is. is ∙ listed (recorded_row c.args.seed under own) (length own) no_delivery (length-map own (recorded_delivery c.args.seed under))
     ∙ ap (recorded_row c.args.seed under) c.as_slice-recordings.ensures)
-    c.work_alone.ensures
+    c.work_all.ensures

@@ -5,8 +5,8 @@ ghost use Rattle.run_files.specs.Shelves.{path_in};
 
 use crate::error::ShelfError;
 use std::alloc::{AllocError, Global};
-use std::fs;
-use std::io::Write;
+use std::fs::{self, OpenOptions};
+use std::io::{ErrorKind, Write};
 use std::marker::Model;
 use std::rt::Files;
 
@@ -162,15 +162,24 @@ impl Shelf for MemoryShelf {
 // The longest name that a file may have on Linux, in bytes.
 const NAME_LIMIT: usize = 255;
 
+// The name of a file of a folder while it is written.
+const UNFINISHED: &str = "toxicap.unfinished";
+
 /// A folder that exists, as a shelf: each file that is put is made in it, or replaced. It tells no files, since others may change
 /// them; contracts see its path and the number of its failures.
 ///
-/// A file that cannot be made or written whole is a failure, and so is any file in a folder that is not there. A part of the file
-/// may then stay in the folder. A name with a slash, or of more than 255 bytes, is a failure too. No file that is put takes memory.
+/// A file is written as `toxicap.unfinished`, and takes its name when it is whole: at any time the file of a name is the old one whole
+/// or the new one whole, also where the program is killed or the disk is full. What a killed program leaves of an unfinished file is
+/// replaced by the next file that is put.
+///
+/// A file that cannot be made or written whole is a failure, and so is any file in a folder that is not there, and a name that stands
+/// for a folder or a file that may not be written. A name with a slash, or of more than 255 bytes, is a failure too. No file that is
+/// put takes memory.
 #[derive(Drop)]
 pub struct Folder<'a, F: Files> {
     files: &'a F,
     folder: &'a str,
+    unfinished: String,
     path: String,
     failed: u64,
 }
@@ -193,10 +202,13 @@ impl<'a, F: Files> Folder<'a, F> {
     pub fn new(alloc: Global, files: &'a F, folder: &'a str) -> Result<Self, AllocError>
         ensures { IfOk result (λ f. f ≡ record { folder = folder.now; failed = 0 }) }
     {
+        let mut unfinished = String::new(alloc);
+        set_path(&mut unfinished, folder, UNFINISHED)?;
         let path = String::with_capacity(alloc, folder.len() + 1 + NAME_LIMIT)?;
         Ok(Folder {
             files,
             folder,
+            unfinished,
             path,
             failed: 0,
         })
@@ -219,10 +231,36 @@ impl<'a, F: Files> Folder<'a, F> {
         }
         // The path has room for it.
         set_path(&mut self.path, self.folder, name).unwrap();
-        let mut file = fs::create(self.files, self.path.as_str())?;
-        file.write_all(bytes)?;
-        Ok(())
+        let (unfinished, path) = (self.unfinished.as_str(), self.path.as_str());
+        allow_name(self.files, path)?;
+        let outcome = write_whole(self.files, unfinished, path, bytes);
+        if outcome.is_err() {
+            let _ = fs::remove_file(self.files, unfinished);
+        }
+        outcome
     }
+}
+
+// Refuses a path that stands for a folder, or for a file that may not be written.
+fn allow_name<F: Files>(files: &F, path: &str) -> Result<(), ShelfError> {
+    match OpenOptions::new().write(true).open(files, path) {
+        Ok(_) => Ok(()),
+        Err(error) if error.kind() == ErrorKind::NotFound => Ok(()),
+        Err(error) => Err(ShelfError::from(error)),
+    }
+}
+
+// Writes a file under one path, and gives it another when it is whole.
+fn write_whole<F: Files>(
+    files: &F,
+    unfinished: &str,
+    path: &str,
+    bytes: &[u8],
+) -> Result<(), ShelfError> {
+    let mut file = fs::create(files, unfinished)?;
+    file.write_all(bytes)?;
+    fs::rename(files, unfinished, path)?;
+    Ok(())
 }
 
 impl<'a, F: Files> Shelf for Folder<'a, F> {

@@ -12,3 +12,4 @@ pub mod WholeSegments
 pub mod OneOrderLaw
 pub mod KeyTimes
 pub mod KeysApart
+pub mod LaidSteps

@@ -148,3 +148,19 @@ module _ (parts : List LinePart) (here : Cursor) (left : ℕ) (out whole : List 
       let after : drop taken (left_at parts here) ≡ bytes_of_parts ps =
       ap (drop taken) (left_is parts here p ps e (omega arith)) ∙ ap (λ n. drop n (ys ++ bytes_of_parts ps)) size ∙ drop-append_seam ys (bytes_of_parts ps) in
       copying_to (record { part = next; offset = 0 }) cursor (is ∙ sym after)
+
+-- ---- passing over a piece
+
+-- the same of what is passed over: as if it had been copied somewhere
+pub record Skipping (parts : List LinePart) (here : Cursor) (left : ℕ) (whole : List ℕ) (behind : List LineByte) : Type 0 where
+  pub out : List ℕ
+  pub copying : Copying parts here left out whole behind
+
+module _ (parts : List LinePart) (here : Cursor) (left : ℕ) (whole : List ℕ) (behind : List LineByte) (was : Skipping parts here left whole behind)
+    (p : LinePart) (ps : List LinePart) (e : drop here.part parts ≡ p ∷ ps) (taken : ℕ) (fits : taken ≡ min left (length (rest_of here.offset p.bytes.now))) where
+  pub skipping_on : taken < length (rest_of here.offset p.bytes.now) → Skipping parts (record { part = here.part; offset = here.offset + taken }) (left - taken) whole behind
+  skipping_on some = record { out = was.out ++ take taken (rest_of here.offset p.bytes.now); copying = copying_on parts here left was.out whole behind was.copying p ps e taken fits _ refl some }
+
+  pub skipping_over : length (rest_of here.offset p.bytes.now) ≤ taken → (next : ℕ) → IsCursor parts (record { part = next; offset = 0 }) → bytes_of_parts (drop next parts) ≡ bytes_of_parts ps
+      → Skipping parts (record { part = next; offset = 0 }) (left - taken) whole behind
+  skipping_over all next cursor is = record { out = was.out ++ take taken (rest_of here.offset p.bytes.now); copying = copying_over parts here left was.out whole behind was.copying p ps e taken fits _ refl all next cursor is }

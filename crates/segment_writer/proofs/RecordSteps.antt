@@ -12,10 +12,12 @@ use Rattle.frame_headers.specs.declared.written.Header.{Header}
 use Rattle.reassembly.specs.RecordedLines.{LineByte}
 use Rattle.reassembly.specs.LineView.{bytes_of_parts}
 use Rattle.reassembly.specs.declared.line_parts.LinePart.{LinePart}
-use Rattle.segment_writer.specs.WrittenSegments.{SentSegment, is_chunk_border}
+use Rattle.segment_writer.specs.WrittenSegments.{SentSegment, is_chunk_border, opening_segment}
 use Rattle.segment_writer.specs.FirstPieces.{run, piece_size, values, first_instant, first_of}
 use Rattle.segment_writer.specs.LineCursors.{left_at, IsCursor}
 use Rattle.segment_writer.specs.Senders.{header_with, frame_with, framed_by, piece_segment}
+use Rattle.segment_writer.specs.LaidSegments.{framed_of}
+use Rattle.segment_writer.specs.declared.laid.Laid.{Laid}
 use Rattle.segment_writer.specs.declared.framed.SegKey.{SegKey}
 use Rattle.segment_writer.specs.declared.framed.Framed.{Framed}
 use Rattle.segment_writer.specs.declared.pieces.Cursor.{Cursor}
@@ -76,6 +78,34 @@ record_is n h ticks at len xs payload is count room =
     let size : n + len ≡ length (headers h payload ++ payload) = omega (arith, length-append (headers h payload) payload, room, ap (λ ys. length (headers h ys)) back, count) in
     ap (λ ys. take record_header_len xs ++ frame_with h ys) back ∙ ap (λ ys. ys ++ (headers h payload ++ payload)) (front ∙ ap (record_header ticks at) size)
 
+-- ---- a record at the end of what was written
+
+-- the slice from some length on
+abbrev pub slice_from : ℕ → List ℕ → List ℕ
+slice_from begin xs = take (length xs - begin) (drop begin xs)
+
+pub appended_is : (n ticks at len begin : ℕ) (out slice whole payload : List ℕ) → slice ≡ whole → whole ≡ (out ++ opened_record n ticks at len) ++ payload → begin ≡ length out → slice_from begin slice ≡ opened_record n ticks at len ++ payload
+appended_is n ticks at len begin out slice whole payload same is count =
+    let all : slice ≡ out ++ (opened_record n ticks at len ++ payload) = same ∙ is ∙ append_assoc out (opened_record n ticks at len) payload in
+    take_all (length slice - begin) (drop begin slice) (omega (arith, length-drop begin slice))
+    ∙ ap (drop begin) all ∙ drop_at out (opened_record n ticks at len ++ payload) begin (sym count)
+
+-- where the slice of a record that was opened and filled is closed, the record is appended
+pub put_is : (n : ℕ) (h : Header) (ticks at len begin vec_len : ℕ) (out slice whole new payload : List ℕ) → slice ≡ whole → whole ≡ (out ++ opened_record n ticks at (n + len)) ++ payload → begin ≡ length out → length payload ≡ len
+    → new ≡ take record_header_len (slice_from begin slice) ++ frame_with h (drop (whole_len n) (slice_from begin slice)) → length (headers h (drop (whole_len n) (slice_from begin slice))) ≡ n
+    → length new ≡ length (slice_from begin slice) → vec_len ≡ length whole
+    → take vec_len (put_mid begin (length slice - begin) slice new ++ drop (length (put_mid begin (length slice - begin) slice new)) whole) ≡ out ++ record_bytes ticks at (frame_with h payload)
+put_is n h ticks at len begin vec_len out slice whole new payload same is count size closed room kept all =
+    let filled = appended_is n ticks at (n + len) begin out slice whole payload same is count in
+    let whole_slice : slice ≡ out ++ (opened_record n ticks at (n + len) ++ payload) = same ∙ is ∙ append_assoc out (opened_record n ticks at (n + len)) payload in
+    let new_is : new ≡ record_bytes ticks at (frame_with h payload) = closed ∙ record_is n h ticks at len (slice_from begin slice) payload filled size room in
+    let before : take begin slice ≡ out = ap (take begin) whole_slice ∙ take_at out (opened_record n ticks at (n + len) ++ payload) begin (sym count) in
+    let after : drop (length slice - begin) (drop begin slice) ≡ [] = drop_all (length slice - begin) (drop begin slice) (omega (arith, length-drop begin slice)) in
+    let made : put_mid begin (length slice - begin) slice new ≡ out ++ new = (λ i. before i ++ (new ++ after i)) ∙ ap (λ xs. out ++ xs) (append-nil new) in
+    let lengths : length (put_mid begin (length slice - begin) slice new) ≡ length slice =
+    ap length made ∙ length-append out new ∙ ap (λ k. length out + k) (kept ∙ ap length filled) ∙ sym (ap length whole_slice ∙ length-append out (opened_record n ticks at (n + len) ++ payload)) in
+    written_over vec_len (put_mid begin (length slice - begin) slice new) whole (lengths ∙ ap length same) all ∙ made ∙ ap (λ xs. out ++ xs) new_is
+
 -- ---- pieces
 
 length-run : (bytes : List LineByte) → run bytes ≤ length bytes
@@ -105,29 +135,26 @@ first_instant-cursor parts c p ps e place =
 
 -- ---- segments
 
--- a vector with an opened record and its payload, of which a slice was closed
-pub made_is : (n : ℕ) (h : Header) (ticks at len vec_len : ℕ) (old slice new made payload : List ℕ) → old ≡ opened_record n ticks at (n + len) ++ payload → length payload ≡ len → slice ≡ old → length slice ≡ vec_len
-    → new ≡ take record_header_len slice ++ frame_with h (drop (whole_len n) slice) → length (headers h (drop (whole_len n) slice)) ≡ n → length new ≡ length slice
-    → made ≡ take vec_len (new ++ drop (length new) old) → made ≡ record_bytes ticks at (frame_with h payload)
-made_is n h ticks at len vec_len old slice new made payload is count same size closed room kept made_of =
-    let same_len : length slice ≡ length old = ap length same in
-    made_of ∙ written_over vec_len new old (omega arith) (omega arith) ∙ closed ∙ record_is n h ticks at len slice payload (same ∙ is) count room
+-- a segment by its key, of which each part is known
+framed_is : (s : Sender) (place : ℕ) (sent : SentSegment) (key : SegKey) (flags : ℕ) (payload : List ℕ) → key.moment ≡ sent.at → key.conn ≡ s.conn → key.turn ≡ s.turn → key.place ≡ place → flags ≡ sent.flags → payload ≡ sent.payload
+    → ◌≡◌ {A = Framed} (record { key = key; bytes = record_bytes (ticks_of s.unit) key.moment (frame_with (header_with s sent.seq sent.ack flags) payload) }) (framed_by s (place, sent))
+framed_is s place sent key flags payload moment conn turn at_place flags_are is =
+    λ i. record { key = record { moment = moment i; conn = conn i; turn = turn i; place = at_place i }; bytes = record_bytes (ticks_of s.unit) (moment i) (frame_with (header_with s sent.seq sent.ack (flags_are i)) (is i)) }
 
-pub framed_is : (s : Sender) (place : ℕ) (sent : SentSegment) (key : SegKey) (bytes : List ℕ) → key.moment ≡ sent.at → key.conn ≡ s.conn → key.turn ≡ s.turn → key.place ≡ place
-    → bytes ≡ record_bytes (ticks_of s.unit) sent.at (frame_with (header_with s sent.seq sent.ack sent.flags) sent.payload)
-    → ◌≡◌ {A = Framed} (record { key = key; bytes = bytes }) (framed_by s (place, sent))
-framed_is s place sent key bytes moment conn turn at_place is =
-    λ i. record { key = record { moment = moment i; conn = conn i; turn = turn i; place = at_place i }; bytes = is i }
+pub bare_is : (s : Sender) (own : List LinePart) (l : Laid) (at seq ack place flags : ℕ) → l.len ≡ 0 → l.seq ≡ seq → l.ack ≡ ack → l.flags ≡ flags → l.key.moment ≡ at → l.key.conn ≡ s.conn → l.key.turn ≡ s.turn → l.key.place ≡ place
+    → framed_of s own l ≡ framed_by s (place, opening_segment at seq ack flags)
+bare_is s own l at seq ack place flags none seq_is ack_is flags_are moment conn turn at_place =
+    (λ i. record { key = l.key; bytes = record_bytes (ticks_of s.unit) l.key.moment (frame_with (header_with s (seq_is i) (ack_is i) l.flags) (values (take (none i) (left_at own l.from)))) })
+    ∙ framed_is s place (opening_segment at seq ack flags) l.key l.flags [] moment conn turn at_place flags_are refl
 
-pub piece_is : (s : Sender) (own : List LinePart) (from after : Cursor) (len seq ack place at flags : ℕ) (border : Bool) (h : Header) (key : SegKey) (bytes : List ℕ)
+pub piece_is : (s : Sender) (own : List LinePart) (l : Laid) (from after : Cursor) (at len seq ack place : ℕ) (border : Bool)
+    → l.from ≡ from → l.len ≡ len → l.seq ≡ seq → l.ack ≡ ack
     → at ≡ first_instant (left_at own from) → len ≡ piece_size payload_limit (left_at own from) → left_at own after ≡ drop len (left_at own from)
-    → border ≡ is_chunk_border (left_at own after) → flags ≡ (if border then psh_flag + ack_flag else ack_flag) → h ≡ header_with s seq ack flags
-    → bytes ≡ record_bytes (ticks_of s.unit) at (frame_with h (values (take len (left_at own from))))
-    → key.moment ≡ at → key.conn ≡ s.conn → key.turn ≡ s.turn → key.place ≡ place
-    → ◌≡◌ {A = Framed} (record { key = key; bytes = bytes }) (framed_by s (place, piece_segment seq ack (first_of payload_limit (left_at own from))))
-piece_is s own from after len seq ack place at flags border h key bytes at_is len_is left border_is flags_are header is moment conn turn at_place =
+    → border ≡ is_chunk_border (left_at own after) → l.flags ≡ (if border then psh_flag + ack_flag else ack_flag)
+    → l.key.moment ≡ at → l.key.conn ≡ s.conn → l.key.turn ≡ s.turn → l.key.place ≡ place
+    → framed_of s own l ≡ framed_by s (place, piece_segment seq ack (first_of payload_limit (left_at own from)))
+piece_is s own l from after at len seq ack place border from_is len_of seq_is ack_is at_is len_is left border_is flags_are moment conn turn at_place =
     let sent : SentSegment = piece_segment seq ack (first_of payload_limit (left_at own from)) in
-    let flags' : flags ≡ sent.flags = flags_are ∙ ap (λ (b : Bool). if b then psh_flag + ack_flag else ack_flag) (border_is ∙ ap is_chunk_border (left ∙ ap (λ n. drop n (left_at own from)) len_is)) in
-    let header' : h ≡ header_with s seq ack sent.flags = header ∙ ap (header_with s seq ack) flags' in
-    framed_is s place sent key bytes (moment ∙ at_is) conn turn at_place
-    (is ∙ (λ i. record_bytes (ticks_of s.unit) (at_is i) (frame_with (header' i) (values (take (len_is i) (left_at own from))))))
+    let flags' : l.flags ≡ sent.flags = flags_are ∙ ap (λ (b : Bool). if b then psh_flag + ack_flag else ack_flag) (border_is ∙ ap is_chunk_border (left ∙ ap (λ n. drop n (left_at own from)) len_is)) in
+    (λ i. record { key = l.key; bytes = record_bytes (ticks_of s.unit) l.key.moment (frame_with (header_with s (seq_is i) (ack_is i) l.flags) (values (take (len_of i) (left_at own (from_is i))))) })
+    ∙ framed_is s place sent l.key l.flags (values (take len (left_at own from))) (moment ∙ at_is) conn turn at_place flags' (ap (λ n. values (take n (left_at own from))) len_is)

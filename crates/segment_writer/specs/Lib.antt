@@ -5,5 +5,6 @@ pub mod TimelyLines
 pub mod FirstPieces
 pub mod LineCursors
 pub mod Senders
+pub mod LaidSegments
 pub mod KeyLaws
 pub mod SentRows

@@ -1,5 +1,5 @@
 -- What a sender writes in its turn.
-use Rattle.std.specs.Prelude.{ℕ, ◌+◌, ◌%◌, Bool, true, false, List, [], ◌∷◌, ◌++◌, map, Option, Some, None, if◌then◌else◌}
+use Rattle.std.specs.Prelude.{ℕ, ◌+◌, ◌%◌, Bool, true, false, not, List, [], ◌∷◌, ◌++◌, map, Option, Some, None, if◌then◌else◌}
 use Rattle.std.specs.List.{enumerate_from}
 use Rattle.pcap_records.specs.declared.unit.Unit.{Unit}
 use Rattle.pcap_records.specs.Instants.{ticks_of}
@@ -9,7 +9,7 @@ use Rattle.frame_headers.specs.Headers.{headers}
 use Rattle.frame_headers.specs.declared.written.Header.{Header}
 use Rattle.reassembly.specs.RecordedLines.{Line}
 use Rattle.reassembly.specs.Positions.{sequence_space}
-use Rattle.segment_writer.specs.WrittenSegments.{WrittenSide, WrittenConnection, Piece, SentSegment, segments_sent_by, segments_before_horizon, sequence_number, acknowledgment_number, opening_segment}
+use Rattle.segment_writer.specs.WrittenSegments.{WrittenSide, WrittenConnection, Piece, SentSegment, segments_sent_by, segments_before_horizon, sequence_number, acknowledgment_number, opening_segment, sorted_by_key}
 use Rattle.segment_writer.specs.declared.framed.Framed.{Framed}
 use Rattle.segment_writer.specs.declared.senders.Sender.{Sender}
 use Rattle.segment_writer.specs.declared.turns.Ending.{Ending}
@@ -22,6 +22,7 @@ client_in unit c turn = record {
   unit = unit;
   conn = c.number;
   turn = turn;
+  is_server = false;
   mac_from = c.client.host.mac;
   mac_to = c.server.host.mac;
   vlan = c.vlan;
@@ -37,6 +38,7 @@ peer_in s turn = record {
   unit = s.unit;
   conn = s.conn;
   turn = turn;
+  is_server = not s.is_server;
   mac_from = s.mac_to;
   mac_to = s.mac_from;
   vlan = s.vlan;
@@ -44,6 +46,22 @@ peer_in s turn = record {
   to = s.from;
   base = s.peer_base;
   peer_base = s.base;
+}
+
+-- the same sender in another turn
+abbrev pub in_turn : Sender → ℕ → Sender
+in_turn s turn = record {
+  unit = s.unit;
+  conn = s.conn;
+  turn = turn;
+  is_server = s.is_server;
+  mac_from = s.mac_from;
+  mac_to = s.mac_to;
+  vlan = s.vlan;
+  from = s.from;
+  to = s.to;
+  base = s.base;
+  peer_base = s.peer_base;
 }
 
 -- its server
@@ -117,3 +135,11 @@ opening_by true client server at =
 
 abbrev pub opening_written : Bool → Sender → Sender → ℕ → List Framed
 opening_written refused client server at = segments_before_horizon (ticks_of client.unit) (opening_by refused client server at)
+
+-- ---- a connection
+
+-- all segments of a connection, in order of key: the opening by its client, of that instant, and both lines
+abbrev pub connection_written : Bool → Sender → ℕ → Line → Line → List Framed
+connection_written refused client at up down =
+    sorted_by_key ((opening_written refused client (peer_in client 0) at ++ line_written (in_turn client 1) up down)
+    ++ line_written (peer_in client 2) down up)

@@ -1,21 +1,27 @@
 //! All segments of a connection as they are written.
-ghost use Rattle.std.specs.Prelude.{◌≡◌, IfOk};
+ghost use Rattle.std.specs.Prelude.{◌≡◌, false, IfOk, List, map};
+ghost use Rattle.std.specs.List.{AllByRecursion};
 ghost use Rattle.reassembly.specs.LineLaws.{IsLine};
+ghost use Rattle.reassembly.specs.LineView.{line_of};
 ghost use Rattle.reassembly.specs.RecordedView.{recorded_view};
+ghost use Rattle.reassembly.specs.declared.line_parts.LinePart.{LinePart};
 ghost use Rattle.toxic_defs.specs.DeliveredLines.{delivered_view};
 ghost use Rattle.segment_writer.specs.WrittenConnections.{written_connection};
 ghost use Rattle.segment_writer.specs.WrittenSegments.{written_segments};
-ghost use Rattle.segment_writer.specs.Senders.{peer_in, line_written, opening_written};
+ghost use Rattle.segment_writer.specs.Senders.{peer_in, connection_written, opening_written};
+ghost use Rattle.segment_writer.specs.LaidSegments.{framed_in, IsLaidIn};
 ghost use Rattle.segment_writer.specs.TimelyLines.{IsTimely};
 
-use crate::framed::{Framed, SegList};
-use crate::records::bare_framed;
-use crate::senders::{Numbers, Sender, client_in, peer_in};
+use crate::framed::SegList;
+use crate::laid::Laid;
+use crate::layout::Layout;
+use crate::records::bare_laid;
+use crate::senders::{Numbers, Sender, client_in, in_turn, peer_in};
 use crate::turns::line_segments;
 use conn_table::Conn;
 use frame_headers::Flags;
 use pcap_records::Moment;
-use reassembly::{Line, Recorded};
+use reassembly::{End, LinePart, Recorded};
 use std::alloc::{AllocError, Global};
 use toxic_defs::Delivered;
 
@@ -37,38 +43,85 @@ pub fn segments(
         (written_connection conn.now.number conn.now.vlan conn.now.client conn.now.server (recorded_view recorded.now)
         (delivered_view delivered.now))) }
 {
-    let opener = client_in(conn, recorded, 0);
-    let opening = opening_segments(alloc, &opener, recorded.opened, delivered.refused)?;
-    let client = client_in(conn, recorded, 1);
-    let server = peer_in(&client, 2);
-    let ups = turn(alloc, &client, &delivered.up, &delivered.down)?;
-    let downs = turn(alloc, &server, &delivered.down, &delivered.up)?;
-    let begun = SegList::join(alloc, SegList::of(opening), ups)?;
-    SegList::join(alloc, begun, downs)
+    let up = delivered.up.copy(alloc)?;
+    let down = delivered.down.copy(alloc)?;
+    let copy = Delivered {
+        proxy: delivered.proxy,
+        refused: delivered.refused,
+        up,
+        down,
+    };
+    lay_out(alloc, conn, recorded, copy)?.written(alloc)
 }
 
-// The segments of a line, beside that of the peer.
-fn turn(
+/// The segments of a connection, as [`segments`] gives them, laid out: their records are written later.
+///
+/// # Errors
+/// Where a growth is refused; what was delivered is then dropped.
+pub fn lay_out<'a>(
     alloc: Global,
-    sender: &Sender,
-    own: &Line<'_>,
-    peer: &Line<'_>,
-) -> Result<SegList, AllocError>
-    requires own { IsTimely own.now.line }
-    requires peer { IsTimely peer.now.line }
-    ensures { IfOk result (λ list. list ≡ line_written sender.now own.now.line peer.now.line) }
+    conn: &Conn,
+    recorded: &Recorded<'_>,
+    delivered: Delivered<'a>,
+) -> Result<Layout<'a>, AllocError>
+    requires up { IsLine delivered.up.line }
+    requires down { IsLine delivered.down.line }
+    ensures { IfOk result (λ layout. layout ≡ written_segments recorded.now.up.ticks
+        (written_connection conn.now.number conn.now.vlan conn.now.client conn.now.server (recorded_view recorded.now)
+        (delivered_view delivered.entry))) }
 {
-    let own_end = own.end();
-    let peer_end = peer.end();
-    let list = line_segments(
+    let client = client_in(conn, recorded, 0);
+    let Delivered {
+        proxy: _,
+        refused,
+        up,
+        down,
+    } = delivered;
+    let up_end = up.end();
+    let down_end = down.end();
+    let ups = up.into_parts();
+    let downs = down.into_parts();
+    let laid = laid_segments(
         alloc,
-        sender,
-        own.parts(),
-        &own_end,
-        peer.parts(),
-        &peer_end,
+        &client,
+        recorded.opened,
+        refused,
+        &ups,
+        &up_end,
+        &downs,
+        &down_end,
     )?;
-    Ok(SegList::of(list))
+    Ok(Layout::of(client, ups, downs, laid))
+}
+
+// The segments of a connection, of its client in turn 0 and the parts and ends of what is delivered, laid out in order of key.
+fn laid_segments(
+    alloc: Global,
+    client: &Sender,
+    at: Moment,
+    refused: bool,
+    up: &[LinePart<'_>],
+    up_end: &End,
+    down: &[LinePart<'_>],
+    down_end: &End,
+) -> Result<Vec<Laid>, AllocError>
+    requires client { client.now.is_server ≡ false }
+    requires up { IsTimely (line_of up.now up_end.now) }
+    requires down { IsTimely (line_of down.now down_end.now) }
+    ensures framed { IfOk result (λ list. map (framed_in client.now up.now down.now) list.items
+        ≡ connection_written refused client.now at (line_of up.now up_end.now) (line_of down.now down_end.now)) }
+    ensures laid { IfOk result (λ list. AllByRecursion (IsLaidIn client.now up.now down.now) list.items) }
+{
+    let mut list = opening_segments(alloc, client, at, refused)?;
+    let upward = in_turn(client, 1);
+    let mut ups = line_segments(alloc, &upward, up, up_end, down, down_end)?;
+    let downward = peer_in(client, 2);
+    let mut downs = line_segments(alloc, &downward, down, down_end, up, up_end)?;
+    list.reserve_exact(ups.len().saturating_add(downs.len()))?;
+    list.append(&mut ups)?;
+    list.append(&mut downs)?;
+    list.sort_by_key(|laid| laid.key)?;
+    Ok(list)
 }
 
 // SYN, SYN ACK and ACK (RFC 9293 section 3.5), or SYN and RST ACK where the connection is refused. At the horizon there are none.
@@ -77,26 +130,29 @@ fn opening_segments(
     client: &Sender,
     at: Moment,
     refused: bool,
-) -> Result<Vec<Framed>, AllocError>
-    ensures { IfOk result (λ list. list.items ≡ opening_written refused client.now (peer_in client.now 0) at) }
+) -> Result<Vec<Laid>, AllocError>
+    requires { client.now.is_server ≡ false }
+    ensures framed { (up down : List LinePart) → IfOk result (λ list. map (framed_in client.now up down) list.items
+        ≡ opening_written refused client.now (peer_in client.now 0) at) }
+    ensures laid { (up down : List LinePart) → IfOk result (λ list. AllByRecursion (IsLaidIn client.now up down) list.items) }
 {
     let server = peer_in(client, 0);
-    let mut list = Vec::new(alloc);
+    let mut list = Vec::with_capacity(alloc, 3)?;
     if !at.is_before_horizon(client.unit) {
         return Ok(list);
     }
     let syn = numbers(client.base, 0, 0);
-    list.push(bare_framed(alloc, client, at, syn, Flags::SYN)?)?;
+    list.push(bare_laid(client, at, syn, Flags::SYN))?;
     let client_next = client.base.wrapping_add(1);
     if refused {
         let refusal = numbers(0, client_next, 1);
-        list.push(bare_framed(alloc, &server, at, refusal, Flags::RST.with(Flags::ACK))?)?;
+        list.push(bare_laid(&server, at, refusal, Flags::RST.with(Flags::ACK)))?;
         return Ok(list);
     }
     let answer = numbers(server.base, client_next, 1);
-    list.push(bare_framed(alloc, &server, at, answer, Flags::SYN.with(Flags::ACK))?)?;
+    list.push(bare_laid(&server, at, answer, Flags::SYN.with(Flags::ACK)))?;
     let third = numbers(client_next, server.base.wrapping_add(1), 2);
-    list.push(bare_framed(alloc, client, at, third, Flags::ACK)?)?;
+    list.push(bare_laid(client, at, third, Flags::ACK))?;
     Ok(list)
 }
 

@@ -3,11 +3,15 @@
 
 mod connection_segments;
 mod framed;
+mod laid;
 pub mod laws;
+mod layout;
 mod pieces;
 mod records;
 mod senders;
 mod turns;
 
-pub use connection_segments::segments;
+pub use connection_segments::{lay_out, segments};
 pub use framed::{Framed, RecordBytes, SegKey, SegList};
+pub use laid::Laid;
+pub use layout::Layout;

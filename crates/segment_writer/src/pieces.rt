@@ -1,5 +1,5 @@
 //! Pieces of a line, and cursors over its parts. Parts without bytes count for nothing.
-ghost use Rattle.std.specs.Prelude.{◌≡◌, ◌≤◌, ◌<◌, ◌+◌, ◌++◌, ◌∷◌, length, drop, take, IfOk, OnOk};
+ghost use Rattle.std.specs.Prelude.{◌≡◌, ◌≤◌, ◌<◌, ◌+◌, ◌++◌, ◌∷◌, length, drop, take, OnOk};
 ghost use Rattle.frame_headers.specs.Layout.{payload_limit};
 ghost use Rattle.reassembly.specs.LineView.{bytes_of_parts};
 ghost use Rattle.segment_writer.specs.WrittenSegments.{is_chunk_border};
@@ -11,7 +11,7 @@ use reassembly::LinePart;
 use std::alloc::AllocError;
 
 /// A byte of a line: how many parts stand before it, and how many bytes of its own part.
-#[derive(Clone, Copy)]
+#[derive(Clone, Copy, Debug)]
 pub(crate) struct Cursor {
     pub part: usize,
     pub offset: usize,
@@ -73,18 +73,41 @@ pub(crate) fn is_border(parts: &[LinePart<'_>], from: Cursor) -> bool
     from.part == parts.len() || (from.offset == 0 && part_at(parts, from.part).starts)
 }
 
-/// Appends `len` bytes from a cursor on, and gives the cursor after them.
+/// The cursor `len` bytes after another.
+pub(crate) fn skip_piece(parts: &[LinePart<'_>], from: Cursor, len: usize) -> Cursor
+    requires cursor { IsCursor parts.now from }
+    requires within { len ≤ length (left_at parts.now from) }
+    ensures cursor { IsCursor parts.now result }
+    ensures left { left_at parts.now result ≡ drop len (left_at parts.now from) }
+{
+    let mut part = from.part;
+    let mut offset = from.offset;
+    let mut left = len;
+    while left > 0 {
+        let bytes = part_at(parts, part).bytes;
+        let rest = &bytes[offset..];
+        let taken = left.min(rest.len());
+        left -= taken;
+        if taken < rest.len() {
+            offset += taken;
+        } else {
+            part = next_filled(parts, part + 1);
+            offset = 0;
+        }
+    }
+    Cursor { part, offset }
+}
+
+/// Appends `len` bytes from a cursor on.
 pub(crate) fn copy_piece(
     out: &mut Vec<u8>,
     parts: &[LinePart<'_>],
     from: Cursor,
     len: usize,
-) -> Result<Cursor, AllocError>
+) -> Result<(), AllocError>
     requires cursor { IsCursor parts.now from }
     requires within { len ≤ length (left_at parts.now from) }
-    ensures bytes { OnOk result (out.new.items ≡ out.old.items ++ values (take len (left_at parts.now from))) }
-    ensures cursor { IfOk result (λ after. IsCursor parts.now after) }
-    ensures left { IfOk result (λ after. left_at parts.now after ≡ drop len (left_at parts.now from)) }
+    ensures { OnOk result (out.new.items ≡ out.old.items ++ values (take len (left_at parts.now from))) }
 {
     let mut part = from.part;
     let mut offset = from.offset;
@@ -102,5 +125,5 @@ pub(crate) fn copy_piece(
             offset = 0;
         }
     }
-    Ok(Cursor { part, offset })
+    Ok(())
 }

@@ -1,46 +1,45 @@
-//! The records of segments, each made in one exact growth.
-ghost use Rattle.std.specs.Prelude.{◌≡◌, ◌≤◌, ◌<◌, ◌+◌, ◌++◌, length, drop, take, replicate, IfOk, if◌then◌else◌};
+//! The records of segments that are laid out, and how they are laid out.
+ghost use Rattle.std.specs.Prelude.{◌≡◌, ◌≤◌, ◌<◌, ◌+◌, ◌++◌, List, length, drop, take, replicate, OnOk, if◌then◌else◌};
 ghost use Rattle.pcap_records.specs.Instants.{horizon, ticks_of};
 ghost use Rattle.pcap_records.specs.Reading.{record_header_len};
 ghost use Rattle.pcap_records.specs.Writing.{record_header};
 ghost use Rattle.frame_headers.specs.Flags.{psh_flag, ack_flag};
 ghost use Rattle.frame_headers.specs.Headers.{headers};
 ghost use Rattle.frame_headers.specs.Layout.{headers_len, payload_limit};
+ghost use Rattle.reassembly.specs.declared.line_parts.LinePart.{LinePart};
 ghost use Rattle.segment_writer.specs.WrittenSegments.{opening_segment};
 ghost use Rattle.segment_writer.specs.FirstPieces.{first_instant, first_of, piece_size};
 ghost use Rattle.segment_writer.specs.LineCursors.{left_at, IsCursor};
 ghost use Rattle.segment_writer.specs.Senders.{frame_with, framed_by, piece_segment};
+ghost use Rattle.segment_writer.specs.LaidSegments.{framed_of, payload_of, IsLaid};
 
-use crate::framed::Framed;
-use crate::pieces::{Cursor, copy_piece, is_border, part_at};
+use crate::laid::Laid;
+use crate::pieces::{Cursor, copy_piece, is_border, part_at, skip_piece};
 use crate::senders::{Numbers, Sender, header_with, key_at};
 use frame_headers::{Flags, Header, LEAST_HEADERS_LEN, MOST_HEADERS_LEN, headers_len, put_headers};
-use pcap_records::{Moment, RECORD_HEADER_LEN, Unit, Values, record_header_bytes};
+use pcap_records::{Moment, RECORD_HEADER_LEN, Unit, record_header_bytes};
 use reassembly::LinePart;
-use std::alloc::{AllocError, Global};
+use std::alloc::AllocError;
 
-// The header of a record whose frame has `len` bytes of payload, and room for the frame: 0 in place of its headers.
+// Appends the header of a record whose frame has `len` bytes of payload, and room for the headers of the frame: 0 in place of them.
 fn open_record(
-    alloc: Global,
+    out: &mut Vec<u8>,
     at: Moment,
     vlan: Option<u16>,
     len: usize,
     unit: Unit,
-) -> Result<Vec<u8>, AllocError>
+) -> Result<(), AllocError>
     requires early { at < horizon (ticks_of unit) }
     requires small { len ≤ payload_limit }
-    ensures { IfOk result (λ bytes. bytes.items ≡ record_header (ticks_of unit) at (headers_len vlan + len)
-        ++ replicate (headers_len vlan) 0) }
+    ensures { OnOk result (out.new.items ≡ out.old.items
+        ++ (record_header (ticks_of unit) at (headers_len vlan + len) ++ replicate (headers_len vlan) 0)) }
 {
-    let headers = headers_len(vlan);
-    let mut bytes = Vec::with_capacity(alloc, RECORD_HEADER_LEN + headers + len)?;
-    let header = record_header_bytes(at, (headers + len) as u32, unit);
-    bytes.extend_from_slice(&header)?;
+    let header = record_header_bytes(at, (headers_len(vlan) + len) as u32, unit);
+    out.extend_from_slice(&header)?;
     match vlan {
-        Some(_) => bytes.extend_from_slice(&[0; MOST_HEADERS_LEN])?,
-        None => bytes.extend_from_slice(&[0; LEAST_HEADERS_LEN])?,
+        Some(_) => out.extend_from_slice(&[0; MOST_HEADERS_LEN]),
+        None => out.extend_from_slice(&[0; LEAST_HEADERS_LEN]),
     }
-    Ok(bytes)
 }
 
 // Writes the headers of a record's frame, whose payload is in place.
@@ -67,54 +66,91 @@ fn piece_flags(ends: bool) -> Flags
 }
 
 /// A segment without payload.
-pub(crate) fn bare_framed(
-    alloc: Global,
-    sender: &Sender,
-    at: Moment,
-    numbers: Numbers,
-    flags: Flags,
-) -> Result<Framed, AllocError>
+pub(crate) fn bare_laid(sender: &Sender, at: Moment, numbers: Numbers, flags: Flags) -> Laid
     requires { at < horizon (ticks_of sender.now.unit) }
-    ensures { IfOk result (λ framed. framed
-        ≡ framed_by sender.now (numbers.place, opening_segment at numbers.seq numbers.ack flags)) }
+    ensures framed { (own : List LinePart) → framed_of sender.now own result
+        ≡ framed_by sender.now (numbers.place, opening_segment at numbers.seq numbers.ack flags) }
+    ensures laid { (own : List LinePart) → IsLaid sender.now own result }
 {
-    let mut bytes = open_record(alloc, at, sender.vlan, 0, sender.unit)?;
-    let header = header_with(sender, numbers, flags);
-    close_record(&mut bytes, &header);
-    Ok(Framed {
+    Laid {
         key: key_at(sender, at, numbers.place),
-        bytes: Values::of(bytes),
-    })
+        is_server: sender.is_server,
+        flags,
+        seq: numbers.seq,
+        ack: numbers.ack,
+        from: Cursor { part: 0, offset: 0 },
+        len: 0,
+    }
 }
 
 /// The segment of the piece of `len` bytes that begins at a cursor, and the cursor after it.
-pub(crate) fn piece_framed(
-    alloc: Global,
+pub(crate) fn piece_laid(
     sender: &Sender,
     own: &[LinePart<'_>],
     from: Cursor,
     len: usize,
     numbers: Numbers,
-) -> Result<(Framed, Cursor), AllocError>
+) -> (Laid, Cursor)
     requires cursor { IsCursor own.now from }
     requires before { from.part < length own.now }
     requires len { len ≡ piece_size payload_limit (left_at own.now from) }
     requires early { first_instant (left_at own.now from) < horizon (ticks_of sender.now.unit) }
-    ensures framed { IfOk result (λ r. r.0
+    ensures framed { framed_of sender.now own.now result.0
         ≡ framed_by sender.now
-        (numbers.place, piece_segment numbers.seq numbers.ack (first_of payload_limit (left_at own.now from)))) }
-    ensures cursor { IfOk result (λ r. IsCursor own.now r.1) }
-    ensures left { IfOk result (λ r. left_at own.now r.1 ≡ drop len (left_at own.now from)) }
+        (numbers.place, piece_segment numbers.seq numbers.ack (first_of payload_limit (left_at own.now from))) }
+    ensures laid { IsLaid sender.now own.now result.0 }
+    ensures cursor { IsCursor own.now result.1 }
+    ensures left { left_at own.now result.1 ≡ drop len (left_at own.now from) }
 {
     let at = part_at(own, from.part).at;
-    let mut bytes = open_record(alloc, at, sender.vlan, len, sender.unit)?;
-    let after = copy_piece(&mut bytes, own, from, len)?;
-    let flags = piece_flags(is_border(own, after));
-    let header = header_with(sender, numbers, flags);
-    close_record(&mut bytes, &header);
-    let framed = Framed {
+    let after = skip_piece(own, from, len);
+    let laid = Laid {
         key: key_at(sender, at, numbers.place),
-        bytes: Values::of(bytes),
+        is_server: sender.is_server,
+        flags: piece_flags(is_border(own, after)),
+        seq: numbers.seq,
+        ack: numbers.ack,
+        from,
+        len,
     };
-    Ok((framed, after))
+    (laid, after)
+}
+
+/// The length of the record of a segment.
+pub(crate) fn record_len(sender: &Sender, laid: &Laid) -> usize {
+    (RECORD_HEADER_LEN + headers_len(sender.vlan)).saturating_add(laid.len)
+}
+
+// Appends the payload of a segment.
+fn put_payload(
+    out: &mut Vec<u8>,
+    sender: &Sender,
+    own: &[LinePart<'_>],
+    laid: &Laid,
+) -> Result<(), AllocError>
+    requires { IsLaid sender.now own.now laid.now }
+    ensures { OnOk result (out.new.items ≡ out.old.items ++ payload_of own.now laid.now) }
+{
+    if laid.len == 0 {
+        return Ok(());
+    }
+    copy_piece(out, own, laid.from, laid.len)
+}
+
+/// Appends the record of a segment.
+pub(crate) fn put_record(
+    out: &mut Vec<u8>,
+    sender: &Sender,
+    own: &[LinePart<'_>],
+    laid: &Laid,
+) -> Result<(), AllocError>
+    requires { IsLaid sender.now own.now laid.now }
+    ensures { OnOk result (out.new.items ≡ out.old.items ++ (framed_of sender.now own.now laid.now).bytes) }
+{
+    let begin = out.len();
+    open_record(out, laid.key.moment, sender.vlan, laid.len, sender.unit)?;
+    put_payload(out, sender, own, laid)?;
+    let header = header_with(sender, laid.seq, laid.ack, laid.flags);
+    close_record(&mut out[begin..], &header);
+    Ok(())
 }

@@ -4,7 +4,7 @@ ghost use Rattle.pcap_records.specs.Instants.{ticks_of};
 ghost use Rattle.reassembly.specs.RecordedView.{recorded_view};
 ghost use Rattle.toxic_defs.specs.DeliveredLines.{DeliveredConnection};
 ghost use Rattle.segment_writer.specs.WrittenConnections.{written_connection};
-ghost use Rattle.segment_writer.specs.Senders.{client_in, peer_in, header_with};
+ghost use Rattle.segment_writer.specs.Senders.{client_in, peer_in, in_turn, header_with};
 
 use crate::framed::SegKey;
 use conn_table::Conn;
@@ -13,11 +13,12 @@ use pcap_records::{Moment, Unit};
 use reassembly::Recorded;
 
 /// Who sends the segments of a turn, and in which unit instants count.
-#[derive(Clone, Copy)]
+#[derive(Clone, Copy, Debug)]
 pub(crate) struct Sender {
     pub unit: Unit,
     pub conn: u32,
     pub turn: u8,
+    pub is_server: bool,
     pub mac_from: [u8; 6],
     pub mac_to: [u8; 6],
     pub vlan: Option<u16>,
@@ -47,6 +48,7 @@ pub(crate) fn client_in(conn: &Conn, recorded: &Recorded<'_>, turn: u8) -> Sende
         unit: recorded.up.unit(),
         conn: conn.number,
         turn,
+        is_server: false,
         mac_from,
         mac_to,
         vlan: conn.vlan,
@@ -67,6 +69,7 @@ pub(crate) fn peer_in(sender: &Sender, turn: u8) -> Sender
         unit: sender.unit,
         conn: sender.conn,
         turn,
+        is_server: !sender.is_server,
         mac_from,
         mac_to,
         vlan: sender.vlan,
@@ -77,9 +80,16 @@ pub(crate) fn peer_in(sender: &Sender, turn: u8) -> Sender
     }
 }
 
+/// The same sender in another turn.
+pub(crate) fn in_turn(sender: &Sender, turn: u8) -> Sender
+    ensures { result ≡ in_turn sender.now turn }
+{
+    Sender { turn, ..*sender }
+}
+
 /// The headers of a segment with these numbers and flags.
-pub(crate) fn header_with(sender: &Sender, numbers: Numbers, flags: Flags) -> Header
-    ensures { result ≡ header_with sender.now numbers.seq numbers.ack flags }
+pub(crate) fn header_with(sender: &Sender, seq: u32, ack: u32, flags: Flags) -> Header
+    ensures { result ≡ header_with sender.now seq ack flags }
 {
     let mac_from = sender.mac_from;
     let mac_to = sender.mac_to;
@@ -89,8 +99,8 @@ pub(crate) fn header_with(sender: &Sender, numbers: Numbers, flags: Flags) -> He
         vlan: sender.vlan,
         from: sender.from,
         to: sender.to,
-        seq: numbers.seq,
-        ack: numbers.ack,
+        seq,
+        ack,
         flags,
     }
 }

@@ -1,6 +1,7 @@
 //! The segments of a line, in one pass over its parts and those of the peer's line, and the numbers that say what was delivered of
 //! the peer's line before an instant (RFC 9293 section 3.4).
-ghost use Rattle.std.specs.Prelude.{◌≡◌, ◌≤◌, ◌<◌, ◌+◌, ◌%◌, ◌||◌, true, false, ℕ, length, nat_lt, IfOk};
+ghost use Rattle.std.specs.Prelude.{◌≡◌, ◌≤◌, ◌<◌, ◌+◌, ◌%◌, ◌||◌, true, false, ℕ, length, map, nat_lt, IfOk};
+ghost use Rattle.std.specs.List.{AllByRecursion};
 ghost use Rattle.pcap_records.specs.Instants.{horizon, ticks_of};
 ghost use Rattle.reassembly.specs.LineView.{bytes_of_parts, line_of, end_view};
 ghost use Rattle.reassembly.specs.RecordedLines.{live};
@@ -9,10 +10,11 @@ ghost use Rattle.segment_writer.specs.WrittenSegments.{WrittenSide, end_numbers_
 ghost use Rattle.segment_writer.specs.TimelyLines.{Climbs, IsTimely};
 ghost use Rattle.segment_writer.specs.LineCursors.{has_none, bytes_before, IsHeard};
 ghost use Rattle.segment_writer.specs.Senders.{ending_segments, line_written};
+ghost use Rattle.segment_writer.specs.LaidSegments.{framed_of, IsLaid};
 
-use crate::framed::Framed;
+use crate::laid::Laid;
 use crate::pieces::{Cursor, next_filled, part_at, piece_len};
-use crate::records::{bare_framed, piece_framed};
+use crate::records::{bare_laid, piece_laid};
 use crate::senders::{Numbers, Sender};
 use frame_headers::Flags;
 use pcap_records::{Moment, Unit};
@@ -27,13 +29,14 @@ pub(crate) fn line_segments(
     own_end: &End,
     peer: &[LinePart<'_>],
     peer_end: &End,
-) -> Result<Vec<Framed>, AllocError>
+) -> Result<Vec<Laid>, AllocError>
     requires own { IsTimely (line_of own.now own_end.now) }
     requires peer { IsTimely (line_of peer.now peer_end.now) }
-    ensures { IfOk result (λ list. list.items
+    ensures framed { IfOk result (λ list. map (framed_of sender.now own.now) list.items
         ≡ line_written sender.now (line_of own.now own_end.now) (line_of peer.now peer_end.now)) }
+    ensures laid { IfOk result (λ list. AllByRecursion (IsLaid sender.now own.now) list.items) }
 {
-    let mut list = Vec::new(alloc);
+    let mut list = Vec::with_capacity(alloc, own.len().saturating_add(1))?;
     let mut from = Cursor {
         part: next_filled(own, 0),
         offset: 0,
@@ -49,8 +52,8 @@ pub(crate) fn line_segments(
         heard = hear(peer, heard, at);
         let numbers = numbers_at(sender, sent, heard, peer_end, at, place);
         let len = piece_len(own, from);
-        let (framed, after) = piece_framed(alloc, sender, own, from, len, numbers)?;
-        list.push(framed)?;
+        let (laid, after) = piece_laid(sender, own, from, len, numbers);
+        list.push(laid)?;
         from = after;
         sent += len as u32;
         place += 1;
@@ -63,7 +66,7 @@ pub(crate) fn line_segments(
     }
     let all = hear(peer, heard, ending.at);
     let numbers = numbers_at(sender, sent, all, peer_end, ending.at, place);
-    list.push(bare_framed(alloc, sender, ending.at, numbers, ending.flags)?)?;
+    list.push(bare_laid(sender, ending.at, numbers, ending.flags))?;
     Ok(list)
 }
 

@@ -13,8 +13,7 @@ use Rattle.segment_writer.specs.declared.framed.Framed.{Framed}
 use Rattle.segment_writer.specs.WrittenSegments.{sorted_by_key}
 use Rattle.segment_writer.specs.KeyLaws.{NeverFalls, SortedNeverFalls}
 use Rattle.time_merge.specs.declared.merging.KeyedSegment.{KeyedSegment}
-use Rattle.time_merge.specs.declared.merging.KeyedSegments.{KeyedSegments}
-use Rattle.time_merge.specs.KeyedSegments.{keyed_left, keyed_segments, all_keyed_segments, keyed_cmp}
+use Rattle.time_merge.specs.KeyedSegments.{keyed_segments, all_keyed_segments, keyed_cmp}
 use Rattle.time_merge.proofs.KeyedOrder.{below, derived, derived_is_below, keys_sorted}
 
 -- the keyed segments of each list
@@ -24,18 +23,20 @@ keys_of_list (list, xs) = keyed_segments list 0 xs
 abbrev pub keys_of_lists : List (List Framed) → List (List KeyedSegment)
 keys_of_lists lists = map keys_of_list (enumerate_from 0 lists)
 
-sources_give : (sources : List KeyedSegments) → SourcesGive (λ (s r : KeyedSegments). r ≡ s) (YieldsFirst keyed_left) sources (map keyed_left sources)
-sources_give [] = tt
-sources_give (s ∷ sources) = ((λ j same. (YieldsList-from_first (λ x. x) keyed_left (keyed_left s) (ap keyed_left same)).runs), sources_give sources)
+-- sources of either kind: of segments, or of segments that are laid out
+module _ {Source : Type 0} (left : Source → List KeyedSegment) where
+  sources_give : (sources : List Source) → SourcesGive (λ (s r : Source). r ≡ s) (YieldsFirst left) sources (map left sources)
+  sources_give [] = tt
+  sources_give (s ∷ sources) = ((λ j same. (YieldsList-from_first (λ x. x) left (left s) (ap left same)).runs), sources_give sources)
 
--- the run over the lists gave sources that give the keyed segments of each
-pub run_gives : {S : Type 0} {steps : S → Option KeyedSegments → S → Type 0} {s : S} {P : Run steps → Type 0} (lists : List (List Framed)) (run : WholeRun steps s P) → YieldsList steps keyed_left s (keys_of_lists lists)
-    → SourcesGive (λ (s r : KeyedSegments). r ≡ s) (YieldsFirst keyed_left) run.0.items (keys_of_lists lists)
-unfolding YieldsRun
-run_gives {steps = steps} lists run chain =
-    let drained = subst (λ s. DrainsIf steps (run.0.whole ≡ true) s run.0.items) run.1 run.0.gave.0 in
-    let read : map keyed_left run.0.items ≡ keys_of_lists lists = items_from_drains run.0.items (drained.0, drained.1, λ _. drained.2 run.2) chain in
-    subst (λ (ls : List (List KeyedSegment)). SourcesGive (λ (s r : KeyedSegments). r ≡ s) (YieldsFirst keyed_left) run.0.items ls) read (sources_give run.0.items)
+  -- the run over the lists gave sources that give the keyed segments of each
+  pub run_gives : {S : Type 0} {steps : S → Option Source → S → Type 0} {s : S} {P : Run steps → Type 0} (lists : List (List Framed)) (run : WholeRun steps s P) → YieldsList steps left s (keys_of_lists lists)
+      → SourcesGive (λ (s r : Source). r ≡ s) (YieldsFirst left) run.0.items (keys_of_lists lists)
+  unfolding YieldsRun
+  run_gives {steps = steps} lists run chain =
+      let drained = subst (λ s. DrainsIf steps (run.0.whole ≡ true) s run.0.items) run.1 run.0.gave.0 in
+      let read : map left run.0.items ≡ keys_of_lists lists = items_from_drains run.0.items (drained.0, drained.1, λ _. drained.2 run.2) chain in
+      subst (λ (ls : List (List KeyedSegment)). SourcesGive (λ (s r : Source). r ≡ s) (YieldsFirst left) run.0.items ls) read (sources_give run.0.items)
 
 joined : (zs : List (ℕ × List Framed)) → joined_lists (map keys_of_list zs) ≡ flat_map keys_of_list zs
 joined [] = refl

@@ -4,9 +4,11 @@ use Rattle.std.specs.List.{All, enumerate_from, flat_map}
 use Rattle.std.proofs.lemmas.List.{length-drop, drop_more, map-append}
 use Rattle.std.proofs.lemmas.List.Elements.{All-nil, All-cons, All-append}
 use Rattle.segment_writer.specs.declared.framed.Framed.{Framed}
+use Rattle.segment_writer.specs.declared.framed.SegKey.{SegKey}
+use Rattle.segment_writer.specs.declared.laid.Laid.{Laid}
 use Rattle.time_merge.specs.declared.merging.KeyedSegment.{KeyedSegment}
 use Rattle.time_merge.specs.MergedCapture.{all_segments}
-use Rattle.time_merge.specs.KeyedSegments.{keyed_segments, all_keyed_segments, segment_of, no_segment, IsKeyed}
+use Rattle.time_merge.specs.KeyedSegments.{laid_segments, keyed_segments, all_keyed_segments, segment_of, no_segment, IsKeyed}
 
 -- the first of what is left of a list
 first_left : {X : Type 0} (all : List X) (n : ℕ) (d x : X) (xs : List X) → drop n all ≡ x ∷ xs → (n < length all) × (slice_index_or all n d ≡ x) × (drop (n + 1) all ≡ xs)
@@ -46,3 +48,13 @@ module _ (lists : List (List Framed)) where
 
   pub all_shown : map (segment_of lists) (all_keyed_segments lists) ≡ all_segments lists
   all_shown = (lists_walked 0 lists refl).1
+
+-- what is laid out has the keyed segments of what is written with the same keys
+pub laid_keyed : (list index : ℕ) (laid : List Laid) (xs : List Framed) → map (λ (l : Laid). l.key) laid ≡ map (λ (x : Framed). x.key) xs → laid_segments list index laid ≡ keyed_segments list index xs
+laid_keyed list index [] [] same = refl
+laid_keyed list index [] (x ∷ xs) same = absurd cc
+laid_keyed list index (l ∷ laid) [] same = absurd cc
+laid_keyed list index (l ∷ laid) (x ∷ xs) same =
+    let first : l.key ≡ x.key = cc in
+    let others : map (λ (k : Laid). k.key) laid ≡ map (λ (y : Framed). y.key) xs = cc in
+    ap₂ (λ (k : SegKey) (keys : List KeyedSegment). record { key = k; list = list; index = index } ∷ keys) first (laid_keyed list (index + 1) laid xs others)

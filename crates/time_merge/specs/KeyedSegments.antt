@@ -5,8 +5,10 @@ use Rattle.std.specs.Ordering.{then_cmp, on, nat_cmp}
 use Rattle.std.specs.declared.cmp.Ordering.{Ordering}
 use Rattle.segment_writer.specs.declared.framed.SegKey.{SegKey}
 use Rattle.segment_writer.specs.declared.framed.Framed.{Framed}
+use Rattle.segment_writer.specs.declared.laid.Laid.{Laid}
 use Rattle.time_merge.specs.declared.merging.KeyedSegment.{KeyedSegment}
 use Rattle.time_merge.specs.declared.merging.KeyedSegments.{KeyedSegments}
+use Rattle.time_merge.specs.declared.captures.LaidSegments.{LaidSegments}
 
 -- by moment, then connection, turn and place
 abbrev pub key_cmp : SegKey → SegKey → Ordering
@@ -28,6 +30,14 @@ all_keyed_segments lists = flat_map (λ (list, xs). keyed_segments list 0 xs) (e
 -- what an iterator over a list has still to give
 abbrev pub keyed_left : KeyedSegments → List KeyedSegment
 keyed_left l = keyed_segments l.list l.index (drop l.index l.segments.now)
+
+-- the same of segments that are laid out
+abbrev pub laid_segments : ℕ → ℕ → List Laid → List KeyedSegment
+laid_segments list index [] = []
+laid_segments list index (x ∷ xs) = record { key = x.key; list = list; index = index } ∷ laid_segments list (index + 1) xs
+
+abbrev pub laid_left : LaidSegments → List KeyedSegment
+laid_left l = laid_segments l.list l.index (drop l.index l.segments.now)
 
 abbrev pub no_segment : Framed
 no_segment = record { key = record { moment = 0; conn = 0; turn = 0; place = 0 }; bytes = [] }

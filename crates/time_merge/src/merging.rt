@@ -95,7 +95,7 @@ impl Merged {
 }
 
 // The length of the capture of some lists, or the greatest number where it is past that.
-pub(crate) fn capture_len(lists: &[SegList]) -> usize {
+fn capture_len(lists: &[SegList]) -> usize {
     let mut len = FILE_HEADER_LEN;
     for list in lists {
         for segment in list.as_slice() {
@@ -108,9 +108,9 @@ pub(crate) fn capture_len(lists: &[SegList]) -> usize {
 // A segment of some lists: its key, the number of its list, and its index there. Keyed segments are ordered by all three.
 #[derive(Clone, Copy, Debug, PartialEq, Eq, PartialOrd, Ord)]
 pub(crate) struct KeyedSegment {
-    key: SegKey,
-    list: usize,
-    index: usize,
+    pub(crate) key: SegKey,
+    pub(crate) list: usize,
+    pub(crate) index: usize,
 }
 
 // The keyed segments of a list, from one of them on.
@@ -144,7 +144,7 @@ impl Iterator for KeyedSegments<'_> {
 }
 
 // The segment that a keyed one stands for.
-pub(crate) fn segment_of<'a>(lists: &'a [SegList], keyed: &KeyedSegment) -> &'a Framed
+fn segment_of<'a>(lists: &'a [SegList], keyed: &KeyedSegment) -> &'a Framed
     requires { IsKeyed lists.now keyed.now }
     ensures { result.now ≡ segment_of lists.now keyed.now }
 {

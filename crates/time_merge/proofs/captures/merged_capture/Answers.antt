@@ -5,19 +5,19 @@ use Rattle.std.proofs.lemmas.Iterator.Consumers.{YieldsList-from_enumerate, Yiel
 use Rattle.pcap_records.specs.Instants.{ticks_of}
 use Rattle.time_merge.specs.declared.merging.KeyedSegment.{KeyedSegment}
 use Rattle.time_merge.specs.MergedCapture.{capture_in_turn, capture_of}
-use Rattle.time_merge.specs.KeyedSegments.{IsKeyed, keyed_left}
+use Rattle.time_merge.specs.KeyedSegments.{IsKeyed, laid_left}
 use Rattle.time_merge.proofs.KeyedOrder.{derived_order, merged_keyed, merged_sorted}
 use Rattle.time_merge.proofs.KeySources.{keys_of_list, keys_of_lists, joined_keys, kept_item, run_to_item, run_to_end, run_gives, all_sorted, gave_all, gave_in_order}
 use Rattle.time_merge.proofs.captures.merged_capture.Given as given
 use Rattle.time_merge.proofs.captures.merged_capture.Goals as goal
 
 -- what the merge gave so far comes from the lists
-pub segment_of-segment-requires : goal.segment_of-segment-requires
-segment_of-segment-requires c =
-    let lists = c.args.lists.now in
+pub put_segment-requires : goal.put_segment-requires
+put_segment-requires c =
+    let lists = c.args.layouts.now in
     let run = c.in_ok-keyed-items.ensures.items in
-    let sources = run_gives lists run
-    (YieldsList-from_map_by _ keyed_left keys_of_list
+    let sources = run_gives laid_left lists run
+    (YieldsList-from_map_by _ laid_left keys_of_list
     (YieldsList-at c.map-sources.ensures.source (YieldsList-from_enumerate (YieldsList-at c.enumerate.ensures.source (YieldsList-from_slice lists (cc))) c.enumerate.ensures.count))
     c.map-sources.ensures.closure (λ x r q k. search rules)) in
     let so_far : List KeyedSegment = c.loop-keyed.yielded ++ c.in-Some.keyed ∷ [] in
@@ -31,16 +31,16 @@ segment_of-segment-requires c =
 pub returns : goal.returns
 unfolding capture_of
 returns c =
-    let lists = c.args.lists.now in
+    let lists = c.args.layouts.now in
     let yielded : List KeyedSegment = c.loop-keyed.yielded in
     let items = c.in_ok-keyed-items.ensures.items in
     let in_order = c.in_ok-keyed-items.ensures.in_order in
-    let all = run_gives lists items
-    (YieldsList-from_map_by _ keyed_left keys_of_list
+    let all = run_gives laid_left lists items
+    (YieldsList-from_map_by _ laid_left keys_of_list
     (YieldsList-at c.map-sources.ensures.source (YieldsList-from_enumerate (YieldsList-at c.enumerate.ensures.source (YieldsList-from_slice lists (cc))) c.enumerate.ensures.count))
     c.map-sources.ensures.closure (λ x r q k. search rules)) in
-    let sources = run_gives lists in_order
-    (YieldsList-from_map_by _ keyed_left keys_of_list
+    let sources = run_gives laid_left lists in_order
+    (YieldsList-from_map_by _ laid_left keys_of_list
     (YieldsList-at c.map-sources.ensures.source (YieldsList-from_enumerate (YieldsList-at c.enumerate.ensures.source (YieldsList-from_slice lists (cc))) c.enumerate.ensures.count))
     c.map-sources.ensures.closure (λ x r q k. search rules)) in
     let gave = items.3 (keys_of_lists lists) all yielded true

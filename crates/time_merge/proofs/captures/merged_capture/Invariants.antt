@@ -8,4 +8,4 @@ abbrev pub invariant-loop-keyed : goal.invariant-loop-keyed
 invariant-loop-keyed l =
     (goal.iterator-loop-keyed).can_next l.keyed-iterator
     × (goal.iterator-loop-keyed).is_finite l.keyed-iterator
-    × (l.bytes.items ≡ capture_in_turn (ticks_of l.fn.unit) (map (segment_of l.lists) l.yielded))
+    × (l.bytes.items ≡ capture_in_turn (ticks_of l.fn.unit) (map (segment_of l.layouts) l.yielded))

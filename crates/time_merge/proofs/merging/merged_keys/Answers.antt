@@ -10,7 +10,7 @@ use Rattle.time_merge.proofs.merging.merged_keys.Goals as goal
 pub returns-clause-all : goal.returns-clause-all
 returns-clause-all c =
     let run = c.in_ok-kmerge.ensures.items in
-    let sources = run_gives c.args.lists.now run
+    let sources = run_gives keyed_left c.args.lists.now run
     (YieldsList-from_map_by _ keyed_left keys_of_list
     (YieldsList-at c.map-sources.ensures.source (YieldsList-from_enumerate (YieldsList-at c.enumerate.ensures.source (YieldsList-from_slice c.args.lists.now (cc))) c.enumerate.ensures.count))
     c.map-sources.ensures.closure (λ x r q k. search rules)) in
@@ -20,7 +20,7 @@ returns-clause-all c =
 pub returns-clause-sorted : goal.returns-clause-sorted
 returns-clause-sorted c =
     let run = c.in_ok-kmerge.ensures.in_order in
-    let sources = run_gives c.args.lists.now run
+    let sources = run_gives keyed_left c.args.lists.now run
     (YieldsList-from_map_by _ keyed_left keys_of_list
     (YieldsList-at c.map-sources.ensures.source (YieldsList-from_enumerate (YieldsList-at c.enumerate.ensures.source (YieldsList-from_slice c.args.lists.now (cc))) c.enumerate.ensures.count))
     c.map-sources.ensures.closure (λ x r q k. search rules)) in

@@ -1,0 +1,45 @@
+//! Segments laid out: all of a written segment but the bytes of its record.
+ghost use Rattle.std.specs.Prelude.{◌≡◌};
+ghost use Rattle.segment_writer.specs.LaidSegments.{sender_of, parts_of};
+
+use crate::framed::SegKey;
+use crate::pieces::Cursor;
+use crate::senders::{Sender, peer_in};
+use frame_headers::Flags;
+use reassembly::LinePart;
+
+/// A segment that is to be written: its key, who sends it, its numbers and flags, and the `len` bytes of its payload, which begin
+/// at a cursor over the parts of its sender's line.
+#[derive(Clone, Copy, Debug)]
+pub struct Laid {
+    /// What it is ordered by.
+    pub key: SegKey,
+    pub(crate) is_server: bool,
+    pub(crate) flags: Flags,
+    pub(crate) seq: u32,
+    pub(crate) ack: u32,
+    pub(crate) from: Cursor,
+    pub(crate) len: usize,
+}
+
+/// The client of a connection, or its server.
+pub(crate) fn sender_of(client: &Sender, is_server: bool) -> Sender
+    ensures { result ≡ sender_of client.now is_server }
+{
+    if is_server {
+        peer_in(client, 0)
+    } else {
+        *client
+    }
+}
+
+/// The parts of the client's line, or of the server's.
+pub(crate) fn parts_of<'p, 'a>(
+    up: &'p [LinePart<'a>],
+    down: &'p [LinePart<'a>],
+    is_server: bool,
+) -> &'p [LinePart<'a>]
+    ensures { result.now ≡ parts_of up.now down.now is_server }
+{
+    if is_server { down } else { up }
+}

@@ -18,7 +18,7 @@ rows_are_whole ticks seed r =
     length-rows (delivery_of ticks seed) (enumerate_from 0 r.scenarios) (connections_of r.seen) ∙ ap (λ n. n * length (connections_of r.seen)) (length-enumerate_from 0 r.scenarios)
 
 -- connections stand in order of number
-own_number : (segs : List IndexedSegment) (number : ℕ) (c : Connection) → slice_get (connections segs) number ≡ Some c → c.number ≡ number
+pub own_number : (segs : List IndexedSegment) (number : ℕ) (c : Connection) → slice_get (connections segs) number ≡ Some c → c.number ≡ number
 unfolding connections
 own_number segs number c is =
     number_is (connection_of segs) (λ x. x.number) (λ p. refl) 0 (beginnings segs) number c is ∙ (let e : 0 + number ≡ number = omega arith in e)

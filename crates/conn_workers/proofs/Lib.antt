@@ -3,3 +3,5 @@ mod RowLemmas
 pub mod TableConnections
 mod DeliverySteps
 mod Isolated
+mod RecordedInTime
+mod MadeOfRecorded

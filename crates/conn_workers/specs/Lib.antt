@@ -4,5 +4,6 @@ pub mod DeliveryRows
 pub mod CaptureTables
 pub mod Recordings
 pub mod DeliveryLaws
+pub mod RecordedDeliveries
 pub use Rattle.pcap_records.specs.Instants
 pub use Rattle.pcap_records.specs.CaptureView

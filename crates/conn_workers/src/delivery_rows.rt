@@ -3,29 +3,32 @@ ghost use Rattle.std.specs.Prelude.{◌≡◌, ◌≤◌, length, IfOk};
 ghost use Rattle.job_matrix.specs.Boards.{number_limit};
 ghost use Rattle.conn_workers.specs.Recordings.{recorded_row};
 
-use crate::deliveries::Deliveries;
+use crate::laid_deliveries::LaidDelivery;
 use crate::recordings::Recordings;
 use crate::scenario_jobs::RowJobs;
-use job_matrix::{Gate, Phase, Plan, Through, work_all, work_alone};
+use job_matrix::{Gate, Phase, Plan, Through, Values, work_all, work_alone};
 use scenarios::Scenario;
 use std::alloc::{AllocError, Global};
 use std::thread::Threads;
 
-/// What each connection contributes to a scenario with its number, in order of the connections' numbers. Workers make it in phase
-/// `Jobs`, with one job for each connection. The answer is the same whatever the plan and the gate.
+/// What each connection contributes to one scenario, in order of the connections' numbers, with its segments laid out.
+pub type LaidRow<'a> = Values<LaidDelivery<'a>>;
+
+/// What each connection contributes to a scenario with its number. Workers make it in phase `Jobs`, with one job for each
+/// connection. The answer is the same whatever the plan and the gate.
 ///
 /// # Errors
 /// A growth was refused.
-pub fn deliver_row<R: Threads + Sync, G: Gate>(
+pub fn deliver_row<'a, R: Threads + Sync, G: Gate>(
     rt: &R,
     alloc: Global,
-    recordings: &Recordings<'_, '_>,
+    recordings: &Recordings<'_, 'a>,
     number: u32,
     scenario: &Scenario,
     seed: u64,
     plan: Plan,
     gate: &G,
-) -> Result<Deliveries, AllocError>
+) -> Result<LaidRow<'a>, AllocError>
     requires { length recordings.now ≤ number_limit }
     ensures { IfOk result (λ v. v ≡ recorded_row seed (number, scenario.now) recordings.now) }
 {
@@ -46,13 +49,13 @@ pub fn deliver_row<R: Threads + Sync, G: Gate>(
 ///
 /// # Errors
 /// A growth was refused.
-pub fn deliver_row_alone(
+pub fn deliver_row_alone<'a>(
     alloc: Global,
-    recordings: &Recordings<'_, '_>,
+    recordings: &Recordings<'_, 'a>,
     number: u32,
     scenario: &Scenario,
     seed: u64,
-) -> Result<Deliveries, AllocError>
+) -> Result<LaidRow<'a>, AllocError>
     requires { length recordings.now ≤ number_limit }
     ensures { IfOk result (λ v. v ≡ recorded_row seed (number, scenario.now) recordings.now) }
 {

@@ -6,21 +6,19 @@ ghost use Rattle.toxic_defs.specs.Limits.{most_toxics};
 ghost use Rattle.conn_workers.specs.CaptureTables.{whole_table};
 ghost use Rattle.conn_workers.specs.DeliveryRows.{scenario_limit};
 ghost use Rattle.conn_workers.specs.MetProxies.{met_of, met_proxy};
-ghost use Rattle.conn_workers.specs.Recordings.{recorded_delivery};
 
 use crate::deliveries::Delivery;
+use crate::laid_deliveries::laid_delivery;
 use conn_table::Conn;
 use frame_headers::Peer;
 use job_matrix::Work;
 use pcap_records::Capture;
 use reassembly::laws::{connections_are_of_capture, conns_are_of_capture};
 use reassembly::{Recorded, lines};
-use report::line;
 use scenarios::{Proxy, Scenario};
-use segment_writer::segments;
 use std::alloc::{AllocError, Global};
 use std::marker::Model;
-use toxic_defs::{MetProxy, delivered_by};
+use toxic_defs::MetProxy;
 
 /// A connection of a table, with what is recorded of it.
 #[derive(Drop)]
@@ -109,32 +107,9 @@ impl<'w, 'v, 'a> Work for ContributionJobs<'w, 'v, 'a> {
         let number = job / count;
         let recording = &self.recordings[(job % count) as usize];
         let scenario = &self.scenarios[number as usize];
-        delivery(self.alloc, recording, number as u32, scenario, self.seed)
+        let laid = laid_delivery(self.alloc, recording, number as u32, scenario, self.seed)?;
+        laid.written(self.alloc)
     }
-}
-
-// What a connection contributes to a scenario with its number.
-pub(crate) fn delivery(
-    alloc: Global,
-    recording: &Recording<'_, '_>,
-    number: u32,
-    scenario: &Scenario,
-    seed: u64,
-) -> Result<Delivery, AllocError>
-    ensures { IfOk result (λ d. d ≡ recorded_delivery seed (number, scenario.now) recording.now) }
-{
-    let conn = recording.conn;
-    let recorded = &recording.recorded;
-    let met = met_proxy(scenario, conn.server);
-    let delivered = delivered_by(alloc, recorded, met, seed, number, conn.number)?;
-    let segments = segments(alloc, conn, recorded, &delivered)?;
-    let line = line(alloc, conn, recorded, &delivered)?;
-    Ok(Delivery {
-        scenario: number,
-        conn: conn.number,
-        segments,
-        line,
-    })
 }
 
 // What a connection meets of a proxy with its number.

@@ -9,11 +9,13 @@
 mod deliveries;
 mod delivery_rows;
 mod jobs;
+mod laid_deliveries;
 pub mod laws;
 mod recordings;
 mod scenario_jobs;
 
 pub use deliveries::{Deliveries, Delivery, deliver};
-pub use delivery_rows::{deliver_row, deliver_row_alone};
+pub use delivery_rows::{LaidRow, deliver_row, deliver_row_alone};
 pub use jobs::Recording;
+pub use laid_deliveries::LaidDelivery;
 pub use recordings::{Recordings, record, report_lines};

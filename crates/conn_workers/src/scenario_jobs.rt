@@ -1,8 +1,8 @@
 //! The two works under one scenario: what each connection contributes to it, and each connection's line of its report.
 ghost use Rattle.std.specs.Prelude.{◌≡◌, IfOk};
 
-use crate::deliveries::Delivery;
-use crate::jobs::{Recording, delivery, met_proxy};
+use crate::jobs::{Recording, met_proxy};
+use crate::laid_deliveries::{LaidDelivery, laid_delivery};
 use job_matrix::Work;
 use report::{ReportText, line};
 use scenarios::Scenario;
@@ -25,7 +25,7 @@ pub(crate) struct RowJobs<'w, 'v, 'a> {
 }
 
 impl<'w, 'v, 'a> Work for RowJobs<'w, 'v, 'a> {
-    type Out = Delivery;
+    type Out = LaidDelivery<'a>;
 
     ghost use Rattle.std.specs.Prelude.{◌≡◌, ◌<◌, length, get_or, IfOk};
     ghost use Rattle.conn_workers.specs.Recordings.{recorded_row, no_delivery};
@@ -34,9 +34,9 @@ impl<'w, 'v, 'a> Work for RowJobs<'w, 'v, 'a> {
 
     ghost meaning = { λ w job. get_or (recorded_row w.seed (w.number, w.scenario.now) w.recordings.now) job no_delivery };
 
-    fn value(&self, job: u64) -> Result<Delivery, AllocError> {
+    fn value(&self, job: u64) -> Result<LaidDelivery<'a>, AllocError> {
         let recording = &self.recordings[job as usize];
-        delivery(self.alloc, recording, self.number, self.scenario, self.seed)
+        laid_delivery(self.alloc, recording, self.number, self.scenario, self.seed)
     }
 }
 

@@ -14,4 +14,5 @@ pub mod Chunks
 pub mod Between
 pub mod OfCapture
 pub mod LinesMade
+pub mod InTime
 pub mod LineBytes

@@ -19,7 +19,7 @@ pub record AreLines (r : RecordedConnection) : Type 0 where
   pub up : IsLine r.up.line
   pub down : IsLine r.down.line
 
-shorts : (ticks : ℕ) (c : CaptureView) (x : IndexedConnection) → IsSoundCapture ticks c.bytes c.records → PayloadsAreInPlace → IsConnectionOf c x → AllByRecursion HasShortPayload (members_of (without_indices x))
+pub shorts : (ticks : ℕ) (c : CaptureView) (x : IndexedConnection) → IsSoundCapture ticks c.bytes c.records → PayloadsAreInPlace → IsConnectionOf c x → AllByRecursion HasShortPayload (members_of (without_indices x))
 shorts ticks c x sound law of =
     all_map HasShortPayload (λ s. s.timed) (x.opening ∷ x.later)
     (all_weaker (IsHeard c x.opening.timed.fields.from x.opening.timed.fields.to) (λ s. HasShortPayload s.timed) short (x.opening ∷ x.later) (all_heard ticks c x sound law of))

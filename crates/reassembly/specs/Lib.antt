@@ -6,4 +6,5 @@ pub mod MemberSpans
 pub mod SideLines
 pub mod LineLaws
 pub mod RecordedView
+pub mod ConnectionInstants
 pub mod RecordedRows

@@ -1,6 +1,11 @@
-//! Theorems about the definitions of this crate. Each function does nothing: its contract is the theorem.
+//! Theorems about the definitions of this crate. Each function does nothing, or names the theorems that it stands on: its
+//! contract is the theorem.
+ghost use Rattle.reassembly.specs.ConnectionInstants.{ConnectionsAreInTime};
 ghost use Rattle.reassembly.specs.LineLaws.{RecordedSidesAreLines, RecordedSidesLieBetween};
 ghost use Rattle.reassembly.specs.RecordedView.{ConnectionsAreOfCapture, ConnsAreOfCapture};
+
+use conn_table::laws::indexed_connections_agree;
+use frame_headers::laws::payloads_are_in_place;
 
 /// The connections of the segments in a range of a capture's records, as the table lists them, are those of which `lines` tells
 /// what was sent: their segments are recorded in the capture, go between two peers, and have instants that do not fall.
@@ -25,3 +30,13 @@ pub fn recorded_sides_are_lines()
 pub fn recorded_sides_lie_between()
     ensures { RecordedSidesLieBetween }
 {}
+
+/// The segments of each connection of a capture were recorded from its opening on and none past the horizon, at instants that do
+/// not fall, and their payloads are no longer than a capture. The connections are those of a range's segments, as those of all
+/// records are.
+pub fn connections_are_in_time()
+    ensures { ConnectionsAreInTime }
+{
+    payloads_are_in_place();
+    indexed_connections_agree();
+}

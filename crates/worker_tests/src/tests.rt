@@ -5,6 +5,7 @@ mod deliveries;
 mod joining;
 mod merging;
 mod range_tables;
+mod recorded_bytes;
 mod tables;
 mod vlans;
 mod workers;

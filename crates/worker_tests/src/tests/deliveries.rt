@@ -5,7 +5,9 @@ ghost use Rattle.conn_workers.specs.CaptureTables.{whole_table};
 use super::checks::check;
 use conn_table::laws::tables_agree;
 use conn_table::{Partial, Table, finish};
-use conn_workers::{Delivery, Recordings, deliver, deliver_row, deliver_row_alone, record};
+use conn_workers::{
+    Delivery, LaidRow, Recordings, deliver, deliver_row, deliver_row_alone, record,
+};
 use job_matrix::{Gate, Phase, Plan, Through};
 use pcap_records::{Capture, Moment, read_capture};
 use scenarios::{Hosts, Scenario, read_scenario};
@@ -20,7 +22,7 @@ use worked_sessions::sessions::{
 };
 
 // Latency with jitter before the server of the second connection.
-const DELAYED: &str =
+pub(super) const DELAYED: &str =
     "{\"name\":\"web\",\"upstream\":\"10.0.0.2:80\",\"toxics\":[{\"type\":\"latency\",\"stream\":\"upstream\",\"attributes\":{\"latency\":100,\"jitter\":50}}]}";
 
 // Silence before that of the first one.
@@ -43,7 +45,7 @@ const DELAYED_LINE: &str =
     "1 10.0.0.1:40000 > 10.0.0.2:80 proxy 0 up 2/2/0 open max 73000 down 0/0/0 open max 0\n";
 
 // A client's openings to two servers, and two bytes to the second.
-fn segments() -> [RecordedSegment<'static>; 3] {
+pub(super) fn segments() -> [RecordedSegment<'static>; 3] {
     [
         segment((1, 0), CLIENT, SECOND_CLIENT, SYN, (1000, 0), b""),
         segment((1, 100_000), CLIENT, SERVER, SYN, (2000, 0), b""),
@@ -73,7 +75,7 @@ pub(super) fn scenario(alloc: Global, proxies: &[&str]) -> Result<Scenario, Fail
 }
 
 // The table of all records.
-fn whole_table(alloc: Global, capture: &Capture<'_>) -> Result<Table, AllocError>
+pub(super) fn whole_table(alloc: Global, capture: &Capture<'_>) -> Result<Table, AllocError>
     ensures { IfOk result (λ table. table ≡ whole_table capture.now) }
 {
     tables_agree();
@@ -173,6 +175,15 @@ fn is_second_row(row: &[Delivery]) -> bool {
     first && is_delivery(row, 1, (1, 1), 2, REFUSED_LINE) && row.len() == 2
 }
 
+// A row with the records of its segments.
+fn written(alloc: Global, row: LaidRow<'_>) -> Result<Vec<Delivery>, AllocError> {
+    let mut deliveries = Vec::new(alloc);
+    for delivery in row.into_vec() {
+        deliveries.push(delivery.written(alloc)?)?;
+    }
+    Ok(deliveries)
+}
+
 // That one thread alone and workers give the second row, of what is recorded.
 fn check_second_row<R: Abort + Threads + Sync>(
     rt: &R,
@@ -184,9 +195,9 @@ fn check_second_row<R: Abort + Threads + Sync>(
 {
     let second = scenario(alloc, &[DISABLED])?;
     let row = deliver_row_alone(alloc, recordings, 1, &second, 42)?;
-    check(rt, "alone", is_second_row(row.as_slice()));
+    check(rt, "alone", is_second_row(&written(alloc, row)?));
     let row = deliver_row(rt, alloc, recordings, 1, &second, 42, plan, &Through)?;
-    check(rt, "by workers", is_second_row(row.as_slice()));
+    check(rt, "by workers", is_second_row(&written(alloc, row)?));
     Ok(())
 }
 

@@ -1,4 +1,5 @@
 //! Tests over the public calls of all crates, with values from outside.
+mod again;
 mod answering;
 mod captures;
 mod commands;
@@ -6,6 +7,7 @@ mod connections;
 mod dumps;
 mod isolation;
 mod limits;
+mod named_files;
 mod plans;
 mod readers;
 mod rehearsed;

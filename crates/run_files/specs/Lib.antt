@@ -1,5 +1,6 @@
 pub mod RunFault
 pub mod Streams
+pub mod Paths
 pub mod Dumps
 pub mod Shelves
 pub mod WrittenOutputs

@@ -8,6 +8,7 @@ mod error;
 mod fault_lines;
 pub mod laws;
 mod outputs;
+mod paths;
 mod shelves;
 mod streams;
 
@@ -15,5 +16,6 @@ pub use dumps::{is_dump, undump};
 pub use error::{RunFault, ShelfError, StoreFault};
 pub use fault_lines::fault_line;
 pub use outputs::{Output, Outputs, print_reports, store_all, store_from};
+pub use paths::{FileSystem, Paths};
 pub use shelves::{Folder, MemoryFile, MemoryShelf, Shelf};
 pub use streams::{Counted, load, write_bytes};

@@ -83,7 +83,7 @@ of_scenarios hosts earlier (text ∷ texts) =
 
 module _ (hosts : List KnownHost) (texts : List (List ℕ)) (seed : ℕ) where
   -- a text past the limit is too long
-  too_long : (text : List ℕ) → capture_limit < length text → called_for hosts texts seed text ≡ Err CaptureTooLong
+  pub too_long : (text : List ℕ) → capture_limit < length text → called_for hosts texts seed text ≡ Err CaptureTooLong
   unfolding called_for
   too_long text h = rw lt-ltb refl
 

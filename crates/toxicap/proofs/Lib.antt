@@ -12,6 +12,7 @@ mod PrintedSteps
 mod OutputSteps
 mod StoredSteps
 mod StoringEnds
+mod NamedSteps
 mod RunSteps
 mod FirstPlaces
 mod WrittenLines

@@ -1,7 +1,7 @@
 -- Outputs of scenarios, one of them or some from a number on.
 use Rattle.std.proofs.Common.{◌≡◌, ◌<◌, ◌≤◌, ℕ, ◌+◌, ◌-◌, List, length, map, take, drop, get_or, sym, ap, ◌∙◌, arith}
 use Rattle.std.specs.List.{enumerate_from, range_with_len}
-use Rattle.std.proofs.lemmas.List.{get_or-map, length-map, length-drop, length-append, length-take-le, take_all, take-append-drop, get_or-take, get_or-drop}
+use Rattle.std.proofs.lemmas.List.{get_or-map, length-map, length-drop, length-append, length-take-le, take-append-drop, get_or-take, get_or-drop}
 use Rattle.std.proofs.lemmas.List.FromFn.{length-enumerate_from, fill_by_all}
 use Rattle.pcap_records.specs.CaptureView.{CaptureView, contents_of}
 use Rattle.conn_table.specs.SeenCapture.{SeenCapture, seen_capture}
@@ -25,11 +25,9 @@ as_wide c seed s rs row count wide are is =
     wide ∙ sym (as_many_recorded c) ∙ ap length (sym are) ∙ sym (length-map rs (recorded_delivery seed s)) ∙ ap length (sym is)
 
 -- and they are what the connections contribute
-pub whole_row : RowsAreContributed → (c : CaptureView) (seed : ℕ) (s : ℕ × List Proxy) (rs : List RecordingView) (row : List Delivery) (count : ℕ) → count ≡ length (whole_table c).conns
-    → rs ≡ recordings_of c → row ≡ recorded_row seed s rs → take count row ≡ map (delivery_of c.ticks seed s) (connections_of (seen_capture (contents_of c)))
-whole_row contributed c seed s rs row count wide are is =
-    let long : length row ≤ count = omega (arith, as_wide c seed s rs row count wide are is) in
-    take_all count row long ∙ is ∙ ap (recorded_row seed s) are ∙ contributed seed c s
+pub whole_row : RowsAreContributed → (c : CaptureView) (seed : ℕ) (s : ℕ × List Proxy) (rs : List RecordingView) (row : List Delivery)
+    → rs ≡ recordings_of c → row ≡ recorded_row seed s rs → row ≡ map (delivery_of c.ticks seed s) (connections_of (seen_capture (contents_of c)))
+whole_row contributed c seed s rs row are is = is ∙ ap (recorded_row seed s) are ∙ contributed seed c s
 
 -- ---- outputs
 

@@ -1,30 +1,24 @@
 -- The reports of a rehearsal, one scenario after another, and how they come of what a text calls for.
-use Rattle.std.proofs.Common.{◌≡◌, ◌<◌, ◌≤◌, ℕ, ◌+◌, List, [], ◌∷◌, ◌++◌, length, map, take, get_or, Option, Some, None, Result, Ok, Err, refl, sym, ap, ap₂, ◌∙◌, arith, append-nil}
+use Rattle.std.proofs.Common.{◌≡◌, ◌<◌, ℕ, ◌+◌, List, [], ◌∷◌, ◌++◌, length, map, take, get_or, Option, Some, None, Result, Ok, Err, sym, ap, ap₂, ◌∙◌, arith, append-nil}
 use Rattle.std.specs.Prelude.{IfSome}
 use Rattle.std.specs.List.{enumerate_from}
 use Rattle.std.proofs.lemmas.List.Concat.{flat_map-append}
 use Rattle.std.proofs.lemmas.List.FromFn.{get_or-enumerate_from}
 use Rattle.pcap_records.specs.Agreement.{AgreesUnlessMemory}
 use Rattle.pcap_records.specs.CaptureView.{CaptureView, contents_of}
-use Rattle.pcap_records.specs.Reading.{capture_limit}
 use Rattle.conn_table.specs.SeenCapture.{SeenCapture, seen_capture}
 use Rattle.conn_table.specs.IndexedSegments.{indexed_segments}
 use Rattle.conn_table.specs.Connections.{unopened_count}
 use Rattle.report.specs.ReportText.{report_text}
 use Rattle.run_files.specs.declared.error.RunFault.{RunFault}
-use Rattle.run_files.specs.declared.error.RunFault.TheVariants.{ReadFailed}
 use Rattle.run_files.specs.declared.outputs.Output.{Output}
 use Rattle.run_files.specs.RunFault.{run_refusal}
 use Rattle.run_files.specs.WrittenOutputs.{reports_of}
-use Rattle.scenarios.specs.declared.hosts.KnownHost.{KnownHost}
 use Rattle.scenarios.specs.declared.proxies.Proxy.{Proxy}
 use Rattle.conn_workers.specs.DeliveryLaws.{LinesAreContributed}
 use Rattle.conn_workers.specs.Recordings.{recordings_of, recorded_lines}
-use Rattle.toxicap.specs.Answering.{called_for}
-use Rattle.toxicap.specs.PrintedReports.{reports_in, ReportsBy}
+use Rattle.toxicap.specs.PrintedReports.{reports_in}
 use Rattle.toxicap.specs.Rehearsal.{output}
-use Rattle.toxicap.specs.RunEnds.{failed_reads}
-use Rattle.toxicap.proofs.AnswerSteps.{answered, none_read}
 use Rattle.toxicap.proofs.RowSteps.{mapped_more}
 
 -- ---- one scenario after another
@@ -62,7 +56,7 @@ is_fault : (wanted : Result (List Output) RunFault) (fault : RunFault) → repor
 is_fault (Ok outputs) fault is = absurd cc
 is_fault (Err other) fault is = let same : other ≡ fault = cc in ap Err same
 
-of_fault : (fault : RunFault) (wanted : Result (List Output) RunFault)
+pub of_fault : (fault : RunFault) (wanted : Result (List Output) RunFault)
     → AgreesUnlessMemory run_refusal (λ (reports : List ℕ). reports) (Err fault) (reports_in wanted)
     → AgreesUnlessMemory run_refusal (λ (outputs : List Output). outputs) (Err fault) wanted
 of_fault fault wanted is = by (run_refusal fault) is
@@ -70,27 +64,3 @@ of_fault fault wanted is = by (run_refusal fault) is
     by : (refused : Option RunFault) → IfSome refused (λ f. reports_in wanted ≡ Err f) → IfSome refused (λ f. wanted ≡ Err f)
     by (Some f) is = is_fault wanted f is
     by None is = tt
-
-of_outputs : (wanted : Result (List Output) RunFault) (reports : List ℕ) → reports_in wanted ≡ Ok reports
-    → (outputs : List Output) × (wanted ≡ Ok outputs) × (reports ≡ reports_of outputs)
-of_outputs (Ok outputs) reports is = (outputs, refl, let same : reports_of outputs ≡ reports = cc in sym same)
-of_outputs (Err fault) reports is = absurd cc
-
-no_other : (A B : Type 0) (fault : RunFault) → failed_reads (let r : Result A RunFault = Err fault in r) ≡ failed_reads (let r : Result B RunFault = Err fault in r)
-no_other A B ReadFailed = refl
-no_other A B _ = refl
-
-module _ (hosts : List KnownHost) (texts : List (List ℕ)) (seed : ℕ) where
-  -- what agrees with the reports of what was called for comes of it
-  pub reported : (result : Result (List ℕ) RunFault) (text : List ℕ) (AtEnd : Type 0) → length text ≤ capture_limit → AtEnd
-      → AgreesUnlessMemory run_refusal (λ (reports : List ℕ). reports) result (reports_in (called_for hosts texts seed text))
-      → ReportsBy result (called_for hosts texts seed text) text AtEnd
-  reported (Ok reports) text AtEnd within at_end is = (at_end, of_outputs (called_for hosts texts seed text) reports is)
-  reported (Err fault) text AtEnd within at_end is = answered hosts texts seed (Err fault) text AtEnd within at_end (of_fault fault (called_for hosts texts seed text) is)
-
-  -- and no read has failed
-  pub none_reported : (result : Result (List ℕ) RunFault) (text : List ℕ)
-      → AgreesUnlessMemory run_refusal (λ (reports : List ℕ). reports) result (reports_in (called_for hosts texts seed text)) → failed_reads result ≡ 0
-  none_reported (Ok reports) text is = refl
-  none_reported (Err fault) text is =
-      no_other (List ℕ) (List Output) fault ∙ none_read hosts texts seed (Err fault) text (of_fault fault (called_for hosts texts seed text) is)

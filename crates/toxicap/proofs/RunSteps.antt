@@ -1,64 +1,158 @@
--- How a run ends, by what was answered and printed or stored.
-use Rattle.std.proofs.Common.{◌≡◌, ℕ, ◌≤◌, List, [], length, Option, Some, None, inr, Result, Ok, Err, arith}
+-- How a run ends, by how its capture was loaded and what its text calls for.
+use Rattle.std.proofs.Common.{◌≡◌, ℕ, ◌+◌, ◌<◌, ◌≤◌, List, [], length, replicate, Option, Some, None, inr, Result, Ok, Err, refl, arith}
+use Rattle.std.specs.Prelude.{IfNone, IfSome, OnSome}
 use Rattle.std.specs.Borrow.{Bor}
+use Rattle.std.proofs.lemmas.List.{length-replicate}
+use Rattle.pcap_records.specs.Agreement.{AgreesUnlessMemory}
 use Rattle.pcap_records.specs.Reading.{capture_limit}
 use Rattle.scenarios.specs.declared.hosts.KnownHost.{KnownHost}
+use Rattle.command_line.specs.declared.asked.Asked.{Asked}
 use Rattle.run_files.specs.declared.outputs.Output.{Output}
 use Rattle.run_files.specs.declared.error.RunFault.{RunFault}
 use Rattle.run_files.specs.declared.error.RunFault.TheVariants.{BadHost, CaptureTooLong, Memory, ReadFailed, ShelfFailed, WriteFailed}
-use Rattle.toxicap.specs.Answering.{called_for, AnswersBy}
-use Rattle.run_files.specs.Shelves.{StoredFile}
-use Rattle.run_files.specs.RunFault.{run_fault_of_storing}
-use Rattle.run_files.specs.WrittenOutputs.{Stores, files_from}
-use Rattle.run_files.specs.declared.error.StoreFault.{StoreFault}
-use Rattle.run_files.specs.declared.error.StoreFault.TheVariants as store
+use Rattle.run_files.specs.Paths.{IsOfFile}
+use Rattle.run_files.specs.RunFault.{run_refusal}
+use Rattle.run_files.specs.Streams.{StopsLoading}
+use Rattle.toxicap.specs.Answering.{called_for}
+use Rattle.toxicap.specs.Commands.{AnswersFrom, AnswersInto, RunsBy, Streams}
 use Rattle.toxicap.specs.Inputs.{TakesInputs}
-use Rattle.toxicap.specs.Commands.{Streams, AnswersInto, RunsBy}
-use Rattle.command_line.specs.declared.asked.Asked.{Asked}
-use Rattle.toxicap.specs.RunEnds.{StoresBy, failed_reads}
+use Rattle.toxicap.specs.NamedFiles.{EndsOf}
+use Rattle.toxicap.specs.PrintedReports.{PrintsOf, reports_in}
+use Rattle.toxicap.specs.RunEnds.{PrintsBy, failed_reads, failed_writes}
+use Rattle.toxicap.specs.StoredOutputs.{StoresOf}
+use Rattle.toxicap.proofs.AnswerSteps.{never, stopped}
+use Rattle.toxicap.proofs.PrintedSteps.{of_fault}
+use Rattle.toxicap.proofs.StoringEnds.{stores_by, none_failed}
 
--- an answer was stored in part
-pub stopped_storing : (fault : StoreFault) (wanted : Result (List Output) RunFault) (outputs : List Output) (text : List ℕ) (AtEnd : Type 0)
-    (Took : List StoredFile → Type 0) (before after : ℕ) → wanted ≡ Ok outputs → AtEnd → length text ≤ capture_limit
-    → Stores (files_from 0 outputs) Took before after (Err fault) → StoresBy (Err (run_fault_of_storing fault)) wanted text AtEnd
-stopped_storing (store.ShelfFailed stored) wanted outputs text AtEnd Took before after is at_end within stores = (at_end, (outputs, is, stores.0))
-stopped_storing (store.Memory stored) wanted outputs text AtEnd Took before after is at_end within stores = within
+-- ---- faults that are no failed write and no failed shelf
 
--- ---- what a command line asks for
+abbrev pub IsOfInput : RunFault → Type 0
+IsOfInput WriteFailed = ⊥
+IsOfInput (ShelfFailed after) = ⊥
+IsOfInput _ = Unit {0}
 
--- nothing is said of the end of a file
-refused_anywhere : (fault : RunFault) (wanted : Result (List Output) RunFault) (text : List ℕ) (AtEnd : Type 0)
-    → AnswersBy (Err fault) wanted text AtEnd → AnswersBy (Err fault) wanted text (Unit {0})
-refused_anywhere ReadFailed wanted text AtEnd is = is
-refused_anywhere Memory wanted text AtEnd is = is
-refused_anywhere CaptureTooLong wanted text AtEnd is = is
-refused_anywhere WriteFailed wanted text AtEnd is = is
-refused_anywhere (ShelfFailed after) wanted text AtEnd is = is
-refused_anywhere (BadHost at) wanted text AtEnd is = is
-refused_anywhere _ wanted text AtEnd is = (tt, is.1)
+pub ends_refused : (out : Option (Bor (List ℕ))) (fault : RunFault) (wanted : Result (List Output) RunFault) (Wrote : List ℕ → Type 0) → IsOfInput fault
+    → IfSome (run_refusal fault) (λ refused. wanted ≡ Err refused) → EndsOf out (Err fault) wanted Wrote
+ends_refused None Memory wanted Wrote own is = tt
+ends_refused None WriteFailed wanted Wrote own is = absurd own
+ends_refused None fault wanted Wrote own is = is
+ends_refused (Some folder) Memory wanted Wrote own is = tt
+ends_refused (Some folder) (ShelfFailed after) wanted Wrote own is = absurd own
+ends_refused (Some folder) fault wanted Wrote own is = is
 
-pub forget_end : (out : Option (Bor (List ℕ))) (result : Result (Unit {0}) RunFault) (wanted : Result (List Output) RunFault) (text : List ℕ) (AtEnd Unwritten : Type 0) (Wrote : List ℕ → Type 0)
-    → AnswersInto out result wanted text AtEnd Unwritten Wrote → AnswersInto out result wanted text (Unit {0}) Unwritten Wrote
-forget_end None (Ok u) wanted text AtEnd Unwritten Wrote is = (tt, is.1)
-forget_end None (Err WriteFailed) wanted text AtEnd Unwritten Wrote is = (tt, is.1)
-forget_end None (Err fault) wanted text AtEnd Unwritten Wrote is = refused_anywhere fault wanted text AtEnd is
-forget_end (Some folder) (Ok u) wanted text AtEnd Unwritten Wrote is = ((tt, is.0.1), is.1)
-forget_end (Some folder) (Err (ShelfFailed after)) wanted text AtEnd Unwritten Wrote is = ((tt, is.0.1), is.1)
-forget_end (Some folder) (Err fault) wanted text AtEnd Unwritten Wrote is = (refused_anywhere fault wanted text AtEnd is.0, is.1)
+pub none_written : (fault : RunFault) → IsOfInput fault → failed_writes (let r : Result (Unit {0}) RunFault = Err fault in r) ≡ 0
+none_written WriteFailed own = absurd own
+none_written fault own = refl
 
-module _ (asked : Asked) (hosts : List KnownHost) (texts : List (List ℕ)) (takes : TakesInputs asked hosts texts) (result : Result (Unit {0}) RunFault) (s : Streams) where
-  -- the capture was read of standard input
-  pub answered_of_input : asked.capture ≡ None → (text : List ℕ) → s.Read text (failed_reads result)
-      → AnswersInto asked.out result (called_for hosts texts asked.seed text) text s.AtEnd s.Unwritten s.Wrote → RunsBy asked result s
-  answered_of_input is text read into = inr (hosts, texts, takes, rw is (text, read, into))
+-- ---- a text of some length, and how loading stops after one
 
-  -- the capture was read of a file
-  pub answered_of_file : (path : Bor (List ℕ)) → asked.capture ≡ Some path → s.Unread → (text : List ℕ)
-      → AnswersInto asked.out result (called_for hosts texts asked.seed text) text (Unit {0}) s.Unwritten s.Wrote → RunsBy asked result s
-  answered_of_file path is unread text into = inr (hosts, texts, takes, rw is (text, unread, into))
+longer : (n : ℕ) → (text : List ℕ) × (n < length text)
+longer n = (replicate (n + 1) 0, omega (arith, length-replicate {A = ℕ} (n + 1) 0))
 
--- a file that cannot be opened
-pub nothing_read : (out : Option (Bor (List ℕ))) (wanted : Result (List Output) RunFault) (Unwritten : Type 0) (Wrote : List ℕ → Type 0) → Unwritten
-    → AnswersInto out (Err ReadFailed) wanted [] (Unit {0}) Unwritten Wrote
-nothing_read None wanted Unwritten Wrote unwritten = omega arith
-nothing_read (Some folder) wanted Unwritten Wrote unwritten = (omega arith, unwritten)
+some_stop : (fault : RunFault) → IsOfFile fault → (text : List ℕ) × (failed : ℕ) × StopsLoading fault (length text) 0 failed
+some_stop ReadFailed own = ([], 1, (omega arith, refl))
+some_stop CaptureTooLong own = let text = longer capture_limit in (text.0, 0, (text.1, refl))
+some_stop Memory own = ([], 0, (omega arith, refl))
+some_stop _ own = absurd own
+
+stop_counts : (fault : RunFault) (given old new : ℕ) → StopsLoading fault given old new
+    → new ≡ old + failed_reads (let r : Result (Unit {0}) RunFault = Err fault in r)
+stop_counts ReadFailed given old new is = is.1
+stop_counts CaptureTooLong given old new is = omega (arith, is.1)
+stop_counts Memory given old new is = omega (arith, is.1)
+stop_counts _ given old new is = absurd is
+
+module _ (hosts : List KnownHost) (texts : List (List ℕ)) (seed : ℕ) (Wrote : List ℕ → Type 0) where
+  -- ---- what a text calls for, printed or stored
+
+  input_fault : (fault : RunFault) (text : List ℕ) → AgreesUnlessMemory run_refusal (λ (outputs : List Output). outputs) (Err fault) (called_for hosts texts seed text) → IsOfInput fault
+  input_fault WriteFailed text is = never hosts texts seed text is (λ own. own)
+  input_fault (ShelfFailed after) text is = never hosts texts seed text is (λ own. own)
+  input_fault _ text is = tt
+
+  pub reports_fault : (fault : RunFault) (text : List ℕ) → AgreesUnlessMemory run_refusal (λ (reports : List ℕ). reports) (Err fault) (reports_in (called_for hosts texts seed text)) → IsOfInput fault
+  reports_fault fault text is = input_fault fault text (of_fault fault (called_for hosts texts seed text) is)
+
+  pub reports_refused : (out : Option (Bor (List ℕ))) (fault : RunFault) (text : List ℕ)
+      → AgreesUnlessMemory run_refusal (λ (reports : List ℕ). reports) (Err fault) (reports_in (called_for hosts texts seed text))
+      → EndsOf out (Err fault) (called_for hosts texts seed text) Wrote
+  reports_refused out fault text is =
+      ends_refused out fault (called_for hosts texts seed text) Wrote (reports_fault fault text is) (of_fault fault (called_for hosts texts seed text) is)
+
+  -- storing writes nothing to standard output
+  pub none_printed : (result : Result (Unit {0}) RunFault) (text : List ℕ) → StoresOf result (called_for hosts texts seed text) → failed_writes result ≡ 0
+  none_printed (Ok u) text is = refl
+  none_printed (Err WriteFailed) text is = never hosts texts seed text is (λ own. own)
+  none_printed (Err _) text is = refl
+
+  -- ---- where the text was read
+
+  prints_by : (result : Result (Unit {0}) RunFault) (text : List ℕ) (AtEnd : Type 0) → length text ≤ capture_limit → AtEnd
+      → PrintsOf result (called_for hosts texts seed text) Wrote → PrintsBy result (called_for hosts texts seed text) text AtEnd Wrote
+  prints_by (Ok u) text AtEnd within at_end is = (at_end, is)
+  prints_by (Err WriteFailed) text AtEnd within at_end is = (at_end, is)
+  prints_by (Err Memory) text AtEnd within at_end is = within
+  prints_by (Err ReadFailed) text AtEnd within at_end is = never hosts texts seed text is (λ own. own)
+  prints_by (Err (ShelfFailed after)) text AtEnd within at_end is = never hosts texts seed text is (λ own. own)
+  prints_by (Err (BadHost at)) text AtEnd within at_end is = never hosts texts seed text is (λ own. own)
+  prints_by (Err CaptureTooLong) text AtEnd within at_end is = is
+  prints_by (Err fault) text AtEnd within at_end is = (at_end, is)
+
+  answers_into : (out : Option (Bor (List ℕ))) (result : Result (Unit {0}) RunFault) (text : List ℕ) (AtEnd Unwritten : Type 0) → length text ≤ capture_limit → AtEnd
+      → OnSome out Unwritten → EndsOf out result (called_for hosts texts seed text) Wrote
+      → AnswersInto out result (called_for hosts texts seed text) text AtEnd Unwritten Wrote
+  answers_into None result text AtEnd Unwritten within at_end unwritten is = prints_by result text AtEnd within at_end is
+  answers_into (Some folder) result text AtEnd Unwritten within at_end unwritten is = (stores_by hosts texts seed result text AtEnd within at_end is, unwritten)
+
+  none_read_into : (out : Option (Bor (List ℕ))) (result : Result (Unit {0}) RunFault) (text : List ℕ)
+      → EndsOf out result (called_for hosts texts seed text) Wrote → failed_reads result ≡ 0
+  none_read_into (Some folder) result text is = none_failed hosts texts seed result text is
+  none_read_into None (Ok u) text is = refl
+  none_read_into None (Err ReadFailed) text is = never hosts texts seed text is (λ own. own)
+  none_read_into None (Err _) text is = refl
+
+  -- ---- where loading it stopped
+
+  stops_into : (out : Option (Bor (List ℕ))) (fault : RunFault) (text : List ℕ) (old new : ℕ) (AtEnd Unwritten : Type 0) → StopsLoading fault (length text) old new → Unwritten
+      → AnswersInto out (Err fault) (called_for hosts texts seed text) text AtEnd Unwritten Wrote
+  stops_into None CaptureTooLong text old new AtEnd Unwritten is unwritten = stopped hosts texts seed CaptureTooLong text old new AtEnd is
+  stops_into None ReadFailed text old new AtEnd Unwritten is unwritten = is.0
+  stops_into None Memory text old new AtEnd Unwritten is unwritten = is.0
+  stops_into None _ text old new AtEnd Unwritten is unwritten = absurd is
+  stops_into (Some folder) CaptureTooLong text old new AtEnd Unwritten is unwritten = (stopped hosts texts seed CaptureTooLong text old new AtEnd is, unwritten)
+  stops_into (Some folder) ReadFailed text old new AtEnd Unwritten is unwritten = (is.0, unwritten)
+  stops_into (Some folder) Memory text old new AtEnd Unwritten is unwritten = (is.0, unwritten)
+  stops_into (Some folder) _ text old new AtEnd Unwritten is unwritten = absurd is
+
+-- ---- from standard input or a file
+
+module _ (asked : Asked) (hosts : List KnownHost) (texts : List (List ℕ)) (takes : TakesInputs asked hosts texts) (result : Result (Unit {0}) RunFault) (s : Streams)
+    (Lost : List ℕ → Type 0) (old new : ℕ) (reads : (text : List ℕ) (n : ℕ) → Lost text → new ≡ old + n → s.Read text n) where
+  pub runs_loaded : (text : List ℕ) → length text ≤ capture_limit → OnSome asked.out s.Unwritten
+      → IfNone asked.capture (Lost text × s.AtEnd × (new ≡ old)) → OnSome asked.capture s.Unread
+      → EndsOf asked.out result (called_for hosts texts asked.seed text) s.Wrote → RunsBy asked result s
+  runs_loaded text within unwritten input file is = inr (hosts, texts, takes, from asked.capture input file)
+    where
+      from : (path : Option (Bor (List ℕ))) → IfNone path (Lost text × s.AtEnd × (new ≡ old)) → OnSome path s.Unread
+          → AnswersFrom path result (λ text AtEnd. AnswersInto asked.out result (called_for hosts texts asked.seed text) text AtEnd s.Unwritten s.Wrote) s
+      from None input file =
+          let none = none_read_into hosts texts asked.seed s.Wrote asked.out result text is in
+          (text, reads text (failed_reads result) input.0 (omega (arith, input.2, none)), answers_into hosts texts asked.seed s.Wrote asked.out result text s.AtEnd s.Unwritten within input.1 unwritten is)
+      from (Some path) input file = (text, file, answers_into hosts texts asked.seed s.Wrote asked.out result text (Unit {0}) s.Unwritten within tt unwritten is)
+
+module _ (asked : Asked) (hosts : List KnownHost) (texts : List (List ℕ)) (takes : TakesInputs asked hosts texts) (fault : RunFault) (s : Streams)
+    (Lost : List ℕ → Type 0) (old new : ℕ) (reads : (text : List ℕ) (n : ℕ) → Lost text → new ≡ old + n → s.Read text n) where
+  pub runs_stopped : s.Unwritten → IfNone asked.capture ((text : List ℕ) × Lost text × StopsLoading fault (length text) old new)
+      → OnSome asked.capture (s.Unread × IsOfFile fault) → RunsBy asked (Err fault) s
+  runs_stopped unwritten input file = inr (hosts, texts, takes, from asked.capture input file)
+    where
+      from : (path : Option (Bor (List ℕ))) → IfNone path ((text : List ℕ) × Lost text × StopsLoading fault (length text) old new) → OnSome path (s.Unread × IsOfFile fault)
+          → AnswersFrom path (Err fault) (λ text AtEnd. AnswersInto asked.out (Err fault) (called_for hosts texts asked.seed text) text AtEnd s.Unwritten s.Wrote) s
+      from None input file = (
+        input.0,
+        reads input.0 _ input.1 (stop_counts fault (length input.0) old new input.2),
+        stops_into hosts texts asked.seed s.Wrote asked.out fault input.0 old new s.AtEnd s.Unwritten input.2 unwritten,
+      )
+      from (Some path) input file =
+          let stop = some_stop fault file.1 in
+          (stop.0, file.0, stops_into hosts texts asked.seed s.Wrote asked.out fault stop.0 0 stop.1 (Unit {0}) s.Unwritten stop.2 unwritten)

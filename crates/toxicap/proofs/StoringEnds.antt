@@ -11,12 +11,11 @@ use Rattle.run_files.specs.declared.error.RunFault.TheVariants.{CaptureTooLong, 
 use Rattle.run_files.specs.declared.outputs.Output.{Output}
 use Rattle.run_files.specs.RunFault.{run_refusal}
 use Rattle.run_files.specs.Shelves.{StoredFile, Takes}
-use Rattle.run_files.specs.Streams.{StopsLoading}
 use Rattle.run_files.specs.WrittenOutputs.{files_from}
 use Rattle.toxicap.specs.Answering.{called_for, capture_bytes_of, scenarios_from}
 use Rattle.toxicap.specs.RunEnds.{StoresBy, failed_reads}
 use Rattle.toxicap.specs.StoredOutputs.{StoresOf, TakenOf}
-use Rattle.toxicap.proofs.AnswerSteps.{never, stopped}
+use Rattle.toxicap.proofs.AnswerSteps.{never}
 
 -- a shelf took no file
 pub nothing_taken : (had : Option (List StoredFile)) → Takes had had []
@@ -58,14 +57,6 @@ module _ (hosts : List KnownHost) (texts : List (List ℕ)) (seed : ℕ) where
   none_stored Memory text had failures is = (tt, ((0, nothing_taken had), refl))
   none_stored (ShelfFailed after) text had failures is = never hosts texts seed text is (λ own. own)
   none_stored fault text had failures is = (is, (nothing_taken had, refl))
-
-  -- nor where loading stopped
-  pub stopped_unstored : (fault : RunFault) (text : List ℕ) (old new : ℕ) (AtEnd : Type 0) (had : Option (List StoredFile)) (failures : ℕ) → StopsLoading fault (length text) old new
-      → StoresBy (Err fault) (called_for hosts texts seed text) text AtEnd × TakenOf (Err fault) (called_for hosts texts seed text) (Takes had had) failures failures
-  stopped_unstored CaptureTooLong text old new AtEnd had failures is = (stopped hosts texts seed CaptureTooLong text old new AtEnd is, (nothing_taken had, refl))
-  stopped_unstored ReadFailed text old new AtEnd had failures is = (is.0, (nothing_taken had, refl))
-  stopped_unstored Memory text old new AtEnd had failures is = (is.0, ((0, nothing_taken had), refl))
-  stopped_unstored _ text old new AtEnd had failures is = absurd is
 
   -- how storing ends, by the text that was read
   pub stores_by : (result : Result (Unit {0}) RunFault) (text : List ℕ) (AtEnd : Type 0) → length text ≤ capture_limit → AtEnd → StoresOf result (called_for hosts texts seed text)

@@ -10,8 +10,8 @@
 --   7. there are too many scenarios (`answer`, in Rehearsal);
 --   8. the capture's own faults, in the order of `reading` (pcap_records, Reading);
 --   9. a write of the reports, or a file of the folder, fails (`PrintsBy` and `StoresBy`, in RunEnds).
--- Want of memory comes where a growth was refused, anywhere among them. No clause can say what a named file holds, so that 3 comes
--- before 4 is proved where the capture is standard input, and tested where it is a file.
+-- Want of memory comes where a growth was refused, anywhere among them. Nothing is said here of what a named file holds: `NamedFiles`
+-- does, and there 3 is the first scenario file that is at fault, and comes before 4 where the capture is a file too.
 use Rattle.std.specs.Prelude.{◌≡◌, ◌≢◌, IfErr, ℕ, ◌<◌, ◌⊎◌, List, length, take, Option, Some, None, Result, Ok, Err}
 use Rattle.std.specs.Borrow.{Bor}
 use Rattle.std.specs.String.{string_bytes}
@@ -51,7 +51,7 @@ abbrev pub AnswersInto : Option (Bor (List ℕ)) → Result (Unit {0}) RunFault 
 AnswersInto None outcome wanted text AtEnd Unwritten Wrote = PrintsBy outcome wanted text AtEnd Wrote
 AnswersInto (Some folder) outcome wanted text AtEnd Unwritten Wrote = StoresBy outcome wanted text AtEnd × Unwritten
 
--- the text is read of standard input, or of a file, of which no clause can say what it holds, and input is not read
+-- the text is read of standard input, or of a file, of which it is not said what it holds, and input is not read
 abbrev pub AnswersFrom : Option (Bor (List ℕ)) → Result (Unit {0}) RunFault → (List ℕ → Type 0 → Type 0) → Streams → Type 0
 AnswersFrom None outcome Answers s = (text : List ℕ) × s.Read text (failed_reads outcome) × Answers text s.AtEnd
 AnswersFrom (Some path) outcome Answers s = (text : List ℕ) × s.Unread × Answers text (Unit {0})

@@ -15,5 +15,6 @@ pub mod StoredOutputs
 pub mod RunEnds
 pub mod Inputs
 pub mod Commands
+pub mod NamedFiles
 pub mod WrittenRows
 pub mod GroupingRows

@@ -5,8 +5,8 @@ ghost use Rattle.pcap_records.specs.Agreement.{Agrees, AgreesUnlessMemory};
 ghost use Rattle.pcap_records.specs.Reading.{capture_limit};
 ghost use Rattle.scenarios.specs.Populate.{scenario};
 ghost use Rattle.toxicap.specs.Answering.{AnswersBy, answer_under, called_for, capture_bytes_of, numbered, scenarios_from};
-ghost use Rattle.toxicap.specs.PrintedReports.{ReportsBy, reports_in};
-ghost use Rattle.toxicap.specs.RunEnds.{StoresBy, failed_reads};
+ghost use Rattle.toxicap.specs.PrintedReports.{reports_in};
+ghost use Rattle.toxicap.specs.RunEnds.{failed_reads};
 ghost use Rattle.toxicap.specs.StoredOutputs.{StoresOf, TakenOf};
 ghost use Rattle.run_files.specs.Shelves.{Takes};
 ghost use Rattle.run_files.specs.RunFault.{run_refusal};
@@ -62,53 +62,6 @@ pub fn answers<H: Threads + Wait + Sync, R: Read>(
     answer_to_text(rt, alloc, text, texts, options)
 }
 
-/// Reads a capture to its end as [`answers`] does, and gives the reports of these answers alone, one after another.
-///
-/// # Errors
-/// Those of [`answers`].
-pub(crate) fn reports<H: Threads + Wait + Sync, R: Read>(
-    rt: &H,
-    alloc: Global,
-    reader: &mut Counted<R>,
-    texts: &[&[u8]],
-    options: &Options,
-) -> Result<ReportText, RunFault>
-    requires { reader.old.failed < 2 ^ 64 - 1 }
-    ensures answer { (text : List ℕ)
-        × Consumes (R.remaining reader.old.inner) (R.remaining reader.new.inner) text
-        × ReportsBy result (called_for options.now.hosts (map (λ t. t.now) texts.now) options.now.seed text) text (IsAtEnd (R.remaining reader.new.inner)) }
-    ensures failed { reader.new.failed ≡ reader.old.failed + failed_reads result }
-{
-    let text = load(alloc, reader)?;
-    reports_to_text(rt, alloc, text, texts, options)
-}
-
-/// Reads a capture to its end as [`answers`] does, and puts the files of these answers on a shelf as they are made: those that
-/// `store_all` puts of them.
-///
-/// # Errors
-/// Those of [`answers`], and [`RunFault::ShelfFailed`] at the first file that the shelf does not take.
-pub(crate) fn store_answers<H: Threads + Wait + Sync, R: Read, S: Shelf>(
-    rt: &H,
-    alloc: Global,
-    reader: &mut Counted<R>,
-    texts: &[&[u8]],
-    options: &Options,
-    shelf: &mut S,
-) -> Result<(), RunFault>
-    requires reads { reader.old.failed < 2 ^ 64 - 1 }
-    requires failures { S.failures shelf.old < 2 ^ 64 - 1 }
-    ensures answer { (text : List ℕ)
-        × Consumes (R.remaining reader.old.inner) (R.remaining reader.new.inner) text
-        × StoresBy result (called_for options.now.hosts (map (λ t. t.now) texts.now) options.now.seed text) text (IsAtEnd (R.remaining reader.new.inner))
-        × TakenOf result (called_for options.now.hosts (map (λ t. t.now) texts.now) options.now.seed text)
-        (Takes (S.files shelf.old) (S.files shelf.new)) (S.failures shelf.old) (S.failures shelf.new) }
-    ensures failed { reader.new.failed ≡ reader.old.failed + failed_reads result }
-{
-    let text = load(alloc, reader)?;
-    store_for_text(rt, alloc, text, texts, options, shelf)
-}
-
 // What a text calls for.
 #[tactic(auto, unfolding(crate::specs::Answering::called_for))]
 fn answer_to_text<H: Threads + Wait + Sync>(
@@ -125,9 +78,12 @@ fn answer_to_text<H: Threads + Wait + Sync>(
     answer_to_bytes(rt, alloc, &bytes, texts, options)
 }
 
-// The reports that a text calls for.
+/// The reports that a capture's text calls for, one after another.
+///
+/// # Errors
+/// Those of [`answers`] once the capture is read.
 #[tactic(auto, unfolding(crate::specs::Answering::called_for))]
-fn reports_to_text<H: Threads + Wait + Sync>(
+pub(crate) fn reports_to_text<H: Threads + Wait + Sync>(
     rt: &H,
     alloc: Global,
     text: Vec<u8>,
@@ -141,9 +97,12 @@ fn reports_to_text<H: Threads + Wait + Sync>(
     reports_to_bytes(rt, alloc, &bytes, texts, options)
 }
 
-// Stores what a text calls for.
+/// Puts the files of the outputs that a capture's text calls for on a shelf as they are made: those that `store_all` puts of them.
+///
+/// # Errors
+/// Those of [`answers`] once the capture is read, and [`RunFault::ShelfFailed`] at the first file that the shelf does not take.
 #[tactic(auto, unfolding(crate::specs::Answering::called_for))]
-fn store_for_text<H: Threads + Wait + Sync, S: Shelf>(
+pub(crate) fn store_for_text<H: Threads + Wait + Sync, S: Shelf>(
     rt: &H,
     alloc: Global,
     text: Vec<u8>,

@@ -6,11 +6,12 @@ ghost use Rattle.command_line.specs.Asking.{ReadsAs};
 ghost use Rattle.command_line.specs.declared.asked.Asked.{Asked};
 ghost use Rattle.command_line.specs.declared.error.Stop.{Stop};
 ghost use Rattle.toxicap.specs.Commands.{ProgramEnds};
+ghost use Rattle.toxicap.specs.NamedFiles.{ProgramEndsOver};
 ghost use Rattle.toxicap.specs.RunEnds.{no_text, status_of, text_with_line_feed, usage_status, Tells, WrittenSoFar};
 
 use crate::runs::run_asked;
 use command_line::{Stop, read_arguments};
-use run_files::{Counted, RunFault, fault_line, write_bytes};
+use run_files::{Counted, FileSystem, Paths, RunFault, fault_line, write_bytes};
 use std::alloc::Global;
 use std::convert::AsStr;
 use std::io::{Error, ErrorKind, Read, Write};
@@ -65,9 +66,57 @@ pub fn command<H: Files + Threads + Wait + Sync, S: AsStr, I: Read, O: Write, E:
           now = faults.new.failed;
         }) }
 {
+    let paths = FileSystem::new(rt);
+    command_over(rt, &paths, alloc, words, input, output, faults)
+}
+
+/// [`command`] with its scenario files and its capture loaded from `paths`, which the command line names there.
+///
+/// Where `paths` tells what they hold, the outcome follows from it: each scenario is the text at its own path, and the capture that at
+/// its path; of several files that are at fault the first is told, in the order of the scenarios, and then the capture.
+pub fn command_over<
+    H: Files + Threads + Wait + Sync,
+    P: Paths,
+    S: AsStr,
+    I: Read,
+    O: Write,
+    E: Write,
+>(
+    rt: &H,
+    paths: &P,
+    alloc: Global,
+    words: &[S],
+    input: &mut Counted<I>,
+    output: &mut Counted<O>,
+    faults: &mut Counted<E>,
+) -> u8
+    requires reads { input.old.failed < 2 ^ 64 - 1 }
+    requires writes { output.old.failed < 2 ^ 64 - 1 }
+    requires tells { faults.old.failed < 2 ^ 64 - 1 }
+    ensures status { result ≤ 2 }
+    ensures quiet { result ≡ 0 → faults.new ≡ faults.old }
+    ensures usage { result ≡ 2 → (input.new ≡ input.old) × (output.new ≡ output.old) }
+    ensures ends { (line : Result Asked Stop) × ReadsAs (map S.text words.now) line
+        × ProgramEndsOver (P.holds paths.now) line result
+        (record {
+          Unread = input.new ≡ input.old;
+          Read = λ text n. Consumes (I.remaining input.old.inner) (I.remaining input.new.inner) text
+              × (input.new.failed ≡ input.old.failed + n);
+          AtEnd = IsAtEnd (I.remaining input.new.inner);
+          Unwritten = output.new ≡ output.old;
+          Wrote = Appends (O.contents output.old.inner) (O.contents output.new.inner);
+          WritesFailed = λ n. output.new.failed ≡ output.old.failed + n;
+        })
+        (record {
+          Untold = faults.new ≡ faults.old;
+          Told = Appends (E.contents faults.old.inner) (E.contents faults.new.inner);
+          before = faults.old.failed;
+          now = faults.new.failed;
+        }) }
+{
     match read_arguments(alloc, words) {
         Ok(asked) => {
-            let outcome = run_asked(rt, alloc, &asked, input, output);
+            let outcome = run_asked(rt, paths, alloc, &asked, input, output);
             report_outcome(alloc, outcome, faults)
         }
         Err(Stop::Shown(text)) => {

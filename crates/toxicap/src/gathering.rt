@@ -18,7 +18,7 @@ use run_files::Output;
 use segment_writer::SegList;
 use std::alloc::{AllocError, Global};
 use std::vec::IntoIter;
-use time_merge::merged_capture;
+use time_merge::merge;
 
 // The report of the scenario of a number, of its lines.
 pub(crate) fn gathered_report(
@@ -36,14 +36,14 @@ pub(crate) fn gathered_report(
     report(alloc, number, capture, table, lines)
 }
 
-// What the scenario of a number answers, of its row. Its capture is written into `room`, whose bytes are let go.
+// What the scenario of a number answers, of its row.
+#[tactic(auto, unfolding(time_merge::specs::MergedCapture::capture_of))]
 pub(crate) fn gathered_output(
     alloc: Global,
     capture: &Capture<'_>,
     table: &Table,
     number: u32,
     row: DeliveryRow,
-    room: Vec<u8>,
 ) -> Result<Output, AllocError>
     requires table { table.now ≡ whole_table capture.now }
     requires each { length row.lines.items ≡ length table.now.conns }
@@ -53,8 +53,7 @@ pub(crate) fn gathered_output(
         ≡ gathered_output (seen_capture (contents_of capture.now)) number table.now.unopened row.segments.items row.lines.items) }
 {
     let DeliveryRow { segments, lines } = row;
-    let bytes = merged_capture(alloc, &segments, room, capture.unit())?;
-    drop(segments);
+    let bytes = merge(alloc, segments)?.capture(alloc, capture.unit())?;
     let report = gathered_report(alloc, capture, table, number, &lines)?;
     Ok(Output {
         capture: Values::of(bytes),

@@ -1,6 +1,7 @@
 //! Theorems about the definitions of this crate. Each function does nothing, or names the theorems that it stands on: its
 //! contract is the theorem.
 ghost use Rattle.toxicap.specs.SoundOutputs.{OutputsAreRead};
+ghost use Rattle.toxicap.specs.NamedFiles.{FilesAreLoadedInOrder};
 ghost use Rattle.toxicap.specs.OldAnswers.{OldAnswersAreKept};
 ghost use Rattle.toxicap.specs.Rehearsal.{ByteOrderDoesNotMatter};
 
@@ -36,3 +37,8 @@ pub fn old_answers_are_kept()
 {
     readings_split();
 }
+
+/// Named files are loaded in order, each at its own path; where some cannot be loaded, the fault of the first of them is told.
+pub fn files_are_loaded_in_order()
+    ensures { FilesAreLoadedInOrder }
+{}

@@ -9,6 +9,7 @@ mod answering;
 mod commands;
 mod gathering;
 pub mod laws;
+mod layouts;
 mod rehearsal;
 mod reports;
 mod rows;
@@ -17,10 +18,11 @@ mod sources;
 mod storing;
 
 pub use answering::{Options, answers};
-pub use commands::{command, refuse_words};
+pub use commands::{command, command_over, refuse_words};
 pub use job_matrix::{Gate, Phase, Plan, Through, Values};
 pub use rehearsal::rehearse;
 pub use run_files::{
-    Counted, Folder, MemoryFile, MemoryShelf, Output, Outputs, RunFault, Shelf, ShelfError,
-    StoreFault, fault_line, is_dump, load, print_reports, store_all, undump, write_bytes,
+    Counted, FileSystem, Folder, MemoryFile, MemoryShelf, Output, Outputs, Paths, RunFault, Shelf,
+    ShelfError, StoreFault, fault_line, is_dump, load, print_reports, store_all, undump,
+    write_bytes,
 };

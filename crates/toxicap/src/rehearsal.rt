@@ -76,8 +76,7 @@ fn list_outputs<R: Threads + Sync, G: Gate>(
     let mut outputs = Vec::with_capacity(alloc, scenarios.len())?;
     for number in 0..scenarios.len() {
         let row = take_row(alloc, &mut rest, count)?;
-        let room = Vec::new(alloc);
-        let output = gathered_output(alloc, capture, &table, number as u32, row, room)?;
+        let output = gathered_output(alloc, capture, &table, number as u32, row)?;
         outputs.push(output)?;
     }
     Ok(outputs)

@@ -1,22 +1,23 @@
 //! A run that a command line asks for: the hosts and files that it names are read, and the answers printed or stored.
-ghost use Rattle.std.specs.Prelude.{◌≡◌, ◌≢◌, ℕ, ◌+◌, ◌-◌, ◌^◌, ◌<◌, List, map, IfErr, [], length, option_map, IfOk};
+ghost use Rattle.std.specs.Prelude.{◌≡◌, ◌≢◌, ◌+◌, ◌-◌, ◌^◌, ◌<◌, ◌≤◌, map, IfErr, [], length, option_map, IfNone, IfOk, IfSome, OnSome};
 ghost use Rattle.std.specs.Io.KnownBytes.{Appends, Consumes, IsAtEnd};
 ghost use Rattle.command_line.specs.Asking.{IsInRange};
 ghost use Rattle.run_files.specs.declared.error.RunFault.{RunFault};
 ghost use Rattle.toxicap.specs.Answering.{called_for};
-ghost use Rattle.toxicap.specs.Commands.{AnswersInto, RunsBy};
-ghost use Rattle.toxicap.specs.RunEnds.{failed_reads, failed_writes};
+ghost use Rattle.toxicap.specs.Commands.{RunsBy};
+ghost use Rattle.toxicap.specs.NamedFiles.{EndsOf, LoadsFile, LoadsInput, RunsOver, texts_from};
+ghost use Rattle.toxicap.specs.RunEnds.{failed_writes};
 ghost use Rattle.pcap_records.specs.Agreement.{AgreesUnlessMemory};
+ghost use Rattle.pcap_records.specs.Reading.{capture_limit};
 ghost use Rattle.toxicap.specs.Inputs.{AddsHost, IsOfFiles, IsOfHost, cut_at_first, equals_sign, host_written, hosts_from, texts_or_bare};
 ghost use Rattle.run_files.specs.RunFault.{run_refusal};
 
-use crate::answering::{Options, reports, store_answers};
+use crate::answering::{Options, reports_to_text, store_for_text};
 use command_line::Asked;
 use job_matrix::Plan;
-use run_files::{Counted, Folder, RunFault, load, write_bytes};
+use run_files::{Counted, Folder, Paths, RunFault, load, write_bytes};
 use scenarios::{HostFault, Hosts};
 use std::alloc::{AllocError, Global};
-use std::fs;
 use std::io::{Read, Write};
 use std::rt::Files;
 use std::sync::Wait;
@@ -24,8 +25,9 @@ use std::thread::Threads;
 
 /// Does what a command line asks for: its hosts are read first, then its scenario files, then the capture, from `reader` where no
 /// file is named. The answers are stored in its folder, or where it names none the reports are printed on `writer`.
-pub(crate) fn run_asked<H: Files + Threads + Wait + Sync, R: Read, W: Write>(
+pub(crate) fn run_asked<H: Files + Threads + Wait + Sync, P: Paths, R: Read, W: Write>(
     rt: &H,
+    paths: &P,
     alloc: Global,
     asked: &Asked<'_>,
     reader: &mut Counted<R>,
@@ -43,55 +45,55 @@ pub(crate) fn run_asked<H: Files + Threads + Wait + Sync, R: Read, W: Write>(
       Wrote = Appends (W.contents writer.old.inner) (W.contents writer.new.inner);
       WritesFailed = λ n. writer.new.failed ≡ writer.old.failed + n;
     }) }
+    ensures named { IfSome (P.holds paths.now) (λ held. RunsOver held asked.now result (record {
+      Unread = reader.new ≡ reader.old;
+      Read = λ text n. Consumes (R.remaining reader.old.inner) (R.remaining reader.new.inner) text
+          × (reader.new.failed ≡ reader.old.failed + n);
+      AtEnd = IsAtEnd (R.remaining reader.new.inner);
+      Unwritten = writer.new ≡ writer.old;
+      Wrote = Appends (W.contents writer.old.inner) (W.contents writer.new.inner);
+      WritesFailed = λ n. writer.new.failed ≡ writer.old.failed + n;
+    })) }
     ensures failed_writes { writer.new.failed ≡ writer.old.failed + failed_writes result }
     ensures untouched { IfErr result (λ fault. fault ≢ RunFault.WriteFailed → writer.new ≡ writer.old) }
 {
     let hosts = read_hosts(alloc, &asked.hosts)?;
-    let files = read_files(rt, alloc, &asked.scenarios)?;
+    let files = load_files(paths, alloc, &asked.scenarios)?;
     let texts = texts_of(alloc, &files)?;
     let options = Options {
         hosts,
         seed: asked.seed,
         plan: Plan::new(asked.workers, asked.cut).unwrap(),
     };
-    let Some(path) = asked.capture else {
-        return answer_into(rt, alloc, reader, writer, asked.out, &texts, &options);
-    };
-    let Ok(file) = fs::open(rt, path) else {
-        return Err(RunFault::ReadFailed);
-    };
-    let mut file = Counted::new(file);
-    answer_into(rt, alloc, &mut file, writer, asked.out, &texts, &options)
+    let text = load_capture(paths, alloc, asked, reader)?;
+    answer_into(rt, alloc, text, writer, asked.out, &texts, &options)
 }
 
-// The answers to a reader's capture, stored in a folder as they are made, or without one their reports printed. Nothing is printed
+// The answers to a capture's text, stored in a folder as they are made, or without one their reports printed. Nothing is printed
 // before all reports are whole, so every refusal but a failed write leaves the writer as it was.
-fn answer_into<H: Files + Threads + Wait + Sync, R: Read, W: Write>(
+fn answer_into<H: Files + Threads + Wait + Sync, W: Write>(
     rt: &H,
     alloc: Global,
-    reader: &mut Counted<R>,
+    text: Vec<u8>,
     writer: &mut Counted<W>,
     out: Option<&str>,
     texts: &[&[u8]],
     options: &Options,
 ) -> Result<(), RunFault>
-    requires reads { reader.old.failed < 2 ^ 64 - 1 }
+    requires text { length text.items ≤ capture_limit }
     requires writes { writer.old.failed < 2 ^ 64 - 1 }
-    ensures answer { (text : List ℕ)
-        × Consumes (R.remaining reader.old.inner) (R.remaining reader.new.inner) text
-        × AnswersInto out.entry result (called_for options.now.hosts (map (λ t. t.now) texts.now) options.now.seed text) text
-        (IsAtEnd (R.remaining reader.new.inner))
-        (writer.new ≡ writer.old) (Appends (W.contents writer.old.inner) (W.contents writer.new.inner)) }
-    ensures failed_reads { reader.new.failed ≡ reader.old.failed + failed_reads result }
+    ensures ends { EndsOf out.entry result (called_for options.now.hosts (map (λ t. t.now) texts.now) options.now.seed text.items)
+        (Appends (W.contents writer.old.inner) (W.contents writer.new.inner)) }
+    ensures unwritten { OnSome out.entry (writer.new ≡ writer.old) }
     ensures failed_writes { writer.new.failed ≡ writer.old.failed + failed_writes result }
     ensures untouched { IfErr result (λ fault. fault ≢ RunFault.WriteFailed → writer.new ≡ writer.old) }
 {
     let Some(folder) = out else {
-        let reports = reports(rt, alloc, reader, texts, options)?;
+        let reports = reports_to_text(rt, alloc, text, texts, options)?;
         return write_bytes(writer, reports.as_slice());
     };
     let mut shelf = Folder::new(alloc, rt, folder)?;
-    store_answers(rt, alloc, reader, texts, options, &mut shelf)
+    store_for_text(rt, alloc, text, texts, options, &mut shelf)
 }
 
 // A scenario without proxies.
@@ -134,31 +136,45 @@ fn cut_at_equals(text: &str) -> Option<(&str, &str)>
     text.split_once('=')
 }
 
-// The bytes of the scenario files, in order.
+// The texts of the files at some paths, in order.
 //
 // # Errors
 // [`RunFault::ReadFailed`] for the first that cannot be opened or read, [`RunFault::CaptureTooLong`] for one that is longer than
 // a capture may be; [`RunFault::Memory`].
-fn read_files<H: Files>(rt: &H, alloc: Global, paths: &[&str]) -> Result<Vec<Vec<u8>>, RunFault>
-    ensures one_each { IfOk result (λ files. length files.items ≡ length paths.now) }
-    ensures of_file { IfErr result (IsOfFiles (length paths.now)) }
+#[tactic(auto, unfolding(crate::specs::NamedFiles::texts_from))]
+fn load_files<P: Paths>(paths: &P, alloc: Global, named: &[&str]) -> Result<Vec<Vec<u8>>, RunFault>
+    ensures told { IfSome (P.holds paths.now) (λ held. AgreesUnlessMemory run_refusal (λ files. map (λ f. f.items) files.items) result
+        (texts_from held [] (map (λ path. path.now) named.now))) }
+    ensures one_each { IfOk result (λ files. length files.items ≡ length named.now) }
+    ensures of_file { IfErr result (IsOfFiles (length named.now)) }
 {
     let mut files = Vec::new(alloc);
-    for path in paths {
-        let file = read_file(rt, alloc, path)?;
+    for path in named {
+        let file = paths.load(alloc, path)?;
         files.push(file).map_err(AllocError::from)?;
     }
     Ok(files)
 }
 
-// All bytes of a file.
-fn read_file<H: Files>(rt: &H, alloc: Global, path: &str) -> Result<Vec<u8>, RunFault>
-    ensures { IfErr result (IsOfFiles 1) }
+// The text of the capture, from the file that a command line names, or without one from a reader.
+fn load_capture<P: Paths, R: Read>(
+    paths: &P,
+    alloc: Global,
+    asked: &Asked<'_>,
+    reader: &mut Counted<R>,
+) -> Result<Vec<u8>, RunFault>
+    requires { reader.old.failed < 2 ^ 64 - 1 }
+    ensures within { IfOk result (λ text. length text.items ≤ capture_limit) }
+    ensures input { IfNone asked.now.capture (LoadsInput (λ text. text.items) result
+        (Consumes (R.remaining reader.old.inner) (R.remaining reader.new.inner)) (IsAtEnd (R.remaining reader.new.inner))
+        reader.old.failed reader.new.failed) }
+    ensures file { IfSome asked.now.capture (λ path. LoadsFile (λ text. text.items) result (P.holds paths.now) path.now
+        (reader.new ≡ reader.old)) }
 {
-    let Ok(file) = fs::open(rt, path) else {
-        return Err(RunFault::ReadFailed);
-    };
-    load(alloc, &mut Counted::new(file))
+    match asked.capture {
+        Some(path) => paths.load(alloc, path),
+        None => load(alloc, reader),
+    }
 }
 
 // The texts of the scenarios of files; without one, the text of a scenario without proxies.

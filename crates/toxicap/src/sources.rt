@@ -5,11 +5,10 @@ ghost use Rattle.conn_workers.specs.CaptureTables.{whole_table};
 ghost use Rattle.conn_workers.specs.Recordings.{recordings_of};
 ghost use Rattle.toxicap.specs.Rehearsal.{scenario_limit};
 
-use crate::gathering::{gathered_output, take_row};
+use crate::layouts::{parts_of_row, written_output};
 use conn_table::Table;
-use conn_table::laws::indexed_connections_agree;
 use conn_workers::laws::rows_are_contributed;
-use conn_workers::{Deliveries, Recordings, deliver_row, deliver_row_alone};
+use conn_workers::{LaidRow, Recordings, deliver_row, deliver_row_alone};
 use job_matrix::{Plan, Through};
 use pcap_records::Capture;
 use run_files::Output;
@@ -97,21 +96,17 @@ impl<'w, 'v, 'a> Sources<'w, 'v, 'a> {
         &self,
         number: u32,
         scenario: &Scenario,
-        row: Deliveries,
+        row: LaidRow<'_>,
         room: Vec<u8>,
     ) -> Result<Output, AllocError>
         requires { row ≡ recorded_row self.now.seed (number, scenario.now) self.now.recordings.now }
         ensures { IfOk result (λ o. o ≡ output (seen_capture (contents_of self.now.capture.now)) self.now.seed (number, scenario.now)) }
     {
         rows_are_contributed();
-        indexed_connections_agree();
         keys_rise();
         rising_is_sorted();
         keys_stand_once();
-        let count = self.table.conns().len();
-        let mut deliveries = row.into_vec().into_iter();
-        let row = take_row(self.alloc, &mut deliveries, count)?;
-        drop(deliveries);
-        gathered_output(self.alloc, self.capture, self.table, number, row, room)
+        let parts = parts_of_row(self.alloc, row)?;
+        written_output(self.alloc, self.capture, self.table, number, parts, room)
     }
 }

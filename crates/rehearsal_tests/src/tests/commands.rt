@@ -11,11 +11,11 @@ use worked_sessions::sessions::PLAIN_SESSION;
 use worked_sessions::written_frames::session_written;
 
 // A proxy for the host `web` that holds the client's bytes for 100 ms.
-const SLOW: &str =
+pub const SLOW: &str =
     "[{\"name\":\"web\",\"upstream\":\"web:80\",\"toxics\":[{\"type\":\"latency\",\"stream\":\"upstream\",\"attributes\":{\"latency\":100}}]}]";
 
 // The plain session's reports without a proxy, and with that one.
-const BOTH_REPORTS: &str =
+pub const BOTH_REPORTS: &str =
     "scenario 0 records 7 rest 0 segment 7 short 0 notipv4 0 badipv4 0 fragment 0 nottcp 0 cut 0 badtcp 0 sameends 0\nconnections 1 unopened 0\n0 10.0.0.1:40000 > 10.0.0.2:80 proxy - up 5/5/0 fin+2000 max 0 down 0/0/0 fin+3000 max 0\nscenario 1 records 7 rest 0 segment 7 short 0 notipv4 0 badipv4 0 fragment 0 nottcp 0 cut 0 badtcp 0 sameends 0\nconnections 1 unopened 0\n0 10.0.0.1:40000 > 10.0.0.2:80 proxy 0 up 5/5/0 fin+101000 max 100000 down 0/0/0 fin+3000 max 0\n";
 
 // The program ends with this status, and has written and told these texts, of words and a text as its standard input, which it reads

@@ -9,7 +9,7 @@ use worked_sessions::sessions::{
 };
 
 // The openings of two connections of one client, and two bytes of the second, with a packet of two bytes among them or without it.
-fn capture(alloc: Global, packet: bool) -> Result<Vec<u8>, AllocError> {
+pub fn capture(alloc: Global, packet: bool) -> Result<Vec<u8>, AllocError> {
     let other = segment((1, 0), CLIENT, SECOND_CLIENT, SYN, (1000, 0), b"");
     let opening = segment((1, 100_000), CLIENT, SERVER, SYN, (2000, 0), b"");
     let data = segment((1, 200_000), CLIENT, SERVER, PSH + ACK, (2001, 0), b"ab");
@@ -37,10 +37,10 @@ fn check_beside(
 }
 
 // A proxy for the second connection's server alone, and beside one for that of the first.
-const ONE_PROXY: &str =
+pub const ONE_PROXY: &str =
     "[{\"name\":\"web\",\"upstream\":\"10.0.0.2:80\",\"toxics\":[{\"type\":\"latency\",\"stream\":\"upstream\",\"attributes\":{\"latency\":100,\"jitter\":50}}]}]";
 
-const TWO_PROXIES: &str =
+pub const TWO_PROXIES: &str =
     "[{\"name\":\"web\",\"upstream\":\"10.0.0.2:80\",\"toxics\":[{\"type\":\"latency\",\"stream\":\"upstream\",\"attributes\":{\"latency\":100,\"jitter\":50}}]},{\"name\":\"other\",\"upstream\":\"10.0.0.3:40001\",\"toxics\":[{\"type\":\"timeout\",\"stream\":\"upstream\",\"attributes\":{\"timeout\":0}}]}]";
 
 // What is written of the second connection: its opening, from the client, from the server and from the client, and its bytes, which leave

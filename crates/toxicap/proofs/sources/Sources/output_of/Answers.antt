@@ -1,4 +1,5 @@
-use Rattle.std.proofs.Common.{◌≡◌, ℕ, List, length, refl, sym, ap, ap₂, ◌∙◌, subst, arith}
+use Rattle.std.proofs.Common.{◌≡◌, ℕ, List, length, refl, sym, ap, ap₂, ◌∙◌, subst}
+use Rattle.std.proofs.lemmas.List.{length-map}
 use Rattle.std.proofs.lemmas.List.Elements.{All-same}
 use Rattle.std.proofs.lemmas.Result.{IfOk-weaker}
 use Rattle.pcap_records.specs.CaptureView.{contents_of}
@@ -8,6 +9,7 @@ use Rattle.segment_writer.specs.KeyLaws.{HasNoKeyTwice}
 use Rattle.segment_writer.specs.WrittenSegments.{sorted_by_key}
 use Rattle.time_merge.specs.MergedCapture.{all_segments}
 use Rattle.scenarios.specs.declared.proxies.Proxy.{Proxy}
+use Rattle.conn_workers.specs.declared.deliveries.Delivery.{Delivery}
 use Rattle.conn_workers.specs.DeliveryRows.{connections_of}
 use Rattle.toxicap.specs.GatheredOutputs.{segments_in, lines_in, gathered_output}
 use Rattle.toxicap.proofs.WholeTables.{unopened_is}
@@ -15,34 +17,29 @@ use Rattle.toxicap.proofs.GatheredRows.{row_is_sorted, row_stands_once, gathered
 use Rattle.toxicap.proofs.OutputSteps.{as_wide, whole_row}
 use Rattle.toxicap.proofs.sources.Sources.output_of.Goals as goal
 
-pub take_row-requires : goal.take_row-requires
-take_row-requires c =
+pub written_output-requires-clause-each : goal.written_output-requires-clause-each
+written_output-requires-clause-each c =
     let own = c.args.self.now in
-    let wide = ap length (c.conns-count.ensures ∙ ap (λ t. t.conns) own.table_is) in
-    let row = c.into_iter-deliveries.ensures.rest ∙ c.into_vec.ensures ∙ c.requires in
-    let count = as_wide own.capture.now own.seed (c.args.number, c.args.scenario.now) own.recordings.now _ _ wide own.recordings_are row in
-    omega (arith, count, c.into_iter-deliveries.ensures.len, c.into_vec.result.ok.0, ap length c.into_iter-deliveries.ensures.rest)
+    let s : ℕ × List Proxy = (c.args.number, c.args.scenario.now) in
+    let wide = as_wide own.capture.now own.seed s own.recordings.now c.args.row _ (ap (λ t. length t.conns) own.table_is) own.recordings_are c.requires in
+    ap length c.in_ok-parts.ensures.lines ∙ length-map c.args.row (λ (d : Delivery). d.line) ∙ sym wide
 
-pub gathered_output-requires-clause-sorted : goal.gathered_output-requires-clause-sorted
-gathered_output-requires-clause-sorted c =
+pub written_output-requires-clause-sorted : goal.written_output-requires-clause-sorted
+written_output-requires-clause-sorted c =
     let own = c.args.self.now in
     let seen : SeenCapture = seen_capture (contents_of own.capture.now) in
     let s : ℕ × List Proxy = (c.args.number, c.args.scenario.now) in
-    let wide = ap length (c.conns-count.ensures ∙ ap (λ t. t.conns) own.table_is) in
-    let is = c.into_iter-deliveries.ensures.rest ∙ c.into_vec.ensures ∙ c.requires in
-    let row = whole_row c.rows_are_contributed.ensures own.capture.now own.seed s own.recordings.now _ _ wide own.recordings_are is in
-    All-same (λ (list : List Framed). sorted_by_key list ≡ list) _ _ (c.in_ok-row.ensures.segments ∙ ap segments_in row)
+    let row = whole_row c.rows_are_contributed.ensures own.capture.now own.seed s own.recordings.now c.args.row own.recordings_are c.requires in
+    All-same (λ (list : List Framed). sorted_by_key list ≡ list) _ _ (c.in_ok-parts.ensures.layouts ∙ ap segments_in row)
     (row_is_sorted seen.ticks own.seed s c.keys_rise.ensures c.rising_is_sorted.ensures (connections_of seen))
 
-pub gathered_output-requires-clause-once : goal.gathered_output-requires-clause-once
-gathered_output-requires-clause-once c =
+pub written_output-requires-clause-once : goal.written_output-requires-clause-once
+written_output-requires-clause-once c =
     let own = c.args.self.now in
     let seen : SeenCapture = seen_capture (contents_of own.capture.now) in
     let s : ℕ × List Proxy = (c.args.number, c.args.scenario.now) in
-    let wide = ap length (c.conns-count.ensures ∙ ap (λ t. t.conns) own.table_is) in
-    let is = c.into_iter-deliveries.ensures.rest ∙ c.into_vec.ensures ∙ c.requires in
-    let row = whole_row c.rows_are_contributed.ensures own.capture.now own.seed s own.recordings.now _ _ wide own.recordings_are is in
-    subst (λ (xs : List Framed). HasNoKeyTwice xs) (sym (ap all_segments (c.in_ok-row.ensures.segments ∙ ap segments_in row))) (row_stands_once seen.ticks own.seed s c.keys_stand_once.ensures seen)
+    let row = whole_row c.rows_are_contributed.ensures own.capture.now own.seed s own.recordings.now c.args.row own.recordings_are c.requires in
+    subst (λ (xs : List Framed). HasNoKeyTwice xs) (sym (ap all_segments (c.in_ok-parts.ensures.layouts ∙ ap segments_in row))) (row_stands_once seen.ticks own.seed s c.keys_stand_once.ensures seen)
 
 pub returns : goal.returns
 returns c =
@@ -51,11 +48,9 @@ returns c =
     let s : ℕ × List Proxy = (c.args.number, c.args.scenario.now) in
     let number : ℕ = c.args.number in
     let count : ℕ = own.table.now.unopened in
-    let wide = ap length (c.conns-count.ensures ∙ ap (λ t. t.conns) own.table_is) in
-    let is = c.into_iter-deliveries.ensures.rest ∙ c.into_vec.ensures ∙ c.requires in
-    let row = whole_row c.rows_are_contributed.ensures own.capture.now own.seed s own.recordings.now _ _ wide own.recordings_are is in
+    let row = whole_row c.rows_are_contributed.ensures own.capture.now own.seed s own.recordings.now c.args.row own.recordings_are c.requires in
     let unopened = ap (λ t. t.unopened) own.table_is ∙ unopened_is own.capture.now in
-    IfOk-weaker c.gathered_output.result _ _
-    (λ o same. same ∙ ap₂ (gathered_output seen number count) (c.in_ok-row.ensures.segments ∙ ap segments_in row) (c.in_ok-row.ensures.lines ∙ ap lines_in row)
+    IfOk-weaker c.written_output.result _ _
+    (λ o same. same ∙ ap₂ (gathered_output seen number count) (c.in_ok-parts.ensures.layouts ∙ ap segments_in row) (c.in_ok-parts.ensures.lines ∙ ap lines_in row)
     ∙ gathered_is seen own.seed s number count refl unopened)
-    c.gathered_output.ensures
+    c.written_output.ensures

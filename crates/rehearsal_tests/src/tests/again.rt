@@ -1,0 +1,135 @@
+//! Calls that are made again, with the same values. The script tests/growths.sh runs these tests with each growth of memory refused in turn:
+//! one of two calls may want memory then, and the other answers in full.
+use super::connections::repeated;
+use super::isolation::{ONE_PROXY, TWO_PROXIES, capture};
+use super::rehearsed::rehearsed_by;
+use scenarios::{Hosts, Scenario, read_scenario};
+use std::alloc::{AllocGlobal, Global};
+use std::process::Abort;
+use std::sync::Wait;
+use std::thread::Threads;
+use toxicap::{Counted, Options, Outputs, Plan, RunFault, Through, answers};
+use worked_sessions::sessions::{PLAIN_SESSION, file};
+
+// Adler-32 (RFC 1950) of what a sum stands for, and of some bytes after it.
+fn add_to_sum(sum: u32, bytes: &[u8]) -> u32 {
+    let (mut low, mut high) = (u64::from(sum) % 65_536, u64::from(sum) / 65_536);
+    for byte in bytes {
+        low = (low % 65_536 + u64::from(*byte)) % 65_521;
+        high = (high % 65_536 + low % 65_536) % 65_521;
+    }
+    (high % 65_536 * 65_536 + low % 65_536) as u32
+}
+
+// Whether an answer has one output, whose capture and report have this sum.
+fn is_whole(answer: &Result<Outputs, RunFault>, sum: u32) -> bool {
+    match answer {
+        Ok(outputs) => match outputs.as_slice() {
+            [output] => {
+                let capture = add_to_sum(1, output.capture.as_slice());
+                add_to_sum(capture, output.report.as_slice()) == sum
+            }
+            _ => false,
+        },
+        Err(_) => false,
+    }
+}
+
+// Whether of two answers both are whole, or one is, and the other is want of memory.
+fn are_answered(
+    first: &Result<Outputs, RunFault>,
+    second: &Result<Outputs, RunFault>,
+    sum: u32,
+) -> bool {
+    let (is_first, is_second) = (is_whole(first, sum), is_whole(second, sum));
+    let first_wants = matches!(first, Err(RunFault::Memory));
+    let second_wants = matches!(second, Err(RunFault::Memory));
+    is_first && (is_second || second_wants) || first_wants && is_second
+}
+
+// The host that scenarios may name.
+fn hosts_of(alloc: Global) -> Result<Hosts, RunFault> {
+    let mut hosts = Hosts::new(alloc);
+    match hosts.add("web", "10.0.0.2") {
+        Ok(()) => Ok(hosts),
+        Err(_) => Err(RunFault::Memory),
+    }
+}
+
+fn scenario_of(alloc: Global, text: &str) -> Result<Scenario, RunFault> {
+    let hosts = hosts_of(alloc)?;
+    read_scenario(alloc, text.as_bytes(), &hosts).map_err(|_| RunFault::Memory)
+}
+
+// `rehearse`, called twice by so many workers, gives outputs of this sum.
+fn check_rehearsed(
+    rt: &(impl Abort + AllocGlobal + Threads + Wait + Sync),
+    workers: u32,
+    (bytes, text): (&[u8], &str),
+    sum: u32,
+) {
+    let scenarios = [scenario_of(rt.alloc(), text).expect(rt, "no memory yet")];
+    let plan = (workers, 2);
+    let first = rehearsed_by(rt, rt.alloc(), bytes, &scenarios, plan, &Through);
+    let second = rehearsed_by(rt, rt.alloc(), bytes, &scenarios, plan, &Through);
+    let good = are_answered(&first, &second, sum);
+    assert!(rt; good, "rehearse by {workers} workers");
+}
+
+// `answers`, called twice by so many workers, gives outputs of this sum.
+fn check_answers(
+    rt: &(impl Abort + AllocGlobal + Threads + Wait + Sync),
+    workers: u32,
+    (bytes, text): (&[u8], &str),
+    sum: u32,
+) {
+    let hosts = hosts_of(rt.alloc()).expect(rt, "no memory yet");
+    let plan = Plan::new(workers, 2).expect(rt, "a plan");
+    let (seed, texts) = (42, [text.as_bytes()]);
+    let options = Options { hosts, seed, plan };
+    let first = answers(rt, rt.alloc(), &mut Counted::new(bytes), &texts, &options);
+    let second = answers(rt, rt.alloc(), &mut Counted::new(bytes), &texts, &options);
+    let good = are_answered(&first, &second, sum);
+    assert!(rt; good, "answers by {workers} workers");
+}
+
+fn check_again(
+    rt: &(impl Abort + AllocGlobal + Threads + Wait + Sync),
+    row: (&[u8], &str),
+    sum: u32,
+) {
+    check_rehearsed(rt, 1, row, sum);
+    check_rehearsed(rt, 2, row, sum);
+    check_answers(rt, 1, row, sum);
+    check_answers(rt, 2, row, sum);
+}
+
+// The sums are those of files that were worked out apart from the program.
+#[test]
+fn again_the_plain_session(rt: HostRuntime) {
+    check_again(&rt, (&PLAIN_SESSION, "[]"), 0x3a6b_82f8);
+}
+
+#[test]
+fn again_a_repeated_opening_and_second_session(rt: HostRuntime) {
+    let bytes = file(rt.alloc(), true, &repeated()).expect(&rt, "no memory yet");
+    check_again(&rt, (&bytes, "[]"), 0xac0a_9ea3);
+}
+
+#[test]
+fn again_another_connection_without_a_proxy(rt: HostRuntime) {
+    let bytes = capture(rt.alloc(), false).expect(&rt, "no memory yet");
+    check_again(&rt, (&bytes, ONE_PROXY), 0x7472_9a7c);
+}
+
+#[test]
+fn again_another_connection_that_is_held(rt: HostRuntime) {
+    let bytes = capture(rt.alloc(), false).expect(&rt, "no memory yet");
+    check_again(&rt, (&bytes, TWO_PROXIES), 0x7676_9a80);
+}
+
+#[test]
+fn again_a_disabled_proxy(rt: HostRuntime) {
+    let text = "[{\"name\":\"a\",\"upstream\":\"web:80\",\"enabled\":false}]";
+    check_again(&rt, (&PLAIN_SESSION, text), 0xa471_59ee);
+}

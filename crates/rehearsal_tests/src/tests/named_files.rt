@@ -1,0 +1,155 @@
+//! The program over paths that are no files of the file system: each is loaded at its own, and the first at fault is told.
+use super::captures::PLAIN_REPORT;
+use super::commands::{BOTH_REPORTS, SLOW, check, make_file, remove_file};
+use super::running::{STORED_REPORT, STORED_RUN};
+use pcap_records::CAPTURE_LIMIT;
+use std::alloc::{AllocError, AllocGlobal, Global};
+use std::process::Abort;
+use std::rt::Files;
+use std::sync::Wait;
+use std::thread::Threads;
+use toxicap::{Counted, Paths, RunFault, command_over};
+use worked_sessions::sessions::PLAIN_SESSION;
+
+/// Files in memory by their paths, without bytes where a file cannot be read. They do not tell what the paths hold.
+#[derive(Drop)]
+struct Listed<'a> {
+    files: &'a [(&'a str, Option<&'a [u8]>)],
+}
+
+impl Paths for Listed<'_> {
+    ghost use Rattle.std.specs.Prelude.{None};
+
+    ghost holds = { λ _. None };
+
+    fn load(&self, alloc: Global, path: &str) -> Result<Vec<u8>, RunFault> {
+        let Some((_, Some(bytes))) = self.files.iter().find(|file| file.0 == path) else {
+            return Err(RunFault::ReadFailed);
+        };
+        if bytes.len() > CAPTURE_LIMIT {
+            return Err(RunFault::CaptureTooLong);
+        }
+        Ok(Vec::from_slice(alloc, bytes)?)
+    }
+}
+
+/// Paths of which one is too long, one cannot be read, and all others hold `[]`. They do not tell it.
+#[derive(Drop)]
+struct Faulty;
+
+impl Paths for Faulty {
+    ghost use Rattle.std.specs.Prelude.{None};
+
+    ghost holds = { λ _. None };
+
+    fn load(&self, alloc: Global, path: &str) -> Result<Vec<u8>, RunFault> {
+        match path {
+            "long" => Err(RunFault::CaptureTooLong),
+            "unread" => Err(RunFault::ReadFailed),
+            _ => Ok(Vec::from_slice(alloc, b"[]")?),
+        }
+    }
+}
+
+// The program over some paths ends with this status, and has written and told these texts, of words and no standard input.
+fn check_over<P: Paths>(
+    rt: &(impl Abort + AllocGlobal + Files + Threads + Wait + Sync),
+    paths: &P,
+    words: &[&str],
+    (status, written, told): (u8, &str, &str),
+) {
+    let mut input = Counted::new(b"".as_slice());
+    let mut output = Counted::new(Vec::new(rt.alloc()));
+    let mut faults = Counted::new(Vec::new(rt.alloc()));
+    let ended = command_over(
+        rt,
+        paths,
+        rt.alloc(),
+        words,
+        &mut input,
+        &mut output,
+        &mut faults,
+    );
+    let good = ended == status
+        && output.into_inner().as_slice() == written.as_bytes()
+        && faults.into_inner().as_slice() == told.as_bytes();
+    assert!(rt; good, "{words:?}");
+}
+
+// A text of over 300 KB, which begins and ends with these.
+fn wide(alloc: Global, begin: &str, end: &str) -> Result<Vec<u8>, AllocError> {
+    let mut text = Vec::from_slice(alloc, begin.as_bytes())?;
+    text.extend_from_slice(&vec![in alloc; b' '; 400_000]?)?;
+    text.extend_from_slice(end.as_bytes())?;
+    Ok(text)
+}
+
+#[test]
+fn each_file_at_its_path(rt: HostRuntime) {
+    let slow = wide(rt.alloc(), "", SLOW).expect(&rt, "memory");
+    let files = [
+        ("bare", Some(b"[]".as_slice())),
+        ("unread", None),
+        ("slow", Some(slow.as_slice())),
+        ("session", Some(PLAIN_SESSION.as_slice())),
+    ];
+    let paths = Listed { files: &files };
+    let host = "--host=web=10.0.0.2";
+    let both = [
+        "--scenario=bare",
+        host,
+        "--scenario=slow",
+        "--capture=session",
+    ];
+    check_over(&rt, &paths, &both, (0, BOTH_REPORTS, ""));
+    check_over(&rt, &paths, &["--capture=session"], (0, PLAIN_REPORT, ""));
+    let unread = (1, "", "refused 61 ReadFailed\n");
+    check_over(&rt, &paths, &["--capture=unread"], unread);
+    check_over(&rt, &paths, &["--capture=nothing"], unread);
+    let scenario = ["--capture=bare", "--scenario=slow", "--scenario=unread"];
+    check_over(&rt, &paths, &scenario, unread);
+    let slow_first = ["--capture=session", "--scenario=slow", "--scenario=bare"];
+    let unknown = (1, "", "refused 15 UnknownHost scenario 0 proxy 0\n");
+    check_over(&rt, &paths, &slow_first, unknown);
+}
+
+// Hosts come first, then scenario files in their order, then the capture, and then what the files hold.
+#[test]
+fn the_first_file_at_fault(rt: HostRuntime) {
+    let long = (1, "", "refused 6 CaptureTooLong\n");
+    let unread = (1, "", "refused 61 ReadFailed\n");
+    let host = ["--capture=unread", "--scenario=long", "--host=x"];
+    check_over(&rt, &Faulty, &host, (1, "", "refused 23 BadHost host 0\n"));
+    let [short, first, second] = ["--scenario=bare", "--scenario=long", "--scenario=unread"];
+    check_over(&rt, &Faulty, &[short, first, second], long);
+    check_over(&rt, &Faulty, &[short, second, first], unread);
+    check_over(&rt, &Faulty, &["--capture=unread", short, first], long);
+    check_over(&rt, &Faulty, &["--capture=long", short, second], unread);
+    check_over(&rt, &Faulty, &["--capture=long", short], long);
+    check_over(&rt, &Faulty, &["--capture=unread", short], unread);
+    let header = (1, "", "refused 1 ShortHeader\n");
+    check_over(&rt, &Faulty, &["--capture=bare", short], header);
+}
+
+// Over 300 KB of the file system, where what is read comes in several reads.
+#[test]
+fn wide_files(rt: HostRuntime) {
+    let (begin, end) = STORED_RUN.split_at(30);
+    let capture = wide(rt.alloc(), begin, end).expect(&rt, "memory");
+    let scenario = wide(rt.alloc(), "[", "]").expect(&rt, "memory");
+    let broken = wide(rt.alloc(), "[", "").expect(&rt, "memory");
+    make_file(&rt, "wide.txt", &capture);
+    make_file(&rt, "wide.json", &scenario);
+    make_file(&rt, "broken_at_its_end.json", &broken);
+    let words = ["--capture=wide.txt", "--scenario=wide.json"];
+    check(&rt, &words, b"", (0, STORED_REPORT, ""));
+    let words = [
+        "--capture=wide.txt",
+        "--scenario=wide.json",
+        "--scenario=broken_at_its_end.json",
+    ];
+    check(&rt, &words, b"", (1, "", "refused 10 NotJson scenario 1\n"));
+    remove_file(&rt, "wide.txt");
+    remove_file(&rt, "wide.json");
+    remove_file(&rt, "broken_at_its_end.json");
+}

@@ -1,0 +1,17 @@
+use Rattle.std.proofs.Common.{Ok}
+use Rattle.std.proofs.lemmas.Option.{IfSome_then}
+use Rattle.toxicap.proofs.commands.command_over.Goals as goal
+
+-- a run ended with an outcome, and the outcome was told
+pub returns-in-Ok-clause-ends : goal.returns-in-Ok-clause-ends
+returns-in-Ok-clause-ends g c =
+    let ran = c.run_asked-outcome.ensures in
+    let outcome = c.run_asked-outcome.result in
+    let told = c.report_outcome.ensures in (
+      Ok c.in-Ok.asked,
+      c.in-Ok.ensures,
+      (
+        (outcome, ran.runs, ran.failed_writes, ran.untouched, told.status, told.told),
+        IfSome_then (g.P.Paths.holds c.args.paths.now) ran.named (λ held over. (outcome, over, told.status, told.told)),
+      ),
+    )

@@ -7,6 +7,7 @@
 mod asked;
 mod error;
 mod options;
+mod texts;
 
 pub use asked::{Asked, read_arguments};
 pub use error::Stop;

@@ -1,8 +1,11 @@
-//! The options of the program, with their texts. Lines are broken by hand, below 80 columns.
+//! The options of the program.
 ghost use Rattle.std.specs.Prelude.{◌≡◌, false, IfOk};
 ghost use Rattle.clap.specs.Words.{app_of, rule_of};
 ghost use Rattle.command_line.specs.OptionTable.{bare_app, number_rule, option_rule, path_options, program_options, repeated_rule};
 
+use crate::texts::{
+    ABOUT, AFTER, CAPTURE, CUT, FORMS, HOST, LONG_AFTER, OUT, SCENARIO, SEED, VERSION, WORKERS,
+};
 use clap::builder::ValueParser;
 use clap::{Arg, ArgAction, Command};
 use std::alloc::{AllocError, Global};
@@ -22,68 +25,6 @@ const DEFAULT_WORKERS_TEXT: &str = "1";
 pub(crate) const DEFAULT_CUT: u32 = 4096;
 
 const DEFAULT_CUT_TEXT: &str = "4096";
-
-const ABOUT: &str = "\
-Replays the TCP sessions of a packet capture through Toxiproxy's toxics. Each
-scenario, a list of proxies with their toxics, is answered with the capture of
-what each side would have received, and a report with a line per connection.";
-
-const VERSION: &str = "1.0.0";
-
-const FORMS: &str = "\
-1.0.0
-captures:  classic pcap 2.4 in microseconds or nanoseconds, Ethernet,
-           IPv4, TCP; or a dump of one as hexadecimal digits
-scenarios: JSON in the form of Toxiproxy's populate call, with each proxy's
-           toxics as its member \"toxics\"";
-
-const CAPTURE: &str = "\
-The capture: a classic pcap file, or its bytes as
-hexadecimal digits; at most 2^30 bytes
-[default: standard input]";
-
-const SCENARIO: &str = "\
-A scenario, a JSON array of proxies; may be repeated,
-up to 256 times, for one output each
-[default: one scenario without proxies]";
-
-const HOST: &str = "\
-The IPv4 address of a host that upstreams name, as in
-redis=10.0.0.9; may be repeated, each name once";
-
-const SEED: &str = "\
-What jitter, slices and toxicity are drawn from, 0 to
-2^64 - 1; equal seeds draw the same";
-
-const WORKERS: &str = "\
-How many threads work, 1 to 16; no output depends
-on it";
-
-const CUT: &str = "\
-How many records of the capture a thread reads at
-once, 1 to 1048576; no output depends
-on it";
-
-const OUT: &str = "\
-A folder, which exists, for the outputs: 0000.pcap
-and 0000.txt of the first scenario, then 0001.pcap;
-files of these names are replaced
-[default: the reports alone, on standard output]";
-
-const AFTER: &str = "\
-Exit status:
-  0  every output was written
-  1  refused; a line on standard error says why, such as
-     refused 15 UnknownHost scenario 0 proxy 0
-  2  the command line has a fault, and standard error tells it
-
-Examples:
-  What was recorded, as a report:
-    toxicap --capture session.pcap
-
-  Two scenarios, with the captures of what each side would have received:
-    toxicap --capture session.pcap --scenario slow.json --scenario lossy.json \\
-      --host redis=10.0.0.9 --seed 7 --out outputs";
 
 // An option that takes a value and may stand once.
 fn option<'a>(alloc: Global, name: &'a str, value: &'a str, help: &'a str) -> Arg<'a>
@@ -141,6 +82,7 @@ fn bare<'a>(alloc: Global) -> Command<'a>
         .long_version(FORMS)
         .about(ABOUT)
         .after_help(AFTER)
+        .after_long_help(LONG_AFTER)
 }
 
 // The program with the options that name its inputs.

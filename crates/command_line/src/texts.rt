@@ -1,0 +1,135 @@
+//! The texts of `--help` and `--version`. Lines are broken by hand, below 80 columns.
+
+pub(crate) const ABOUT: &str = "\
+Replays the TCP sessions of a packet capture through Toxiproxy's toxics. Each
+scenario, a list of proxies with their toxics, is answered with the capture of
+what each side would have received, and a report with a line per connection.";
+
+pub(crate) const VERSION: &str = "1.0.0";
+
+pub(crate) const FORMS: &str = "\
+1.0.0
+captures:  classic pcap 2.4 in microseconds or nanoseconds, Ethernet,
+           IPv4, TCP; or a dump of one as hexadecimal digits
+scenarios: JSON in the form of Toxiproxy's populate call, with each proxy's
+           toxics as its member \"toxics\"";
+
+pub(crate) const CAPTURE: &str = "\
+The capture: a classic pcap file, or its bytes as
+hexadecimal digits; at most 2^30 bytes
+[default: standard input]";
+
+pub(crate) const SCENARIO: &str = "\
+A scenario, a JSON array of proxies; may be repeated,
+up to 256 times, for one output each
+[default: one scenario without proxies]";
+
+pub(crate) const HOST: &str = "\
+The IPv4 address of a host that upstreams name, as in
+redis=10.0.0.9; may be repeated, each name once";
+
+pub(crate) const SEED: &str = "\
+What jitter, slices and toxicity are drawn from, 0 to
+2^64 - 1; equal seeds draw the same";
+
+pub(crate) const WORKERS: &str = "\
+How many threads work, 1 to 16; no output depends
+on it";
+
+pub(crate) const CUT: &str = "\
+How many records of the capture a thread reads at
+once, 1 to 1048576; no output depends
+on it";
+
+pub(crate) const OUT: &str = "\
+A folder, which exists, for the outputs: 0000.pcap
+and 0000.txt of the first scenario, then 0001.pcap;
+files of these names are replaced
+[default: the reports alone, on standard output]";
+
+// Texts with the end of both forms of the help after them.
+macro_rules! before_ending {
+    ($($part:literal),*) => {
+        concat!($($part,)* "\
+Exit status:
+  0  every output was written
+  1  refused; a line on standard error says why, such as
+     refused 15 UnknownHost scenario 0 proxy 0
+  2  the command line has a fault, and standard error tells it
+
+Examples:
+  What was recorded, as a report:
+    toxicap --capture session.pcap
+
+  Two scenarios, with the captures of what each side would have received:
+    toxicap --capture session.pcap --scenario slow.json \\
+      --scenario lossy.json --host redis=10.0.0.9 --seed 7 --out outputs")
+    };
+}
+
+pub(crate) const AFTER: &str = before_ending!();
+
+pub(crate) const LONG_AFTER: &str = before_ending!(
+    "\
+Toxics:
+  Each is an object of a proxy's array \"toxics\", as in
+
+    {\"type\": \"latency\", \"stream\": \"upstream\", \"toxicity_ppm\": 500000,
+     \"attributes\": {\"latency\": 100, \"jitter\": 20}}
+
+  The stream is upstream or downstream; downstream where it is not told.
+  A toxic works on toxicity_ppm of a million connections, and on all where
+  it is not told; \"toxicity\", 0 or 1, may stand in its place. Attributes
+  are whole numbers:
+
+  Type        Attribute       Range            Default  What it is
+  latency     latency         0 to 10^9 ms     0        bytes are late
+              jitter          0 to 10^9 ms     0        more or less
+  bandwidth   rate            1 to 10^6 KB/s   -        bytes of a second
+  slow_close  delay           0 to 10^9 ms     0        the close is late
+  timeout     timeout         0 to 10^9 ms     0        no bytes, a close
+  reset_peer  timeout         0 to 10^9 ms     0        bytes, then a reset
+  slicer      average_size    1 to 10^9 bytes  -        bytes of a slice
+              size_variation  0 to 10^9 bytes  0        more or less
+              delay           0 to 10^9 us     0        between two slices
+  limit_data  bytes           0 to 10^12       0        a close after them
+
+  ms is milliseconds, us microseconds, KB 1000 bytes; - stands for what is
+  wanted. size_variation is below average_size. The type timeout with 0
+  never closes.
+
+",
+    "\
+Refusals:
+  A line on standard error tells the number and the name, and where it is:
+  records, hosts, scenarios, a scenario's proxies, a proxy's toxics and the
+  bytes of a dump count from 0.
+
+   1 ShortHeader       the capture has fewer than 24 bytes
+   2 BadMagic          it is no classic pcap: pcapng, or gzipped
+   3 BadVersion        it is of another version than 2.4
+   4 BadLink           it is not of Ethernet
+   5 RecordTooLong     a record announces more than 262144 bytes
+   6 CaptureTooLong    a capture, dump or scenario has more than 2^30 bytes
+  10 NotJson           a scenario is no JSON
+  11 NotArray          it is no array
+  12 BadMember         a member is missing or of the wrong kind
+  13 DuplicateProxy    an earlier proxy has the name
+  14 BadUpstream       an upstream is not HOST:PORT
+  15 UnknownHost       its host is no address, and no --host names it
+  16 UnknownToxic      a type is none of the seven
+  17 BadStream         a stream is neither upstream nor downstream
+  18 DuplicateToxic    an earlier toxic of the proxy has the name
+  19 AttributeRange    an attribute is no whole number in its range
+  20 TooMany           more than 64 proxies, or eight toxics of a stream
+  21 BadToxicity       toxicity is not 0 or 1, or its ppm above a million
+  22 TooManyScenarios  there are more than 256
+  23 BadHost           a --host is not NAME=ADDR, or was given before
+  40 Memory            memory was refused
+  55 BadDump           a byte of a dump is no hexadecimal digit
+  60 ShelfFailed       a file of --out could not be written, after so many
+  61 ReadFailed        a file cannot be opened or read
+  62 WriteFailed       standard output took no more
+
+"
+);

@@ -1,0 +1,124 @@
+//! What the program says on a terminal, beside its outputs and refusals: that it reads standard input, and how many scenarios are stored.
+use std::alloc::Allocator;
+use std::fs::{Metadata, OpenOptions};
+use std::io::{self, IsTerminal, Read, Stderr, Stdin};
+use std::rt::Files;
+use std::sync::Wait;
+use std::sync::atomic::{AtomicU64, Ordering};
+use std::thread::Threads;
+
+/// Standard input. Where it is a terminal, and standard error is one, standard error says so before the first read, which waits.
+#[derive(Drop)]
+pub struct Announced {
+    input: Stdin,
+    faults: Stderr,
+    is_told: bool,
+}
+
+impl Announced {
+    pub fn new(input: Stdin, faults: Stderr) -> Announced {
+        Announced {
+            input,
+            faults,
+            is_told: !input.is_terminal() || !faults.is_terminal(),
+        }
+    }
+}
+
+impl Read for Announced {
+    fn read(&mut self, buf: &mut [u8]) -> io::Result<usize> {
+        if !self.is_told {
+            self.is_told = true;
+            let _ = eprintln!(self.faults;
+                "toxicap: reading the capture from standard input; --capture names a file"
+            );
+        }
+        self.input.read(buf)
+    }
+}
+
+/// The files of a runtime. Standard error tells how many scenarios are stored, each time the second file of one has taken its name.
+#[derive(Drop)]
+pub struct Counting<'a, R> {
+    rt: &'a R,
+    faults: Stderr,
+    all: u64,
+    named: AtomicU64,
+}
+
+impl<'a, R> Counting<'a, R> {
+    /// It counts up to `all` scenarios. One alone, or none, is not counted.
+    pub fn new(rt: &'a R, faults: Stderr, all: u64) -> Counting<'a, R> {
+        Counting {
+            rt,
+            faults,
+            all,
+            named: AtomicU64::new(0),
+        }
+    }
+
+    // Counts a file that has taken its name. Each count but the last is written over by what comes next on the line.
+    fn count(&self) {
+        if self.all < 2 {
+            return;
+        }
+        let named = self.named.fetch_add(1, Ordering::SeqCst).wrapping_add(1);
+        if named % 2 == 0 {
+            let (stored, all) = (named / 2, self.all);
+            let end = if stored < all { "\r" } else { "\n" };
+            let _ = eprint!(self.faults; "stored {stored} of {all}{end}");
+        }
+    }
+}
+
+impl<R: Threads> Threads for Counting<'_, R> {}
+
+impl<R: Wait> Wait for Counting<'_, R> {}
+
+impl<R: Files> Files for Counting<'_, R> {
+    type File = R::File;
+
+    type Dir = R::Dir;
+
+    fn open_file(&self, how: &OpenOptions, path: &str) -> io::Result<R::File> {
+        self.rt.open_file(how, path)
+    }
+
+    fn open_dir(&self, path: &str) -> io::Result<R::Dir> {
+        self.rt.open_dir(path)
+    }
+
+    fn metadata(&self, path: &str) -> io::Result<Metadata> {
+        self.rt.metadata(path)
+    }
+
+    fn symlink_metadata(&self, path: &str) -> io::Result<Metadata> {
+        self.rt.symlink_metadata(path)
+    }
+
+    fn copy(&self, from: &str, to: &str) -> io::Result<u64> {
+        self.rt.copy(from, to)
+    }
+
+    fn rename(&self, from: &str, to: &str) -> io::Result<()> {
+        self.rt.rename(from, to)?;
+        self.count();
+        Ok(())
+    }
+
+    fn remove_file(&self, path: &str) -> io::Result<()> {
+        self.rt.remove_file(path)
+    }
+
+    fn create_dir(&self, path: &str) -> io::Result<()> {
+        self.rt.create_dir(path)
+    }
+
+    fn remove_dir(&self, path: &str) -> io::Result<()> {
+        self.rt.remove_dir(path)
+    }
+
+    fn remove_dir_all<B: Allocator>(&self, alloc: B, path: &str) -> io::Result<()> {
+        self.rt.remove_dir_all(alloc, path)
+    }
+}

@@ -13,27 +13,19 @@ folder() {
     mkdir "$work/folder"
 }
 
-# holds NAME..: what is at fault with the folder, which was to hold these files and no others.
-holds() {
-    [ "$(ls -A "$work/folder")" = "$(printf '%s\n' "$@" | sort)" ] || echo "  the folder has: $(ls -A "$work/folder" | tr '\n' ' ')"
-}
-
-# refused LINE: what is at fault with the last run, which was to be refused so.
-refused() {
-    fault 1
-    [ "$(cat "$work/faults")" = "$1" ] || echo "  told: $(cat "$work/faults")"
-}
+# sums FOLDER: the sum of each file, with its name.
+sums() { (cd "$1" && sha256sum -- *); }
 
 folder
 run "$capture" "${late[@]}" --out "$work/folder"
 cp -r "$work/folder" "$work/new"
-verdict "two files" "$(fault 0; holds 0000.pcap 0000.txt)"
+verdict "two files" "$(well; holds "$work/folder" 0000.pcap 0000.txt)"
 
 folder
 echo old > "$work/folder/0000.pcap"
 printf 'unfinished of a killed run, and longer than a report.%.0s' {1..100} > "$work/folder/toxicap.unfinished"
 run "$capture" "${late[@]}" --out "$work/folder"
-verdict "what a killed run left is replaced" "$(fault 0; diff -r "$work/new" "$work/folder" || true)"
+verdict "what a killed run left is replaced" "$(well; folder_difference "$work/new" "$work/folder")"
 
 # A file may have 8,192 bytes, and the capture has more. The signal that tells it is passed over, so that the write fails.
 folder
@@ -41,50 +33,83 @@ echo old > "$work/folder/0000.pcap"
 status=0
 (trap '' XFSZ; ulimit -f 8; exec "$program" --capture samples/shop.pcap --out "$work/folder" > "$work/output" 2> "$work/told") || status=$?
 cp "$work/told" "$work/faults"
-verdict "no room" "$(refused "refused 60 ShelfFailed after 0"; holds 0000.pcap; echo old | cmp - "$work/folder/0000.pcap" || true)"
+verdict "no room" "$(refusal "refused 60 ShelfFailed after 0"; holds "$work/folder" 0000.pcap; echo old | byte_difference - "$work/folder/0000.pcap")"
 
 folder
 mkdir "$work/folder/0000.txt"
 run "$capture" "${late[@]}" --out "$work/folder"
-verdict "a folder of the report's name" "$(refused "refused 60 ShelfFailed after 1"; holds 0000.pcap 0000.txt; cmp "$work/new/0000.pcap" "$work/folder/0000.pcap" || true)"
+verdict "a folder of the report's name" "$(
+    refusal "refused 60 ShelfFailed after 1"
+    holds "$work/folder" 0000.pcap 0000.txt
+    byte_difference "$work/new/0000.pcap" "$work/folder/0000.pcap"
+)"
 
 folder
 echo target > "$work/target"
 ln -s "$work/target" "$work/folder/0000.txt"
 run "$capture" "${late[@]}" --out "$work/folder"
-verdict "a link of the report's name" "$(fault 0; diff -r "$work/new" "$work/folder" || true; echo target | cmp - "$work/target" || true)"
+verdict "a link of the report's name" "$(well; folder_difference "$work/new" "$work/folder"; echo target | byte_difference - "$work/target")"
 
+# A file that may not be written, by root as nobody.
+folder
+echo old > "$work/folder/0000.txt"
+chmod a-w "$work/folder/0000.txt"
+nobody=(setpriv --reuid=65534 --regid=65534 --clear-groups)
 if [ "$(id -u)" != 0 ]; then
-    folder
-    echo old > "$work/folder/0000.txt"
-    chmod a-w "$work/folder/0000.txt"
     run "$capture" "${late[@]}" --out "$work/folder"
-    verdict "a file that may not be written" "$(refused "refused 60 ShelfFailed after 1"; echo old | cmp - "$work/folder/0000.txt" || true)"
+    verdict "a file that may not be written" "$(refusal "refused 60 ShelfFailed after 1"; echo old | byte_difference - "$work/folder/0000.txt")"
+elif chmod 711 "$work" && chown -R 65534:65534 "$work/folder" && cp "$program" "$work/copy" && "${nobody[@]}" "$work/copy" -V > /dev/null 2>&1; then
+    cp "${late[1]}" "$work/late.json"
+    status=0
+    "${nobody[@]}" "$work/copy" --scenario "$work/late.json" --out "$work/folder" < "$capture" > "$work/output" 2> "$work/faults" || status=$?
+    verdict "a file that may not be written" "$(refusal "refused 60 ShelfFailed after 1"; echo old | byte_difference - "$work/folder/0000.txt")"
+else
+    skip "a file that may not be written" "root may write each, and cannot run as nobody"
+fi
+
+# A full disk: of 64 KiB, all but some 8 are taken. A file that finds no room leaves the old one, and those before it are whole.
+mkdir "$work/disk"
+clean_up() { umount "$work/disk" 2> /dev/null || true; }
+if mount -t tmpfs -o size=64k tmpfs "$work/disk" 2> /dev/null; then
+    run "$capture" --scenario examples/latency.json --scenario examples/slicer.json --out "$work/disk"
+    verdict "a small disk" "$(well; holds "$work/disk" 0000.pcap 0000.txt 0001.pcap 0001.txt)"
+    for file in "$work"/disk/*; do echo old > "$file"; done
+    head -c 40960 /dev/zero > "$work/disk/taken"
+    run samples/shop.pcap --out "$work/disk"
+    verdict "a full disk" "$(
+        refusal "refused 60 ShelfFailed after 0"
+        holds "$work/disk" 0000.pcap 0000.txt 0001.pcap 0001.txt taken
+        for file in "$work"/disk/0*; do echo old | byte_difference - "$file"; done
+    )"
+else
+    skip "a full disk" "no disk of 64 KiB can be made here"
 fi
 
 run "$capture" --out "$work/nowhere"
-verdict "no folder" "$(refused "refused 60 ShelfFailed after 0")"
+verdict "no folder" "$(refusal "refused 60 ShelfFailed after 0")"
 
 # A run of 64 scenarios is killed at many instants: each file is the old one whole, or the new one.
 many=()
 for ((scenario = 0; scenario < 64; scenario++)); do many+=("${late[@]}"); done
 folder
 run "$capture" "${many[@]}" --out "$work/folder"
-rm -rf "$work/new"
-mv "$work/folder" "$work/new"
-bad=$(fault 0)
+sums "$work/folder" > "$work/whole"
+mkdir "$work/old"
+for file in "$work"/folder/*; do echo old > "$work/old/${file##*/}"; done
+sums "$work/old" >> "$work/whole"
+bad=$(well)
 for ((instant = 1; instant <= 40; instant++)); do
     folder
-    for file in "$work"/new/*; do echo old > "$work/folder/${file##*/}"; done
+    cp "$work"/old/* "$work/folder"
     "$program" --capture "$capture" "${many[@]}" --out "$work/folder" &
     sleep "0.$(printf '%03d' "$instant")"
     kill -KILL $! 2> /dev/null || true
     wait $! 2> /dev/null || true
     rm -f "$work/folder/toxicap.unfinished"
-    for file in "$work"/new/*; do
-        here=$work/folder/${file##*/}
-        cmp -s "$file" "$here" || echo old | cmp -s - "$here" || bad+="  killed after $instant ms: ${file##*/} is torn"$'\n'
-    done
+    sums "$work/folder" > "$work/sums"
+    [ "$(wc -l < "$work/sums")" = 128 ] || bad+="  killed after $instant ms: $(wc -l < "$work/sums") files"$'\n'
+    torn=$(grep -vxFf "$work/whole" "$work/sums" || true)
+    [ -z "$torn" ] || bad+="  killed after $instant ms, torn:"$'\n'"$torn"$'\n'
 done
 verdict "killed at 40 instants" "$bad"
 close

@@ -1,41 +1,37 @@
 #!/usr/bin/env bash
-# The built program, each growth of its memory refused in turn: it answers as with ample memory (where a thread could not be made, by
-# fewer workers), or it is refused for want of memory, prints nothing and has stored a first part of the files. There is no third answer.
+# Each growth of memory refused in turn: the built program, and the calls `rehearse` and `answers` of its library, answer as with ample
+# memory (where a thread could not be made, by fewer workers), or they are refused for want of memory. The program then prints nothing and
+# has stored a first part of the files; the next call of the library, with the same values, answers in full. There is no third answer.
 set -euo pipefail
 cd "$(dirname "$0")/.."
 . tests/lib.sh
+. tests/calls.sh
 stored=crates/toxicap_program/stdin
-${CC:-cc} -shared -fPIC -O1 -o "$work/growths.so" tests/growths.c
+folder=$work/folder
+mkdir "$folder"
 
-# starved N INPUT [ARGUMENT..]: runs the program on a file, growth N refused; whether there was such a growth.
+# starved NUMBER INPUT [ARGUMENT..]: runs the program on a file, this growth refused; whether there was such a growth.
 starved() {
-    local number=$1 input=$2
-    shift 2
-    rm -rf "$work/came" "$work/folder"
-    mkdir "$work/folder"
-    status=0
-    GROWTH=$number GROWTH_CAME=$work/came LD_PRELOAD=$work/growths.so \
-        "$program" "$@" < "$input" > "$work/output" 2> "$work/faults" || status=$?
-    [ -e "$work/came" ]
+    local number=$1
+    shift
+    [ ! -e "$folder/0000.pcap" ] || rm "$folder"/*
+    run_with "FAIL=growth:$number" "$@"
+    has_failed
 }
 
-# whole: what the last run has that is not the full answer, which stands in `ample` and `files`.
-whole() {
-    fault 0
-    difference "$work/ample" "$work/output"
-    [ ! -s "$work/faults" ] || echo '  something is told'
-    diff -rq "$work/files" "$work/folder" || true
+# is_whole: whether the last run has the full answer, which stands in `ample` and `files`.
+is_whole() {
+    [ "$status" = 0 ] && [ ! -s "$work/faults" ] && cmp -s "$work/ample" "$work/output" || return 1
+    [ ! -e "$work/files/0000.pcap" ] || diff -rq "$work/files" "$folder" > /dev/null
 }
 
 # wanting: what the last run has that is not want of memory. Where there is no memory for the line either, nothing is told.
 wanting() {
     local file some=no
-    [ "$status" = 1 ] || echo "  status $status"
-    [ ! -s "$work/output" ] || echo '  something is printed'
-    [ ! -s "$work/faults" ] || [ "$(cat "$work/faults")" = "refused 40 Memory" ] || echo "  told: $(cat "$work/faults")"
-    for file in $(ls "$work/files" | sort -r); do
-        if [ -e "$work/folder/$file" ]; then
-            cmp "$work/files/$file" "$work/folder/$file" || true
+    if [ -s "$work/faults" ]; then refusal "refused 40 Memory"; else fault 1; silent output; fi
+    for file in $(find "$work/files" -type f -printf '%f\n' | sort -r); do
+        if [ -e "$folder/$file" ]; then
+            byte_difference "$work/files/$file" "$folder/$file"
             some=yes
         elif [ $some = yes ]; then
             echo "  $file is missing before others"
@@ -50,14 +46,14 @@ each() {
     starved 0 "$@" || true
     rm -rf "$work/files"
     cp "$work/output" "$work/ample"
-    mv "$work/folder" "$work/files"
-    bad=$(fault 0)
+    cp -r "$folder" "$work/files"
+    bad=$(well)
     while [ -z "$bad" ] && starved $number "$@"; do
-        [ -z "$(whole)" ] || bad=$(wanting)
+        is_whole || bad=$(wanting)
         [ -z "$bad" ] || bad="  growth $number"$'\n'"$bad"
         number=$((number + 1))
     done
-    verdict "$what" "$bad"
+    if [ -z "$bad" ] && [ $number = 1 ]; then skip "$what" "no growth can be refused: is the program linked statically?"; else verdict "$what" "$bad"; fi
     growths=$((growths + number - 1))
 }
 
@@ -71,9 +67,29 @@ each "hosts" "$stored" --host db=10.0.0.7 --host web=10.0.0.2 --scenario "$work/
 each "two scenarios by 2 workers" "$stored" --scenario "$work/named.json" --scenario "$work/late.json" --host web=10.0.0.2 --workers 2 --cut 2
 each "4 workers" "$stored" --workers 4 --cut 1
 each "four scenarios stored by 1 worker" samples/http-get.pcap --scenario examples/latency.json --scenario examples/slicer.json \
-    --scenario examples/bandwidth.json --scenario examples/limit_data.json --out "$work/folder"
+    --scenario examples/bandwidth.json --scenario examples/limit_data.json --out "$folder"
 each "three scenarios stored by 2 workers" samples/http-get.pcap --scenario examples/latency.json --scenario examples/slicer.json \
-    --scenario examples/bandwidth.json --workers 2 --cut 2 --out "$work/folder"
+    --scenario examples/bandwidth.json --workers 2 --cut 2 --out "$folder"
 each "--help" /dev/null --help
-echo "$growths growths refused"
+echo "$growths growths refused of the program"
+
+# The library's calls: each test of the module `again` makes them twice and compares what they answer. It stops with the words `no memory
+# yet` where a growth is refused before the first call.
+program=$(realpath -m "${TESTS:-crates/rehearsal_tests/out/rehearsal_tests_tests}")
+[ -x "$program" ] || { echo "$0: there are no tests at $program: build them by (cd crates/rehearsal_tests && rt test), or set TESTS" >&2; exit 2; }
+
+growths=0
+for test in $("$program" --list | sed -n 's/^\(tests::again::.*\): test$/\1/p'); do
+    number=0 bad=""
+    while [ -z "$bad" ]; do
+        number=$((number + 1))
+        starved $number /dev/null "$test" 2> /dev/null || break
+        [ "$status" = 0 ] || grep -q '^no memory yet' "$work/faults" || bad="  growth $number: $(cat "$work/faults")"
+    done
+    [ -n "$bad" ] || bad=$(fault 0)
+    verdict "$test" "$bad"
+    growths=$((growths + number - 1))
+done
+verdict "tests of the module again" "$([ $growths != 0 ] || echo '  there are none')"
+echo "$growths growths refused of the library"
 close

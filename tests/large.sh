@@ -11,7 +11,7 @@ same() {
     local what=$1
     shift
     run "$@"
-    verdict "$what" "$(fault 0; difference "$work/wanted" "$work/output")"
+    verdict "$what" "$(well; difference "$work/wanted" "$work/output")"
 }
 
 # refused WHAT LINE INPUT [ARGUMENT..]: a run over a file is refused with this line.
@@ -19,7 +19,7 @@ refused() {
     local what=$1 line=$2
     shift 2
     run "$@"
-    verdict "$what" "$(fault 1; echo "$line" | cmp - "$work/faults" || true)"
+    verdict "$what" "$(refusal "$line")"
 }
 
 # toxics COUNT LATENCY: so many latencies downstream.
@@ -66,22 +66,63 @@ refused "a host more than once among 60" "refused 23 BadHost host 59" "$capture"
 
 # 40,000 hosts
 for ((host = 0; host < 40000; host++)); do echo "--host=n$host=10.1.$((host / 256 % 256)).$((host % 256))"; done > "$work/hosts"
-(ulimit -s 65536; xargs -x -s 4000000 -n 50000 -a "$work/hosts" "$program" --capture "$capture" --scenario "$work/one.json" > "$work/output")
+(ulimit -s 65536; xargs -x -s 4000000 -n 50000 -a "$work/hosts" "$program" --capture "$capture" --scenario "$work/one.json" > "$work/output") || true
 verdict "40,000 hosts" "$(difference "$work/wanted" "$work/output")"
 
 # 5,000 bytes that are no JSON
 printf '[%05000d' 7 > "$work/broken.json"
 refused "a long text that is no JSON" "refused 10 NotJson scenario 0" "$capture" --scenario "$work/broken.json"
 
-# outputs of scenarios by any number of workers are those of one
+# of named files at fault the first is told: one of 2^30 + 1 bytes, which takes no room on the disk, and one that is not there
+truncate -s $((2 ** 30 + 1)) "$work/long"
+refused "a long scenario file before one that is not there" "refused 6 CaptureTooLong" /dev/null --scenario "$work/long" --scenario "$work/none"
+refused "a long scenario file after one that is not there" "refused 61 ReadFailed" /dev/null --scenario "$work/none" --scenario "$work/long"
+refused "a long scenario file before a capture that is not there" "refused 6 CaptureTooLong" /dev/null --scenario "$work/long" --capture "$work/none"
+refused "a long capture after a scenario file that is not there" "refused 61 ReadFailed" /dev/null --capture "$work/long" --scenario "$work/none"
+refused "a long capture" "refused 6 CaptureTooLong" /dev/null --capture "$work/long"
+
+# outputs of scenarios by any number of workers are those of one, stored and printed
 four=(--scenario "$work/eight.json" --scenario examples/slicer.json --scenario "$work/last.json" --scenario examples/bandwidth.json)
 mkdir "$work/alone"
 run "$capture" "${four[@]}" --out "$work/alone"
+run "$capture" "${four[@]}"
+cp "$work/output" "$work/wanted"
 for workers in 2 3 5 16; do
     mkdir "$work/by$workers"
     run "$capture" "${four[@]}" --workers $workers --out "$work/by$workers"
-    verdict "four scenarios by $workers workers" "$(fault 0; diff -rq "$work/alone" "$work/by$workers" || true)"
+    verdict "four scenarios by $workers workers" "$(well; folder_difference "$work/alone" "$work/by$workers")"
+    same "four scenarios by $workers workers, printed" "$capture" "${four[@]}" --workers $workers
 done
+
+# Five scenarios, printed and stored: each as it is alone, but for its number.
+five=() number=0
+: > "$work/wanted"
+rm -rf "$work/alone"
+mkdir "$work/each" "$work/alone" "$work/five"
+for scenario in latency limit_data slow_close timeout bandwidth; do
+    five+=(--scenario "examples/$scenario.json")
+    run "$capture" "${five[@]: -2}" --out "$work/each"
+    sed "s/^scenario 0 /scenario $number /" "$work/each/0000.txt" | tee "$work/alone/000$number.txt" >> "$work/wanted"
+    mv "$work/each/0000.pcap" "$work/alone/000$number.pcap"
+    number=$((number + 1))
+done
+same "five scenarios" "$capture" "${five[@]}"
+run "$capture" "${five[@]}" --out "$work/five"
+verdict "five scenarios, stored" "$(well; folder_difference "$work/alone" "$work/five")"
+
+# A scenario file of over 64 KiB counts to its end: its toxic stands after 70,000 blanks, or what is no JSON.
+run "$capture" --scenario "$work/one.json"
+cp "$work/output" "$work/wanted"
+{ printf '[%70000s' ''; tail -c +2 "$work/one.json"; } > "$work/wide.json"
+same "a scenario after 70,000 blanks" "$capture" --scenario "$work/wide.json"
+printf '[]%70000s]' '' > "$work/wide.json"
+refused "a fault after 70,000 blanks" "refused 10 NotJson scenario 0" "$capture" --scenario "$work/wide.json"
+
+# A file of 2^30 bytes and one more is too long, which is told before a later file that is not there.
+truncate -s 1073741825 "$work/long"
+refused "a scenario that is too long" "refused 6 CaptureTooLong" "$capture" --scenario "$work/long" --scenario "$work/nowhere"
+refused "a capture that is too long" "refused 6 CaptureTooLong" /dev/null --capture "$work/long"
+rm "$work/long"
 
 # 150,000 bytes upstream in 120 segments, as a dump; a slicer cuts them byte by byte, each at an instant of its own: a file header, three
 # segments of the handshake, and as many of one byte
@@ -105,8 +146,14 @@ printf '[{"name":"web","upstream":"10.77.0.2:80","toxics":[{"type":"slicer","str
 mkdir "$work/sliced"
 run "$work/dump" --scenario "$work/sliced.json" --out "$work/sliced"
 verdict "150,000 slices" "$(
-    fault 0
+    well
     grep -q ' up 150000/150000/0 ' "$work/sliced/0000.txt" || cat "$work/sliced/0000.txt"
     [ "$(stat -c %s "$work/sliced/0000.pcap")" = $((24 + 3 * 70 + 150000 * 71)) ] || echo '  a capture of another length'
 )"
+mv "$work/sliced/0000.txt" "$work/wanted" || true
+same "150,000 slices, printed" "$work/dump" --scenario "$work/sliced.json"
+
+# The same capture as a file of over 64 KiB that is named, in its bytes.
+printf '%b' "$(tr -d ' \n' < "$work/dump" | sed 's/../\\x&/g')" > "$work/bytes.pcap"
+same "a capture of over 64 KiB that is named" /dev/null --capture "$work/bytes.pcap" --scenario "$work/sliced.json"
 close

@@ -1,14 +1,30 @@
-# What the scripts share: the built program, the counts of what passed and failed, and the closing line. A script says
+# shellcheck shell=bash
+# What the scripts share. A script reads this file from the top folder,
+#     cd "$(dirname "$0")/.."
 #     . tests/lib.sh
-# in the top folder, and has `program` ($TOXICAP, or the one that is built here) and the temporary folder `work` then.
-program=$(realpath -m "${TOXICAP:-crates/toxicap_program/out/toxicap_program}")
-if [ ! -x "$program" ]; then
-    echo "$0: there is no program at $program: build it by (cd crates/toxicap_program && rt run < stdin), or set TOXICAP" >&2
-    exit 2
-fi
+# has `program` (the program's path) and `work` (a folder of its own, removed when it ends) then, tells each comparison by `verdict`, and
+# ends with `close`. It may say anew what `clean_up` does. The program is the one that TOXICAP names, by a path, from the folder where the
+# script was called, or as a command of the path; without TOXICAP it is the one of this tree, which is proved and built first if need be.
+
+clean_up() { :; }
 work=$(mktemp -d)
-trap 'rm -rf "$work"' EXIT
-passed=0 failed=0
+trap 'clean_up; rm -rf "$work"' EXIT
+passed=0 failed=0 skipped=0
+
+# find_program: what `program` is, or the end of the script where there is none.
+find_program() {
+    local built=$PWD/crates/toxicap_program/out/toxicap_program
+    local build="(cd crates/toxicap_program && rt run < /dev/null)"
+    if [ -z "${TOXICAP:-}" ] && [ ! -x "$built" ] && type -P rt > /dev/null; then
+        echo "$0: there is no program yet: $build proves and builds it, a quarter of an hour on 4 cores" >&2
+        (cd crates/toxicap_program && rt run < /dev/null) >&2 || true
+    fi
+    program=$(cd "${OLDPWD:-.}" && realpath -s "$(type -P "${TOXICAP:-$built}")" 2> /dev/null) || {
+        echo "$0: there is no program ${TOXICAP:-$built}: build it by $build, or name one in TOXICAP" >&2
+        exit 2
+    }
+}
+find_program
 
 # verdict WHAT FAULT: counts a comparison, which went well where FAULT is empty.
 verdict() {
@@ -20,6 +36,21 @@ verdict() {
     fi
 }
 
+# skip WHAT WHY: counts a comparison that is left out, and says so.
+skip() {
+    skipped=$((skipped + 1))
+    echo "skipped: $1 ($2)"
+}
+
+# can WHAT TOOL..: whether all tools are here that something wants; where one is not, that is skipped.
+can() {
+    local what=$1 tool
+    shift
+    for tool in "$@"; do
+        type -P "$tool" > /dev/null || { skip "$what" "$tool is not here"; return 1; }
+    done
+}
+
 # run INPUT ARGUMENT..: runs the program on a file; `status`, and the files `output` and `faults` of the folder `work`, are what came.
 run() {
     local input=$1
@@ -28,12 +59,44 @@ run() {
     "$program" "$@" < "$input" > "$work/output" 2> "$work/faults" || status=$?
 }
 
-# fault STATUS: what is at fault with the last run, which was to end so: nothing, or its status with what it said.
+# What is at fault with the last run; nothing where it went as it was to go.
+# fault STATUS: it was to end so. Told are its status and what it said.
 fault() {
     [ "$status" = "$1" ] || printf '  status %s: %s\n' "$status" "$(cat "$work/faults")"
 }
 
-# difference WANTED FOUND: the lines in which two files differ; nothing where they are the same, byte for byte.
+# silent FILE..: it was to write nothing to `output`, or to `faults`.
+silent() {
+    local file
+    for file in "$@"; do [ ! -s "$work/$file" ] || printf '  %s, which was to be empty: %s\n' "$file" "$(head -n 1 "$work/$file")"; done
+}
+
+# well: it was to end with 0, and to tell no fault.
+well() {
+    fault 0
+    silent faults
+}
+
+# told FILE TEXT: it was to write this text to `output`, or to `faults`.
+told() {
+    printf '%s' "$2" > "$work/text"
+    difference "$work/text" "$work/$1"
+}
+
+# refusal LINE: it was to be refused with this line, and to print nothing.
+refusal() {
+    fault 1
+    silent output
+    told faults "$1"$'\n'
+}
+
+# byte_difference WANTED FOUND: where two files differ first, of which one may be `-`; nothing where they are the same, byte for byte.
+byte_difference() { cmp "$1" "$2" 2>&1 || true; }
+
+# folder_difference WANTED FOUND: what differs between two folders.
+folder_difference() { diff -rq "$1" "$2" 2>&1 || true; }
+
+# difference WANTED FOUND: the lines in which two texts differ; nothing where they are the same, byte for byte.
 difference() {
     local wanted found line file told=no
     for file in "$1" "$2"; do [ -f "$file" ] || { echo "  no file $file"; return 0; }; done
@@ -48,6 +111,14 @@ difference() {
     [ $told = yes ] || echo '  the files differ at their ends'
 }
 
+# holds FOLDER NAME..: what is at fault with a folder that was to hold these files, told in order, and no others.
+holds() {
+    local names
+    names=$(find "$1" -mindepth 1 -maxdepth 1 -printf '%f\n' | LC_ALL=C sort | paste -sd ' ')
+    shift
+    [ "$names" = "$*" ] || echo "  the folder has: $names"
+}
+
 # sum_difference WANTED FILE: what is at fault with a file that was to have this sum (sha256).
 sum_difference() {
     local found
@@ -57,6 +128,7 @@ sum_difference() {
 
 # close: the closing line, and the script's status.
 close() {
+    [ $skipped = 0 ] || echo "$skipped skipped"
     echo "$passed passed, $failed failed"
     [ $failed = 0 ]
 }

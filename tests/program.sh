@@ -6,34 +6,27 @@ cd "$(dirname "$0")/.."
 stored=crates/toxicap_program/stdin
 report=crates/toxicap_program/stdout
 
-# ended STATUS OUTPUT FAULT: what is at fault with the last run, which was to end so, and print and tell these texts.
-ended() {
-    fault "$1"
-    printf '%s' "$2" > "$work/wanted"
-    difference "$work/wanted" "$work/output"
-    printf '%s' "$3" > "$work/wanted"
-    difference "$work/wanted" "$work/faults"
-}
-
-# check STATUS OUTPUT FAULT INPUT [ARGUMENT..]: a run over a file ends so; FAULT is without its last line feed.
-check() {
-    local wanted=$1 output=$2 told=$3 input=$4
-    shift 4
-    run "$input" "$@"
-    verdict "toxicap $* < $input" "$(ended "$wanted" "$output" "$told${told:+$'\n'}")"
-}
-
 # reported INPUT [ARGUMENT..]: a run over a file prints the report of the stored run.
 reported() {
     run "$@"
-    verdict "toxicap ${*:2} < $1" "$(fault 0; difference "$report" "$work/output")"
+    verdict "toxicap ${*:2} < $1" "$(well; difference "$report" "$work/output")"
+}
+
+# unread LINE INPUT [ARGUMENT..]: a run over a file is refused with this line.
+unread() {
+    local line=$1
+    shift
+    run "$@"
+    verdict "toxicap ${*:2} < $1" "$(refusal "$line")"
 }
 
 # refused LINE [ARGUMENT..]: a run over the stored run's input is refused with this line.
-refused() {
-    local line=$1
-    shift
-    check 1 "" "$line" "$stored" "$@"
+refused() { unread "$1" "$stored" "${@:2}"; }
+
+# misread TEXT [ARGUMENT..]: this text is told as a fault of the command line, and where help is.
+misread() {
+    run "$stored" "${@:2}"
+    verdict "toxicap ${*:2}" "$(fault 2; silent output; told faults "$1"$'\n\nFor more information, try \'--help\'.\n')"
 }
 
 # misused [ARGUMENT..]: these arguments are told as a fault of the command line.
@@ -41,7 +34,7 @@ misused() {
     run "$stored" "$@"
     verdict "toxicap $*" "$(
         fault 2
-        [ ! -s "$work/output" ] || echo '  something is printed'
+        silent output
         grep -q '^error: ' "$work/faults" || echo '  no error is told'
         [ "$(tail -n 1 "$work/faults")" = "For more information, try '--help'." ] || echo '  help is not offered'
     )"
@@ -62,10 +55,10 @@ reported "$stored" --seed 18446744073709551615 --workers 16 --cut 1048576
 printf 'a1b2cd34 00020004 00000000 00000000 0000ffff 00000001' > "$work/unknown"
 printf 'd4c' > "$work/broken"
 printf 'd4c3b2a1 02000400 00000000 00000000 ffff0000 01000000 00000000 00000000 01000400 01000400' > "$work/long"
-check 1 "" "refused 1 ShortHeader" /dev/null
-check 1 "" "refused 2 BadMagic" "$work/unknown"
-check 1 "" "refused 5 RecordTooLong at 0" "$work/long"
-check 1 "" "refused 55 BadDump at 3" "$work/broken"
+unread "refused 1 ShortHeader" /dev/null
+unread "refused 2 BadMagic" "$work/unknown"
+unread "refused 5 RecordTooLong at 0" "$work/long"
+unread "refused 55 BadDump at 3" "$work/broken"
 
 # hosts
 printf '[{"name":"web","upstream":"web:80"}]' > "$work/named.json"
@@ -82,41 +75,91 @@ printf '[]' > "$work/bare.json"
 printf '[' > "$work/broken.json"
 many=()
 for _ in {1..256}; do many+=(--scenario "$work/bare.json"); done
-check 1 "" "refused 1 ShortHeader" /dev/null "${many[@]}"
+unread "refused 1 ShortHeader" /dev/null "${many[@]}"
 refused "refused 22 TooManyScenarios" "${many[@]}" --scenario "$work/bare.json"
 refused "refused 10 NotJson scenario 256" "${many[@]}" --scenario "$work/broken.json"
+
+# the line of each refusal of a scenario has its place: the scenario, its proxy, and the toxic of that where it is of one
+# toxics COUNT LAST: so many toxics of a proxy, the last one of them such.
+toxics() {
+    local toxic
+    for ((toxic = 1; toxic < $1; toxic++)); do printf '{"type":"timeout","name":"t%s","stream":"%s"},' $toxic "$([ $toxic -gt 8 ] || echo upstream)"; done
+    printf '%s' "$2"
+}
+
+# placed LINE TEXT: as the last of 256 scenarios, this text is refused with this line.
+placed() {
+    printf '%s' "$2" > "$work/last.json"
+    refused "$1" "${many[@]:0:510}" --scenario "$work/last.json"
+}
+
+# last PROXY: 64 proxies of which this is the last.
+last() {
+    local proxy
+    printf '['
+    for ((proxy = 0; proxy < 63; proxy++)); do printf '{"name":"p%s","upstream":"10.0.0.2:80"},' $proxy; done
+    printf '%s]' "$1"
+}
+placed "refused 11 NotArray scenario 255" '{}'
+placed "refused 13 DuplicateProxy scenario 255 proxy 63" "$(last '{"name":"p7","upstream":"10.0.0.2:80"}')"
+placed "refused 14 BadUpstream scenario 255 proxy 63" "$(last '{"name":"p","upstream":"10.0.0.2"}')"
+placed "refused 18 DuplicateToxic scenario 255 proxy 63 toxic 15" \
+    "$(last '{"name":"p","upstream":"10.0.0.2:80","toxics":['"$(toxics 16 '{"type":"timeout","name":"t3"}')"']}')"
+placed "refused 19 AttributeRange scenario 255 proxy 63 toxic 15" \
+    "$(last '{"name":"p","upstream":"10.0.0.2:80","toxics":['"$(toxics 16 '{"type":"bandwidth"}')"']}')"
+placed "refused 20 TooMany scenario 255 proxy 63 toxic 8" \
+    "$(last '{"name":"p","upstream":"10.0.0.2:80","toxics":['"$(toxics 9 '{"type":"timeout","stream":"upstream"}')"']}')"
+
+# and those of a host, of a record, of a dump, and of a folder, each with the largest number here
+hosts=()
+for host in {0..254}; do hosts+=(--host "h$host=10.1.2.$host"); done
+refused "refused 23 BadHost host 255" "${hosts[@]}" --host h77=10.0.0.9
+{ head -c 24 crates/library_example/stdin; head -c 1600000 /dev/zero; printf '\0\0\0\0\0\0\0\0\xff\xff\xff\xff\0\0\0\0'; } > "$work/long.pcap"
+unread "refused 5 RecordTooLong at 100000" "$work/long.pcap"
+{ printf '%01000000d' 0; echo -; } > "$work/broken"
+unread "refused 55 BadDump at 1000000" "$work/broken"
+mkdir -p "$work/full/0255.txt"
+refused "refused 60 ShelfFailed after 511" "${many[@]}" --out "$work/full"
 
 # paths where nothing is, and folders, which open and cannot be read
 for path in "$work/nothing" "$work" ""; do
     refused "refused 61 ReadFailed" --capture "$path"
     refused "refused 61 ReadFailed" --scenario "$path"
 done
-check 1 "" "refused 61 ReadFailed" .
+unread "refused 61 ReadFailed" .
 refused "refused 60 ShelfFailed after 0" --out "$work/nothing"
 refused "refused 60 ShelfFailed after 0" --out ""
+
+# files of over 300 KB by their paths, whose ends count
+printf '[%400000s]' '' > "$work/wide.json"
+printf '[%400000s' '' > "$work/open.json"
+{ head -c 30 "$stored"; printf '%400000s' ''; tail -c +31 "$stored"; } > "$work/wide.txt"
+reported /dev/null --capture "$work/wide.txt" --scenario "$work/wide.json"
+unread "refused 10 NotJson scenario 1" /dev/null --capture "$work/wide.txt" --scenario "$work/wide.json" --scenario "$work/open.json"
 
 # a writer that cannot be written
 status=0
 "$program" < "$stored" > /dev/full 2> "$work/faults" || status=$?
 : > "$work/output"
-verdict "toxicap > /dev/full" "$(ended 1 "" $'refused 62 WriteFailed\n')"
+verdict "toxicap > /dev/full" "$(refusal "refused 62 WriteFailed")"
 
 # the files of --out: those that are there are replaced, and others stay
 mkdir "$work/outputs"
 printf 'an older file, which is replaced, and longer than what comes' | tee "$work/outputs/0000.pcap" > "$work/outputs/0001.txt"
-check 0 "" "" "$stored" --out "$work/outputs"
+run "$stored" --out "$work/outputs"
 verdict "the files of --out" "$(
+    well
+    silent output
     difference "$report" "$work/outputs/0000.txt"
     [ "$(stat -c %s "$work/outputs/0000.pcap")" = 24 ] || echo '  a capture that has not 24 bytes'
     [ "$(stat -c %s "$work/outputs/0001.txt")" = 60 ] || echo '  another file does not stay'
-    [ "$(ls "$work/outputs" | tr '\n' ' ')" = '0000.pcap 0000.txt 0001.txt ' ] || ls "$work/outputs"
+    holds "$work/outputs" 0000.pcap 0000.txt 0001.txt
 )"
 
 # faults of the command line
-check 2 "" "error: invalid value '17' for '--workers <N>': 17 is not in 1..=16
-
-For more information, try '--help'." "$stored" --workers 17
-check 2 "" "error: a word of the command line is not text in UTF-8" "$stored" --capture $'\xff'
+misread "error: invalid value '17' for '--workers <N>': 17 is not in 1..=16" --workers 17
+run "$stored" --capture $'\xff'
+verdict "a word that is not text" "$(fault 2; silent output; told faults $'error: a word of the command line is not text in UTF-8\n')"
 misused --seed 1 --seed 2
 misused --capture a --capture b
 misused --out a --out b
@@ -136,19 +179,34 @@ misused ""
 # the texts that are asked for, on standard output
 run /dev/null --help
 verdict "toxicap --help" "$(
+    well
+    names "$work/output" '--capture <PATH>' '--scenario <PATH>' '--host <NAME=ADDR>' '--seed <N>' '--workers <N>' '--cut <N>' '--out <DIR>' \
+        '[default: standard input]' '[default: 0]' '[default: 1]' '[default: 4096]' 'Toxics:' 'Refusals:' 'Exit status:' 'Examples:'
+    ! grep -n '.\{80\}' "$work/output"
+)"
+verdict "refusals and toxics in --help" "$(
+    grep -oE '`refused [0-9]+ [A-Za-z]+' docs/RULES.md | while read -r _ number name; do
+        grep -qE "^ +$number $name  " "$work/output" || echo "  no $number $name"
+    done
+    sed -n '/^| Type | Attributes |/,/^$/p' docs/RULES.md | tail -n +3 | grep -oE '`[a-z_]+`' | tr -d '`' | while read -r word; do
+        grep -qE "^ +([a-z_]+ +)?$word " "$work/output" || echo "  no $word"
+    done
+)"
+run /dev/null -h
+verdict "toxicap -h" "$(
     fault 0
     [ ! -s "$work/faults" ] || echo '  something is told'
-    names "$work/output" '--capture <PATH>' '--scenario <PATH>' '--host <NAME=ADDR>' '--seed <N>' '--workers <N>' '--cut <N>' '--out <DIR>' \
-        '[default: standard input]' '[default: 0]' '[default: 1]' '[default: 4096]' 'Exit status:' 'Examples:'
+    names "$work/output" '--capture <PATH>' '--out <DIR>' '[default: 4096]' 'Exit status:' 'Examples:'
+    [ "$(wc -l < "$work/output")" -lt 48 ] || echo '  it is longer than a screen'
     ! grep -n '.\{80\}' "$work/output"
 )"
 run /dev/null --version
 verdict "toxicap --version" "$(
-    fault 0
-    [ ! -s "$work/faults" ] || echo '  something is told'
+    well
     [ "$(head -n 1 "$work/output")" = 'toxicap 1.0.0' ] || echo '  another version'
     names "$work/output" 'pcap 2.4' Ethernet IPv4 TCP JSON
 )"
-check 0 "toxicap 1.0.0"$'\n' "" /dev/null -V
+run /dev/null -V
+verdict "toxicap -V" "$(well; told output $'toxicap 1.0.0\n')"
 
 close

@@ -10,10 +10,6 @@ set -euo pipefail
 cd "$(dirname "$0")/.."
 . tests/lib.sh
 
-# digits FILE: the hexadecimal digits of a dump, or of a file.
-digits() { tr -d ' \n' < "$1"; }
-digits_of() { od -An -v -tx1 "$1" | tr -d ' \n'; }
-
 # dump ROW: the row's capture, as hexadecimal text, in the file `dump` of the folder `work`.
 dump() {
     if [ -f "$1/dump" ]; then cp "$1/dump" "$work/dump"
@@ -24,34 +20,38 @@ dump() {
 # printed ROW: what is at fault with what was printed and told.
 printed() {
     if [ -f "$1/fault" ]; then
-        fault 1
-        difference "$1/fault" "$work/faults"
-        [ ! -s "$work/output" ] || echo '  something is printed'
+        refusal "$(cat "$1/fault")"
     else
-        fault 0
+        well
         difference "$1/report" "$work/output"
     fi
 }
 
-# stored ROW: what is at fault with the files in the folder `outputs`.
-stored() {
-    local capture name found
-    fault 0
-    [ ! -s "$work/output" ] || echo '  something is printed beside --out'
-    cat "$work"/outputs/*.txt > "$work/reports"
-    difference "$1/report" "$work/reports"
+# wanted ROW: the names and sums of the row's output captures, as sha256sum tells them.
+wanted() {
+    local capture name
     for capture in "$1"/0*.hex "$1"/0*.sha256; do
         [ -f "$capture" ] || continue
-        name=$(basename "${capture%.*}")
-        found=$work/outputs/$name.pcap
-        if [ "${capture##*.}" = sha256 ]; then sum_difference "$(cat "$capture")" "$found"
-        elif [ "$(digits "$capture")" != "$(digits_of "$found")" ]; then
-            printf '  capture %s, found:\n%s\n' "$name" "$(od -An -v -tx1 "$found")"
-        fi
-    done
-    for found in "$work"/outputs/*.pcap; do
-        name=$(basename "$found" .pcap)
-        [ -f "$1/$name.hex" ] || [ -f "$1/$name.sha256" ] || echo "  no wanted capture $name"
+        name=$(basename "${capture%.*}").pcap
+        case $capture in
+            *.hex) tr -d ' \n' < "$capture" | tr a-f A-F | basenc -d --base16 | sha256sum | sed "s/-\$/$name/" ;;
+            *) echo "$(cat "$capture")  $name" ;;
+        esac
+    done | sort -k 2
+}
+
+# stored ROW: what is at fault with the files in the folder `outputs`; captures that are small and another are shown.
+stored() {
+    local name
+    well
+    silent output
+    cat "$work"/outputs/*.txt > "$work/reports"
+    difference "$1/report" "$work/reports"
+    (cd "$work/outputs" && sha256sum -- *.pcap) > "$work/sums"
+    ! cmp -s "$work/wanted" "$work/sums" || return 0
+    difference "$work/wanted" "$work/sums"
+    comm -13 <(sort "$work/wanted") <(sort "$work/sums") | while read -r _ name; do
+        [ ! -f "$1/${name%.pcap}.hex" ] || od -An -v -tx1 "$work/outputs/$name"
     done
 }
 
@@ -66,6 +66,7 @@ row() {
     popd > /dev/null
     verdict "$name" "$(printed "$1")"
     [ ! -f "$1/fault" ] || return 0
+    wanted "$1" > "$work/wanted"
     for workers in 1 2 4 16; do
         for cut in 1 2 3 4096; do
             rm -rf "$work/outputs"

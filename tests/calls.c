@@ -1,0 +1,126 @@
+/* Loaded before the C library: counts the program's calls of each kind, lets some of them fail, and has reads and writes move few bytes.
+   The environment says how:
+     CALLS=FILE   where the counts stand, 8 bytes for each kind in the order below, also while the program runs; FILE.failed is made once
+                  a call has failed
+     FAIL=KIND:N  the call of this kind with this number fails, from 1 on; with N+ it and all later ones
+     CAUSE=N      the error number that it fails with; 0 has a write take nothing
+     MOST=N       a read or a write moves at most so many bytes */
+#define _GNU_SOURCE
+#include <dlfcn.h>
+#include <errno.h>
+#include <fcntl.h>
+#include <pthread.h>
+#include <stdarg.h>
+#include <stdatomic.h>
+#include <stddef.h>
+#include <stdio.h>
+#include <stdlib.h>
+#include <string.h>
+#include <sys/mman.h>
+#include <sys/syscall.h>
+#include <unistd.h>
+
+enum kind { GROWTH, THREAD, READ, WRITE, OPEN, RENAME, KINDS };
+static const char *const names[KINDS] = {"growth", "thread", "read", "write", "open", "rename"};
+
+extern void *__libc_malloc(size_t);
+extern void *__libc_calloc(size_t, size_t);
+extern void *__libc_realloc(void *, size_t);
+typedef int create_thread(pthread_t *, const pthread_attr_t *, void *(*)(void *), void *);
+
+static atomic_long own_counts[KINDS], *counts = own_counts;
+static long failing[KINDS], most = 1L << 30;
+static char failed_file[4096];
+static int cause = EIO, and_later, is_ready;
+static create_thread *next_create;
+
+__attribute__((constructor)) static void begin(void)
+{
+    const char *file = getenv("CALLS"), *fail = getenv("FAIL"), *number;
+    if (file != NULL) {
+        snprintf(failed_file, sizeof failed_file, "%s.failed", file);
+        int fd = syscall(SYS_openat, AT_FDCWD, file, O_RDWR | O_CREAT, 0600);
+        if (fd < 0 || ftruncate(fd, sizeof own_counts) != 0)
+            abort();
+        counts = mmap(NULL, sizeof own_counts, PROT_READ | PROT_WRITE, MAP_SHARED, fd, 0);
+        if (counts == MAP_FAILED)
+            abort();
+        close(fd);
+    }
+    for (int kind = 0; fail != NULL && kind < KINDS; kind++) {
+        size_t len = strlen(names[kind]);
+        if (strncmp(fail, names[kind], len) == 0 && fail[len] == ':') {
+            failing[kind] = atol(fail + len + 1);
+            and_later = strchr(fail, '+') != NULL;
+        }
+    }
+    if ((number = getenv("CAUSE")) != NULL)
+        cause = atoi(number);
+    if ((number = getenv("MOST")) != NULL)
+        most = atol(number);
+    next_create = (create_thread *)dlsym(RTLD_NEXT, "pthread_create");
+    is_ready = 1;
+}
+
+static int fails(enum kind kind)
+{
+    if (!is_ready)
+        return 0;
+    long number = atomic_fetch_add(&counts[kind], 1) + 1;
+    if (failing[kind] == 0 || number < failing[kind] || (number > failing[kind] && !and_later))
+        return 0;
+    close(syscall(SYS_openat, AT_FDCWD, failed_file, O_WRONLY | O_CREAT, 0600));
+    return 1;
+}
+
+static int told(int error)
+{
+    errno = error;
+    return -1;
+}
+
+void *malloc(size_t size)
+{
+    return fails(GROWTH) ? (errno = ENOMEM, NULL) : __libc_malloc(size);
+}
+
+void *calloc(size_t count, size_t size)
+{
+    return fails(GROWTH) ? (errno = ENOMEM, NULL) : __libc_calloc(count, size);
+}
+
+void *realloc(void *old, size_t size)
+{
+    return fails(GROWTH) ? (errno = ENOMEM, NULL) : __libc_realloc(old, size);
+}
+
+int pthread_create(pthread_t *thread, const pthread_attr_t *attributes, void *(*run)(void *), void *argument)
+{
+    return fails(THREAD) ? EAGAIN : next_create(thread, attributes, run, argument);
+}
+
+ssize_t read(int fd, void *bytes, size_t len)
+{
+    return fails(READ) ? told(cause) : syscall(SYS_read, fd, bytes, len < (size_t)most ? len : (size_t)most);
+}
+
+ssize_t write(int fd, const void *bytes, size_t len)
+{
+    if (fails(WRITE))
+        return cause == 0 ? 0 : told(cause);
+    return syscall(SYS_write, fd, bytes, len < (size_t)most ? len : (size_t)most);
+}
+
+int open(const char *path, int flags, ...)
+{
+    va_list more;
+    va_start(more, flags);
+    int mode = va_arg(more, int);
+    va_end(more);
+    return fails(OPEN) ? told(cause) : (int)syscall(SYS_openat, AT_FDCWD, path, flags, mode);
+}
+
+int rename(const char *from, const char *to)
+{
+    return fails(RENAME) ? told(cause) : (int)syscall(SYS_rename, from, to);
+}

@@ -1,0 +1,132 @@
+#!/usr/bin/env bash
+# The built program where its calls of the system fail, each in turn: reads, writes, files and threads. And that it reads and writes whole
+# where a call moves few bytes, and hands on how many workers there are and how long a range is.
+set -euo pipefail
+cd "$(dirname "$0")/.."
+. tests/lib.sh
+. tests/calls.sh
+capture=samples/http-get.pcap
+both=(--scenario examples/latency.json --scenario examples/limit_data.json)
+files=(0000.pcap 0000.txt 0001.pcap 0001.txt)
+folder=$work/folder new=$work/new
+mkdir "$new"
+run "$capture" "${both[@]}" --out "$new"
+run "$capture" "${both[@]}"
+cp "$work/output" "$work/wanted"
+od -An -v -tx1 $capture | tr -d ' ' > "$work/dump"
+
+# The causes of failures: interrupted (EINTR), a fault of the device (EIO), no room (ENOSPC), and a write that takes nothing.
+interrupted=4 device=5 room=28 nothing=0
+
+# What is at fault with the last run.
+# whole: it was to print the full answer.
+whole() {
+    well
+    difference "$work/wanted" "$work/output"
+}
+
+# stored: it was to store the full answer.
+stored() {
+    well
+    folder_difference "$new" "$folder"
+}
+
+# unread: it was to be refused for a read that failed, and to store nothing.
+unread() {
+    refusal "refused 61 ReadFailed"
+    holds "$folder"
+}
+
+# unwritten NUMBER: it was to be refused for this write, where each takes `most` bytes, and to print what was written before.
+unwritten() {
+    fault 1
+    told faults $'refused 62 WriteFailed\n'
+    head -c $((($1 - 1) * most)) "$work/wanted" | byte_difference - "$work/output"
+}
+
+# unstored: it was to be refused for a file that could not be stored, and to have the files before it in the folder, and no others.
+unstored() {
+    local number=0
+    while [ $number -lt 4 ] && [ -e "$folder/${files[number]}" ]; do
+        byte_difference "$new/${files[number]}" "$folder/${files[number]}"
+        number=$((number + 1))
+    done
+    refusal "refused 60 ShelfFailed after $number"
+    holds "$folder" "${files[@]:0:number}"
+}
+
+# each WHAT KIND SETTINGS FAULT LAST INPUT [ARGUMENT..]: each call of a kind fails in turn, until a run makes no more of them: FAULT tells
+# what is at fault with a run, given the number of the call, and LAST with the last run.
+each() {
+    local what=$1 kind=$2 settings=$3 is_refused=$4 is_whole=$5 number=0 bad=""
+    shift 5
+    while [ -z "$bad" ]; do
+        number=$((number + 1))
+        rm -rf "$folder"
+        mkdir "$folder"
+        run_with "FAIL=$kind:$number $settings" "$@"
+        has_failed || break
+        bad=$($is_refused $number)
+    done
+    [ -n "$bad" ] || bad=$([ $number != 1 ] || echo "  there is no call"; $is_whole)
+    verdict "$what" "${bad:+  $kind $number}${bad:+$'\n'}$bad"
+    failures=$((failures + number - 1))
+}
+failures=0
+
+# few bytes a call
+for most in 1 3; do
+    for input in "$capture" "$work/dump"; do
+        run_with MOST=$most "$input" "${both[@]}"
+        verdict "$most bytes a call, ${input##*/}" "$(whole)"
+        run_with MOST=$most /dev/null --capture "$input" "${both[@]}"
+        verdict "$most bytes a call, --capture ${input##*/}" "$(whole)"
+    done
+done
+
+# reads and writes of standard streams
+each "a read is interrupted, 16 bytes a call" read "MOST=16 CAUSE=$interrupted" unread whole "$capture" "${both[@]}"
+each "a read fails" read "CAUSE=$device" unread whole /dev/null --capture "$work/dump" "${both[@]}"
+most=16
+each "a write is interrupted" write "MOST=$most CAUSE=$interrupted" unwritten whole "$capture" "${both[@]}"
+each "a write takes nothing" write "MOST=$most CAUSE=$nothing" unwritten whole "$capture" "${both[@]}"
+run_with "FAIL=write:3+ MOST=4" /dev/null
+verdict "the line of a refusal cannot be written whole" "$(fault 1; told faults "refused ")"
+
+# files of the folder
+each "a file is not written" write "MOST=512 CAUSE=$room" unstored stored "$capture" "${both[@]}" --out "$folder"
+each "a file takes nothing" write "MOST=512 CAUSE=$nothing" unstored stored "$capture" "${both[@]}" --out "$folder"
+each "a file does not take its name" rename "CAUSE=$device" unstored stored "$capture" "${both[@]}" --out "$folder"
+run_with FAIL=rename:5 "$capture" "${both[@]}" --out "$folder"
+verdict "a folder that would fail at its fifth file" "$(stored)"
+
+# unopened NUMBER: it was to be refused for this file: a scenario, the capture, or one of the folder.
+unopened() {
+    if [ "$1" -le 3 ]; then unread; else unstored; fi
+}
+each "a file cannot be opened" open "CAUSE=$device" unopened stored /dev/null --capture "$capture" "${both[@]}" --out "$folder"
+
+# Threads that cannot be made leave fewer workers. The words of a plan are handed on: each of so many workers but one has a thread of its own
+# in each phase, and each range of records takes memory of its own.
+each "a thread cannot be made" thread "" whole whole "$capture" "${both[@]}" --workers 4
+run_with FAIL=thread:1+ "$capture" "${both[@]}" --workers 16
+verdict "no thread can be made" "$(whole)"
+
+# taken KIND [ARGUMENT..]: how many calls of a kind a run makes.
+taken() {
+    local kind=$1
+    shift
+    run_with "" "$capture" "${both[@]}" "$@"
+    count "$kind"
+}
+
+# rise WHAT NUMBER..: numbers of which each is above the one before.
+rise() {
+    local what=$1
+    shift
+    verdict "$what" "$(printf '%s\n' "$@" | sort -c -u -n 2>&1 || true)"
+}
+rise "threads of 1, 2, 4 and 16 workers" "$(taken thread)" "$(taken thread --workers 2)" "$(taken thread --workers 4)" "$(taken thread --workers 16)"
+rise "growths of one range, of ranges of 4 and of 1" "$(taken growth)" "$(taken growth --cut 4)" "$(taken growth --cut 1)"
+echo "$failures calls failed"
+close

@@ -1,0 +1,116 @@
+#!/usr/bin/env bash
+# The commands that docs/GUIDE.md, README.md and examples/README.md show: each block ```sh is run as one script, in a folder with
+# samples/ and examples/, and has to print what stands in the block ```text right after it. A command that fails ends its block, which has
+# failed then; but a block that shows a status ($?) goes on. Blocks ```sh live record: they are run in a private network of two hosts, as
+# root with ip netns, each is ended as by Ctrl-C after a session, and no later block may change a recording; of what they print only
+# standard output is compared. A block is skipped where a tool that it names is missing.
+set -uo pipefail
+cd "$(dirname "$0")/.." || exit 2
+. tests/lib.sh
+top=$PWD
+tools=(tshark editcap tcprewrite jq git xxd gzip make parallel gnuplot python3 jsonschema tcpdump dumpcap ethtool curl)
+client=toxicap-client-$$ server=toxicap-server-$$ network=no webs=()
+
+clean_up() {
+    [ ${#webs[@]} = 0 ] || kill "${webs[@]}" 2> /dev/null
+    [ $network = no ] || { ip netns del $client; ip netns del $server; }
+}
+
+# open_network: two hosts and a line between them, each with samples/ on a web server; none where the system doesn't let it.
+open_network() {
+    local host
+    [ "$(id -u)" = 0 ] && type -P ip curl python3 > /dev/null && ip netns add $client 2> /dev/null || return
+    ip netns add $server
+    network=yes
+    ip link add eth0 netns $client type veth peer name eth0 netns $server
+    ip -n $client addr add 10.79.0.1/24 dev eth0
+    ip -n $server addr add 10.79.0.2/24 dev eth0
+    for host in $client $server; do
+        ip -n "$host" link set lo up
+        ip -n "$host" link set eth0 up
+        ip netns exec "$host" python3 -m http.server 80 --directory "$work/guide/samples" > /dev/null 2>&1 &
+        webs+=($!)
+    done
+    for host in 127.0.0.1 10.79.0.2; do session $host --retry 20 --retry-connrefused --retry-delay 1; done
+}
+
+# session HOST [OPTION..]: one session of the first host with a web server.
+session() { ip netns exec $client curl -s -o /dev/null "${@:2}" "http://$1/shop.pcap"; }
+
+# live SCRIPT: runs it on the first host. If it records, a session is held once it listens, through lo where it records there.
+live() {
+    local job tries host=10.79.0.2
+    : > "$work/faults"
+    [[ $1 != *'-i lo'* ]] || host=127.0.0.1
+    set -m
+    ip netns exec $client bash -eo pipefail -c "$1" > "$work/output" 2> "$work/faults" &
+    job=$!
+    set +m
+    if [[ $1 =~ tcpdump|dumpcap ]]; then
+        for ((tries = 0; tries < 400; tries++)); do
+            ! grep -q 'listening on\|^File: ' "$work/faults" || break
+            sleep 0.05
+        done
+        session $host
+        sleep 0.5
+        kill -INT -- -$job 2> /dev/null
+    fi
+    wait $job
+}
+
+# run_block PLACE KIND SCRIPT: runs a block; `ran` tells whether, and what it printed is the file `output`.
+run_block() {
+    local tool wanted=() stop=-e
+    ran=no status=0
+    for tool in "${tools[@]}"; do ! grep -qw -- "$tool" <<< "$3" || wanted+=("$tool"); done
+    can "$1" "${wanted[@]}" || return
+    if [ "$2" = sh ]; then
+        [[ $3 != *'$?'* ]] || stop=+e
+        bash $stop -o pipefail -c "$3" > "$work/output" 2>&1 || status=$?
+        sed -i '/^Running as user "root"/d' "$work/output"
+        cp "$work/output" "$work/faults"
+    elif [ $network = yes ]; then
+        touch "$work/begun"
+        live "$3" || status=$?
+        find . -name '*.pcap' -newer "$work/begun" -exec sha256sum {} + >> "$work/recorded"
+    else
+        skip "$1" "a private network takes root and ip netns"
+        return
+    fi
+    ran=yes
+    verdict "$1" "$(fault 0)"
+}
+
+# run_file FILE: runs its blocks.
+run_file() {
+    local line number=0 begun=0 inside=no kind='' text='' last=''
+    while IFS= read -r line; do
+        number=$((number + 1))
+        if [[ $line != '```'* ]]; then
+            if [ $inside = yes ]; then text+=$line$'\n'; elif [ -n "$line" ]; then last=''; fi
+        elif [ $inside = no ]; then
+            inside=yes kind=${line#'```'} begun=$number text=''
+        else
+            case "$kind,$last" in
+                sh,* | 'sh live',*) run_block "$1:$begun" "$kind" "$text" ;;
+                text,sh*)
+                    printf '%s' "$text" > "$work/wanted"
+                    [ "$ran" = no ] || verdict "$1:$begun" "$(difference "$work/wanted" "$work/output")"
+                    ;;
+            esac
+            last=$kind inside=no
+        fi
+    done < "$top/$1"
+}
+
+mkdir -p "$work/guide" "$work/bin"
+cp -r samples examples "$work/guide"
+ln -s "$program" "$work/bin/toxicap"
+export HOME=$work PATH=$work/bin:$PATH LC_ALL=C.UTF-8
+cd "$work/guide" || exit 2
+! type -P git > /dev/null || { git init -q . && git config user.name tester && git config user.email tester@example.org; }
+open_network
+touch "$work/recorded"
+for file in docs/GUIDE.md examples/README.md README.md; do run_file $file; done
+[ ! -s "$work/recorded" ] || verdict "the recordings are as they were" "$(sha256sum -c --quiet "$work/recorded" 2>&1)"
+close

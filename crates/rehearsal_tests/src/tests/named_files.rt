@@ -33,6 +33,29 @@ impl Paths for Listed<'_> {
     }
 }
 
+/// A file in memory at a path of its own, and none at any other. It tells so.
+#[derive(Drop)]
+struct OneFile<'a> {
+    path: &'a str,
+    bytes: &'a [u8],
+}
+
+impl Paths for OneFile<'_> {
+    ghost use Rattle.std.specs.Prelude.{None, Some, bytes_eq, if◌then◌else◌};
+
+    ghost holds = { λ s. Some (λ path. if bytes_eq path s.path.now then Some s.bytes.now else None) };
+
+    fn load(&self, alloc: Global, path: &str) -> Result<Vec<u8>, RunFault> {
+        if path != self.path {
+            return Err(RunFault::ReadFailed);
+        }
+        if self.bytes.len() > CAPTURE_LIMIT {
+            return Err(RunFault::CaptureTooLong);
+        }
+        Ok(Vec::from_slice(alloc, self.bytes)?)
+    }
+}
+
 /// Paths of which one is too long, one cannot be read, and all others hold `[]`. They do not tell it.
 #[derive(Drop)]
 struct Faulty;
@@ -111,6 +134,19 @@ fn each_file_at_its_path(rt: HostRuntime) {
     let slow_first = ["--capture=session", "--scenario=slow", "--scenario=bare"];
     let unknown = (1, "", "refused 15 UnknownHost scenario 0 proxy 0\n");
     check_over(&rt, &paths, &slow_first, unknown);
+}
+
+#[test]
+fn paths_that_tell(rt: HostRuntime) {
+    let paths = OneFile {
+        path: "session",
+        bytes: PLAIN_SESSION.as_slice(),
+    };
+    check_over(&rt, &paths, &["--capture=session"], (0, PLAIN_REPORT, ""));
+    let unread = (1, "", "refused 61 ReadFailed\n");
+    check_over(&rt, &paths, &["--capture=nothing"], unread);
+    let scenario = ["--capture=session", "--scenario=session"];
+    check_over(&rt, &paths, &scenario, (1, "", "refused 10 NotJson scenario 0\n"));
 }
 
 // Hosts come first, then scenario files in their order, then the capture, and then what the files hold.

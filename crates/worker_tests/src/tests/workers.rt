@@ -92,20 +92,24 @@ fn values_by_one_two_and_sixteen_workers(rt: HostRuntime) -> Result<(), Fail> {
     Ok(())
 }
 
-// That so many workers find no memory where one of five jobs finds none.
-fn check_refused<R: Abort + Threads + Sync>(rt: &R, alloc: Global, workers: u64)
+// That so many workers find no memory where one of five jobs finds none, and then give the values of the three jobs before it.
+fn check_refused<R: Abort + Threads + Sync>(rt: &R, alloc: Global, workers: u64) -> Result<(), Fail>
     requires { 1 ≤ workers × workers ≤ 16 }
 {
     let work = Tripled { refused: Some(3) };
     let answer = work_all(rt, alloc, 5, workers, Phase::Jobs, &Through, &work);
     check(rt, "want of memory", answer.is_err());
+    let values = work_all(rt, alloc, 3, workers, Phase::Jobs, &Through, &work)?;
+    check(rt, "values", are_tripled(values.as_slice(), 3));
+    Ok(())
 }
 
 #[test]
-fn want_of_memory_in_one_job(rt: HostRuntime) {
-    check_refused(&rt, rt.alloc(), 1);
-    check_refused(&rt, rt.alloc(), 2);
-    check_refused(&rt, rt.alloc(), 16);
+fn want_of_memory_in_one_job(rt: HostRuntime) -> Result<(), Fail> {
+    check_refused(&rt, rt.alloc(), 1)?;
+    check_refused(&rt, rt.alloc(), 2)?;
+    check_refused(&rt, rt.alloc(), 16)?;
+    Ok(())
 }
 
 #[test]

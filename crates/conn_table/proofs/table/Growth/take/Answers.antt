@@ -57,4 +57,4 @@ returns-in_default c =
       group = group_of_item l.pairs.keys.items l.entries.items c.args.at e c.requires.listing.groups c.requires.within c.index.ensures;
     } in
     let none = current_at l c.args.at e c.args.self.now c.index-else-entry.result.now at c.requires.grown c.index-else-entry.ensures ∙ c.in_default.is in
-    grown-unopened l c.args.at e c.args.self.now _ at c.requires.grown c.if-entry.false none refl refl refl
+    grown-unopened l c.args.at e c.args.self.now _ at c.requires.grown c.if-entry.false none refl refl (omega arith)

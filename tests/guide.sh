@@ -3,12 +3,12 @@
 # samples/ and examples/, and has to print what stands in the block ```text right after it. A command that fails ends its block, which has
 # failed then; but a block that shows a status ($?) goes on. Blocks ```sh live record: they are run in a private network of two hosts, as
 # root with ip netns, each is ended as by Ctrl-C after a session, and no later block may change a recording; of what they print only
-# standard output is compared. A block is skipped where a tool that it names is missing.
+# standard output is compared. A block is skipped where a tool that it names is missing, and one over the library for C where that is not built.
 set -uo pipefail
 cd "$(dirname "$0")/.." || exit 2
 . tests/lib.sh
 top=$PWD
-tools=(tshark editcap tcprewrite jq git xxd gzip make parallel gnuplot python3 jsonschema tcpdump dumpcap ethtool curl)
+tools=(tshark editcap tcprewrite jq git xxd gzip make parallel gnuplot gcc python3 jsonschema tcpdump dumpcap ethtool curl)
 client=toxicap-client-$$ server=toxicap-server-$$ network=no webs=()
 
 clean_up() {
@@ -64,6 +64,10 @@ run_block() {
     ran=no status=0
     for tool in "${tools[@]}"; do ! grep -qw -- "$tool" <<< "$3" || wanted+=("$tool"); done
     can "$1" "${wanted[@]}" || return
+    if [[ $3 = *libtoxicap* && ! -d lib ]]; then
+        skip "$1" "there is no library for C: (cd crates/toxicap_c && rt lib) builds it"
+        return
+    fi
     if [ "$2" = sh ]; then
         [[ $3 != *'$?'* ]] || stop=+e
         bash $stop -o pipefail -c "$3" > "$work/output" 2>&1 || status=$?
@@ -106,6 +110,7 @@ run_file() {
 mkdir -p "$work/guide" "$work/bin"
 cp -r samples examples "$work/guide"
 ln -s "$program" "$work/bin/toxicap"
+if [ -n "${LIBRARY:-}" ] || [ -f crates/toxicap_c/out/libtoxicap_c.a ]; then release/library "$work/guide" > /dev/null; fi
 export HOME=$work PATH=$work/bin:$PATH LC_ALL=C.UTF-8
 cd "$work/guide" || exit 2
 ! type -P git > /dev/null || { git init -q . && git config user.name tester && git config user.email tester@example.org; }

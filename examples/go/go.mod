@@ -1,0 +1,3 @@
+module toxicap
+
+go 1.18

@@ -1,0 +1,26 @@
+//! Rehearses a capture under scenarios in this process, and stores what `toxicap --out .` does: main CAPTURE SCENARIO..
+//! HOSTS of the environment has lines NAME=ADDR. Built by rustc -L lib -o rehearse examples/rust/main.rs
+mod rehearse;
+
+use std::{env, fs, io, process};
+
+fn main() -> io::Result<()> {
+    let texts: Vec<Vec<u8>> = env::args()
+        .skip(1)
+        .map(fs::read)
+        .collect::<Result<_, _>>()?;
+    let hosts = env::var("HOSTS").unwrap_or_default();
+    match rehearse::rehearse(&texts[0], &texts[1..], &hosts, 0) {
+        Err(line) => {
+            eprintln!("{line}");
+            process::exit(1)
+        }
+        Ok(outputs) => {
+            for (number, (capture, report)) in outputs.iter().enumerate() {
+                fs::write(format!("{number:04}.pcap"), capture)?;
+                fs::write(format!("{number:04}.txt"), report)?;
+            }
+            Ok(())
+        }
+    }
+}

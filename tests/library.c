@@ -1,0 +1,265 @@
+/* Calls the library for C as the program is called, and looks at what a call does to the caller's memory:
+       library TASK [COUNT] --capture FILE [--scenario FILE].. [--host NAME=ADDR].. [--seed N] [--out FOLDER]
+   Without --scenario there is one scenario, `[]`. What is at fault is told on standard output, with status 3. The tasks are
+     answer         stores in the folder, or tells on standard error with status 1, what the program does; before that both calls have been
+                    made with each of their buffers too small, just right and too large
+     again COUNT    so many calls, after which no memory may be left, and the process may not have grown since the tenth part of them
+     threads COUNT  eight threads, each with 256 KB of stack, a seed of its own and so many calls
+     growths        each growth of memory is refused in turn
+     edges          a scenario's length past the end, a last host without a line feed, no scenario, a capture that is too long
+   It is linked with --wrap for malloc, realloc, calloc and free, so that its growths are counted (of a static library, the library's too). */
+#define _GNU_SOURCE
+#include "library.h"
+#include <pthread.h>
+#include <stdio.h>
+#include <stdlib.h>
+#include <string.h>
+#include <sys/mman.h>
+#include <time.h>
+#include <toxicap.h>
+
+enum { THREADS = 8 };
+
+static void store(const char *folder, size_t number, const char *ending, const uint8_t *bytes, size_t len)
+{
+    char path[4200];
+    snprintf(path, sizeof path, "%s/%04zu.%s", folder, number, ending);
+    FILE *file = fopen(path, "wb");
+    must(file != NULL && fwrite(bytes, 1, len, file) == len && fclose(file) == 0, path);
+}
+
+static int answered(struct question *asked, const char *folder)
+{
+    uint8_t status, reports_status;
+    struct memory both = answer(asked, &status);
+    asked->with_captures = 0;
+    struct memory reports = answer(asked, &reports_status);
+    must(status == reports_status && reports.sizes.reports == both.sizes.reports
+             && memcmp(reports.reports, both.reports, both.sizes.reports) == 0, "the reports alone are others");
+    size_t capture = 0, report = 0;
+    for (size_t number = 0; 2 * number < both.sizes.lens; number++) {
+        store(folder, number, "pcap", both.captures + capture, both.lens[2 * number]);
+        store(folder, number, "txt", both.reports + report, both.lens[2 * number + 1]);
+        capture += both.lens[2 * number];
+        report += both.lens[2 * number + 1];
+    }
+    must(status == TOXICAP_REFUSED || (capture == both.sizes.captures && report == both.sizes.reports), "the lengths do not add up to the sizes");
+    if (status == TOXICAP_REFUSED)
+        fprintf(stderr, "%.*s\n", (int)both.sizes.reports, (const char *)both.reports);
+    release(&both);
+    release(&reports);
+    return status;
+}
+
+/* resident: the memory of this process, in kilobytes. */
+static long resident(void)
+{
+    char line[256];
+    long size = -1;
+    FILE *file = fopen("/proc/self/status", "r");
+    while (file != NULL && fgets(line, sizeof line, file) != NULL)
+        if (sscanf(line, "VmRSS: %ld kB", &size) == 1)
+            break;
+    must(size > 0, "the memory of this process is not told");
+    fclose(file);
+    return size;
+}
+
+static double now(void)
+{
+    struct timespec time;
+    clock_gettime(CLOCK_MONOTONIC, &time);
+    return time.tv_sec + time.tv_nsec / 1e9;
+}
+
+static void again(const struct question *asked, long count)
+{
+    uint8_t status;
+    struct memory first = answer(asked, &status), other = memory_of(first.sizes);
+    long before = blocks, early = 0;
+    double begun = now();
+    for (long number = 1; number <= count; number++) {
+        must(ask(asked, &other) == status && is_same(&first, &other), "a later call has another answer");
+        must(blocks == before, "a call leaves memory");
+        if (number == count / 10)
+            early = resident();
+    }
+    double took = now() - begun;
+    long late = resident();
+    printf("%ld calls, %.0f microseconds a call, %ld KB after a tenth of them, %ld KB at the end\n", count, took / count * 1e6, early, late);
+    must(late <= early + 64, "the process has grown");
+    release(&first);
+    release(&other);
+}
+
+/* What a thread is to do. */
+struct turn {
+    struct question asked;
+    struct memory wanted;
+    uint8_t status;
+    long count;
+};
+
+static void *ask_again(void *given)
+{
+    struct turn *turn = given;
+    struct memory other = memory_of(turn->wanted.sizes);
+    for (long number = 0; number < turn->count; number++)
+        must(ask(&turn->asked, &other) == turn->status && is_same(&turn->wanted, &other), "a thread has another answer");
+    release(&other);
+    return NULL;
+}
+
+static void threads(const struct question *asked, long count)
+{
+    static struct turn turns[THREADS];
+    pthread_t thread[THREADS];
+    pthread_attr_t small;
+    must(pthread_attr_init(&small) == 0 && pthread_attr_setstacksize(&small, 256 * 1024) == 0, "no stack of this size");
+    for (int number = 0; number < THREADS; number++) {
+        struct turn *turn = &turns[number];
+        turn->asked = *asked;
+        turn->asked.seed += number;
+        turn->asked.with_captures = number % 4 != 3;
+        turn->wanted = answer(&turn->asked, &turn->status);
+        turn->count = count;
+    }
+    for (int number = 0; number < THREADS; number++)
+        must(pthread_create(&thread[number], &small, ask_again, &turns[number]) == 0, "a thread cannot be made");
+    for (int number = 0; number < THREADS; number++)
+        must(pthread_join(thread[number], NULL) == 0, "a thread cannot be joined");
+    for (int number = 0; number < THREADS; number++)
+        release(&turns[number].wanted);
+}
+
+/* starved: asks with this growth refused; whether there was such a growth. */
+static int starved(const struct question *asked, const struct memory *full, uint8_t full_status, long number)
+{
+    ToxicapSizes room = full->sizes;
+    room.reports += sizeof want_of_memory;
+    struct memory memory = memory_of(room);
+    long before = blocks;
+    growths = 0;
+    refused_growth = number;
+    uint8_t status = ask(asked, &memory);
+    int was_refused = growths >= number;
+    refused_growth = 0;
+    must(blocks == before, "a refused growth leaves memory");
+    must(leaves(&memory, memory.sizes), "a refused growth changes other bytes than it tells of");
+    if (status == TOXICAP_NO_MEMORY)
+        must(was_refused && are_equal(memory.sizes, (ToxicapSizes){0, 0, 0}), "status 3 with sizes");
+    else if (status == TOXICAP_REFUSED && memory.sizes.reports == strlen(want_of_memory)
+             && memcmp(memory.reports, want_of_memory, strlen(want_of_memory)) == 0)
+        must(was_refused && memory.sizes.captures == 0 && memory.sizes.lens == 0, "want of memory where no growth was refused");
+    else
+        must(status == full_status && is_same(full, &memory), "a refused growth gives a third answer");
+    release(&memory);
+    return was_refused;
+}
+
+static void each_growth(struct question *asked)
+{
+    long number;
+    for (asked->with_captures = 0; asked->with_captures < 2; asked->with_captures++) {
+        uint8_t status;
+        struct memory full = answer(asked, &status);
+        for (number = 1; starved(asked, &full, status, number); number++)
+            ;
+        must(number > 1, "no growth can be refused");
+        printf("%ld growths\n", number - 1);
+        release(&full);
+    }
+}
+
+/* tells: the call is refused with this line. */
+static void tells(const struct question *asked, const char *line)
+{
+    uint8_t status;
+    struct memory memory = answer(asked, &status);
+    must(status == TOXICAP_REFUSED && memory.sizes.reports == strlen(line) && memcmp(memory.reports, line, strlen(line)) == 0, line);
+    release(&memory);
+}
+
+static void edges(struct question *asked)
+{
+    uint8_t status, other_status;
+    struct memory wanted = answer(asked, &status);
+    size_t last = asked->scenario_count - 1, count = asked->scenario_count, too_long = ((size_t)1 << 30) + 1;
+    struct question changed = *asked;
+
+    changed.scenario_lens[last] = (size_t)-1 / 2;
+    struct memory past_end = answer(&changed, &other_status);
+    must(status == other_status && is_same(&wanted, &past_end), "a scenario's length past the end changes the answer");
+    release(&past_end);
+
+    changed = *asked;
+    changed.hosts.len -= changed.hosts.len > 0;
+    struct memory no_line_feed = answer(&changed, &other_status);
+    must(status == other_status && is_same(&wanted, &no_line_feed), "a last host without a line feed changes the answer");
+    release(&no_line_feed);
+
+    changed = *asked;
+    add(&changed.hosts, "\n", 1);
+    asked->hosts = changed.hosts;
+    tells(&changed, changed.hosts.len > 1 ? "refused 23 BadHost host 1" : "refused 23 BadHost host 0");
+
+    changed.hosts.len--;
+    changed.scenario_count = 0;
+    struct memory none = answer(&changed, &other_status);
+    must(other_status == TOXICAP_ANSWERED && are_equal(none.sizes, (ToxicapSizes){0, 0, 0}), "no scenario is not answered with nothing");
+    release(&none);
+
+    changed.scenario_count = count;
+    changed.capture = (struct text){mmap(NULL, too_long, PROT_READ, MAP_PRIVATE | MAP_ANONYMOUS | MAP_NORESERVE, -1, 0), too_long};
+    must(changed.capture.bytes != MAP_FAILED, "no room for a capture that is too long");
+    tells(&changed, "refused 6 CaptureTooLong");
+    munmap(changed.capture.bytes, too_long);
+    release(&wanted);
+}
+
+int main(int count, char **words)
+{
+    static struct question asked = {.with_captures = 1};
+    const char *folder = ".", *task = count > 1 ? words[1] : "";
+    long times = count > 2 ? atol(words[2]) : 0;
+    for (int word = times > 0 ? 3 : 2; word + 1 < count; word += 2) {
+        const char *value = words[word + 1];
+        size_t before = asked.scenarios.len;
+        if (strcmp(words[word], "--capture") == 0) {
+            add_file(&asked.capture, value);
+        } else if (strcmp(words[word], "--scenario") == 0) {
+            must(asked.scenario_count < MOST_SCENARIOS, "too many scenarios for these tests");
+            add_file(&asked.scenarios, value);
+            asked.scenario_lens[asked.scenario_count++] = asked.scenarios.len - before;
+        } else if (strcmp(words[word], "--host") == 0) {
+            add(&asked.hosts, value, strlen(value));
+            add(&asked.hosts, "\n", 1);
+        } else if (strcmp(words[word], "--seed") == 0) {
+            asked.seed = strtoull(value, NULL, 10);
+        } else {
+            must(strcmp(words[word], "--out") == 0, words[word]);
+            folder = value;
+        }
+    }
+    if (asked.scenario_count == 0) {
+        add(&asked.scenarios, "[]", 2);
+        asked.scenario_lens[asked.scenario_count++] = 2;
+    }
+    int status = 0;
+    if (strcmp(task, "answer") == 0)
+        status = answered(&asked, folder);
+    else if (strcmp(task, "again") == 0)
+        again(&asked, times);
+    else if (strcmp(task, "threads") == 0)
+        threads(&asked, times);
+    else if (strcmp(task, "growths") == 0)
+        each_growth(&asked);
+    else if (strcmp(task, "edges") == 0)
+        edges(&asked);
+    else
+        must(0, "there is no such task");
+    free(asked.capture.bytes);
+    free(asked.scenarios.bytes);
+    free(asked.hosts.bytes);
+    return status;
+}

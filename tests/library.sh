@@ -1,0 +1,171 @@
+#!/usr/bin/env bash
+# The library for C that release/library makes, against the program: the same bytes and lines of refusals, buffers that are left as they were
+# but for the answer, ten thousand calls, eight threads, growths of memory that are refused, and the examples in C, Python, Go and Rust.
+# LIBRARY names another libtoxicap_c.a by its whole path, as for release/library. tests/library.c makes the calls.
+set -euo pipefail
+cd "$(dirname "$0")/.."
+. tests/lib.sh
+export CC=${CC:-gcc}
+kit=$work/kit
+release/library "$kit" > "$work/told" || { echo "$0: there is no library" >&2; exit 2; }
+cat "$work/told"
+verdict "the same bytes twice" "$(release/library "$work/again" > /dev/null; folder_difference "$kit" "$work/again")"
+
+# the header alone, in C and C++
+for standard in c99 c17; do
+    verdict "toxicap.h in $standard" "$("$CC" -std=$standard -pedantic -Wall -Wextra -Werror -fsyntax-only -x c "$kit/include/toxicap.h" 2>&1 || true)"
+done
+if can "toxicap.h in C++" g++; then
+    verdict "toxicap.h in C++" "$(g++ -std=c++11 -pedantic -Wall -Wextra -Werror -fsyntax-only -x c++ "$kit/include/toxicap.h" 2>&1 || true)"
+fi
+
+# build FILE WORD..: the test program, linked as the words say.
+build() {
+    "$CC" -std=c11 -O1 -g -Wall -Wextra -Werror -I "$kit/include" -o "$1" tests/library.c -Wl,--wrap=malloc,--wrap=calloc,--wrap=realloc,--wrap=free \
+        -pthread "${@:2}" 2>&1 || true
+}
+verdict "linked statically" "$(build "$work/library" "$kit/lib/libtoxicap.a")"
+verdict "linked dynamically" "$(build "$work/dynamic" -L "$kit/lib" -ltoxicap "-Wl,-rpath,$kit/lib")"
+caller=$work/library
+
+# differs ARGUMENT..: what differs between the program and the library, called with the same arguments.
+differs() {
+    local called=0
+    rm -rf "$work/wanted" "$work/found"
+    mkdir "$work/wanted" "$work/found"
+    run /dev/null "$@" --out "$work/wanted"
+    "$caller" answer "$@" --out "$work/found" > "$work/told" 2> "$work/line" || called=$?
+    cat "$work/told"
+    [ $called = "$status" ] || echo "  status $called of the library, $status of the program"
+    difference "$work/faults" "$work/line"
+    folder_difference "$work/wanted" "$work/found"
+}
+
+# same ARGUMENT..: the library answers as the program does.
+same() { verdict "the library: ${*//$work\//}" "$(differs "$@")"; }
+
+# refused NAME ARGUMENT..: and both are refused, for what has this number and name.
+refused() {
+    verdict "the library: $1" "$(differs "${@:2}"; grep -q "^refused $1\( \|$\)" "$work/line" || echo "  another refusal: $(cat "$work/line")")"
+}
+
+# every sample under every file of the examples, scenarios or not, with and without a host
+for sample in samples/*.pcap; do
+    same --capture "$sample"
+    for scenario in examples/*.json; do
+        same --capture "$sample" --scenario "$scenario"
+        same --capture "$sample" --scenario "$scenario" --host redis=10.77.0.3 --seed 7
+    done
+done
+od -An -v -tx1 samples/http-get.pcap | tr -d ' ' > "$work/dump"
+same --capture "$work/dump" --scenario examples/latency.json
+shop=(--capture samples/shop.pcap --host redis=10.77.0.3 --host other=10.9.9.9 --seed 18446744073709551615)
+for scenario in latency bandwidth slow_close timeout reset_peer slicer limit_data mobile-line redis-down; do shop+=(--scenario "examples/$scenario.json"); done
+same "${shop[@]}"
+caller=$work/dynamic same "${shop[@]}"
+
+# each kind of refusal
+# changed NAME PLACE BYTES: a sample with other bytes, as \x00, from a place on.
+changed() {
+    cp samples/http-get.pcap "$work/$1"
+    printf '%b' "$3" | dd of="$work/$1" bs=1 seek="$2" conv=notrunc status=none
+}
+# faulty REFUSAL PROXY: a scenario with this proxy is refused.
+faulty() {
+    printf '[%s]' "$2" > "$work/faulty.json"
+    refused "$1" --capture samples/http-get.pcap --scenario examples/latency.json --scenario "$work/faulty.json"
+}
+# toxic REFUSAL MEMBERS: a proxy with a toxic of these members is refused.
+toxic() { faulty "$1" "{\"name\":\"a\",\"upstream\":\"10.0.0.2:80\",\"toxics\":[{$2}]}"; }
+changed magic 0 'magic'
+changed version 4 '\x03'
+changed link 20 '\x71'
+changed record 32 '\xff\xff\xff\xff'
+refused "1 ShortHeader" --capture /dev/null
+refused "2 BadMagic" --capture "$work/magic"
+refused "3 BadVersion" --capture "$work/version"
+refused "4 BadLink" --capture "$work/link"
+refused "5 RecordTooLong at 0" --capture "$work/record"
+faulty "10 NotJson scenario 1" '{'
+refused "11 NotArray scenario 0" --capture samples/http-get.pcap --scenario examples/scenario.schema.json
+faulty "12 BadMember" '{"name":""}'
+faulty "13 DuplicateProxy" '{"name":"a","upstream":"10.0.0.2:80"},{"name":"a","upstream":"10.0.0.2:80"}'
+faulty "14 BadUpstream" '{"name":"a","upstream":"10.0.0.2"}'
+faulty "15 UnknownHost" '{"name":"a","upstream":"redis:80"}'
+toxic "16 UnknownToxic" '"type":"noise"'
+toxic "17 BadStream" '"type":"latency","stream":"sideways"'
+toxic "18 DuplicateToxic" '"type":"latency"},{"type":"latency"'
+toxic "19 AttributeRange" '"type":"bandwidth"'
+faulty "20 TooMany" "$(for ((proxy = 1; proxy < 70; proxy++)); do printf '{"name":"%s","upstream":"10.0.0.2:%s"},' $proxy $proxy; done)0"
+toxic "21 BadToxicity" '"type":"latency","toxicity":0.5'
+many=()
+for ((scenario = 0; scenario < 257; scenario++)); do many+=(--scenario examples/latency.json); done
+refused "22 TooManyScenarios" --capture samples/http-get.pcap "${many[@]}"
+for host in web =10.0.0.1 web=10.0.0 web=10.0.0.01 'a=10.0.0.1 ' ''; do refused "23 BadHost host 1" --capture samples/http-get.pcap --host a=10.0.0.1 --host "$host"; done
+printf '[%.0s' {1..127} > "$work/deep.json"
+printf ']%.0s' {1..127} >> "$work/deep.json"
+refused "12 BadMember" --capture samples/http-get.pcap --scenario "$work/deep.json"
+printf 'd4c3b' > "$work/torn-dump"
+refused "55 BadDump at 5" --capture "$work/torn-dump"
+
+# task WHAT ARGUMENT..: a task of the test program finds no fault; its closing line is told.
+task() {
+    local ended=0
+    "$caller" "${@:2}" > "$work/told" 2>&1 || ended=$?
+    [ $ended != 0 ] || { sed "s/^/$1: /" "$work/told"; : > "$work/told"; }
+    verdict "$1" "$(cat "$work/told"; [ $ended = 0 ] || echo "  status $ended")"
+}
+late=(--capture samples/http-get.pcap --scenario examples/latency.json)
+mixed=(--capture samples/shop.pcap --scenario examples/mobile-line.json --scenario examples/slow-database.json --host redis=10.77.0.3)
+task "no scenario, no end of a host, a text past the end" edges "${late[@]}" --host redis=10.77.0.3
+task "ten thousand calls" again 10000 "${late[@]}"
+task "two thousand calls that are refused" again 2000 --capture "$work/record" --scenario "$work/deep.json"
+task "eight threads" threads 100 "${mixed[@]}"
+task "eight threads, deep JSON" threads 100 --capture samples/http-get.pcap --scenario "$work/deep.json"
+task "each growth refused, an answer" growths "${mixed[@]}"
+task "each growth refused, a dump" growths --capture "$work/dump" --scenario examples/slicer.json
+task "each growth refused, a refusal" growths --capture samples/http-get.pcap --scenario "$work/faulty.json" --host a=10.0.0.1
+if can "valgrind" valgrind; then
+    caller() { valgrind -q --error-exitcode=9 --leak-check=full --show-leak-kinds=all --errors-for-leak-kinds=all "$work/library" "$@"; }
+    caller=caller
+    task "an answer under valgrind" again 10 "${mixed[@]}"
+    task "growths under valgrind" growths "${late[@]}"
+    task "a refusal under valgrind" growths --capture "$work/record"
+fi
+
+# The examples: they store what the program stores, also where their first room is too small, and tell its refusals.
+printf '[{"name":"web","upstream":"10.77.0.2:80","toxics":[{"type":"slicer","attributes":{"average_size":1}}]}]' > "$work/slices.json"
+inputs=("$PWD/samples/shop.pcap" "$work/slices.json" "$PWD/examples/slow-database.json")
+mkdir "$work/stored"
+run /dev/null --capture "${inputs[0]}" --scenario "${inputs[1]}" --scenario "${inputs[2]}" --host redis=10.77.0.3 --out "$work/stored"
+verdict "the program, of the examples' inputs" "$(well)"
+run /dev/null --capture "${inputs[0]}" --scenario "${inputs[1]}" --scenario "${inputs[2]}"
+cp "$work/faults" "$work/wanted-line"
+
+# example LANGUAGE COMMAND..
+example() {
+    local folder=$work/example-$1 ended=0
+    mkdir "$folder"
+    verdict "the example in $1" "$(
+        cd "$folder"
+        HOSTS=$'redis=10.77.0.3\n' "${@:2}" "${inputs[@]}" 2>&1 || echo "  status $?"
+        folder_difference "$work/stored" "$folder"
+    )"
+    rm -f "$folder"/*
+    (cd "$folder"; "${@:2}" "${inputs[@]}") > "$work/output" 2> "$work/line" || ended=$?
+    verdict "the example in $1, refused" "$([ $ended = 1 ] || echo "  status $ended"; difference "$work/wanted-line" "$work/line"; holds "$folder")"
+}
+export TOXICAP_LIBRARY=$kit/lib/libtoxicap.so.1 CGO_CFLAGS="-I$kit/include" CGO_LDFLAGS="-L$kit/lib"
+verdict "the example in C, compiled" "$("$CC" -std=c11 -pedantic -Wall -Wextra -Werror -I "$kit/include" -o "$work/c" examples/c/rehearse.c \
+    "$kit/lib/libtoxicap.a" 2>&1 || true)"
+example C "$work/c"
+if can "the example in Python" python3; then example Python python3 -B "$PWD/examples/python/in_process.py"; fi
+if can "the example in Go" go; then
+    verdict "the example in Go, compiled" "$(cd examples/go; GOFLAGS=-mod=mod GOPROXY=off GO111MODULE=on go build -o "$work/go" . 2>&1 || true)"
+    example Go "$work/go"
+fi
+if can "the example in Rust" rustc cc; then
+    verdict "the example in Rust, compiled" "$(rustc --edition 2021 -D warnings -L "$kit/lib" -o "$work/rust" examples/rust/main.rs 2>&1 || true)"
+    example Rust "$work/rust"
+fi
+close

@@ -3,7 +3,7 @@
    Without --scenario there is one scenario, `[]`. What is at fault is told on standard output, with status 3. The tasks are
      answer         stores in the folder, or tells on standard error with status 1, what the program does; before that both calls have been
                     made with each of their buffers too small, just right and too large
-     again COUNT    so many calls, after which no memory may be left, and the process may not have grown since the tenth part of them
+     again COUNT    so many calls, none of which may leave memory; from a thousand on the process may not grow after the tenth part of them
      threads COUNT  eight threads, each with 256 KB of stack, a seed of its own and so many calls
      growths        each growth of memory is refused in turn
      edges          a scenario's length past the end, a last host without a line feed, no scenario, a capture that is too long
@@ -76,7 +76,8 @@ static void again(const struct question *asked, long count)
 {
     uint8_t status;
     struct memory first = answer(asked, &status), other = memory_of(first.sizes);
-    long before = blocks, early = 0;
+    // (what the first measurement itself takes is not to count)
+    long before = blocks, early = resident();
     double begun = now();
     for (long number = 1; number <= count; number++) {
         must(ask(asked, &other) == status && is_same(&first, &other), "a later call has another answer");
@@ -87,7 +88,7 @@ static void again(const struct question *asked, long count)
     double took = now() - begun;
     long late = resident();
     printf("%ld calls, %.0f microseconds a call, %ld KB after a tenth of them, %ld KB at the end\n", count, took / count * 1e6, early, late);
-    must(late <= early + 64, "the process has grown");
+    must(count < 1000 || late <= early + 16, "the process has grown");
     release(&first);
     release(&other);
 }

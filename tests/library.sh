@@ -21,8 +21,8 @@ fi
 
 # build FILE WORD..: the test program, linked as the words say.
 build() {
-    "$CC" -std=c11 -O1 -g -Wall -Wextra -Werror -I "$kit/include" -o "$1" tests/library.c -Wl,--wrap=malloc,--wrap=calloc,--wrap=realloc,--wrap=free \
-        -pthread "${@:2}" 2>&1 || true
+    "$CC" -std=c11 -O1 -g -Wall -Wextra -Werror -pthread -I "$kit/include" -o "$1" tests/library.c "${@:2}" \
+        -Wl,--wrap=malloc,--wrap=calloc,--wrap=realloc,--wrap=free 2>&1 || true
 }
 verdict "linked statically" "$(build "$work/library" "$kit/lib/libtoxicap.a")"
 verdict "linked dynamically" "$(build "$work/dynamic" -L "$kit/lib" -ltoxicap "-Wl,-rpath,$kit/lib")"
@@ -46,7 +46,10 @@ same() { verdict "the library: ${*//$work\//}" "$(differs "$@")"; }
 
 # refused NAME ARGUMENT..: and both are refused, for what has this number and name.
 refused() {
-    verdict "the library: $1" "$(differs "${@:2}"; grep -q "^refused $1\( \|$\)" "$work/line" || echo "  another refusal: $(cat "$work/line")")"
+    verdict "the library: $1" "$(
+        differs "${@:2}"
+        grep -q "^refused $1\( \|$\)" "$work/line" || echo "  another refusal: $(cat "$work/line")"
+    )"
 }
 
 # every sample under every file of the examples, scenarios or not, with and without a host
@@ -60,7 +63,9 @@ done
 od -An -v -tx1 samples/http-get.pcap | tr -d ' ' > "$work/dump"
 same --capture "$work/dump" --scenario examples/latency.json
 shop=(--capture samples/shop.pcap --host redis=10.77.0.3 --host other=10.9.9.9 --seed 18446744073709551615)
-for scenario in latency bandwidth slow_close timeout reset_peer slicer limit_data mobile-line redis-down; do shop+=(--scenario "examples/$scenario.json"); done
+for scenario in latency bandwidth slow_close timeout reset_peer slicer limit_data mobile-line redis-down; do
+    shop+=(--scenario "examples/$scenario.json")
+done
 same "${shop[@]}"
 caller=$work/dynamic same "${shop[@]}"
 
@@ -101,7 +106,9 @@ toxic "21 BadToxicity" '"type":"latency","toxicity":0.5'
 many=()
 for ((scenario = 0; scenario < 257; scenario++)); do many+=(--scenario examples/latency.json); done
 refused "22 TooManyScenarios" --capture samples/http-get.pcap "${many[@]}"
-for host in web =10.0.0.1 web=10.0.0 web=10.0.0.01 'a=10.0.0.1 ' ''; do refused "23 BadHost host 1" --capture samples/http-get.pcap --host a=10.0.0.1 --host "$host"; done
+for host in web =10.0.0.1 web=10.0.0 web=10.0.0.01 'a=10.0.0.1 ' ''; do
+    refused "23 BadHost host 1" --capture samples/http-get.pcap --host a=10.0.0.1 --host "$host"
+done
 printf '[%.0s' {1..127} > "$work/deep.json"
 printf ']%.0s' {1..127} >> "$work/deep.json"
 refused "12 BadMember" --capture samples/http-get.pcap --scenario "$work/deep.json"

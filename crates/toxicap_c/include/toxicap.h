@@ -3,7 +3,7 @@
  *
  * Two calls. Both fill buffers of the caller's; nothing is handed out that has to be freed, and nothing is kept from one call to the next.
  * Equal inputs give equal bytes, those that the program `toxicap` gives. The library reads and writes no file, starts no thread, prints
- * nothing, and needs `malloc`, `realloc` and `free` of the C library.
+ * nothing, and needs `malloc`, `realloc` and `free` of the C library. The processor has to be x86-64-v2.
  *
  * In use: call with the room that you have (none will do), and where the status is TOXICAP_NO_ROOM make the room that `sizes` tells, and
  * call again:
@@ -65,8 +65,8 @@ typedef struct {
  *                    The text `[]` is a scenario without a proxy: the sessions as they were recorded
  *   scenario_lens    the length of each text in bytes, in their order; scenario_count entries, which add up to scenarios_len. A length
  *                    that goes past the end of `scenarios` is cut there
- *   hosts            the addresses of names that scenarios use: lines NAME=ADDR, each ended by a line feed, with an IPv4 address;
- *                    hosts_len bytes, none where no name is used
+ *   hosts            the addresses of names that scenarios use: lines NAME=ADDR with an IPv4 address, each ended by a line feed, which the
+ *                    last one may do without; hosts_len bytes, 0 where no name is used
  *   seed             what all drawing depends on
  *   captures         room for the captures, one right after another; captures_room bytes
  *   reports          room for the reports (UTF-8 text), one right after another, or for a refusal's line; reports_room bytes

@@ -155,13 +155,14 @@ example() {
     mkdir "$folder"
     verdict "the example in $1" "$(
         cd "$folder"
-        HOSTS=$'redis=10.77.0.3\n' "${@:2}" "${inputs[@]}" 2>&1 || echo "  status $?"
+        HOSTS=$'redis=10.77.0.3\n' timeout 60 "${@:2}" "${inputs[@]}" 2>&1 || echo "  status $?"
         folder_difference "$work/stored" "$folder"
     )"
     rm -f "$folder"/*
-    (cd "$folder"; "${@:2}" "${inputs[@]}") > "$work/output" 2> "$work/line" || ended=$?
+    (cd "$folder"; timeout 60 "${@:2}" "${inputs[@]}") > "$work/output" 2> "$work/line" || ended=$?
     verdict "the example in $1, refused" "$([ $ended = 1 ] || echo "  status $ended"; difference "$work/wanted-line" "$work/line"; holds "$folder")"
 }
+unset HOSTS
 export TOXICAP_LIBRARY=$kit/lib/libtoxicap.so.1 CGO_CFLAGS="-I$kit/include" CGO_LDFLAGS="-L$kit/lib"
 verdict "the example in C, compiled" "$("$CC" -std=c11 -pedantic -Wall -Wextra -Werror -I "$kit/include" -o "$work/c" examples/c/rehearse.c \
     "$kit/lib/libtoxicap.a" 2>&1 || true)"

@@ -155,11 +155,11 @@ example() {
     mkdir "$folder"
     verdict "the example in $1" "$(
         cd "$folder"
-        HOSTS=$'redis=10.77.0.3\n' timeout 60 "${@:2}" "${inputs[@]}" 2>&1 || echo "  status $?"
+        HOSTS=$'redis=10.77.0.3\n' timeout 20 "${@:2}" "${inputs[@]}" 2>&1 || echo "  status $?"
         folder_difference "$work/stored" "$folder"
     )"
     rm -f "$folder"/*
-    (cd "$folder"; timeout 60 "${@:2}" "${inputs[@]}") > "$work/output" 2> "$work/line" || ended=$?
+    (cd "$folder"; timeout 20 "${@:2}" "${inputs[@]}") > "$work/output" 2> "$work/line" || ended=$?
     verdict "the example in $1, refused" "$([ $ended = 1 ] || echo "  status $ended"; difference "$work/wanted-line" "$work/line"; holds "$folder")"
 }
 unset HOSTS

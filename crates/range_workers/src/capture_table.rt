@@ -6,9 +6,9 @@ use crate::joining::join_all;
 use crate::range_jobs::RangeJobs;
 use crate::ranges::ranges_of;
 use conn_table::laws::{joins_agree, tables_agree};
-use conn_table::{Table, finish};
+use conn_table::{Partial, Table, finish};
 use job_matrix::{Gate, Phase, Plan, work_all};
-use pcap_records::Capture;
+use pcap_records::{Capture, Moment};
 use std::alloc::{AllocError, Global};
 use std::thread::Threads;
 
@@ -39,4 +39,17 @@ pub fn table<R: Threads + Sync, G: Gate>(
     let workers = u64::from(plan.workers());
     let partials = work_all(rt, alloc, count, workers, Phase::Ranges, gate, &jobs)?;
     finish(alloc, join_all(partials.into_vec())?)
+}
+
+/// The connection table of all records of a capture, as [`table`] gives it, made by this thread alone: it reads them as one range.
+///
+/// # Errors
+/// A growth was refused.
+pub fn table_alone(alloc: Global, capture: &Capture<'_>) -> Result<Table, AllocError>
+    ensures { IfOk result (λ t. t ≡ table_in capture.now 0 (length capture.now.records) 0) }
+{
+    tables_agree();
+    let count = capture.records().len();
+    let whole = Partial::of_range(alloc, capture, 0, count, Moment::first())?;
+    finish(alloc, whole)
 }

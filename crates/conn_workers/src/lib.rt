@@ -18,4 +18,4 @@ pub use deliveries::{Deliveries, Delivery, deliver};
 pub use delivery_rows::{LaidRow, deliver_row, deliver_row_alone};
 pub use jobs::Recording;
 pub use laid_deliveries::LaidDelivery;
-pub use recordings::{Recordings, record, report_lines};
+pub use recordings::{Recordings, record, record_alone, report_lines, report_lines_alone};

@@ -7,7 +7,7 @@ ghost use Rattle.conn_workers.specs.Recordings.{recordings_of, recorded_lines};
 use crate::jobs::{LineJobs, Recording};
 use crate::scenario_jobs::ReportLineJobs;
 use conn_table::Table;
-use job_matrix::{Gate, Phase, Plan, Values, work_all};
+use job_matrix::{Gate, Phase, Plan, Through, Values, work_all, work_alone};
 use pcap_records::Capture;
 use report::ReportText;
 use scenarios::Scenario;
@@ -49,6 +49,31 @@ pub fn record<'w, 'a, R: Threads + Sync, G: Gate>(
     work_all(rt, alloc, count, workers, Phase::Lines, gate, &jobs)
 }
 
+/// What is recorded of each connection of a capture, as [`record`] gives it, made by this thread alone.
+///
+/// # Errors
+/// A growth was refused.
+pub fn record_alone<'w, 'a>(
+    alloc: Global,
+    capture: &'w Capture<'a>,
+    table: &'w Table,
+) -> Result<Recordings<'w, 'a>, AllocError>
+    requires table { table.now ≡ whole_table capture.now }
+    ensures { IfOk result (λ v. v ≡ recordings_of capture.now) }
+{
+    let conns = table.conns();
+    let records = capture.records();
+    // each connection begins at a record of its own
+    prove!(conns.len() <= records.len());
+    let jobs = LineJobs {
+        alloc,
+        capture,
+        conns,
+    };
+    let count = conns.len() as u64;
+    work_alone(alloc, count, Phase::Lines, &Through, &jobs)
+}
+
 /// The line of each connection in the report of a scenario with its number, in order of the connections' numbers. Workers make
 /// them in phase `Jobs`, with one job for each connection. The answer is the same whatever the plan and the gate.
 ///
@@ -78,4 +103,31 @@ pub fn report_lines<R: Threads + Sync, G: Gate>(
     let count = recordings.len() as u64;
     let workers = plan.workers() as u64;
     work_all(rt, alloc, count, workers, Phase::Jobs, gate, &jobs)
+}
+
+/// The line of each connection in the report of a scenario with its number, as [`report_lines`] gives them, made by this thread
+/// alone.
+///
+/// # Errors
+/// A growth was refused.
+pub fn report_lines_alone(
+    alloc: Global,
+    recordings: &Recordings<'_, '_>,
+    number: u32,
+    scenario: &Scenario,
+    seed: u64,
+) -> Result<Values<ReportText>, AllocError>
+    requires { length recordings.now ≤ number_limit }
+    ensures { IfOk result (λ v. v ≡ recorded_lines seed (number, scenario.now) recordings.now) }
+{
+    let recordings = recordings.as_slice();
+    let jobs = ReportLineJobs {
+        alloc,
+        recordings,
+        number,
+        scenario,
+        seed,
+    };
+    let count = recordings.len() as u64;
+    work_alone(alloc, count, Phase::Jobs, &Through, &jobs)
 }

@@ -15,6 +15,7 @@ mod StoringEnds
 mod NamedSteps
 mod RunSteps
 mod FirstPlaces
+mod HostTexts
 mod WrittenLines
 mod WholeTables
 mod RowSteps

@@ -1,7 +1,7 @@
 -- Outputs of scenarios, one of them or some from a number on.
 use Rattle.std.proofs.Common.{◌≡◌, ◌<◌, ◌≤◌, ℕ, ◌+◌, ◌-◌, List, length, map, take, drop, get_or, sym, ap, ◌∙◌, arith}
 use Rattle.std.specs.List.{enumerate_from, range_with_len}
-use Rattle.std.proofs.lemmas.List.{get_or-map, length-map, length-drop, length-append, length-take-le, take-append-drop, get_or-take, get_or-drop}
+use Rattle.std.proofs.lemmas.List.{get_or-map, length-map, length-drop, length-append, length-take-le, take-append-drop, take_all, get_or-take, get_or-drop}
 use Rattle.std.proofs.lemmas.List.FromFn.{length-enumerate_from, fill_by_all}
 use Rattle.pcap_records.specs.CaptureView.{CaptureView, contents_of}
 use Rattle.conn_table.specs.SeenCapture.{SeenCapture, seen_capture}
@@ -58,3 +58,7 @@ taken_are_left xs ys first are =
     let all = ap length (take-append-drop (length ys) (drop first xs)) in
     let both = length-append (take (length ys) (drop first xs)) (drop (length ys) (drop first xs)) in
     omega (arith, all, both, ap length are, length-drop first xs)
+
+-- all of a list, one by one
+pub all_of : {X : Type 0} (xs : List X) (n : ℕ) (d : X) → length xs ≡ n → map (λ j. get_or xs (0 + j) d) (range_with_len 0 n) ≡ xs
+all_of xs n d many = some_from xs 0 n d (omega (arith, many)) ∙ take_all n xs (omega (arith, many))

@@ -14,6 +14,7 @@ pub mod PrintedReports
 pub mod StoredOutputs
 pub mod RunEnds
 pub mod Inputs
+pub mod HostLines
 pub mod Commands
 pub mod NamedFiles
 pub mod WrittenRows

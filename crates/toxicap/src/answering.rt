@@ -11,6 +11,7 @@ ghost use Rattle.toxicap.specs.StoredOutputs.{StoresOf, TakenOf};
 ghost use Rattle.run_files.specs.Shelves.{Takes};
 ghost use Rattle.run_files.specs.RunFault.{run_refusal};
 
+use crate::crews::{Crew, Workers};
 use crate::rehearsal::rehearse;
 use crate::reports::rehearse_reports;
 use crate::storing::store_rehearsal;
@@ -94,7 +95,11 @@ pub(crate) fn reports_to_text<H: Threads + Wait + Sync>(
     ensures { AgreesUnlessMemory run_refusal (λ reports. reports) result (reports_in (called_for options.now.hosts (map (λ t. t.now) texts.now) options.now.seed text.items)) }
 {
     let bytes = capture_bytes(alloc, text)?;
-    reports_to_bytes(rt, alloc, &bytes, texts, options)
+    let crew = Workers {
+        rt,
+        plan: options.plan,
+    };
+    reports_to_bytes(&crew, alloc, &bytes, texts, &options.hosts, options.seed)
 }
 
 /// Puts the files of the outputs that a capture's text calls for on a shelf as they are made: those that `store_all` puts of them.
@@ -157,23 +162,35 @@ fn answer_to_bytes<H: Threads + Wait + Sync>(
     )
 }
 
-// The reports of the answer to a capture's bytes.
-fn reports_to_bytes<H: Threads + Wait + Sync>(
-    rt: &H,
+/// The reports of the answer to a capture's bytes, whoever does the work.
+///
+/// # Errors
+/// Those of the scenarios, in order, and of `rehearse`.
+pub(crate) fn reports_to_bytes<C: Crew>(
+    crew: &C,
     alloc: Global,
     bytes: &[u8],
     texts: &[&[u8]],
-    options: &Options,
+    hosts: &Hosts,
+    seed: u64,
 ) -> Result<ReportText, RunFault>
-    ensures { AgreesUnlessMemory run_refusal (λ reports. reports) result (reports_in (answer_under options.now.hosts (map (λ t. t.now) texts.now) options.now.seed bytes.now)) }
+    requires { C.shares crew.now }
+    ensures { AgreesUnlessMemory run_refusal (λ reports. reports) result (reports_in (answer_under hosts.now (map (λ t. t.now) texts.now) seed bytes.now)) }
 {
-    let read = read_texts(alloc, texts, &options.hosts)?;
-    rehearse_reports(rt, alloc, bytes, &read, options.seed, options.plan)
+    let read = read_texts(alloc, texts, hosts)?;
+    rehearse_reports(crew, alloc, bytes, &read, seed)
 }
 
-// The scenarios of some texts.
+/// The scenarios of some texts.
+///
+/// # Errors
+/// The first refusal, with the number of its text; or a growth was refused.
 #[tactic(auto, unfolding(crate::specs::Answering::scenarios_from))]
-fn read_texts(alloc: Global, texts: &[&[u8]], hosts: &Hosts) -> Result<Vec<Scenario>, RunFault>
+pub(crate) fn read_texts(
+    alloc: Global,
+    texts: &[&[u8]],
+    hosts: &Hosts,
+) -> Result<Vec<Scenario>, RunFault>
     ensures { AgreesUnlessMemory run_refusal (λ v. v.items) result (scenarios_from hosts.now [] (map (λ t. t.now) texts.now)) }
 {
     let mut scenarios = Vec::with_capacity(alloc, texts.len())?;

@@ -1,15 +1,19 @@
 //! Toxiproxy taken offline: recorded TCP sessions replayed through its toxics.
 //!
 //! `rehearse` is the call that the crate exists for; its contract names the definition in `specs/Rehearsal.antt`. Around it
-//! stand `answers`, which reads the capture and the scenarios first, and `command`, the whole program. The readers, writers,
-//! dumps, shelves and faults that they use are those of the crate `run_files`.
+//! stand `answers`, which reads the capture and the scenarios first, and `command`, the whole program; `rehearse_alone` and
+//! `answers_alone` are the calls of one thread, which take no runtime. The readers, writers, dumps, shelves and faults that they
+//! use are those of the crate `run_files`.
 #![tactic(auto)]
 
 mod answering;
 mod commands;
+mod crews;
 mod gathering;
+mod host_lines;
 pub mod laws;
 mod layouts;
+mod one_thread;
 mod rehearsal;
 mod reports;
 mod rows;
@@ -19,7 +23,9 @@ mod storing;
 
 pub use answering::{Options, answers};
 pub use commands::{command, command_over, refuse_words};
+pub use host_lines::read_host_lines;
 pub use job_matrix::{Gate, Phase, Plan, Through, Values};
+pub use one_thread::{answers_alone, rehearse_alone, report_answers_alone, reports_alone};
 pub use rehearsal::rehearse;
 pub use run_files::{
     Counted, FileSystem, Folder, MemoryFile, MemoryShelf, Output, Outputs, Paths, RunFault, Shelf,

@@ -8,81 +8,69 @@ ghost use Rattle.run_files.specs.WrittenOutputs.{reports_of};
 ghost use Rattle.toxicap.specs.PrintedReports.{reports_in};
 ghost use Rattle.toxicap.specs.Rehearsal.{answer, outputs_of, scenario_limit};
 
+use crate::crews::Crew;
 use crate::gathering::gathered_report;
 use crate::rehearsal::SCENARIO_LIMIT;
 use conn_table::laws::indexed_connections_agree;
 use conn_workers::laws::lines_are_contributed;
-use conn_workers::{record, report_lines};
-use job_matrix::{Plan, Through};
 use pcap_records::{Capture, read_capture};
-use range_workers::table;
 use report::ReportText;
 use run_files::RunFault;
 use scenarios::Scenario;
 use std::alloc::{AllocError, Global};
-use std::sync::Wait;
-use std::thread::Threads;
 
-/// The reports of a rehearsal of a capture under each of the scenarios, one after another: those of the outputs that `rehearse` gives.
+/// The reports of a rehearsal of a capture under each of the scenarios, one after another: those of the outputs that `rehearse` gives,
+/// whoever does the work.
 ///
 /// # Errors
 /// Those of `rehearse`.
 #[tactic(auto, unfolding(crate::specs::Rehearsal::answer))]
-pub(crate) fn rehearse_reports<R: Threads + Wait + Sync>(
-    rt: &R,
+pub(crate) fn rehearse_reports<C: Crew>(
+    crew: &C,
     alloc: Global,
     capture: &[u8],
     scenarios: &[Scenario],
     seed: u64,
-    plan: Plan,
 ) -> Result<ReportText, RunFault>
+    requires { C.shares crew.now }
     ensures { Agrees run_refusal (λ text. text) result (reports_in (answer capture.now scenarios.now seed)) }
 {
     if scenarios.len() > SCENARIO_LIMIT {
         return Err(RunFault::TooManyScenarios);
     }
     let capture = read_capture(alloc, capture)?;
-    let text = join_reports(rt, alloc, &capture, scenarios, seed, plan)?;
+    let text = join_reports(crew, alloc, &capture, scenarios, seed)?;
     Ok(ReportText::of(text))
 }
 
-// The reports of all scenarios, one after another. Workers make the table of the capture, range by range, and what is recorded of each
-// connection; then for one scenario after another the lines of its report.
+// The reports of all scenarios, one after another. The crew makes the table of the capture, and what is recorded of each connection; then
+// for one scenario after another the lines of its report.
 //
 // # Errors
 // A growth was refused.
-fn join_reports<R: Threads + Sync>(
-    rt: &R,
+fn join_reports<C: Crew>(
+    crew: &C,
     alloc: Global,
     capture: &Capture<'_>,
     scenarios: &[Scenario],
     seed: u64,
-    plan: Plan,
 ) -> Result<Vec<u8>, AllocError>
+    requires crew { C.shares crew.now }
     requires few { length scenarios.now ≤ scenario_limit }
     ensures { IfOk result (λ text. text.items
         ≡ reports_of (outputs_of (seen_capture (contents_of capture.now)) scenarios.now seed)) }
 {
     indexed_connections_agree();
     lines_are_contributed();
-    let table = table(rt, alloc, capture, plan, &Through)?;
-    let recordings = record(rt, alloc, capture, &table, plan, &Through)?;
+    let table = crew.table(alloc, capture)?;
+    let recordings = crew.record(alloc, capture, &table)?;
     let count = recordings.as_slice().len();
     // each connection begins at a record of its own
     prove!(count <= capture.records().len());
     let mut text = Vec::new(alloc);
     for number in 0..scenarios.len() {
         let scenario = &scenarios[number];
-        let lines = report_lines(
-            rt,
-            alloc,
-            &recordings,
-            number as u32,
-            scenario,
-            seed,
-            plan,
-            &Through,
-        )?;
+        let lines = crew.report_lines(alloc, &recordings, number as u32, scenario, seed)?;
         let report = gathered_report(alloc, capture, &table, number as u32, lines.as_slice())?;
         text.extend_from_slice(report.as_slice())?;
     }

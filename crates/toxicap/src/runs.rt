@@ -1,5 +1,5 @@
 //! A run that a command line asks for: the hosts and files that it names are read, and the answers printed or stored.
-ghost use Rattle.std.specs.Prelude.{◌≡◌, ◌≢◌, ◌+◌, ◌-◌, ◌^◌, ◌<◌, ◌≤◌, map, IfErr, [], length, option_map, IfNone, IfOk, IfSome, OnSome};
+ghost use Rattle.std.specs.Prelude.{◌≡◌, ◌≢◌, ◌+◌, ◌-◌, ◌^◌, ◌<◌, ◌≤◌, map, IfErr, [], length, IfNone, IfOk, IfSome, OnSome};
 ghost use Rattle.std.specs.Io.KnownBytes.{Appends, Consumes, IsAtEnd};
 ghost use Rattle.command_line.specs.Asking.{IsInRange};
 ghost use Rattle.run_files.specs.declared.error.RunFault.{RunFault};
@@ -9,14 +9,14 @@ ghost use Rattle.toxicap.specs.NamedFiles.{EndsOf, LoadsFile, LoadsInput, RunsOv
 ghost use Rattle.toxicap.specs.RunEnds.{failed_writes};
 ghost use Rattle.pcap_records.specs.Agreement.{AgreesUnlessMemory};
 ghost use Rattle.pcap_records.specs.Reading.{capture_limit};
-ghost use Rattle.toxicap.specs.Inputs.{AddsHost, IsOfFiles, IsOfHost, cut_at_first, equals_sign, host_written, hosts_from, texts_or_bare};
+ghost use Rattle.toxicap.specs.Inputs.{IsOfFiles, texts_or_bare};
 ghost use Rattle.run_files.specs.RunFault.{run_refusal};
 
 use crate::answering::{Options, reports_to_text, store_for_text};
+use crate::host_lines::read_hosts;
 use command_line::Asked;
 use job_matrix::Plan;
 use run_files::{Counted, Folder, Paths, RunFault, load, write_bytes};
-use scenarios::{HostFault, Hosts};
 use std::alloc::{AllocError, Global};
 use std::io::{Read, Write};
 use std::rt::Files;
@@ -98,43 +98,6 @@ fn answer_into<H: Files + Threads + Wait + Sync, W: Write>(
 
 // A scenario without proxies.
 const BARE: &[u8] = b"[]";
-
-// The hosts of a command line, each `NAME=ADDR`, cut at its first `=`.
-//
-// # Errors
-// [`RunFault::BadHost`] for the first that has no `=` or is refused by the list; [`RunFault::Memory`].
-#[tactic(auto, unfolding(crate::specs::Inputs::hosts_from))]
-fn read_hosts(alloc: Global, written: &[&str]) -> Result<Hosts, RunFault>
-    ensures exact { AgreesUnlessMemory run_refusal (λ hosts. hosts) result (hosts_from [] (map (λ host. host.now) written.now)) }
-    ensures of_host { IfErr result IsOfHost }
-{
-    let mut hosts = Hosts::new(alloc);
-    for (at, host) in written.iter().enumerate() {
-        add_host(&mut hosts, at, host)?;
-    }
-    Ok(hosts)
-}
-
-// Adds a host as it is written.
-fn add_host(hosts: &mut Hosts, at: usize, written: &str) -> Result<(), RunFault>
-    ensures { AddsHost result at (host_written hosts.old written.now) hosts.old hosts.new }
-{
-    let Some((name, addr)) = cut_at_equals(written) else {
-        return Err(RunFault::BadHost { at });
-    };
-    match hosts.add(name, addr) {
-        Ok(()) => Ok(()),
-        Err(HostFault::BadHost) => Err(RunFault::BadHost { at }),
-        Err(HostFault::Memory(_)) => Err(RunFault::Memory),
-    }
-}
-
-// What stands before the first `=` of a text, and after it.
-fn cut_at_equals(text: &str) -> Option<(&str, &str)>
-    ensures { option_map (λ parts. (parts.0.now, parts.1.now)) result ≡ cut_at_first equals_sign text.now }
-{
-    text.split_once('=')
-}
 
 // The texts of the files at some paths, in order.
 //

@@ -151,9 +151,9 @@ fn outputs_from<R: Threads + Sync>(
 
 // Scenarios from a number on: job j makes the output of that many after it.
 #[derive(Drop)]
-struct OutputJobs<'s, 'w, 'v, 'a> {
-    sources: &'s Sources<'w, 'v, 'a>,
-    first: usize,
+pub(crate) struct OutputJobs<'s, 'w, 'v, 'a> {
+    pub(crate) sources: &'s Sources<'w, 'v, 'a>,
+    pub(crate) first: usize,
 }
 
 impl<'s, 'w, 'v, 'a> Work for OutputJobs<'s, 'w, 'v, 'a> {

@@ -1,0 +1,132 @@
+//! Who does the work of a rehearsal: workers in threads, or one thread alone.
+use conn_table::Table;
+use conn_workers::{Recordings, record, record_alone, report_lines, report_lines_alone};
+use job_matrix::{Plan, Through};
+use pcap_records::{Capture, Values};
+use range_workers::{table, table_alone};
+use report::ReportText;
+use scenarios::Scenario;
+use std::alloc::{AllocError, Global};
+use std::thread::Threads;
+
+/// Who makes the table of a capture, what is recorded of its connections, and the lines of reports. No answer depends on who it is.
+pub(crate) trait Crew {
+    ghost use Rattle.std.specs.Prelude.{◌≡◌, ◌≤◌, length, IfOk};
+    ghost use Rattle.job_matrix.specs.Boards.{number_limit};
+    ghost use Rattle.conn_workers.specs.CaptureTables.{whole_table};
+    ghost use Rattle.conn_workers.specs.Recordings.{recordings_of, recorded_lines};
+
+    /// What starts its threads, if it starts any, may be shared among them.
+    ghost shares: { Self → Type 0 };
+
+    /// The connection table of all records of a capture.
+    ///
+    /// # Errors
+    /// A growth was refused.
+    fn table(&self, alloc: Global, capture: &Capture<'_>) -> Result<Table, AllocError>
+        requires { shares self.now }
+        ensures { IfOk result (λ t. t ≡ whole_table capture.now) };
+
+    /// What is recorded of each connection of a capture.
+    ///
+    /// # Errors
+    /// A growth was refused.
+    fn record<'w, 'a>(
+        &self,
+        alloc: Global,
+        capture: &'w Capture<'a>,
+        table: &'w Table,
+    ) -> Result<Recordings<'w, 'a>, AllocError>
+        requires shares { shares self.now }
+        requires table { table.now ≡ whole_table capture.now }
+        ensures { IfOk result (λ v. v ≡ recordings_of capture.now) };
+
+    /// The line of each connection in the report of a scenario with its number.
+    ///
+    /// # Errors
+    /// A growth was refused.
+    fn report_lines(
+        &self,
+        alloc: Global,
+        recordings: &Recordings<'_, '_>,
+        number: u32,
+        scenario: &Scenario,
+        seed: u64,
+    ) -> Result<Values<ReportText>, AllocError>
+        requires shares { shares self.now }
+        requires few { length recordings.now ≤ number_limit }
+        ensures { IfOk result (λ v. v ≡ recorded_lines seed (number, scenario.now) recordings.now) };
+}
+
+/// One thread alone: that of the call.
+#[derive(Clone, Copy, Debug)]
+pub(crate) struct Alone;
+
+impl Crew for Alone {
+    ghost shares = { λ crew. Unit {0} };
+
+    fn table(&self, alloc: Global, capture: &Capture<'_>) -> Result<Table, AllocError> {
+        table_alone(alloc, capture)
+    }
+
+    fn record<'w, 'a>(
+        &self,
+        alloc: Global,
+        capture: &'w Capture<'a>,
+        table: &'w Table,
+    ) -> Result<Recordings<'w, 'a>, AllocError> {
+        record_alone(alloc, capture, table)
+    }
+
+    fn report_lines(
+        &self,
+        alloc: Global,
+        recordings: &Recordings<'_, '_>,
+        number: u32,
+        scenario: &Scenario,
+        seed: u64,
+    ) -> Result<Values<ReportText>, AllocError> {
+        report_lines_alone(alloc, recordings, number, scenario, seed)
+    }
+}
+
+/// The workers of a plan.
+#[derive(Drop)]
+pub(crate) struct Workers<'r, R: Threads + Sync> {
+    /// What starts their threads.
+    pub(crate) rt: &'r R,
+    /// How many they are, and how many records a range has.
+    pub(crate) plan: Plan,
+}
+
+impl<'r, R: Threads + Sync> Crew for Workers<'r, R> {
+    ghost use Rattle.std.specs.Thread.{IsSync};
+
+    ghost shares = { λ crew. IsSync R.row };
+
+    fn table(&self, alloc: Global, capture: &Capture<'_>) -> Result<Table, AllocError> {
+        table(self.rt, alloc, capture, self.plan, &Through)
+    }
+
+    fn record<'w, 'a>(
+        &self,
+        alloc: Global,
+        capture: &'w Capture<'a>,
+        table: &'w Table,
+    ) -> Result<Recordings<'w, 'a>, AllocError> {
+        record(self.rt, alloc, capture, table, self.plan, &Through)
+    }
+
+    fn report_lines(
+        &self,
+        alloc: Global,
+        recordings: &Recordings<'_, '_>,
+        number: u32,
+        scenario: &Scenario,
+        seed: u64,
+    ) -> Result<Values<ReportText>, AllocError> {
+        report_lines(
+            self.rt, alloc, recordings, number, scenario, seed, self.plan, &Through,
+        )
+    }
+}

@@ -1,0 +1,166 @@
+//! Rehearsals by one thread alone, that of the call: they start no thread, wait for nobody and take no runtime.
+ghost use Rattle.std.specs.Prelude.{◌≡◌, ◌≤◌, [], List, IfOk, length, map};
+ghost use Rattle.pcap_records.specs.Agreement.{Agrees, AgreesUnlessMemory};
+ghost use Rattle.pcap_records.specs.CaptureView.{contents_of};
+ghost use Rattle.conn_table.specs.SeenCapture.{seen_capture};
+ghost use Rattle.run_files.specs.RunFault.{run_refusal};
+ghost use Rattle.toxicap.specs.Answering.{answer_under, called_for};
+ghost use Rattle.toxicap.specs.PrintedReports.{reports_in};
+ghost use Rattle.toxicap.specs.Rehearsal.{answer, outputs_of, scenario_limit};
+
+use crate::answering::{read_texts, reports_to_bytes};
+use crate::crews::Alone;
+use crate::rehearsal::SCENARIO_LIMIT;
+use crate::reports::rehearse_reports;
+use crate::sources::Sources;
+use crate::storing::OutputJobs;
+use conn_workers::record_alone;
+use job_matrix::{Phase, Through, work_alone};
+use pcap_records::{CAPTURE_LIMIT, Capture, read_capture};
+use range_workers::table_alone;
+use report::ReportText;
+use run_files::{Outputs, RunFault, is_dump, undump};
+use scenarios::{Hosts, Scenario};
+use std::alloc::{AllocError, Global};
+
+/// Rehearses a capture under each of the scenarios, as [`rehearse`](crate::rehearse) does, by this thread alone.
+///
+/// # Errors
+/// Those of `rehearse`.
+#[tactic(auto, unfolding(crate::specs::Rehearsal::answer))]
+pub fn rehearse_alone(
+    alloc: Global,
+    capture: &[u8],
+    scenarios: &[Scenario],
+    seed: u64,
+) -> Result<Outputs, RunFault>
+    ensures { Agrees run_refusal (λ outputs. outputs) result (answer capture.now scenarios.now seed) }
+{
+    if scenarios.len() > SCENARIO_LIMIT {
+        return Err(RunFault::TooManyScenarios);
+    }
+    let capture = read_capture(alloc, capture)?;
+    let outputs = outputs_alone(alloc, &capture, scenarios, seed)?;
+    Ok(outputs)
+}
+
+/// The reports of a rehearsal of a capture under each of the scenarios, one after another: those of the outputs that
+/// [`rehearse_alone`] gives. No segment is written.
+///
+/// # Errors
+/// Those of `rehearse`.
+pub fn reports_alone(
+    alloc: Global,
+    capture: &[u8],
+    scenarios: &[Scenario],
+    seed: u64,
+) -> Result<ReportText, RunFault>
+    ensures { Agrees run_refusal (λ text. text) result (reports_in (answer capture.now scenarios.now seed)) }
+{
+    rehearse_reports(&Alone, alloc, capture, scenarios, seed)
+}
+
+/// Rehearses the capture that a text holds under scenarios that are still texts, each a JSON array of proxies in Toxiproxy's form. Where
+/// the text's first byte is a hexadecimal digit, it is a dump of the capture; any other text is not copied.
+///
+/// # Errors
+/// In this order: [`RunFault::CaptureTooLong`], [`RunFault::BadDump`], [`RunFault::BadScenario`] for the first scenario that is refused,
+/// [`RunFault::TooManyScenarios`], the faults of the capture itself; [`RunFault::Memory`] at the growth that was refused.
+#[tactic(auto, unfolding(crate::specs::Answering::called_for))]
+pub fn answers_alone(
+    alloc: Global,
+    text: &[u8],
+    texts: &[&[u8]],
+    hosts: &Hosts,
+    seed: u64,
+) -> Result<Outputs, RunFault>
+    ensures { AgreesUnlessMemory run_refusal (λ outputs. outputs) result (called_for hosts.now (map (λ t. t.now) texts.now) seed text.now) }
+{
+    if text.len() > CAPTURE_LIMIT {
+        return Err(RunFault::CaptureTooLong);
+    }
+    if is_dump(text) {
+        let bytes = undump(alloc, text)?;
+        return answer_alone_to_bytes(alloc, &bytes, texts, hosts, seed);
+    }
+    answer_alone_to_bytes(alloc, text, texts, hosts, seed)
+}
+
+/// The reports that [`answers_alone`] gives, one after another. No segment is written.
+///
+/// # Errors
+/// Those of [`answers_alone`].
+#[tactic(auto, unfolding(crate::specs::Answering::called_for))]
+pub fn report_answers_alone(
+    alloc: Global,
+    text: &[u8],
+    texts: &[&[u8]],
+    hosts: &Hosts,
+    seed: u64,
+) -> Result<ReportText, RunFault>
+    ensures { AgreesUnlessMemory run_refusal (λ reports. reports) result (reports_in (called_for hosts.now (map (λ t. t.now) texts.now) seed text.now)) }
+{
+    if text.len() > CAPTURE_LIMIT {
+        return Err(RunFault::CaptureTooLong);
+    }
+    if is_dump(text) {
+        let bytes = undump(alloc, text)?;
+        return reports_to_bytes(&Alone, alloc, &bytes, texts, hosts, seed);
+    }
+    reports_to_bytes(&Alone, alloc, text, texts, hosts, seed)
+}
+
+// The answer to a capture's bytes.
+fn answer_alone_to_bytes(
+    alloc: Global,
+    bytes: &[u8],
+    texts: &[&[u8]],
+    hosts: &Hosts,
+    seed: u64,
+) -> Result<Outputs, RunFault>
+    ensures { AgreesUnlessMemory run_refusal (λ outputs. outputs) result (answer_under hosts.now (map (λ t. t.now) texts.now) seed bytes.now) }
+{
+    let scenarios = read_texts(alloc, texts, hosts)?;
+    rehearse_alone(alloc, bytes, &scenarios, seed)
+}
+
+// What each scenario answers.
+//
+// # Errors
+// A growth was refused.
+fn outputs_alone(
+    alloc: Global,
+    capture: &Capture<'_>,
+    scenarios: &[Scenario],
+    seed: u64,
+) -> Result<Outputs, AllocError>
+    requires few { length scenarios.now ≤ scenario_limit }
+    ensures { IfOk result (λ v. v ≡ outputs_of (seen_capture (contents_of capture.now)) scenarios.now seed) }
+{
+    let table = table_alone(alloc, capture)?;
+    let recordings = record_alone(alloc, capture, &table)?;
+    let count = recordings.as_slice().len();
+    // each connection begins at a record of its own
+    prove!(count <= capture.records().len());
+    let sources = Sources {
+        alloc,
+        capture,
+        table: &table,
+        recordings: &recordings,
+        scenarios,
+        seed,
+    };
+    outputs_from_sources(&sources)
+}
+
+// The outputs that are made of their sources, one after another.
+//
+// # Errors
+// A growth was refused.
+fn outputs_from_sources(sources: &Sources<'_, '_, '_>) -> Result<Outputs, AllocError>
+    ensures { IfOk result (λ v. v ≡ outputs_of (seen_capture (contents_of sources.now.capture.now)) sources.now.scenarios.now sources.now.seed) }
+{
+    let jobs = OutputJobs { sources, first: 0 };
+    let count = sources.scenarios.len() as u64;
+    work_alone(sources.alloc, count, Phase::Jobs, &Through, &jobs)
+}

@@ -1,0 +1,2 @@
+mod LaidParts
+mod ToldEnds

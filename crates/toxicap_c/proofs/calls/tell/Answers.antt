@@ -1,0 +1,8 @@
+use Rattle.std.proofs.Common.{ℕ, List, true, ◌∙◌, subst}
+use Rattle.toxicap_c.specs.Buffers.{Puts, buffers, put_of_reports}
+use Rattle.toxicap_c.proofs.calls.tell.Goals as goal
+
+pub returns-then-put_text : goal.returns-then-put_text
+returns-then-put_text c captures lens =
+    let P : List ℕ → Type 0 = λ text. Puts (put_of_reports text) true (buffers captures c.args.reports.now lens) (buffers captures c.put_text.new.reports lens) c.put_text.new.sizes in
+    subst P (c.as_bytes.ensures.value ∙ c.in-Ok.ensures) (c.if-put_text.ensures captures lens)

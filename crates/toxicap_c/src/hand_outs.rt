@@ -1,0 +1,73 @@
+//! What is put into the buffers of a caller.
+ghost use Rattle.std.specs.Prelude.{◌≡◌, ◌+◌, ◌≤◌, ◌++◌, List, ℕ, drop, length, take};
+ghost use Rattle.run_files.specs.WrittenOutputs.{reports_of};
+ghost use Rattle.toxicap_c.specs.Buffers.{Puts, buffers, captures_of, laid_over, lens_of, put_of, put_of_reports, sizes_of};
+
+use crate::sizes::{ToxicapSizes, no_sizes, sizes_of_text};
+use run_files::Output;
+
+/// Puts a text over the first bytes of a buffer, if there is room for it, and answers whether there is.
+pub(crate) fn put_text(text: &[u8], reports: &mut [u8], sizes: &mut ToxicapSizes) -> bool
+    ensures { (captures lens : List ℕ)
+        → Puts (put_of_reports text.now) result (buffers captures reports.old lens) (buffers captures reports.new lens) sizes.new }
+{
+    *sizes = sizes_of_text(text);
+    if text.len() > reports.len() {
+        return false;
+    }
+    put_at(reports, 0, text);
+    true
+}
+
+/// Puts outputs of these sizes over the first of the buffers, if there is room for all of them, and answers whether there is.
+pub(crate) fn put_outputs(
+    outputs: &[Output],
+    wanted: ToxicapSizes,
+    captures: &mut [u8],
+    reports: &mut [u8],
+    lens: &mut [usize],
+    sizes: &mut ToxicapSizes,
+) -> bool
+    requires { wanted ≡ sizes_of (put_of outputs.now) }
+    ensures { Puts (put_of outputs.now) result (buffers captures.old reports.old lens.old) (buffers captures.new reports.new lens.new) sizes.new }
+{
+    *sizes = wanted;
+    if wanted.captures > captures.len() {
+        return false;
+    }
+    if wanted.reports > reports.len() || wanted.lens > lens.len() {
+        return false;
+    }
+    put_each(outputs, captures, reports, lens);
+    true
+}
+
+// Puts outputs over the first of the buffers.
+fn put_each(outputs: &[Output], captures: &mut [u8], reports: &mut [u8], lens: &mut [usize])
+    requires captures { length (captures_of outputs.now) ≤ length captures.old }
+    requires reports { length (reports_of outputs.now) ≤ length reports.old }
+    requires lens { length (lens_of outputs.now) ≤ length lens.old }
+    ensures captures { captures.new ≡ laid_over (captures_of outputs.now) captures.old }
+    ensures reports { reports.new ≡ laid_over (reports_of outputs.now) reports.old }
+    ensures lens { lens.new ≡ laid_over (lens_of outputs.now) lens.old }
+{
+    let mut at = no_sizes();
+    for output in outputs {
+        let capture = output.capture.as_slice();
+        let report = output.report.as_slice();
+        put_at(captures, at.captures, capture);
+        put_at(reports, at.reports, report);
+        put_at(lens, at.lens, &[capture.len(), report.len()]);
+        at.captures += capture.len();
+        at.reports += report.len();
+        at.lens += 2;
+    }
+}
+
+// Puts items into a buffer from a place on.
+fn put_at<T: Copy>(buffer: &mut [T], at: usize, items: &[T])
+    requires { at + length items.now ≤ length buffer.old }
+    ensures { buffer.new ≡ take at buffer.old ++ (items.now ++ drop (at + length items.now) buffer.old) }
+{
+    buffer[at..at + items.len()].copy_from_slice(items);
+}

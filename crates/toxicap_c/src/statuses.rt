@@ -1,0 +1,28 @@
+//! How a call ends, as the number that it returns.
+ghost use Rattle.std.specs.Prelude.{◌≡◌};
+ghost use Rattle.toxicap_c.specs.Statuses.{code_of};
+
+/// How a call ends.
+#[derive(Clone, Copy, Debug, PartialEq, Eq)]
+pub(crate) enum Status {
+    /// The answer stands in the buffers (0).
+    Answered,
+    /// The line of a refusal stands in the buffer of reports (1).
+    Refused,
+    /// The buffers have too little room, and are as they were (2).
+    LittleRoom,
+    /// There was no memory for the line of a refusal, and the buffers are as they were (3).
+    NoMemory,
+}
+
+/// The number that a call returns where it ends so.
+pub(crate) fn code_of(status: Status) -> u8
+    ensures { result ≡ code_of status }
+{
+    match status {
+        Status::Answered => 0,
+        Status::Refused => 1,
+        Status::LittleRoom => 2,
+        Status::NoMemory => 3,
+    }
+}

@@ -8,6 +8,7 @@ mod dumps;
 mod isolation;
 mod limits;
 mod named_files;
+mod one_thread;
 mod plans;
 mod readers;
 mod rehearsed;

@@ -11,10 +11,10 @@ use worked_sessions::sessions::PLAIN_SESSION;
 use worked_sessions::written_frames::{OPENING, session_written};
 
 // A disabled proxy, and an enabled one after it, for the server of the plain session.
-const BOTH: &str =
+pub const BOTH: &str =
     "[{\"name\":\"a\",\"upstream\":\"10.0.0.2:80\",\"enabled\":false},{\"name\":\"b\",\"upstream\":\"10.0.0.2:80\",\"enabled\":true}]";
 
-const REFUSED_LINE: &str =
+pub const REFUSED_LINE: &str =
     "0 10.0.0.1:40000 > 10.0.0.2:80 proxy 0 up 0/5/0 refused max 0 down 0/0/0 refused max 0\n";
 
 // The server's answer to an opening that its proxy refuses, with its record header.
@@ -65,17 +65,13 @@ fn is_output(output: &Output, len: usize, last: &[u8], end: &str) -> bool {
         && output.report.as_slice().ends_with(end.as_bytes())
 }
 
-// Whether a text of the plain session answers two outputs under `[]` and a disabled proxy for the host `web`.
-fn is_answered<R: Threads + Wait + Sync>(
-    rt: &R,
-    alloc: Global,
-    text: &[u8],
-) -> Result<bool, RunFault> {
-    let named = b"[{\"name\":\"a\",\"upstream\":\"web:80\",\"enabled\":false}]";
-    let texts = [b"[]".as_slice(), named.as_slice()];
-    let outputs = answered(rt, alloc, text, &texts)?;
+// A disabled proxy for the host `web`.
+pub const NAMED: &str = "[{\"name\":\"a\",\"upstream\":\"web:80\",\"enabled\":false}]";
+
+// Whether outputs are those of the plain session under `[]` and a disabled proxy for its server.
+pub fn are_answers(alloc: Global, outputs: &[Output]) -> Result<bool, AllocError> {
     let written = session_written(alloc)?;
-    Ok(match outputs.as_slice() {
+    Ok(match outputs {
         [bare, met] => {
             is_output(bare, 449, &written, PLAIN_REPORT)
                 && is_output(met, 164, &RESET, REFUSED_LINE)
@@ -84,8 +80,19 @@ fn is_answered<R: Threads + Wait + Sync>(
     })
 }
 
+// Whether a text of the plain session answers two outputs under `[]` and a disabled proxy for the host `web`.
+fn is_answered<R: Threads + Wait + Sync>(
+    rt: &R,
+    alloc: Global,
+    text: &[u8],
+) -> Result<bool, RunFault> {
+    let texts = [b"[]".as_slice(), NAMED.as_bytes()];
+    let outputs = answered(rt, alloc, text, &texts)?;
+    Ok(are_answers(alloc, outputs.as_slice())?)
+}
+
 // The hexadecimal digits of some bytes.
-fn dump(alloc: Global, bytes: &[u8]) -> Result<String, AllocError> {
+pub fn dump(alloc: Global, bytes: &[u8]) -> Result<String, AllocError> {
     let mut text = String::new(alloc);
     for byte in bytes {
         text.push_str(&format!(in alloc; "{byte:02x}")?)?;

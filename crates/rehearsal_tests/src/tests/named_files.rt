@@ -146,7 +146,12 @@ fn paths_that_tell(rt: HostRuntime) {
     let unread = (1, "", "refused 61 ReadFailed\n");
     check_over(&rt, &paths, &["--capture=nothing"], unread);
     let scenario = ["--capture=session", "--scenario=session"];
-    check_over(&rt, &paths, &scenario, (1, "", "refused 10 NotJson scenario 0\n"));
+    check_over(
+        &rt,
+        &paths,
+        &scenario,
+        (1, "", "refused 10 NotJson scenario 0\n"),
+    );
 }
 
 // Hosts come first, then scenario files in their order, then the capture, and then what the files hold.

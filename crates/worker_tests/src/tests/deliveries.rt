@@ -29,15 +29,16 @@ pub(super) const DELAYED: &str =
 const SILENT: &str =
     "{\"name\":\"quiet\",\"upstream\":\"10.0.0.3:40001\",\"toxics\":[{\"type\":\"timeout\",\"stream\":\"upstream\",\"attributes\":{\"timeout\":0}}]}";
 
-const DISABLED: &str = "{\"name\":\"off\",\"upstream\":\"10.0.0.2:80\",\"enabled\":false}";
+pub(super) const DISABLED: &str =
+    "{\"name\":\"off\",\"upstream\":\"10.0.0.2:80\",\"enabled\":false}";
 
-const FIRST_LINE: &str =
+pub(super) const FIRST_LINE: &str =
     "0 10.0.0.1:40000 > 10.0.0.3:40001 proxy - up 0/0/0 open max 0 down 0/0/0 open max 0\n";
 
 const SECOND_LINE: &str =
     "1 10.0.0.1:40000 > 10.0.0.2:80 proxy - up 2/2/0 open max 0 down 0/0/0 open max 0\n";
 
-const REFUSED_LINE: &str =
+pub(super) const REFUSED_LINE: &str =
     "1 10.0.0.1:40000 > 10.0.0.2:80 proxy 0 up 0/2/0 refused max 0 down 0/0/0 refused max 0\n";
 
 // With seed 42 the jitter leaves 73 ms.

@@ -6,11 +6,15 @@
 package main
 
 import (
+	"errors"
 	"fmt"
 	"os"
 )
 
 func main() {
+	if len(os.Args) < 3 {
+		stopOn(errors.New("rehearse CAPTURE SCENARIO.."), 2)
+	}
 	texts := make([][]byte, len(os.Args)-1)
 	for i, path := range os.Args[1:] {
 		text, err := os.ReadFile(path)

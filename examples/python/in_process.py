@@ -1,8 +1,6 @@
-"""Rehearses a capture under scenarios in this process, and stores what `toxicap --out .` does:
-
-    python3 in_process.py CAPTURE SCENARIO..
-
+"""Rehearses a capture under scenarios in this process, and stores what `toxicap --out .` does: in_process.py CAPTURE SCENARIO..
 HOSTS of the environment has the addresses of names, in lines NAME=ADDR, and TOXICAP_LIBRARY the shared library (else the system's)."""
+import argparse
 import ctypes
 import io
 import os
@@ -47,9 +45,13 @@ def rehearse(capture, scenarios, hosts=b"", seed=0):
 
 
 if __name__ == "__main__":
-    capture, *scenarios = [pathlib.Path(path).read_bytes() for path in sys.argv[1:]]
+    parser = argparse.ArgumentParser()
+    parser.add_argument("capture", type=pathlib.Path)
+    parser.add_argument("scenarios", type=pathlib.Path, nargs="+")
+    files = parser.parse_args()
     try:
-        answers = rehearse(capture, scenarios, os.environ.get("HOSTS", "").encode())
+        scenarios = [path.read_bytes() for path in files.scenarios]
+        answers = rehearse(files.capture.read_bytes(), scenarios, os.environ.get("HOSTS", "").encode())
     except (MemoryError, ValueError) as refusal:
         sys.exit(str(refusal))
     for number, (capture, report) in enumerate(answers):

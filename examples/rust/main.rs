@@ -10,7 +10,10 @@ fn main() -> io::Result<()> {
         .map(fs::read)
         .collect::<Result<_, _>>()?;
     let hosts = env::var("HOSTS").unwrap_or_default();
-    match rehearse::rehearse(&texts[0], &texts[1..], &hosts, 0) {
+    let Some((capture, scenarios)) = texts.split_first() else {
+        return Err(io::Error::other("main CAPTURE SCENARIO.."));
+    };
+    match rehearse::rehearse(capture, scenarios, &hosts, 0) {
         Err(line) => {
             eprintln!("{line}");
             process::exit(1)

@@ -23,6 +23,8 @@
  *     call. Inputs may overlap each other, and are not changed by anyone during the call.
  *   - The thread has 256 KB of stack left.
  *   - No call is made in a signal handler, or in a process that was forked from one with threads.
+ *   - Where `malloc`, `realloc` and `free` are not the C library's, they are those of one allocator, which aligns a block to each power of
+ *     two up to 16 that divides its size.
  * Any thread may call, and calls may run at once.
  */
 #ifndef TOXICAP_H

@@ -1,9 +1,8 @@
 -- Each list is a source of the merge, and gives its keyed segments in order.
-use Rattle.std.proofs.Common.{◌≡◌, ℕ, ◌+◌, true, false, List, [], ◌∷◌, ◌++◌, Option, Some, None, map, refl, sym, ap, ◌∙◌, subst, append-nil}
+use Rattle.std.proofs.Common.{◌≡◌, ℕ, ◌+◌, true, List, [], ◌∷◌, ◌++◌, Option, map, refl, sym, ap, ◌∙◌, subst, append-nil}
 use Rattle.std.specs.List.{All, enumerate_from, flat_map}
 use Rattle.std.specs.List.Sorted.{IsSorted, IsSortedBy, IsPermutation}
-use Rattle.std.specs.Iterator.{YieldsFirst, DrainsIf, Yields}
-use Rattle.std.proofs.iter.runs.Made.{to_item, to_end}
+use Rattle.std.specs.Iterator.{YieldsFirst, DrainsIf}
 use Rattle.std.specs.Iterator.Runs.{Run, WholeRun, YieldsRun}
 use Rattle.std.proofs.lemmas.Iterator.{YieldsList, items_from_drains}
 use Rattle.std.proofs.lemmas.Iterator.Consumers.{YieldsList-from_first}
@@ -23,7 +22,7 @@ keys_of_list (list, xs) = keyed_segments list 0 xs
 abbrev pub keys_of_lists : List (List Framed) → List (List KeyedSegment)
 keys_of_lists lists = map keys_of_list (enumerate_from 0 lists)
 
--- sources of either kind: of segments, or of segments that are laid out
+-- sources that give what is left of them
 module _ {Source : Type 0} (left : Source → List KeyedSegment) where
   sources_give : (sources : List Source) → SourcesGive (λ (s r : Source). r ≡ s) (YieldsFirst left) sources (map left sources)
   sources_give [] = tt
@@ -63,17 +62,3 @@ gave_all lists xs rest items moved none are =
 
 pub gave_in_order : (xs items : List KeyedSegment) → IsSortedBy derived xs → items ≡ xs → IsSorted keyed_cmp items
 gave_in_order xs items sorted are = subst (λ ys. IsSorted keyed_cmp ys) (sym are) (subst (λ lt. IsSortedBy lt xs) derived_is_below sorted)
-
--- what holds of all items holds of the last that came, before those that are left
-pub kept_item : {X : Type 0} (P : X → Type 0) (xs : List X) (x : X) (rest : List X) → All P ((xs ++ x ∷ []) ++ rest) → P x
-kept_item P [] x rest all = All-head P x rest all
-kept_item P (y ∷ xs) x rest all = kept_item P xs x rest (All-tail P y ((xs ++ x ∷ []) ++ rest) all)
-
--- ---- the run that a loop has made, from where the iterator began
-
-module _ {S A : Type 0} (steps : S → Option A → S → Type 0) (from start t u : S) (xs : List A) (same : start ≡ from) (ran : Yields steps start xs t) where
-  pub run_to_item : (x : A) → steps t (Some x) u → DrainsIf steps (false ≡ true) from (xs ++ x ∷ [])
-  run_to_item x step = subst (λ (s : S). DrainsIf steps (false ≡ true) s (xs ++ x ∷ [])) same (to_item steps start u xs x (t, ran, step))
-
-  pub run_to_end : steps t None u → DrainsIf steps (true ≡ true) from xs
-  run_to_end step = subst (λ (s : S). DrainsIf steps (true ≡ true) s xs) same (to_end steps start xs (u, (t, ran, step)))

@@ -8,7 +8,7 @@ use Rattle.segment_writer.specs.declared.framed.Framed.{Framed}
 use Rattle.segment_writer.specs.declared.laid.Laid.{Laid}
 use Rattle.time_merge.specs.declared.merging.KeyedSegment.{KeyedSegment}
 use Rattle.time_merge.specs.declared.merging.KeyedSegments.{KeyedSegments}
-use Rattle.time_merge.specs.declared.captures.LaidSegments.{LaidSegments}
+use Rattle.time_merge.specs.declared.key_order.LaidSegments.{LaidSegments}
 
 -- by moment, then connection, turn and place
 abbrev pub key_cmp : SegKey → SegKey → Ordering

@@ -2,6 +2,7 @@
 #![tactic(auto)]
 
 mod captures;
+mod key_order;
 mod merging;
 
 pub use captures::merged_capture;

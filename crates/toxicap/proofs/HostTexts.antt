@@ -1,10 +1,10 @@
 -- A text that writes a host is ASCII, and so UTF-8.
-use Rattle.std.proofs.Common.{◌≡◌, ◌<◌, ◌≤◌, ℕ, ◌+◌, ◌==◌, suc, Bool, true, false, List, [], ◌∷◌, ◌++◌, length, take, drop, get_or, Option, Some, None, option_map, option_and_then, refl, sym, ap, ◌∙◌, subst, arith, if◌then◌else◌, ◌&&◌}
+use Rattle.std.proofs.Common.{◌≡◌, ◌<◌, ℕ, ◌+◌, ◌==◌, suc, Bool, true, false, List, [], ◌∷◌, length, take, drop, get_or, Option, Some, None, option_map, option_and_then, refl, sym, subst, arith, if◌then◌else◌, ◌&&◌}
 use Rattle.std.specs.Prelude.{IsAscii, IsUtf8, position, codes, decimal, is_none}
 use Rattle.std.specs.List.{list_all}
 use Rattle.std.specs.Net.Grammar.{IsDotted}
 use Rattle.std.specs.Net.Text.{dotted_text}
-use Rattle.std.proofs.lemmas.Bool.{and_parts, or_cases, eqb-true, leb-true}
+use Rattle.std.proofs.lemmas.Bool.{and_parts, eqb-true}
 use Rattle.std.proofs.lemmas.Fmt.{IsAscii-decimal}
 use Rattle.std.proofs.lemmas.List.Quantifiers.{position-Some}
 use Rattle.std.proofs.lemmas.Str.{IsAscii-append, IsUtf8-from_ascii}
@@ -13,7 +13,7 @@ use Rattle.std.proofs.Math.Seq.{split_at}
 use Rattle.scenarios.specs.declared.hosts.KnownHost.{KnownHost}
 use Rattle.scenarios.specs.Hosts.{address, is_name_byte, is_host_name, look_up, host_for}
 use Rattle.scenarios.specs.ProxyLaws.{AddressesAreDotted}
-use Rattle.toxicap.specs.Inputs.{cut_at_first, equals_sign, host_written}
+use Rattle.toxicap.specs.Inputs.{equals_sign, host_written}
 
 -- ---- names
 

@@ -1,9 +1,8 @@
 //! What a scenario answers, of what each connection contributes to it, with its segments laid out.
-ghost use Rattle.std.specs.Prelude.{◌≡◌, All, IfOk, length};
+ghost use Rattle.std.specs.Prelude.{◌≡◌, IfOk, length};
 ghost use Rattle.pcap_records.specs.CaptureView.{contents_of};
 ghost use Rattle.conn_table.specs.SeenCapture.{seen_capture};
 ghost use Rattle.segment_writer.specs.KeyLaws.{HasNoKeyTwice};
-ghost use Rattle.segment_writer.specs.WrittenSegments.{sorted_by_key};
 ghost use Rattle.time_merge.specs.MergedCapture.{all_segments};
 ghost use Rattle.conn_workers.specs.CaptureTables.{whole_table};
 ghost use Rattle.toxicap.specs.GatheredOutputs.{gathered_output, lines_in, segments_in};
@@ -60,7 +59,6 @@ pub(crate) fn written_output(
 ) -> Result<Output, AllocError>
     requires table { table.now ≡ whole_table capture.now }
     requires each { length parts.lines.items ≡ length table.now.conns }
-    requires sorted { All (λ list. sorted_by_key list ≡ list) parts.layouts.items }
     requires once { HasNoKeyTwice (all_segments parts.layouts.items) }
     ensures { IfOk result (λ output. output
         ≡ gathered_output (seen_capture (contents_of capture.now)) number table.now.unopened parts.entry.layouts.items parts.entry.lines.items) }

@@ -13,7 +13,7 @@ use job_matrix::{Plan, Through};
 use pcap_records::Capture;
 use run_files::Output;
 use scenarios::Scenario;
-use segment_writer::laws::{keys_rise, keys_stand_once, rising_is_sorted};
+use segment_writer::laws::keys_stand_once;
 use std::alloc::{AllocError, Global};
 use std::thread::Threads;
 
@@ -103,8 +103,6 @@ impl<'w, 'v, 'a> Sources<'w, 'v, 'a> {
         ensures { IfOk result (λ o. o ≡ output (seen_capture (contents_of self.now.capture.now)) self.now.seed (number, scenario.now)) }
     {
         rows_are_contributed();
-        keys_rise();
-        rising_is_sorted();
         keys_stand_once();
         let parts = parts_of_row(self.alloc, row)?;
         written_output(self.alloc, self.capture, self.table, number, parts, room)

@@ -1,4 +1,4 @@
-use Rattle.std.proofs.Common.{◌≡◌, map}
+use Rattle.std.proofs.Common.{◌≡◌, map, take}
 use Rattle.pcap_records.specs.Instants.{ticks_of}
 use Rattle.time_merge.specs.MergedCapture.{capture_in_turn}
 use Rattle.time_merge.specs.KeyedSegments.{segment_of}
@@ -6,6 +6,4 @@ use Rattle.time_merge.proofs.captures.merged_capture.Given as goal
 
 abbrev pub invariant-loop-keyed : goal.invariant-loop-keyed
 invariant-loop-keyed l =
-    (goal.iterator-loop-keyed).can_next l.keyed-iterator
-    × (goal.iterator-loop-keyed).is_finite l.keyed-iterator
-    × (l.bytes.items ≡ capture_in_turn (ticks_of l.fn.unit) (map (segment_of l.layouts) l.yielded))
+    l.bytes.items ≡ capture_in_turn (ticks_of l.fn.unit) (map (segment_of l.layouts) (take l.keyed-index l.keyed-items))

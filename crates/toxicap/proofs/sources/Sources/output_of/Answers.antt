@@ -1,19 +1,16 @@
-use Rattle.std.proofs.Common.{◌≡◌, ℕ, List, length, refl, sym, ap, ap₂, ◌∙◌, subst}
+use Rattle.std.proofs.Common.{ℕ, List, length, refl, sym, ap, ap₂, ◌∙◌, subst}
 use Rattle.std.proofs.lemmas.List.{length-map}
-use Rattle.std.proofs.lemmas.List.Elements.{All-same}
 use Rattle.std.proofs.lemmas.Result.{IfOk-weaker}
 use Rattle.pcap_records.specs.CaptureView.{contents_of}
 use Rattle.conn_table.specs.SeenCapture.{SeenCapture, seen_capture}
 use Rattle.segment_writer.specs.declared.framed.Framed.{Framed}
 use Rattle.segment_writer.specs.KeyLaws.{HasNoKeyTwice}
-use Rattle.segment_writer.specs.WrittenSegments.{sorted_by_key}
 use Rattle.time_merge.specs.MergedCapture.{all_segments}
 use Rattle.scenarios.specs.declared.proxies.Proxy.{Proxy}
 use Rattle.conn_workers.specs.declared.deliveries.Delivery.{Delivery}
-use Rattle.conn_workers.specs.DeliveryRows.{connections_of}
 use Rattle.toxicap.specs.GatheredOutputs.{segments_in, lines_in, gathered_output}
 use Rattle.toxicap.proofs.WholeTables.{unopened_is}
-use Rattle.toxicap.proofs.GatheredRows.{row_is_sorted, row_stands_once, gathered_is}
+use Rattle.toxicap.proofs.GatheredRows.{row_stands_once, gathered_is}
 use Rattle.toxicap.proofs.OutputSteps.{as_wide, whole_row}
 use Rattle.toxicap.proofs.sources.Sources.output_of.Goals as goal
 
@@ -23,15 +20,6 @@ written_output-requires-clause-each c =
     let s : ℕ × List Proxy = (c.args.number, c.args.scenario.now) in
     let wide = as_wide own.capture.now own.seed s own.recordings.now c.args.row _ (ap (λ t. length t.conns) own.table_is) own.recordings_are c.requires in
     ap length c.in_ok-parts.ensures.lines ∙ length-map c.args.row (λ (d : Delivery). d.line) ∙ sym wide
-
-pub written_output-requires-clause-sorted : goal.written_output-requires-clause-sorted
-written_output-requires-clause-sorted c =
-    let own = c.args.self.now in
-    let seen : SeenCapture = seen_capture (contents_of own.capture.now) in
-    let s : ℕ × List Proxy = (c.args.number, c.args.scenario.now) in
-    let row = whole_row c.rows_are_contributed.ensures own.capture.now own.seed s own.recordings.now c.args.row own.recordings_are c.requires in
-    All-same (λ (list : List Framed). sorted_by_key list ≡ list) _ _ (c.in_ok-parts.ensures.layouts ∙ ap segments_in row)
-    (row_is_sorted seen.ticks own.seed s c.keys_rise.ensures c.rising_is_sorted.ensures (connections_of seen))
 
 pub written_output-requires-clause-once : goal.written_output-requires-clause-once
 written_output-requires-clause-once c =

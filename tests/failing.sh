@@ -97,6 +97,8 @@ verdict "the line of a refusal cannot be written whole" "$(fault 1; told faults 
 each "a file is not written" write "MOST=512 CAUSE=$room" unstored stored "$capture" "${both[@]}" --out "$folder"
 each "a file takes nothing" write "MOST=512 CAUSE=$nothing" unstored stored "$capture" "${both[@]}" --out "$folder"
 each "a file does not take its name" rename "CAUSE=$device" unstored stored "$capture" "${both[@]}" --out "$folder"
+each "a file is not written, by workers" write "MOST=512 CAUSE=$room" unstored stored "$capture" "${both[@]}" --workers 4 --out "$folder"
+each "a file does not take its name, by workers" rename "CAUSE=$device" unstored stored "$capture" "${both[@]}" --workers 4 --out "$folder"
 run_with FAIL=rename:5 "$capture" "${both[@]}" --out "$folder"
 verdict "a folder that would fail at its fifth file" "$(stored)"
 

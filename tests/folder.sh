@@ -23,7 +23,7 @@ verdict "two files" "$(well; holds "$work/folder" 0000.pcap 0000.txt)"
 
 folder
 echo old > "$work/folder/0000.pcap"
-printf 'unfinished of a killed run, and longer than a report.%.0s' {1..100} > "$work/folder/toxicap.unfinished"
+printf 'unfinished of a killed run, and longer than a report.%.0s' {1..100} | tee "$work/folder/toxicap.unfinished" > "$work/folder/toxicap.unfinished-0"
 run "$capture" "${late[@]}" --out "$work/folder"
 verdict "what a killed run left is replaced" "$(well; folder_difference "$work/new" "$work/folder")"
 
@@ -88,7 +88,7 @@ fi
 run "$capture" --out "$work/nowhere"
 verdict "no folder" "$(refusal "refused 60 ShelfFailed after 0")"
 
-# A run of 64 scenarios is killed at many instants: each file is the old one whole, or the new one.
+# A run of 64 scenarios by one to four workers is killed at many instants: each file is the old one whole, or the new one.
 many=()
 for ((scenario = 0; scenario < 64; scenario++)); do many+=("${late[@]}"); done
 folder
@@ -101,11 +101,11 @@ bad=$(well)
 for ((instant = 1; instant <= 40; instant++)); do
     folder
     cp "$work"/old/* "$work/folder"
-    "$program" --capture "$capture" "${many[@]}" --out "$work/folder" &
+    "$program" --capture "$capture" "${many[@]}" --workers $((1 + instant % 4)) --out "$work/folder" &
     sleep "0.$(printf '%03d' "$instant")"
     kill -KILL $! 2> /dev/null || true
     wait $! 2> /dev/null || true
-    rm -f "$work/folder/toxicap.unfinished"
+    rm -f "$work"/folder/toxicap.unfinished*
     sums "$work/folder" > "$work/sums"
     [ "$(wc -l < "$work/sums")" = 128 ] || bad+="  killed after $instant ms: $(wc -l < "$work/sums") files"$'\n'
     torn=$(grep -vxFf "$work/whole" "$work/sums" || true)

@@ -4,6 +4,7 @@ mod answering;
 mod captures;
 mod commands;
 mod connections;
+mod drafts;
 mod dumps;
 mod isolation;
 mod limits;

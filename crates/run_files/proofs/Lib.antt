@@ -2,3 +2,4 @@ mod DumpTable
 mod DumpLemmas
 mod PrintedPart
 pub mod StoredFiles
+pub mod DraftedFiles

@@ -3,6 +3,7 @@
 //! writer or stored on a shelf.
 #![tactic(auto)]
 
+mod drafts;
 mod dumps;
 mod error;
 mod fault_lines;
@@ -12,6 +13,7 @@ mod paths;
 mod shelves;
 mod streams;
 
+pub use drafts::{DraftShelf, DraftedOutput, FolderDraft, MemoryDraft, store_drafts};
 pub use dumps::{is_dump, undump};
 pub use error::{RunFault, ShelfError, StoreFault};
 pub use fault_lines::fault_line;

@@ -105,7 +105,7 @@ pub fn store_from<S: Shelf>(
 }
 
 // Puts a file of an output with its number, after so many files.
-fn put_file<S: Shelf>(
+pub(crate) fn put_file<S: Shelf>(
     alloc: Global,
     number: usize,
     ending: &str,
@@ -127,7 +127,7 @@ fn put_file<S: Shelf>(
 }
 
 // The name of a file.
-fn file_name(alloc: Global, number: usize, ending: &str) -> Result<String, AllocError>
+pub(crate) fn file_name(alloc: Global, number: usize, ending: &str) -> Result<String, AllocError>
     ensures { IfOk result (λ name. string_bytes name ≡ four_digits number ++ ending.now) }
 {
     format!(in alloc; "{number:04}{ending}")

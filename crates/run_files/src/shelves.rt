@@ -54,13 +54,13 @@ impl MemoryFile {
     ghost use Rattle.std.specs.Prelude.{◌≡◌, IfOk};
     ghost use Rattle.run_files.specs.Shelves.{stored_file};
 
-    // A copy of a file.
-    fn copy_of(alloc: Global, name: &str, bytes: &[u8]) -> Result<MemoryFile, AllocError>
-        ensures { IfOk result (λ f. f ≡ stored_file name.now bytes.now) }
+    // A file of some bytes.
+    pub(crate) fn of(alloc: Global, name: &str, bytes: Vec<u8>) -> Result<MemoryFile, AllocError>
+        ensures { IfOk result (λ f. f ≡ stored_file name.now bytes.items) }
     {
         Ok(MemoryFile {
             name: String::from_str(alloc, name)?,
-            bytes: Vec::from_slice(alloc, bytes)?,
+            bytes,
         })
     }
 
@@ -83,9 +83,9 @@ impl MemoryFile {
 /// refused, and keeps nothing of that file.
 #[derive(Drop)]
 pub struct MemoryShelf {
-    alloc: Global,
-    files: Vec<MemoryFile>,
-    failed: u64,
+    pub(crate) alloc: Global,
+    pub(crate) files: Vec<MemoryFile>,
+    pub(crate) failed: u64,
 }
 
 impl Model for MemoryShelf {
@@ -137,7 +137,8 @@ impl MemoryShelf {
         ensures files { self.new.files ≡ (if is_ok result then self.old.files ++ stored_file name.now bytes.now ∷ [] else self.old.files) }
         ensures failed { self.new.failed ≡ self.old.failed }
     {
-        let file = MemoryFile::copy_of(self.alloc, name, bytes)?;
+        let copy = Vec::from_slice(self.alloc, bytes)?;
+        let file = MemoryFile::of(self.alloc, name, copy)?;
         self.files.push(file)?;
         Ok(())
     }
@@ -177,11 +178,11 @@ const UNFINISHED: &str = "toxicap.unfinished";
 /// put takes memory.
 #[derive(Drop)]
 pub struct Folder<'a, F: Files> {
-    files: &'a F,
-    folder: &'a str,
-    unfinished: String,
-    path: String,
-    failed: u64,
+    pub(crate) files: &'a F,
+    pub(crate) folder: &'a str,
+    pub(crate) unfinished: String,
+    pub(crate) path: String,
+    pub(crate) failed: u64,
 }
 
 impl<'a, F: Files> Model for Folder<'a, F> {
@@ -221,8 +222,8 @@ impl<'a, F: Files> Folder<'a, F> {
         self.failed
     }
 
-    // Makes or replaces a file.
-    fn write_file(&mut self, name: &str, bytes: &[u8]) -> Result<(), ShelfError>
+    // Makes the path that of a file of this name, which may be written.
+    pub(crate) fn set_name(&mut self, name: &str) -> Result<(), ShelfError>
         ensures { self.new ≡ self.old }
     {
         // A slash after an empty path would be the root of the file system.
@@ -231,8 +232,15 @@ impl<'a, F: Files> Folder<'a, F> {
         }
         // The path has room for it.
         set_path(&mut self.path, self.folder, name).unwrap();
+        allow_name(self.files, &self.path)
+    }
+
+    // Makes or replaces a file.
+    fn write_file(&mut self, name: &str, bytes: &[u8]) -> Result<(), ShelfError>
+        ensures { self.new ≡ self.old }
+    {
+        self.set_name(name)?;
         let (unfinished, path) = (self.unfinished.as_str(), self.path.as_str());
-        allow_name(self.files, path)?;
         let outcome = write_whole(self.files, unfinished, path, bytes);
         if outcome.is_err() {
             let _ = fs::remove_file(self.files, unfinished);

@@ -5,5 +5,5 @@ mod captures;
 mod key_order;
 mod merging;
 
-pub use captures::merged_capture;
+pub use captures::{MergedLayouts, merge_layouts, merged_capture};
 pub use merging::{Merged, merge};

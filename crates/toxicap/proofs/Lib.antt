@@ -10,6 +10,7 @@ mod Evaluated
 mod AnswerSteps
 mod PrintedSteps
 mod OutputSteps
+mod DraftSteps
 mod StoredSteps
 mod StoringEnds
 mod NamedSteps

@@ -1,7 +1,8 @@
 -- Outputs of scenarios, one of them or some from a number on.
-use Rattle.std.proofs.Common.{◌≡◌, ◌<◌, ◌≤◌, ℕ, ◌+◌, ◌-◌, List, length, map, take, drop, get_or, sym, ap, ◌∙◌, arith}
+use Rattle.std.proofs.Common.{◌≡◌, ◌<◌, ◌≤◌, ℕ, ◌+◌, ◌-◌, List, length, map, take, drop, get_or, Result, Ok, Err, refl, sym, ap, ◌∙◌, arith}
 use Rattle.std.specs.List.{enumerate_from, range_with_len}
-use Rattle.std.proofs.lemmas.List.{get_or-map, length-map, length-drop, length-append, length-take-le, take-append-drop, take_all, get_or-take, get_or-drop}
+use Rattle.std.specs.Result.{IfOk}
+use Rattle.std.proofs.lemmas.List.{get_or-map, length-map, length-drop, length-append, length-take-le, take-append-drop, get_or-take, get_or-drop}
 use Rattle.std.proofs.lemmas.List.FromFn.{length-enumerate_from, fill_by_all}
 use Rattle.pcap_records.specs.CaptureView.{CaptureView, contents_of}
 use Rattle.conn_table.specs.SeenCapture.{SeenCapture, seen_capture}
@@ -60,5 +61,10 @@ taken_are_left xs ys first are =
     omega (arith, all, both, ap length are, length-drop first xs)
 
 -- all of a list, one by one
-pub all_of : {X : Type 0} (xs : List X) (n : ℕ) (d : X) → length xs ≡ n → map (λ j. get_or xs (0 + j) d) (range_with_len 0 n) ≡ xs
-all_of xs n d many = some_from xs 0 n d (omega (arith, many)) ∙ take_all n xs (omega (arith, many))
+pub all_of : {X : Type 0} (xs : List X) (n : ℕ) (d : X) → length xs ≡ n → map (λ j. get_or xs j d) (range_with_len 0 n) ≡ xs
+all_of xs n d many = sym (fill_by_all (λ j. get_or xs j d) xs n d many (λ k below. refl))
+
+-- what holds of a value by two facts of it
+pub both_ok : {T E : Type 0} (r : Result T E) (P Q R : T → Type 0) → ((x : T) → P x → Q x → R x) → IfOk r P → IfOk r Q → IfOk r R
+both_ok (Ok x) P Q R by p q = by x p q
+both_ok (Err e) P Q R by p q = tt

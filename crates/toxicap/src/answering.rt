@@ -17,7 +17,7 @@ use crate::reports::rehearse_reports;
 use crate::storing::store_rehearsal;
 use job_matrix::{Plan, Through};
 use report::ReportText;
-use run_files::{Counted, Outputs, RunFault, Shelf, is_dump, load, undump};
+use run_files::{Counted, DraftShelf, Outputs, RunFault, is_dump, load, undump};
 use scenarios::{Hosts, Scenario, ScenarioFault, read_scenario};
 use std::alloc::{AllocError, Global};
 use std::io::Read;
@@ -107,7 +107,7 @@ pub(crate) fn reports_to_text<H: Threads + Wait + Sync>(
 /// # Errors
 /// Those of [`answers`] once the capture is read, and [`RunFault::ShelfFailed`] at the first file that the shelf does not take.
 #[tactic(auto, unfolding(crate::specs::Answering::called_for))]
-pub(crate) fn store_for_text<H: Threads + Wait + Sync, S: Shelf>(
+pub(crate) fn store_for_text<H: Threads + Wait + Sync, S: DraftShelf>(
     rt: &H,
     alloc: Global,
     text: Vec<u8>,

@@ -39,6 +39,9 @@ pub fn command<H: Files + Threads + Wait + Sync, S: AsStr, I: Read, O: Write, E:
     output: &mut Counted<O>,
     faults: &mut Counted<E>,
 ) -> u8
+where
+    H::File: Send,
+    H::Dir: Send,
     requires reads { input.old.failed < 2 ^ 64 - 1 }
     requires writes { output.old.failed < 2 ^ 64 - 1 }
     requires tells { faults.old.failed < 2 ^ 64 - 1 }
@@ -90,6 +93,9 @@ pub fn command_over<
     output: &mut Counted<O>,
     faults: &mut Counted<E>,
 ) -> u8
+where
+    H::File: Send,
+    H::Dir: Send,
     requires reads { input.old.failed < 2 ^ 64 - 1 }
     requires writes { output.old.failed < 2 ^ 64 - 1 }
     requires tells { faults.old.failed < 2 ^ 64 - 1 }

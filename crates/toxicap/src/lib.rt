@@ -28,7 +28,7 @@ pub use job_matrix::{Gate, Phase, Plan, Through, Values};
 pub use one_thread::{answers_alone, rehearse_alone, report_answers_alone, reports_alone};
 pub use rehearsal::rehearse;
 pub use run_files::{
-    Counted, FileSystem, Folder, MemoryFile, MemoryShelf, Output, Outputs, Paths, RunFault, Shelf,
-    ShelfError, StoreFault, fault_line, is_dump, load, print_reports, store_all, undump,
-    write_bytes,
+    Counted, DraftShelf, DraftedOutput, FileSystem, Folder, FolderDraft, MemoryDraft, MemoryFile,
+    MemoryShelf, Output, Outputs, Paths, RunFault, Shelf, ShelfError, StoreFault, fault_line,
+    is_dump, load, print_reports, store_all, store_drafts, undump, write_bytes,
 };

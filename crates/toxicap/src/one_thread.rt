@@ -13,13 +13,12 @@ use crate::crews::Alone;
 use crate::rehearsal::SCENARIO_LIMIT;
 use crate::reports::rehearse_reports;
 use crate::sources::Sources;
-use crate::storing::OutputJobs;
 use conn_workers::record_alone;
-use job_matrix::{Phase, Through, work_alone};
+use job_matrix::{Phase, Through, Work, work_alone};
 use pcap_records::{CAPTURE_LIMIT, Capture, read_capture};
 use range_workers::table_alone;
 use report::ReportText;
-use run_files::{Outputs, RunFault, is_dump, undump};
+use run_files::{Output, Outputs, RunFault, is_dump, undump};
 use scenarios::{Hosts, Scenario};
 use std::alloc::{AllocError, Global};
 
@@ -160,7 +159,32 @@ fn outputs_alone(
 fn outputs_from_sources(sources: &Sources<'_, '_, '_>) -> Result<Outputs, AllocError>
     ensures { IfOk result (λ v. v ≡ outputs_of (seen_capture (contents_of sources.now.capture.now)) sources.now.scenarios.now sources.now.seed) }
 {
-    let jobs = OutputJobs { sources, first: 0 };
+    let jobs = OutputJobs { sources };
     let count = sources.scenarios.len() as u64;
     work_alone(sources.alloc, count, Phase::Jobs, &Through, &jobs)
+}
+
+// Scenarios: job j makes the output of the one with number j.
+#[derive(Drop)]
+struct OutputJobs<'s, 'w, 'v, 'a> {
+    sources: &'s Sources<'w, 'v, 'a>,
+}
+
+impl<'s, 'w, 'v, 'a> Work for OutputJobs<'s, 'w, 'v, 'a> {
+    type Out = Output;
+
+    ghost use Rattle.std.specs.Prelude.{◌≡◌, ◌<◌, IfOk, get_or, length};
+    ghost use Rattle.pcap_records.specs.CaptureView.{contents_of};
+    ghost use Rattle.conn_table.specs.SeenCapture.{seen_capture};
+    ghost use Rattle.toxicap.specs.Rehearsal.{outputs_of};
+    ghost use Rattle.toxicap.specs.StoredOutputs.{no_output};
+
+    ghost jobs = { λ w. length w.sources.now.scenarios.now };
+
+    ghost meaning = { λ w job. get_or (outputs_of (seen_capture (contents_of w.sources.now.capture.now))
+        w.sources.now.scenarios.now w.sources.now.seed) job no_output };
+
+    fn value(&self, job: u64) -> Result<Output, AllocError> {
+        self.sources.output_alone(job as usize)
+    }
 }

@@ -33,6 +33,9 @@ pub(crate) fn run_asked<H: Files + Threads + Wait + Sync, P: Paths, R: Read, W: 
     reader: &mut Counted<R>,
     writer: &mut Counted<W>,
 ) -> Result<(), RunFault>
+where
+    H::File: Send,
+    H::Dir: Send,
     requires asked { IsInRange asked.now }
     requires reads { reader.old.failed < 2 ^ 64 - 1 }
     requires writes { writer.old.failed < 2 ^ 64 - 1 }
@@ -80,6 +83,9 @@ fn answer_into<H: Files + Threads + Wait + Sync, W: Write>(
     texts: &[&[u8]],
     options: &Options,
 ) -> Result<(), RunFault>
+where
+    H::File: Send,
+    H::Dir: Send,
     requires text { length text.items ≤ capture_limit }
     requires writes { writer.old.failed < 2 ^ 64 - 1 }
     ensures ends { EndsOf out.entry result (called_for options.now.hosts (map (λ t. t.now) texts.now) options.now.seed text.items)

@@ -20,12 +20,16 @@ pub const BOTH_REPORTS: &str =
 
 // The program ends with this status, and has written and told these texts, of words and a text as its standard input, which it reads
 // none of where the words are at fault.
-pub fn check(
-    rt: &(impl Abort + AllocGlobal + Files + Threads + Wait + Sync),
+pub fn check<H: Abort + AllocGlobal + Files + Threads + Wait + Sync>(
+    rt: &H,
     words: &[&str],
     text: &[u8],
     (status, written, told): (u8, &str, &str),
-) {
+)
+where
+    H::File: Send,
+    H::Dir: Send,
+{
     let mut input = Counted::new(text);
     let mut output = Counted::new(Vec::new(rt.alloc()));
     let mut faults = Counted::new(Vec::new(rt.alloc()));
@@ -94,12 +98,16 @@ const TAKEN: &str =
     "scenario 0 records 7 rest 0 segment 7 short 0 notipv4 0 badipv4 0 fragment 0 nottcp 0 cut 0 badtcp 0 sameends 0\nconnections 1 unopened 0\n0 10.0.0.1:40000 > 10.0.0.2:80 proxy 0 up 0/5/0 open max 0 down 0/0/0 fin+3000 max 0\n";
 
 // What is reported where that toxic applies at so many times in a million, under this word after the scenario's.
-fn check_seeded(
-    rt: &(impl Abort + AllocGlobal + Files + Threads + Wait + Sync),
+fn check_seeded<H: Abort + AllocGlobal + Files + Threads + Wait + Sync>(
+    rt: &H,
     ppm: u32,
     seed: &str,
     report: &str,
-) {
+)
+where
+    H::File: Send,
+    H::Dir: Send,
+{
     let text = format!(in rt.alloc();
         "[{{\"name\":\"web\",\"upstream\":\"10.0.0.2:80\",\"toxics\":[{{\"type\":\"timeout\",\"stream\":\"upstream\",\"toxicity_ppm\":{ppm}}}]}}]"
     ).expect(rt, "memory");

@@ -75,12 +75,16 @@ impl Paths for Faulty {
 }
 
 // The program over some paths ends with this status, and has written and told these texts, of words and no standard input.
-fn check_over<P: Paths>(
-    rt: &(impl Abort + AllocGlobal + Files + Threads + Wait + Sync),
+fn check_over<H: Abort + AllocGlobal + Files + Threads + Wait + Sync, P: Paths>(
+    rt: &H,
     paths: &P,
     words: &[&str],
     (status, written, told): (u8, &str, &str),
-) {
+)
+where
+    H::File: Send,
+    H::Dir: Send,
+{
     let mut input = Counted::new(b"".as_slice());
     let mut output = Counted::new(Vec::new(rt.alloc()));
     let mut faults = Counted::new(Vec::new(rt.alloc()));

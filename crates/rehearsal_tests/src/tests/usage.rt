@@ -94,12 +94,16 @@ fn sips(alloc: Global, (most, calls): (usize, u32)) -> Sips {
 
 // The program under these words, with a reader that fails, and with writers that take so many bytes a call and so many calls: its status, how
 // much it wrote, what it told, and how often that failed.
-fn check_failing(
-    rt: &(impl Abort + AllocGlobal + Files + Threads + Wait + Sync),
+fn check_failing<H: Abort + AllocGlobal + Files + Threads + Wait + Sync>(
+    rt: &H,
     words: &[&str],
     (output, faults): ((usize, u32), (usize, u32)),
     (status, written, told, failed): (u8, usize, &str, u64),
-) {
+)
+where
+    H::File: Send,
+    H::Dir: Send,
+{
     let mut input = Counted::new(Pieces {
         rest: b"d4",
         most: 1,

@@ -1,17 +1,20 @@
-use Rattle.std.proofs.Common.{◌≤◌, List, length, take, drop, sym, ap, ◌∙◌, arith}
+use Rattle.std.proofs.Common.{◌≡◌, ◌≤◌, ◌+◌, subst, ℕ, List, length, take, drop, sym, ap, ◌∙◌, arith}
 use Rattle.std.proofs.lemmas.List.{take_all}
 use Rattle.std.proofs.lemmas.Result.{err_from_is_err_and}
 use Rattle.pcap_records.specs.CaptureView.{contents_of}
 use Rattle.conn_table.specs.SeenCapture.{SeenCapture, seen_capture}
 use Rattle.run_files.specs.declared.outputs.Output.{Output}
+use Rattle.run_files.specs.Shelves.{Takes}
+use Rattle.run_files.specs.WrittenOutputs.{files_from}
 use Rattle.toxicap.specs.Rehearsal.{outputs_of}
+use Rattle.toxicap.proofs.DraftSteps.{so_many}
 use Rattle.toxicap.proofs.OutputSteps.{length-outputs_of}
 use Rattle.toxicap.proofs.StoredSteps.{taken_more, stops_among, stops_before}
 use Rattle.toxicap.proofs.storing.store_each.Goals as goal
 
--- there was no memory for the next outputs
-pub returns-in_err-outputs-clause-taken : goal.returns-in_err-outputs-clause-taken
-returns-in_err-outputs-clause-taken g c =
+-- there was no memory for the next drafts
+pub returns-in_err-drafts-clause-taken : goal.returns-in_err-drafts-clause-taken
+returns-in_err-drafts-clause-taken g c =
     let own = c.args.sources.now in
     let seen : SeenCapture = seen_capture (contents_of own.capture.now) in
     let all : List Output = outputs_of seen own.scenarios.now own.seed in
@@ -21,29 +24,35 @@ returns-in_err-outputs-clause-taken g c =
     rw (fault.1, fault.2) (stops_before all c.groups.number _ _ _ _ within loop.taken loop.none_failed)
 
 -- the shelf did not take all of them
-pub returns-in_err-store_from-clause-ends : goal.returns-in_err-store_from-clause-ends
-returns-in_err-store_from-clause-ends g c =
+pub returns-in_err-store_drafts-clause-ends : goal.returns-in_err-store_drafts-clause-ends
+returns-in_err-store_drafts-clause-ends g c =
     let own = c.args.sources.now in
     let seen : SeenCapture = seen_capture (contents_of own.capture.now) in
     let all : List Output = outputs_of seen own.scenarios.now own.seed in
     let within : c.groups.number ≤ length all = omega (arith, c.groups-test.true, length-outputs_of seen own.scenarios.now own.seed) in
-    let are = c.as_slice.ensures ∙ c.in_ok-outputs.ensures.next ∙ ap (λ (v : List Output). take (length v) (drop c.groups.number all)) (sym c.as_slice.ensures) in
+    let count : ℕ = length c.in_ok-drafts.drafts.items in
+    let some : List Output = take count (drop c.groups.number all) in
+    let many = so_many all c.groups.number count (omega (arith, c.in_ok-drafts.ensures.within, length-outputs_of seen own.scenarios.now own.seed)) in
+    let are = ap (λ k. take k (drop c.groups.number all)) (sym many) in
     let loop = c.groups.invariant in
-    let fault = err_from_is_err_and c.from_residual-in_err-store_from.result c.from_residual-in_err-store_from.ensures.1 in
+    let fault = err_from_is_err_and c.from_residual-in_err-store_drafts.result c.from_residual-in_err-store_drafts.ensures.1 in
     rw (fault.1, fault.2)
-    (stops_among all c.groups.number c.as_slice.result.now within are _ _ _ loop.taken _ _ _ _ loop.none_failed c.in_err-store_from.ensures).0
+    (stops_among all c.groups.number some within are _ _ _ loop.taken _ _ _ _ loop.none_failed (c.in_err-store_drafts.ensures some c.in_ok-drafts.ensures.next)).0
 
-pub returns-in_err-store_from-clause-taken : goal.returns-in_err-store_from-clause-taken
-returns-in_err-store_from-clause-taken g c =
+pub returns-in_err-store_drafts-clause-taken : goal.returns-in_err-store_drafts-clause-taken
+returns-in_err-store_drafts-clause-taken g c =
     let own = c.args.sources.now in
     let seen : SeenCapture = seen_capture (contents_of own.capture.now) in
     let all : List Output = outputs_of seen own.scenarios.now own.seed in
     let within : c.groups.number ≤ length all = omega (arith, c.groups-test.true, length-outputs_of seen own.scenarios.now own.seed) in
-    let are = c.as_slice.ensures ∙ c.in_ok-outputs.ensures.next ∙ ap (λ (v : List Output). take (length v) (drop c.groups.number all)) (sym c.as_slice.ensures) in
+    let count : ℕ = length c.in_ok-drafts.drafts.items in
+    let some : List Output = take count (drop c.groups.number all) in
+    let many = so_many all c.groups.number count (omega (arith, c.in_ok-drafts.ensures.within, length-outputs_of seen own.scenarios.now own.seed)) in
+    let are = ap (λ k. take k (drop c.groups.number all)) (sym many) in
     let loop = c.groups.invariant in
-    let fault = err_from_is_err_and c.from_residual-in_err-store_from.result c.from_residual-in_err-store_from.ensures.1 in
+    let fault = err_from_is_err_and c.from_residual-in_err-store_drafts.result c.from_residual-in_err-store_drafts.ensures.1 in
     rw (fault.1, fault.2)
-    (stops_among all c.groups.number c.as_slice.result.now within are _ _ _ loop.taken _ _ _ _ loop.none_failed c.in_err-store_from.ensures).1
+    (stops_among all c.groups.number some within are _ _ _ loop.taken _ _ _ _ loop.none_failed (c.in_err-store_drafts.ensures some c.in_ok-drafts.ensures.next)).1
 
 pub groups-preserved : goal.groups-preserved
 groups-preserved g c =
@@ -52,9 +61,16 @@ groups-preserved g c =
     let all : List Output = outputs_of seen own.scenarios.now own.seed in
     let within : c.groups.number ≤ length all = omega (arith, c.groups-test.true, length-outputs_of seen own.scenarios.now own.seed) in
     let loop = c.groups.invariant in
-    let stored = rw c.as_slice.ensures at c.in_ok-store_from.ensures in
-    let more = taken_more all c.groups.number c.in_ok-outputs.outputs within c.in_ok-outputs.ensures.next _ _ _ loop.taken stored.0 in
-    record { taken = rw c.as_slice-in-groups.ensures more; none_failed = stored.1 ∙ loop.none_failed }
+    let count : ℕ = length c.in_ok-drafts.drafts.items in
+    let some : List Output = take count (drop c.groups.number all) in
+    let many = so_many all c.groups.number count (omega (arith, c.in_ok-drafts.ensures.within, length-outputs_of seen own.scenarios.now own.seed)) in
+    let are = ap (λ k. take k (drop c.groups.number all)) (sym many) in
+    let stored = c.in_ok-store_drafts.ensures some c.in_ok-drafts.ensures.next in
+    let more = taken_more all c.groups.number some within are _ _ _ loop.taken stored.0 in
+    let reached : c.groups.number + length some ≡ c.groups.number + c.len-count.result = omega (arith, many, c.len-count.ensures, c.in_ok-drafts.drafts.ok) in record {
+      taken = subst (λ n. Takes (g.S.Shelf.files c.args.shelf.now) (g.S.Shelf.files c.store_drafts.new.shelf) (files_from 0 (take n all))) reached more;
+      none_failed = stored.1 ∙ loop.none_failed;
+    }
 
 pub returns-clause-taken : goal.returns-clause-taken
 returns-clause-taken g c =

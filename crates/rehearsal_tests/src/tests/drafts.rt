@@ -1,0 +1,191 @@
+//! Drafts of outputs: on a shelf in memory, on one that fails, and in a folder.
+ghost use Rattle.std.specs.Prelude.{◌≡◌, ◌≤◌};
+
+use std::alloc::{AllocError, AllocGlobal, Global};
+use std::fs;
+use std::process::Abort;
+use std::rt::Files;
+use toxicap::{
+    DraftShelf, DraftedOutput, Folder, MemoryDraft, MemoryFile, MemoryShelf, Shelf, ShelfError,
+    StoreFault, Values, store_drafts,
+};
+
+// The files of two outputs with the numbers 7 and 8, in the order in which they are stored.
+const FILES: [(&str, &[u8]); 4] = [
+    ("0007.pcap", b"first capture"),
+    ("0007.txt", b"first report\n"),
+    ("0008.pcap", b""),
+    ("0008.txt", b"\x00\xff\r\n\x80"),
+];
+
+// Drafts of both, the later one begun first, and the first one written in turns of a byte.
+fn two_drafts<S: DraftShelf>(
+    alloc: Global,
+    shelf: &S,
+) -> Result<Vec<DraftedOutput<S::Draft>>, AllocError> {
+    let later = shelf.draft(alloc, 1)?;
+    let mut earlier = shelf.draft(alloc, 0)?;
+    for place in 0..FILES[0].1.len() {
+        S::append(&mut earlier, &FILES[0].1[place..place + 1]);
+    }
+    let mut drafts = Vec::new(alloc);
+    drafts.push((earlier, Values::of(FILES[1].1.to_vec(alloc)?)))?;
+    drafts.push((later, Values::of(FILES[3].1.to_vec(alloc)?)))?;
+    Ok(drafts)
+}
+
+// Whether a shelf's files are the first ones.
+fn are_first(files: &[MemoryFile], many: usize) -> bool {
+    for (file, (name, bytes)) in files.iter().zip(&FILES) {
+        if file.name() != *name || file.bytes() != *bytes {
+            return false;
+        }
+    }
+    files.len() == many
+}
+
+/// Takes files in memory, but for the one that comes after so many calls: whoever tries again gets rid of it.
+#[derive(Drop)]
+struct FailsOnce {
+    kept: MemoryShelf,
+    calls_before: u64,
+    failed: u64,
+    ghost counted: { kept.failed ≤ failed },
+}
+
+impl FailsOnce {
+    fn new(alloc: Global, calls_before: u64) -> FailsOnce
+        ensures { result.failed ≡ 0 }
+    {
+        FailsOnce {
+            kept: MemoryShelf::new(alloc),
+            calls_before,
+            failed: 0,
+        }
+    }
+}
+
+impl Shelf for FailsOnce {
+    ghost use Rattle.std.specs.Prelude.{Some};
+
+    ghost files = { λ s. Some s.kept.files };
+
+    ghost failures = { λ s. s.failed };
+
+    fn put(&mut self, name: &str, bytes: &[u8]) -> Result<(), ShelfError> {
+        if self.calls_before == 0 {
+            self.calls_before = u64::MAX;
+            self.failed += 1;
+            return Err(ShelfError);
+        }
+        self.calls_before -= 1;
+        let kept = self.kept.put(name, bytes);
+        if kept.is_err() {
+            self.failed += 1;
+        }
+        kept
+    }
+}
+
+impl DraftShelf for FailsOnce {
+    ghost use Rattle.std.specs.Prelude.{◌≡◌, false};
+
+    type Draft = MemoryDraft;
+
+    ghost holds = { λ d bytes. d.has_failed ≡ false → d.bytes.items ≡ bytes };
+
+    fn draft(&self, alloc: Global, place: usize) -> Result<MemoryDraft, AllocError> {
+        self.kept.draft(alloc, place)
+    }
+
+    fn append(draft: &mut MemoryDraft, bytes: &[u8]) {
+        MemoryShelf::append(draft, bytes);
+    }
+
+    fn take(&mut self, name: &str, draft: MemoryDraft) -> Result<(), ShelfError> {
+        if self.calls_before == 0 {
+            self.calls_before = u64::MAX;
+            self.failed += 1;
+            return Err(ShelfError);
+        }
+        self.calls_before -= 1;
+        let kept = self.kept.take(name, draft);
+        if kept.is_err() {
+            self.failed += 1;
+        }
+        kept
+    }
+}
+
+// Two drafts to a shelf that fails at its call after so many put the first files on it, and none after the failed one.
+fn check_failing(rt: &(impl Abort + AllocGlobal), after: u64) {
+    let mut shelf = FailsOnce::new(rt.alloc(), after);
+    let drafts = two_drafts(rt.alloc(), &shelf).expect(rt, "memory");
+    let stored = store_drafts(rt.alloc(), 7, drafts, &mut shelf);
+    let refused = stored == Err(StoreFault::ShelfFailed { after: 14 + after })
+        && shelf.failed == 1
+        && shelf.calls_before == u64::MAX;
+    let all = stored == Ok(()) && shelf.failed == 0 && after == 4;
+    let good = (refused || all) && are_first(shelf.kept.files(), after as usize);
+    assert!(rt; good, "{after}");
+}
+
+// A draft that is not taken is not tried again.
+#[test]
+fn a_shelf_that_fails_once_by_drafts(rt: HostRuntime) {
+    for after in 0..5 {
+        check_failing(&rt, after);
+    }
+}
+
+// How many files a folder has.
+fn files_in(rt: &(impl Abort + AllocGlobal + Files + Clone), path: &str) -> usize {
+    fs::read_dir(rt, path).expect(rt, "a folder").count()
+}
+
+// Whether a folder has these files.
+fn has_files(rt: &(impl Abort + AllocGlobal + Files), path: &str) -> bool {
+    for (name, bytes) in FILES {
+        let file = format!(in rt.alloc(); "{path}/{name}").expect(rt, "memory");
+        let Ok(found) = fs::read(rt, file.as_str()) else {
+            return false;
+        };
+        if found.as_slice() != bytes {
+            return false;
+        }
+    }
+    true
+}
+
+// Two drafts in a folder become its files, in place of older ones; drafts that are let go leave nothing.
+#[test]
+fn a_folder_by_drafts(rt: HostRuntime) {
+    let alloc = rt.alloc();
+    fs::create_dir(&rt, "drafts").expect(&rt, "a folder");
+    fs::write(&rt, "drafts/0008.txt", "an older file").expect(&rt, "a file");
+    let mut folder = Folder::new(alloc, &rt, "drafts").expect(&rt, "memory");
+    let let_go = two_drafts(alloc, &folder).expect(&rt, "memory");
+    let begun = files_in(&rt, "drafts");
+    drop(let_go);
+    let left = files_in(&rt, "drafts");
+    assert!(rt; begun == 3 && left == 1, "{begun} {left}");
+    let drafts = two_drafts(alloc, &folder).expect(&rt, "memory");
+    let stored = store_drafts(alloc, 7, drafts, &mut folder);
+    let good = stored == Ok(()) && folder.failed() == 0;
+    let many = files_in(&rt, "drafts");
+    assert!(rt;
+        good && has_files(&rt, "drafts") && many == FILES.len(),
+        "{many}"
+    );
+    fs::remove_dir_all(&rt, "drafts").expect(&rt, "removed");
+}
+
+// Where there is no folder a draft fails, and that shows when it is taken.
+#[test]
+fn no_folder_by_drafts(rt: HostRuntime) {
+    let mut folder = Folder::new(rt.alloc(), &rt, "nowhere").expect(&rt, "memory");
+    let drafts = two_drafts(rt.alloc(), &folder).expect(&rt, "memory");
+    let stored = store_drafts(rt.alloc(), 7, drafts, &mut folder);
+    let refused = stored == Err(StoreFault::ShelfFailed { after: 14 });
+    assert!(rt; refused && folder.failed() == 1);
+}

@@ -23,7 +23,7 @@ verdict "two files" "$(well; holds "$work/folder" 0000.pcap 0000.txt)"
 
 folder
 echo old > "$work/folder/0000.pcap"
-printf 'unfinished of a killed run, and longer than a report.%.0s' {1..100} | tee "$work/folder/toxicap.unfinished" > "$work/folder/toxicap.unfinished-0"
+printf 'unfinished of a killed run, and longer than a report.%.0s' {1..100} | tee "$work/folder/toxicap.unfinished-0" > "$work/folder/toxicap.unfinished-1"
 run "$capture" "${late[@]}" --out "$work/folder"
 verdict "what a killed run left is replaced" "$(well; folder_difference "$work/new" "$work/folder")"
 

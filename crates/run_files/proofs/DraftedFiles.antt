@@ -14,7 +14,7 @@ nothing_taken None = tt
 nothing_taken (Some files) = sym (append-nil files)
 
 -- The shelf took the files of the outputs before this number, and those of the drafts that are left come next.
-pub record SoFar {Draft : Type 0} (Holds : Draft → List ℕ → Type 0) (first number : ℕ) (drafts : List (Draft × List ℕ)) (outputs : List Output)
+pub record SoFar {Draft : Type 0} (Holds : Draft → List ℕ → Type 0) (first number : ℕ) (drafts : List (Draft × Draft)) (outputs : List Output)
     (had has : Option (List StoredFile)) : Type 0 where
   pub count : ℕ
   pub place : number ≡ first + count
@@ -24,7 +24,7 @@ pub record SoFar {Draft : Type 0} (Holds : Draft → List ℕ → Type 0) (first
 
 module _ {Draft : Type 0} (Holds : Draft → List ℕ → Type 0) where
   -- the output of the first of some drafts
-  first_of : (d : Draft × List ℕ) (drafts : List (Draft × List ℕ)) (outputs : List Output) → AreDraftsOf Holds (d ∷ drafts) outputs
+  first_of : (d : Draft × Draft) (drafts : List (Draft × Draft)) (outputs : List Output) → AreDraftsOf Holds (d ∷ drafts) outputs
       → (o : Output) × (rest : List Output) × (outputs ≡ o ∷ rest) × IsDraftOf Holds o d × AreDraftsOf Holds drafts rest
   first_of d drafts [] are = absurd are
   first_of d drafts (o ∷ rest) are = (o, rest, refl, are.0, are.1)
@@ -34,10 +34,10 @@ module _ {Draft : Type 0} (Holds : Draft → List ℕ → Type 0) where
   none_of (o ∷ outputs) are = absurd are
 
   module _ (first : ℕ) (outputs : List Output) (had : Option (List StoredFile)) where
-    pub at_first : (drafts : List (Draft × List ℕ)) → AreDraftsOf Holds drafts outputs → SoFar Holds first first drafts outputs had had
+    pub at_first : (drafts : List (Draft × Draft)) → AreDraftsOf Holds drafts outputs → SoFar Holds first first drafts outputs had had
     at_first drafts are = record { count = 0; place = omega arith; left = are; taken = nothing_taken had; next = refl }
 
-    module _ (number : ℕ) (capture : Draft) (report : List ℕ) (drafts : List (Draft × List ℕ)) (a : Option (List StoredFile))
+    module _ (number : ℕ) (capture report : Draft) (drafts : List (Draft × Draft)) (a : Option (List StoredFile))
         (so_far : SoFar Holds first number ((capture, report) ∷ drafts) outputs had a) where
       own : (o : Output) × (rest : List Output) × (drop so_far.count outputs ≡ o ∷ rest) × IsDraftOf Holds o (capture, report) × AreDraftsOf Holds drafts rest
       own = first_of (capture, report) drafts (drop so_far.count outputs) so_far.left
@@ -50,12 +50,11 @@ module _ {Draft : Type 0} (Holds : Draft → List ℕ → Type 0) where
 
       -- both files of the next output were taken
       pub both_taken : (b c : Option (List StoredFile)) → ((bytes : List ℕ) → Holds capture bytes → Takes a b (stored_file (four_digits number ++ codes ".pcap") bytes ∷ []))
-          → Takes b c (stored_file (four_digits number ++ codes ".txt") report ∷ []) → SoFar Holds first (number + 1) drafts outputs had c
+          → ((bytes : List ℕ) → Holds report bytes → Takes b c (stored_file (four_digits number ++ codes ".txt") bytes ∷ [])) → SoFar Holds first (number + 1) drafts outputs had c
       both_taken b c one two =
           let held = own.3 in
-          let second : Takes b c (report_file number own.0 ∷ []) = subst (λ (r : List ℕ). Takes b c (stored_file (four_digits number ++ codes ".txt") r ∷ [])) held.1 two in
           let both = taken_two files so_far.count (capture_file number own.0) (report_file number own.0) (files_from (number + 1) own.1) had a b c comes so_far.taken
-          (one own.0.capture held.0) second in
+          (one own.0.capture held.0) (two own.0.report held.1) in
           let is : drop so_far.count outputs ≡ own.0 ∷ own.1 = own.2 in
           let split = drop_more outputs so_far.count own.0 (omega (arith, length-drop so_far.count outputs, ap length is)) in
           let others : drop (so_far.count + 1) outputs ≡ own.1 = cc in
@@ -78,7 +77,7 @@ module _ {Draft : Type 0} (Holds : Draft → List ℕ → Type 0) where
       -- the capture was, and the report was not
       pub report_stops : (b c : Option (List StoredFile)) (old between new : ℕ) (fault : StoreFault) → between ≡ old
           → ((bytes : List ℕ) → Holds capture bytes → Takes a b (stored_file (four_digits number ++ codes ".pcap") bytes ∷ []))
-          → PutsAfter (2 * number + 1) (Takes b c (stored_file (four_digits number ++ codes ".txt") report ∷ [])) (c ≡ b) between new (Err fault)
+          → ((bytes : List ℕ) → Holds report bytes → PutsAfter (2 * number + 1) (Takes b c (stored_file (four_digits number ++ codes ".txt") bytes ∷ [])) (c ≡ b) between new (Err fault))
           → StoresAfter (2 * first) files (Takes had c) old new (Err fault)
       report_stops b c old between new fault same one puts =
           let held = own.3 in
@@ -86,7 +85,7 @@ module _ {Draft : Type 0} (Holds : Draft → List ℕ → Type 0) where
           let after = (at_next files (2 * so_far.count) (capture_file number own.0) _ comes).2 in
           stops_here (2 * first) (2 * number + 1) files (2 * so_far.count + 1) (report_file number own.0) _ had b c old between new fault (omega (arith, so_far.place)) after
           capture_taken same
-          (subst (λ (r : List ℕ). PutsAfter (2 * number + 1) (Takes b c (stored_file (four_digits number ++ codes ".txt") r ∷ [])) (c ≡ b) between new (Err fault)) held.1 puts)
+          (puts own.0.report held.1)
 
     -- no draft is left
     pub all_drafts_taken : (number : ℕ) (a : Option (List StoredFile)) → SoFar Holds first number [] outputs had a → Takes had a (files_from first outputs)

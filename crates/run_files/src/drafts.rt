@@ -6,9 +6,8 @@ ghost use Rattle.run_files.specs.Shelves.{stored_file, Takes};
 ghost use Rattle.run_files.specs.WrittenOutputs.{files_from, four_digits, PutsAfter, StoresAfter};
 
 use crate::error::{ShelfError, StoreFault};
-use crate::outputs::{file_name, put_file};
+use crate::outputs::file_name;
 use crate::shelves::{Folder, MemoryFile, MemoryShelf, Shelf};
-use pcap_records::Values;
 use std::alloc::{AllocError, Global};
 use std::fs;
 use std::io::Write;
@@ -209,11 +208,11 @@ impl<'a, F: Files> Folder<'a, F> {
     }
 }
 
-/// What one scenario answers, of which the capture is a draft: the draft, and the report.
-pub type DraftedOutput<D> = (D, Values<u8>);
+/// What one scenario answers, as drafts: that of its capture, and that of its report.
+pub type DraftedOutput<D> = (D, D);
 
-/// Takes drafts of outputs, and puts their reports, on a shelf: the files that [`store_from`](crate::store_from) puts of these outputs,
-/// of which the first has this number.
+/// Has a shelf take the drafts of outputs: they become the files that [`store_from`](crate::store_from) puts of these outputs, of which
+/// the first has this number.
 ///
 /// # Errors
 /// The first file that cannot be stored ends it; none is tried again. The shelf then has the files before that one and no other;
@@ -234,7 +233,7 @@ pub fn store_drafts<S: DraftShelf>(
     for (capture, report) in drafts {
         let after = 2 * number as u64;
         take_file(alloc, number, ".pcap", capture, shelf, after)?;
-        put_file(alloc, number, ".txt", report.as_slice(), shelf, after + 1)?;
+        take_file(alloc, number, ".txt", report, shelf, after + 1)?;
         number += 1;
     }
     Ok(())

@@ -105,7 +105,7 @@ pub fn store_from<S: Shelf>(
 }
 
 // Puts a file of an output with its number, after so many files.
-pub(crate) fn put_file<S: Shelf>(
+fn put_file<S: Shelf>(
     alloc: Global,
     number: usize,
     ending: &str,

@@ -10,20 +10,20 @@ use Rattle.run_files.specs.DraftedOutputs.{AreDraftsOf, IsDraftOf}
 use Rattle.toxicap.specs.StoredOutputs.{no_output}
 
 module _ {Draft : Type 0} (Holds : Draft → List ℕ → Type 0) where
-  both_drafts : (ds es : List (Draft × List ℕ)) (os ps : List Output) → AreDraftsOf Holds ds os → AreDraftsOf Holds es ps → AreDraftsOf Holds (ds ++ es) (os ++ ps)
+  both_drafts : (ds es : List (Draft × Draft)) (os ps : List Output) → AreDraftsOf Holds ds os → AreDraftsOf Holds es ps → AreDraftsOf Holds (ds ++ es) (os ++ ps)
   both_drafts [] es [] ps are then = then
   both_drafts [] es (o ∷ os) ps are then = absurd are
   both_drafts (d ∷ ds) es [] ps are then = absurd are
   both_drafts (d ∷ ds) es (o ∷ os) ps are then = (are.0, both_drafts ds es os ps are.1 then)
 
-  as_many : (ds : List (Draft × List ℕ)) (os : List Output) → AreDraftsOf Holds ds os → length ds ≡ length os
+  as_many : (ds : List (Draft × Draft)) (os : List Output) → AreDraftsOf Holds ds os → length ds ≡ length os
   as_many [] [] are = refl
   as_many [] (o ∷ os) are = absurd are
   as_many (d ∷ ds) [] are = absurd are
   as_many (d ∷ ds) (o ∷ os) are = omega (arith, as_many ds os are.1)
 
   -- one draft more
-  pub one_more : (drafts more : List (Draft × List ℕ)) (d : Draft × List ℕ) (all : List Output) (number k : ℕ) → number + k < length all
+  pub one_more : (drafts more : List (Draft × Draft)) (d : Draft × Draft) (all : List Output) (number k : ℕ) → number + k < length all
       → AreDraftsOf Holds drafts (take k (drop number all)) → IsDraftOf Holds (get_or all (number + k) no_output) d → more ≡ drafts ++ d ∷ []
       → AreDraftsOf Holds more (take (k + 1) (drop number all))
   one_more drafts more d all number k within are is then =
@@ -31,13 +31,13 @@ module _ {Draft : Type 0} (Holds : Draft → List ℕ → Type 0) where
       drop-drop k number all ∙ drop_more all (number + k) no_output within in
       let longer : take (k + 1) (drop number all) ≡ take k (drop number all) ++ get_or all (number + k) no_output ∷ [] =
       take-add k 1 (drop number all) ∙ ap (λ (os : List Output). take k (drop number all) ++ take 1 os) next in
-      subst (λ (ds : List (Draft × List ℕ)). AreDraftsOf Holds ds (take (k + 1) (drop number all))) (sym then)
+      subst (λ (ds : List (Draft × Draft)). AreDraftsOf Holds ds (take (k + 1) (drop number all))) (sym then)
       (subst (λ (os : List Output). AreDraftsOf Holds (drafts ++ d ∷ []) os) (sym longer)
       (both_drafts drafts (d ∷ []) (take k (drop number all)) (get_or all (number + k) no_output ∷ []) are (is, tt)))
 
   -- shares in turn
-  shares : {E : Type 0} (share : ℕ) (parts : List (Vec (Draft × List ℕ) Global)) (os : List Output)
-      → ((i : ℕ) (d : Result (Vec (Draft × List ℕ) Global) E) → i < length parts → IfOk (get_or (map Ok parts) i d) (λ v. AreDraftsOf Holds v.items (take share (drop (i * share) os))))
+  shares : {E : Type 0} (share : ℕ) (parts : List (Vec (Draft × Draft) Global)) (os : List Output)
+      → ((i : ℕ) (d : Result (Vec (Draft × Draft) Global) E) → i < length parts → IfOk (get_or (map Ok parts) i d) (λ v. AreDraftsOf Holds v.items (take share (drop (i * share) os))))
       → AreDraftsOf Holds (flat_map (λ v. v.items) parts) (take (length parts * share) os)
   shares share [] os each = subst (λ k. AreDraftsOf Holds [] (take k os)) (sym (zero-mul share)) tt
   shares {E = E} share (p ∷ parts) os each =
@@ -51,36 +51,36 @@ module _ {Draft : Type 0} (Holds : Draft → List ℕ → Type 0) where
       subst (λ (ps : List Output). AreDraftsOf Holds (p.items ++ flat_map (λ v. v.items) parts) ps) (sym whole)
       (both_drafts p.items (flat_map (λ v. v.items) parts) (take share os) (take (length parts * share) (drop share os)) first others)
 
-  all_shares : {E : Type 0} (share number : ℕ) (all : List Output) (parts : List (Vec (Draft × List ℕ) Global)) (made : List (Result (Vec (Draft × List ℕ) Global) E)) → map Ok parts ≡ made
-      → ((i : ℕ) (d : Result (Vec (Draft × List ℕ) Global) E) → i < length parts → IfOk (get_or made i d) (λ v. AreDraftsOf Holds v.items (take share (drop (number + i * share) all))))
+  all_shares : {E : Type 0} (share number : ℕ) (all : List Output) (parts : List (Vec (Draft × Draft) Global)) (made : List (Result (Vec (Draft × Draft) Global) E)) → map Ok parts ≡ made
+      → ((i : ℕ) (d : Result (Vec (Draft × Draft) Global) E) → i < length parts → IfOk (get_or made i d) (λ v. AreDraftsOf Holds v.items (take share (drop (number + i * share) all))))
       → AreDraftsOf Holds (flat_map (λ v. v.items) parts) (take (length parts * share) (drop number all))
   all_shares {E = E} share number all parts made are each =
       shares {E = E} share parts (drop number all)
       (λ i d below. subst (λ (ps : List Output). IfOk (get_or (map Ok parts) i d) (λ v. AreDraftsOf Holds v.items (take share ps))) (sym (drop-drop (i * share) number all))
-      (subst (λ (ms : List (Result (Vec (Draft × List ℕ) Global) E)). IfOk (get_or ms i d) (λ v. AreDraftsOf Holds v.items (take share (drop (number + i * share) all)))) (sym are) (each i d below)))
+      (subst (λ (ms : List (Result (Vec (Draft × Draft) Global) E)). IfOk (get_or ms i d) (λ v. AreDraftsOf Holds v.items (take share (drop (number + i * share) all)))) (sym are) (each i d below)))
 
   -- what is made of shares, one after another
-  pub from_shares : {E : Type 0} (share number : ℕ) (all : List Output) (drafts : List (Draft × List ℕ)) (parts : List (Vec (Draft × List ℕ) Global)) (made : List (Result (Vec (Draft × List ℕ) Global) E))
+  pub from_shares : {E : Type 0} (share number : ℕ) (all : List Output) (drafts : List (Draft × Draft)) (parts : List (Vec (Draft × Draft) Global)) (made : List (Result (Vec (Draft × Draft) Global) E))
       → map Ok parts ≡ made → drafts ≡ flat_map (λ v. v.items) parts
-      → ((i : ℕ) (d : Result (Vec (Draft × List ℕ) Global) E) → i < length made → IfOk (get_or made i d) (λ v. AreDraftsOf Holds v.items (take share (drop (number + i * share) all))))
+      → ((i : ℕ) (d : Result (Vec (Draft × Draft) Global) E) → i < length made → IfOk (get_or made i d) (λ v. AreDraftsOf Holds v.items (take share (drop (number + i * share) all))))
       → AreDraftsOf Holds drafts (take (length made * share) (drop number all))
   from_shares {E = E} share number all drafts parts made are is each =
       let many : length parts ≡ length made = sym (length-map parts Ok) ∙ ap length are in
       subst (λ k. AreDraftsOf Holds drafts (take (k * share) (drop number all))) many
-      (subst (λ (ds : List (Draft × List ℕ)). AreDraftsOf Holds ds (take (length parts * share) (drop number all))) (sym is)
+      (subst (λ (ds : List (Draft × Draft)). AreDraftsOf Holds ds (take (length parts * share) (drop number all))) (sym is)
       (all_shares {E = E} share number all parts made are (λ i d below. each i d (omega (arith, below, many)))))
 
-  pub how_many : (drafts : List (Draft × List ℕ)) (n number : ℕ) (all : List Output) → AreDraftsOf Holds drafts (take n (drop number all)) → length drafts ≡ min n (length all - number)
+  pub how_many : (drafts : List (Draft × Draft)) (n number : ℕ) (all : List Output) → AreDraftsOf Holds drafts (take n (drop number all)) → length drafts ≡ min n (length all - number)
   how_many drafts n number all are = as_many drafts (take n (drop number all)) are ∙ length-take n (drop number all) ∙ ap (min n) (length-drop number all)
 
-  pub one_draft : (all : List Output) (number : ℕ) (drafts : List (Draft × List ℕ)) (d : Draft × List ℕ) → number < length all → drafts ≡ d ∷ [] → IsDraftOf Holds (get_or all number no_output) d
+  pub one_draft : (all : List Output) (number : ℕ) (drafts : List (Draft × Draft)) (d : Draft × Draft) → number < length all → drafts ≡ d ∷ [] → IsDraftOf Holds (get_or all number no_output) d
       → AreDraftsOf Holds drafts (take (length drafts) (drop number all))
   one_draft all number drafts d within is holds =
-      subst (λ (ds : List (Draft × List ℕ)). AreDraftsOf Holds ds (take (length ds) (drop number all))) (sym is)
+      subst (λ (ds : List (Draft × Draft)). AreDraftsOf Holds ds (take (length ds) (drop number all))) (sym is)
       (subst (λ (os : List Output). AreDraftsOf Holds (d ∷ []) (take 1 os)) (sym (drop_more all number no_output within)) (holds, tt))
 
   -- so many of some outputs, by how many they are
-  pub by_length : (drafts : List (Draft × List ℕ)) (n : ℕ) (os : List Output) → AreDraftsOf Holds drafts (take n os) → AreDraftsOf Holds drafts (take (length drafts) os)
+  pub by_length : (drafts : List (Draft × Draft)) (n : ℕ) (os : List Output) → AreDraftsOf Holds drafts (take n os) → AreDraftsOf Holds drafts (take (length drafts) os)
   by_length drafts n os are = subst (λ (ps : List Output). AreDraftsOf Holds drafts ps) (sym (ap (λ k. take k os) (as_many drafts (take n os) are) ∙ taken n os)) are
     where
       taken : (n : ℕ) (os : List Output) → take (length (take n os)) os ≡ take n os

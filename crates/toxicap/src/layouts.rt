@@ -1,5 +1,5 @@
-//! What a scenario answers, of what each connection contributes to it, with its segments laid out.
-ghost use Rattle.std.specs.Prelude.{◌≡◌, ℕ, List, [], ◌++◌, IfOk, length};
+//! What a scenario answers, of what each connection contributes to it, with its segments laid out: in memory, or as drafts.
+ghost use Rattle.std.specs.Prelude.{◌≡◌, ◌≤◌, ◌^◌, ℕ, List, [], ◌++◌, IfOk, length};
 ghost use Rattle.pcap_records.specs.CaptureView.{contents_of};
 ghost use Rattle.pcap_records.specs.Instants.{ticks_of};
 ghost use Rattle.conn_table.specs.SeenCapture.{seen_capture};
@@ -74,7 +74,7 @@ pub(crate) fn written_output(
     })
 }
 
-// The same with its capture as a draft of a shelf, in a place of its own there.
+// The same as drafts of a shelf: the capture in the place that is twice this one, and the report in the next.
 //
 // # Errors
 // A growth was refused.
@@ -90,15 +90,18 @@ pub(crate) fn drafted_output<S: DraftShelf>(
     requires table { table.now ≡ whole_table capture.now }
     requires each { length parts.lines.items ≡ length table.now.conns }
     requires once { HasNoKeyTwice (all_segments parts.layouts.items) }
+    requires place { place ≤ 2 ^ 32 }
     ensures { IfOk result (IsDraftOf S.holds
         (gathered_output (seen_capture (contents_of capture.now)) number table.now.unopened parts.entry.layouts.items parts.entry.lines.items)) }
 {
     let RowParts { layouts, lines } = parts;
-    let draft = shelf.draft(alloc, place)?;
+    let draft = shelf.draft(alloc, 2 * place)?;
     let draft = written_draft::<S>(alloc, &layouts, capture.unit(), draft)?;
     drop(layouts);
-    let report = gathered_report(alloc, capture, table, number, &lines)?;
-    Ok((draft, Values::of(report.into_vec())))
+    let text = gathered_report(alloc, capture, table, number, &lines)?.into_vec();
+    let mut report = shelf.draft(alloc, 2 * place + 1)?;
+    S::append(&mut report, &text);
+    Ok((draft, report))
 }
 
 // A draft without bytes, once the capture of the segments of all layouts is written to it.

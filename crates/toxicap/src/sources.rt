@@ -1,4 +1,4 @@
-//! What the outputs of all scenarios are made of, and one output made of it: by this thread, or by workers.
+//! What the outputs of all scenarios are made of, and one output made of it, in memory or as drafts: by this thread, or by workers.
 ghost use Rattle.std.specs.Prelude.{◌≡◌, ◌≤◌, length};
 ghost use Rattle.job_matrix.specs.Boards.{number_limit};
 ghost use Rattle.conn_workers.specs.CaptureTables.{whole_table};
@@ -90,7 +90,7 @@ impl<'w, 'v, 'a> Sources<'w, 'v, 'a> {
         Ok(drafts)
     }
 
-    // A draft of the output of the scenario of a number, in a place of its own on the shelf, made by this thread alone.
+    // Drafts of the output of the scenario of a number, in a place of their own on the shelf, made by this thread alone.
     //
     // # Errors
     // A growth was refused.
@@ -100,7 +100,8 @@ impl<'w, 'v, 'a> Sources<'w, 'v, 'a> {
         shelf: &S,
         place: usize,
     ) -> Result<DraftedOutput<S::Draft>, AllocError>
-        requires { number < length self.now.scenarios.now }
+        requires within { number < length self.now.scenarios.now }
+        requires place { place ≤ 2 ^ 32 }
         ensures { IfOk result (IsDraftOf S.holds
             (get_or (outputs_of (seen_capture (contents_of self.now.capture.now)) self.now.scenarios.now self.now.seed) number no_output)) }
     {
@@ -108,7 +109,7 @@ impl<'w, 'v, 'a> Sources<'w, 'v, 'a> {
         self.draft_of(number, parts, shelf, place)
     }
 
-    // A draft of the output of the scenario of a number, in the first place of the shelf, with the connections spread over workers.
+    // Drafts of the output of the scenario of a number, in the first place of the shelf, with the connections spread over workers.
     //
     // # Errors
     // A growth was refused.
@@ -137,7 +138,7 @@ impl<'w, 'v, 'a> Sources<'w, 'v, 'a> {
         self.draft_of(number, parts, shelf, 0)
     }
 
-    // A draft of the output of the scenario of a number, of its parts.
+    // Drafts of the output of the scenario of a number, of its parts.
     fn draft_of<S: DraftShelf>(
         &self,
         number: usize,
@@ -146,6 +147,7 @@ impl<'w, 'v, 'a> Sources<'w, 'v, 'a> {
         place: usize,
     ) -> Result<DraftedOutput<S::Draft>, AllocError>
         requires within { number < length self.now.scenarios.now }
+        requires place { place ≤ 2 ^ 32 }
         requires each { length parts.lines.items ≡ length self.now.table.now.conns }
         requires once { HasNoKeyTwice (all_segments parts.layouts.items) }
         requires output { gathered_output (seen_capture (contents_of self.now.capture.now)) number self.now.table.now.unopened

@@ -1,5 +1,5 @@
 //! Drafts of outputs: on a shelf in memory, on one that fails, and in a folder.
-ghost use Rattle.std.specs.Prelude.{◌≡◌, ◌≤◌};
+ghost use Rattle.std.specs.Prelude.{◌≡◌, ◌<◌, ◌≤◌, IfOk, length};
 
 use std::alloc::{AllocError, AllocGlobal, Global};
 use std::fs;
@@ -7,7 +7,7 @@ use std::process::Abort;
 use std::rt::Files;
 use toxicap::{
     DraftShelf, DraftedOutput, Folder, MemoryDraft, MemoryFile, MemoryShelf, Shelf, ShelfError,
-    StoreFault, Values, store_drafts,
+    StoreFault, store_drafts,
 };
 
 // The files of two outputs with the numbers 7 and 8, in the order in which they are stored.
@@ -18,19 +18,34 @@ const FILES: [(&str, &[u8]); 4] = [
     ("0008.txt", b"\x00\xff\r\n\x80"),
 ];
 
-// Drafts of both, the later one begun first, and the first one written in turns of a byte.
+// A draft with these bytes.
+fn draft_with<S: DraftShelf>(
+    alloc: Global,
+    shelf: &S,
+    place: usize,
+    bytes: &[u8],
+) -> Result<S::Draft, AllocError> {
+    let mut draft = shelf.draft(alloc, place)?;
+    S::append(&mut draft, bytes);
+    Ok(draft)
+}
+
+// Drafts of both, the later one begun first, and the first file written in turns of a byte.
 fn two_drafts<S: DraftShelf>(
     alloc: Global,
     shelf: &S,
-) -> Result<Vec<DraftedOutput<S::Draft>>, AllocError> {
-    let later = shelf.draft(alloc, 1)?;
-    let mut earlier = shelf.draft(alloc, 0)?;
+) -> Result<Vec<DraftedOutput<S::Draft>>, AllocError>
+    ensures { IfOk result (λ drafts. length drafts.items ≡ 2) }
+{
+    let later = (shelf.draft(alloc, 2)?, draft_with(alloc, shelf, 3, FILES[3].1)?);
+    let mut capture = shelf.draft(alloc, 0)?;
     for place in 0..FILES[0].1.len() {
-        S::append(&mut earlier, &FILES[0].1[place..place + 1]);
+        S::append(&mut capture, &FILES[0].1[place..place + 1]);
     }
+    let earlier = (capture, draft_with(alloc, shelf, 1, FILES[1].1)?);
     let mut drafts = Vec::new(alloc);
-    drafts.push((earlier, Values::of(FILES[1].1.to_vec(alloc)?)))?;
-    drafts.push((later, Values::of(FILES[3].1.to_vec(alloc)?)))?;
+    drafts.push(earlier)?;
+    drafts.push(later)?;
     Ok(drafts)
 }
 
@@ -118,7 +133,9 @@ impl DraftShelf for FailsOnce {
 }
 
 // Two drafts to a shelf that fails at its call after so many put the first files on it, and none after the failed one.
-fn check_failing(rt: &(impl Abort + AllocGlobal), after: u64) {
+fn check_failing(rt: &(impl Abort + AllocGlobal), after: u64)
+    requires { after < 5 }
+{
     let mut shelf = FailsOnce::new(rt.alloc(), after);
     let drafts = two_drafts(rt.alloc(), &shelf).expect(rt, "memory");
     let stored = store_drafts(rt.alloc(), 7, drafts, &mut shelf);
@@ -168,7 +185,7 @@ fn a_folder_by_drafts(rt: HostRuntime) {
     let begun = files_in(&rt, "drafts");
     drop(let_go);
     let left = files_in(&rt, "drafts");
-    assert!(rt; begun == 3 && left == 1, "{begun} {left}");
+    assert!(rt; begun == 5 && left == 1, "{begun} {left}");
     let drafts = two_drafts(alloc, &folder).expect(&rt, "memory");
     let stored = store_drafts(alloc, 7, drafts, &mut folder);
     let good = stored == Ok(()) && folder.failed() == 0;

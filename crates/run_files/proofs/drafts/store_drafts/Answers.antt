@@ -14,30 +14,27 @@ loop-capture-init g c = record {
   none_failed = refl;
 }
 
-pub put_file-requires : goal.put_file-requires
-put_file-requires g c = omega (arith, c.in_ok-take_file.ensures.none_failed, c.loop-capture.invariant.none_failed, c.requires.failures)
-
 -- the capture was taken, and the report was not
-pub returns-in_err-put_file : goal.returns-in_err-put_file
-returns-in_err-put_file g c = λ outputs are.
+pub returns-in_err-take_file-2 : goal.returns-in_err-take_file-2
+returns-in_err-take_file-2 g c = λ outputs are.
     let loop = c.loop-capture.invariant in
-    let fault = err_from_is_err_and c.from_residual-in_err-put_file.result c.from_residual-in_err-put_file.ensures.1 in
+    let fault = err_from_is_err_and c.from_residual-in_err-take_file-2.result c.from_residual-in_err-take_file-2.ensures.1 in
     let so_far = rw c.in-Some.ensures.steps.0 at loop.so_far outputs are in
     rw (fault.1, fault.2)
     (report_stops g.S.DraftShelf.holds c.args.first outputs _ c.loop-capture.number _ _ _ _ so_far _ _ _ _ _ _ (c.in_ok-take_file.ensures.none_failed ∙ loop.none_failed)
-    (λ bytes held. (c.in_ok-take_file.ensures.puts bytes held).0) c.in_err-put_file.ensures)
+    (λ bytes held. (c.in_ok-take_file.ensures.puts bytes held).0) c.in_err-take_file-2.ensures.puts)
 
 pub loop-capture-preserved : goal.loop-capture-preserved
 loop-capture-preserved g c =
     let loop = c.loop-capture.invariant in
-    let two = rw c.as_slice.ensures at c.in_ok-put_file.ensures in record {
+    record {
       can_next = tt;
       is_finite = tt;
       counted = omega (arith, ap length c.in-Some.ensures.steps.0, loop.counted);
       so_far = λ outputs are.
           let so_far = rw c.in-Some.ensures.steps.0 at loop.so_far outputs are in
-          both_taken g.S.DraftShelf.holds c.args.first outputs _ c.loop-capture.number _ _ _ _ so_far _ _ (λ bytes held. (c.in_ok-take_file.ensures.puts bytes held).0) two.0;
-      none_failed = two.1 ∙ (c.in_ok-take_file.ensures.none_failed ∙ loop.none_failed);
+          both_taken g.S.DraftShelf.holds c.args.first outputs _ c.loop-capture.number _ _ _ _ so_far _ _ (λ bytes held. (c.in_ok-take_file.ensures.puts bytes held).0) (λ bytes held. (c.in_ok-take_file-2.ensures.puts bytes held).0);
+      none_failed = c.in_ok-take_file-2.ensures.none_failed ∙ (c.in_ok-take_file.ensures.none_failed ∙ loop.none_failed);
     }
 
 pub returns : goal.returns

@@ -1,5 +1,5 @@
 -- How files of drafted outputs come to stand on a shelf, two for each output.
-use Rattle.std.proofs.Common.{◌≡◌, ℕ, ◌+◌, ◌*◌, List, [], ◌∷◌, ◌++◌, length, take, drop, codes, Option, Some, None, Err, refl, sym, ap, subst, ◌∙◌, arith, append-nil, length-drop}
+use Rattle.std.proofs.Common.{◌≡◌, ℕ, ◌+◌, ◌*◌, List, [], ◌∷◌, ◌++◌, length, take, drop, codes, Option, Some, None, Err, refl, sym, ap, ◌∙◌, arith, append-nil, length-drop}
 use Rattle.std.proofs.lemmas.List.{drop_more}
 use Rattle.run_files.specs.declared.error.StoreFault.{StoreFault}
 use Rattle.run_files.specs.declared.outputs.Output.{Output}

@@ -37,7 +37,10 @@ fn two_drafts<S: DraftShelf>(
 ) -> Result<Vec<DraftedOutput<S::Draft>>, AllocError>
     ensures { IfOk result (λ drafts. length drafts.items ≡ 2) }
 {
-    let later = (shelf.draft(alloc, 2)?, draft_with(alloc, shelf, 3, FILES[3].1)?);
+    let later = (
+        shelf.draft(alloc, 2)?,
+        draft_with(alloc, shelf, 3, FILES[3].1)?,
+    );
     let mut capture = shelf.draft(alloc, 0)?;
     for place in 0..FILES[0].1.len() {
         S::append(&mut capture, &FILES[0].1[place..place + 1]);

@@ -1,13 +1,14 @@
 //! Drafts of outputs: on a shelf in memory, on one that fails, and in a folder.
-ghost use Rattle.std.specs.Prelude.{◌≡◌, ◌<◌, ◌≤◌, IfOk, length};
+ghost use Rattle.std.specs.Prelude.{◌≡◌, ◌<◌, IfOk, length};
 
+use super::shelves::{FailsOnce, are_files};
 use std::alloc::{AllocError, AllocGlobal, Global};
 use std::fs;
 use std::process::Abort;
 use std::rt::Files;
 use toxicap::{
-    DraftShelf, DraftedOutput, Folder, MemoryDraft, MemoryFile, MemoryShelf, Shelf, ShelfError,
-    StoreFault, store_drafts,
+    DraftShelf, DraftedOutput, Folder, MemoryDraft, MemoryShelf, ShelfError, StoreFault,
+    store_drafts,
 };
 
 // The files of two outputs with the numbers 7 and 8, in the order in which they are stored.
@@ -52,59 +53,6 @@ fn two_drafts<S: DraftShelf>(
     Ok(drafts)
 }
 
-// Whether a shelf's files are the first ones.
-fn are_first(files: &[MemoryFile], many: usize) -> bool {
-    for (file, (name, bytes)) in files.iter().zip(&FILES) {
-        if file.name() != *name || file.bytes() != *bytes {
-            return false;
-        }
-    }
-    files.len() == many
-}
-
-/// Takes files in memory, but for the one that comes after so many calls: whoever tries again gets rid of it.
-#[derive(Drop)]
-struct FailsOnce {
-    kept: MemoryShelf,
-    calls_before: u64,
-    failed: u64,
-    ghost counted: { kept.failed ≤ failed },
-}
-
-impl FailsOnce {
-    fn new(alloc: Global, calls_before: u64) -> FailsOnce
-        ensures { result.failed ≡ 0 }
-    {
-        FailsOnce {
-            kept: MemoryShelf::new(alloc),
-            calls_before,
-            failed: 0,
-        }
-    }
-}
-
-impl Shelf for FailsOnce {
-    ghost use Rattle.std.specs.Prelude.{Some};
-
-    ghost files = { λ s. Some s.kept.files };
-
-    ghost failures = { λ s. s.failed };
-
-    fn put(&mut self, name: &str, bytes: &[u8]) -> Result<(), ShelfError> {
-        if self.calls_before == 0 {
-            self.calls_before = u64::MAX;
-            self.failed += 1;
-            return Err(ShelfError);
-        }
-        self.calls_before -= 1;
-        let kept = self.kept.put(name, bytes);
-        if kept.is_err() {
-            self.failed += 1;
-        }
-        kept
-    }
-}
-
 impl DraftShelf for FailsOnce {
     ghost use Rattle.std.specs.Prelude.{◌≡◌, false};
 
@@ -146,7 +94,7 @@ fn check_failing(rt: &(impl Abort + AllocGlobal), after: u64)
         && shelf.failed == 1
         && shelf.calls_before == u64::MAX;
     let all = stored == Ok(()) && shelf.failed == 0 && after == 4;
-    let good = (refused || all) && are_first(shelf.kept.files(), after as usize);
+    let good = (refused || all) && are_files(shelf.kept.files(), &FILES[..after as usize]);
     assert!(rt; good, "{after}");
 }
 

@@ -31,7 +31,7 @@ fn two_outputs(alloc: Global) -> Result<Outputs, AllocError> {
 }
 
 // Whether a shelf's files have these names and bytes.
-fn are_files(files: &[MemoryFile], wanted: &[(&str, &[u8])]) -> bool {
+pub(super) fn are_files(files: &[MemoryFile], wanted: &[(&str, &[u8])]) -> bool {
     for (file, (name, bytes)) in files.iter().zip(wanted) {
         if file.name() != *name || file.bytes() != *bytes {
             return false;
@@ -42,15 +42,15 @@ fn are_files(files: &[MemoryFile], wanted: &[(&str, &[u8])]) -> bool {
 
 /// Keeps files in memory, but for the one that comes after so many calls: whoever tries again gets rid of it.
 #[derive(Drop)]
-struct FailsOnce {
-    kept: MemoryShelf,
-    calls_before: u64,
-    failed: u64,
+pub(super) struct FailsOnce {
+    pub(super) kept: MemoryShelf,
+    pub(super) calls_before: u64,
+    pub(super) failed: u64,
     ghost counted: { kept.failed ≤ failed },
 }
 
 impl FailsOnce {
-    fn new(alloc: Global, calls_before: u64) -> FailsOnce
+    pub(super) fn new(alloc: Global, calls_before: u64) -> FailsOnce
         ensures { result.failed ≡ 0 }
     {
         FailsOnce {

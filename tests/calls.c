@@ -104,6 +104,11 @@ ssize_t read(int fd, void *bytes, size_t len)
     return fails(READ) ? told(cause) : syscall(SYS_read, fd, bytes, len < (size_t)most ? len : (size_t)most);
 }
 
+ssize_t pread(int fd, void *bytes, size_t len, off_t offset)
+{
+    return fails(READ) ? told(cause) : syscall(SYS_pread64, fd, bytes, len < (size_t)most ? len : (size_t)most, offset);
+}
+
 ssize_t write(int fd, const void *bytes, size_t len)
 {
     if (fails(WRITE))

@@ -87,6 +87,21 @@ done
 # reads and writes of standard streams
 each "a read is interrupted, 16 bytes a call" read "MOST=16 CAUSE=$interrupted" unread whole "$capture" "${both[@]}"
 each "a read fails" read "CAUSE=$device" unread whole /dev/null --capture "$work/dump" "${both[@]}"
+
+# a capture of two blocks, which two threads load: a read of a block fails, and each moves less than it is asked for
+perl tests/capture.pl 7000 > "$work/blocks.pcap"
+run "$work/blocks.pcap" "${both[@]}"
+cp "$work/output" "$work/wanted-of-blocks"
+whole_blocks() {
+    well
+    difference "$work/wanted-of-blocks" "$work/output"
+}
+each "a read of a block fails" read "CAUSE=$device" unread whole_blocks /dev/null --capture "$work/blocks.pcap" "${both[@]}" --workers 2
+run_with MOST=100003 /dev/null --capture "$work/blocks.pcap" "${both[@]}" --workers 2
+verdict "100,003 bytes a read of blocks" "$(whole_blocks)"
+run_with FAIL=thread:1+ /dev/null --capture "$work/blocks.pcap" "${both[@]}" --workers 2
+verdict "no thread can be made to load a block" "$(whole_blocks)"
+
 most=16
 each "a write is interrupted" write "MOST=$most CAUSE=$interrupted" unwritten whole "$capture" "${both[@]}"
 each "a write takes nothing" write "MOST=$most CAUSE=$nothing" unwritten whole "$capture" "${both[@]}"

@@ -70,6 +70,8 @@ each "four scenarios stored by 1 worker" samples/http-get.pcap --scenario exampl
     --scenario examples/bandwidth.json --scenario examples/limit_data.json --out "$folder"
 each "three scenarios stored by 2 workers" samples/http-get.pcap --scenario examples/latency.json --scenario examples/slicer.json \
     --scenario examples/bandwidth.json --workers 2 --cut 2 --out "$folder"
+perl tests/capture.pl 7000 > "$work/blocks.pcap"
+each "a capture of two blocks by 2 workers" /dev/null --capture "$work/blocks.pcap" --scenario examples/latency.json --workers 2
 each "--help" /dev/null --help
 echo "$growths growths refused of the program"
 

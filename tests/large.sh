@@ -156,4 +156,26 @@ same "150,000 slices, printed" "$work/dump" --scenario "$work/sliced.json"
 # The same capture as a file of over 64 KiB that is named, in its bytes.
 printf '%b' "$(tr -d ' \n' < "$work/dump" | sed 's/../\\x&/g')" > "$work/bytes.pcap"
 same "a capture of over 64 KiB that is named" /dev/null --capture "$work/bytes.pcap" --scenario "$work/sliced.json"
+
+# A named capture of three blocks, which several threads load side by side, gives what it gives as standard input, which one thread loads;
+# so do one whose last block is whole and one with a byte more, and its dump. A folder is no capture.
+perl tests/capture.pl 14000 > "$work/three.pcap"
+head -c $((2 << 23)) "$work/three.pcap" > "$work/two.pcap"
+head -c $(((2 << 23) + 1)) "$work/three.pcap" > "$work/more.pcap"
+od -An -v -tx1 "$work/two.pcap" | tr -d ' ' > "$work/two.dump"
+for name in three.pcap two.pcap more.pcap two.dump; do
+    rm -rf "$work/alone"
+    mkdir "$work/alone"
+    run "$work/$name" "${four[@]}"
+    cp "$work/output" "$work/wanted"
+    run "$work/$name" "${four[@]}" --out "$work/alone"
+    for workers in 1 2 3 16; do
+        same "$name by $workers workers" /dev/null --capture "$work/$name" "${four[@]}" --workers $workers
+        rm -rf "$work/by$workers"
+        mkdir "$work/by$workers"
+        run /dev/null --capture "$work/$name" "${four[@]}" --workers $workers --out "$work/by$workers"
+        verdict "$name by $workers workers, stored" "$(well; folder_difference "$work/alone" "$work/by$workers")"
+    done
+done
+refused "a folder as capture, by workers" "refused 61 ReadFailed" /dev/null --capture "$work" --workers 4
 close

@@ -1,4 +1,6 @@
 pub mod Lists
+mod FileBlocks
+mod FileHeaders
 mod Passes
 pub mod Running
 mod Splitting

@@ -5,6 +5,8 @@ use Rattle.pcap_records.specs.declared.heading.Order.{Order}
 use Rattle.pcap_records.specs.declared.fault.CaptureFault.{CaptureFault}
 use Rattle.pcap_records.specs.declared.fault.CaptureFault.TheVariants.{CaptureTooLong, ShortHeader, BadMagic, BadVersion, BadLink, RecordTooLong, Memory}
 use Rattle.pcap_records.specs.declared.capture.Record.{Record}
+use Rattle.pcap_records.specs.declared.file_bytes.FileBytes.{FileBytes}
+use Rattle.pcap_records.specs.declared.file_bytes.FileBytes.TheVariants.{InBlocks, Whole}
 use Rattle.pcap_records.specs.declared.heading.Heading as code
 use Rattle.pcap_records.specs.Instants.{horizon, ticks_of}
 use Rattle.pcap_records.specs.Reading.{Packet, Contents, Heading, Reading, capture_limit, packet_limit}
@@ -16,6 +18,11 @@ pub record CaptureView : Type 0 where
   pub order : Order
   pub records : List Record
   pub rest : ℕ
+
+-- the bytes of a file, wherever they stand
+abbrev pub bytes_of : FileBytes → List ℕ
+bytes_of (Whole bytes) = bytes.now
+bytes_of (InBlocks blocks) = blocks.now
 
 -- what contracts see of what the magic number tells
 abbrev pub heading_of : code.Heading → Heading

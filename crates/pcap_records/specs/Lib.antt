@@ -2,6 +2,7 @@ pub mod Instants
 pub mod Reading
 pub mod Grammar
 pub mod Agreement
+pub mod Blocks
 pub mod CaptureView
 pub mod Listed
 pub mod Writing

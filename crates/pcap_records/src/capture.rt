@@ -1,4 +1,5 @@
 //! A file that was read, and where its records lie.
+use crate::file_bytes::FileBytes;
 use crate::heading::{Heading, Order};
 use crate::moment::Moment;
 use crate::unit::Unit;
@@ -16,10 +17,10 @@ pub struct Record {
     pub len: u32,
 }
 
-/// A capture: the records of a classic pcap file, each a slice of the file's bytes.
+/// A capture: the records of a classic pcap file. Each packet is a slice of the file's bytes.
 #[derive(Debug, Drop)]
 pub struct Capture<'a> {
-    bytes: &'a [u8],
+    bytes: FileBytes<'a>,
     order: Order,
     unit: Unit,
     records: Vec<Record>,
@@ -27,36 +28,36 @@ pub struct Capture<'a> {
 }
 
 impl<'a> Model for Capture<'a> {
-    ghost use Rattle.pcap_records.specs.CaptureView.{CaptureView, IsSoundCapture};
+    ghost use Rattle.pcap_records.specs.CaptureView.{CaptureView, IsSoundCapture, bytes_of};
     ghost use Rattle.pcap_records.specs.Instants.{ticks_of};
 
     ghost Value = { CaptureView };
 
     ghost view = { λ c. record {
-      bytes = c.bytes.now;
+      bytes = bytes_of c.bytes;
       ticks = ticks_of c.unit;
       order = c.order;
       records = c.records.items;
       rest = c.rest;
     } };
 
-    ghost invariant = { λ c. IsSoundCapture (ticks_of c.unit) c.bytes.now c.records.items };
+    ghost invariant = { λ c. IsSoundCapture (ticks_of c.unit) (bytes_of c.bytes) c.records.items };
 }
 
 impl<'a> Capture<'a> {
     ghost use Rattle.std.specs.Prelude.{◌≡◌, ◌≤◌, ◌<◌, ◌-◌, length, Some, IfOk};
-    ghost use Rattle.pcap_records.specs.CaptureView.{IsSoundCapture, packet_at, stamps_between};
+    ghost use Rattle.pcap_records.specs.CaptureView.{IsSoundCapture, bytes_of, packet_at, stamps_between};
     ghost use Rattle.pcap_records.specs.Instants.{greatest, instants, ticks_of};
 
     // The capture of a file whose records were found.
     pub(crate) fn of_records(
-        bytes: &'a [u8],
+        bytes: FileBytes<'a>,
         heading: Heading,
         records: Vec<Record>,
         rest: u32,
     ) -> Capture<'a>
-        requires { IsSoundCapture (ticks_of heading.unit) bytes.now records.items }
-        ensures bytes { result.bytes ≡ bytes.entry.now }
+        requires { IsSoundCapture (ticks_of heading.unit) (bytes_of bytes) records.items }
+        ensures bytes { result.bytes ≡ bytes_of bytes.entry }
         ensures ticks { result.ticks ≡ ticks_of heading.unit }
         ensures order { result.order ≡ heading.order }
         ensures records { result.records ≡ records.items }
@@ -106,14 +107,12 @@ impl<'a> Capture<'a> {
         ensures { packet_at self.now i ≡ Some result.now }
     {
         let record = self.records[i];
-        let bytes = self.bytes;
-        let start = record.start as usize;
-        &bytes[start..start + record.len as usize]
+        self.bytes.slice(record.start as usize, record.len as usize)
     }
 
     /// The bytes of the file.
-    pub fn bytes(&self) -> &'a [u8]
-        ensures bytes { result.now ≡ self.now.bytes }
+    pub fn bytes(&self) -> FileBytes<'a>
+        ensures bytes { bytes_of result ≡ self.now.bytes }
         ensures sound { IsSoundCapture self.now.ticks self.now.bytes self.now.records }
     {
         self.bytes

@@ -1,11 +1,12 @@
 //! The file header: the order of the bytes in a file's fields, and the unit of its stamps.
 ghost use Rattle.std.specs.Prelude.{◌≡◌, ◌≤◌, length, option_map, OnOk};
-ghost use Rattle.pcap_records.specs.Reading.{capture_limit, file_header_len, file_heading, heading_by, magic_heading, number_in};
-ghost use Rattle.pcap_records.specs.CaptureView.{heading_of, refusal};
+ghost use Rattle.pcap_records.specs.Reading.{capture_limit, checked_heading, file_header_len, file_heading, heading_by, magic_heading, number_in};
+ghost use Rattle.pcap_records.specs.CaptureView.{bytes_of, heading_of, refusal};
 ghost use Rattle.pcap_records.specs.Instants.{ticks_of};
 ghost use Rattle.pcap_records.specs.Agreement.{AgreesWithoutMemory};
 
 use crate::fault::CaptureFault;
+use crate::file_bytes::FileBytes;
 use crate::unit::Unit;
 use byteorder::{BigEndian, ByteOrder, LittleEndian};
 
@@ -89,10 +90,10 @@ fn told_by(magic: u32, unit: Unit, bytes: &[u8]) -> Option<Heading>
 
 // What a file's magic number tells, or the first fault of its length and header.
 #[tactic(auto, unfolding(crate::specs::Reading::file_heading))]
-pub(crate) fn read_heading(bytes: &[u8]) -> Result<Heading, CaptureFault>
-    ensures exact { AgreesWithoutMemory refusal heading_of result (file_heading bytes.now) }
-    ensures whole { OnOk result (file_header_len ≤ length bytes.now) }
-    ensures limited { OnOk result (length bytes.now ≤ capture_limit) }
+pub(crate) fn read_heading(bytes: FileBytes<'_>) -> Result<Heading, CaptureFault>
+    ensures exact { AgreesWithoutMemory refusal heading_of result (file_heading (bytes_of bytes.entry)) }
+    ensures whole { OnOk result (file_header_len ≤ length (bytes_of bytes.entry)) }
+    ensures limited { OnOk result (length (bytes_of bytes.entry) ≤ capture_limit) }
 {
     if bytes.len() > CAPTURE_LIMIT {
         return Err(CaptureFault::CaptureTooLong);
@@ -100,14 +101,22 @@ pub(crate) fn read_heading(bytes: &[u8]) -> Result<Heading, CaptureFault>
     if bytes.len() < FILE_HEADER_LEN {
         return Err(CaptureFault::ShortHeader);
     }
-    let Some(heading) = told(bytes) else {
+    heading_in(bytes.slice(0, FILE_HEADER_LEN))
+}
+
+// What a file header tells, or its first fault.
+fn heading_in(header: &[u8]) -> Result<Heading, CaptureFault>
+    requires { file_header_len ≤ length header.now }
+    ensures { AgreesWithoutMemory refusal heading_of result (checked_heading (magic_heading header.now) header.now) }
+{
+    let Some(heading) = told(header) else {
         return Err(CaptureFault::BadMagic);
     };
     let order = heading.order;
-    if order.u16_of(&bytes[4..]) != 2 || order.u16_of(&bytes[6..]) != 4 {
+    if order.u16_of(&header[4..]) != 2 || order.u16_of(&header[6..]) != 4 {
         return Err(CaptureFault::BadVersion);
     }
-    if order.u32_of(&bytes[20..]) != ETHERNET {
+    if order.u32_of(&header[20..]) != ETHERNET {
         return Err(CaptureFault::BadLink);
     }
     Ok(heading)

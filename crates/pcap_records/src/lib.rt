@@ -4,8 +4,10 @@
 //! has the theorems that join the two.
 #![tactic(auto)]
 
+mod blocks;
 mod capture;
 mod fault;
+mod file_bytes;
 mod heading;
 pub mod laws;
 mod moment;
@@ -14,11 +16,13 @@ mod unit;
 mod values;
 mod writing;
 
+pub use blocks::{BLOCK_LEN, Blocks, SLICE_LIMIT};
 pub use capture::{Capture, Record};
 pub use fault::CaptureFault;
+pub use file_bytes::FileBytes;
 pub use heading::{CAPTURE_LIMIT, FILE_HEADER_LEN, Order};
 pub use moment::Moment;
-pub use reader::{PACKET_LIMIT, RECORD_HEADER_LEN, read_capture};
+pub use reader::{PACKET_LIMIT, RECORD_HEADER_LEN, read_capture, read_file};
 pub use unit::Unit;
 pub use values::Values;
 pub use writing::{record_header_bytes, write_header, write_record};

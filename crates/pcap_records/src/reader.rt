@@ -2,12 +2,13 @@
 ghost use Rattle.std.specs.Prelude.{◌≡◌, ◌≤◌, ◌<◌, ◌*◌, length, drop, IfOk};
 ghost use Rattle.pcap_records.specs.Reading.{reading, capture_limit, file_header_len, record_header_len, records_after, stamp_of};
 ghost use Rattle.pcap_records.specs.Agreement.{Agrees, Refuses};
-ghost use Rattle.pcap_records.specs.CaptureView.{heading_of, reading_of, refusal, IsSoundCapture};
+ghost use Rattle.pcap_records.specs.CaptureView.{bytes_of, heading_of, reading_of, refusal, IsSoundCapture};
 ghost use Rattle.pcap_records.specs.Instants.{ticks_of};
 ghost use Rattle.pcap_records.specs.Listed.{listed_contents, IsFoundAt};
 
 use crate::capture::{Capture, Record};
 use crate::fault::CaptureFault;
+use crate::file_bytes::FileBytes;
 use crate::heading::{FILE_HEADER_LEN, Heading, read_heading};
 use crate::moment::Moment;
 use std::alloc::{AllocError, Global};
@@ -35,18 +36,33 @@ pub fn read_capture<'a>(alloc: Global, bytes: &'a [u8]) -> Result<Capture<'a>, C
     ensures exact { Agrees refusal reading_of result (reading bytes.now) }
     ensures of { IfOk result (λ capture. capture.bytes ≡ bytes.now) }
 {
+    read_file(alloc, FileBytes::Whole(bytes))
+}
+
+/// Reads a classic pcap file as [`read_capture`] does, wherever its bytes stand.
+///
+/// # Errors
+/// Those of [`read_capture`].
+pub fn read_file<'a>(alloc: Global, bytes: FileBytes<'a>) -> Result<Capture<'a>, CaptureFault>
+    ensures exact { Agrees refusal reading_of result (reading (bytes_of bytes.entry)) }
+    ensures of { IfOk result (λ capture. capture.bytes ≡ bytes_of bytes.entry) }
+{
     let heading = read_heading(bytes)?;
     let list = list_records(alloc, heading, bytes)?;
     Ok(Capture::of_records(bytes, heading, list.records, list.rest))
 }
 
 // Lists the records after the file header.
-fn list_records(alloc: Global, heading: Heading, bytes: &[u8]) -> Result<RecordList, CaptureFault>
-    requires header { file_header_len ≤ length bytes.now }
-    requires limited { length bytes.now ≤ capture_limit }
-    ensures exact { Agrees refusal (listed_contents (ticks_of heading.unit) bytes.now) result
-        (records_after 0 (heading_of heading) 0 (drop file_header_len bytes.now)) }
-    ensures sound { IfOk result (λ list. IsSoundCapture (ticks_of heading.unit) bytes.now list.records.items) }
+fn list_records(
+    alloc: Global,
+    heading: Heading,
+    bytes: FileBytes<'_>,
+) -> Result<RecordList, CaptureFault>
+    requires header { file_header_len ≤ length (bytes_of bytes) }
+    requires limited { length (bytes_of bytes) ≤ capture_limit }
+    ensures exact { Agrees refusal (listed_contents (ticks_of heading.unit) (bytes_of bytes.entry)) result
+        (records_after 0 (heading_of heading) 0 (drop file_header_len (bytes_of bytes.entry))) }
+    ensures sound { IfOk result (λ list. IsSoundCapture (ticks_of heading.unit) (bytes_of bytes.entry) list.records.items) }
 {
     let mut records = Vec::new(alloc);
     let mut at = FILE_HEADER_LEN;
@@ -73,11 +89,11 @@ fn list_records(alloc: Global, heading: Heading, bytes: &[u8]) -> Result<RecordL
 
 // Why a file is refused of which a record found no memory, where `count` records stand before `at`: the fault of a
 // later record, if one has any, and else want of memory.
-fn fault_after(heading: Heading, bytes: &[u8], at: usize, count: u32) -> CaptureFault
-    requires inside { at ≤ length bytes.now }
-    requires limited { length bytes.now ≤ capture_limit }
+fn fault_after(heading: Heading, bytes: FileBytes<'_>, at: usize, count: u32) -> CaptureFault
+    requires inside { at ≤ length (bytes_of bytes) }
+    requires limited { length (bytes_of bytes) ≤ capture_limit }
     requires header_each { record_header_len * count ≤ at }
-    ensures { Refuses (refusal result) (records_after 0 (heading_of heading) count (drop at bytes.now)) }
+    ensures { Refuses (refusal result) (records_after 0 (heading_of heading) count (drop at (bytes_of bytes.entry))) }
 {
     let mut at = at;
     let mut count = count;
@@ -94,12 +110,12 @@ fn fault_after(heading: Heading, bytes: &[u8], at: usize, count: u32) -> Capture
 }
 
 // The stamp of a record that begins with these bytes: its seconds, and ticks however many.
-fn stamp_of(heading: Heading, bytes: &[u8]) -> Moment
-    requires { record_header_len ≤ length bytes.now }
-    ensures { result ≡ stamp_of (heading_of heading) bytes.now }
+fn stamp_of(heading: Heading, header: &[u8]) -> Moment
+    requires { record_header_len ≤ length header.now }
+    ensures { result ≡ stamp_of (heading_of heading) header.now }
 {
     let Heading { order, unit } = heading;
-    let ticks = unit.seconds(order.u32_of(bytes)) + u64::from(order.u32_of(&bytes[4..]));
+    let ticks = unit.seconds(order.u32_of(header)) + u64::from(order.u32_of(&header[4..]));
     Moment::of(ticks, unit)
 }
 
@@ -116,24 +132,25 @@ pub(crate) enum Found {
 
 // What begins at `at`. The announced length is tested before it is asked whether the file holds so many bytes.
 #[tactic(auto, unfolding(crate::specs::Reading::next_record))]
-pub(crate) fn found_at(heading: Heading, bytes: &[u8], at: usize) -> Found
-    requires inside { at ≤ length bytes.now }
-    requires limited { length bytes.now ≤ capture_limit }
-    ensures { IsFoundAt (heading_of heading) bytes.now at result }
+pub(crate) fn found_at(heading: Heading, bytes: FileBytes<'_>, at: usize) -> Found
+    requires inside { at ≤ length (bytes_of bytes) }
+    requires limited { length (bytes_of bytes) ≤ capture_limit }
+    ensures { IsFoundAt (heading_of heading) (bytes_of bytes.entry) at result }
 {
-    let rest = &bytes[at..];
-    if rest.len() < RECORD_HEADER_LEN {
+    let rest = bytes.len() - at;
+    if rest < RECORD_HEADER_LEN {
         return Found::Torn;
     }
-    let len = heading.order.u32_of(&rest[8..]);
+    let header = bytes.slice(at, RECORD_HEADER_LEN);
+    let len = heading.order.u32_of(&header[8..]);
     if len > PACKET_LIMIT {
         return Found::TooLong;
     }
-    if rest.len() - RECORD_HEADER_LEN < len as usize {
+    if rest - RECORD_HEADER_LEN < len as usize {
         return Found::Torn;
     }
     Found::Whole(Record {
-        stamp: stamp_of(heading, rest),
+        stamp: stamp_of(heading, header),
         start: (at + RECORD_HEADER_LEN) as u32,
         len,
     })

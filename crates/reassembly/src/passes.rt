@@ -3,11 +3,13 @@ ghost use Rattle.std.specs.Prelude.{◌≡◌, ◌≤◌, ℕ, IfOk, All, max, n
 ghost use Rattle.std.specs.Option.{option_or};
 ghost use Rattle.reassembly.specs.Spans.{span_of, spans, end_of, limit, byte_in, first_byte, layered_byte, AreOrdered, Taken};
 ghost use Rattle.reassembly.specs.MemberSpans.{IsInFile, member_spans, own_members};
+ghost use Rattle.pcap_records.specs.CaptureView.{bytes_of};
 
 use crate::overlays::{gather, overlay};
 use crate::patches::{Patch, back, end, front, keep};
 use crate::positions::patch_of;
 use conn_table::Member;
+use pcap_records::FileBytes;
 use std::alloc::{AllocError, Global};
 
 /// From `since` to `high`, the end of all patches so far, no position is missing.
@@ -23,10 +25,10 @@ pub(crate) fn side_patches<'a>(
     base: u32,
     client: bool,
     members: &[Member],
-    file: &'a [u8],
+    file: FileBytes<'a>,
 ) -> Result<Vec<Patch<'a>>, AllocError>
-    requires { All (IsInFile file.now) members.now }
-    ensures same { IfOk result (λ patches. (x : ℕ) → first_byte (spans patches.items) x ≡ first_byte (member_spans base file.entry.now (own_members client members.now)) x) }
+    requires { All (IsInFile (bytes_of file)) members.now }
+    ensures same { IfOk result (λ patches. (x : ℕ) → first_byte (spans patches.items) x ≡ first_byte (member_spans base (bytes_of file.entry) (own_members client members.now)) x) }
     ensures ordered { IfOk result (λ patches. AreOrdered 0 (spans patches.items) limit) }
 {
     let mut whole = Vec::new(alloc);

@@ -3,11 +3,12 @@ ghost use Rattle.std.specs.Prelude.{◌≡◌, ◌≤◌, ◌<◌, ◌+◌, ◌^
 ghost use Rattle.reassembly.specs.Positions.{sequence_space};
 ghost use Rattle.reassembly.specs.Spans.{span_of, end_of, limit};
 ghost use Rattle.reassembly.specs.MemberSpans.{IsInFile, member_position, member_span, members_before_reset, is_reset_member, is_server_answer};
+ghost use Rattle.pcap_records.specs.CaptureView.{bytes_of};
 
 use crate::patches::Patch;
 use conn_table::Member;
 use frame_headers::Flags;
-use pcap_records::Moment;
+use pcap_records::{FileBytes, Moment};
 
 /// Position 0, shifted. Positions are shifted up by 2^31, so that one that is read as negative is a number too.
 pub(crate) const ORIGIN: usize = 1 << 31;
@@ -43,14 +44,14 @@ fn len_of(member: &Member) -> usize
 }
 
 /// The patch of a member's payload, without what stands before position 0.
-pub(crate) fn patch_of<'a>(base: u32, member: &Member, file: &'a [u8]) -> Patch<'a>
-    requires { IsInFile file.now member.now }
-    ensures exact { span_of result ≡ member_span base file.now member.now }
+pub(crate) fn patch_of<'a>(base: u32, member: &Member, file: FileBytes<'a>) -> Patch<'a>
+    requires { IsInFile (bytes_of file) member.now }
+    ensures exact { span_of result ≡ member_span base (bytes_of file.entry) member.now }
     ensures near { end_of (span_of result) ≤ limit }
 {
     let position = shifted_start(base, member);
     let start = member.start as usize;
-    let payload = &file[start..start + len_of(member)];
+    let payload = file.slice(start, len_of(member));
     let hidden = ORIGIN.saturating_sub(position).min(payload.len());
     Patch {
         from: position.saturating_sub(ORIGIN),

@@ -10,13 +10,14 @@ ghost use Rattle.reassembly.specs.MemberSpans.{IsInFile};
 ghost use Rattle.reassembly.specs.RecordedLines.{recorded_connection};
 ghost use Rattle.reassembly.specs.RecordedView.{recorded_view, IsConnOf, IsConnectionOf, IsOfMembers, other_end, first_seq};
 ghost use Rattle.pcap_records.specs.Instants.{ticks_of};
+ghost use Rattle.pcap_records.specs.CaptureView.{bytes_of};
 
 use crate::line_parts::{End, Line};
 use crate::positions::{effective_members, reset_at, server_base};
 use crate::sides::recorded_side;
 use conn_table::{Conn, Member};
 use frame_headers::{Class, classify, laws};
-use pcap_records::{Capture, Moment, Unit};
+use pcap_records::{Capture, FileBytes, Moment, Unit};
 use std::alloc::{AllocError, Global};
 
 /// What a connection's two sides sent, as far as the capture tells.
@@ -76,11 +77,11 @@ fn recorded_by_members<'a>(
     opened: Moment,
     macs: Macs,
     members: &[Member],
-    file: &'a [u8],
+    file: FileBytes<'a>,
 ) -> Result<Recorded<'a>, AllocError>
-    requires filed { All (IsInFile file.now) members.now }
+    requires filed { All (IsInFile (bytes_of file)) members.now }
     requires some { 0 < length members.now }
-    ensures sides { IfOk result (λ r. IsOfMembers file.entry.now members.now (recorded_view r)) }
+    ensures sides { IfOk result (λ r. IsOfMembers (bytes_of file.entry) members.now (recorded_view r)) }
     ensures opened { IfOk result (λ r. r.opened ≡ opened) }
     ensures client { IfOk result (λ r. r.mac_client ≡ macs.client) }
     ensures server { IfOk result (λ r. r.mac_server ≡ macs.server) }

@@ -4,6 +4,7 @@ ghost use Rattle.reassembly.specs.LineView.{bytes_of_parts, end_view};
 ghost use Rattle.reassembly.specs.MemberSpans.{IsInFile, is_fin_member, own_members};
 ghost use Rattle.reassembly.specs.SideLines.{IsFront, IsSideOf, end_by, fin_of, first_from, latest_below, len_of, line_bytes, side_by, side_view, stop_of};
 ghost use Rattle.reassembly.specs.Spans.{AreOrdered, first_byte, limit, spans};
+ghost use Rattle.pcap_records.specs.CaptureView.{bytes_of};
 
 use crate::line_parts::{End, LinePart, add_part};
 use crate::passes::side_patches;
@@ -11,7 +12,7 @@ use crate::patches::{Patch, end, front, patch_at};
 use crate::positions::{ORIGIN, shifted_end};
 use conn_table::Member;
 use frame_headers::Flags;
-use pcap_records::Moment;
+use pcap_records::{FileBytes, Moment};
 use std::alloc::{AllocError, Global};
 
 /// One side's line, which ends so unless it is whole. Its bytes count from `base`; without one no byte has a position.
@@ -20,11 +21,11 @@ pub(crate) fn recorded_side<'a>(
     base: Option<u32>,
     client: bool,
     members: &[Member],
-    file: &'a [u8],
+    file: FileBytes<'a>,
     other: End,
 ) -> Result<SideLine<'a>, AllocError>
-    requires { All (IsInFile file.now) members.now }
-    ensures { IfOk result (λ side. IsSideOf base client file.entry.now members.now (end_view other) (side_view side)) }
+    requires { All (IsInFile (bytes_of file)) members.now }
+    ensures { IfOk result (λ side. IsSideOf base client (bytes_of file.entry) members.now (end_view other) (side_view side)) }
 {
     let Some(base) = base else {
         return Ok(without_base(alloc, other));

@@ -1,5 +1,5 @@
 //! Bytes from their hexadecimal digits.
-ghost use Rattle.std.specs.Prelude.{◌≡◌, ◌<◌, ◌%◌, ◌==◌, Some, IfSome, IsOk, OnOk, IfErr, count_by, position};
+ghost use Rattle.std.specs.Prelude.{◌≡◌, ◌<◌, ◌%◌, ◌==◌, if◌then◌else◌, Ok, Some, IfSome, IsOk, OnOk, IfErr, count_by, position};
 ghost use Rattle.hex.specs.Hex.{hex_digit_value, is_hex_digit};
 ghost use Rattle.pcap_records.specs.Agreement.{Agrees};
 ghost use Rattle.run_files.specs.RunFault.{run_refusal};
@@ -44,6 +44,20 @@ pub fn undump(alloc: Global, text: &[u8]) -> Result<Vec<u8>, RunFault>
         }
     }
     Ok(bytes)
+}
+
+/// The bytes of the capture that a text holds: those of the dump where the text is taken for one, and else the text as it is, which is
+/// not copied.
+///
+/// # Errors
+/// Those of [`undump`].
+pub fn capture_bytes(alloc: Global, text: Vec<u8>) -> Result<Vec<u8>, RunFault>
+    ensures { Agrees run_refusal (λ bytes. bytes.items) result (if is_dump text.items then dump_reading text.items else Ok text.items) }
+{
+    if is_dump(&text) {
+        return undump(alloc, &text);
+    }
+    Ok(text)
 }
 
 // How many digits a dump has, or its fault.

@@ -10,7 +10,7 @@ use std::rt::Files;
 /// Contracts see one thing of it. `holds` is what its paths hold, or `None` where it does not tell that, as the file system, whose
 /// files others may change.
 pub trait Paths {
-    ghost use Rattle.std.specs.Prelude.{◌≤◌, Option, length, IfErr, IfOk, IfSome};
+    ghost use Rattle.std.specs.Prelude.{◌≡◌, ◌≤◌, None, Option, length, true, IfErr, IfOk, IfSome};
     ghost use Rattle.pcap_records.specs.Agreement.{AgreesUnlessMemory};
     ghost use Rattle.pcap_records.specs.Reading.{capture_limit};
     ghost use Rattle.run_files.specs.Paths.{Held, IsOfFile, text_at};
@@ -27,6 +27,14 @@ pub trait Paths {
         ensures told { IfSome (holds self.now) (λ held. AgreesUnlessMemory run_refusal (λ bytes. bytes.items) result (text_at held path.now)) }
         ensures within { IfOk result (λ bytes. length bytes.items ≤ capture_limit) }
         ensures of_file { IfErr result IsOfFile };
+
+    /// Whether the paths are those of the file system, so that a run may load a file of its runtime's by several threads. Paths that tell
+    /// what they hold are not.
+    fn is_file_system(&self) -> bool
+        ensures { result ≡ true → holds self.now ≡ None }
+    {
+        false
+    }
 }
 
 /// The files of the file system. It tells nothing of what paths hold.
@@ -52,5 +60,9 @@ impl<'a, F: Files> Paths for FileSystem<'a, F> {
             return Err(RunFault::ReadFailed);
         };
         load(alloc, &mut Counted::new(file))
+    }
+
+    fn is_file_system(&self) -> bool {
+        true
     }
 }

@@ -136,7 +136,7 @@ pub fn load<R: Read>(alloc: Global, reader: &mut Counted<R>) -> Result<Vec<u8>, 
 }
 
 // Room for one read. It stands apart so that no proof meets a list of so many zeros.
-fn room_to_read(alloc: Global) -> Result<Vec<u8>, AllocError>
+pub(crate) fn room_to_read(alloc: Global) -> Result<Vec<u8>, AllocError>
     ensures { IfOk result (λ room. 0 < length room.items) }
 {
     vec![in alloc; 0u8; READ_LEN]

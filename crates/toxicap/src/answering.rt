@@ -1,10 +1,11 @@
 //! From the text of a capture and the texts of scenarios to what each scenario answers.
 ghost use Rattle.std.specs.Prelude.{◌≡◌, ℕ, ◌+◌, ◌-◌, ◌^◌, ◌<◌, ◌≤◌, [], List, length, map};
 ghost use Rattle.std.specs.Io.KnownBytes.{Consumes, IsAtEnd};
-ghost use Rattle.pcap_records.specs.Agreement.{Agrees, AgreesUnlessMemory};
+ghost use Rattle.pcap_records.specs.Agreement.{AgreesUnlessMemory};
+ghost use Rattle.pcap_records.specs.CaptureView.{bytes_of};
 ghost use Rattle.pcap_records.specs.Reading.{capture_limit};
 ghost use Rattle.scenarios.specs.Populate.{scenario};
-ghost use Rattle.toxicap.specs.Answering.{AnswersBy, answer_under, called_for, capture_bytes_of, numbered, scenarios_from};
+ghost use Rattle.toxicap.specs.Answering.{AnswersBy, answer_under, called_for, numbered, scenarios_from};
 ghost use Rattle.toxicap.specs.PrintedReports.{reports_in};
 ghost use Rattle.toxicap.specs.RunEnds.{failed_reads};
 ghost use Rattle.toxicap.specs.StoredOutputs.{StoresOf, TakenOf};
@@ -16,8 +17,9 @@ use crate::rehearsal::rehearse;
 use crate::reports::rehearse_reports;
 use crate::storing::store_rehearsal;
 use job_matrix::{Plan, Through};
+use pcap_records::FileBytes;
 use report::ReportText;
-use run_files::{Counted, DraftShelf, Outputs, RunFault, is_dump, load, undump};
+use run_files::{Counted, DraftShelf, Outputs, RunFault, Text, capture_bytes, load};
 use scenarios::{Hosts, Scenario, ScenarioFault, read_scenario};
 use std::alloc::{AllocError, Global};
 use std::io::Read;
@@ -87,19 +89,26 @@ fn answer_to_text<H: Threads + Wait + Sync>(
 pub(crate) fn reports_to_text<H: Threads + Wait + Sync>(
     rt: &H,
     alloc: Global,
-    text: Vec<u8>,
+    text: Text,
     texts: &[&[u8]],
     options: &Options,
 ) -> Result<ReportText, RunFault>
-    requires { length text.items ≤ capture_limit }
-    ensures { AgreesUnlessMemory run_refusal (λ reports. reports) result (reports_in (called_for options.now.hosts (map (λ t. t.now) texts.now) options.now.seed text.items)) }
+    requires { length text ≤ capture_limit }
+    ensures { AgreesUnlessMemory run_refusal (λ reports. reports) result (reports_in (called_for options.now.hosts (map (λ t. t.now) texts.now) options.now.seed text)) }
 {
-    let bytes = capture_bytes(alloc, text)?;
+    let bytes = text.undumped(alloc)?;
     let crew = Workers {
         rt,
         plan: options.plan,
     };
-    reports_to_bytes(&crew, alloc, &bytes, texts, &options.hosts, options.seed)
+    reports_to_bytes(
+        &crew,
+        alloc,
+        bytes.bytes(),
+        texts,
+        &options.hosts,
+        options.seed,
+    )
 }
 
 /// Puts the files of the outputs that a capture's text calls for on a shelf as they are made: those that `store_all` puts of them.
@@ -110,34 +119,28 @@ pub(crate) fn reports_to_text<H: Threads + Wait + Sync>(
 pub(crate) fn store_for_text<H: Threads + Wait + Sync, S: DraftShelf>(
     rt: &H,
     alloc: Global,
-    text: Vec<u8>,
+    text: Text,
     texts: &[&[u8]],
     options: &Options,
     shelf: &mut S,
 ) -> Result<(), RunFault>
-    requires text { length text.items ≤ capture_limit }
+    requires text { length text ≤ capture_limit }
     requires failures { S.failures shelf.old < 2 ^ 64 - 1 }
-    ensures ends { StoresOf result (called_for options.now.hosts (map (λ t. t.now) texts.now) options.now.seed text.items) }
-    ensures taken { TakenOf result (called_for options.now.hosts (map (λ t. t.now) texts.now) options.now.seed text.items)
+    ensures ends { StoresOf result (called_for options.now.hosts (map (λ t. t.now) texts.now) options.now.seed text) }
+    ensures taken { TakenOf result (called_for options.now.hosts (map (λ t. t.now) texts.now) options.now.seed text)
         (Takes (S.files shelf.old) (S.files shelf.new)) (S.failures shelf.old) (S.failures shelf.new) }
 {
-    let bytes = capture_bytes(alloc, text)?;
+    let bytes = text.undumped(alloc)?;
     let read = read_texts(alloc, texts, &options.hosts)?;
-    store_rehearsal(rt, alloc, &bytes, &read, options.seed, options.plan, shelf)
-}
-
-// The bytes of the capture that a text holds: those of the dump where the text is taken for one,
-// and else the text as it is, which is not copied.
-//
-// # Errors
-// Those of [`undump`].
-fn capture_bytes(alloc: Global, text: Vec<u8>) -> Result<Vec<u8>, RunFault>
-    ensures { Agrees run_refusal (λ bytes. bytes.items) result (capture_bytes_of text.items) }
-{
-    if is_dump(&text) {
-        return undump(alloc, &text);
-    }
-    Ok(text)
+    store_rehearsal(
+        rt,
+        alloc,
+        bytes.bytes(),
+        &read,
+        options.seed,
+        options.plan,
+        shelf,
+    )
 }
 
 // The answer to a capture's bytes.
@@ -169,13 +172,13 @@ fn answer_to_bytes<H: Threads + Wait + Sync>(
 pub(crate) fn reports_to_bytes<C: Crew>(
     crew: &C,
     alloc: Global,
-    bytes: &[u8],
+    bytes: FileBytes<'_>,
     texts: &[&[u8]],
     hosts: &Hosts,
     seed: u64,
 ) -> Result<ReportText, RunFault>
     requires { C.shares crew.now }
-    ensures { AgreesUnlessMemory run_refusal (λ reports. reports) result (reports_in (answer_under hosts.now (map (λ t. t.now) texts.now) seed bytes.now)) }
+    ensures { AgreesUnlessMemory run_refusal (λ reports. reports) result (reports_in (answer_under hosts.now (map (λ t. t.now) texts.now) seed (bytes_of bytes.entry))) }
 {
     let read = read_texts(alloc, texts, hosts)?;
     rehearse_reports(crew, alloc, bytes, &read, seed)

@@ -15,6 +15,7 @@ use run_files::{Counted, FileSystem, Paths, RunFault, fault_line, write_bytes};
 use std::alloc::Global;
 use std::convert::AsStr;
 use std::io::{Error, ErrorKind, Read, Write};
+use std::os::unix::fs::FileExt;
 use std::rt::Files;
 use std::sync::Wait;
 use std::thread::Threads;
@@ -40,7 +41,7 @@ pub fn command<H: Files + Threads + Wait + Sync, S: AsStr, I: Read, O: Write, E:
     faults: &mut Counted<E>,
 ) -> u8
 where
-    H::File: Send,
+    H::File: FileExt + Send + Sync,
     H::Dir: Send,
     requires reads { input.old.failed < 2 ^ 64 - 1 }
     requires writes { output.old.failed < 2 ^ 64 - 1 }
@@ -94,7 +95,7 @@ pub fn command_over<
     faults: &mut Counted<E>,
 ) -> u8
 where
-    H::File: Send,
+    H::File: FileExt + Send + Sync,
     H::Dir: Send,
     requires reads { input.old.failed < 2 ^ 64 - 1 }
     requires writes { output.old.failed < 2 ^ 64 - 1 }

@@ -123,7 +123,7 @@ fn written_draft<S: DraftShelf>(
     written_in_turn::<S>(alloc, &merged, unit, draft)
 }
 
-// A draft without bytes, once the header of a capture and the records of some segments are written to it, block by block.
+// A draft without bytes, once the header of a capture and the records of some segments are written to it, batch by batch.
 fn written_in_turn<S: DraftShelf>(
     alloc: Global,
     merged: &MergedLayouts<'_, '_>,
@@ -134,26 +134,26 @@ fn written_in_turn<S: DraftShelf>(
     ensures { IfOk result (λ d. S.holds d (capture_in_turn (ticks_of unit) merged.now)) }
 {
     let mut draft = draft;
-    let mut block = Vec::new(alloc);
-    write_header(&mut block, unit)?;
+    let mut batch = Vec::new(alloc);
+    write_header(&mut batch, unit)?;
     for place in 0..merged.count() {
-        append_full_block::<S>(&mut draft, &mut block);
-        merged.put(place, &mut block)?;
+        append_full_batch::<S>(&mut draft, &mut batch);
+        merged.put(place, &mut batch)?;
     }
-    S::append(&mut draft, &block);
+    S::append(&mut draft, &batch);
     Ok(draft)
 }
 
-// From how many bytes on a block is appended to a draft. They are few enough to stay in a processor's own memory.
-const BLOCK_LEN: usize = 1 << 18;
+// From how many bytes on a batch is appended to a draft. They are few enough to stay in a processor's own memory.
+const BATCH_LEN: usize = 1 << 18;
 
-// Appends a block to a draft where it has enough bytes, and empties it.
-fn append_full_block<S: DraftShelf>(draft: &mut S::Draft, block: &mut Vec<u8>)
+// Appends a batch to a draft where it has enough bytes, and empties it.
+fn append_full_batch<S: DraftShelf>(draft: &mut S::Draft, batch: &mut Vec<u8>)
     ensures { (had : List ℕ) → S.holds draft.old had
-        → (written : List ℕ) × S.holds draft.new written × (written ++ block.new.items ≡ had ++ block.old.items) }
+        → (written : List ℕ) × S.holds draft.new written × (written ++ batch.new.items ≡ had ++ batch.old.items) }
 {
-    if block.len() >= BLOCK_LEN {
-        S::append(draft, block);
-        block.clear();
+    if batch.len() >= BATCH_LEN {
+        S::append(draft, batch);
+        batch.clear();
     }
 }

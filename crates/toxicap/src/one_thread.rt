@@ -15,7 +15,7 @@ use crate::reports::rehearse_reports;
 use crate::sources::Sources;
 use conn_workers::record_alone;
 use job_matrix::{Phase, Through, Work, work_alone};
-use pcap_records::{CAPTURE_LIMIT, Capture, read_capture};
+use pcap_records::{CAPTURE_LIMIT, Capture, FileBytes, read_capture};
 use range_workers::table_alone;
 use report::ReportText;
 use run_files::{Output, Outputs, RunFault, is_dump, undump};
@@ -56,7 +56,7 @@ pub fn reports_alone(
 ) -> Result<ReportText, RunFault>
     ensures { Agrees run_refusal (λ text. text) result (reports_in (answer capture.now scenarios.now seed)) }
 {
-    rehearse_reports(&Alone, alloc, capture, scenarios, seed)
+    rehearse_reports(&Alone, alloc, FileBytes::Whole(capture), scenarios, seed)
 }
 
 /// Rehearses the capture that a text holds under scenarios that are still texts, each a JSON array of proxies in Toxiproxy's form. Where
@@ -104,9 +104,9 @@ pub fn report_answers_alone(
     }
     if is_dump(text) {
         let bytes = undump(alloc, text)?;
-        return reports_to_bytes(&Alone, alloc, &bytes, texts, hosts, seed);
+        return reports_to_bytes(&Alone, alloc, FileBytes::Whole(&bytes), texts, hosts, seed);
     }
-    reports_to_bytes(&Alone, alloc, text, texts, hosts, seed)
+    reports_to_bytes(&Alone, alloc, FileBytes::Whole(text), texts, hosts, seed)
 }
 
 // The answer to a capture's bytes.

@@ -1,7 +1,7 @@
 //! The reports of a rehearsal alone: no segment is written, and no capture made.
 ghost use Rattle.std.specs.Prelude.{◌≡◌, ◌≤◌, IfOk, length};
 ghost use Rattle.pcap_records.specs.Agreement.{Agrees};
-ghost use Rattle.pcap_records.specs.CaptureView.{contents_of};
+ghost use Rattle.pcap_records.specs.CaptureView.{bytes_of, contents_of};
 ghost use Rattle.conn_table.specs.SeenCapture.{seen_capture};
 ghost use Rattle.run_files.specs.RunFault.{run_refusal};
 ghost use Rattle.run_files.specs.WrittenOutputs.{reports_of};
@@ -13,7 +13,7 @@ use crate::gathering::gathered_report;
 use crate::rehearsal::SCENARIO_LIMIT;
 use conn_table::laws::indexed_connections_agree;
 use conn_workers::laws::lines_are_contributed;
-use pcap_records::{Capture, read_capture};
+use pcap_records::{Capture, FileBytes, read_file};
 use report::ReportText;
 use run_files::RunFault;
 use scenarios::Scenario;
@@ -28,17 +28,17 @@ use std::alloc::{AllocError, Global};
 pub(crate) fn rehearse_reports<C: Crew>(
     crew: &C,
     alloc: Global,
-    capture: &[u8],
+    capture: FileBytes<'_>,
     scenarios: &[Scenario],
     seed: u64,
 ) -> Result<ReportText, RunFault>
     requires { C.shares crew.now }
-    ensures { Agrees run_refusal (λ text. text) result (reports_in (answer capture.now scenarios.now seed)) }
+    ensures { Agrees run_refusal (λ text. text) result (reports_in (answer (bytes_of capture.entry) scenarios.now seed)) }
 {
     if scenarios.len() > SCENARIO_LIMIT {
         return Err(RunFault::TooManyScenarios);
     }
-    let capture = read_capture(alloc, capture)?;
+    let capture = read_file(alloc, capture)?;
     let text = join_reports(crew, alloc, &capture, scenarios, seed)?;
     Ok(ReportText::of(text))
 }

@@ -10,15 +10,17 @@ ghost use Rattle.toxicap.specs.RunEnds.{failed_writes};
 ghost use Rattle.pcap_records.specs.Agreement.{AgreesUnlessMemory};
 ghost use Rattle.pcap_records.specs.Reading.{capture_limit};
 ghost use Rattle.toxicap.specs.Inputs.{IsOfFiles, texts_or_bare};
+ghost use Rattle.run_files.specs.Paths.{IsOfFile, text_at};
 ghost use Rattle.run_files.specs.RunFault.{run_refusal};
 
 use crate::answering::{Options, reports_to_text, store_for_text};
 use crate::host_lines::read_hosts;
 use command_line::Asked;
 use job_matrix::Plan;
-use run_files::{Counted, Folder, Paths, RunFault, load, write_bytes};
+use run_files::{Counted, Folder, Paths, RunFault, Text, load, load_by_threads, write_bytes};
 use std::alloc::{AllocError, Global};
 use std::io::{Read, Write};
+use std::os::unix::fs::FileExt;
 use std::rt::Files;
 use std::sync::Wait;
 use std::thread::Threads;
@@ -34,7 +36,7 @@ pub(crate) fn run_asked<H: Files + Threads + Wait + Sync, P: Paths, R: Read, W: 
     writer: &mut Counted<W>,
 ) -> Result<(), RunFault>
 where
-    H::File: Send,
+    H::File: FileExt + Send + Sync,
     H::Dir: Send,
     requires asked { IsInRange asked.now }
     requires reads { reader.old.failed < 2 ^ 64 - 1 }
@@ -68,7 +70,7 @@ where
         seed: asked.seed,
         plan: Plan::new(asked.workers, asked.cut).unwrap(),
     };
-    let text = load_capture(paths, alloc, asked, reader)?;
+    let text = load_capture(rt, paths, alloc, asked, reader)?;
     answer_into(rt, alloc, text, writer, asked.out, &texts, &options)
 }
 
@@ -77,18 +79,18 @@ where
 fn answer_into<H: Files + Threads + Wait + Sync, W: Write>(
     rt: &H,
     alloc: Global,
-    text: Vec<u8>,
+    text: Text,
     writer: &mut Counted<W>,
     out: Option<&str>,
     texts: &[&[u8]],
     options: &Options,
 ) -> Result<(), RunFault>
 where
-    H::File: Send,
+    H::File: FileExt + Send + Sync,
     H::Dir: Send,
-    requires text { length text.items ≤ capture_limit }
+    requires text { length text ≤ capture_limit }
     requires writes { writer.old.failed < 2 ^ 64 - 1 }
-    ensures ends { EndsOf out.entry result (called_for options.now.hosts (map (λ t. t.now) texts.now) options.now.seed text.items)
+    ensures ends { EndsOf out.entry result (called_for options.now.hosts (map (λ t. t.now) texts.now) options.now.seed text)
         (Appends (W.contents writer.old.inner) (W.contents writer.new.inner)) }
     ensures unwritten { OnSome out.entry (writer.new ≡ writer.old) }
     ensures failed_writes { writer.new.failed ≡ writer.old.failed + failed_writes result }
@@ -126,24 +128,47 @@ fn load_files<P: Paths>(paths: &P, alloc: Global, named: &[&str]) -> Result<Vec<
 }
 
 // The text of the capture, from the file that a command line names, or without one from a reader.
-fn load_capture<P: Paths, R: Read>(
+fn load_capture<H: Files + Threads + Sync, P: Paths, R: Read>(
+    rt: &H,
     paths: &P,
     alloc: Global,
     asked: &Asked<'_>,
     reader: &mut Counted<R>,
-) -> Result<Vec<u8>, RunFault>
+) -> Result<Text, RunFault>
+where
+    H::File: FileExt + Sync,
     requires { reader.old.failed < 2 ^ 64 - 1 }
-    ensures within { IfOk result (λ text. length text.items ≤ capture_limit) }
-    ensures input { IfNone asked.now.capture (LoadsInput (λ text. text.items) result
+    ensures within { IfOk result (λ text. length text ≤ capture_limit) }
+    ensures input { IfNone asked.now.capture (LoadsInput (λ text. text) result
         (Consumes (R.remaining reader.old.inner) (R.remaining reader.new.inner)) (IsAtEnd (R.remaining reader.new.inner))
         reader.old.failed reader.new.failed) }
-    ensures file { IfSome asked.now.capture (λ path. LoadsFile (λ text. text.items) result (P.holds paths.now) path.now
+    ensures file { IfSome asked.now.capture (λ path. LoadsFile (λ text. text) result (P.holds paths.now) path.now
         (reader.new ≡ reader.old)) }
 {
     match asked.capture {
-        Some(path) => paths.load(alloc, path),
-        None => load(alloc, reader),
+        Some(path) => load_file(rt, paths, alloc, path, asked.workers as usize),
+        None => load(alloc, reader).map(Text::of),
     }
+}
+
+// The text of the file at a path, loaded by several threads where it is one of the file system.
+fn load_file<H: Files + Threads + Sync, P: Paths>(
+    rt: &H,
+    paths: &P,
+    alloc: Global,
+    path: &str,
+    threads: usize,
+) -> Result<Text, RunFault>
+where
+    H::File: FileExt + Sync,
+    ensures told { IfSome (P.holds paths.now) (λ held. AgreesUnlessMemory run_refusal (λ text. text) result (text_at held path.now)) }
+    ensures within { IfOk result (λ text. length text ≤ capture_limit) }
+    ensures of_file { IfErr result IsOfFile }
+{
+    if paths.is_file_system() {
+        return load_by_threads(rt, alloc, path, threads);
+    }
+    paths.load(alloc, path).map(Text::of)
 }
 
 // The texts of the scenarios of files; without one, the text of a scenario without proxies.

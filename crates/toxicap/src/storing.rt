@@ -2,7 +2,7 @@
 ghost use Rattle.std.specs.Prelude.{◌≡◌, ℕ, ◌+◌, ◌-◌, ◌*◌, ◌^◌, ◌<◌, ◌≤◌, IfOk, List, Ok, Vec, drop, get_or, length, map, take};
 ghost use Rattle.std.specs.Global.{Global};
 ghost use Rattle.std.specs.List.{flat_map};
-ghost use Rattle.pcap_records.specs.CaptureView.{contents_of};
+ghost use Rattle.pcap_records.specs.CaptureView.{bytes_of, contents_of};
 ghost use Rattle.conn_table.specs.SeenCapture.{seen_capture};
 ghost use Rattle.run_files.specs.DraftedOutputs.{AreDraftsOf};
 ghost use Rattle.run_files.specs.Shelves.{Takes};
@@ -13,7 +13,7 @@ use crate::rehearsal::SCENARIO_LIMIT;
 use crate::sources::Sources;
 use conn_workers::record;
 use job_matrix::{Plan, Through};
-use pcap_records::{Capture, read_capture};
+use pcap_records::{Capture, FileBytes, read_file};
 use range_workers::table;
 use run_files::{DraftShelf, DraftedOutput, RunFault, store_drafts};
 use scenarios::Scenario;
@@ -31,21 +31,21 @@ use std::thread::{Threads, map_indices};
 pub(crate) fn store_rehearsal<R: Threads + Wait + Sync, S: DraftShelf>(
     rt: &R,
     alloc: Global,
-    capture: &[u8],
+    capture: FileBytes<'_>,
     scenarios: &[Scenario],
     seed: u64,
     plan: Plan,
     shelf: &mut S,
 ) -> Result<(), RunFault>
     requires { S.failures shelf.old < 2 ^ 64 - 1 }
-    ensures ends { StoresOf result (answer capture.now scenarios.now seed) }
-    ensures taken { TakenOf result (answer capture.now scenarios.now seed) (Takes (S.files shelf.old) (S.files shelf.new))
+    ensures ends { StoresOf result (answer (bytes_of capture.entry) scenarios.now seed) }
+    ensures taken { TakenOf result (answer (bytes_of capture.entry) scenarios.now seed) (Takes (S.files shelf.old) (S.files shelf.new))
         (S.failures shelf.old) (S.failures shelf.new) }
 {
     if scenarios.len() > SCENARIO_LIMIT {
         return Err(RunFault::TooManyScenarios);
     }
-    let capture = read_capture(alloc, capture)?;
+    let capture = read_file(alloc, capture)?;
     store_outputs(rt, alloc, &capture, scenarios, seed, plan, shelf)
 }
 

@@ -2,6 +2,7 @@
 use super::captures::PLAIN_REPORT;
 use std::alloc::AllocGlobal;
 use std::fs;
+use std::os::unix::fs::FileExt;
 use std::process::Abort;
 use std::rt::Files;
 use std::sync::Wait;
@@ -27,7 +28,7 @@ pub fn check<H: Abort + AllocGlobal + Files + Threads + Wait + Sync>(
     (status, written, told): (u8, &str, &str),
 )
 where
-    H::File: Send,
+    H::File: FileExt + Send + Sync,
     H::Dir: Send,
 {
     let mut input = Counted::new(text);
@@ -105,7 +106,7 @@ fn check_seeded<H: Abort + AllocGlobal + Files + Threads + Wait + Sync>(
     report: &str,
 )
 where
-    H::File: Send,
+    H::File: FileExt + Send + Sync,
     H::Dir: Send,
 {
     let text = format!(in rt.alloc();

@@ -4,6 +4,7 @@ use super::commands::{BOTH_REPORTS, SLOW, check, make_file, remove_file};
 use super::running::{STORED_REPORT, STORED_RUN};
 use pcap_records::CAPTURE_LIMIT;
 use std::alloc::{AllocError, AllocGlobal, Global};
+use std::os::unix::fs::FileExt;
 use std::process::Abort;
 use std::rt::Files;
 use std::sync::Wait;
@@ -82,7 +83,7 @@ fn check_over<H: Abort + AllocGlobal + Files + Threads + Wait + Sync, P: Paths>(
     (status, written, told): (u8, &str, &str),
 )
 where
-    H::File: Send,
+    H::File: FileExt + Send + Sync,
     H::Dir: Send,
 {
     let mut input = Counted::new(b"".as_slice());

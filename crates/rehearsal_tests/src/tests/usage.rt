@@ -5,6 +5,7 @@ use super::running::{STORED_REPORT, STORED_RUN};
 use super::writers::{RefusesOnce, Sips};
 use std::alloc::{AllocGlobal, Global};
 use std::io::{Error, ErrorKind};
+use std::os::unix::fs::FileExt;
 use std::process::Abort;
 use std::rt::Files;
 use std::sync::Wait;
@@ -101,7 +102,7 @@ fn check_failing<H: Abort + AllocGlobal + Files + Threads + Wait + Sync>(
     (status, written, told, failed): (u8, usize, &str, u64),
 )
 where
-    H::File: Send,
+    H::File: FileExt + Send + Sync,
     H::Dir: Send,
 {
     let mut input = Counted::new(Pieces {

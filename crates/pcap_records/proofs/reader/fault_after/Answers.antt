@@ -1,20 +1,20 @@
 use Rattle.std.proofs.Common.{drop, ◌+◌, Some, None, arith}
 use Rattle.std.proofs.lemmas.List.{drop-drop}
 use Rattle.pcap_records.specs.declared.fault.CaptureFault.TheVariants.{RecordTooLong}
-use Rattle.pcap_records.specs.CaptureView.{heading_of}
+use Rattle.pcap_records.specs.CaptureView.{bytes_of, heading_of}
 use Rattle.pcap_records.proofs.Passes.{refuses-whole, refuses-torn, refuses-too_long}
 use Rattle.pcap_records.proofs.reader.fault_after.Goals as goal
 
 pub returns-in-Torn : goal.returns-in-Torn
-returns-in-Torn c = c.records.invariant.back None (refuses-torn (heading_of c.args.heading) c.records.count (drop c.records.at c.args.bytes.now) c.in-Torn.ensures)
+returns-in-Torn c = c.records.invariant.back None (refuses-torn (heading_of c.args.heading) c.records.count (drop c.records.at (bytes_of c.args.bytes)) c.in-Torn.ensures)
 
 pub returns-in-TooLong : goal.returns-in-TooLong
 returns-in-TooLong c =
-    c.records.invariant.back (Some (RecordTooLong c.records.count)) (refuses-too_long (heading_of c.args.heading) c.records.count (drop c.records.at c.args.bytes.now) c.in-TooLong.ensures)
+    c.records.invariant.back (Some (RecordTooLong c.records.count)) (refuses-too_long (heading_of c.args.heading) c.records.count (drop c.records.at (bytes_of c.args.bytes)) c.in-TooLong.ensures)
 
 pub records-preserved : goal.records-preserved
 records-preserved c =
-    let bytes = c.args.bytes.now in
+    let bytes = bytes_of c.args.bytes in
     let found = c.in-Whole.ensures in
     record {
       inside = omega (arith, found.within.ends, found.start);

@@ -74,7 +74,7 @@ returns-clause-runs g c =
     let load = c.in_ok-text.ensures in
     runs_loaded c.args.asked.now hosts texts takes c.answer_into.result _
     (Consumes (g.R.Read.remaining c.args.reader.now.inner) (g.R.Read.remaining c.load_capture.new.reader.inner)) c.args.reader.now.failed c.load_capture.new.reader.failed
-    (λ text n lost count. (lost, count)) c.in_ok-text.text.items load.within c.answer_into.ensures.unwritten load.input
+    (λ text n lost count. (lost, count)) c.in_ok-text.text load.within c.answer_into.ensures.unwritten load.input
     (IfSome_then c.args.asked.now.capture load.file (λ path of. of.0)) (rw c.deref-4.ensures.value at c.answer_into.ensures.ends)
 
 pub returns-clause-named : goal.returns-clause-named
@@ -86,6 +86,6 @@ returns-clause-named g c =
     let loaded = rw c.deref-2.ensures.value at c.in_ok-files.ensures.told in
     let load = c.in_ok-text.ensures in
     loaded_over (g.P.Paths.holds c.args.paths.now) c.args.asked.now c.in_ok-hosts.hosts files texts known are loaded _
-    c.answer_into.result c.in_ok-text.text.items (Consumes (g.R.Read.remaining c.args.reader.now.inner) (g.R.Read.remaining c.load_capture.new.reader.inner))
+    c.answer_into.result c.in_ok-text.text (Consumes (g.R.Read.remaining c.args.reader.now.inner) (g.R.Read.remaining c.load_capture.new.reader.inner))
     c.args.reader.now.failed c.load_capture.new.reader.failed (λ text n lost count. (lost, count)) load.input
     (IfSome_then c.args.asked.now.capture load.file (λ path of. of.2)) (rw c.deref-4.ensures.value at c.answer_into.ensures.ends)

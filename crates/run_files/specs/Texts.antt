@@ -1,5 +1,5 @@
 -- Texts of captures: the bytes that one holds, wherever they stand.
-use Rattle.std.specs.Prelude.{◌≡◌, ℕ, List, Bool, false}
+use Rattle.std.specs.Prelude.{◌≡◌, ℕ, List, false}
 use Rattle.run_files.specs.declared.texts.TextBytes.{TextBytes}
 use Rattle.run_files.specs.declared.texts.TextBytes.TheVariants.{InBlocks, Whole}
 use Rattle.run_files.specs.Dumps.{is_dump}

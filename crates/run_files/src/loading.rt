@@ -1,5 +1,5 @@
 //! Loading a file by its path: a large one by several threads, block by block.
-ghost use Rattle.std.specs.Prelude.{◌≡◌, ◌+◌, ◌≤◌, ◌<◌, ◌*◌, ◌^◌, length, All, IfErr, IfOk};
+ghost use Rattle.std.specs.Prelude.{◌≤◌, ◌<◌, length, All, IfErr, IfOk};
 ghost use Rattle.pcap_records.specs.Blocks.{block_len, block_limit};
 ghost use Rattle.pcap_records.specs.Reading.{capture_limit};
 ghost use Rattle.run_files.specs.Paths.{IsOfFile};

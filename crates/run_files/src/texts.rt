@@ -1,5 +1,5 @@
 //! The text of a capture as it was loaded: in one piece, or in blocks.
-ghost use Rattle.std.specs.Prelude.{◌≡◌, Bool, false, if◌then◌else◌, IfNone, IfSome, Result, Ok};
+ghost use Rattle.std.specs.Prelude.{◌≡◌, if◌then◌else◌, IfSome, Result, Ok};
 ghost use Rattle.pcap_records.specs.Agreement.{Agrees};
 ghost use Rattle.pcap_records.specs.CaptureView.{bytes_of};
 ghost use Rattle.run_files.specs.Dumps.{is_dump, dump_reading};

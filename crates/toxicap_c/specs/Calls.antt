@@ -7,7 +7,6 @@ use Rattle.run_files.specs.RunFault.{run_refusal}
 use Rattle.toxicap.specs.Answering.{called_for}
 use Rattle.toxicap.specs.HostLines.{host_lines}
 use Rattle.toxicap.specs.Inputs.{hosts_from}
-use Rattle.toxicap.specs.PrintedReports.{reports_in}
 use Rattle.toxicap_c.specs.declared.sizes.ToxicapSizes.{ToxicapSizes}
 use Rattle.toxicap_c.specs.declared.statuses.Status.{Status}
 use Rattle.toxicap_c.specs.declared.statuses.Status.TheVariants.{Answered, Refused, LittleRoom, NoMemory}

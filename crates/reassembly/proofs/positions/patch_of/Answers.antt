@@ -1,4 +1,4 @@
-use Rattle.std.proofs.Common.{ap, arith, length, take, drop, length-take, length-drop, ◌-◌}
+use Rattle.std.proofs.Common.{ap, arith, length, drop, length-take, length-drop, ◌-◌}
 use Rattle.pcap_records.specs.CaptureView.{bytes_of}
 use Rattle.reassembly.proofs.positions.patch_of.Goals as goal
 

@@ -1,4 +1,4 @@
-use Rattle.std.proofs.Common.{◌≤◌, ◌<◌, ◌-◌, length}
+use Rattle.std.proofs.Common.{◌≤◌, ◌-◌, length}
 use Rattle.pcap_records.specs.Blocks.{block_len}
 use Rattle.run_files.proofs.loading.load_part.Given as goal
 

@@ -1,4 +1,4 @@
-use Rattle.std.proofs.Common.{◌≤◌, ◌∷◌, length, All, arith}
+use Rattle.std.proofs.Common.{◌≤◌, length, All, arith}
 use Rattle.std.specs.Result.{IfOk, IfErr}
 use Rattle.std.specs.Vec.Iter.{into_iter_items}
 use Rattle.std.proofs.lemmas.List.Elements.{All-append, All-tail}

@@ -1,17 +1,17 @@
 -- A table with one marked segment more.
-use Rattle.std.proofs.Common.{◌≡◌, ◌<◌, ◌≤◌, ℕ, zero, suc, ◌+◌, Bool, true, false, ◌&&◌, ◌||◌, cond, List, [], ◌∷◌, ◌++◌, length, set, get_or, replicate, slice_get, is_some, Option, Some, None, refl, sym, ap, ◌∙◌, arith}
+use Rattle.std.proofs.Common.{◌≡◌, ◌<◌, ◌≤◌, ℕ, zero, suc, ◌+◌, Bool, true, false, ◌&&◌, ◌||◌, cond, List, [], ◌∷◌, ◌++◌, length, set, get_or, is_some, Option, Some, None, refl, sym, ap, ◌∙◌, arith}
 use Rattle.std.proofs.lemmas.Bool.{cond_both}
-use Rattle.std.proofs.lemmas.List.{append_assoc, append-nil, length-replicate, get_or-replicate, map_push}
-use Rattle.std.proofs.lemmas.Option.{slice_get-get_or}
+use Rattle.std.proofs.lemmas.List.{append_assoc, append-nil, map_push}
 use Rattle.conn_table.specs.declared.conns.Pair.{Pair}
 use Rattle.conn_table.specs.declared.conns.Member.{Member}
 use Rattle.conn_table.specs.declared.conns.Conn.{Conn}
-use Rattle.conn_table.specs.declared.table.Current.{Current}
+use Rattle.conn_table.specs.declared.numbering.Current.{Current}
 use Rattle.conn_table.specs.IndexedSegments.{same_pair}
-use Rattle.conn_table.specs.KeptSegments.{KeptSegment, is_from_low}
+use Rattle.conn_table.specs.KeptSegments.{KeptSegment, is_from_low, opening_of}
 use Rattle.conn_table.specs.Partials.{MarkedKept}
 use Rattle.conn_table.specs.Tables.{later_of, member_from, conn_with, conns_from, is_opened, unopened_after}
-use Rattle.conn_table.specs.Growing.{grown_at, further, current_of}
+use Rattle.conn_table.specs.Numberings.{further, current_of}
+use Rattle.conn_table.specs.Growing.{grown_at}
 use Rattle.conn_table.proofs.Peers.{same_pair-is, same_pair-itself, same_pair-sym}
 
 abbrev number_or : Option Current → ℕ
@@ -21,7 +21,7 @@ number_or (Some c) = c.number
 -- ---- the last connection of a pair
 
 abbrev here_of : MarkedKept → Option Current
-here_of m = Some (record { number = 0; from_low = is_from_low m.kept })
+here_of m = Some (record { number = 0; opening = opening_of m.kept })
 
 -- no more is known of a pair after a segment that begins none of its connections
 pub current_of-push_other : (p : Pair) (ms : List MarkedKept) (m : MarkedKept) → (m.begins && same_pair m.kept.pair p) ≡ false → current_of p (ms ++ m ∷ []) ≡ current_of p ms
@@ -43,6 +43,23 @@ length-conns_from n (m ∷ ms) = by_test m.begins (length-conns_from (n + 1) ms)
     by_test true more same = ap (λ (k : ℕ). suc k) more
     by_test false more same = same
 
+-- 1 where it holds
+abbrev pub one_if : Bool → ℕ
+one_if true = 1
+one_if false = 0
+
+pub count-push : (ms : List MarkedKept) (m : MarkedKept) → count (ms ++ m ∷ []) ≡ count ms + one_if m.begins
+count-push [] m = by_test m.begins
+  where
+    by_test : (b : Bool) → cond b 1 0 ≡ 0 + one_if b
+    by_test true = refl
+    by_test false = refl
+count-push (x ∷ ms) m = by_test x.begins (count-push ms m)
+  where
+    by_test : (b : Bool) → count (ms ++ m ∷ []) ≡ count ms + one_if m.begins → cond b (suc (count (ms ++ m ∷ []))) (count (ms ++ m ∷ [])) ≡ cond b (suc (count ms)) (count ms) + one_if m.begins
+    by_test true rest = omega arith
+    by_test false rest = rest
+
 pub count-le : (ms : List MarkedKept) → count ms ≤ length ms
 count-le [] = omega arith
 count-le (m ∷ ms) = by_test m.begins (count-le ms)
@@ -52,7 +69,7 @@ count-le (m ∷ ms) = by_test m.begins (count-le ms)
     by_test false le = omega arith
 
 pub current_of-push_same : (p : Pair) (ms : List MarkedKept) (m : MarkedKept) → (m.begins && same_pair m.kept.pair p) ≡ true
-    → current_of p (ms ++ m ∷ []) ≡ Some (record { number = count ms; from_low = is_from_low m.kept })
+    → current_of p (ms ++ m ∷ []) ≡ Some (record { number = count ms; opening = opening_of m.kept })
 current_of-push_same p [] m same = rw same refl
 current_of-push_same p (x ∷ ms) m same = rw (current_of-push_same p ms m same) refl
 
@@ -176,7 +193,7 @@ conns_from-push_unopened n (x ∷ ms) m plain none =
     by_tests false None last found rest = rest n last
 
 pub conns_from-push_member : (n : ℕ) (ms : List MarkedKept) (m : MarkedKept) (c : Current) → m.begins ≡ false → current_of m.kept.pair ms ≡ Some c
-    → conns_from n (ms ++ m ∷ []) ≡ grown_at c.number (member_from c.from_low m.kept) (conns_from n ms)
+    → conns_from n (ms ++ m ∷ []) ≡ grown_at c.number (member_from c.opening.from_low m.kept) (conns_from n ms)
 unfolding conns_from
 conns_from-push_member n [] m c plain is = absurd cc
 conns_from-push_member n (x ∷ ms) m c plain is =
@@ -187,23 +204,23 @@ conns_from-push_member n (x ∷ ms) m c plain is =
 
     by_tests : (g : Bool) (o : Option Current) → current_of m.kept.pair ms ≡ o
         → further o g (cond (g && same_pair x.kept.pair m.kept.pair) (here_of x) None) ≡ Some c
-        → ((k : ℕ) (y : Current) → current_of m.kept.pair ms ≡ Some y → conns_from k (ms ++ m ∷ []) ≡ grown_at y.number (member_from y.from_low m.kept) (conns_from k ms))
+        → ((k : ℕ) (y : Current) → current_of m.kept.pair ms ≡ Some y → conns_from k (ms ++ m ∷ []) ≡ grown_at y.number (member_from y.opening.from_low m.kept) (conns_from k ms))
         → cond g (conn_with n x.kept (later_of x.kept (ms ++ m ∷ [])) ∷ conns_from (n + 1) (ms ++ m ∷ [])) (conns_from n (ms ++ m ∷ []))
-        ≡ grown_at c.number (member_from c.from_low m.kept) (cond g (conn_with n x.kept (later_of x.kept ms) ∷ conns_from (n + 1) ms) (conns_from n ms))
+        ≡ grown_at c.number (member_from c.opening.from_low m.kept) (cond g (conn_with n x.kept (later_of x.kept ms) ∷ conns_from (n + 1) ms) (conns_from n ms))
     by_tests true (Some y) last found rest =
-        let e : record { number = suc y.number; from_low = y.from_low } ≡ c = to_current _ c found in
+        let e : record { number = suc y.number; opening = y.opening } ≡ c = to_current _ c found in
         rw (← e, later_of-push_closed x.kept ms m y last, rest (n + 1) y last) refl
     by_tests false (Some y) last found rest =
-        let e : record { number = y.number; from_low = y.from_low } ≡ c = to_current _ c found in
+        let e : record { number = y.number; opening = y.opening } ≡ c = to_current _ c found in
         rw (← e) (rest n y last)
     by_tests false None last found rest = absurd cc
     by_tests true None last found rest = by_pair (same_pair x.kept.pair m.kept.pair) refl found
       where
         by_pair : (s : Bool) → same_pair x.kept.pair m.kept.pair ≡ s → cond s (here_of x) None ≡ Some c
-            → conn_with n x.kept (later_of x.kept (ms ++ m ∷ [])) ∷ conns_from (n + 1) (ms ++ m ∷ []) ≡ grown_at c.number (member_from c.from_low m.kept) (conn_with n x.kept (later_of x.kept ms) ∷ conns_from (n + 1) ms)
+            → conn_with n x.kept (later_of x.kept (ms ++ m ∷ [])) ∷ conns_from (n + 1) (ms ++ m ∷ []) ≡ grown_at c.number (member_from c.opening.from_low m.kept) (conn_with n x.kept (later_of x.kept ms) ∷ conns_from (n + 1) ms)
         by_pair false same some = absurd cc
         by_pair true same some =
-            let e : record { number = 0; from_low = is_from_low x.kept } ≡ c = to_current _ c some in
+            let e : record { number = 0; opening = opening_of x.kept } ≡ c = to_current _ c some in
             let one : x.kept.pair ≡ m.kept.pair = same_pair-is x.kept.pair m.kept.pair same in
             rw (← e, later_of-push_open x.kept ms m plain one last, conns_from-push_unopened (n + 1) ms m plain last, map_push (member_from (is_from_low x.kept)) (later_of x.kept ms) m.kept) refl
 
@@ -232,6 +249,3 @@ pub grown_at-set : (n : ℕ) (x : Member) (cs : List Conn) (d : Conn) → n < le
 grown_at-set n x [] d within is = absurd (omega arith)
 grown_at-set zero x (c ∷ cs) d within is = ap (λ (e : Conn). record e { members = e.members ++ x ∷ [] } ∷ cs) is
 grown_at-set (suc n) x (c ∷ cs) d within is = ap (λ (ys : List Conn). c ∷ ys) (grown_at-set n x cs d (omega arith) is)
-
-pub slice_get-replicate : {X : Type 0} (n i : ℕ) (x : X) → i < n → slice_get (replicate n x) i ≡ Some x
-slice_get-replicate n i x within = slice_get-get_or (replicate n x) i x (omega (arith, length-replicate n x)) ∙ ap (λ y. Some y) (get_or-replicate n i x x within)

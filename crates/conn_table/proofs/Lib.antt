@@ -7,13 +7,12 @@ mod GroupingMembers
 mod GroupingUnopened
 mod GroupingForms
 mod CountingSteps
-mod PairTrees
-mod ListingSteps
 mod MarkSteps
 pub mod RangeSteps
-mod JoinSteps
+mod EntrySteps
 mod PartialSteps
 mod GrowthSteps
+mod NumberingSteps
 mod Growths
 mod Joins
 mod TableForms

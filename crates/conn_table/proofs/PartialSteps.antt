@@ -2,7 +2,7 @@
 use Rattle.std.proofs.Common.{◌≡◌, ◌<◌, ◌≤◌, ℕ, ◌+◌, ◌-◌, max, ◌^◌, Bool, true, false, cond, List, [], ◌∷◌, ◌++◌, length, map, take, drop, get_or, slice_get, Option, Some, None, refl, sym, ap, ap₂, subst, ◌∙◌, arith, length-take}
 use Rattle.std.specs.Prelude.{unwrap_or}
 use Rattle.std.specs.List.{cons_option}
-use Rattle.std.proofs.lemmas.List.{length-map, get_or-map, map-append, append-nil}
+use Rattle.std.proofs.lemmas.List.{length-map, get_or-map, map_push, append-nil}
 use Rattle.std.proofs.lemmas.Option.{same_Some, slice_get-map, slice_get_read}
 use Rattle.pcap_records.specs.Instants.{instants}
 use Rattle.pcap_records.specs.declared.capture.Record.{Record}
@@ -15,12 +15,10 @@ use Rattle.frame_headers.specs.declared.classes.Class.TheVariants as classes
 use Rattle.frame_headers.specs.declared.classes.Segment.{Segment}
 use Rattle.conn_table.specs.SeenCapture.{SeenPacket, seen_packet, seen_packets}
 use Rattle.conn_table.specs.IndexedSegments.{IndexedSegment, is_segment, indexed_segments}
-use Rattle.conn_table.specs.Connections.{begins_after}
 use Rattle.conn_table.specs.ClassCounts.{counts_of, counts_with, count_at}
 use Rattle.conn_table.specs.KeptSegments.{KeptSegment, kept_in, kept_at, segment_read, frame_at, payload_start}
-use Rattle.conn_table.specs.Partials.{MarkedKept, MarkedSegment, marked_in, marked_after, kept_of, mark_behind, packets_between, segments_between, carried}
+use Rattle.conn_table.specs.Partials.{MarkedKept, marked_in, marked_after, packets_between, segments_between, carried}
 use Rattle.conn_table.proofs.CountingSteps.{counts_of-push, count_at-le-length}
-use Rattle.conn_table.proofs.MarkSteps.{marked_after-append, kept_of-marked, begins_behind-kept}
 use Rattle.conn_table.proofs.RangeSteps.{packets_between-more, length-packets_between, indexed_segments-append, carried-more}
 
 -- ---- record i of a capture, whose packet has these bytes
@@ -75,9 +73,9 @@ pub segments-none : (c : CaptureView) (from carry : ℕ) → segments_between c 
 unfolding indexed_segments
 segments-none c from carry = rw (no_packets c from carry) refl
 
-pub marks-none : (c : CaptureView) (from carry : ℕ) → [] ≡ map (marked_in c) (marked_after [] (segments_between c from from carry))
-unfolding indexed_segments marked_after
-marks-none c from carry = rw (no_packets c from carry) refl
+pub kept-none : (c : CaptureView) (from carry : ℕ) → [] ≡ map (kept_in c) (segments_between c from from carry)
+unfolding indexed_segments
+kept-none c from carry = rw (no_packets c from carry) refl
 
 -- ---- one record more
 
@@ -130,38 +128,27 @@ segments_more c from i carry r bytes ordered here =
 abbrev pub marks_between : CaptureView → ℕ → ℕ → ℕ → List MarkedKept
 marks_between c from to carry = map (marked_in c) (marked_after [] (segments_between c from to carry))
 
-marks_push : (c : CaptureView) (segs : List IndexedSegment) (s : IndexedSegment)
-    → map (marked_in c) (marked_after [] (segs ++ s ∷ [])) ≡ map (marked_in c) (marked_after [] segs) ++ mark_behind (kept_of (map (marked_in c) (marked_after [] segs))) (kept_in c s) ∷ []
-unfolding marked_after
-marks_push c segs s =
-    let parts = marked_after-append [] segs (s ∷ []) in
-    ap (λ (ms : List MarkedSegment). map (marked_in c) ms) parts
-    ∙ (map-append (marked_in c) (marked_after [] segs) (record { begins = begins_after segs s; segment = s } ∷ [])
-    ∙ rw (kept_of-marked c [] segs, begins_behind-kept c segs s) refl)
-
-pub marks-segment : (c : CaptureView) (from i carry : ℕ) (r : Record) (bytes : List ℕ) (done more : List MarkedKept) (start : ℕ) (fields : SegmentFields)
-    → from ≤ i → IsRecordOf c i r bytes → frame_class bytes ≡ segment → done ≡ marks_between c from i carry
+pub kept-segment : (c : CaptureView) (from i carry : ℕ) (r : Record) (bytes : List ℕ) (done : List KeptSegment) (k : KeptSegment) (start : ℕ) (fields : SegmentFields)
+    → from ≤ i → IsRecordOf c i r bytes → frame_class bytes ≡ segment → done ≡ map (kept_in c) (segments_between c from i carry)
     → start ≡ r.start + payload_offset bytes → fields ≡ segment_fields bytes
-    → more ≡ done ++ mark_behind (kept_of done) (kept_at start (segment_read i (max (carried c from i carry) r.stamp) fields)) ∷ []
-    → more ≡ marks_between c from (i + 1) carry
-marks-segment c from i carry r bytes done more start fields ordered here is so_far starts are grown =
+    → k ≡ kept_at start (segment_read i (max (carried c from i carry) r.stamp) fields)
+    → done ++ k ∷ [] ≡ map (kept_in c) (segments_between c from (i + 1) carry)
+kept-segment c from i carry r bytes done k start fields ordered here is so_far starts are kept =
     let s : IndexedSegment = segment_read i (max (carried c from i carry) r.stamp) (segment_fields bytes) in
     let segs : List IndexedSegment = segments_between c from i carry in
     let all : segments_between c from (i + 1) carry ≡ segs ++ s ∷ [] = segments_more c from i carry r bytes ordered here ∙ ap (λ (k : FrameClass). segs ++ segment_list (is_segment k) s) is in
-    let kept : kept_at start (segment_read i (max (carried c from i carry) r.stamp) fields) ≡ kept_in c s =
-    ap₂ (λ (n : ℕ) (f : SegmentFields). kept_at n (segment_read i (max (carried c from i carry) r.stamp) f)) (starts ∙ sym (start_is c i r bytes here)) are in
-    grown
-    ∙ (ap (λ (k : KeptSegment). done ++ mark_behind (kept_of done) k ∷ []) kept
-    ∙ (ap (λ (ms : List MarkedKept). ms ++ mark_behind (kept_of ms) (kept_in c s) ∷ []) so_far
-    ∙ (sym (marks_push c segs s) ∙ ap (λ (xs : List IndexedSegment). map (marked_in c) (marked_after [] xs)) (sym all))))
+    let same : k ≡ kept_in c s =
+    kept ∙ ap₂ (λ (n : ℕ) (f : SegmentFields). kept_at n (segment_read i (max (carried c from i carry) r.stamp) f)) (starts ∙ sym (start_is c i r bytes here)) are in
+    ap₂ (λ (ks : List KeptSegment) (x : KeptSegment). ks ++ x ∷ []) so_far same
+    ∙ (sym (map_push (kept_in c) segs s) ∙ ap (λ (xs : List IndexedSegment). map (kept_in c) xs) (sym all))
 
-pub marks-other : (c : CaptureView) (from i carry : ℕ) (r : Record) (bytes : List ℕ) → from ≤ i → IsRecordOf c i r bytes → is_segment (frame_class bytes) ≡ false
-    → marks_between c from i carry ≡ marks_between c from (i + 1) carry
-marks-other c from i carry r bytes ordered here other =
+pub kept-other : (c : CaptureView) (from i carry : ℕ) (r : Record) (bytes : List ℕ) → from ≤ i → IsRecordOf c i r bytes → is_segment (frame_class bytes) ≡ false
+    → map (kept_in c) (segments_between c from i carry) ≡ map (kept_in c) (segments_between c from (i + 1) carry)
+kept-other c from i carry r bytes ordered here other =
     let s : IndexedSegment = segment_read i (max (carried c from i carry) r.stamp) (segment_fields bytes) in
     let segs : List IndexedSegment = segments_between c from i carry in
     let all : segments_between c from (i + 1) carry ≡ segs ++ [] = segments_more c from i carry r bytes ordered here ∙ ap (λ (b : Bool). segs ++ segment_list b s) other in
-    ap (λ (xs : List IndexedSegment). map (marked_in c) (marked_after [] xs)) (sym (all ∙ append-nil segs))
+    ap (λ (xs : List IndexedSegment). map (kept_in c) xs) (sym (all ∙ append-nil segs))
 
 -- the class of what is no segment
 pub is_segment-other : (k : Class) → ((s : Segment) → k ≡ classes.Segment s → ⊥) → is_segment (frame_class_of k) ≡ false

@@ -1,5 +1,5 @@
 -- What a table keeps of a segment, and how kept segments are read in turn.
-use Rattle.std.specs.Prelude.{ℕ, ◌+◌, List, length, filter, Option, Some, None, Bool, false, ◌&&◌, ◌==◌, not, slice_get, unwrap_or, [], set, if◌then◌else◌}
+use Rattle.std.specs.Prelude.{ℕ, ◌+◌, List, length, filter, Option, Some, None, Bool, false, ◌&&◌, ◌==◌, not, slice_get, unwrap_or, []}
 use Rattle.std.specs.Bool.{beq}
 use Rattle.std.specs.Option.{option_map, option_map_or}
 use Rattle.pcap_records.specs.CaptureView.{CaptureView, packet_at}
@@ -7,7 +7,7 @@ use Rattle.frame_headers.specs.Flags.{has_flag, syn_flag, ack_flag, rst_flag}
 use Rattle.frame_headers.specs.Frame.{SegmentFields, payload_offset}
 use Rattle.conn_table.specs.declared.conns.Member.{Member}
 use Rattle.conn_table.specs.declared.conns.Pair.{Pair}
-use Rattle.conn_table.specs.declared.listing.Opening.{Opening}
+use Rattle.conn_table.specs.declared.entries.Opening.{Opening}
 use Rattle.conn_table.specs.IndexedSegments.{IndexedSegment, peer_le, same_pair, pair_of_segment}
 use Rattle.conn_table.specs.Connections.{last_of}
 
@@ -78,7 +78,3 @@ last_opening earlier p = option_map opening_of (last_of (filter (λ x. opens x &
 -- an opening that does not repeat the last one of its pair
 abbrev pub begins_behind : List KeptSegment → KeptSegment → Bool
 begins_behind earlier k = opens k && not (is_again (last_opening earlier k.pair) (opening_of k))
-
--- the last opening of each group, once a segment of group g was read
-abbrev pub lasts_after : List (Option Opening) → KeptSegment → ℕ → List (Option Opening)
-lasts_after lasts k g = if opens k then set lasts g (Some (opening_of k)) else lasts

@@ -7,8 +7,9 @@ pub mod KeptSegments
 pub mod Partials
 pub mod Groups
 pub mod Tables
-pub mod PairNumbers
-pub mod Listings
+pub mod PairWords
+pub mod Entries
+pub mod Numberings
 pub mod Growing
 pub mod TableFacts
 pub use Rattle.pcap_records.specs.Instants

@@ -98,7 +98,7 @@ impl Members {
 }
 
 /// Two peers without order, the lower one first, by address and then by port, and their VLAN: peers in another VLAN are others.
-#[derive(Clone, Copy, Debug, PartialEq, Eq, Hash)]
+#[derive(Clone, Copy, Debug, PartialEq, Eq)]
 pub struct Pair {
     /// The number of their VLAN, if they have one.
     pub vlan: Option<u16>,

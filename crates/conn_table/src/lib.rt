@@ -6,9 +6,10 @@
 
 mod class_counts;
 mod conns;
+mod entries;
 pub mod laws;
-mod listing;
-mod pair_numbers;
+mod numbering;
+mod pair_keys;
 mod partial;
 mod rows;
 mod table;

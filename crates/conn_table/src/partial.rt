@@ -1,19 +1,20 @@
 //! The part of a table that a range of records gives.
 use crate::class_counts::Counts;
-use crate::listing::Listing;
+use crate::entries::Entry;
 use frame_headers::{Class, classify};
 use pcap_records::{Capture, Moment};
 use std::alloc::{AllocError, Global};
 use std::marker::Model;
 
-/// What is known of a range of records: how many of its packets are of each class, and its segments, each with the mark whether
-/// it begins a connection as read on the range alone. The partials of adjacent ranges are joined by [`Partial::join`].
+/// What is known of a range of records: how many of its packets are of each class, and its segments. Contracts see each segment
+/// with the mark whether it begins a connection as read on the range alone. The partials of adjacent ranges are joined by
+/// [`Partial::join`].
 #[derive(Drop)]
 pub struct Partial {
     pub(crate) from: usize,
     pub(crate) to: usize,
     pub(crate) counts: Counts,
-    pub(crate) listing: Listing,
+    pub(crate) entries: Vec<Entry>,
 }
 
 impl Model for Partial {
@@ -21,11 +22,11 @@ impl Model for Partial {
 
     ghost Value = { PartialView };
 
-    ghost use Rattle.conn_table.specs.Listings.{IsPartial, marks_of};
+    ghost use Rattle.conn_table.specs.Entries.{IsPartial, marks_of};
 
-    ghost view = { λ p. record { from = p.from; to = p.to; counts = p.counts; marked = marks_of p.listing } };
+    ghost view = { λ p. record { from = p.from; to = p.to; counts = p.counts; marked = marks_of p.entries.items } };
 
-    ghost invariant = { λ p. IsPartial p.from p.to p.counts p.listing };
+    ghost invariant = { λ p. IsPartial p.from p.to p.counts p.entries.items };
 }
 
 impl Partial {
@@ -52,7 +53,7 @@ impl Partial {
     {
         let records = capture.records();
         let mut counts = Counts::none();
-        let mut listing = Listing::with_room(alloc, to - from)?;
+        let mut entries = Vec::with_capacity(alloc, to - from)?;
         let mut at = carry;
         for index in from..to {
             let record = records[index];
@@ -60,14 +61,14 @@ impl Partial {
             at = at.greater(record.stamp);
             counts.add(&class);
             if let Class::Segment(segment) = class {
-                listing.list_segment(index as u32, at, record.start, &segment)?;
+                entries.push(Entry::of_segment(index as u32, at, record.start, &segment))?;
             }
         }
         Ok(Partial {
             from,
             to,
             counts,
-            listing,
+            entries,
         })
     }
 
@@ -86,15 +87,20 @@ impl Partial {
             from,
             to: _,
             counts,
-            mut listing,
+            mut entries,
         } = left;
-        let counts = counts.plus(right.counts);
-        listing.append(&right.listing)?;
+        let Partial {
+            from: _,
+            to,
+            counts: more,
+            entries: mut next,
+        } = right;
+        entries.append(&mut next)?;
         Ok(Partial {
             from,
-            to: right.to,
-            counts,
-            listing,
+            to,
+            counts: counts.plus(more),
+            entries,
         })
     }
 }

@@ -2,4 +2,4 @@ use Rattle.conn_table.specs.Growing.{HasGrown}
 use Rattle.conn_table.proofs.table.finish.Given as goal
 
 abbrev pub invariant-loop-at : goal.invariant-loop-at
-invariant-loop-at l = HasGrown l.listing l.at l.growth
+invariant-loop-at l = HasGrown l.entries.items l.at l.growth

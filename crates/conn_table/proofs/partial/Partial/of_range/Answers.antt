@@ -1,26 +1,25 @@
-use Rattle.std.proofs.Common.{◌+◌, ℕ, List, ◌≡◌, ◌≤◌, ◌<◌, ◌^◌, length, sym, ◌∙◌, ap, arith, false}
+use Rattle.std.proofs.Common.{◌+◌, ℕ, List, [], map, ◌≡◌, ◌≤◌, ◌<◌, ◌^◌, length, sym, ◌∙◌, ap, arith, false}
+use Rattle.std.proofs.lemmas.List.{length_push, map_push}
 use Rattle.frame_headers.specs.Frame.{frame_class, segment}
 use Rattle.frame_headers.specs.Class.{frame_class_of, fields_of_segment}
 use Rattle.conn_table.specs.IndexedSegments.{is_segment}
 use Rattle.conn_table.specs.ClassCounts.{counts_of}
-use Rattle.conn_table.specs.Partials.{MarkedKept, PartialView, partial_in, packets_between}
+use Rattle.conn_table.specs.Partials.{MarkedKept, PartialView, partial_in, marked_in, marked_after, marked_behind, packets_between, segments_between}
 use Rattle.conn_table.specs.declared.class_counts.Counts.{Counts}
-use Rattle.conn_table.specs.Listings.{marks_of}
-use Rattle.conn_table.proofs.PartialSteps.{IsRecordOf, ends_within, at-none, counts-none, marks-none, at-more, counts-more, counts-few, marks-segment, marks-other, marks_between, is_segment-other}
-use Rattle.conn_table.proofs.partial.Partial.of_range.Goals.{in-Segment+in_ok-list_segment, in_default}
+use Rattle.conn_table.specs.Entries.{kept_by, marks_of}
+use Rattle.conn_table.proofs.MarkSteps.{marked_behind-kept}
+use Rattle.conn_table.proofs.PartialSteps.{IsRecordOf, ends_within, at-none, counts-none, kept-none, at-more, counts-more, counts-few, kept-segment, kept-other, marks_between, is_segment-other}
+use Rattle.conn_table.proofs.partial.Partial.of_range.Goals.{in-Segment+in_ok-push, in_default}
 use Rattle.conn_table.proofs.partial.Partial.of_range.Goals as goal
 
 pub loop-index-init : goal.loop-index-init
 loop-index-init c =
-    let empty = c.in_ok-listing.ensures.empty in
-    let no_pairs = c.in_ok-listing.ensures.pairs in
+    let empty = c.in_ok-entries.ensures.items in
     record {
-      listing = c.in_ok-listing.ensures.listing;
       segments = rw empty (omega arith);
-      pairs = rw no_pairs (omega arith);
       at = at-none c.args.capture.now c.args.from c.args.carry;
       counts = c.none-counts.ensures ∙ counts-none c.args.capture.now c.args.from c.args.carry;
-      marks = rw empty (marks-none c.args.capture.now c.args.from c.args.carry);
+      kept = rw empty (kept-none c.args.capture.now c.args.from c.args.carry);
     }
 
 pub add-requires : goal.add-requires
@@ -32,11 +31,11 @@ add-requires c =
     rw c.loop-index.invariant.counts
     (omega (arith, total, counts-few capture c.args.from c.loop-index.index c.args.carry (frame_class_of c.classify-class.result) c.loop-index.auto.index (omega arith)))
 
-pub list_segment-requires-clause-short : goal.list_segment-requires-clause-short
-list_segment-requires-clause-short c = (rw c.in-Segment.is at c.classify-class.ensures.payload).short
+pub of_segment-requires-clause-short : goal.of_segment-requires-clause-short
+of_segment-requires-clause-short c = (rw c.in-Segment.is at c.classify-class.ensures.payload).short
 
-pub list_segment-requires-clause-within : goal.list_segment-requires-clause-within
-list_segment-requires-clause-within c =
+pub of_segment-requires-clause-within : goal.of_segment-requires-clause-within
+of_segment-requires-clause-within c =
     let capture = c.args.capture.now in
     let r = c.index-records-index.result in
     let sound = rw c.records-records.ensures.records at c.records-records.ensures.sound in
@@ -68,30 +67,27 @@ loop-index-preserved c =
     let counts = rw (c.classify-class.ensures.class, was.counts) at c.add.ensures in
     let counted = counts ∙ counts-more capture from i carry r bytes ordered here in
     elim c.match-class.branch [
-      | in-Segment+in_ok-list_segment w ↦
-          let told = w.in_ok-list_segment.ensures in
+      | in-Segment+in_ok-push w ↦
+          let told = w.in_ok-push.ensures.items in
           let is : frame_class bytes ≡ segment = sym c.classify-class.ensures.class ∙ ap frame_class_of w.in-Segment.is in
           let fields = rw w.in-Segment.is at c.classify-class.ensures.segment in
           let payload = rw w.in-Segment.is at c.classify-class.ensures.payload in
           record {
-            listing = rw w.listing-is told.listing;
-            segments = rw w.listing-is (omega (arith, told.len, was.segments, ordered));
-            pairs = rw w.listing-is (omega (arith, told.grown, was.pairs, ordered));
+            segments = rw (w.entries-is, told) (omega (arith, length_push c.loop-index.entries.items w.of_segment.result, was.segments, ordered));
             at = at;
             counts = counted;
-            marks = rw w.listing-is (
-                marks-segment capture from i carry r bytes (marks_of c.loop-index.listing) _ (r.start + w.in-Segment.segment.offset) (fields_of_segment w.in-Segment.segment) ordered here is was.marks
-                (ap (λ n. r.start + n) payload.offset) fields (rw now at told.marks));
+            kept = rw (w.entries-is, told) (
+                map_push kept_by c.loop-index.entries.items w.of_segment.result
+                ∙ kept-segment capture from i carry r bytes (map kept_by c.loop-index.entries.items) (kept_by w.of_segment.result) (r.start + w.in-Segment.segment.offset) (fields_of_segment w.in-Segment.segment) ordered here is was.kept
+                (ap (λ n. r.start + n) payload.offset) fields (rw now at w.of_segment.ensures));
           }
       | in_default w ↦
           let other : is_segment (frame_class bytes) ≡ false = ap is_segment (sym c.classify-class.ensures.class) ∙ is_segment-other c.classify-class.result (λ s e. w.in_default.not-Segment s e) in
           record {
-            listing = rw w.listing-is was.listing;
-            segments = rw w.listing-is (omega (arith, was.segments));
-            pairs = rw w.listing-is (omega (arith, was.pairs));
+            segments = rw w.entries-is (omega (arith, was.segments));
             at = at;
             counts = counted;
-            marks = rw w.listing-is (was.marks ∙ marks-other capture from i carry r bytes ordered here other);
+            kept = rw w.entries-is (was.kept ∙ kept-other capture from i carry r bytes ordered here other);
           }
     ]
 
@@ -102,11 +98,9 @@ invariant_of-result c =
     let was = c.loop-index.invariant in
     let over : c.loop-index.index ≡ c.args.to = omega arith in
     record {
-      listing = was.listing;
       ordered = c.requires.ordered;
       few = omega arith;
       segments = omega (arith, was.segments);
-      pairs = omega (arith, was.pairs);
       counted = λ k. rw was.counts (omega (arith, over, counts-few capture c.args.from c.loop-index.index c.args.carry k (omega arith) (omega arith)));
     }
 
@@ -118,5 +112,7 @@ returns-clause-exact c =
     let over : c.loop-index.index ≡ c.args.to = omega arith in
     let view : Counts → List MarkedKept → PartialView = λ counts marked. record { from = c.args.from; to = c.args.to; counts = counts; marked = marked } in
     let of_index : ℕ → PartialView = λ i. view (counts_of (packets_between capture c.args.from i c.args.carry)) (marks_between capture c.args.from i c.args.carry) in
-    ap (λ n. view n (marks_of c.loop-index.listing)) was.counts
-    ∙ (ap (λ ms. view (counts_of (packets_between capture c.args.from c.loop-index.index c.args.carry)) ms) was.marks ∙ ap of_index over)
+    let segs = segments_between capture c.args.from c.loop-index.index c.args.carry in
+    let marks : marks_of c.loop-index.entries.items ≡ map (marked_in capture) (marked_after [] segs) = ap (λ ks. marked_behind [] ks) was.kept ∙ marked_behind-kept capture [] segs in
+    ap (λ n. view n (marks_of c.loop-index.entries.items)) was.counts
+    ∙ (ap (λ ms. view (counts_of (packets_between capture c.args.from c.loop-index.index c.args.carry)) ms) marks ∙ ap of_index over)

@@ -1,60 +1,48 @@
-use Rattle.std.proofs.Common.{◌∙◌, refl, arith}
-use Rattle.conn_table.proofs.JoinSteps.{group_of_item}
-use Rattle.conn_table.proofs.Growths.{IsEntryAt, conns-few, unopened-few, number-few, current_at, grown-begun, grown-member, grown-unopened}
+use Rattle.std.proofs.Common.{◌∙◌, ◌<◌, length, refl, sym, subst, arith}
+use Rattle.conn_table.specs.Entries.{kept_by, kept_to}
+use Rattle.conn_table.proofs.EntrySteps.{IsEntryAt}
+use Rattle.conn_table.proofs.NumberingSteps.{length-places_in, place_in-at, place-begins, place-joins, place-unopened}
+use Rattle.conn_table.proofs.Growths.{conns-few, unopened-few, number-few, grown-begun, grown-joined, grown-unopened}
 use Rattle.conn_table.proofs.table.Growth.take.Goals as goal
 
-pub begin-requires-clause-few : goal.begin-requires-clause-few
-begin-requires-clause-few c = omega (arith, conns-few c.args.listing.now c.args.at c.args.self.now (omega arith) c.requires.grown)
+pub bounds : goal.bounds
+bounds c = rw c.requires.places (omega (arith, length-places_in c.args.entries.now))
+
+pub begin-requires : goal.begin-requires
+begin-requires c = omega (arith, conns-few c.args.entries.now c.args.at c.args.self.now (omega arith) c.requires.grown)
 
 pub overflow_add-self : goal.overflow_add-self
-overflow_add-self c =
-    let few = unopened-few c.args.listing.now c.args.at c.args.self.now (omega arith) c.requires.grown in
-    omega (arith, few)
+overflow_add-self c = omega (arith, unopened-few c.args.entries.now c.args.at c.args.self.now (omega arith) c.requires.grown)
 
 pub add_member-requires : goal.add_member-requires
 add_member-requires c =
-    let l = c.args.listing.now in
-    let e = c.index.result.now in
-    let at : IsEntryAt l c.args.at e = record {
-      within = c.requires.within;
-      is = c.index.ensures;
-      group = group_of_item l.pairs.keys.items l.entries.items c.args.at e c.requires.listing.groups c.requires.within c.index.ensures;
-    } in
-    let found = current_at l c.args.at e c.args.self.now c.index-else-entry.result.now at c.requires.grown c.index-else-entry.ensures ∙ c.in-Some.is in
-    number-few l c.args.at e c.args.self.now c.in-Some.current at c.requires.grown found
+    let es = c.args.entries.now in
+    let e = c.index-entries-at.result in
+    let at : IsEntryAt es c.args.at e = record { within = c.requires.within; is = c.index-entries-at.is } in
+    let joins = place-joins (kept_to es c.args.at) (kept_by e) _ _ (sym (place_in-at es c.args.at e _ at) ∙ (rw c.requires.places at c.in-Joins.is)) in
+    subst (λ n. n < length c.args.self.now.conns.items) joins.number (number-few es c.args.at e c.args.self.now joins.last c.requires.grown joins.is)
 
-pub returns-in_ok-begin : goal.returns-in_ok-begin
-returns-in_ok-begin c =
-    let l = c.args.listing.now in
-    let e = c.index.result.now in
-    let told = c.in_ok-begin.ensures in
-    let at : IsEntryAt l c.args.at e = record {
-      within = c.requires.within;
-      is = c.index.ensures;
-      group = group_of_item l.pairs.keys.items l.entries.items c.args.at e c.requires.listing.groups c.requires.within c.index.ensures;
-    } in
-    grown-begun l c.args.at e c.args.self.now c.begin.new.self c.requires.listing at c.requires.grown c.if-entry.true (rw c.as_slice.ensures at told.conns) told.current told.unopened
+pub returns-in_ok-begin-in-Begins : goal.returns-in_ok-begin-in-Begins
+returns-in_ok-begin-in-Begins c =
+    let es = c.args.entries.now in
+    let e = c.index-entries-at.result in
+    let at : IsEntryAt es c.args.at e = record { within = c.requires.within; is = c.index-entries-at.is } in
+    let begins = place-begins (kept_to es c.args.at) (kept_by e) (sym (place_in-at es c.args.at e _ at) ∙ (rw c.requires.places at c.in-Begins.is)) in
+    let told = c.in_ok-begin-in-Begins.ensures in
+    grown-begun es c.args.at e c.args.self.now c.begin.new.self at c.requires.grown begins told.conns told.unopened
 
-pub returns-in_ok-add_member : goal.returns-in_ok-add_member
-returns-in_ok-add_member c =
-    let l = c.args.listing.now in
-    let e = c.index.result.now in
-    let at : IsEntryAt l c.args.at e = record {
-      within = c.requires.within;
-      is = c.index.ensures;
-      group = group_of_item l.pairs.keys.items l.entries.items c.args.at e c.requires.listing.groups c.requires.within c.index.ensures;
-    } in
-    let found = current_at l c.args.at e c.args.self.now c.index-else-entry.result.now at c.requires.grown c.index-else-entry.ensures ∙ c.in-Some.is in
-    grown-member l c.args.at e c.args.self.now _ c.in-Some.current at c.requires.grown c.if-entry.false found (rw c.member_of.ensures at c.in_ok-add_member.ensures) refl refl
+pub returns-in_ok-add_member-in-Joins : goal.returns-in_ok-add_member-in-Joins
+returns-in_ok-add_member-in-Joins c =
+    let es = c.args.entries.now in
+    let e = c.index-entries-at.result in
+    let at : IsEntryAt es c.args.at e = record { within = c.requires.within; is = c.index-entries-at.is } in
+    let joins = place-joins (kept_to es c.args.at) (kept_by e) _ _ (sym (place_in-at es c.args.at e _ at) ∙ (rw c.requires.places at c.in-Joins.is)) in
+    grown-joined es c.args.at e c.args.self.now _ c.in-Joins.number c.in-Joins.from_low at c.requires.grown joins (rw c.member_of.ensures at c.in_ok-add_member-in-Joins.ensures) refl
 
-pub returns-in_default : goal.returns-in_default
-returns-in_default c =
-    let l = c.args.listing.now in
-    let e = c.index.result.now in
-    let at : IsEntryAt l c.args.at e = record {
-      within = c.requires.within;
-      is = c.index.ensures;
-      group = group_of_item l.pairs.keys.items l.entries.items c.args.at e c.requires.listing.groups c.requires.within c.index.ensures;
-    } in
-    let none = current_at l c.args.at e c.args.self.now c.index-else-entry.result.now at c.requires.grown c.index-else-entry.ensures ∙ c.in_default.is in
-    grown-unopened l c.args.at e c.args.self.now _ at c.requires.grown c.if-entry.false none refl refl (omega arith)
+pub returns-in-Unopened : goal.returns-in-Unopened
+returns-in-Unopened c =
+    let es = c.args.entries.now in
+    let e = c.index-entries-at.result in
+    let at : IsEntryAt es c.args.at e = record { within = c.requires.within; is = c.index-entries-at.is } in
+    let unopened = place-unopened (kept_to es c.args.at) (kept_by e) (sym (place_in-at es c.args.at e _ at) ∙ (rw c.requires.places at c.in-Unopened.is)) in
+    grown-unopened es c.args.at e c.args.self.now _ at c.requires.grown unopened.plain unopened.none refl refl

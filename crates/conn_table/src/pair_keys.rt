@@ -1,0 +1,79 @@
+//! How pairs are hashed. The hasher's key is bound to the openings of a capture, so that no capture can choose its pairs against it.
+ghost use Rattle.std.specs.Prelude.{◌≡◌};
+ghost use Rattle.conn_table.specs.PairWords.{addrs_word, ports_word};
+
+use crate::conns::Pair;
+use crate::entries::Entry;
+use sha2::{Digest, Sha256};
+use std::hash::{BuildHasher, FoldHasher, Hash, Hasher};
+
+impl Hash for Pair {
+    ghost use Rattle.conn_table.specs.PairWords.{pair_words};
+    ghost use Rattle.std.specs.Cmp.Rules.{hashing};
+    ghost use Rattle.std.proofs.Common.{rules};
+
+    ghost hash_input = { pair_words };
+
+    ghost respects_eq = { Prim.search (hashing, rules) };
+
+    fn hash<H: Hasher>(&self, state: &mut H) {
+        addrs_word(*self).hash(state);
+        ports_word(*self).hash(state);
+    }
+}
+
+// The addresses of a pair's peers side by side.
+#[tactic(auto, unfolding(crate::specs::PairWords::addrs_word))]
+fn addrs_word(pair: Pair) -> u64
+    ensures { result ≡ addrs_word pair }
+{
+    (u64::from(pair.low.addr) << 32) + u64::from(pair.high.addr)
+}
+
+// The ports of a pair's peers and the number of its VLAN side by side, 0 in place of one more where it has none.
+#[tactic(auto, unfolding(crate::specs::PairWords::ports_word))]
+fn ports_word(pair: Pair) -> u64
+    ensures { result ≡ ports_word pair }
+{
+    let vlan = match pair.vlan {
+        Some(vlan) => u64::from(vlan) + 1,
+        None => 0,
+    };
+    (vlan << 32) + (u64::from(pair.low.port) << 16) + u64::from(pair.high.port)
+}
+
+/// A hasher that begins with a key.
+#[derive(Clone, Copy)]
+pub(crate) struct PairKeys {
+    keyed: FoldHasher,
+}
+
+impl PairKeys {
+    // The hasher whose key is a digest of the openings' pairs in order (SHA-256, FIPS 180-4). Only openings are put into a table:
+    // who chooses other pairs for them, or another order, has another key.
+    pub(crate) fn of_openings(entries: &[Entry]) -> PairKeys {
+        let mut digest = Sha256::new();
+        for entry in entries {
+            if entry.opens() {
+                let pair = entry.pair();
+                digest.update(&addrs_word(pair).to_le_bytes()[..]);
+                digest.update(&ports_word(pair).to_le_bytes()[..]);
+            }
+        }
+        let key = digest.finalize();
+        let mut keyed = FoldHasher::default();
+        keyed.write(&key[..8]);
+        keyed.write(&key[8..16]);
+        PairKeys { keyed }
+    }
+}
+
+impl BuildHasher for PairKeys {
+    type Hasher = FoldHasher;
+
+    ghost build_hasher = { λ k. k.keyed };
+
+    fn build_hasher(&self) -> FoldHasher {
+        self.keyed
+    }
+}

@@ -5,13 +5,12 @@ use Rattle.std.proofs.lemmas.List.{append_assoc, append-nil, map_push}
 use Rattle.conn_table.specs.declared.conns.Pair.{Pair}
 use Rattle.conn_table.specs.declared.conns.Member.{Member}
 use Rattle.conn_table.specs.declared.conns.Conn.{Conn}
-use Rattle.conn_table.specs.declared.numbering.Current.{Current}
+use Rattle.conn_table.specs.declared.growth.Current.{Current}
 use Rattle.conn_table.specs.IndexedSegments.{same_pair}
 use Rattle.conn_table.specs.KeptSegments.{KeptSegment, is_from_low, opening_of}
 use Rattle.conn_table.specs.Partials.{MarkedKept}
 use Rattle.conn_table.specs.Tables.{later_of, member_from, conn_with, conns_from, is_opened, unopened_after}
-use Rattle.conn_table.specs.Numberings.{further, current_of}
-use Rattle.conn_table.specs.Growing.{grown_at}
+use Rattle.conn_table.specs.Growing.{grown_at, further, current_of}
 use Rattle.conn_table.proofs.Peers.{same_pair-is, same_pair-itself, same_pair-sym}
 
 abbrev number_or : Option Current → ℕ
@@ -42,23 +41,6 @@ length-conns_from n (m ∷ ms) = by_test m.begins (length-conns_from (n + 1) ms)
         → length (cond b (conn_with n m.kept (later_of m.kept ms) ∷ conns_from (n + 1) ms) (conns_from n ms)) ≡ cond b (suc (count ms)) (count ms)
     by_test true more same = ap (λ (k : ℕ). suc k) more
     by_test false more same = same
-
--- 1 where it holds
-abbrev pub one_if : Bool → ℕ
-one_if true = 1
-one_if false = 0
-
-pub count-push : (ms : List MarkedKept) (m : MarkedKept) → count (ms ++ m ∷ []) ≡ count ms + one_if m.begins
-count-push [] m = by_test m.begins
-  where
-    by_test : (b : Bool) → cond b 1 0 ≡ 0 + one_if b
-    by_test true = refl
-    by_test false = refl
-count-push (x ∷ ms) m = by_test x.begins (count-push ms m)
-  where
-    by_test : (b : Bool) → count (ms ++ m ∷ []) ≡ count ms + one_if m.begins → cond b (suc (count (ms ++ m ∷ []))) (count (ms ++ m ∷ [])) ≡ cond b (suc (count ms)) (count ms) + one_if m.begins
-    by_test true rest = omega arith
-    by_test false rest = rest
 
 pub count-le : (ms : List MarkedKept) → count ms ≤ length ms
 count-le [] = omega arith

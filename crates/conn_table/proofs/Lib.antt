@@ -12,7 +12,6 @@ pub mod RangeSteps
 mod EntrySteps
 mod PartialSteps
 mod GrowthSteps
-mod NumberingSteps
 mod Growths
 mod Joins
 mod TableForms

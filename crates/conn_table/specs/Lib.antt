@@ -9,7 +9,6 @@ pub mod Groups
 pub mod Tables
 pub mod PairWords
 pub mod Entries
-pub mod Numberings
 pub mod Growing
 pub mod TableFacts
 pub use Rattle.pcap_records.specs.Instants

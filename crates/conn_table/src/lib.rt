@@ -7,8 +7,8 @@
 mod class_counts;
 mod conns;
 mod entries;
+mod growth;
 pub mod laws;
-mod numbering;
 mod pair_keys;
 mod partial;
 mod rows;

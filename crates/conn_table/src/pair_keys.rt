@@ -1,11 +1,12 @@
-//! How pairs are hashed. The hasher's key is bound to the openings of a capture, so that no capture can choose its pairs against it.
+//! How pairs are hashed: by SipHash, with a key that is bound to the openings of a capture. Whoever makes a capture can work out its
+//! key, and try many captures; but other pairs have another key, and SipHash is made so that no pairs are bad for more keys than others.
 ghost use Rattle.std.specs.Prelude.{◌≡◌};
 ghost use Rattle.conn_table.specs.PairWords.{addrs_word, ports_word};
 
 use crate::conns::Pair;
 use crate::entries::Entry;
 use sha2::{Digest, Sha256};
-use std::hash::{BuildHasher, FoldHasher, Hash, Hasher};
+use std::hash::{BuildHasher, DefaultHasher, Hash, Hasher};
 
 impl Hash for Pair {
     ghost use Rattle.conn_table.specs.PairWords.{pair_words};
@@ -42,38 +43,39 @@ fn ports_word(pair: Pair) -> u64
     (vlan << 32) + (u64::from(pair.low.port) << 16) + u64::from(pair.high.port)
 }
 
-/// A hasher that begins with a key.
+/// SipHash that begins with a key.
 #[derive(Clone, Copy)]
 pub(crate) struct PairKeys {
-    keyed: FoldHasher,
+    keyed: DefaultHasher,
 }
 
 impl PairKeys {
-    // The hasher whose key is a digest of the openings' pairs in order (SHA-256, FIPS 180-4). Only openings are put into a table:
-    // who chooses other pairs for them, or another order, has another key.
-    pub(crate) fn of_openings(entries: &[Entry]) -> PairKeys {
+    // The hasher whose key is a digest of the openings' pairs in order (SHA-256, FIPS 180-4), and how many openings there are. Only
+    // openings are put into a table: who chooses other pairs for them, or another order, has another key.
+    pub(crate) fn of_openings(entries: &[Entry]) -> (PairKeys, usize) {
         let mut digest = Sha256::new();
+        let mut openings = 0usize;
         for entry in entries {
             if entry.opens() {
                 let pair = entry.pair();
                 digest.update(&addrs_word(pair).to_le_bytes()[..]);
                 digest.update(&ports_word(pair).to_le_bytes()[..]);
+                openings = openings.saturating_add(1);
             }
         }
         let key = digest.finalize();
-        let mut keyed = FoldHasher::default();
-        keyed.write(&key[..8]);
-        keyed.write(&key[8..16]);
-        PairKeys { keyed }
+        let mut keyed = DefaultHasher::new();
+        keyed.write(&key[..]);
+        (PairKeys { keyed }, openings)
     }
 }
 
 impl BuildHasher for PairKeys {
-    type Hasher = FoldHasher;
+    type Hasher = DefaultHasher;
 
     ghost build_hasher = { λ k. k.keyed };
 
-    fn build_hasher(&self) -> FoldHasher {
+    fn build_hasher(&self) -> DefaultHasher {
         self.keyed
     }
 }

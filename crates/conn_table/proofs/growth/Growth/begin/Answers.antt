@@ -1,5 +1,5 @@
 use Rattle.std.proofs.Common.{◌≡◌, length, refl, arith}
-use Rattle.conn_table.proofs.table.Growth.begin.Goals as goal
+use Rattle.conn_table.proofs.growth.Growth.begin.Goals as goal
 
 pub returns-clause-conns : goal.returns-clause-conns
 returns-clause-conns c =

@@ -1,0 +1,120 @@
+//! The connections of a capture, which grow segment by segment.
+//!
+//! The pairs stand in a map of `indexmap`. Only a segment that begins a connection puts its pair there; all others look theirs up.
+ghost use Rattle.std.specs.Prelude.{◌≡◌, ◌&&◌, ◌<◌, length, not, OnOk};
+ghost use Rattle.std.specs.Option.{option_map};
+ghost use Rattle.conn_table.specs.KeptSegments.{opens, opening_of, is_again};
+ghost use Rattle.conn_table.specs.Entries.{kept_by};
+ghost use Rattle.conn_table.specs.Growing.{grown_at};
+
+use crate::conns::{Conn, Member, Members, Pair};
+use crate::entries::{Entry, Opening};
+use crate::pair_keys::PairKeys;
+use indexmap::IndexMap;
+use std::alloc::{AllocError, Global};
+
+/// The last connection of a pair: its number, and the opening that begins it.
+#[derive(Clone, Copy, Debug)]
+pub(crate) struct Current {
+    pub(crate) number: u32,
+    pub(crate) opening: Opening,
+}
+
+/// The connections of the first segments of a capture, for each pair its last one, and how many of the segments are unopened.
+#[derive(Drop)]
+pub(crate) struct Growth {
+    pub(crate) conns: Vec<Conn>,
+    pub(crate) lasts: IndexMap<Pair, Current, PairKeys>,
+    pub(crate) unopened: u64,
+    /// How many members a new connection gets room for.
+    pub(crate) room: usize,
+}
+
+impl Growth {
+    ghost use Rattle.std.specs.Prelude.{◌≡◌, ◌+◌, ◌<◌, ◌^◌, [], ◌∷◌, ◌++◌, length, IfOk, OnOk};
+    ghost use Rattle.conn_table.specs.Tables.{conn_with};
+    ghost use Rattle.conn_table.specs.Growing.{HasGrown};
+
+    // No connections yet, and room for those of some segments: as many as these have openings, each with as many members as there are
+    // segments for an opening.
+    pub(crate) fn of_none(alloc: Global, entries: &[Entry]) -> Result<Growth, AllocError>
+        ensures { IfOk result (HasGrown entries.now 0) }
+    {
+        let (keys, openings) = PairKeys::of_openings(entries);
+        Ok(Growth {
+            conns: Vec::with_capacity(alloc, openings)?,
+            lasts: IndexMap::with_capacity_and_hasher(alloc, openings, keys)?,
+            unopened: 0,
+            room: entries.len() / openings.max(1) + 1,
+        })
+    }
+
+    // Takes the segment at a place, where those before it have been taken.
+    pub(crate) fn take(
+        &mut self,
+        alloc: Global,
+        entries: &[Entry],
+        at: usize,
+    ) -> Result<(), AllocError>
+        requires within { at < length entries.now }
+        requires few { length entries.now < 2 ^ 31 }
+        requires grown { HasGrown entries.now at self.old }
+        ensures { OnOk result (HasGrown entries.now (at + 1) self.new) }
+    {
+        let entry = &entries[at];
+        let pair = entry.pair();
+        let last = self.lasts.get(&pair).copied();
+        if begins(entry, last) {
+            let opening = entry.opening();
+            let number = self.begin(alloc, entry)?;
+            self.lasts.insert(pair, Current { number, opening })?;
+        } else if let Some(last) = last {
+            let member = entry.member_of(last.opening.from_low);
+            add_member(&mut self.conns, last.number as usize, member)?;
+        } else {
+            self.unopened += 1;
+        }
+        Ok(())
+    }
+
+    // Begins a connection, and tells its number.
+    fn begin(&mut self, alloc: Global, entry: &Entry) -> Result<u32, AllocError>
+        requires { length self.old.conns.items < 2 ^ 31 }
+        ensures number { IfOk result (λ number. number ≡ length self.old.conns.items) }
+        ensures conns { OnOk result (self.new.conns.items
+            ≡ self.old.conns.items ++ conn_with (length self.old.conns.items) (kept_by entry.now) [] ∷ []) }
+        ensures lasts { OnOk result (self.new.lasts ≡ self.old.lasts) }
+        ensures unopened { OnOk result (self.new.unopened ≡ self.old.unopened) }
+    {
+        let number = self.conns.len() as u32;
+        let pair = entry.pair();
+        let from_low = entry.member.from_client;
+        self.conns.push(Conn {
+            number,
+            opening: entry.member.index,
+            opened: entry.member.at,
+            vlan: pair.vlan,
+            client: pair.sender(from_low),
+            server: pair.receiver(from_low),
+            members: Members::of_first(alloc, self.room, entry.member_of(from_low))?,
+        })?;
+        Ok(number)
+    }
+}
+
+// Whether a segment begins a connection, given the last one of its pair: it opens, and is no repeat of that one's opening.
+fn begins(entry: &Entry, last: Option<Current>) -> bool
+    ensures { result ≡ (opens (kept_by entry.now)
+        && not (is_again (option_map (λ c. c.opening) last) (opening_of (kept_by entry.now)))) }
+{
+    entry.opens() && !last.is_some_and(|last| last.opening.is_same(entry.opening()))
+}
+
+// One member more in the connection of a number.
+fn add_member(conns: &mut Vec<Conn>, number: usize, member: Member) -> Result<(), AllocError>
+    requires { number < length conns.old.items }
+    ensures { OnOk result (conns.new.items ≡ grown_at number member conns.old.items) }
+{
+    conns[number].members.push(member)?;
+    Ok(())
+}

@@ -56,5 +56,15 @@ returns-in_err-put_payload-clause-err c =
     let laid = c.args.laid.now in
     let opened : List ℕ = opened_record (headers_len vlan) (ticks_of c.args.sender.now.unit) laid.key.moment (headers_len vlan + laid.len) in
     let len = ap length c.in_ok-open_record.ensures.bytes ∙ length-append c.reserve.new.self.items opened in
-    absurd (false≢true (c.in_err-put_payload.ensures.succeeds (omega (arith, len, length-opened (headers_len vlan) (ticks_of c.args.sender.now.unit) laid.key.moment (headers_len vlan + laid.len), few_headers vlan, c.requires.small, c.record_len.ensures,
-    c.in_ok-reserve.ensures.ok, c.in_ok-open_record.ensures.capacity, c.reserve.new.self.ok.0, c.open_record.new.out.ok.0))))
+    absurd (false≢true (c.in_err-put_payload.ensures.succeeds (omega (
+      arith,
+      len,
+      length-opened (headers_len vlan) (ticks_of c.args.sender.now.unit) laid.key.moment (headers_len vlan + laid.len),
+      few_headers vlan,
+      c.requires.small,
+      c.record_len.ensures,
+      c.in_ok-reserve.ensures.ok,
+      c.in_ok-open_record.ensures.capacity,
+      c.reserve.new.self.ok.0,
+      c.open_record.new.out.ok.0,
+    ))))

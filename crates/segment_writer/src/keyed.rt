@@ -16,9 +16,8 @@ pub(crate) trait Keyed: Drop {
         ensures { result ≡ key_of self.now };
 }
 
-/// All of two lists in order of key, in order of key: what has one key stays as it stands, the left list first. Of the two last
-/// ones the higher is taken, time after time; where the right list comes after the left one it is appended whole. Memory is
-/// asked for once.
+/// What two lists in order of key have, in order of key; of one key the left list's come first. Where the right list comes after
+/// the left one it is appended whole; else the higher of the two last ones is taken, time after time. Memory is asked for once.
 ///
 /// # Errors
 /// That growth was refused; the lists are then dropped.

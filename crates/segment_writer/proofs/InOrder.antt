@@ -12,7 +12,8 @@ use Rattle.segment_writer.specs.contracts.framed.SegKeyOrd.TheImpl.Laws.{total-l
 use Rattle.segment_writer.specs.WrittenSegments.{is_key_below, insert_by_key, sorted_by_key}
 use Rattle.segment_writer.specs.KeyLaws.{NoneLower, NeverFalls, SortedKeepsAll, SortedNeverFalls}
 use Rattle.segment_writer.specs.KeyOrder.{RisesFrom, RisingIsSorted, PartsAreSortedFirst}
-use Rattle.segment_writer.proofs.Sorting.{NoneBelow, Ordered, only_one, none_below-chain, not_below-ties}
+use Rattle.segment_writer.specs.OrderedLists.{has_lower_key, NoneBelow, Ordered, insert_by, sorted_by}
+use Rattle.segment_writer.proofs.Sorting.{only_one, none_below-chain, not_below-ties, ordered_stays, ordered-sorted}
 
 -- ---- the derived order of keys is that of the definition
 
@@ -36,34 +37,26 @@ derived_is_lower a b = then_test a.moment b.moment _ _ (then_test a.conn b.conn 
 abbrev pub below : Framed → Framed → Bool
 below x y = is_key_below x.key y.key
 
-pub derived_is_below : (λ (x y : Framed). is_lt (ghosts.cmp x.key y.key)) ≡ below
-derived_is_below = λ i x y. derived_is_lower x.key y.key i
+-- whatever has a key is in an order by it
+pub key_order : {X : Type 0} (key : X → SegKey) → IsStrictWeakOrder (has_lower_key key)
+key_order key = subst IsStrictWeakOrder (λ i x y. derived_is_lower (key x) (key y) i) (ranks_by total-law key)
 
 pub below_order : IsStrictWeakOrder below
-below_order = subst IsStrictWeakOrder derived_is_below (ranks_by total-law (λ (x : Framed). x.key))
+below_order = key_order (λ x. x.key)
 
 -- ---- putting in order sorts, and keeps what ties in its order
 
-none_below-insert_by_key : (z x : Framed) (ys : List Framed) → below x z ≡ false → NoneBelow below z ys → NoneBelow below z (insert_by_key x ys)
-none_below-insert_by_key z x [] h none = (h, tt)
-none_below-insert_by_key z x (y ∷ ys) h none = by (below y x) (none_below-insert_by_key z x ys h none.1)
-  where
-    by : (b : Bool) → NoneBelow below z (insert_by_key x ys) → NoneBelow below z (if b then y ∷ insert_by_key x ys else x ∷ y ∷ ys)
-    by true later = (none.0, later)
-    by false later = (h, none)
+inserted_by_key : (x : Framed) (ys : List Framed) → insert_by below x ys ≡ insert_by_key x ys
+inserted_by_key x [] = refl
+inserted_by_key x (y ∷ ys) = ap (λ zs. if below y x then y ∷ zs else x ∷ y ∷ ys) (inserted_by_key x ys)
 
-ordered-insert_by_key : (x : Framed) (ys : List Framed) → Ordered below ys → Ordered below (insert_by_key x ys)
-ordered-insert_by_key x [] h = (tt, tt)
-ordered-insert_by_key x (y ∷ ys) h = by (below y x) refl (ordered-insert_by_key x ys h.1)
-  where
-    by : (b : Bool) → below y x ≡ b → Ordered below (insert_by_key x ys) → Ordered below (if b then y ∷ insert_by_key x ys else x ∷ y ∷ ys)
-    by true lower later = (none_below-insert_by_key y x ys (below_order.one_way y x lower) h.0, later)
-    by false higher later = ((higher, none_below-chain below below_order x y ys higher h.0), h)
+pub in_order_by_key : (xs : List Framed) → sorted_by below xs ≡ sorted_by_key xs
+unfolding sorted_by_key
+in_order_by_key [] = refl
+in_order_by_key (x ∷ xs) = inserted_by_key x (sorted_by below xs) ∙ ap (insert_by_key x) (in_order_by_key xs)
 
 pub ordered-sorted_by_key : (xs : List Framed) → Ordered below (sorted_by_key xs)
-unfolding sorted_by_key
-ordered-sorted_by_key [] = tt
-ordered-sorted_by_key (x ∷ xs) = ordered-insert_by_key x (sorted_by_key xs) (ordered-sorted_by_key xs)
+ordered-sorted_by_key xs = subst (λ (ys : List Framed). Ordered below ys) (in_order_by_key xs) (ordered-sorted below below_order xs)
 
 -- of two elements that do not both pass, either may come first
 filter-swapped : (u v : Bool) (x y : Framed) (zs : List Framed) → (u ≡ true → v ≡ true → ⊥) → cond v (y ∷ cond u (x ∷ zs) zs) (cond u (x ∷ zs) zs) ≡ cond u (x ∷ cond v (y ∷ zs) zs) (cond v (y ∷ zs) zs)
@@ -95,7 +88,7 @@ pub is_ordered : (xs : List Framed) → sorted_by_key xs ≡ xs → Ordered belo
 is_ordered xs e = subst (λ (ys : List Framed). Ordered below ys) e (ordered-sorted_by_key xs)
 
 pub is_sorted : (xs : List Framed) → Ordered below xs → sorted_by_key xs ≡ xs
-is_sorted xs ordered = sym (sorted_by_key-only xs xs ordered (λ z. refl))
+is_sorted xs ordered = sym (in_order_by_key xs) ∙ ordered_stays below xs ordered
 
 -- ---- laws
 

@@ -9,7 +9,8 @@ use Rattle.segment_writer.specs.KeyOrder.{RisesFrom, AreRising}
 use Rattle.segment_writer.specs.KeyLaws.{same_key, times, HasNoKeyTwice, KeysRise, AreNumbered, KeysStandOnce}
 use Rattle.segment_writer.specs.declared.framed.SegKey.{SegKey}
 use Rattle.segment_writer.specs.declared.framed.Framed.{Framed}
-use Rattle.segment_writer.proofs.Sorting.{Ordered, not_below_itself}
+use Rattle.segment_writer.specs.OrderedLists.{Ordered}
+use Rattle.segment_writer.proofs.Sorting.{not_below_itself}
 use Rattle.segment_writer.proofs.InOrder.{below, below_order, ordered-sorted_by_key, sorted_keeps_all}
 use Rattle.segment_writer.proofs.KeyTimes.{same_conn, same_turn, same_place, times-sorted, times-filter, apart, one_alone}
 

@@ -1,23 +1,17 @@
 -- Segments that are laid out, as they are written: those of one line, and those of a connection in order of key.
-use Rattle.std.proofs.Common.{◌≡◌, ◌≤◌, ◌<◌, ℕ, Bool, true, false, cond, not, ◌&&◌, is_lt, List, [], ◌∷◌, ◌++◌, map, filter, length, get_or, suc, refl, sym, ap, ap₂, ◌∙◌, subst, arith}
+use Rattle.std.proofs.Common.{◌≡◌, Bool, true, false, not, List, [], ◌∷◌, ◌++◌, map, if◌then◌else◌, refl, sym, ap, ap₂, ◌∙◌, subst}
 use Rattle.std.specs.List.{AllByRecursion}
-use Rattle.std.specs.List.Sorted.{ties, IsStableBy, IsSortedBy, IsPermutation}
 use Rattle.std.proofs.lemmas.List.{map-append}
-use Rattle.std.proofs.lemmas.List.Elements.{All-from_recursion, recursion_from_All}
-use Rattle.std.specs.Cmp.{IsStrictWeakOrder}
-use Rattle.std.proofs.lemmas.List.Sorted.{ranks_by, sorted_far, All-permutation}
 use Rattle.reassembly.specs.declared.line_parts.LinePart.{LinePart}
-use Rattle.segment_writer.specs.contracts.framed.SegKeyOrd.TheImpl.{ghosts}
-use Rattle.segment_writer.specs.contracts.framed.SegKeyOrd.TheImpl.Laws.{total-law}
 use Rattle.segment_writer.specs.declared.framed.Framed.{Framed}
-use Rattle.segment_writer.specs.declared.framed.SegKey.{SegKey}
 use Rattle.segment_writer.specs.declared.laid.Laid.{Laid}
 use Rattle.segment_writer.specs.declared.senders.Sender.{Sender}
 use Rattle.segment_writer.specs.Senders.{in_turn, peer_in}
 use Rattle.segment_writer.specs.LaidSegments.{framed_of, framed_in, sender_of, parts_of, IsLaid, IsLaidIn}
-use Rattle.segment_writer.specs.WrittenSegments.{is_key_below, sorted_by_key}
-use Rattle.segment_writer.proofs.Sorting.{NoneBelow, Ordered}
-use Rattle.segment_writer.proofs.InOrder.{below, derived_is_lower, sorted_by_key-only}
+use Rattle.segment_writer.specs.WrittenSegments.{is_key_below, insert_by_key, sorted_by_key}
+use Rattle.segment_writer.specs.OrderedLists.{has_lower_key, NoneBelow, Ordered, insert_by, sorted_by}
+use Rattle.segment_writer.proofs.Sorting.{ordered_stays, all_sorted}
+use Rattle.segment_writer.proofs.InOrder.{below, parts_are_sorted_first}
 
 -- ---- all of two lists
 
@@ -25,9 +19,6 @@ module _ {X : Type 0} (P : X → Type 0) where
   pub all_append : (xs ys : List X) → AllByRecursion P xs → AllByRecursion P ys → AllByRecursion P (xs ++ ys)
   all_append [] ys a b = b
   all_append (x ∷ xs) ys a b = (a.0, all_append xs ys a.1 b)
-
-  pub all_moved : (xs ys : List X) → IsPermutation xs ys → AllByRecursion P xs → AllByRecursion P ys
-  all_moved xs ys moved all = recursion_from_All P ys (All-permutation P xs ys moved (All-from_recursion P xs all))
 
   module _ (Q : X → Type 0) (weaker : (x : X) → P x → Q x) where
     pub all_weaker : (xs : List X) → AllByRecursion P xs → AllByRecursion Q xs
@@ -62,50 +53,47 @@ module _ (client : Sender) (up down : List LinePart) (first : client.is_server �
   down_laid l laid = subst (λ (b : Bool). IsLaid (sender_of client b) (parts_of up down b) l) (sym (down_side l laid))
       (record { side = laid.side; early = laid.early; small = laid.small; within = laid.within; cursor = laid.cursor })
 
--- ---- a stable sort by key puts what is written in order of key
+-- ---- what is laid out in order of key is written in order of key
 
+-- whether a segment that is laid out has the lower key
 abbrev pub laid_below : Laid → Laid → Bool
-laid_below a b = is_lt (ghosts.cmp a.key b.key)
-
-laid_order : IsStrictWeakOrder laid_below
-laid_order = ranks_by total-law (λ (l : Laid). l.key)
+laid_below = has_lower_key (λ l. l.key)
 
 module _ (written : Laid → Framed) (keyed : (l : Laid) → (written l).key ≡ l.key) where
   written_below : (a b : Laid) → below (written a) (written b) ≡ laid_below a b
-  written_below a b = (λ i. is_key_below (keyed a i) (keyed b i)) ∙ sym (derived_is_lower a.key b.key)
+  written_below a b = λ i. is_key_below (keyed a i) (keyed b i)
 
-  -- a segment of this key, laid out
-  abbrev at_key : SegKey → Laid
-  at_key k = record { key = k; is_server = false; flags = 0; seq = 0; ack = 0; from = record { part = 0; offset = 0 }; len = 0 }
+  none_below : (l : Laid) (ls : List Laid) → NoneBelow below (written l) (map written ls) → NoneBelow laid_below l ls
+  none_below l [] none = tt
+  none_below l (m ∷ ls) none = (sym (written_below m l) ∙ none.0, none_below l ls none.1)
 
-  ties_written : (z : Framed) (l : Laid) → ties below z (written l) ≡ ties laid_below (at_key z.key) l
-  ties_written z l =
-      let left : below z (written l) ≡ laid_below (at_key z.key) l = (λ i. is_key_below z.key (keyed l i)) ∙ sym (derived_is_lower z.key l.key) in
-      let right : below (written l) z ≡ laid_below l (at_key z.key) = (λ i. is_key_below (keyed l i) z.key) ∙ sym (derived_is_lower l.key z.key) in
-      λ i. not (left i) && not (right i)
+  pub ordered_laid : (ls : List Laid) → Ordered below (map written ls) → Ordered laid_below ls
+  ordered_laid [] ordered = tt
+  ordered_laid (l ∷ ls) ordered = (none_below l ls ordered.0, ordered_laid ls ordered.1)
 
-  kept_written : (z : Framed) (ls : List Laid) → filter (ties below z) (map written ls) ≡ map written (filter (ties laid_below (at_key z.key)) ls)
-  kept_written z [] = refl
-  kept_written z (l ∷ ls) = (λ i. cond (ties_written z l i) (written l ∷ kept_written z ls i) (kept_written z ls i)) ∙ by (ties laid_below (at_key z.key) l)
+  insert_written : (l : Laid) (ls : List Laid) → map written (insert_by laid_below l ls) ≡ insert_by_key (written l) (map written ls)
+  insert_written l [] = refl
+  insert_written l (m ∷ ls) =
+      by (laid_below m l) (insert_written l ls) ∙ ap (λ b. if b then written m ∷ insert_by_key (written l) (map written ls) else written l ∷ written m ∷ map written ls) (sym (written_below m l))
     where
-      by : (b : Bool) → cond b (written l ∷ map written (filter (ties laid_below (at_key z.key)) ls)) (map written (filter (ties laid_below (at_key z.key)) ls)) ≡ map written (cond b (l ∷ filter (ties laid_below (at_key z.key)) ls) (filter (ties laid_below (at_key z.key)) ls))
-      by true = refl
-      by false = refl
+      by : (b : Bool) → map written (insert_by laid_below l ls) ≡ insert_by_key (written l) (map written ls)
+          → map written (if b then m ∷ insert_by laid_below l ls else l ∷ m ∷ ls) ≡ (if b then written m ∷ insert_by_key (written l) (map written ls) else written l ∷ written m ∷ map written ls)
+      by true later = ap (λ xs. written m ∷ xs) later
+      by false later = refl
 
-  stable_written : (xs ys : List Laid) → IsStableBy laid_below xs ys → IsStableBy below (map written xs) (map written ys)
-  stable_written xs ys stable z = kept_written z ys ∙ ap (map written) (stable (at_key z.key)) ∙ sym (kept_written z xs)
+  sorted_written : (ls : List Laid) → map written (sorted_by laid_below ls) ≡ sorted_by_key (map written ls)
+  unfolding sorted_by_key
+  sorted_written [] = refl
+  sorted_written (l ∷ ls) = insert_written l (sorted_by laid_below ls) ∙ ap (insert_by_key (written l)) (sorted_written ls)
 
-  none_below : (l : Laid) (ls : List Laid) → ((k : ℕ) (d : Laid) → k < length ls → laid_below (get_or ls k d) l ≡ false) → NoneBelow below (written l) (map written ls)
-  none_below l [] far = tt
-  none_below l (m ∷ ls) far = (written_below m l ∙ far 0 m (omega arith), none_below l ls (λ k d within. far (suc k) d (omega arith)))
-
-  ordered_written : (ls : List Laid) → ((i j : ℕ) (d : Laid) → i ≤ j → j < length ls → laid_below (get_or ls j d) (get_or ls i d) ≡ false) → Ordered below (map written ls)
-  ordered_written [] far = tt
-  ordered_written (l ∷ ls) far = (none_below l ls (λ k d within. far 0 (suc k) d (omega arith) (omega arith)), ordered_written ls (λ i j d le within. far (suc i) (suc j) d (omega arith) (omega arith)))
-
-  pub sorted_written : (xs ys : List Laid) → IsSortedBy laid_below ys → IsStableBy laid_below xs ys → map written ys ≡ sorted_by_key (map written xs)
-  sorted_written xs ys sorted stable =
-      sorted_by_key-only (map written xs) (map written ys) (ordered_written ys (sorted_far laid_below laid_order ys sorted)) (stable_written xs ys stable)
+  -- two lists that are put in order, and then a third, which is in order
+  pub turns_sorted : (xs ys zs : List Laid) → Ordered laid_below zs → map written (sorted_by laid_below (sorted_by laid_below (xs ++ ys) ++ zs)) ≡ sorted_by_key (map written ((xs ++ ys) ++ zs))
+  turns_sorted xs ys zs ordered =
+      let last : map written zs ≡ sorted_by_key (map written zs) = ap (map written) (sym (ordered_stays laid_below zs ordered)) ∙ sorted_written zs in
+      sorted_written (sorted_by laid_below (xs ++ ys) ++ zs)
+      ∙ ap sorted_by_key (map-append written (sorted_by laid_below (xs ++ ys)) zs ∙ ap₂ (λ us vs. us ++ vs) (sorted_written (xs ++ ys)) last)
+      ∙ parts_are_sorted_first (map written (xs ++ ys)) (map written zs)
+      ∙ ap sorted_by_key (sym (map-append written (xs ++ ys) zs))
 
 -- ---- all of a connection
 
@@ -117,11 +105,12 @@ module _ (client : Sender) (up down : List LinePart) (first : client.is_server �
       ∙ (λ i. (map-append (framed_in client up down) opening ups ∙ ap (λ xs. map (framed_in client up down) opening ++ xs) (map_same (IsLaid (in_turn client 1) up) (framed_in client up down) (framed_of (in_turn client 1) up) (up_framed client up down first) ups ups_laid)) i
       ++ map_same (IsLaid (peer_in client 2) down) (framed_in client up down) (framed_of (peer_in client 2) down) (down_framed client up down first) downs downs_laid i)
 
-  pub turns_laid : AllByRecursion (IsLaidIn client up down) opening → AllByRecursion (IsLaidIn client up down) ((opening ++ ups) ++ downs)
+  pub turns_laid : AllByRecursion (IsLaidIn client up down) opening → AllByRecursion (IsLaidIn client up down) (sorted_by laid_below (sorted_by laid_below (opening ++ ups) ++ downs))
   turns_laid opening_laid =
-      all_append (IsLaidIn client up down) (opening ++ ups) downs
-      (all_append (IsLaidIn client up down) opening ups opening_laid (all_weaker (IsLaid (in_turn client 1) up) (IsLaidIn client up down) (up_laid client up down first) ups ups_laid))
-      (all_weaker (IsLaid (peer_in client 2) down) (IsLaidIn client up down) (down_laid client up down first) downs downs_laid)
+      let P : Laid → Type 0 = IsLaidIn client up down in
+      let first_two = all_append P opening ups opening_laid (all_weaker (IsLaid (in_turn client 1) up) P (up_laid client up down first) ups ups_laid) in
+      all_sorted laid_below P (sorted_by laid_below (opening ++ ups) ++ downs)
+      (all_append P (sorted_by laid_below (opening ++ ups)) downs (all_sorted laid_below P (opening ++ ups) first_two) (all_weaker (IsLaid (peer_in client 2) down) P (down_laid client up down first) downs downs_laid))
 
 -- what is written has the keys of what is laid out
 pub written_keys : (client : Sender) (up down : List LinePart) (laid : List Laid) → map (λ (l : Laid). l.key) laid ≡ map (λ (x : Framed). x.key) (map (framed_in client up down) laid)

@@ -8,6 +8,7 @@ pub mod TurnSteps
 pub mod Sorting
 pub mod InOrder
 pub mod JoinSteps
+pub mod TurnOrder
 pub mod WholeSegments
 pub mod OneOrderLaw
 pub mod KeyTimes

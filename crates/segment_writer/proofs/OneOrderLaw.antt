@@ -7,7 +7,7 @@ use Rattle.std.proofs.lemmas.List.Elements.{All-cons, All-head, All-tail, All-ni
 use Rattle.std.proofs.lemmas.List.Sorted.{sum_by-IsPermutation, All-permutation}
 use Rattle.segment_writer.specs.KeyLaws.{NoneLower, NeverFalls, OneOrder}
 use Rattle.segment_writer.specs.declared.framed.Framed.{Framed}
-use Rattle.segment_writer.proofs.Sorting.{NoneBelow, Ordered}
+use Rattle.segment_writer.specs.OrderedLists.{NoneBelow, Ordered}
 use Rattle.segment_writer.proofs.InOrder.{below, sorted_by_key-only}
 use Rattle.segment_writer.proofs.KeyTimes.{times_is}
 

@@ -1,5 +1,5 @@
 -- Steps of the loops over the parts of a line.
-use Rattle.std.proofs.Common.{◌≡◌, ◌≤◌, ◌<◌, ℕ, zero, suc, ◌+◌, ◌-◌, min, Bool, true, false, List, [], ◌∷◌, ◌++◌, length, take, drop, refl, sym, ap, ◌∙◌, subst, arith, length-drop}
+use Rattle.std.proofs.Common.{◌≡◌, ◌≤◌, ◌<◌, ℕ, zero, suc, ◌+◌, ◌-◌, min, Bool, true, false, List, [], ◌∷◌, ◌++◌, length, take, drop, refl, sym, ap, ◌∙◌, subst, arith, length-drop, length-take}
 use Rattle.std.proofs.lemmas.List.{drop_all, drop-drop, map-append, append_assoc, take_all}
 use Rattle.std.proofs.Math.Seq.{take-add, drop-append_seam}
 use Rattle.reassembly.specs.RecordedLines.{LineByte}
@@ -148,6 +148,10 @@ module _ (parts : List LinePart) (here : Cursor) (left : ℕ) (out whole : List 
       let after : drop taken (left_at parts here) ≡ bytes_of_parts ps =
       ap (drop taken) (left_is parts here p ps e (omega arith)) ∙ ap (λ n. drop n (ys ++ bytes_of_parts ps)) size ∙ drop-append_seam ys (bytes_of_parts ps) in
       copying_to (record { part = next; offset = 0 }) cursor (is ∙ sym after)
+
+-- where there is room for what is left, there is room for the rest of it
+pub room_on : (left taken held held' room room' : ℕ) (rest : List ℕ) → taken ≡ min left (length rest) → held' ≡ held + length (take taken rest) → room ≤ room' → held + left ≤ room → held' + (left - taken) ≤ room'
+room_on left taken held held' room room' rest fits grown kept enough = omega (arith, length-take taken rest)
 
 -- ---- passing over a piece
 

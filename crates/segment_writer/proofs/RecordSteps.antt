@@ -1,5 +1,5 @@
 -- The bytes of a record: its header, the headers of its frame, and the payload.
-use Rattle.std.proofs.Common.{◌≡◌, ◌≤◌, ◌<◌, ℕ, ◌+◌, ◌-◌, Bool, true, false, if◌then◌else◌, List, [], ◌∷◌, ◌++◌, length, take, drop, replicate, refl, sym, ap, ap₂, ◌∙◌, arith, append-nil, append_assoc, length-append, length-drop, length-take, take_all, take_at, drop_at, drop-drop}
+use Rattle.std.proofs.Common.{◌≡◌, ◌≤◌, ◌<◌, ℕ, ◌+◌, ◌-◌, Bool, true, false, if◌then◌else◌, List, [], ◌∷◌, ◌++◌, length, take, drop, replicate, refl, sym, ap, ap₂, ◌∙◌, arith, append-nil, append_assoc, length-append, length-drop, length-take, take_all, take_at, drop_at, drop-drop, Option, Some, None}
 use Rattle.std.proofs.lemmas.List.{drop_all, length-map, length-replicate}
 use borrow.Rule.Slice.PartMut.{put_mid}
 use Rattle.pcap_records.specs.Instants.{ticks_of}
@@ -7,7 +7,7 @@ use Rattle.pcap_records.specs.Reading.{record_header_len}
 use Rattle.pcap_records.specs.Writing.{record_header, record_bytes}
 use Rattle.frame_headers.specs.Flags.{psh_flag, ack_flag}
 use Rattle.frame_headers.specs.Headers.{headers}
-use Rattle.frame_headers.specs.Layout.{payload_limit}
+use Rattle.frame_headers.specs.Layout.{headers_len, payload_limit}
 use Rattle.frame_headers.specs.declared.written.Header.{Header}
 use Rattle.reassembly.specs.RecordedLines.{LineByte}
 use Rattle.reassembly.specs.LineView.{bytes_of_parts}
@@ -59,8 +59,13 @@ length-record_header ticks at n = refl
 abbrev pub opened_record : ℕ → ℕ → ℕ → ℕ → List ℕ
 opened_record n ticks at len = record_header ticks at len ++ replicate n 0
 
-length-opened : (n ticks at len : ℕ) → length (opened_record n ticks at len) ≡ whole_len n
+pub length-opened : (n ticks at len : ℕ) → length (opened_record n ticks at len) ≡ whole_len n
 length-opened n ticks at len = length-append (record_header ticks at len) (replicate n 0) ∙ ap₂ (λ k m. k + m) (length-record_header ticks at len) (length-replicate n 0)
+
+-- headers are short
+pub few_headers : (vlan : Option ℕ) → headers_len vlan ≤ 58
+few_headers None = omega arith
+few_headers (Some v) = omega arith
 
 pub length-filled : (n ticks at len : ℕ) (payload : List ℕ) → length (opened_record n ticks at len ++ payload) ≡ whole_len n + length payload
 length-filled n ticks at len payload = length-append (opened_record n ticks at len) payload ∙ ap (λ k. k + length payload) (length-opened n ticks at len)

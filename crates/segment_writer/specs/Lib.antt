@@ -6,5 +6,6 @@ pub mod FirstPieces
 pub mod LineCursors
 pub mod Senders
 pub mod LaidSegments
+pub mod OrderedLists
 pub mod KeyLaws
 pub mod SentRows

@@ -13,6 +13,7 @@ ghost use Rattle.segment_writer.specs.LaidSegments.{framed_in, IsLaidIn};
 ghost use Rattle.segment_writer.specs.TimelyLines.{IsTimely};
 
 use crate::framed::SegList;
+use crate::keyed::merged;
 use crate::laid::Laid;
 use crate::layout::Layout;
 use crate::records::bare_laid;
@@ -106,30 +107,30 @@ fn laid_segments(
     down_end: &End,
 ) -> Result<Vec<Laid>, AllocError>
     requires client { client.now.is_server ≡ false }
+    requires turn { client.now.turn ≡ 0 }
     requires up { IsTimely (line_of up.now up_end.now) }
     requires down { IsTimely (line_of down.now down_end.now) }
     ensures framed { IfOk result (λ list. map (framed_in client.now up.now down.now) list.items
         ≡ connection_written refused client.now at (line_of up.now up_end.now) (line_of down.now down_end.now)) }
     ensures laid { IfOk result (λ list. AllByRecursion (IsLaidIn client.now up.now down.now) list.items) }
 {
-    let mut list = opening_segments(alloc, client, at, refused)?;
     let upward = in_turn(client, 1);
-    let mut ups = line_segments(alloc, &upward, up, up_end, down, down_end)?;
+    let ups = line_segments(alloc, &upward, up, up_end, down, down_end)?;
+    let opening = opening_segments(alloc, client, at, refused, ups.len())?;
     let downward = peer_in(client, 2);
-    let mut downs = line_segments(alloc, &downward, down, down_end, up, up_end)?;
-    list.reserve_exact(ups.len().saturating_add(downs.len()))?;
-    list.append(&mut ups)?;
-    list.append(&mut downs)?;
-    list.sort_by_key(|laid| laid.key)?;
-    Ok(list)
+    let downs = line_segments(alloc, &downward, down, down_end, up, up_end)?;
+    let list = merged(alloc, opening, ups)?;
+    merged(alloc, list, downs)
 }
 
 // SYN, SYN ACK and ACK (RFC 9293 section 3.5), or SYN and RST ACK where the connection is refused. At the horizon there are none.
+// The list has room for `more` after them.
 fn opening_segments(
     alloc: Global,
     client: &Sender,
     at: Moment,
     refused: bool,
+    more: usize,
 ) -> Result<Vec<Laid>, AllocError>
     requires { client.now.is_server ≡ false }
     ensures framed { (up down : List LinePart) → IfOk result (λ list. map (framed_in client.now up down) list.items
@@ -137,7 +138,7 @@ fn opening_segments(
     ensures laid { (up down : List LinePart) → IfOk result (λ list. AllByRecursion (IsLaidIn client.now up down) list.items) }
 {
     let server = peer_in(client, 0);
-    let mut list = Vec::with_capacity(alloc, 3)?;
+    let mut list = Vec::with_capacity(alloc, more.saturating_add(3))?;
     if !at.is_before_horizon(client.unit) {
         return Ok(list);
     }

@@ -3,6 +3,7 @@ ghost use Rattle.std.specs.Prelude.{◌≡◌};
 ghost use Rattle.segment_writer.specs.LaidSegments.{sender_of, parts_of};
 
 use crate::framed::SegKey;
+use crate::keyed::Keyed;
 use crate::pieces::Cursor;
 use crate::senders::{Sender, peer_in};
 use frame_headers::Flags;
@@ -20,6 +21,14 @@ pub struct Laid {
     pub(crate) ack: u32,
     pub(crate) from: Cursor,
     pub(crate) len: usize,
+}
+
+impl Keyed for Laid {
+    ghost key_of = { λ l. l.key };
+
+    fn key(&self) -> SegKey {
+        self.key
+    }
 }
 
 /// The client of a connection, or its server.

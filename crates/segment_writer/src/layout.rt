@@ -1,5 +1,5 @@
 //! The segments of a connection, laid out: no record is written yet, and payloads are lent by what was delivered.
-ghost use Rattle.std.specs.Prelude.{◌≡◌, ◌≤◌, ◌<◌, ◌++◌, true, length, slice_index_or, map, IfOk, OnOk, ◌↔◌, IsTrue};
+ghost use Rattle.std.specs.Prelude.{◌≡◌, ◌≤◌, ◌<◌, ◌++◌, true, length, slice_index_or, map, IfOk, OnOk, OnErr, ◌↔◌, IsTrue};
 ghost use Rattle.std.specs.List.{AllByRecursion};
 ghost use Rattle.segment_writer.specs.LaidSegments.{framed_in, no_segment, IsLaidIn};
 
@@ -72,10 +72,11 @@ impl<'a> Layout<'a> {
     /// Appends the record of a segment.
     ///
     /// # Errors
-    /// Where a growth is refused.
+    /// Where a growth is refused; `out` is then unchanged.
     pub fn put(&self, index: usize, out: &mut Vec<u8>) -> Result<(), AllocError>
         requires { index < length self.now }
-        ensures { OnOk result (out.new.items ≡ out.old.items ++ (slice_index_or self.now index no_segment).bytes) }
+        ensures ok { OnOk result (out.new.items ≡ out.old.items ++ (slice_index_or self.now index no_segment).bytes) }
+        ensures err { OnErr result (out.new.items ≡ out.old.items) }
     {
         let laid = &self.laid[index];
         let sender = sender_of(&self.client, laid.is_server);

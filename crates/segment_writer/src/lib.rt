@@ -3,6 +3,7 @@
 
 mod connection_segments;
 mod framed;
+mod keyed;
 mod laid;
 pub mod laws;
 mod layout;

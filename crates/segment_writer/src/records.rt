@@ -1,5 +1,5 @@
 //! The records of segments that are laid out, and how they are laid out.
-ghost use Rattle.std.specs.Prelude.{◌≡◌, ◌≤◌, ◌<◌, ◌+◌, ◌++◌, List, length, drop, take, replicate, OnOk, if◌then◌else◌};
+ghost use Rattle.std.specs.Prelude.{◌≡◌, ◌≤◌, ◌<◌, ◌+◌, ◌++◌, List, length, drop, take, replicate, min, vec_len, vec_capacity, IsOk, OnOk, OnErr, if◌then◌else◌};
 ghost use Rattle.pcap_records.specs.Instants.{horizon, ticks_of};
 ghost use Rattle.pcap_records.specs.Reading.{record_header_len};
 ghost use Rattle.pcap_records.specs.Writing.{record_header};
@@ -31,8 +31,10 @@ fn open_record(
 ) -> Result<(), AllocError>
     requires early { at < horizon (ticks_of unit) }
     requires small { len ≤ payload_limit }
-    ensures { OnOk result (out.new.items ≡ out.old.items
+    ensures bytes { OnOk result (out.new.items ≡ out.old.items
         ++ (record_header (ticks_of unit) at (headers_len vlan + len) ++ replicate (headers_len vlan) 0)) }
+    ensures succeeds { vec_len out.old + (record_header_len + headers_len vlan) ≤ vec_capacity out.old → IsOk result }
+    ensures capacity { vec_capacity out.old ≤ vec_capacity out.new }
 {
     let header = record_header_bytes(at, (headers_len(vlan) + len) as u32, unit);
     out.extend_from_slice(&header)?;
@@ -117,7 +119,9 @@ pub(crate) fn piece_laid(
 }
 
 /// The length of the record of a segment.
-pub(crate) fn record_len(sender: &Sender, laid: &Laid) -> usize {
+pub(crate) fn record_len(sender: &Sender, laid: &Laid) -> usize
+    ensures { result ≡ min (record_header_len + headers_len sender.now.vlan + laid.now.len) usize.MAX }
+{
     (RECORD_HEADER_LEN + headers_len(sender.vlan)).saturating_add(laid.len)
 }
 
@@ -129,7 +133,8 @@ fn put_payload(
     laid: &Laid,
 ) -> Result<(), AllocError>
     requires { IsLaid sender.now own.now laid.now }
-    ensures { OnOk result (out.new.items ≡ out.old.items ++ payload_of own.now laid.now) }
+    ensures bytes { OnOk result (out.new.items ≡ out.old.items ++ payload_of own.now laid.now) }
+    ensures succeeds { vec_len out.old + laid.now.len ≤ vec_capacity out.old → IsOk result }
 {
     if laid.len == 0 {
         return Ok(());
@@ -137,7 +142,7 @@ fn put_payload(
     copy_piece(out, own, laid.from, laid.len)
 }
 
-/// Appends the record of a segment.
+/// Appends the record of a segment. Room for all of it is made first, so that a growth that is refused leaves `out` as it was.
 pub(crate) fn put_record(
     out: &mut Vec<u8>,
     sender: &Sender,
@@ -145,9 +150,11 @@ pub(crate) fn put_record(
     laid: &Laid,
 ) -> Result<(), AllocError>
     requires { IsLaid sender.now own.now laid.now }
-    ensures { OnOk result (out.new.items ≡ out.old.items ++ (framed_of sender.now own.now laid.now).bytes) }
+    ensures ok { OnOk result (out.new.items ≡ out.old.items ++ (framed_of sender.now own.now laid.now).bytes) }
+    ensures err { OnErr result (out.new.items ≡ out.old.items) }
 {
     let begin = out.len();
+    out.reserve(record_len(sender, laid))?;
     open_record(out, laid.key.moment, sender.vlan, laid.len, sender.unit)?;
     put_payload(out, sender, own, laid)?;
     let header = header_with(sender, laid.seq, laid.ack, laid.flags);

@@ -50,7 +50,7 @@ impl<'l, 'a> Model for MergedLayouts<'l, 'a> {
 }
 
 impl<'l, 'a> MergedLayouts<'l, 'a> {
-    ghost use Rattle.std.specs.Prelude.{◌≡◌, ◌<◌, ◌++◌, All, OnOk, length, map, slice_index_or};
+    ghost use Rattle.std.specs.Prelude.{◌≡◌, ◌<◌, ◌++◌, All, OnOk, OnErr, length, map, slice_index_or};
     ghost use Rattle.time_merge.specs.KeyedSegments.{IsKeyed, no_segment, segment_of};
 
     // Layouts, and the order of their segments.
@@ -71,10 +71,11 @@ impl<'l, 'a> MergedLayouts<'l, 'a> {
     /// Appends the record of the segment at a place in the order.
     ///
     /// # Errors
-    /// Where a growth is refused.
+    /// Where a growth is refused; `out` is then unchanged.
     pub fn put(&self, place: usize, out: &mut Vec<u8>) -> Result<(), AllocError>
         requires { place < length self.now }
-        ensures { OnOk result (out.new.items ≡ out.old.items ++ (slice_index_or self.now place no_segment).bytes) }
+        ensures ok { OnOk result (out.new.items ≡ out.old.items ++ (slice_index_or self.now place no_segment).bytes) }
+        ensures err { OnErr result (out.new.items ≡ out.old.items) }
     {
         let keyed = &self.order[place];
         self.layouts[keyed.list].put(keyed.index, out)

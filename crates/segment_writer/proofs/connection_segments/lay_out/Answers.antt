@@ -35,3 +35,6 @@ returns c =
     ∙ (λ i. map (framed_in client (sym c.deref.ensures.value i) (sym c.deref-2.ensures.value i)) c.in_ok-laid.laid.items)
     ∙ c.in_ok-laid.ensures.framed
     ∙ connection_as client client.unit c.args.recorded.now.up.ticks w (line_of c.deref.result.now c.end-up_end.result) (line_of c.deref-2.result.now c.end-down_end.result) (c.client_in-client.ensures.sender d) c.client_in-client.ensures.ticks up down
+
+pub laid_segments-requires-clause-turn : goal.laid_segments-requires-clause-turn
+laid_segments-requires-clause-turn c = ap (λ (s : Sender). s.turn) (c.client_in-client.ensures.sender (delivered_view c.args.delivered))

@@ -1,0 +1,28 @@
+-- Lists of whatever is compared by a test: in order, and put in order.
+use Rattle.std.specs.Prelude.{◌≡◌, Bool, false, List, [], ◌∷◌, if◌then◌else◌}
+use Rattle.segment_writer.specs.declared.framed.SegKey.{SegKey}
+use Rattle.segment_writer.specs.WrittenSegments.{is_key_below}
+
+-- a key is lower than another's
+abbrev pub has_lower_key : {X : Type 0} → (X → SegKey) → X → X → Bool
+has_lower_key key x y = is_key_below (key x) (key y)
+
+module _ {X : Type 0} (lt : X → X → Bool) where
+  -- none of these is below x
+  abbrev pub NoneBelow : X → List X → Type 0
+  NoneBelow x [] = Unit {0}
+  NoneBelow x (y ∷ ys) = (lt y x ≡ false) × NoneBelow x ys
+
+  -- none is below one before it
+  abbrev pub Ordered : List X → Type 0
+  Ordered [] = Unit {0}
+  Ordered (x ∷ xs) = NoneBelow x xs × Ordered xs
+
+  -- into a list in order, before the first that is not below it
+  abbrev pub insert_by : X → List X → List X
+  insert_by x [] = x ∷ []
+  insert_by x (y ∷ ys) = if lt y x then y ∷ insert_by x ys else x ∷ y ∷ ys
+
+  abbrev pub sorted_by : List X → List X
+  sorted_by [] = []
+  sorted_by (x ∷ xs) = insert_by x (sorted_by xs)

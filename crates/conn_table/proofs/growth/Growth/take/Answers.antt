@@ -1,5 +1,4 @@
-use Rattle.std.proofs.Common.{◌≡◌, ◌∙◌, None, Some, refl, sym, ap₂, arith}
-use Rattle.conn_table.specs.Entries.{kept_by}
+use Rattle.std.proofs.Common.{◌∙◌, None, Some, refl, sym, ap₂, arith}
 use Rattle.conn_table.proofs.Growths.{IsRead, begins-read, number-few, conns-few, unopened-few, grown-begun, grown-member, grown-unopened}
 use Rattle.conn_table.proofs.growth.Growth.take.Goals as goal
 

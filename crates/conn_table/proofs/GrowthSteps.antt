@@ -5,7 +5,7 @@ use Rattle.std.proofs.lemmas.List.{append_assoc, append-nil, map_push}
 use Rattle.conn_table.specs.declared.conns.Pair.{Pair}
 use Rattle.conn_table.specs.declared.conns.Member.{Member}
 use Rattle.conn_table.specs.declared.conns.Conn.{Conn}
-use Rattle.conn_table.specs.declared.growth.Current.{Current}
+use Rattle.conn_table.specs.declared.lasts.Current.{Current}
 use Rattle.conn_table.specs.IndexedSegments.{same_pair}
 use Rattle.conn_table.specs.KeptSegments.{KeptSegment, is_from_low, opening_of}
 use Rattle.conn_table.specs.Partials.{MarkedKept}

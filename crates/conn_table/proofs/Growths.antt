@@ -8,13 +8,14 @@ use Rattle.conn_table.specs.declared.conns.Pair.{Pair}
 use Rattle.conn_table.specs.declared.conns.Conn.{Conn}
 use Rattle.conn_table.specs.declared.entries.Entry.{Entry}
 use Rattle.conn_table.specs.declared.entries.Opening.{Opening}
-use Rattle.conn_table.specs.declared.growth.Current.{Current}
+use Rattle.conn_table.specs.declared.lasts.Current.{Current}
 use Rattle.conn_table.specs.declared.growth.Growth.{Growth}
 use Rattle.conn_table.specs.IndexedSegments.{same_pair}
 use Rattle.conn_table.specs.KeptSegments.{KeptSegment, opens, opening_of, is_again, last_opening, begins_behind}
 use Rattle.conn_table.specs.Partials.{MarkedKept, mark_behind, marked_behind}
 use Rattle.conn_table.specs.Tables.{member_from, conn_with, conns_from, unopened_after}
 use Rattle.conn_table.specs.Entries.{kept_by, kept_to, marks_to, pair_in}
+use Rattle.conn_table.specs.LastConnections.{IsLasts}
 use Rattle.conn_table.specs.Growing.{grown_at, current_of, HasGrown}
 use Rattle.conn_table.proofs.Peers.{same_pair-is, same_pair-itself}
 use Rattle.conn_table.proofs.EntrySteps.{IsEntryAt, kept_to-more, marks_to-more, length-marks_to, last_opening-push}
@@ -33,9 +34,9 @@ unopened-few es n g within grown = omega (arith, grown.unopened, unopened-le [] 
 
 -- ---- no segment
 
-pub grown-none : (es : List Entry) (g : Growth) → g.conns.items ≡ [] → g.unopened ≡ 0 → ((p : Pair) → get same_pair g.lasts p ≡ None) → HasGrown es 0 g
+pub grown-none : (es : List Entry) (g : Growth) → g.conns.items ≡ [] → g.unopened ≡ 0 → IsLasts g.lasts → ((p : Pair) → get same_pair g.lasts.map p ≡ None) → HasGrown es 0 g
 unfolding marked_behind conns_from unopened_after
-grown-none es g conns unopened empty = record { conns = conns; unopened = unopened; current = empty; last = λ p. refl }
+grown-none es g conns unopened lasts empty = record { conns = conns; unopened = unopened; lasts = lasts; current = empty; last = λ p. refl }
 
 -- ---- the last opening of a pair is that of its last connection: a repeat has the same sender and sequence number
 
@@ -59,7 +60,7 @@ opening_in o = option_map (λ (c : Current). c.opening) o
 pub record IsRead (es : List Entry) (n : ℕ) (e : Entry) (g : Growth) (o : Option Current) : Type 0 where
   pub at : IsEntryAt es n e
   pub grown : HasGrown es n g
-  pub read : o ≡ get same_pair g.lasts (pair_in e)
+  pub read : o ≡ get same_pair g.lasts.map (pair_in e)
 
 pub last-read : (es : List Entry) (n : ℕ) (e : Entry) (g : Growth) (o : Option Current) → IsRead es n e g o → current_of (pair_in e) (marks_to es n) ≡ o
 last-read es n e g o was = sym (was.read ∙ was.grown.current (pair_in e))
@@ -86,8 +87,8 @@ unopened-more es n e opened at is =
 pub grown-begun : (es : List Entry) (n : ℕ) (e : Entry) (old new : Growth) (o : Option Current) (c : Current) → IsRead es n e old o → begins_behind (kept_to es n) (kept_by e) ≡ true
     → c ≡ record { number = length old.conns.items; opening = opening_of (kept_by e) }
     → new.conns.items ≡ old.conns.items ++ conn_with (length old.conns.items) (kept_by e) [] ∷ []
-    → Updates same_pair old.lasts new.lasts (pair_in e) (Some c) → new.unopened ≡ old.unopened → HasGrown es (n + 1) new
-grown-begun es n e old new o c was begins is conns updates unopened =
+    → Updates same_pair old.lasts.map new.lasts.map (pair_in e) (Some c) → IsLasts new.lasts → new.unopened ≡ old.unopened → HasGrown es (n + 1) new
+grown-begun es n e old new o c was begins is conns updates lasts unopened =
     let k : KeptSegment = kept_by e in
     let ks : List KeptSegment = kept_to es n in
     let m : MarkedKept = mark_behind ks k in
@@ -107,6 +108,7 @@ grown-begun es n e old new o c was begins is conns updates unopened =
       unopened =
           let sum = unopened-more es n e true was.at (ap (λ (o : Option Current). is_some o) same) in
           omega (arith, sum, unopened, was.grown.unopened);
+      lasts = lasts;
       current = λ p. updates.0 p ∙ (ap (λ (o : Option Current). cond (same_pair k.pair p) (Some c) o) (was.grown.current p) ∙ (sym (now p) ∙ ap (λ (xs : List MarkedKept). current_of p xs) (sym more)));
       last = λ p.
           ap (λ (xs : List KeptSegment). last_opening xs p) (kept_to-more es n e was.at)
@@ -168,8 +170,8 @@ current-plain : (es : List Entry) (n : ℕ) (e : Entry) → begins_behind (kept_
 current-plain es n e plain = current_of-push_other (pair_in e) (marks_to es n) (mark_behind (kept_to es n) (kept_by e)) (ap (λ (b : Bool). b && same_pair (pair_in e) (pair_in e)) plain)
 
 pub grown-member : (es : List Entry) (n : ℕ) (e : Entry) (old new : Growth) (c : Current) → IsRead es n e old (Some c) → begins_behind (kept_to es n) (kept_by e) ≡ false
-    → new.conns.items ≡ grown_at c.number (member_from c.opening.from_low (kept_by e)) old.conns.items → new.lasts ≡ old.lasts → new.unopened ≡ old.unopened → HasGrown es (n + 1) new
-grown-member es n e old new c was plain conns lasts unopened =
+    → new.conns.items ≡ grown_at c.number (member_from c.opening.from_low (kept_by e)) old.conns.items → IsLasts new.lasts → new.lasts.map ≡ old.lasts.map → new.unopened ≡ old.unopened → HasGrown es (n + 1) new
+grown-member es n e old new c was plain conns lasts map unopened =
     let m : MarkedKept = mark_behind (kept_to es n) (kept_by e) in
     let ms : List MarkedKept = marks_to es n in
     let more = marks_to-more es n e was.at in
@@ -182,13 +184,14 @@ grown-member es n e old new c was plain conns lasts unopened =
       unopened =
           let sum = unopened-more es n e true was.at (ap (λ (o : Option Current). is_some o) (current-plain es n e plain ∙ found)) in
           omega (arith, sum, unopened, was.grown.unopened);
-      current = λ p. rw lasts (was.grown.current p ∙ stays.current p);
+      lasts = lasts;
+      current = λ p. rw map (was.grown.current p ∙ stays.current p);
       last = λ p. stays.last p ∙ (was.grown.last p ∙ ap opening_in (stays.current p));
     }
 
 pub grown-unopened : (es : List Entry) (n : ℕ) (e : Entry) (old new : Growth) → IsRead es n e old None → begins_behind (kept_to es n) (kept_by e) ≡ false
-    → new.conns.items ≡ old.conns.items → new.lasts ≡ old.lasts → new.unopened ≡ old.unopened + 1 → HasGrown es (n + 1) new
-grown-unopened es n e old new was plain conns lasts unopened =
+    → new.conns.items ≡ old.conns.items → IsLasts new.lasts → new.lasts.map ≡ old.lasts.map → new.unopened ≡ old.unopened + 1 → HasGrown es (n + 1) new
+grown-unopened es n e old new was plain conns lasts map unopened =
     let m : MarkedKept = mark_behind (kept_to es n) (kept_by e) in
     let ms : List MarkedKept = marks_to es n in
     let more = marks_to-more es n e was.at in
@@ -199,6 +202,7 @@ grown-unopened es n e old new was plain conns lasts unopened =
       unopened =
           let sum = unopened-more es n e false was.at (ap (λ (o : Option Current). is_some o) (current-plain es n e plain ∙ found)) in
           omega (arith, sum, unopened, was.grown.unopened);
-      current = λ p. rw lasts (was.grown.current p ∙ stays.current p);
+      lasts = lasts;
+      current = λ p. rw map (was.grown.current p ∙ stays.current p);
       last = λ p. stays.last p ∙ (was.grown.last p ∙ ap opening_in (stays.current p));
     }

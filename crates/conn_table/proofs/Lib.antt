@@ -11,6 +11,7 @@ mod MarkSteps
 pub mod RangeSteps
 mod EntrySteps
 mod PartialSteps
+mod LastSteps
 mod GrowthSteps
 mod Growths
 mod Joins

@@ -6,10 +6,11 @@ use Rattle.conn_table.specs.declared.conns.Pair.{Pair}
 use Rattle.conn_table.specs.declared.conns.Member.{Member}
 use Rattle.conn_table.specs.declared.conns.Conn.{Conn}
 use Rattle.conn_table.specs.declared.entries.Entry.{Entry}
-use Rattle.conn_table.specs.declared.growth.Current.{Current}
+use Rattle.conn_table.specs.declared.lasts.Current.{Current}
 use Rattle.conn_table.specs.declared.growth.Growth.{Growth}
 use Rattle.conn_table.specs.IndexedSegments.{same_pair}
 use Rattle.conn_table.specs.KeptSegments.{opening_of, last_opening}
+use Rattle.conn_table.specs.LastConnections.{IsLasts}
 use Rattle.conn_table.specs.Partials.{MarkedKept}
 use Rattle.conn_table.specs.Tables.{conns_from, unopened_after}
 use Rattle.conn_table.specs.Entries.{kept_to, marks_to}
@@ -38,5 +39,6 @@ current_of p (m ∷ ms) =
 pub record HasGrown (es : List Entry) (n : ℕ) (g : Growth) : Type 0 where
   pub conns : g.conns.items ≡ conns_from 0 (marks_to es n)
   pub unopened : g.unopened ≡ unopened_after [] (marks_to es n)
-  pub current : (p : Pair) → get same_pair g.lasts p ≡ current_of p (marks_to es n)
+  pub lasts : IsLasts g.lasts
+  pub current : (p : Pair) → get same_pair g.lasts.map p ≡ current_of p (marks_to es n)
   pub last : (p : Pair) → last_opening (kept_to es n) p ≡ option_map (λ c. c.opening) (current_of p (marks_to es n))

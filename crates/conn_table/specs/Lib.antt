@@ -8,6 +8,7 @@ pub mod Partials
 pub mod Groups
 pub mod Tables
 pub mod PairWords
+pub mod LastConnections
 pub mod Entries
 pub mod Growing
 pub mod TableFacts

@@ -1,30 +1,21 @@
 //! The connections of a capture, which grow segment by segment.
-//!
-//! The pairs stand in a map of `indexmap`. Only a segment that begins a connection puts its pair there; all others look theirs up.
 ghost use Rattle.std.specs.Prelude.{◌≡◌, ◌&&◌, ◌<◌, length, not, OnOk};
 ghost use Rattle.std.specs.Option.{option_map};
 ghost use Rattle.conn_table.specs.KeptSegments.{opens, opening_of, is_again};
 ghost use Rattle.conn_table.specs.Entries.{kept_by};
 ghost use Rattle.conn_table.specs.Growing.{grown_at};
 
-use crate::conns::{Conn, Member, Members, Pair};
-use crate::entries::{Entry, Opening};
+use crate::conns::{Conn, Member, Members};
+use crate::entries::Entry;
+use crate::lasts::{Current, Lasts};
 use crate::pair_keys::PairKeys;
-use indexmap::IndexMap;
 use std::alloc::{AllocError, Global};
-
-/// The last connection of a pair: its number, and the opening that begins it.
-#[derive(Clone, Copy, Debug)]
-pub(crate) struct Current {
-    pub(crate) number: u32,
-    pub(crate) opening: Opening,
-}
 
 /// The connections of the first segments of a capture, for each pair its last one, and how many of the segments are unopened.
 #[derive(Drop)]
 pub(crate) struct Growth {
     pub(crate) conns: Vec<Conn>,
-    pub(crate) lasts: IndexMap<Pair, Current, PairKeys>,
+    pub(crate) lasts: Lasts,
     pub(crate) unopened: u64,
     /// How many members a new connection gets room for.
     pub(crate) room: usize,
@@ -43,7 +34,7 @@ impl Growth {
         let (keys, openings) = PairKeys::of_openings(entries);
         Ok(Growth {
             conns: Vec::with_capacity(alloc, openings)?,
-            lasts: IndexMap::with_capacity_and_hasher(alloc, openings, keys)?,
+            lasts: Lasts::with_room(alloc, keys, openings)?,
             unopened: 0,
             room: entries.len() / openings.max(1) + 1,
         })
@@ -63,11 +54,11 @@ impl Growth {
     {
         let entry = &entries[at];
         let pair = entry.pair();
-        let last = self.lasts.get(&pair).copied();
+        let last = self.lasts.last_of(pair);
         if begins(entry, last) {
             let opening = entry.opening();
             let number = self.begin(alloc, entry)?;
-            self.lasts.insert(pair, Current { number, opening })?;
+            self.lasts.put(pair, Current { number, opening })?;
         } else if let Some(last) = last {
             let member = entry.member_of(last.opening.from_low);
             add_member(&mut self.conns, last.number as usize, member)?;

@@ -8,6 +8,7 @@ mod class_counts;
 mod conns;
 mod entries;
 mod growth;
+mod lasts;
 pub mod laws;
 mod pair_keys;
 mod partial;

@@ -25,7 +25,7 @@ impl Hash for Pair {
 
 // The addresses of a pair's peers side by side.
 #[tactic(auto, unfolding(crate::specs::PairWords::addrs_word))]
-fn addrs_word(pair: Pair) -> u64
+pub(crate) fn addrs_word(pair: Pair) -> u64
     ensures { result ≡ addrs_word pair }
 {
     (u64::from(pair.low.addr) << 32) + u64::from(pair.high.addr)
@@ -33,7 +33,7 @@ fn addrs_word(pair: Pair) -> u64
 
 // The ports of a pair's peers and the number of its VLAN side by side, 0 in place of one more where it has none.
 #[tactic(auto, unfolding(crate::specs::PairWords::ports_word))]
-fn ports_word(pair: Pair) -> u64
+pub(crate) fn ports_word(pair: Pair) -> u64
     ensures { result ≡ ports_word pair }
 {
     let vlan = match pair.vlan {

@@ -12,26 +12,26 @@ add_member-requires c =
     let was : IsRead es c.args.at e c.args.self.now (Some c.in-Some.last) = record {
       at = record { within = c.requires.within; is = c.index-entries-at.is };
       grown = c.requires.grown;
-      read = sym c.in-Some.is ∙ (rw c.pair-pair.ensures at (c.copied-last.ensures ∙ c.get.ensures.value));
+      read = sym c.in-Some.is ∙ (rw c.pair-pair.ensures at c.last_of-last.ensures.last);
     } in
     number-few es c.args.at e c.args.self.now c.in-Some.last was
 
 pub overflow_add-self : goal.overflow_add-self
 overflow_add-self c = omega (arith, unopened-few c.args.entries.now c.args.at c.args.self.now (omega arith) c.requires.grown)
 
-pub returns-in_ok-insert : goal.returns-in_ok-insert
-returns-in_ok-insert c =
+pub returns-in_ok-put : goal.returns-in_ok-put
+returns-in_ok-put c =
     let es = c.args.entries.now in
     let e = c.index-entries-at.result in
-    let was : IsRead es c.args.at e c.args.self.now c.copied-last.result = record {
+    let was : IsRead es c.args.at e c.args.self.now c.last_of-last.result = record {
       at = record { within = c.requires.within; is = c.index-entries-at.is };
       grown = c.requires.grown;
-      read = rw c.pair-pair.ensures at (c.copied-last.ensures ∙ c.get.ensures.value);
+      read = rw c.pair-pair.ensures at c.last_of-last.ensures.last;
     } in
-    let begins = sym (begins-read es c.args.at e c.args.self.now c.copied-last.result was) ∙ (sym c.begins.ensures ∙ c.if-begins.true) in
+    let begins = sym (begins-read es c.args.at e c.args.self.now c.last_of-last.result was) ∙ (sym c.begins.ensures ∙ c.if-begins.true) in
     let told = c.in_ok-number.ensures in
     let current = ap₂ (λ n o. record { number = n; opening = o }) told.number c.opening-opening.ensures in
-    grown-begun es c.args.at e c.args.self.now _ c.copied-last.result _ was begins current told.conns (rw (c.pair-pair.ensures, told.lasts) at c.in_ok-insert.ensures.updates) told.unopened
+    grown-begun es c.args.at e c.args.self.now _ c.last_of-last.result _ was begins current told.conns (rw (c.pair-pair.ensures, told.lasts, c.last_of-last.ensures.map) at c.in_ok-put.ensures.map) c.in_ok-put.ensures.lasts told.unopened
 
 pub returns-in_ok-add_member : goal.returns-in_ok-add_member
 returns-in_ok-add_member c =
@@ -40,11 +40,11 @@ returns-in_ok-add_member c =
     let was : IsRead es c.args.at e c.args.self.now (Some c.in-Some.last) = record {
       at = record { within = c.requires.within; is = c.index-entries-at.is };
       grown = c.requires.grown;
-      read = sym c.in-Some.is ∙ (rw c.pair-pair.ensures at (c.copied-last.ensures ∙ c.get.ensures.value));
+      read = sym c.in-Some.is ∙ (rw c.pair-pair.ensures at c.last_of-last.ensures.last);
     } in
     let begun = rw c.in-Some.is at c.begins.ensures in
     let plain = sym (begins-read es c.args.at e c.args.self.now (Some c.in-Some.last) was) ∙ (sym begun ∙ c.if-begins.false) in
-    grown-member es c.args.at e c.args.self.now _ c.in-Some.last was plain (rw c.member_of-member.ensures at c.in_ok-add_member.ensures) refl refl
+    grown-member es c.args.at e c.args.self.now _ c.in-Some.last was plain (rw c.member_of-member.ensures at c.in_ok-add_member.ensures) c.last_of-last.ensures.lasts c.last_of-last.ensures.map refl
 
 pub returns-in_default : goal.returns-in_default
 returns-in_default c =
@@ -53,8 +53,8 @@ returns-in_default c =
     let was : IsRead es c.args.at e c.args.self.now None = record {
       at = record { within = c.requires.within; is = c.index-entries-at.is };
       grown = c.requires.grown;
-      read = sym c.in_default.is ∙ (rw c.pair-pair.ensures at (c.copied-last.ensures ∙ c.get.ensures.value));
+      read = sym c.in_default.is ∙ (rw c.pair-pair.ensures at c.last_of-last.ensures.last);
     } in
     let begun = rw c.in_default.is at c.begins.ensures in
     let plain = sym (begins-read es c.args.at e c.args.self.now None was) ∙ (sym begun ∙ c.if-begins.false) in
-    grown-unopened es c.args.at e c.args.self.now _ was plain refl refl refl
+    grown-unopened es c.args.at e c.args.self.now _ was plain refl c.last_of-last.ensures.lasts c.last_of-last.ensures.map refl

@@ -1,0 +1,63 @@
+-- The slots of the pairs that were looked up last.
+use Rattle.std.proofs.Common.{◌≡◌, ◌<◌, ℕ, Bool, true, false, cond, List, length, set, get_or, replicate, slice_get, is_some, Option, Some, None, refl, sym, ap, subst, ◌∙◌, arith, inl, inr, ◌⊎◌, length-set}
+use Rattle.std.proofs.lemmas.Bool.{cases_eq, false_from_ne_true}
+use Rattle.std.proofs.lemmas.List.{length-replicate, get_or-replicate}
+use Rattle.std.proofs.lemmas.Option.{same_Some, slice_get-get_or, slice_get_read, slice_get_within}
+use Rattle.pcap_records.proofs.Lists.{slice_get-set_same, slice_get-set_other}
+use Rattle.indexmap.specs.IndexMap.{get}
+use Rattle.conn_table.specs.declared.conns.Pair.{Pair}
+use Rattle.conn_table.specs.declared.lasts.Current.{Current}
+use Rattle.conn_table.specs.declared.lasts.Recent.{Recent}
+use Rattle.conn_table.specs.declared.lasts.Lasts.{Lasts}
+use Rattle.conn_table.specs.IndexedSegments.{same_pair}
+use Rattle.conn_table.specs.LastConnections.{slot_of, current_in, IsSlot, IsLasts}
+use Rattle.conn_table.proofs.Peers.{same_pair-is}
+
+-- ---- no slot is taken
+
+none_taken : (n i : ℕ) (r : Recent) → slice_get (replicate n None) i ≡ Some (Some r) → ⊥
+none_taken n i r at =
+    let none : Option Recent = None in
+    let within : i < n = omega (arith, slice_get_within (replicate n None) i (Some r) at, length-replicate n none) in
+    let free : slice_get (replicate n None) i ≡ Some None =
+    slice_get-get_or (replicate n None) i None (omega (arith, length-replicate n none)) ∙ ap (λ (y : Option Recent). Some y) (get_or-replicate n i None None within) in
+    absurd cc
+
+pub lasts-none : (lasts : Lasts) (n : ℕ) → n ≡ 4096 → lasts.recent.items ≡ replicate n None → IsLasts lasts
+lasts-none lasts n is items = record {
+  room = ap (λ (xs : List (Option Recent)). length xs) items ∙ (length-replicate n None ∙ is);
+  slots = λ i r at. absurd (none_taken n i r (ap (λ (xs : List (Option Recent)). slice_get xs i) (sym items) ∙ at));
+}
+
+-- ---- a pair that was looked up
+
+pub last-recent : (lasts : Lasts) (p : Pair) (i : ℕ) (o : Option Recent) (c : Current) → IsLasts lasts → slice_get lasts.recent.items i ≡ Some o → current_in o p ≡ Some c → Some c ≡ get same_pair lasts.map p
+last-recent lasts p i None c is at found = absurd cc
+last-recent lasts p i (Some r) c is at found = by_pair (same_pair r.pair p) refl found
+  where
+    by_pair : (b : Bool) → same_pair r.pair p ≡ b → cond b (Some r.current) None ≡ Some c → Some c ≡ get same_pair lasts.map p
+    by_pair true same some = sym some ∙ sym (ap (λ (q : Pair). get same_pair lasts.map q) (sym (same_pair-is r.pair p same)) ∙ (is.slots i r at).current)
+    by_pair false other some = absurd cc
+
+pub last-found : (lasts : Lasts) (p : Pair) (i : ℕ) (o : Option Recent) (x : Option Current) → IsLasts lasts → i < 4096 → o ≡ get_or lasts.recent.items i o → x ≡ current_in o p → is_some x ≡ true → x ≡ get same_pair lasts.map p
+last-found lasts p i o None is within at found some = absurd cc
+last-found lasts p i o (Some c) is within at found some = last-recent lasts p i o c is (slice_get_read lasts.recent.items 4096 i o (sym is.room) within at) (sym found)
+
+-- its slot is taken by it
+pub lasts-set : (old new : Lasts) (p : Pair) (c : Current) → IsLasts old → new.recent.items ≡ set old.recent.items (slot_of p) (Some (record { pair = p; current = c })) → slot_of p < 4096
+    → get same_pair new.map p ≡ Some c → ((q : Pair) → same_pair p q ≡ false → get same_pair new.map q ≡ get same_pair old.map q) → IsLasts new
+lasts-set old new p c is items within last others = record {
+  room = ap (λ (xs : List (Option Recent)). length xs) items ∙ (length-set old.recent.items (slot_of p) _ ∙ is.room);
+  slots = λ i r at. by_slot i r (ap (λ (xs : List (Option Recent)). slice_get xs i) (sym items) ∙ at) (cases_eq i (slot_of p));
+}
+  where
+    by_slot : (i : ℕ) (r : Recent) → slice_get (set old.recent.items (slot_of p) (Some (record { pair = p; current = c }))) i ≡ Some (Some r) → (i ≡ slot_of p) ⊎ (i ≡ slot_of p → ⊥) → IsSlot new i r
+    by_slot i r at (inl here) =
+        let there = ap (slice_get (set old.recent.items (slot_of p) (Some (record { pair = p; current = c })))) (sym here) ∙ at in
+        let taken = slice_get-set_same old.recent.items (slot_of p) (Some (record { pair = p; current = c })) (omega (arith, is.room)) in
+        let same : record { pair = p; current = c } ≡ r = same_Some _ _ (same_Some _ _ (sym taken ∙ there)) in
+        subst (IsSlot new i) same (record { slot = sym here; current = last })
+    by_slot i r at (inr other) =
+        let was : IsSlot old i r = is.slots i r (sym (slice_get-set_other old.recent.items (slot_of p) i _ other) ∙ at) in
+        let apart : same_pair p r.pair ≡ false = false_from_ne_true (same_pair p r.pair) (λ same. other (sym (ap slot_of (same_pair-is p r.pair same) ∙ was.slot))) in
+        record { slot = was.slot; current = others r.pair apart ∙ was.current }

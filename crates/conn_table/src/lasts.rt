@@ -1,0 +1,112 @@
+//! The last connection of each pair.
+//!
+//! The pairs stand in a map of `indexmap`. Only a segment that begins a connection puts its pair there; all others look theirs up. The
+//! segments of a connection come in bursts, so the pairs that were looked up last stand in a small table beside the map.
+ghost use Rattle.std.specs.Prelude.{◌≡◌, ◌<◌};
+ghost use Rattle.conn_table.specs.LastConnections.{slot_of, current_in};
+
+use crate::conns::Pair;
+use crate::entries::Opening;
+use crate::pair_keys::{PairKeys, addrs_word, ports_word};
+use indexmap::IndexMap;
+use std::alloc::{AllocError, Global};
+
+/// The last connection of a pair: its number, and the opening that begins it.
+#[derive(Clone, Copy, Debug)]
+pub(crate) struct Current {
+    pub(crate) number: u32,
+    pub(crate) opening: Opening,
+}
+
+/// A pair that was looked up, and its last connection.
+#[derive(Clone, Copy, Debug)]
+pub(crate) struct Recent {
+    pub(crate) pair: Pair,
+    pub(crate) current: Current,
+}
+
+/// How many pairs that were looked up have a slot.
+const SLOTS: usize = 4096;
+
+/// For each pair its last connection.
+#[derive(Drop)]
+pub(crate) struct Lasts {
+    pub(crate) map: IndexMap<Pair, Current, PairKeys>,
+    pub(crate) recent: Vec<Option<Recent>>,
+}
+
+// The slot of a pair. No answer depends on it, and where pairs share one, more of them are looked up in the map.
+#[tactic(auto, unfolding(crate::specs::LastConnections::slot_of))]
+fn slot_of(pair: Pair) -> usize
+    ensures slot { result ≡ slot_of pair }
+    ensures within { result < 4096 }
+{
+    let mixed = addrs_word(pair)
+        .wrapping_add(ports_word(pair))
+        .wrapping_mul(0x9e37_79b9_7f4a_7c15);
+    (mixed >> 32) as usize % SLOTS
+}
+
+// The last connection of the pair in a slot, where it is this pair.
+fn current_in(slot: Option<Recent>, pair: Pair) -> Option<Current>
+    ensures { result ≡ current_in slot pair }
+{
+    match slot {
+        Some(recent) => {
+            if recent.pair == pair {
+                Some(recent.current)
+            } else {
+                None
+            }
+        }
+        None => None,
+    }
+}
+
+impl Lasts {
+    ghost use Rattle.std.specs.Prelude.{◌≡◌, None, Some, IfOk, OnOk};
+    ghost use Rattle.indexmap.specs.IndexMap.{get, Updates};
+    ghost use Rattle.conn_table.specs.IndexedSegments.{same_pair};
+    ghost use Rattle.conn_table.specs.LastConnections.{IsLasts};
+
+    // No pair has a connection, and there is room for so many.
+    pub(crate) fn with_room(alloc: Global, keys: PairKeys, room: usize) -> Result<Lasts, AllocError>
+        ensures lasts { IfOk result IsLasts }
+        ensures empty { IfOk result (λ lasts. (p : _) → get same_pair lasts.map p ≡ None) }
+    {
+        Ok(Lasts {
+            map: IndexMap::with_capacity_and_hasher(alloc, room, keys)?,
+            recent: vec![in alloc; None; SLOTS]?,
+        })
+    }
+
+    // The last connection of a pair.
+    pub(crate) fn last_of(&mut self, pair: Pair) -> Option<Current>
+        requires { IsLasts self.old }
+        ensures lasts { IsLasts self.new }
+        ensures map { self.new.map ≡ self.old.map }
+        ensures last { result ≡ get same_pair self.old.map pair }
+    {
+        let slot = slot_of(pair);
+        let recent = current_in(self.recent[slot], pair);
+        if recent.is_some() {
+            return recent;
+        }
+        let last = self.map.get(&pair).copied();
+        if let Some(current) = last {
+            self.recent[slot] = Some(Recent { pair, current });
+        }
+        last
+    }
+
+    // The last connection of a pair is this one from now on.
+    pub(crate) fn put(&mut self, pair: Pair, current: Current) -> Result<(), AllocError>
+        requires { IsLasts self.old }
+        ensures lasts { OnOk result (IsLasts self.new) }
+        ensures map { OnOk result (Updates same_pair self.old.map self.new.map pair (Some current)) }
+    {
+        self.map.insert(pair, current)?;
+        self.recent[slot_of(pair)] = Some(Recent { pair, current });
+        Ok(())
+    }
+}

@@ -1,6 +1,6 @@
 mod Meetings
 mod RowLemmas
-pub mod TableConnections
+mod TableConnections
 mod DeliverySteps
 mod Isolated
 mod RecordedInTime

@@ -17,7 +17,6 @@ use Rattle.conn_table.specs.IndexedSegments.{IndexedSegment, indexed_segments}
 use Rattle.conn_table.specs.Connections.{Connection}
 use Rattle.conn_table.specs.SeenCapture.{SeenCapture}
 use Rattle.reassembly.specs.Positions.{vlan_of}
-use Rattle.reassembly.proofs.MappedLists.{map_same}
 use Rattle.report.specs.ReportText.{report_text}
 use Rattle.run_files.specs.declared.error.RunFault.{RunFault}
 use Rattle.run_files.specs.declared.error.RunFault.TheVariants.{TooManyScenarios}
@@ -86,16 +85,15 @@ record IsOld (c : SeenCapture) : Type 0 where
 contributions_kept : (c : SeenCapture) → IsOld c → (seed : ℕ) (s : ℕ × List Proxy) → contributions c seed s ≡ contributions_before c seed s
 contributions_kept c old seed s =
     ap (λ (cs : List Connection). map (contribution_of c.ticks seed s) cs) (connections_kept segs old.none)
-    ∙ map_same (contribution_of c.ticks seed s) (contribution_of_before c.ticks seed s) (connections_before segs)
-    (each (connections_before segs) (connections_have_none segs old.none))
+    ∙ each (connections_before segs) (connections_have_none segs old.none)
   where
     segs : List IndexedSegment
     segs = indexed_segments 0 c.packets
 
     each : (cs : List Connection) → AllByRecursion (λ (x : Connection). vlan_of x ≡ None) cs
-        → AllByRecursion (λ x. contribution_of c.ticks seed s x ≡ contribution_of_before c.ticks seed s x) cs
-    each [] none = tt
-    each (x ∷ cs) none = (contribution_is_kept c.ticks seed s x none.0, each cs none.1)
+        → map (contribution_of c.ticks seed s) cs ≡ map (contribution_of_before c.ticks seed s) cs
+    each [] none = refl
+    each (x ∷ xs) none = ap₂ (λ y ys. y ∷ ys) (contribution_is_kept c.ticks seed s x none.0) (each xs none.1)
 
 output_kept : (c : SeenCapture) → IsOld c → (seed : ℕ) (s : ℕ × List Proxy) → output c seed s ≡ output_before c seed s
 unfolding output output_before

@@ -1,12 +1,11 @@
 -- Segments without a VLAN make the connections that they made before frames with a tag.
-use Rattle.std.proofs.Common.{◌≡◌, ℕ, ◌+◌, Bool, ◌&&◌, not, nat_lt, nat_le, List, [], ◌∷◌, length, map, filter, Option, None, is_none, refl, ap, ap₂, ◌∙◌}
+use Rattle.std.proofs.Common.{◌≡◌, ℕ, ◌+◌, Bool, cond, ◌&&◌, not, nat_lt, nat_le, List, [], ◌∷◌, length, map, filter, Option, None, is_none, refl, ap, ap₂, ◌∙◌}
 use Rattle.std.specs.List.{AllByRecursion, enumerate_from}
-use Rattle.pcap_records.proofs.Lists.{all_filter}
-use Rattle.reassembly.proofs.MappedLists.{filter_same}
 use Rattle.conn_table.specs.IndexedSegments.{IndexedSegment, same_vlan}
 use Rattle.conn_table.specs.Connections.{last_of, is_opening, of_one_pair, repeats, openings_before, begins, beginnings, beginning_of, is_at, later_members, Connection, connection_of, connections, is_unopened, unopened_count}
 use Rattle.reassembly.specs.Positions.{vlan_of}
 use Rattle.toxicap.specs.ConnectionsBefore.{of_one_pair_before, openings_before_before, begins_before, beginnings_before, beginning_of_before, later_members_before, connection_of_before, connections_before, is_unopened_before, unopened_count_before}
+use Rattle.toxicap.proofs.EachElement.{each_filtered}
 use Rattle.toxicap.proofs.FramesKept.{HasNoVlan}
 
 one_pair_kept : (s x : IndexedSegment) → HasNoVlan s → HasNoVlan x → of_one_pair s x ≡ of_one_pair_before s x
@@ -15,11 +14,9 @@ one_pair_kept s x s_has_none x_has_none = ap₂ (λ (v w : Option ℕ). same_vla
 -- tests that agree where there is no VLAN keep the same of segments that have none
 keeps_same : (test test_before : IndexedSegment → Bool) → ((x : IndexedSegment) → HasNoVlan x → test x ≡ test_before x)
     → (xs : List IndexedSegment) → AllByRecursion HasNoVlan xs → filter test xs ≡ filter test_before xs
-keeps_same test test_before agree xs none = filter_same test test_before xs (each xs none)
-  where
-    each : (xs : List IndexedSegment) → AllByRecursion HasNoVlan xs → AllByRecursion (λ x. test x ≡ test_before x) xs
-    each [] none = tt
-    each (x ∷ xs) none = (agree x none.0, each xs none.1)
+keeps_same test test_before agree [] none = refl
+keeps_same test test_before agree (x ∷ xs) none =
+    ap₂ (λ (passes : Bool) (rest : List IndexedSegment). cond passes (x ∷ rest) rest) (agree x none.0) (keeps_same test test_before agree xs none.1)
 
 openings_kept : (segs : List IndexedSegment) (s : IndexedSegment) → AllByRecursion HasNoVlan segs → HasNoVlan s → openings_before segs s ≡ openings_before_before segs s
 openings_kept segs s none s_has_none =
@@ -36,7 +33,7 @@ beginnings_kept segs none = keeps_same (begins segs) (begins_before segs) (λ s 
 
 beginnings_have_none : (segs : List IndexedSegment) → AllByRecursion HasNoVlan segs → AllByRecursion HasNoVlan (beginnings_before segs)
 unfolding beginnings_before
-beginnings_have_none segs none = all_filter HasNoVlan (begins_before segs) segs none
+beginnings_have_none segs none = each_filtered HasNoVlan (begins_before segs) segs none
 
 beginning_kept : (segs : List IndexedSegment) (s : IndexedSegment) → AllByRecursion HasNoVlan segs → HasNoVlan s → beginning_of segs s ≡ beginning_of_before segs s
 beginning_kept segs s none s_has_none =

@@ -1,3 +1,4 @@
+mod EachElement
 mod WrittenFrames
 mod SoundConnections
 mod ReadTicks

@@ -2,7 +2,6 @@
 use Rattle.std.proofs.Common.{◌≡◌, ◌≤◌, ℕ, ◌+◌, Bool, true, false, ◌||◌, nat_lt, List, [], ◌∷◌, ◌++◌, length, map, Ok, Err, refl, sym, ap, ◌∙◌, subst, arith, if◌then◌else◌}
 use Rattle.std.specs.List.{AllByRecursion, enumerate_from, flat_map}
 use Rattle.std.proofs.lemmas.Bool.{ltb-false}
-use Rattle.pcap_records.proofs.Lists.{all_append}
 use Rattle.pcap_records.specs.declared.unit.Unit.{Unit}
 use Rattle.pcap_records.specs.Instants.{ticks_of}
 use Rattle.pcap_records.specs.Reading.{Packet, Contents, capture_limit}
@@ -26,6 +25,7 @@ use Rattle.conn_workers.specs.Contributions.{contribution, contribution_of}
 use Rattle.conn_table.specs.SeenCapture.{SeenCapture, seen_packets, seen_capture}
 use Rattle.toxicap.specs.Rehearsal.{output, outputs_of, scenario_limit, answer}
 use Rattle.toxicap.specs.SoundOutputs.{NeverFall, IsSoundFrame, IsReadWhole, OutputsAreRead}
+use Rattle.toxicap.proofs.EachElement.{each_of_both}
 use Rattle.toxicap.proofs.ReadTicks.{reading_unit}
 use Rattle.toxicap.proofs.WrittenFrames.{IsSoundWritten, IsWritten, all-sorted_by_key, segments_are}
 use Rattle.toxicap.proofs.SoundConnections.{HasBytes, IsSoundConnection, packets_have, connections_are, server_base_fits}
@@ -104,7 +104,7 @@ parts_are : HeadersAreSound → (ticks seed : ℕ) (scenario : ℕ × List Proxy
 unfolding contribution
 parts_are sound_headers ticks seed scenario [] all = tt
 parts_are sound_headers ticks seed (number, proxies) (c ∷ cs) all =
-    all_append (IsWritten ticks) _ _
+    each_of_both (IsWritten ticks) _ _
     (segments_are ticks sound_headers _ (talk_is c all.0 (delivered_connection ticks seed number c.number (met_proxy (server_of c) proxies) (recorded_connection c))))
     (parts_are sound_headers ticks seed (number, proxies) cs all.1)
 

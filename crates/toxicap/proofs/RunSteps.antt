@@ -19,7 +19,7 @@ use Rattle.toxicap.specs.Inputs.{TakesInputs}
 use Rattle.toxicap.specs.NamedFiles.{EndsOf}
 use Rattle.toxicap.specs.PrintedReports.{PrintsOf, reports_in}
 use Rattle.toxicap.specs.RunEnds.{PrintsBy, failed_reads, failed_writes}
-use Rattle.toxicap.specs.StoredOutputs.{StoresOf}
+use Rattle.toxicap.specs.StoredOutputs.{StoresUnlessMemory}
 use Rattle.toxicap.proofs.AnswerSteps.{never, stopped}
 use Rattle.toxicap.proofs.PrintedSteps.{of_fault}
 use Rattle.toxicap.proofs.StoringEnds.{stores_by, none_failed}
@@ -80,7 +80,7 @@ module _ (hosts : List KnownHost) (texts : List (List ℕ)) (seed : ℕ) (Wrote 
       ends_refused out fault (called_for hosts texts seed text) Wrote (reports_fault fault text is) (of_fault fault (called_for hosts texts seed text) is)
 
   -- storing writes nothing to standard output
-  pub none_printed : (result : Result (Unit {0}) RunFault) (text : List ℕ) → StoresOf result (called_for hosts texts seed text) → failed_writes result ≡ 0
+  pub none_printed : (result : Result (Unit {0}) RunFault) (text : List ℕ) → StoresUnlessMemory result (called_for hosts texts seed text) → failed_writes result ≡ 0
   none_printed (Ok u) text is = refl
   none_printed (Err WriteFailed) text is = never hosts texts seed text is (λ own. own)
   none_printed (Err _) text is = refl

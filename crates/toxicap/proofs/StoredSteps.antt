@@ -1,5 +1,5 @@
 -- The files of outputs, stored some after others.
-use Rattle.std.proofs.Common.{◌≡◌, ◌<◌, ◌≤◌, ℕ, ◌+◌, ◌*◌, List, [], ◌∷◌, ◌++◌, length, take, drop, Option, Ok, Err, refl, sym, ap, subst, ◌∙◌, arith, take-add}
+use Rattle.std.proofs.Common.{◌≡◌, ◌<◌, ◌≤◌, ℕ, ◌+◌, ◌*◌, List, [], ◌∷◌, ◌++◌, length, take, drop, Option, Some, None, Ok, Err, refl, sym, ap, subst, ◌∙◌, arith, append_assoc, take-add}
 use Rattle.std.proofs.lemmas.List.{length-append, length-take-le, take-append-drop, take-append-le, take_at, drop_at}
 use Rattle.run_files.specs.declared.error.RunFault.TheVariants.{Memory}
 use Rattle.run_files.specs.declared.error.StoreFault.{StoreFault}
@@ -8,7 +8,6 @@ use Rattle.run_files.specs.declared.outputs.Output.{Output}
 use Rattle.run_files.specs.RunFault.{run_fault_of_storing}
 use Rattle.run_files.specs.Shelves.{StoredFile, Takes}
 use Rattle.run_files.specs.WrittenOutputs.{capture_file, report_file, files_from, StoresAfter}
-use Rattle.run_files.proofs.StoredFiles.{Takes-append}
 use Rattle.toxicap.specs.StoredOutputs.{StoresOf, TakenOf}
 use Rattle.toxicap.proofs.OutputSteps.{taken_are_left}
 
@@ -67,17 +66,24 @@ whole_part all number within =
 
 -- ---- what the shelf took
 
+-- some files, and then others
+takes_both : (a b c : Option (List StoredFile)) (xs ys : List StoredFile) → Takes a b xs → Takes b c ys → Takes a c (xs ++ ys)
+takes_both None b c xs ys first next = tt
+takes_both (Some a) None c xs ys first next = absurd first
+takes_both (Some a) (Some b) None xs ys first next = absurd next
+takes_both (Some a) (Some b) (Some c) xs ys first next = next ∙ ap (λ (fs : List StoredFile). fs ++ ys) first ∙ append_assoc {A = StoredFile} a xs ys
+
 module _ (all : List Output) (number : ℕ) (some : List Output) (within : number ≤ length all) (are : some ≡ take (length some) (drop number all))
     (had a b : Option (List StoredFile)) (taken : Takes had a (files_from 0 (take number all))) where
   pub taken_more : Takes a b (files_from number some) → Takes had b (files_from 0 (take (number + length some) all))
   taken_more one =
       subst (λ (fs : List StoredFile). Takes had b fs) (sym (files_more all number some within are))
-      (Takes-append had a b (files_from 0 (take number all)) (files_from number some) taken one)
+      (takes_both had a b (files_from 0 (take number all)) (files_from number some) taken one)
 
   taken_part : (stored : ℕ) → stored < length (files_from number some) → Takes a b (take stored (files_from number some)) → Takes had b (take (2 * number + stored) (files_from 0 all))
   taken_part stored below one =
       subst (λ (fs : List StoredFile). Takes had b fs) (sym (first_part all number some within are stored below))
-      (Takes-append had a b (files_from 0 (take number all)) (take stored (files_from number some)) taken one)
+      (takes_both had a b (files_from 0 (take number all)) (take stored (files_from number some)) taken one)
 
   -- storing stopped among them
   pub stops_among : (fault : StoreFault) (old between new : ℕ) → between ≡ old → StoresAfter (2 * number) (files_from number some) (Takes a b) between new (Err fault)
@@ -86,7 +92,7 @@ module _ (all : List Output) (number : ℕ) (some : List Output) (within : numbe
       let part = taken_part stores.0 stores.2 stores.3 in
       rw stores.1 (in_all all number some within are stores.0 stores.2, (part, stores.4 ∙ ap (λ n. n + 1) same))
   stops_among (store.Memory after) old between new same stores =
-      (tt, ((2 * number + stores.0, taken_part stores.0 stores.2 stores.3), stores.4 ∙ same))
+      (refl, ((2 * number + stores.0, taken_part stores.0 stores.2 stores.3), stores.4 ∙ same))
 
 -- there was no memory for the next outputs
 pub stops_before : (all : List Output) (number old new : ℕ) (had a : Option (List StoredFile)) → number ≤ length all → Takes had a (files_from 0 (take number all)) → new ≡ old

@@ -13,8 +13,9 @@ use Rattle.run_files.specs.RunFault.{run_refusal}
 use Rattle.run_files.specs.Shelves.{StoredFile, Takes}
 use Rattle.run_files.specs.WrittenOutputs.{files_from}
 use Rattle.toxicap.specs.Answering.{called_for, capture_bytes_of, scenarios_from}
+use Rattle.toxicap.specs.Rehearsal.{answer}
 use Rattle.toxicap.specs.RunEnds.{StoresBy, failed_reads}
-use Rattle.toxicap.specs.StoredOutputs.{StoresOf, TakenOf}
+use Rattle.toxicap.specs.StoredOutputs.{StoresOf, StoresUnlessMemory, TakenOf}
 use Rattle.toxicap.proofs.AnswerSteps.{never}
 
 -- a shelf took no file
@@ -27,6 +28,12 @@ pub none_consumed : (left : Option (List ℕ)) → Consumes left left []
 none_consumed None = tt
 none_consumed (Some bytes) = refl
 
+-- who tells want of memory only where nothing is refused, tells it where it may
+unless_memory : (result : Result (Unit {0}) RunFault) (wanted : Result (List Output) RunFault) → StoresOf result wanted → StoresUnlessMemory result wanted
+unless_memory (Ok u) wanted is = is
+unless_memory (Err Memory) wanted is = tt
+unless_memory (Err fault) wanted is = is
+
 module _ (hosts : List KnownHost) (texts : List (List ℕ)) (seed : ℕ) where
   -- the bytes of the capture are refused
   called_bytes : (fault : RunFault) (text : List ℕ) → length text ≤ capture_limit → capture_bytes_of text ≡ Err fault → called_for hosts texts seed text ≡ Err fault
@@ -38,6 +45,12 @@ module _ (hosts : List KnownHost) (texts : List (List ℕ)) (seed : ℕ) where
       → called_for hosts texts seed text ≡ Err fault
   unfolding called_for
   called_scenarios fault text bytes within is refused = rw (le-ltb, is, refused) refl
+
+  -- or the rehearsal stands
+  called_rehearsal : (text bytes : List ℕ) (scenarios : List (List Proxy)) → length text ≤ capture_limit → capture_bytes_of text ≡ Ok bytes
+      → scenarios_from hosts [] texts ≡ Ok scenarios → called_for hosts texts seed text ≡ answer bytes scenarios seed
+  unfolding called_for
+  called_rehearsal text bytes scenarios within is read = rw (le-ltb, is, read) refl
 
   pub refused_bytes : (fault : RunFault) (text : List ℕ) → length text ≤ capture_limit → Agrees run_refusal (λ (bytes : List ℕ). bytes) (Err fault) (capture_bytes_of text)
       → AgreesUnlessMemory run_refusal (λ (outputs : List Output). outputs) (Err fault) (called_for hosts texts seed text)
@@ -53,18 +66,25 @@ module _ (hosts : List KnownHost) (texts : List (List ℕ)) (seed : ℕ) where
   -- where a text is refused nothing is stored
   pub none_stored : (fault : RunFault) (text : List ℕ) (had : Option (List StoredFile)) (failures : ℕ)
       → AgreesUnlessMemory run_refusal (λ (outputs : List Output). outputs) (Err fault) (called_for hosts texts seed text)
-      → StoresOf (Err fault) (called_for hosts texts seed text) × TakenOf (Err fault) (called_for hosts texts seed text) (Takes had had) failures failures
+      → StoresUnlessMemory (Err fault) (called_for hosts texts seed text) × TakenOf (Err fault) (called_for hosts texts seed text) (Takes had had) failures failures
   none_stored Memory text had failures is = (tt, ((0, nothing_taken had), refl))
   none_stored (ShelfFailed after) text had failures is = never hosts texts seed text is (λ own. own)
   none_stored fault text had failures is = (is, (nothing_taken had, refl))
 
+  -- where it is not, the rehearsal is stored
+  pub rehearsal_stored : (result : Result (Unit {0}) RunFault) (text bytes : List ℕ) (scenarios : List (List Proxy)) → length text ≤ capture_limit
+      → capture_bytes_of text ≡ Ok bytes → scenarios_from hosts [] texts ≡ Ok scenarios → StoresOf result (answer bytes scenarios seed)
+      → StoresUnlessMemory result (called_for hosts texts seed text)
+  rehearsal_stored result text bytes scenarios within is read stores =
+      rw (called_rehearsal text bytes scenarios within is read) (unless_memory result (answer bytes scenarios seed) stores)
+
   -- how storing ends, by the text that was read
-  pub stores_by : (result : Result (Unit {0}) RunFault) (text : List ℕ) (AtEnd : Type 0) → length text ≤ capture_limit → AtEnd → StoresOf result (called_for hosts texts seed text)
+  pub stores_by : (result : Result (Unit {0}) RunFault) (text : List ℕ) (AtEnd : Type 0) → length text ≤ capture_limit → AtEnd → StoresUnlessMemory result (called_for hosts texts seed text)
       → StoresBy result (called_for hosts texts seed text) text AtEnd
   stores_by (Ok u) text AtEnd within at_end is = (at_end, is)
   stores_by (Err (ShelfFailed after)) text AtEnd within at_end is = (at_end, of_files (called_for hosts texts seed text) is)
     where
-      of_files : (wanted : Result (List Output) RunFault) → StoresOf (Err (ShelfFailed after)) wanted
+      of_files : (wanted : Result (List Output) RunFault) → StoresUnlessMemory (Err (ShelfFailed after)) wanted
           → (outputs : List Output) × (wanted ≡ Ok outputs) × (after < length (files_from 0 outputs))
       of_files (Ok outputs) is = (outputs, refl, is)
       of_files (Err fault) is = absurd (omega arith)
@@ -76,7 +96,7 @@ module _ (hosts : List KnownHost) (texts : List (List ℕ)) (seed : ℕ) where
   stores_by (Err fault) text AtEnd within at_end is = (at_end, is)
 
   -- and no read has failed
-  pub none_failed : (result : Result (Unit {0}) RunFault) (text : List ℕ) → StoresOf result (called_for hosts texts seed text) → failed_reads result ≡ 0
+  pub none_failed : (result : Result (Unit {0}) RunFault) (text : List ℕ) → StoresUnlessMemory result (called_for hosts texts seed text) → failed_reads result ≡ 0
   none_failed (Ok u) text is = refl
   none_failed (Err ReadFailed) text is = never hosts texts seed text is (λ own. own)
   none_failed (Err _) text is = refl

@@ -2,7 +2,6 @@
 use Rattle.std.proofs.Common.{◌≡◌, ◌≢◌, ◌<◌, ◌≤◌, ℕ, zero, suc, ◌+◌, ◌-◌, ◌^◌, ◌==◌, Bool, true, false, ◌||◌, nat_lt, Option, Some, None, List, [], ◌∷◌, ◌++◌, length, map, refl, sym, arith, length-append, if◌then◌else◌}
 use Rattle.std.specs.List.{AllByRecursion, enumerate_from}
 use Rattle.std.proofs.lemmas.Bool.{ltb-true, or_parts}
-use Rattle.pcap_records.proofs.Lists.{all_append}
 use Rattle.pcap_records.specs.Instants.{horizon}
 use Rattle.pcap_records.specs.Reading.{packet_limit}
 use Rattle.pcap_records.specs.Writing.{record_bytes}
@@ -15,6 +14,7 @@ use Rattle.segment_writer.specs.declared.framed.Framed.{Framed}
 use Rattle.reassembly.specs.RecordedLines.{LineByte, End, live, fin, close, reset}
 use Rattle.segment_writer.specs.WrittenSegments.{Host, WrittenSide, WrittenConnection, SentSegment, Piece, is_chunk_border, pieces_led_by, pieces, end_segments, segments_sent_from, segments_sent_by, frame_bytes, framed_segment, header_of, syn_segment, syn_ack_segment, ack_segment, refusal_segment, framed_by_client, framed_by_server, opening_turn, up_turn, down_turn, insert_by_key, is_key_below, sorted_by_key, segments_before_horizon, written_segments}
 use Rattle.toxicap.specs.SoundOutputs.{IsSoundFrame}
+use Rattle.toxicap.proofs.EachElement.{each_of_both}
 
 -- ---- the record of a segment
 
@@ -192,6 +192,6 @@ unfolding written_segments
 segments_are ticks sound t is =
     let up = turn_is ticks sound t is.vlan t.client.host t.server.host is.client is.server is.differ 1 0 (segments_sent_by t.client t.server) (sent_is t.client t.server) in
     let down = turn_is ticks sound t is.vlan t.server.host t.client.host is.server is.client (λ same. is.differ (sym same)) 2 0 (segments_sent_by t.server t.client) (sent_is t.server t.client) in
-    let lines = all_append (IsRecord ticks) (opening_turn t.refused ticks t ++ up_turn ticks t) (down_turn ticks t)
-    (all_append (IsRecord ticks) (opening_turn t.refused ticks t) (up_turn ticks t) (opening_is ticks sound t is t.refused) up) down in
+    let lines = each_of_both (IsRecord ticks) (opening_turn t.refused ticks t ++ up_turn ticks t) (down_turn ticks t)
+    (each_of_both (IsRecord ticks) (opening_turn t.refused ticks t) (up_turn ticks t) (opening_is ticks sound t is t.refused) up) down in
     all-sorted_by_key ticks _ (kept_in_time ticks _ lines)

@@ -20,7 +20,7 @@ use Rattle.toxicap.specs.Commands.{FaultStream, ProgramEnds, Streams}
 use Rattle.toxicap.specs.Inputs.{hosts_asked, texts_or_bare}
 use Rattle.toxicap.specs.PrintedReports.{PrintsOf}
 use Rattle.toxicap.specs.RunEnds.{Tells, status_of}
-use Rattle.toxicap.specs.StoredOutputs.{StoresOf}
+use Rattle.toxicap.specs.StoredOutputs.{StoresUnlessMemory}
 
 -- the texts at some paths, after those loaded earlier, or the first refusal
 unfoldable pub texts_from : Held → List (List ℕ) → List (List ℕ) → Result (List (List ℕ)) RunFault
@@ -46,7 +46,7 @@ outputs_asked held asked capture =
 -- how a run ends by what is called for, printed on standard output or stored in a folder
 abbrev pub EndsOf : Option (Bor (List ℕ)) → Result (Unit {0}) RunFault → Result (List Output) RunFault → (List ℕ → Type 0) → Type 0
 EndsOf None outcome wanted Wrote = PrintsOf outcome wanted Wrote
-EndsOf (Some folder) outcome wanted Wrote = StoresOf outcome wanted
+EndsOf (Some folder) outcome wanted Wrote = StoresUnlessMemory outcome wanted
 
 -- how the capture was read: of its file what the path holds; of standard input a text, unless a read failed
 abbrev pub ReadsCapture : Held → Option (Bor (List ℕ)) → Result (List ℕ) RunFault → Streams → Type 0

@@ -1,8 +1,10 @@
 -- Outputs that are stored as they are made: the files of each scenario before the next ones are made.
 use Rattle.std.specs.Prelude.{◌≡◌, ℕ, ◌+◌, ◌<◌, List, [], length, take, Result, Ok, Err, IsOk}
+use Rattle.pcap_records.specs.Agreement.{Refuses}
 use Rattle.run_files.specs.declared.error.RunFault.{RunFault}
 use Rattle.run_files.specs.declared.error.RunFault.TheVariants.{Memory, ShelfFailed}
 use Rattle.run_files.specs.declared.outputs.Output.{Output}
+use Rattle.run_files.specs.RunFault.{run_refusal}
 use Rattle.run_files.specs.Shelves.{StoredFile}
 use Rattle.run_files.specs.WrittenOutputs.{files_from}
 
@@ -11,13 +13,17 @@ abbrev pub files_in : Result (List Output) RunFault → List StoredFile
 files_in (Ok outputs) = files_from 0 outputs
 files_in (Err fault) = []
 
--- How storing ends, by what is called for: well where outputs are; the shelf fails before it has all files; any other refusal but
--- want of memory is what is called for.
+-- How storing ends, by what is called for: well where outputs are; the shelf fails before it has all files; any other refusal is what
+-- is called for, and want of memory is told only where nothing is refused.
 abbrev pub StoresOf : Result (Unit {0}) RunFault → Result (List Output) RunFault → Type 0
 StoresOf (Ok _) wanted = IsOk wanted
 StoresOf (Err (ShelfFailed after)) wanted = after < length (files_in wanted)
-StoresOf (Err Memory) wanted = Unit {0}
-StoresOf (Err fault) wanted = wanted ≡ Err fault
+StoresOf (Err fault) wanted = Refuses (run_refusal fault) wanted
+
+-- the same of a call that may want memory before it has seen every fault
+abbrev pub StoresUnlessMemory : Result (Unit {0}) RunFault → Result (List Output) RunFault → Type 0
+StoresUnlessMemory (Err Memory) wanted = Unit {0}
+StoresUnlessMemory outcome wanted = StoresOf outcome wanted
 
 -- What the shelf took then, given what it is that it took some files, by the count of its failures before and after: all of them; or
 -- where it failed or memory was wanting, a first part; and none of them where the run was refused.

@@ -8,7 +8,7 @@ ghost use Rattle.scenarios.specs.Populate.{scenario};
 ghost use Rattle.toxicap.specs.Answering.{AnswersBy, answer_under, called_for, numbered, scenarios_from};
 ghost use Rattle.toxicap.specs.PrintedReports.{reports_in};
 ghost use Rattle.toxicap.specs.RunEnds.{failed_reads};
-ghost use Rattle.toxicap.specs.StoredOutputs.{StoresOf, TakenOf};
+ghost use Rattle.toxicap.specs.StoredOutputs.{StoresUnlessMemory, TakenOf};
 ghost use Rattle.run_files.specs.Shelves.{Takes};
 ghost use Rattle.run_files.specs.RunFault.{run_refusal};
 
@@ -126,7 +126,7 @@ pub(crate) fn store_for_text<H: Threads + Wait + Sync, S: DraftShelf>(
 ) -> Result<(), RunFault>
     requires text { length text ≤ capture_limit }
     requires failures { S.failures shelf.old < 2 ^ 64 - 1 }
-    ensures ends { StoresOf result (called_for options.now.hosts (map (λ t. t.now) texts.now) options.now.seed text) }
+    ensures ends { StoresUnlessMemory result (called_for options.now.hosts (map (λ t. t.now) texts.now) options.now.seed text) }
     ensures taken { TakenOf result (called_for options.now.hosts (map (λ t. t.now) texts.now) options.now.seed text)
         (Takes (S.files shelf.old) (S.files shelf.new)) (S.failures shelf.old) (S.failures shelf.new) }
 {

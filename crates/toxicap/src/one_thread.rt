@@ -13,6 +13,7 @@ use crate::crews::Alone;
 use crate::rehearsal::SCENARIO_LIMIT;
 use crate::reports::rehearse_reports;
 use crate::sources::Sources;
+use conn_workers::laws::recordings_are_few;
 use conn_workers::record_alone;
 use job_matrix::{Phase, Through, Work, work_alone};
 use pcap_records::{CAPTURE_LIMIT, Capture, FileBytes, read_capture};
@@ -136,6 +137,7 @@ fn outputs_alone(
     requires few { length scenarios.now ≤ scenario_limit }
     ensures { IfOk result (λ v. v ≡ outputs_of (seen_capture (contents_of capture.now)) scenarios.now seed) }
 {
+    recordings_are_few();
     let table = table_alone(alloc, capture)?;
     let recordings = record_alone(alloc, capture, &table)?;
     let count = recordings.as_slice().len();

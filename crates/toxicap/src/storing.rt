@@ -11,6 +11,7 @@ ghost use Rattle.toxicap.specs.StoredOutputs.{StoresOf, TakenOf};
 
 use crate::rehearsal::SCENARIO_LIMIT;
 use crate::sources::Sources;
+use conn_workers::laws::recordings_are_few;
 use conn_workers::record;
 use job_matrix::{Plan, Through};
 use pcap_records::{Capture, FileBytes, read_file};
@@ -22,7 +23,8 @@ use std::sync::Wait;
 use std::thread::{Threads, map_indices};
 
 /// Rehearses a capture under each of the scenarios and puts the files of their outputs on a shelf, in order: those that `store_all`
-/// puts of what `rehearse` answers. It holds the outputs of no more scenarios at once than there are workers.
+/// puts of what `rehearse` answers. Laid out are no more scenarios at once than there are workers, and there are drafts of at most twice
+/// as many.
 ///
 /// # Errors
 /// Those of `rehearse`, and [`RunFault::ShelfFailed`] at the first file that the shelf does not take. The shelf then has the files
@@ -65,6 +67,7 @@ fn store_outputs<R: Threads + Sync, S: DraftShelf>(
     ensures taken { TakenOf result (Ok (outputs_of (seen_capture (contents_of capture.now)) scenarios.now seed))
         (Takes (S.files shelf.old) (S.files shelf.new)) (S.failures shelf.old) (S.failures shelf.new) }
 {
+    recordings_are_few();
     let table = table(rt, alloc, capture, plan, &Through)?;
     let recordings = record(rt, alloc, capture, &table, plan, &Through)?;
     let count = recordings.as_slice().len();

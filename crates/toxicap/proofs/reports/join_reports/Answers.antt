@@ -7,7 +7,6 @@ use Rattle.conn_table.specs.SeenCapture.{SeenCapture, seen_capture}
 use Rattle.report.specs.ReportText.{report_text}
 use Rattle.scenarios.specs.declared.proxies.Proxy.{Proxy}
 use Rattle.conn_workers.specs.Recordings.{recorded_lines}
-use Rattle.conn_workers.proofs.TableConnections.{few_conns}
 use Rattle.toxicap.specs.Rehearsal.{output, outputs_of}
 use Rattle.toxicap.proofs.WholeTables.{as_many_recorded, unopened_is}
 use Rattle.toxicap.proofs.PrintedSteps.{report_is, numbered_at, one_more}
@@ -15,9 +14,9 @@ use Rattle.toxicap.proofs.reports.join_reports.Goals as goal
 
 pub prove-unreachable-requires : goal.prove-unreachable-requires
 prove-unreachable-requires g c =
-    let count = ap length (c.as_slice-count.ensures ∙ c.in_ok-recordings.ensures) ∙ as_many_recorded c.args.capture.now in
+    let count = ap length (c.as_slice-count.ensures ∙ c.in_ok-recordings.ensures) in
     let records = ap length c.records.ensures.records in
-    omega (arith, count, records, few_conns c.args.capture.now, c.if-prove.true)
+    omega (arith, count, records, c.recordings_are_few.ensures c.args.capture.now, c.if-prove.true)
 
 pub gathered_report-requires-clause-each : goal.gathered_report-requires-clause-each
 gathered_report-requires-clause-each g c =

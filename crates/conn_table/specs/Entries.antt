@@ -1,5 +1,7 @@
 -- What a partial keeps of its segments shows, and what holds of it.
-use Rattle.std.specs.Prelude.{◌<◌, ◌≤◌, ℕ, ◌-◌, ◌^◌, List, [], map, take, length}
+use Rattle.std.specs.Prelude.{◌<◌, ◌≤◌, ℕ, ◌-◌, ◌^◌, List, [], map, take, length, get_or, Vec}
+use Rattle.std.specs.Global.{Global}
+use Rattle.std.specs.List.{flat_map}
 use Rattle.frame_headers.specs.Frame.{FrameClass}
 use Rattle.conn_table.specs.declared.class_counts.Counts.{Counts}
 use Rattle.conn_table.specs.ClassCounts.{count_at}
@@ -18,6 +20,16 @@ pair_in e = record {
 -- the segment that an entry keeps
 abbrev pub kept_by : Entry → KeptSegment
 kept_by e = record { pair = pair_in e; member = e.member }
+
+-- the segments of some ranges, range after range, those of one, and how many the first n ranges have
+abbrev pub all_of : List (Vec Entry Global) → List Entry
+all_of rs = flat_map (λ (r : Vec Entry Global). r.items) rs
+
+abbrev pub range_at : List (Vec Entry Global) → ℕ → List Entry
+range_at rs n = get_or (map (λ (r : Vec Entry Global). r.items) rs) n []
+
+abbrev pub count_to : List (Vec Entry Global) → ℕ → ℕ
+count_to rs n = length (all_of (take n rs))
 
 -- the first n segments
 abbrev pub kept_to : List Entry → ℕ → List KeptSegment

@@ -24,35 +24,56 @@ pub(crate) struct Growth {
 impl Growth {
     ghost use Rattle.std.specs.Prelude.{◌≡◌, ◌+◌, ◌<◌, ◌^◌, [], ◌∷◌, ◌++◌, length, IfOk, OnOk};
     ghost use Rattle.conn_table.specs.Tables.{conn_with};
+    ghost use Rattle.conn_table.specs.Entries.{all_of, range_at, count_to};
     ghost use Rattle.conn_table.specs.Growing.{HasGrown};
 
     // No connections yet, and room for those of some segments: as many as these have openings, each with as many members as there are
     // segments for an opening.
-    pub(crate) fn of_none(alloc: Global, entries: &[Entry]) -> Result<Growth, AllocError>
-        ensures { IfOk result (HasGrown entries.now 0) }
+    pub(crate) fn of_none(alloc: Global, ranges: &[Vec<Entry>]) -> Result<Growth, AllocError>
+        ensures { IfOk result (HasGrown (all_of ranges.now) 0) }
     {
-        let (keys, openings) = PairKeys::of_openings(entries);
+        let (keys, openings) = PairKeys::of_openings(ranges);
         Ok(Growth {
             conns: Vec::with_capacity(alloc, openings)?,
             lasts: Lasts::with_room(alloc, keys, openings)?,
             unopened: 0,
-            room: entries.len() / openings.max(1) + 1,
+            room: (segments_in(ranges) / openings.max(1)).saturating_add(1),
         })
     }
 
-    // Takes the segment at a place, where those before it have been taken.
-    pub(crate) fn take(
+    // Takes the segments of a range, where those of the ranges before it have been taken.
+    pub(crate) fn take_range(
         &mut self,
         alloc: Global,
-        entries: &[Entry],
+        ranges: &[Vec<Entry>],
+        range: usize,
+    ) -> Result<(), AllocError>
+        requires within { range < length ranges.now }
+        requires few { length (all_of ranges.now) < 2 ^ 31 }
+        requires grown { HasGrown (all_of ranges.now) (count_to ranges.now range) self.old }
+        ensures { OnOk result (HasGrown (all_of ranges.now) (count_to ranges.now (range + 1)) self.new) }
+    {
+        for at in 0..ranges[range].len() {
+            self.take(alloc, ranges, range, at)?;
+        }
+        Ok(())
+    }
+
+    // Takes the segment at a place of a range, where those before it have been taken.
+    fn take(
+        &mut self,
+        alloc: Global,
+        ranges: &[Vec<Entry>],
+        range: usize,
         at: usize,
     ) -> Result<(), AllocError>
-        requires within { at < length entries.now }
-        requires few { length entries.now < 2 ^ 31 }
-        requires grown { HasGrown entries.now at self.old }
-        ensures { OnOk result (HasGrown entries.now (at + 1) self.new) }
+        requires range { range < length ranges.now }
+        requires within { at < length (range_at ranges.now range) }
+        requires few { length (all_of ranges.now) < 2 ^ 31 }
+        requires grown { HasGrown (all_of ranges.now) (count_to ranges.now range + at) self.old }
+        ensures { OnOk result (HasGrown (all_of ranges.now) (count_to ranges.now range + at + 1) self.new) }
     {
-        let entry = &entries[at];
+        let entry = &ranges[range][at];
         let pair = entry.pair();
         let last = self.lasts.last_of(pair);
         if begins(entry, last) {
@@ -91,6 +112,15 @@ impl Growth {
         })?;
         Ok(number)
     }
+}
+
+// How many segments some ranges have.
+fn segments_in(ranges: &[Vec<Entry>]) -> usize {
+    let mut count = 0usize;
+    for range in ranges {
+        count = count.saturating_add(range.len());
+    }
+    count
 }
 
 // Whether a segment begins a connection, given the last one of its pair: it opens, and is no repeat of that one's opening.

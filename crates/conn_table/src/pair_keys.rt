@@ -52,15 +52,17 @@ pub(crate) struct PairKeys {
 impl PairKeys {
     // The hasher whose key is a digest of the openings' pairs in order (SHA-256, FIPS 180-4), and how many openings there are. Only
     // openings are put into a table: who chooses other pairs for them, or another order, has another key.
-    pub(crate) fn of_openings(entries: &[Entry]) -> (PairKeys, usize) {
+    pub(crate) fn of_openings(ranges: &[Vec<Entry>]) -> (PairKeys, usize) {
         let mut digest = Sha256::new();
         let mut openings = 0usize;
-        for entry in entries {
-            if entry.opens() {
-                let pair = entry.pair();
-                digest.update(&addrs_word(pair).to_le_bytes()[..]);
-                digest.update(&ports_word(pair).to_le_bytes()[..]);
-                openings = openings.saturating_add(1);
+        for range in ranges {
+            for entry in range {
+                if entry.opens() {
+                    let pair = entry.pair();
+                    digest.update(&addrs_word(pair).to_le_bytes()[..]);
+                    digest.update(&ports_word(pair).to_le_bytes()[..]);
+                    openings = openings.saturating_add(1);
+                }
             }
         }
         let key = digest.finalize();

@@ -14,7 +14,8 @@ pub struct Partial {
     pub(crate) from: usize,
     pub(crate) to: usize,
     pub(crate) counts: Counts,
-    pub(crate) entries: Vec<Entry>,
+    /// The segments of each range that it was joined of, range after range.
+    pub(crate) ranges: Vec<Vec<Entry>>,
 }
 
 impl Model for Partial {
@@ -22,11 +23,11 @@ impl Model for Partial {
 
     ghost Value = { PartialView };
 
-    ghost use Rattle.conn_table.specs.Entries.{IsPartial, marks_of};
+    ghost use Rattle.conn_table.specs.Entries.{IsPartial, all_of, marks_of};
 
-    ghost view = { λ p. record { from = p.from; to = p.to; counts = p.counts; marked = marks_of p.entries.items } };
+    ghost view = { λ p. record { from = p.from; to = p.to; counts = p.counts; marked = marks_of (all_of p.ranges.items) } };
 
-    ghost invariant = { λ p. IsPartial p.from p.to p.counts p.entries.items };
+    ghost invariant = { λ p. IsPartial p.from p.to p.counts (all_of p.ranges.items) };
 }
 
 impl Partial {
@@ -68,12 +69,12 @@ impl Partial {
             from,
             to,
             counts,
-            entries,
+            ranges: vec![in alloc; entries]?,
         })
     }
 
     /// The partial of two adjacent ranges: the right one begins where the left one ends, and is of the same capture. It takes
-    /// time by the size of the right one.
+    /// time by the number of ranges that the right one was joined of: no segment is copied.
     ///
     /// # Errors
     /// A growth was refused.
@@ -87,20 +88,20 @@ impl Partial {
             from,
             to: _,
             counts,
-            mut entries,
+            mut ranges,
         } = left;
         let Partial {
             from: _,
             to,
             counts: more,
-            entries: mut next,
+            ranges: mut next,
         } = right;
-        entries.append(&mut next)?;
+        ranges.append(&mut next)?;
         Ok(Partial {
             from,
             to,
             counts: counts.plus(more),
-            entries,
+            ranges,
         })
     }
 }

@@ -58,10 +58,10 @@ impl Table {
 pub fn finish(alloc: Global, partial: Partial) -> Result<Table, AllocError>
     ensures { IfOk result (λ table. table ≡ finished partial) }
 {
-    let entries = &partial.entries;
-    let mut growth = Growth::of_none(alloc, entries)?;
-    for at in 0..entries.len() {
-        growth.take(alloc, entries, at)?;
+    let ranges = &partial.ranges;
+    let mut growth = Growth::of_none(alloc, ranges)?;
+    for range in 0..ranges.len() {
+        growth.take_range(alloc, ranges, range)?;
     }
     let Growth {
         conns,

@@ -1,9 +1,9 @@
 use Rattle.std.proofs.Common.{◌≡◌, [], map, refl, ap, ◌∙◌, sym, arith}
 use Rattle.std.proofs.lemmas.List.{map-append, length-append}
 use Rattle.conn_table.specs.Partials.{joined}
-use Rattle.conn_table.specs.Entries.{kept_by}
+use Rattle.conn_table.specs.Entries.{all_of, kept_by}
 use Rattle.conn_table.proofs.CountingSteps.{count_at-sum}
-use Rattle.conn_table.proofs.EntrySteps.{kept_of-behind, marked_behind-append}
+use Rattle.conn_table.proofs.EntrySteps.{all_of-append, kept_of-behind, marked_behind-append}
 use Rattle.conn_table.proofs.partial.Partial.join.Goals as goal
 
 pub invariant_of-result : goal.invariant_of-result
@@ -15,21 +15,22 @@ invariant_of-result c =
     record {
       ordered = omega (arith, left.ordered, right.ordered, meet);
       few = right.few;
-      segments = rw told.items (omega (arith, length-append c.left.inside.entries.items c.right.inside.entries.items, left.segments, right.segments, left.ordered, right.ordered, meet));
+      segments = rw (told.items, all_of-append c.left.inside.ranges.items c.right.inside.ranges.items) (omega (arith, length-append (all_of c.left.inside.ranges.items) (all_of c.right.inside.ranges.items), left.segments, right.segments, left.ordered, right.ordered, meet));
       counted = λ k. rw c.plus.ensures (omega (arith, count_at-sum k c.left.inside.counts c.right.inside.counts, left.counted k, right.counted k, left.ordered, right.ordered, meet));
     }
 
 pub returns-clause-exact : goal.returns-clause-exact
 unfolding joined
 returns-clause-exact c =
-    let xs = c.left.inside.entries.items in
-    let ys = c.right.inside.entries.items in
+    let xs = all_of c.left.inside.ranges.items in
+    let ys = all_of c.right.inside.ranges.items in
     let told = c.in_ok-append.ensures.items in
     rw (
       ← c.left.view_is,
       ← c.right.view_is,
       c.plus.ensures,
       told,
+      all_of-append c.left.inside.ranges.items c.right.inside.ranges.items,
       map-append kept_by xs ys,
       marked_behind-append [] (map kept_by xs) (map kept_by ys),
       kept_of-behind [] (map kept_by xs),

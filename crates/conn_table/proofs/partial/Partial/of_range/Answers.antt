@@ -7,6 +7,7 @@ use Rattle.conn_table.specs.ClassCounts.{counts_of}
 use Rattle.conn_table.specs.Partials.{MarkedKept, PartialView, partial_in, marked_in, marked_after, marked_behind, packets_between, segments_between}
 use Rattle.conn_table.specs.declared.class_counts.Counts.{Counts}
 use Rattle.conn_table.specs.Entries.{kept_by, marks_of}
+use Rattle.conn_table.proofs.EntrySteps.{all_of-one}
 use Rattle.conn_table.proofs.MarkSteps.{marked_behind-kept}
 use Rattle.conn_table.proofs.PartialSteps.{IsRecordOf, ends_within, at-none, counts-none, kept-none, at-more, counts-more, counts-few, kept-segment, kept-other, marks_between, is_segment-other}
 use Rattle.conn_table.proofs.partial.Partial.of_range.Goals.{in-Segment+in_ok-push, in_default}
@@ -100,7 +101,7 @@ invariant_of-result c =
     record {
       ordered = c.requires.ordered;
       few = omega arith;
-      segments = omega (arith, was.segments);
+      segments = rw (c.in_ok-vec.ensures.items, all_of-one c.loop-index.entries) (omega (arith, was.segments));
       counted = λ k. rw was.counts (omega (arith, over, counts-few capture c.args.from c.loop-index.index c.args.carry k (omega arith) (omega arith)));
     }
 
@@ -114,5 +115,7 @@ returns-clause-exact c =
     let of_index : ℕ → PartialView = λ i. view (counts_of (packets_between capture c.args.from i c.args.carry)) (marks_between capture c.args.from i c.args.carry) in
     let segs = segments_between capture c.args.from c.loop-index.index c.args.carry in
     let marks : marks_of c.loop-index.entries.items ≡ map (marked_in capture) (marked_after [] segs) = ap (λ ks. marked_behind [] ks) was.kept ∙ marked_behind-kept capture [] segs in
+    let told =
     ap (λ n. view n (marks_of c.loop-index.entries.items)) was.counts
-    ∙ (ap (λ ms. view (counts_of (packets_between capture c.args.from c.loop-index.index c.args.carry)) ms) marks ∙ ap of_index over)
+    ∙ (ap (λ ms. view (counts_of (packets_between capture c.args.from c.loop-index.index c.args.carry)) ms) marks ∙ ap of_index over) in
+    rw (c.in_ok-vec.ensures.items, all_of-one c.loop-index.entries) told

@@ -5,9 +5,10 @@ ghost use Rattle.run_files.specs.Shelves.{path_in};
 
 use crate::error::ShelfError;
 use std::alloc::{AllocError, Global};
-use std::fs::{self, OpenOptions};
+use std::fs::{self, Metadata, OpenOptions};
 use std::io::{ErrorKind, Write};
 use std::marker::Model;
+use std::os::unix::fs::MetadataExt;
 use std::rt::Files;
 
 /// Where files are put: a folder, an archive, or a list in memory.
@@ -163,6 +164,23 @@ impl Shelf for MemoryShelf {
 // The longest name that a file may have on Linux, in bytes.
 const NAME_LIMIT: usize = 255;
 
+/// What tells a file of the file system from all others, whatever its paths: the device that it is on, and its inode number there.
+#[derive(Clone, Copy, Debug, PartialEq, Eq)]
+pub(crate) struct FileId {
+    device: u64,
+    inode: u64,
+}
+
+impl FileId {
+    // That of the file that has these metadata.
+    fn of(metadata: &Metadata) -> FileId {
+        FileId {
+            device: metadata.dev(),
+            inode: metadata.ino(),
+        }
+    }
+}
+
 // The name of a file of a folder while it is written.
 const UNFINISHED: &str = "toxicap.unfinished";
 
@@ -174,14 +192,15 @@ const UNFINISHED: &str = "toxicap.unfinished";
 /// replaced by the next file that is put.
 ///
 /// A file that cannot be made or written whole is a failure, and so is any file in a folder that is not there, and a name that stands
-/// for a folder or a file that may not be written. A name with a slash, or of more than 255 bytes, is a failure too. No file that is
-/// put takes memory.
+/// for a folder or a file that may not be written, or that is [spared](Folder::spare). A name with a slash, or of more than 255 bytes, is a
+/// failure too. No file that is put takes memory.
 #[derive(Drop)]
 pub struct Folder<'a, F: Files> {
     pub(crate) files: &'a F,
     pub(crate) folder: &'a str,
     pub(crate) unfinished: String,
     pub(crate) path: String,
+    pub(crate) spared: Vec<FileId>,
     pub(crate) failed: u64,
 }
 
@@ -211,8 +230,23 @@ impl<'a, F: Files> Folder<'a, F> {
             folder,
             unfinished,
             path,
+            spared: Vec::new(alloc),
             failed: 0,
         })
+    }
+
+    /// The folder will not replace the file that is at a path now, under any of its names: to put one there is a failure. Where no file is
+    /// at the path, or none can be seen there, nothing is spared.
+    ///
+    /// # Errors
+    /// A growth was refused.
+    pub fn spare(&mut self, path: &str) -> Result<(), AllocError>
+        ensures { self.new ≡ self.old }
+    {
+        if let Ok(metadata) = fs::metadata(self.files, path) {
+            self.spared.push(FileId::of(&metadata))?;
+        }
+        Ok(())
     }
 
     /// How many calls have failed.
@@ -232,7 +266,7 @@ impl<'a, F: Files> Folder<'a, F> {
         }
         // The path has room for it.
         set_path(&mut self.path, self.folder, name).unwrap();
-        allow_name(self.files, &self.path)
+        allow_name(self.files, &self.path, &self.spared)
     }
 
     // Makes or replaces a file.
@@ -249,8 +283,13 @@ impl<'a, F: Files> Folder<'a, F> {
     }
 }
 
-// Refuses a path that stands for a folder, or for a file that may not be written.
-fn allow_name<F: Files>(files: &F, path: &str) -> Result<(), ShelfError> {
+// Refuses a path that stands for a folder, for a file that may not be written, or for one that is spared.
+fn allow_name<F: Files>(files: &F, path: &str, spared: &[FileId]) -> Result<(), ShelfError> {
+    if let Ok(metadata) = fs::metadata(files, path)
+        && spared.contains(&FileId::of(&metadata))
+    {
+        return Err(ShelfError);
+    }
     match OpenOptions::new().write(true).open(files, path) {
         Ok(_) => Ok(()),
         Err(error) if error.kind() == ErrorKind::NotFound => Ok(()),

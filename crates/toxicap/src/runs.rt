@@ -71,17 +71,18 @@ where
         plan: Plan::new(asked.workers, asked.cut).unwrap(),
     };
     let text = load_capture(rt, paths, alloc, asked, reader)?;
-    answer_into(rt, alloc, text, writer, asked.out, &texts, &options)
+    answer_into(rt, paths, alloc, text, writer, asked, &texts, &options)
 }
 
 // The answers to a capture's text, stored in a folder as they are made, or without one their reports printed. Nothing is printed
 // before all reports are whole, so every refusal but a failed write leaves the writer as it was.
-fn answer_into<H: Files + Threads + Wait + Sync, W: Write>(
+fn answer_into<H: Files + Threads + Wait + Sync, P: Paths, W: Write>(
     rt: &H,
+    paths: &P,
     alloc: Global,
     text: Text,
     writer: &mut Counted<W>,
-    out: Option<&str>,
+    asked: &Asked<'_>,
     texts: &[&[u8]],
     options: &Options,
 ) -> Result<(), RunFault>
@@ -90,18 +91,35 @@ where
     H::Dir: Send,
     requires text { length text ≤ capture_limit }
     requires writes { writer.old.failed < 2 ^ 64 - 1 }
-    ensures ends { EndsOf out.entry result (called_for options.now.hosts (map (λ t. t.now) texts.now) options.now.seed text)
+    ensures ends { EndsOf asked.now.out result (called_for options.now.hosts (map (λ t. t.now) texts.now) options.now.seed text)
         (Appends (W.contents writer.old.inner) (W.contents writer.new.inner)) }
-    ensures unwritten { OnSome out.entry (writer.new ≡ writer.old) }
+    ensures unwritten { OnSome asked.now.out (writer.new ≡ writer.old) }
     ensures failed_writes { writer.new.failed ≡ writer.old.failed + failed_writes result }
     ensures untouched { IfErr result (λ fault. fault ≢ RunFault.WriteFailed → writer.new ≡ writer.old) }
 {
-    let Some(folder) = out else {
+    let Some(folder) = asked.out else {
         let reports = reports_to_text(rt, alloc, text, texts, options)?;
         return write_bytes(writer, reports.as_slice());
     };
     let mut shelf = Folder::new(alloc, rt, folder)?;
+    if paths.is_file_system() {
+        spare_inputs(asked, &mut shelf)?;
+    }
     store_for_text(rt, alloc, text, texts, options, &mut shelf)
+}
+
+// The path of the file that standard input is read from, where it is one.
+const STANDARD_INPUT: &str = "/dev/stdin";
+
+// The folder will replace no file that the run has read: neither a scenario's, nor the capture's.
+fn spare_inputs<H: Files>(asked: &Asked<'_>, shelf: &mut Folder<'_, H>) -> Result<(), AllocError>
+    ensures { shelf.new ≡ shelf.old }
+{
+    shelf.spare(asked.capture.unwrap_or(STANDARD_INPUT))?;
+    for path in &asked.scenarios {
+        shelf.spare(path)?;
+    }
+    Ok(())
 }
 
 // A scenario without proxies.

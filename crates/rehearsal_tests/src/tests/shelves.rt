@@ -3,6 +3,7 @@ ghost use Rattle.std.specs.Prelude.{◌≡◌, ◌≤◌};
 
 use std::alloc::{AllocError, AllocGlobal, Global};
 use std::fs;
+use std::os::unix::fs::symlink;
 use std::process::Abort;
 use std::rt::Files;
 use toxicap::{
@@ -213,4 +214,24 @@ fn names_that_a_folder_refuses(rt: HostRuntime) {
     check_no_name(&rt, ".", "toxicap\0name");
     check_no_name(&rt, ".", long);
     check_no_name(&rt, "", "toxicap-name");
+}
+
+// A spared file stays, under its name and through a link; a file that is not there spares nothing.
+#[test]
+fn a_folder_spares_a_file(rt: HostRuntime) {
+    fs::create_dir(&rt, "spared").expect(&rt, "a folder");
+    fs::write(&rt, "spared/input", "as recorded").expect(&rt, "a file");
+    symlink(&rt, "input", "spared/link").expect(&rt, "a link");
+    let mut folder = Folder::new(rt.alloc(), &rt, "spared").expect(&rt, "memory");
+    folder.spare("spared/nowhere").expect(&rt, "memory");
+    folder.spare("./spared/link").expect(&rt, "memory");
+    let refused = folder.put("input", b"1") == Err(ShelfError);
+    let followed = folder.put("link", b"2") == Err(ShelfError);
+    let others = folder.put("nowhere", b"3") == Ok(()) && folder.failed() == 2;
+    let stays = match fs::read(&rt, "spared/input") {
+        Ok(found) => found.as_slice() == b"as recorded".as_slice(),
+        Err(_) => false,
+    };
+    assert!(rt; refused && followed && others && stays);
+    fs::remove_dir_all(&rt, "spared").expect(&rt, "removed");
 }

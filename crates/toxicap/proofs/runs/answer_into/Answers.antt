@@ -8,7 +8,7 @@ pub returns-in_err-reports-clause-ends : goal.returns-in_err-reports-clause-ends
 returns-in_err-reports-clause-ends g c =
     let own = c.args.options.now in
     let fault = err_from_is_err_and c.from_residual.result c.from_residual.ensures.1 in
-    rw (fault.1, fault.2) (reports_refused own.hosts (map (λ t. t.now) c.args.texts.now) own.seed _ c.args.out _ c.args.text c.in_err-reports.ensures)
+    rw (fault.1, fault.2) (reports_refused own.hosts (map (λ t. t.now) c.args.texts.now) own.seed _ c.args.asked.now.out _ c.args.text c.in_err-reports.ensures)
 
 pub returns-in_err-reports-clause-failed_writes : goal.returns-in_err-reports-clause-failed_writes
 returns-in_err-reports-clause-failed_writes g c =

@@ -50,6 +50,42 @@ ln -s "$work/target" "$work/folder/0000.txt"
 run "$capture" "${late[@]}" --out "$work/folder"
 verdict "a link of the report's name" "$(well; folder_difference "$work/new" "$work/folder"; echo target | byte_difference - "$work/target")"
 
+# A file that the run reads is not replaced: neither the capture, nor a scenario, nor standard input, nor what a link leads to.
+# spared WHAT NUMBER FILE: the verdict on the last run, which was refused after so many files, where FILE was to stay as the capture is.
+spared() { verdict "$1" "$(refusal "refused 60 ShelfFailed after $2"; byte_difference "$capture" "$3")"; }
+
+folder
+cp "$capture" "$work/folder/0000.pcap"
+run /dev/null --capture "$work/folder/0000.pcap" "${late[@]}" --out "$work/folder"
+spared "the capture is not replaced" 0 "$work/folder/0000.pcap"
+run "$work/folder/0000.pcap" "${late[@]}" --out "$work/folder"
+spared "nor is standard input" 0 "$work/folder/0000.pcap"
+status=0
+(cd "$work/folder" && "$program" --capture 0000.pcap --out . > "$work/output" 2> "$work/faults") || status=$?
+spared "nor by paths without a folder" 0 "$work/folder/0000.pcap"
+
+folder
+cp "$capture" "$work/recording"
+ln -s ../recording "$work/folder/0001.pcap"
+ln -s recording "$work/named"
+run /dev/null --capture "$work/named" "${late[@]}" "${late[@]}" --out "$work/folder"
+spared "nor is a link that leads to it" 2 "$work/folder/0001.pcap"
+
+folder
+ln "$work/recording" "$work/folder/0000.pcap"
+run /dev/null --capture "$work/recording" "${late[@]}" --out "$work/folder"
+spared "nor is another name of it" 0 "$work/folder/0000.pcap"
+
+folder
+cp "${late[1]}" "$work/folder/0001.txt"
+run "$capture" "${late[@]}" --scenario "$work/folder/0001.txt" --out "$work/folder"
+verdict "nor is a scenario" "$(refusal "refused 60 ShelfFailed after 3"; byte_difference "${late[1]}" "$work/folder/0001.txt")"
+
+folder
+cp "$capture" "$work/folder/0001.pcap"
+run "$work/folder/0001.pcap" "${late[@]}" --out "$work/folder"
+verdict "a file of another number stays by itself" "$(well; holds "$work/folder" 0000.pcap 0000.txt 0001.pcap; byte_difference "$capture" "$work/folder/0001.pcap")"
+
 # A file that may not be written, by root as nobody.
 folder
 echo old > "$work/folder/0000.txt"

@@ -181,7 +181,7 @@ run /dev/null --help
 verdict "toxicap --help" "$(
     well
     names "$work/output" '--capture <PATH>' '--scenario <PATH>' '--host <NAME=ADDR>' '--seed <N>' '--workers <N>' '--cut <N>' '--out <DIR>' \
-        '[default: standard input]' '[default: 0]' '[default: 1]' '[default: 4096]' 'Toxics:' 'Refusals:' 'Exit status:' 'Examples:'
+        '[default: standard input]' '[default: 0]' '[default: 1]' '[default: 4096]' 'Scenarios:' 'Toxics:' 'Reports:' 'Refusals:' 'Documents:' 'Exit status:' 'Examples:'
     ! grep -n '.\{80\}' "$work/output"
 )"
 verdict "refusals and toxics in --help" "$(
@@ -192,6 +192,9 @@ verdict "refusals and toxics in --help" "$(
         grep -qE "^ +([a-z_]+ +)?$word " "$work/output" || echo "  no $word"
     done
 )"
+sed -n '/^Scenarios:/,/^Toxics:/s/^    //p' "$work/output" | sed -n '/^\[/,/^\]/p' > "$work/shown.json"
+verdict "the scenario of --help" "$(names "$work/shown.json" name listen upstream toxics latency limit_data)"
+reported "$stored" --scenario "$work/shown.json"
 run /dev/null -h
 verdict "toxicap -h" "$(
     fault 0

@@ -1,11 +1,12 @@
 #!/usr/bin/env bash
-# What the built program says on a terminal and nowhere else: that it reads its standard input, and how many scenarios are stored. The
-# terminals are those of util-linux's `script`.
+# What the built program says on a terminal and nowhere else: that it reads its standard input, how many scenarios are stored, and in a line more
+# what helps after a refusal, or what would be missed in the reports. The terminals are those of util-linux's `script`.
 set -euo pipefail
 cd "$(dirname "$0")/.."
 . tests/lib.sh
 can "what is said on a terminal" script || { close; exit; }
 reading='toxicap: reading the capture from standard input; --capture names a file'
+shop='toxicap: scenario 0: 4 connections, 1 with a proxy; times in microseconds\r\n'
 folder=$work/folder
 three=(--capture samples/shop.pcap --scenario examples/latency.json --scenario examples/timeout.json --scenario examples/slicer.json)
 
@@ -22,29 +23,217 @@ anew() {
     mkdir "$folder"
 }
 
-verdict "standard input is a terminal" "$(said "$reading\r\nrefused 1 ShortHeader\r\n" "'$program'")"
+short='refused 1 ShortHeader\r\ntoxicap: standard input has fewer than 24 bytes: the recording was stopped too early, or it is another file\r\n'
+verdict "standard input is a terminal" "$(said "$reading\r\n$short" "'$program'")"
 verdict "standard error is none" "$(said '' "'$program' 2> '$work/faults'"; grep -vx 'refused 1 ShortHeader' "$work/faults" || true)"
-verdict "standard input is none" "$(said 'refused 1 ShortHeader\r\n' "'$program' < /dev/null")"
-verdict "a capture is named" "$(said 'refused 61 ReadFailed\r\n' "'$program' --capture '$work/nothing'")"
-verdict "nothing is read before hosts" "$(said 'refused 23 BadHost host 0\r\n' "'$program' --host x")"
+verdict "standard input is none" "$(said "$short" "'$program' < /dev/null")"
 verdict "the version" "$(said 'toxicap 1.0.0\r\n' "'$program' -V")"
+verdict "the help" "$(said '' "'$program' --help > '$work/help'")"
+verdict "a fault of the command line" "$(said "error: invalid value '17' for '--workers <N>': 17 is not in 1..=16\r\n\r\nFor more information, try '--help'.\r\n" "'$program' --workers 17")"
 
 anew
-verdict "three scenarios are counted" "$(said 'stored 1 of 3\rstored 2 of 3\rstored 3 of 3\r\n' "'$program' ${three[*]} --out '$folder'")"
+verdict "three scenarios are counted" "$(said "stored 1 of 3\rstored 2 of 3\rstored 3 of 3\r\n$shop" "'$program' ${three[*]} --out '$folder'")"
 cp -r "$folder" "$work/counted"
 anew
-verdict "by four workers too" "$(said 'stored 1 of 3\rstored 2 of 3\rstored 3 of 3\r\n' "'$program' ${three[*]} --out '$folder' --workers 4")"
+verdict "by four workers too" "$(said "stored 1 of 3\rstored 2 of 3\rstored 3 of 3\r\n$shop" "'$program' ${three[*]} --out '$folder' --workers 4")"
 anew
-verdict "one scenario is not" "$(said '' "'$program' --capture samples/shop.pcap --scenario examples/latency.json --out '$folder'")"
-verdict "reports are not" "$(said '' "'$program' ${three[*]} > '$work/output'")"
+verdict "one scenario is not" "$(said "${shop/scenario 0: /}" "'$program' --capture samples/shop.pcap --scenario examples/latency.json --out '$folder'")"
+verdict "reports are not" "$(said "$shop" "'$program' ${three[*]} > '$work/output'")"
 anew
 verdict "where standard error is a file" "$(said '' "'$program' ${three[*]} --out '$folder' 2> '$work/faults'"; cat "$work/faults")"
 anew
 mkdir "$folder/0001.txt"
-verdict "a refusal is written over the count" "$(said 'stored 1 of 3\rrefused 60 ShelfFailed after 3\r\n' "'$program' ${three[*]} --out '$folder'")"
+verdict "a refusal is written over the count" "$(
+    said 'stored 1 of 3\rrefused 60 ShelfFailed after 3\r\ntoxicap: '"$folder"'/0001.txt is a folder: move it, or choose another --out\r\n' \
+        "'$program' ${three[*]} --out '$folder'"
+)"
 
 anew
 run /dev/null "${three[@]}" --out "$folder"
 verdict "without a terminal nothing is said" "$(fault 0; cat "$work/output" "$work/faults"; diff -r "$work/counted" "$folder" || true)"
+
+# What helps after each refusal. The commands run in a folder with what they name.
+here=$work/here
+mkdir "$here"
+cp samples/shop.pcap "$here"
+
+# helps LINE REMEDY WORDS: the program with these words of the shell is refused with a line, and on a terminal that is followed by this.
+helps() {
+    verdict "$1: $2" "$(said "$1\r\ntoxicap: $2\r\n" "cd '$here' && '$program' $3")"
+    (cd "$here" && eval "'$program' $3" > "$work/output" 2> "$work/faults") || true
+    verdict "$1, where standard error is no terminal" "$(printf '%s\n' "$1" | cmp - "$work/faults" 2>&1 || true)"
+}
+
+# capture FILE DIGITS..: a file of these bytes.
+capture() { printf '%s' "${*:2}" | tr -d ' ' | sed 's/../\\x&/g' | xargs -0 printf > "$here/$1"; }
+start='02000400 00000000 00000000 ffff0000'
+touch "$here/none.pcap"
+capture next.pcap 0a0d0d0a 1c000000 4d3c2b1a 01000000 ffffffff ffffffff
+capture zipped.pcap 1f8b0800 00000000 00030000 00000000 00000000 00000000
+capture other.pcap 00000000 "$start" 01000000
+capture old.pcap d4c3b2a1 02000300 00000000 00000000 ffff0000 01000000
+capture any.pcap d4c3b2a1 "$start" 14010000
+capture cooked.pcap a1b23c4d 00020004 00000000 00000000 0000ffff 00000071
+capture wifi.pcap d4c3b2a1 "$start" 69000000
+capture torn.pcap d4c3b2a1 "$start" 01000000 00000000 00000000 00000000 00000000 00000000 00000000 01000400 01000400
+capture first.pcap d4c3b2a1 "$start" 01000000 00000000 00000000 01000400 01000400
+printf 'd4c3 b2a1\n0200 0x00\n' > "$here/dump.txt"
+printf 'd4c3b2a1\n020' > "$here/odd.txt"
+
+helps 'refused 1 ShortHeader' 'none.pcap has fewer than 24 bytes: the recording was stopped too early, or it is another file' '--capture none.pcap'
+helps 'refused 2 BadMagic' 'next.pcap is a pcapng file: editcap -F pcap IN OUT converts it' '--capture next.pcap'
+helps 'refused 2 BadMagic' 'standard input is a pcapng file: editcap -F pcap IN OUT converts it' '< next.pcap'
+helps 'refused 2 BadMagic' 'zipped.pcap is gzipped: gunzip -c IN > OUT unzips it' '--capture zipped.pcap'
+helps 'refused 2 BadMagic' 'other.pcap is no classic pcap: editcap -F pcap IN OUT writes one of most captures' '--capture other.pcap'
+helps 'refused 3 BadVersion' 'old.pcap is of another pcap version than 2.4: editcap -F pcap IN OUT writes it again' '--capture old.pcap'
+helps 'refused 4 BadLink' 'any.pcap is an "any" capture (link type 276): record on one interface, tcpdump -i eth0, not any' '--capture any.pcap'
+helps 'refused 4 BadLink' 'standard input is an "any" capture (link type 113): record on one interface, tcpdump -i eth0, not any' '< cooked.pcap'
+helps 'refused 4 BadLink' 'wifi.pcap is of link type 105, and Ethernet, 1, is wanted: record on an Ethernet interface' '--capture wifi.pcap'
+helps 'refused 5 RecordTooLong at 1' 'torn.pcap is damaged where record 1 begins: editcap -F pcap -r IN OUT 1-1 keeps what is before' '--capture torn.pcap'
+helps 'refused 5 RecordTooLong at 0' 'first.pcap is damaged where its first record begins: record it again' '--capture first.pcap'
+truncate -s $((2 ** 30 + 1)) "$here/long"
+helps 'refused 6 CaptureTooLong' 'long has more than 2^30 bytes: it is no scenario' '--scenario long'
+helps 'refused 6 CaptureTooLong' "long has more than 2^30 bytes: tshark -r IN -Y 'tcp.port == 6379' -F pcap -w OUT keeps what matters" '--capture long'
+rm "$here/long"
+helps 'refused 55 BadDump at 16' 'dump.txt is a dump, by its first byte, and no hexadecimal digit is at line 2 column 7' '--capture dump.txt'
+helps 'refused 55 BadDump at 12' 'odd.txt is a dump, by its first byte, and its last byte has but one hexadecimal digit' '--capture odd.txt'
+helps 'refused 55 BadDump at 16' 'standard input is a dump, by its first byte, and byte 16 is no hexadecimal digit, or its last byte has but one' '< dump.txt'
+
+# scene LINE REMEDY SCENARIO: the same of a scenario, s.json.
+scene() {
+    printf '%s' "$3" > "$here/s.json"
+    helps "$1" "s.json$2" '--capture shop.pcap --scenario s.json'
+}
+web='"name":"web","upstream":"10.77.0.2:80"'
+scene 'refused 10 NotJson scenario 0' ' is no JSON from line 2 column 4 on' $'[\n  {name": "web"}\n]'
+scene 'refused 10 NotJson scenario 0' ' ends before its JSON does' '[{"name":'
+scene 'refused 10 NotJson scenario 0' ' ends before its JSON does' ''
+scene 'refused 11 NotArray scenario 0' ' is an object, and an array of proxies is wanted, as --help shows' "{$web}"
+scene 'refused 12 BadMember scenario 0 proxy 0' ', proxy 0: it is a number, and an object is wanted' '[7]'
+scene 'refused 12 BadMember scenario 0 proxy 1' ', proxy 1 "db": its "upstream" is missing, and a text is wanted' "[{$web},{\"name\":\"db\",\"upstream\":null}]"
+scene 'refused 12 BadMember scenario 0 proxy 0' ', proxy 0 "web": its "enabled" is a text, and true or false is wanted' "[{$web,\"enabled\":\"no\"}]"
+scene 'refused 12 BadMember scenario 0 proxy 0' ', proxy 0: its "name" is empty, and a name is wanted' '[{"name":"","upstream":"10.77.0.2:80"}]'
+scene 'refused 12 BadMember scenario 0 proxy 0 toxic 1' ', proxy 0 "web", toxic 1: its "attributes" is an array, and an object is wanted' \
+    "[{$web,\"toxics\":[{\"type\":\"timeout\"},{\"type\":\"latency\",\"attributes\":[]}]}]"
+scene 'refused 13 DuplicateProxy scenario 0 proxy 2' ', proxy 2 "web": proxy 1 has the name: rename one of them' "[{\"name\":\"db\",\"upstream\":\"10.0.0.1:1\"},{$web},{$web}]"
+scene 'refused 14 BadUpstream scenario 0 proxy 0' ', proxy 0 "web": its "upstream" is "10.77.0.2", and HOST:PORT is wanted, as 10.0.0.2:6379' '[{"name":"web","upstream":"10.77.0.2"}]'
+scene 'refused 15 UnknownHost scenario 0 proxy 0' ', proxy 0 "web": the address of its host is wanted: --host shop=ADDR, as the capture has it' '[{"name":"web","upstream":"shop:80"}]'
+scene 'refused 16 UnknownToxic scenario 0 proxy 0 toxic 0' \
+    ', proxy 0 "web", toxic 0 "slow": its "type" is "latncy", and latency, bandwidth, slow_close, timeout, reset_peer, slicer or limit_data is wanted' \
+    "[{$web,\"toxics\":[{\"name\":\"slow\",\"type\":\"latncy\"}]}]"
+scene 'refused 17 BadStream scenario 0 proxy 0 toxic 0' ', proxy 0 "web", toxic 0: its "stream" is "up", and upstream or downstream is wanted' \
+    "[{$web,\"toxics\":[{\"type\":\"timeout\",\"stream\":\"up\"}]}]"
+scene 'refused 18 DuplicateToxic scenario 0 proxy 0 toxic 1' ', proxy 0 "web", toxic 1 "cut": an earlier toxic of the proxy has the name "cut": rename one of them' \
+    "[{$web,\"toxics\":[{\"type\":\"timeout\",\"name\":\"cut\"},{\"type\":\"slicer\",\"name\":\"cut\"}]}]"
+scene 'refused 18 DuplicateToxic scenario 0 proxy 0 toxic 1' \
+    ', proxy 0 "web", toxic 1: an earlier toxic of the proxy has the name "timeout_downstream", which it has too without a "name": give it one' \
+    "[{$web,\"toxics\":[{\"type\":\"timeout\"},{\"type\":\"timeout\"}]}]"
+
+# limits FIELDS REMEDY: a toxic with these fields is refused for an attribute.
+limits() { scene 'refused 19 AttributeRange scenario 0 proxy 0 toxic 0' ", proxy 0 \"web\", toxic 0: its $2 is wanted" "[{$web,\"toxics\":[{$1}]}]"; }
+limits '"type":"latency","attributes":{"latency":1.5}' '"latency" is 1.5, and a whole number of milliseconds from 0 to 1000000000'
+limits '"type":"latency","attributes":{"latency":7,"jitter":1000000001}' '"jitter" is 1000000001, and a whole number of milliseconds from 0 to 1000000000'
+limits '"type":"bandwidth","rate":7' '"rate" is missing, and a whole number of KB a second from 1 to 1000000'
+limits '"type":"bandwidth","attributes":{"rate":0}' '"rate" is 0, and a whole number of KB a second from 1 to 1000000'
+limits '"type":"slow_close","attributes":{"delay":"7"}' '"delay" is "7", and a whole number of milliseconds from 0 to 1000000000'
+limits '"type":"timeout","attributes":{"timeout":-1}' '"timeout" is -1, and a whole number of milliseconds from 0 to 1000000000'
+limits '"type":"reset_peer","attributes":{"timeout":true}' '"timeout" is true, and a whole number of milliseconds from 0 to 1000000000'
+limits '"type":"slicer"' '"average_size" is missing, and a whole number of bytes from 1 to 1000000000'
+limits '"type":"slicer","attributes":{"average_size":7,"delay":2000000000}' '"delay" is 2000000000, and a whole number of microseconds from 0 to 1000000000'
+limits '"type":"slicer","attributes":{"average_size":7,"size_variation":7}' '"size_variation" is 7, and less than "average_size"'
+limits '"type":"limit_data","attributes":{"bytes":1000000000001}' '"bytes" is 1000000000001, and a whole number of bytes from 0 to 1000000000000'
+
+proxies=$(for ((p = 0; p < 64; p++)); do printf '{"name":"p%s","upstream":"10.0.0.1:1"},' $p; done)
+scene 'refused 20 TooMany scenario 0 proxy 64' ', proxy 64 "web": it is the 65th: a scenario has at most 64 proxies' "[$proxies{$web}]"
+toxics=$(for ((t = 0; t < 8; t++)); do printf '{"type":"timeout","name":"t%s"},' $t; done)
+scene 'refused 20 TooMany scenario 0 proxy 0 toxic 8' ', proxy 0 "web", toxic 8: it is the ninth of its stream: a stream has at most 8 toxics' "[{$web,\"toxics\":[$toxics{\"type\":\"timeout\"}]}]"
+scene 'refused 21 BadToxicity scenario 0 proxy 0 toxic 0' ', proxy 0 "web", toxic 0: its "toxicity" is 0.5, and 0 or 1 is wanted, or "toxicity_ppm", up to 1000000' \
+    "[{$web,\"toxics\":[{\"type\":\"timeout\",\"toxicity\":0.5}]}]"
+scene 'refused 21 BadToxicity scenario 0 proxy 0 toxic 0' ', proxy 0 "web", toxic 0: its "toxicity_ppm" is 1000001, and a whole number from 0 to 1000000 is wanted' \
+    "[{$web,\"toxics\":[{\"type\":\"timeout\",\"toxicity\":0,\"toxicity_ppm\":1000001}]}]"
+
+# a name that would turn the terminal red, one that is long, and the second of two scenarios
+scene 'refused 14 BadUpstream scenario 0 proxy 0' ', proxy 0 "\\u{1b}[31mred\\n": its "upstream" is "\\u{202e}", and HOST:PORT is wanted, as 10.0.0.2:6379' \
+    '[{"name":"\u001b[31mred\n","upstream":"\u202e"}]'
+printf '[{"name":"%080d","upstream":"x"}]' 0 > "$here/long.json"
+printf '[]' > "$here/bare.json"
+printf '[{%s}]' "$web" > "$here/web.json"
+helps 'refused 14 BadUpstream scenario 1 proxy 0' "long.json, proxy 0 \"$(printf %060d 0)..\": its \"upstream\" is \"x\", and HOST:PORT is wanted, as 10.0.0.2:6379" \
+    '--capture shop.pcap --scenario bare.json --scenario long.json'
+mkfifo "$here/pipe"
+verdict "a pipe is not read again" "$(
+    said 'refused 11 NotArray scenario 0\r\ntoxicap: pipe is the scenario, and cannot be read again\r\n' \
+        "cd '$here' && { printf '{}' > pipe & } && '$program' --capture shop.pcap --scenario pipe"
+)"
+many=$(printf -- ' --scenario bare.json%.0s' {1..257})
+helps 'refused 22 TooManyScenarios' '257 scenarios were named, and a run takes 256: run it more than once' "--capture shop.pcap$many"
+helps 'refused 23 BadHost host 1' '--host web: NAME=ADDR with an IPv4 address is wanted, as redis=10.0.0.9' '--host a=10.0.0.9 --host web'
+helps 'refused 23 BadHost host 0' '--host web=10.0.0.256: NAME=ADDR with an IPv4 address is wanted, as redis=10.0.0.9' '--host web=10.0.0.256'
+helps 'refused 23 BadHost host 1' '--host web=10.0.0.9: an earlier --host has the name' '--host web=10.0.0.2 --host web=10.0.0.9'
+cp "$here/shop.pcap" "$here/wide.pcap"
+truncate -s 200M "$here/wide.pcap"
+verdict "refused 40 Memory" "$(
+    said 'refused 40 Memory\r\ntoxicap: memory was refused: fewer --workers, or a smaller capture, take less\r\n' \
+        "ulimit -v 100000; '$program' --capture '$here/wide.pcap'"
+)"
+
+# folders
+mkdir "$here/out" "$here/taken"
+touch "$here/file"
+helps 'refused 60 ShelfFailed after 0' 'nowhere: No such file or directory; --out names a folder that exists: mkdir makes one' '--capture shop.pcap --out nowhere'
+helps 'refused 60 ShelfFailed after 0' '"": No such file or directory; --out names a folder that exists: mkdir makes one' "--capture shop.pcap --out ''"
+helps 'refused 60 ShelfFailed after 0' 'file is no folder: choose another --out' '--capture shop.pcap --out file'
+mkdir "$here/out/0000.txt" "$here/linked"
+cp "$here/shop.pcap" "$here/taken/0000.pcap"
+ln "$here/web.json" "$here/linked/0000.txt"
+helps 'refused 60 ShelfFailed after 1' 'out/0000.txt is a folder: move it, or choose another --out' '--capture shop.pcap --out out'
+helps 'refused 60 ShelfFailed after 0' 'taken/0000.pcap: the run has read it, and it is not replaced: choose another --out' '--capture taken/0000.pcap --out taken'
+helps 'refused 60 ShelfFailed after 0' 'taken/0000.pcap: the run has read it, and it is not replaced: choose another --out' '--out taken < taken/0000.pcap'
+helps 'refused 60 ShelfFailed after 1' 'linked/0000.txt: the run has read it, and it is not replaced: choose another --out' \
+    '--capture shop.pcap --scenario web.json --out linked'
+
+# files that cannot be read: the scenarios in their order, and then the capture
+helps 'refused 61 ReadFailed' 'nothing: No such file or directory' '--capture nothing'
+helps 'refused 61 ReadFailed' '"": No such file or directory' "--capture ''"
+helps 'refused 61 ReadFailed' 'out: Is a directory' '--capture nothing --scenario bare.json --scenario out'
+helps 'refused 61 ReadFailed' 'standard input cannot be read: --capture names a file' '< .'
+if [ "$(id -u)" != 0 ]; then
+    touch "$here/closed"
+    chmod 0 "$here/closed"
+    helps 'refused 61 ReadFailed' 'closed: Permission denied' '--capture closed'
+fi
+helps 'refused 62 WriteFailed' 'standard output took no more: the disk is full, or what read it has ended' '--capture shop.pcap > /dev/full'
+
+# What would be missed in the reports. The captures are of one connection of 3 segments, and without its second one, without its opening, and empty.
+# sums LINE WORDS: the program with these words of the shell says this on a terminal, where its standard output is none.
+sums() {
+    verdict "toxicap $2: $1" "$(said "toxicap: $1\r\n" "cd '$here' && '$program' $2 > '$work/output'")"
+    (cd "$here" && eval "'$program' $2" > "$work/printed" 2> "$work/faults") || true
+    verdict "toxicap $2, where standard error is no terminal" "$(cmp "$work/printed" "$work/output" 2>&1; cat "$work/faults")"
+}
+perl tests/capture.pl 3 > "$here/whole.pcap"
+{ head -c 1484 "$here/whole.pcap"; tail -c +2805 "$here/whole.pcap"; } > "$here/hole.pcap"
+{ head -c 24 "$here/whole.pcap"; tail -c +165 "$here/whole.pcap"; } > "$here/late.pcap"
+capture nano.pcap 4d3cb2a1 "$start" 01000000
+capture short.pcap d4c3b2a1 "$start" 01000000 01000000 00000000 02000000 02000000 abcd
+sums '4 connections, 0 with a proxy; times in microseconds' '--capture shop.pcap'
+sums '4 connections, 1 with a proxy; times in microseconds' '--scenario web.json < shop.pcap'
+sums 'scenario 0: 4 connections, 0 with a proxy; times in microseconds' '--capture shop.pcap --scenario bare.json --scenario web.json'
+sums '1 connection, 0 with a proxy; times in microseconds' '--capture whole.pcap'
+sums '1 connection, 0 with a proxy; 1250 bytes lost; times in microseconds' '--capture hole.pcap'
+sums '0 connections, 0 with a proxy; 3 segments without an opening; times in microseconds' '--capture late.pcap'
+sums '0 connections, 0 with a proxy; times in nanoseconds' '--capture nano.pcap'
+sums '0 connections, 0 with a proxy; 1 of 1 records short; times in microseconds' '--capture short.pcap'
+sums '0 connections, 0 with a proxy; 1 of 1 records short' "< '$PWD/crates/toxicap_program/stdin'"
+mkdir "$here/stored"
+sums '1 connection, 0 with a proxy; 1250 bytes lost; times in microseconds' '--capture hole.pcap --out stored'
+verdict "the report stays as it is" "$(
+    said "$("$program" --capture "$here/whole.pcap" | sed 's/$/\\r\\n/' | tr -d '\n')toxicap: 1 connection, 0 with a proxy; times in microseconds\r\n" \
+        "cd '$here' && '$program' --capture whole.pcap"
+)"
+
+# the scenario that the help shows
+sed -n '/^Scenarios:/,/^Toxics:/s/^    //p' "$work/help" | sed -n '/^\[/,/^\]/p' > "$here/help.json"
+sums '4 connections, 3 with a proxy; times in microseconds' '--capture shop.pcap --scenario help.json'
 
 close

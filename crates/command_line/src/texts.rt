@@ -44,7 +44,8 @@ on it";
 pub(crate) const OUT: &str = "\
 A folder, which exists, for the outputs: 0000.pcap
 and 0000.txt of the first scenario, then 0001.pcap;
-files of these names are replaced
+files of these names are replaced, but none that
+was read
 [default: the reports alone, on standard output]";
 
 // Texts with the end of both forms of the help after them.
@@ -63,13 +64,42 @@ Examples:
 
   Two scenarios, with the captures of what each side would have received:
     toxicap --capture session.pcap --scenario slow.json \\
-      --scenario lossy.json --host redis=10.0.0.9 --seed 7 --out outputs")
+      --scenario cut.json --host redis=10.0.0.9 --seed 7 --out outputs")
     };
 }
 
 pub(crate) const AFTER: &str = before_ending!();
 
 pub(crate) const LONG_AFTER: &str = before_ending!(
+    "\
+Scenarios:
+  A whole file: an array of proxies, each before a server of the capture.
+
+    [
+      {
+        \"name\": \"redis\",
+        \"listen\": \"127.0.0.1:26379\",
+        \"upstream\": \"10.77.0.3:6379\",
+        \"toxics\": [
+          {
+            \"type\": \"latency\",
+            \"stream\": \"upstream\",
+            \"attributes\": {\"latency\": 100, \"jitter\": 20}
+          },
+          {
+            \"type\": \"limit_data\",
+            \"attributes\": {\"bytes\": 4096}
+          }
+        ]
+      }
+    ]
+
+  upstream is the server as the capture has it: an address, or a name that
+  --host gives one. listen is not used, and may be left out. A connection
+  meets the first proxy before its server; with none it stays as recorded.
+  \"enabled\": false in a proxy refuses its connections.
+
+",
     "\
 Toxics:
   Each is an object of a proxy's array \"toxics\", as in
@@ -100,10 +130,29 @@ Toxics:
 
 ",
     "\
+Reports:
+  The first two lines count the capture's records by what they are, and its
+  connections. Then there is a line for each connection, as
+
+    0 10.77.0.1:59690 > 10.77.0.2:80 proxy 0 up 82/82/0 close+3610 max 0
+    down 100/216/0 close+3610 max 0
+
+  but all on one line: its number, client and server, and the number of the
+  proxy that it meets, - for none. up is what the client sent, down what the
+  server sent: bytes delivered/recorded/lost after a gap of the capture; its
+  end, so long after the opening; and the longest that a byte was held back.
+
+  The end is fin+N where the peer closes, close+N where a toxic does, reset+N
+  for a reset, open for none, refused where the proxy is disabled. Times are
+  microseconds, or nanoseconds where the capture counts them.
+
+",
+    "\
 Refusals:
   A line on standard error tells the number and the name, and where it is:
   records, hosts, scenarios, a scenario's proxies, a proxy's toxics and the
-  bytes of a dump count from 0.
+  bytes of a dump count from 0. On a terminal a second line tells which file
+  and which field it is, and what to do.
 
    1 ShortHeader       the capture has fewer than 24 bytes
    2 BadMagic          it is no classic pcap: pcapng, or gzipped
@@ -130,6 +179,14 @@ Refusals:
   60 ShelfFailed       a file of --out could not be written, after so many
   61 ReadFailed        a file cannot be opened or read
   62 WriteFailed       standard output took no more
+
+",
+    "\
+Documents:
+  docs/GUIDE.md is the guide: recording, scenarios, fixtures, each refusal
+  with its remedy. examples/ has scenarios for each toxic, a JSON Schema of
+  scenario files, and tools that read reports. Both are in the repository, in
+  an unpacked release, and in /usr/share/doc/toxicap of the package.
 
 "
 );

@@ -1,4 +1,5 @@
 //! What the program says on a terminal, beside its outputs and refusals: that it reads standard input, and how many scenarios are stored.
+use crate::looks::FirstBytes;
 use std::alloc::Allocator;
 use std::fs::{Metadata, OpenOptions};
 use std::io::{self, IsTerminal, Read, Stderr, Stdin};
@@ -7,12 +8,14 @@ use std::sync::Wait;
 use std::sync::atomic::{AtomicU64, Ordering};
 use std::thread::Threads;
 
-/// Standard input. Where it is a terminal, and standard error is one, standard error says so before the first read, which waits.
+/// Standard input. Where it is a terminal, and standard error is one, standard error says so before the first read, which waits. Its first
+/// bytes are kept.
 #[derive(Drop)]
 pub struct Announced {
     input: Stdin,
     faults: Stderr,
     is_told: bool,
+    first_bytes: FirstBytes,
 }
 
 impl Announced {
@@ -21,7 +24,13 @@ impl Announced {
             input,
             faults,
             is_told: !input.is_terminal() || !faults.is_terminal(),
+            first_bytes: FirstBytes::new(),
         }
+    }
+
+    /// The first bytes that were read.
+    pub fn first_bytes(&self) -> FirstBytes {
+        self.first_bytes
     }
 }
 
@@ -33,7 +42,11 @@ impl Read for Announced {
                 "toxicap: reading the capture from standard input; --capture names a file"
             );
         }
-        self.input.read(buf)
+        let read = self.input.read(buf);
+        if let Ok(len) = &read {
+            self.first_bytes.add(buf.get(..*len).unwrap_or(&[]));
+        }
+        read
     }
 }
 

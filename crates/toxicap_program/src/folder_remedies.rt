@@ -1,0 +1,88 @@
+//! What helps where a file could not be stored.
+use crate::inputs::Inputs;
+use crate::looks::{said_by, why_unwritten};
+use crate::shown::shown_path;
+use std::alloc::{AllocError, Global};
+use std::fs;
+use std::os::unix::fs::MetadataExt;
+use std::rt::Files;
+
+/// What helps where a file of the folder could not be stored after so many that were.
+pub fn folder_remedy<R: Files>(
+    files: &R,
+    alloc: Global,
+    inputs: &Inputs<'_>,
+    after: u64,
+) -> Result<String, AllocError> {
+    let folder = inputs.out.unwrap_or("");
+    let name = shown_path(alloc, folder)?;
+    match fs::metadata(files, folder) {
+        Err(error) => {
+            let cause = said_by(alloc, &error)?;
+            format!(in alloc; "{name}: {cause}; --out names a folder that exists: mkdir makes one")
+        }
+        Ok(metadata) if !metadata.is_dir() => {
+            format!(in alloc; "{name} is no folder: choose another --out")
+        }
+        Ok(_) => file_remedy(files, alloc, inputs, folder, after),
+    }
+}
+
+// What helps where the folder is there.
+fn file_remedy<R: Files>(
+    files: &R,
+    alloc: Global,
+    inputs: &Inputs<'_>,
+    folder: &str,
+    after: u64,
+) -> Result<String, AllocError> {
+    let number = after / 2;
+    let kind = if after % 2 == 0 { "pcap" } else { "txt" };
+    let path = format!(in alloc; "{folder}/{number:04}.{kind}")?;
+    let name = shown_path(alloc, &path)?;
+    if is_folder(files, &path) {
+        return format!(in alloc; "{name} is a folder: move it, or choose another --out");
+    }
+    if has_been_read(files, inputs, &path) {
+        return format!(in alloc;
+            "{name}: the run has read it, and it is not replaced: choose another --out"
+        );
+    }
+    match why_unwritten(files, alloc, &path)? {
+        Some(cause) => format!(in alloc;
+            "{name}: {cause}; choose another --out, or give the right to write it"
+        ),
+        None => format!(in alloc;
+            "{name} could not be written: look at the rights of the folder, and at the room that is left"
+        ),
+    }
+}
+
+// Whether a path stands for a folder.
+fn is_folder<R: Files>(files: &R, path: &str) -> bool {
+    match fs::metadata(files, path) {
+        Ok(metadata) => metadata.is_dir(),
+        Err(_) => false,
+    }
+}
+
+// The path of the file that standard input is read from, where it is one.
+const STANDARD_INPUT: &str = "/dev/stdin";
+
+// Whether a path leads to the capture or to a scenario file, whatever their paths are.
+fn has_been_read<R: Files>(files: &R, inputs: &Inputs<'_>, path: &str) -> bool {
+    let capture = inputs.capture.unwrap_or(STANDARD_INPUT);
+    is_one_file(files, capture, path)
+        || inputs
+            .scenarios
+            .iter()
+            .any(|scenario| is_one_file(files, scenario, path))
+}
+
+// Whether two paths lead to one file.
+fn is_one_file<R: Files>(files: &R, left: &str, right: &str) -> bool {
+    match (fs::metadata(files, left), fs::metadata(files, right)) {
+        (Ok(left), Ok(right)) => left.dev() == right.dev() && left.ino() == right.ino(),
+        _ => false,
+    }
+}

@@ -1,12 +1,12 @@
 #!/usr/bin/env python3
-"""Compares the program, examples/scenario.schema.json and examples/lint.jq over scenario files: those of the examples, files with one value at its
+"""Compares the program, examples/scenario.schema.json and examples/explain over scenario files: those of the examples, files with one value at its
 borders, next to them, or of another kind, and COUNT files that are made of the examples by changes.
 
     tests/changed.py PROGRAM COUNT FOLDER
 
 FOLDER gets the files, and for each comparison a file of its name with what is at fault. The schema is left out where Python's `jsonschema` is not
-here, and the lint where jq is not."""
-import collections, concurrent.futures, copy, json, pathlib, random, re, shutil, subprocess, sys
+here."""
+import collections, concurrent.futures, copy, importlib.machinery, json, pathlib, random, re, subprocess, sys, types
 
 try: import jsonschema
 except ImportError: jsonschema = None
@@ -119,7 +119,7 @@ def changed(text):
     return text if random.random() < 0.98 else random.choice([text[:-1], '\ufeff' + text, text + ',', '{"proxies": ' + text + '}', 'null', '7'])
 
 
-# ---- what the program, the schema and the lint say of a file
+# ---- what the program, the schema and examples/explain print of a file
 
 
 def refusal(path):
@@ -178,12 +178,13 @@ def judged(path):
     return number, faults
 
 
-def linted(paths):
-    """The lines of the lint that differ from those of `unknown`."""
-    lint = subprocess.run(['jq', '-rf', EXAMPLES / 'lint.jq', *paths], capture_output=True, text=True)
-    wanted = {f'{path}: {place}: {name if re.fullmatch("[!-~]+", name) else json.dumps(name)}'
-              for path in paths for place, name in unknown(json.loads(path.read_text()))}
-    return sorted(wanted ^ set(lint.stdout.splitlines())) + [lint.stderr] * (lint.returncode != 1)
+def explained(paths):
+    """The files whose unknown fields are not those of `unknown` for examples/explain."""
+    explain = types.ModuleType('explain')
+    sys.dont_write_bytecode = True
+    importlib.machinery.SourceFileLoader('explain', str(EXAMPLES / 'explain')).exec_module(explain)
+    files = [(path, json.loads(path.read_text())) for path in paths]
+    return [str(path) for path, file in files if sorted(found[:2] for found in explain.unknown_fields(file)) != sorted(unknown(file))]
 
 
 random.seed(1)
@@ -205,7 +206,6 @@ if jsonschema:
         comparisons[name] = []
 for _, faults in judgements:
     for name, line in faults: comparisons[name].append(line)
-if shutil.which('jq'):
-    readable = [path for path, (number, _) in zip(paths, judgements) if number != 10]
-    comparisons['the-lint-lists-each-unknown-member-and-no-other'] = linted(readable)
+readable = [path for path, (number, _) in zip(paths, judgements) if number != 10]
+comparisons['explain-prints-each-unknown-field-and-no-other'] = explained(readable)
 for name, lines in comparisons.items(): (FOLDER / name).write_text(''.join(f'  {line}\n' for line in lines))

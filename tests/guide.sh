@@ -1,14 +1,20 @@
 #!/usr/bin/env bash
-# The commands that docs/GUIDE.md, README.md and examples/README.md show: each block ```sh is run as one script, in a folder with
-# samples/ and examples/, and has to print what stands in the block ```text right after it. A command that fails ends its block, which has
-# failed then; but a block that shows a status ($?) goes on. Blocks ```sh live record: they are run in a private network of two hosts, as
-# root with ip netns, each is ended as by Ctrl-C after a session, and no later block may change a recording; of what they print only
-# standard output is compared. A block is skipped where a tool that it names is missing, and one over the library for C where that is not built.
+# The commands that docs/GUIDE.md, docs/SECRETS.md, README.md and examples/README.md show:
+#     tests/guide.sh [RELEASE]
+# Each block ```sh is run as one script, in a folder with samples/ and examples/, and has to print what stands in the block ```text right after
+# it. A command that fails ends its block, which has failed then, also within a pipe; but a block that shows a status ($?) is run by plain bash,
+# and goes on. Blocks ```sh live record: they are run in a private network of two hosts, as root with ip netns, each is ended as by Ctrl-C after a
+# session, and no later block may change a recording; of what they print only standard output is compared. A block is skipped where a tool that
+# it names is missing, and one over the library for C where that is not built. In examples/README.md a command on examples/ that is the last cell
+# of a table's row is run too. RELEASE is the whole path of a release that is unpacked: its pages, its files and its program are taken, and its
+# blocks ```sh live are left out.
 set -uo pipefail
 cd "$(dirname "$0")/.." || exit 2
 . tests/lib.sh
-top=$PWD
-tools=(tshark editcap tcprewrite jq git xxd gzip make parallel gnuplot gcc python3 jsonschema tcpdump dumpcap ethtool curl)
+top=${1:-$PWD} release=${1:-}
+[ -z "$release" ] || program=$release/toxicap
+unset TOXICAP
+tools=(go rustc cc tshark editcap tcprewrite jq git xxd gzip parallel gcc python3 jsonschema tcpdump dumpcap ethtool curl)
 client=toxicap-client-$$ server=toxicap-server-$$ network=no webs=()
 
 clean_up() {
@@ -58,19 +64,28 @@ live() {
     wait $job
 }
 
-# run_block PLACE KIND SCRIPT: runs a block; `ran` tells whether, and what it printed is the file `output`.
+missed=''
+# captures_of SCRIPT: the captures that it names.
+captures_of() { grep -oE '[A-Za-z0-9_./-]+\.pcap' <<< "$1" | tr '\n' ' '; }
+
+# run_block PLACE KIND SCRIPT: runs a block; `ran` tells whether, and what it printed is the file `output`. A block that names a capture of a block
+# that was skipped is skipped too, where the capture is not there.
 run_block() {
-    local tool wanted=() stop=-e
+    local tool file wanted=() stop=(-e -o pipefail)
     ran=no status=0
+    [[ $3 != *examples/report* && $3 != *examples/timeline* ]] || wanted+=(python3)
     for tool in "${tools[@]}"; do ! grep -qw -- "$tool" <<< "$3" || wanted+=("$tool"); done
-    can "$1" "${wanted[@]}" || return
-    if [[ $3 = *libtoxicap* && ! -d lib ]]; then
+    can "$1" "${wanted[@]}" || { missed+=" $(captures_of "$3")"; return; }
+    for file in $(captures_of "$3"); do
+        [[ " $missed " != *" $file "* ]] || [ -e "$file" ] || { skip "$1" "$file is of a block that was skipped"; return; }
+    done
+    if [[ $3 = *libtoxicap* || $3 = *-L*lib* ]] && [ ! -d lib ]; then
         skip "$1" "there is no library for C: (cd crates/toxicap_c && rt lib) builds it"
         return
     fi
     if [ "$2" = sh ]; then
-        [[ $3 != *'$?'* ]] || stop=+e
-        bash $stop -o pipefail -c "$3" > "$work/output" 2>&1 || status=$?
+        [[ $3 != *'$?'* ]] || stop=()
+        bash "${stop[@]}" -c "$3" > "$work/output" 2>&1 || status=$?
         sed -i '/^Running as user "root"/d' "$work/output"
         cp "$work/output" "$work/faults"
     elif [ $network = yes ]; then
@@ -90,13 +105,16 @@ run_file() {
     local line number=0 begun=0 inside=no kind='' text='' last=''
     while IFS= read -r line; do
         number=$((number + 1))
-        if [[ $line != '```'* ]]; then
+        if [[ $1 = examples/* && $line =~ ^'|'.*'| `'([^\`]*examples/[^\`]*)'` |'$ ]]; then
+            run_block "$1:$number" sh "${BASH_REMATCH[1]//\/tmp\//$work/}"
+        elif [[ $line != '```'* ]]; then
             if [ $inside = yes ]; then text+=$line$'\n'; elif [ -n "$line" ]; then last=''; fi
         elif [ $inside = no ]; then
             inside=yes kind=${line#'```'} begun=$number text=''
         else
             case "$kind,$last" in
-                sh,* | 'sh live',*) run_block "$1:$begun" "$kind" "$text" ;;
+                'sh live',*) if [ -n "$release" ]; then ran=no; else run_block "$1:$begun" "$kind" "$text"; fi ;;
+                sh,*) run_block "$1:$begun" "$kind" "$text" ;;
                 text,sh*)
                     printf '%s' "$text" > "$work/wanted"
                     [ "$ran" = no ] || verdict "$1:$begun" "$(difference "$work/wanted" "$work/output")"
@@ -108,14 +126,21 @@ run_file() {
 }
 
 mkdir -p "$work/guide" "$work/bin"
-cp -r samples examples "$work/guide"
+cp -r "$top/samples" "$top/examples" "$work/guide"
 ln -s "$program" "$work/bin/toxicap"
-if [ -n "${LIBRARY:-}" ] || [ -f crates/toxicap_c/out/libtoxicap_c.a ]; then release/library "$work/guide" > /dev/null; fi
-export HOME=$work PATH=$work/bin:$PATH LC_ALL=C.UTF-8
+if [ -n "$release" ]; then
+    cp -a "$release/include" "$release/lib" "$work/guide"
+elif [ -n "${LIBRARY:-}" ] || [ -f crates/toxicap_c/out/libtoxicap_c.a ]; then release/library "$work/guide" > /dev/null
+fi
+if type -P go > /dev/null; then
+    GOCACHE=$(go env GOCACHE)
+    export GOCACHE GOFLAGS=-mod=mod GOPROXY=off
+fi
+export RUSTUP_HOME=${RUSTUP_HOME:-$HOME/.rustup} HOME=$work PATH=$work/bin:$PATH LC_ALL=C.UTF-8
 cd "$work/guide" || exit 2
 ! type -P git > /dev/null || { git init -q . && git config user.name tester && git config user.email tester@example.org; }
-open_network
+[ -n "$release" ] || open_network
 touch "$work/recorded"
-for file in docs/GUIDE.md examples/README.md README.md; do run_file $file; done
+for file in docs/GUIDE.md docs/SECRETS.md examples/README.md README.md; do run_file $file; done
 [ ! -s "$work/recorded" ] || verdict "the recordings are as they were" "$(sha256sum -c --quiet "$work/recorded" 2>&1)"
 close

@@ -167,7 +167,23 @@ export TOXICAP_LIBRARY=$kit/lib/libtoxicap.so.1 CGO_CFLAGS="-I$kit/include" CGO_
 verdict "the example in C, compiled" "$("$CC" -std=c11 -pedantic -Wall -Wextra -Werror -I "$kit/include" -o "$work/c" examples/c/rehearse.c \
     "$kit/lib/libtoxicap.a" 2>&1 || true)"
 example C "$work/c"
-if can "the example in Python" python3; then example Python python3 -B "$PWD/examples/python/in_process.py"; fi
+# seeds: what Python's function raises for seeds out of range, and that it takes the least and the greatest.
+seeds() {
+    PYTHONPATH=examples/python python3 -B - samples/http-get.pcap << 'END' 2>&1 || true
+import sys
+from in_process import rehearse
+capture = open(sys.argv[1], 'rb').read()
+for seed in -1, 2**64, -2**64:
+    try: print('  taken:', seed, rehearse(capture, [b'[]'], seed=seed)[0][1][:20])
+    except ValueError as fault:
+        if str(fault) != f'the seed {seed} is not from 0 to 2^64 - 1': print('  ', fault)
+for seed in 0, 2**64 - 1: rehearse(capture, [b'[]'], seed=seed)
+END
+}
+if can "the example in Python" python3; then
+    example Python python3 -B "$PWD/examples/python/in_process.py"
+    verdict "seeds in Python" "$(seeds)"
+fi
 if can "the example in Go" go; then
     verdict "the example in Go, compiled" "$(cd examples/go; GOFLAGS=-mod=mod GOPROXY=off GO111MODULE=on go build -o "$work/go" . 2>&1 || true)"
     example Go "$work/go"

@@ -1,5 +1,5 @@
 #!/usr/bin/env python3
-"""The lines of reports, made again of what examples/report.awk makes of them, on standard input: JSON lines, or with the argument csv the CSV, of which
+"""The lines of reports, made again of what examples/report makes of them, on standard input: JSON lines, or with the argument csv the CSV, of which
 the connections' lines are made, each with its scenario before it."""
 import csv, json, sys
 
@@ -24,6 +24,7 @@ else:
     for line in sys.stdin:
         value = json.loads(line)
         kind = value.pop('line')
+        value.pop('file', None)
         if kind == 'scenario': scenario = value['scenario']
         elif value.pop('scenario') != scenario: print('another scenario:', end=' ')
         print(connection(value, value['up'], value['down']) if kind == 'connection' else ' '.join(f'{name} {number}' for name, number in value.items()))

@@ -24,6 +24,7 @@ if can "Go" go; then
     go_test() { (cd "$suites/go" && GOFLAGS=-mod=mod GOPROXY=off GO111MODULE=on go test -count=1 ./...); }
     suite "Go" go_test
 fi
+verdict "modules of Go, each with a name of its own" "$(find examples -name go.mod -exec sed -n 's/^module //p' {} + | sort | uniq -d)"
 if can "Rust" rustc cc sha256sum; then
     verdict "Rust, compiled" "$(rustc --edition 2021 --test -o "$work/rust" "$suites/rust/test.rs" 2>&1)"
     suite "Rust" "$work/rust" -q

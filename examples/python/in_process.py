@@ -24,8 +24,10 @@ library.toxicap_rehearse.argtypes = [
 
 
 def rehearse(capture, scenarios, hosts=b"", seed=0):
-    """The capture and the report of each scenario. All of them are bytes: the capture, a list of scenarios, the lines of hosts. A refusal is
-    raised with its line."""
+    """The capture and the report of each scenario. All of them are bytes: the capture, a list of scenarios, the lines of hosts. The
+    seed is a number from 0 to 2^64 - 1. A refusal is raised as ValueError with its line, and so is another seed; want of memory as MemoryError."""
+    if not 0 <= seed < 2**64:
+        raise ValueError(f"the seed {seed} is not from 0 to 2^64 - 1")
     count, text = len(scenarios), b"".join(scenarios)
     scenario_lens = (ctypes.c_size_t * count)(*map(len, scenarios))
     status, sizes = NO_ROOM, Sizes(2 * count * len(capture), 1024 * count, 2 * count)

@@ -1,3 +1,3 @@
-module toxicap
+module example.org/toxicap/suite
 
 go 1.18

@@ -1,0 +1,89 @@
+package main
+
+import (
+	"bytes"
+	"fmt"
+	"log"
+	"os"
+	"reflect"
+	"strconv"
+
+	toxicap "example.org/toxicap/suite"
+)
+
+var hosts = []byte("redis=10.77.0.3\n")
+
+var line = []byte(`[
+  {"name": "web", "upstream": "10.77.0.2:80", "toxics": [{"type": "bandwidth", "attributes": {"rate": 20}}]},
+  {"name": "redis", "upstream": "redis:6379", "toxics": [
+    {"type": "latency", "attributes": {"latency": 150, "jitter": 50}},
+    {"type": "bandwidth", "attributes": {"rate": 20}},
+    {"type": "slicer", "toxicity_ppm": 500000, "attributes": {"average_size": 40, "size_variation": 20, "delay": 3000}}]}]`)
+
+// replies makes a parser of Redis's replies: lines, and texts after a line with their length.
+func replies() func([]byte) ([]string, error) {
+	var rest []byte
+	return func(payload []byte) (whole []string, err error) {
+		rest = append(rest, payload...)
+		for {
+			start, end := 0, bytes.Index(rest, []byte("\r\n"))
+			if end < 0 {
+				return whole, nil
+			}
+			if rest[0] == '$' {
+				size, err := strconv.Atoi(string(rest[1:end]))
+				if err != nil {
+					return whole, err
+				}
+				start, end = end+2, end+2+size
+			}
+			if len(rest) < end { // the planted bug: the two bytes after a text may not be there yet, so it has to be end+2
+				return whole, nil
+			}
+			whole = append(whole, string(rest[start:end]))
+			rest = rest[end+2:]
+		}
+	}
+}
+
+// received gives the chunks that the client of connection 2 gets, which asks for a basket of 3,000 bytes.
+func received(outputs []Output) (chunks [][]byte) {
+	connections, err := toxicap.Delivered(outputs[0].Capture)
+	stopOn(err, 1)
+	down := connections[2][1]
+	for _, chunk := range down.Chunks {
+		chunks = append(chunks, chunk.Bytes)
+	}
+	return chunks
+}
+
+// fails tells whether the parser gives other replies for the chunks than for all their bytes at once.
+func fails(outputs []Output) bool {
+	chunks := received(outputs)
+	whole, _ := Parser[string](replies).Feed(bytes.Join(chunks, nil))
+	messages, err := Parser[string](replies).Feed(chunks...)
+	return err != nil || !reflect.DeepEqual(messages, whole)
+}
+
+// Finds the planted bug in three ways.
+func Example() {
+	capture, err := os.ReadFile("../../samples/shop.pcap")
+	stopOn(err, 1)
+	seed, found, err := LeastSeed(capture, [][]byte{line}, hosts, fails, 1000)
+	stopOn(err, 1)
+	if !found {
+		log.Fatal("no seed below 1000 finds a bug")
+	}
+	fmt.Println("least seed", seed)
+	scenario, seed, err := Shrink(capture, line, hosts, fails, seed+1)
+	stopOn(err, 1)
+	fmt.Println("seed", seed, "of", string(scenario))
+	recorded, err := Rehearse(capture, [][]byte{[]byte("[]")}, nil, 0)
+	stopOn(err, 1)
+	size, messages, err := FeedPrefixes[string](replies, bytes.Join(received(recorded), nil))
+	fmt.Println("prefix of", size, "bytes, then", len(messages), "replies and", err)
+	// Output:
+	// least seed 118
+	// seed 0 of [{"name":"redis","toxics":[{"attributes":{"average_size":1,"delay":0,"size_variation":0},"type":"slicer"}],"upstream":"redis:6379"}]
+	// prefix of 3007 bytes, then 0 replies and panic: runtime error: slice bounds out of range [3009:3007]
+}

@@ -1,0 +1,126 @@
+"""What each side of a connection received, and when, read from an output capture of toxicap.
+
+An output capture has its segments in order, without repeats and gaps, so nothing is reassembled. A capture that toxicap did not write (a recording,
+pcapng, an output that was cut or put in another order) is refused: a ValueError tells why, and the number of the
+record, from 0. Checksums are not looked at."""
+import struct
+from typing import NamedTuple
+
+TICKS = {b'\xd4\xc3\xb2\xa1': 1000, b'\x4d\x3c\xb2\xa1': 1}  # magic number: nanoseconds of a tick
+HEADER = bytes.fromhex('020004000000000000000000ffff000001000000')  # what follows it in each output capture
+HEADERS = struct.Struct('>5H2x4s4s2s2s2I2BH2xH')  # IPv4 and TCP, checksums passed over
+FIN, SYN, RST, PSH, ACK = 1, 2, 4, 8, 16
+SPACE = 1 << 32  # how many sequence numbers there are
+
+
+class Record(NamedTuple):
+    time: int
+    vlan: bytes
+    sender: bytes
+    receiver: bytes
+    seq: int
+    ack: int
+    flags: int
+    payload: bytes
+
+
+class Connection:
+    """A connection while it is read. Lists of two have the client's before the server's."""
+
+    def __init__(self, opened, seqs):
+        self.opened, self.next, self.sent, self.ended, self.begun, self.events = opened, seqs, [0, 0], [False, False], [[], []], []
+
+    def goes_on(self, side, record):
+        """Whether a record may be of this connection: its bytes are the next ones, and it acknowledges what was sent."""
+        heard = (self.next[1 - side] - record.ack) % SPACE <= self.sent[1 - side]
+        return heard and record.seq == self.next[side] and not self.ended[side]
+
+    def take(self, side, record):
+        """Takes a record of this connection; False where toxicap writes none such. The pieces of a chunk are joined up to its PSH."""
+        length, what = len(record.payload), {FIN | ACK: 'fin', RST | ACK: 'reset'}.get(record.flags)
+        if what and not length and not self.begun[side]:
+            self.ended[side], length = True, 1
+        elif record.flags == PSH | ACK and 0 < length <= 1460 or record.flags == ACK and length == 1460:
+            self.begun[side].append(record.payload)
+            if record.flags & PSH: what, self.begun[side] = b''.join(self.begun[side]), []
+        else: return False
+        if what: self.events.append((record.time - self.opened, ('up', 'down')[side], what))
+        self.next[side], self.sent[side] = (self.next[side] + length) % SPACE, self.sent[side] + length
+        return True
+
+
+def records(capture):
+    """The records of an output capture, each checked alone."""
+    tick, place, found = TICKS.get(capture[:4]), 24, []
+    if not tick or capture[4:24] != HEADER: raise ValueError('no output capture of toxicap: it has another file header')
+    while place < len(capture):
+        number, frame = len(found), b''
+        if place + 16 <= len(capture):
+            seconds, ticks, held, length = struct.unpack_from('<4I', capture, place)
+            frame = capture[place + 16:place + 16 + held]
+        link = 18 if frame[12:14] == b'\x81\x00' else 14
+        if len(frame) < link + 40 or not len(frame) == held == length: refuse(number, 'it is cut, or no TCP segment')
+        version, total, name, offset, hops, *ends, seq, ack, size, flags, window, urgent = HEADERS.unpack_from(frame, link)
+        fixed = frame[link - 2:link], version, total, name, offset, hops, size, window, urgent
+        if fixed != (b'\x08\x00', 0x4500, held - link, 0, 0x4000, 0x4006, 0x50, 0xffff, 0): refuse(number, 'its headers are another\'s')
+        time = seconds * 10**9 + ticks * tick
+        if ticks * tick >= 10**9 or found and time < found[-1].time: refuse(number, 'its time is none, or falls back')
+        found.append(Record(time, frame[12:link - 2], ends[0] + ends[2], ends[1] + ends[3], seq, ack, flags, frame[link + 40:]))
+        place += 16 + held
+    return found
+
+
+def refuse(number, why):
+    raise ValueError(f'no output capture of toxicap: record {number}: {why}')
+
+
+def opening(found, number):
+    """The connection that the record of this number begins, by a SYN, and how many records its opening has."""
+    time, vlan, client, server, seq, *_ = found[number]
+    first = (seq + 1) % SPACE
+    answer = found[number + 1:number + 2]
+    if answer == [(time, vlan, server, client, 0, first, RST | ACK, b'')]:
+        connection = Connection(time, [0, 0])
+        connection.ended, connection.events = [True, True], [(0, 'up', 'refused'), (0, 'down', 'refused')]
+        return connection, 2
+    theirs = answer[0].seq if answer else 0
+    second = (theirs + 1) % SPACE
+    if found[number + 1:number + 3] != [(time, vlan, server, client, theirs, first, SYN | ACK, b''),
+                                        (time, vlan, client, server, first, second, ACK, b'')]: refuse(number, 'no opening follows its SYN')
+    return Connection(time, [first, second]), 3
+
+
+def events(capture):
+    """The events of each connection of an output capture (its bytes): a list for each connection, in the order of the report's lines.
+
+    An event is (time, direction, what); events stand in order of time. The time is a whole number of nanoseconds since the opening, also where the
+    capture counts microseconds. The direction is 'up' for what the client sent, 'down' for what the server sent. What comes is a chunk of bytes;
+    'fin', which ends its direction (a FIN or a close in the report); 'reset'; or 'refused', in both directions, where the proxy is disabled."""
+    found, number, connections, of_pair = records(capture), 0, [], {}
+    while number < len(found):
+        record, length = found[number], 1
+        if record.flags == SYN and not record.payload:
+            connection, length = opening(found, number)
+            connections.append(connection)
+            of_pair.setdefault((record.vlan, record.sender, record.receiver), []).append(connection)
+        else:
+            ways = (0, (record.vlan, record.sender, record.receiver)), (1, (record.vlan, record.receiver, record.sender))
+            able = [(c, side) for side, pair in ways for c in of_pair.get(pair, ()) if c.goes_on(side, record)]
+            if len(able) != 1: refuse(number, f'{len(able)} connections go on with it')
+            if not able[0][0].take(able[0][1], record): refuse(number, 'toxicap writes no such segment')
+        number += length
+    if any(c.begun != [[], []] for c in connections): refuse(number, 'the end is missing')
+    return [c.events for c in connections]
+
+
+class Line(NamedTuple):
+    """What one direction of a connection delivered: its chunks (time, bytes), and its end (time, 'fin', 'reset' or 'refused'), None without one."""
+    chunks: list
+    end: tuple
+
+
+def delivered(capture):
+    """The same as two lines for each connection, (up, down); times are those of `events`."""
+    return [tuple(Line([(time, what) for time, way, what in found if way == direction and isinstance(what, bytes)],
+                       next(((time, what) for time, way, what in found if way == direction and isinstance(what, str)), None))
+                  for direction in ('up', 'down')) for found in events(capture)]

@@ -1,0 +1,61 @@
+"""What a player does: the steps of the server's side of one connection, each with what it waits for."""
+import bisect, itertools
+from typing import NamedTuple
+from events import delivered
+
+
+# What no toxic does: none makes a byte come earlier, or adds one.
+SWAPPED = 'has more or earlier bytes in the first output: the output under the scenario has to come first, the untouched one second'
+
+
+class Step(NamedTuple):
+    need: int  # how many bytes the recorded client had sent before it
+    closed: bool  # whether that client had closed before it
+    pause: int  # nanoseconds from the last of these to the recorded server's answer
+    delay: int  # nanoseconds that the toxics added
+    what: object  # a chunk of bytes, 'fin', 'reset' or 'refused'
+
+
+def in_order(line, recorded):
+    """Whether a line has no byte earlier than the recorded one, and none more; a ValueError where its bytes are others."""
+    sent, whole = (b''.join(what for _, what in chunks) for chunks in (line.chunks, recorded.chunks))
+    if not whole.startswith(sent) and not sent.startswith(whole): raise ValueError('the outputs are not of one capture')
+    if len(sent) > len(whole): return False
+    place, known, came, chunks = 0, 0, 0, iter(recorded.chunks)
+    for at, what in line.chunks:
+        place += len(what)
+        while known < place:
+            came, more = next(chunks)
+            known += len(more)
+        if at < came: return False
+    return True
+
+
+def steps(output, untouched, connection=0):
+    """What a player does, in order. A chunk stands for the recorded one that has its last byte, an end for the first byte that no longer comes or for
+    the recorded end. An end that a toxic made earlier than that stands for what was recorded last before it, of either side."""
+    here, there = delivered(output), delivered(untouched)
+    if len(here) != len(there): raise ValueError('the outputs are not of one capture')
+    for number, (lines, recorded) in enumerate(zip(here, there)):
+        if not all(map(in_order, lines, recorded)): raise ValueError(f'connection {number} {SWAPPED}')
+    if not 0 <= connection < len(here): raise ValueError(f'there is no connection {connection}')
+    (_, down), (up, recorded) = here[connection], there[connection]
+    borders = list(itertools.accumulate(len(what) for _, what in recorded.chunks))
+    answers = [at for at, _ in recorded.chunks] + [recorded.end[0] if recorded.end else float('inf')]
+
+    def step(recorded_at, at, what):
+        asked = [(when, len(what)) for when, what in up.chunks if when <= recorded_at]
+        closed = up.end is not None and up.end[1] == 'fin' and up.end[0] < recorded_at
+        last = up.end[0] if closed else asked[-1][0] if asked else 0
+        return Step(sum(length for _, length in asked), closed, recorded_at - last, at - recorded_at, what)
+
+    played, place = [], 0
+    for at, what in down.chunks:
+        place += len(what)
+        played.append(step(answers[bisect.bisect_left(borders, place)], at, what))
+    if down.end:
+        at, how = down.end
+        recorded_at = answers[bisect.bisect_right(borders, place)]
+        if recorded_at > at: recorded_at = max(when for when in [0, *answers, *(when for when, _ in up.chunks)] if when <= at)
+        played.append(step(recorded_at, at, how))
+    return played

@@ -1,0 +1,93 @@
+#!/usr/bin/env bash
+# The events that the helpers of examples/suites read from output captures: put together they are what tshark follows of each connection, with each
+# byte's instant, and what the reports count, over the samples and two real captures under all scenarios of examples/, in microseconds and in nanoseconds with a VLAN tag;
+# of the captures of tests/rows they are what the reports count. The helpers of Python, Go and Rust give the same events, and refuse captures that
+# toxicap did not write, each for its fault. It wants python3.
+set -euo pipefail
+cd "$(dirname "$0")/.."
+. tests/lib.sh
+outputs=$work/outputs
+scenarios=()
+for scenario in examples/*.json; do
+    case $scenario in */live-proxies.json | *.schema.json) ;; *) scenarios+=(--scenario "$scenario") ;; esac
+done
+printf '[]' > "$work/untouched.json"
+scenarios+=(--scenario "$work/untouched.json")
+
+# of_hex: the bytes of hexadecimal text.
+of_hex() { tr -d ' \n' | tr a-f A-F | basenc -d --base16; }
+
+# rehearsed NAME CAPTURE ARGUMENT..: stores the outputs of a capture in a folder of that name.
+rehearsed() {
+    mkdir -p "$outputs/$1"
+    run /dev/null --capture "$2" --out "$outputs/$1" "${@:3}"
+    verdict "$1" "$(well)"
+}
+
+# read_by LANGUAGE NAME COMMAND..: the events of all captures by one helper, which are those of Python, and its refusals.
+read_by() {
+    verdict "$1" "$({ "${@:3}" "$outputs"/*/*.pcap > "$work/$2.dump" && "${@:3}" "${broken[@]}" > "$work/$2.broken"; } 2>&1 || echo "  status $?")"
+    verdict "$1, the same events" "$(byte_difference "$work/python.dump" "$work/$2.dump")"
+    verdict "$1, refusals" "$(difference "$work/refusals" "$work/$2.broken")"
+}
+
+# compared WHAT LEAST OPTION.. DUMP: the comparison of a dump with tshark and reports, over at least so many connections.
+compared() {
+    local found
+    found=$(python3 -B tests/events/compare.py "${@:3}" 2> "$work/count" || echo "  status $?")
+    [ "$(tail -n 1 "$work/count")" -ge "$2" ] 2> /dev/null || found+=$(printf '\n  compared: %s' "$(cat "$work/count")")
+    verdict "$1" "$found"
+}
+
+if ! can "events" python3; then close; exit; fi
+
+for sample in http-get shop; do
+    rehearsed $sample samples/$sample.pcap "${scenarios[@]}" --host redis=10.77.0.3 --seed 4
+    python3 -B tests/events/variants.py samples/$sample.pcap > "$work/variant.pcap"
+    rehearsed $sample-in-a-vlan "$work/variant.pcap" "${scenarios[@]}" --host redis=10.77.0.3 --seed 4
+done
+for capture in tests/recorded/*.pcap; do
+    rehearsed "$(basename "$capture" .pcap)" "$capture" "${scenarios[@]}" --host redis=192.0.2.2 --seed 4
+done
+for report in tests/rows/*/report; do
+    row=$(basename "$(dirname "$report")")
+    if [ ! -f "tests/rows/$row/0000.hex" ] || [ -f "tests/rows/$row/0001.hex" ]; then continue; fi
+    mkdir "$outputs/worked-$row"
+    of_hex < "tests/rows/$row/0000.hex" > "$outputs/worked-$row/0000.pcap"
+    cp "$report" "$outputs/worked-$row/0000.txt"
+done
+
+# one client's port is used again while the first answer is still under way
+printf '[{"name":"web","upstream":"10.0.0.2:80","toxics":[{"type":"latency","attributes":{"latency":100}}]}]' > "$work/late.json"
+awk -f tests/capture.awk tests/events/same-port > "$work/same-port.dump"
+rehearsed worked-same-port "$work/same-port.dump" --scenario "$work/late.json"
+
+mkdir "$work/broken"
+last=$(printf '%04d' $((${#scenarios[@]} / 2 - 1)))
+python3 -B tests/events/broken.py "$outputs/http-get/$last.pcap" samples/http-get.pcap "$work/broken" > "$work/refusals"
+mapfile -t broken < <(sed -n 's/^== //p' "$work/refusals")
+verdict "broken captures" "$([ ${#broken[@]} -gt 900 ] || echo "  ${#broken[@]}")"
+
+read_by Python python env PYTHONPATH=examples/suites/python python3 -B tests/events/dump.py
+verdict "the same port" "$(
+    sed -n '/same-port/,/delivered/p' "$work/python.dump" | sed '1d; $d' > "$work/found"
+    difference tests/events/same-port.events "$work/found"
+)"
+sed '/outputs\/worked-/,$d' "$work/python.dump" > "$work/samples.dump"
+sed -n '/outputs\/worked-/,$p' "$work/python.dump" > "$work/worked.dump"
+compared "reports of rows" 30 --reports "$work/worked.dump"
+compared "reports of samples" 100 --reports "$work/samples.dump"
+if can "what tshark follows" tshark; then compared "what tshark follows" 100 "$work/samples.dump"; fi
+
+if can "Go" go; then
+    mkdir "$work/dump"
+    cp tests/events/dump.go "$work/dump/main.go"
+    printf 'module dump\n\ngo 1.18\n\nrequire toxicap v0.0.0\n\nreplace toxicap => %s\n' "$PWD/examples/suites/go" > "$work/dump/go.mod"
+    verdict "Go, compiled" "$(cd "$work/dump" && GOFLAGS=-mod=mod GOPROXY=off GO111MODULE=on go build -o ../dump-go . 2>&1)"
+    read_by Go go "$work/dump-go"
+fi
+if can "Rust" rustc cc; then
+    verdict "Rust, compiled" "$(rustc --edition 2021 -O -o "$work/dump-rust" tests/events/dump.rs 2>&1)"
+    read_by Rust rust "$work/dump-rust"
+fi
+close

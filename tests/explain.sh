@@ -1,0 +1,256 @@
+#!/usr/bin/env bash
+# examples/explain: each reason why a toxic has no effect, unknown fields, refusals, warnings and statuses, over small scenarios with words written by
+# hand; then random scenarios, whose reasons are compared with other runs and with the rules (tests/explained.py). It wants python3.
+set -euo pipefail
+cd "$(dirname "$0")/.."
+. tests/lib.sh
+can "explain" python3 || { close; exit; }
+explain=$PWD/examples/explain http=$PWD/samples/http-get.pcap shop=$PWD/samples/shop.pcap
+export TOXICAP=$program
+cd "$work"
+
+# explains WHAT STATUS TEXT ARGUMENT..: it ends so, and prints this text on standard output.
+explains() {
+    local what=$1 ended=$2 text=$3
+    shift 3
+    status=0
+    "$explain" "$@" < /dev/null > output 2> faults || status=$?
+    verdict "$what" "$(fault "$ended"; told output "${text:+$text$'\n'}"; [ "$ended" = 2 ] || silent faults)"
+}
+
+# refuses WHAT TEXT ARGUMENT..: it ends with 2, prints nothing on standard output, and this text on standard error.
+refuses() {
+    explains "$1" 2 "" "${@:3}"
+    verdict "$1: words" "$(told faults "$2"$'\n')"
+}
+
+# web FILE TOXICS [FIELDS]: writes a scenario of one proxy before the web server of the samples; redis does so for Redis, server for made captures.
+web() { echo "[{\"name\": \"web\", \"upstream\": \"10.77.0.2:80\"${3:+, $3}, \"toxics\": [$2]}]" > "$1"; }
+redis() { echo "[{\"name\": \"redis\", \"upstream\": \"redis:6379\", \"toxics\": [$2]}]" > "$1"; }
+server() { echo "[{\"name\": \"s\", \"upstream\": \"10.0.0.2:80\", \"toxics\": [$2]}]" > "$1"; }
+made() { awk -f "$OLDPWD/tests/capture.awk" > "$1"; }
+
+# one_line LINE FILE: what is at fault with a file that was to have this line.
+one_line() {
+    echo "$1" > wanted
+    difference wanted "$2"
+}
+
+# reason WHAT TEXT TOXICS: over the web session the first toxic has no effect, and this is the reason.
+reason() {
+    web a.json "$3"
+    status=0
+    "$explain" --capture "$http" --scenario a.json > output 2> faults || status=$?
+    grep -F 'proxy 0 toxic 0 (' output > line || true
+    verdict "$1" "$(fault 1; silent faults; one_line "a.json: proxy 0 toxic 0 $2" line)"
+}
+
+# effect WHAT TOXICS: over the web session each toxic has an effect.
+effect() {
+    web a.json "$2"
+    status=0
+    "$explain" --capture "$http" --scenario a.json > output 2> faults || status=$?
+    verdict "$1" "$(well; ! grep 'effect on 0' output)"
+}
+
+idle() { echo "($1): effect on 0 of 1 connection; on 1: $2"; }
+reason "latency 0" "$(idle latency_downstream "its latency and jitter are 0")" '{"type": "latency", "attributes": {"latency": 0}}'
+reason "delay 0" "$(idle slow_close_upstream "its delay is 0")" '{"type": "slow_close", "stream": "upstream", "attributes": null}'
+reason "toxicity 0" "$(idle timeout_downstream "its toxicity is 0")" '{"type": "timeout", "toxicity": 0}'
+reason "toxicity_ppm 0" "$(idle timeout_downstream "its toxicity is 0")" '{"type": "timeout", "toxicity": 1, "toxicity_ppm": 0}'
+reason "toxicity_ppm 1" "$(idle timeout_downstream "it is not drawn (toxicity_ppm 1)")" '{"type": "timeout", "toxicity_ppm": 1}'
+reason "a limit of all bytes" "$(idle limit_data_downstream "its limit of 216 bytes is not passed (at most 216 came, upstream up to 82): it closes only where more come")" \
+    '{"type": "limit_data", "attributes": {"bytes": 216}}'
+reason "a limit on the wrong stream" "$(idle limit_data_upstream "its limit of 100 bytes is not reached (at most 82 came, downstream up to 216)")" \
+    '{"type": "limit_data", "stream": "upstream", "attributes": {"bytes": 100}}'
+effect "a limit of a byte less" '{"type": "limit_data", "attributes": {"bytes": 215}}'
+reason "a reset after the end" "$(idle reset_peer_downstream "downstream had ended before 4 ms (at +3686 at the latest)")" \
+    '{"type": "reset_peer", "attributes": {"timeout": 4}}'
+effect "a reset before the end" '{"type": "reset_peer", "attributes": {"timeout": 3}}'
+reason "slices of more than the chunk" "$(idle slicer_downstream "no chunk is larger than a slice, or waits for one")" \
+    '{"type": "slicer", "attributes": {"average_size": 1000000}}'
+effect "slices that the report does not show" '{"type": "slicer", "attributes": {"average_size": 50}}'
+reason "before a timeout" "$(idle latency_downstream "toxic 1 (silent) hides it")" \
+    '{"type": "latency", "attributes": {"latency": 9}}, {"type": "timeout", "name": "silent"}'
+reason "the other stream is closed" "$(idle slow_close_downstream "toxic 1 (timeout_upstream) hides it")" \
+    '{"type": "slow_close", "attributes": {"delay": 9}}, {"type": "timeout", "stream": "upstream", "attributes": {"timeout": 1}}'
+reason "one of two that are alike" "$(idle one "toxic 1 (two) hides it")" '{"type": "timeout", "name": "one"}, {"type": "timeout", "name": "two"}'
+reason "one of three that are alike" "$(idle one "other toxics of its proxy hide it together")" \
+    '{"type": "timeout", "name": "one"}, {"type": "timeout", "name": "two"}, {"type": "timeout", "name": "three"}'
+effect "toxics of four types" '{"type": "latency", "attributes": {"latency": 5}}, {"type": "bandwidth", "attributes": {"rate": 1}},
+    {"type": "slicer", "attributes": {"average_size": 9, "delay": 9}}, {"type": "slow_close", "attributes": {"delay": 5}}'
+
+# sessions that never end, in which the server sends nothing, and the client in one of them
+made upload.dump <<'END'
+1.000000 c>s SYN 1000 0
+1.000100 s>c SYN ACK 5000 1001
+1.000200 c>s PSH ACK 1001 5001 "hello"
+2.000000 d>s SYN 1000 0
+2.000100 s>d SYN ACK 5000 1001
+END
+for kind in latency bandwidth slicer limit_data; do
+    server a.json "{\"type\": \"$kind\", \"attributes\": {\"latency\": 1, \"rate\": 1, \"average_size\": 1}}"
+    "$explain" --capture upload.dump --scenario a.json > output 2>&1 || true
+    grep -F 'proxy 0 toxic 0 (' output > line || true
+    verdict "$kind where nothing flows" \
+        "$(one_line "a.json: proxy 0 toxic 0 (${kind}_downstream): effect on 0 of 2 connections; on 2: no bytes flow downstream (upstream up to 5 bytes)" line)"
+done
+server a.json '{"type": "timeout"}, {"type": "slow_close", "attributes": {"delay": 1}}, {"type": "latency", "stream": "upstream", "attributes": {"latency": 1}}'
+explains "sessions that never end" 1 "a.json: proxy 0 (s, 10.0.0.2:80): met by 2 connections
+a.json: proxy 0 toxic 0 (timeout_downstream): effect on 0 of 2 connections; on 2: no bytes flow downstream, and its end is the same without it
+a.json: proxy 0 toxic 1 (slow_close_downstream): effect on 0 of 2 connections; on 2: no FIN ends downstream
+a.json: proxy 0 toxic 2 (latency_upstream): effect on 1 of 2 connections; on 1: no bytes flow upstream (downstream up to 0 bytes)" \
+    --capture upload.dump --scenario a.json
+
+# By docs/RULES.md word 0 modulo a million of connections 0, 2 and 3 is 107503, 837121 and 768073 for toxic 0 downstream of scenario 0 under the
+# seed 1, and 550896, 254620 and 676496 for that of scenario 1. Connection 3 has 7 bytes downstream, the others have over 3,000.
+redis a.json '{"type": "latency", "toxicity_ppm": 600000, "attributes": {"latency": 300}}, {"type": "limit_data", "attributes": {"bytes": 7}}'
+explains "some connections, in two scenarios" 0 "a.json: proxy 0 (redis, redis:6379): met by 3 connections
+a.json: proxy 0 toxic 0 (latency_downstream): effect on 1 of 3 connections; on 2: it is not drawn (toxicity_ppm 600000)
+a.json: proxy 0 toxic 1 (limit_data_downstream): effect on 2 of 3 connections; on 1: its limit of 7 bytes is not passed (at most 7 came, upstream up to 6): it closes only where more come
+a.json: proxy 0 (redis, redis:6379): met by 3 connections
+a.json: proxy 0 toxic 0 (latency_downstream): effect on 2 of 3 connections; on 1: it is not drawn (toxicity_ppm 600000)
+a.json: proxy 0 toxic 1 (limit_data_downstream): effect on 2 of 3 connections; on 1: its limit of 7 bytes is not passed (at most 7 came, upstream up to 6): it closes only where more come" \
+    --capture "$shop" --scenario a.json --scenario a.json --host redis=10.77.0.3 --seed 1
+
+# The same peers twice, the second session before the first one's bytes: slices of one byte, that only the output capture shows, are drawn for
+# connection 0 (430965 under the seed 0) and not for connection 1 (523791).
+made twice.dump <<'END'
+1.000000 c>s SYN 1000 0
+1.000100 s>c SYN ACK 5000 1001
+1.000200 s>c PSH ACK 5001 1001 "hello"
+1.500000 c>s SYN 9000 0
+1.500100 s>c SYN ACK 7000 9001
+1.500200 s>c PSH ACK 7001 9001 "world"
+END
+server a.json '{"type": "slicer", "toxicity_ppm": 500000, "attributes": {"average_size": 1}}, {"type": "latency", "attributes": {"latency": 2000}}'
+explains "connections of the same peers" 0 "a.json: proxy 0 (s, 10.0.0.2:80): met by 2 connections
+a.json: proxy 0 toxic 0 (slicer_downstream): effect on 1 of 2 connections; on 1: it is not drawn (toxicity_ppm 500000)
+a.json: proxy 0 toxic 1 (latency_downstream): effect on 2 of 2 connections" --capture twice.dump --scenario a.json
+
+# proxies
+cat > a.json <<'END'
+[{"name": "db", "upstream": "10.77.0.9:5432", "toxics": [{"type": "timeout"}]}, {"name": "web", "upstream": "10.77.0.2:80"},
+ {"name": "slow web", "upstream": "web:080", "toxics": [{"type": "timeout"}]},
+ {"name": "redis", "upstream": "10.77.0.3:6379", "enabled": false, "toxics": [{"type": "timeout"}]}]
+END
+explains "proxies that are not met, or disabled" 1 'a.json: proxy 0 (db, 10.77.0.9:5432): no connection goes to its server; servers of the capture: 10.77.0.3:6379 (3), 10.77.0.2:80 (1)
+a.json: proxy 0 toxic 0 (timeout_downstream): effect on 0 of 0 connections; no connection meets its proxy
+a.json: proxy 1 (web, 10.77.0.2:80): met by 1 connection
+a.json: proxy 2 ("slow web", web:080): no connection meets it: proxy 1 stands before the same server, and is met first
+a.json: proxy 2 toxic 0 (timeout_downstream): effect on 0 of 0 connections; no connection meets its proxy
+a.json: proxy 3 (redis, 10.77.0.3:6379): met by 3 connections, each refused: it is disabled
+a.json: proxy 3 toxic 0 (timeout_downstream): effect on 0 of 3 connections; on 3: its proxy is disabled, and refuses each connection' \
+    --capture "$shop" --scenario a.json --host web=10.77.0.2
+explains "the same without a capture" 1 'a.json: proxy 2 ("slow web", web:080): no connection meets it: proxy 1 stands before the same server, and is met first
+a.json: proxy 3 toxic 0 (timeout_downstream): no effect: its proxy is disabled, and refuses each connection
+a.json: taken (proxies: 4, toxics: 3)' --scenario a.json --host web=10.77.0.2
+web a.json '{"type": "latency"}, {"type": "timeout", "toxicity": 0}'
+explains "toxics that can do nothing, without a capture" 1 'a.json: proxy 0 toxic 0 (latency_downstream): no effect: its latency and jitter are 0
+a.json: proxy 0 toxic 1 (timeout_downstream): no effect: its toxicity is 0
+a.json: taken (proxies: 1, toxics: 2)' --scenario a.json
+web a.json '{"type": "timeout"}'
+explains "nothing to mend, without a capture" 0 'a.json: taken (proxies: 1, toxics: 1)' --scenario a.json
+echo '[]' > b.json
+explains "no proxy" 0 "" --capture "$http" --scenario b.json
+
+# unknown fields
+# unknown PLACE WORDS TEXT: of a file that is taken this field is printed.
+unknown() {
+    echo "$3" > a.json
+    "$explain" --scenario a.json > output 2> faults && status=0 || status=$?
+    verdict "unknown: $2" "$(fault 1; silent faults; head -n 1 output > line; one_line "a.json: $1: unknown field $2" line)"
+}
+web='"name":"web","upstream":"10.77.0.2:80"'
+unknown "proxy 0 toxic 0 attributes" "latencyy (is it latency?)" "[{$web,\"toxics\":[{\"type\":\"latency\",\"attributes\":{\"latencyy\":100}}]}]"
+unknown "proxy 0 toxic 0 attributes" "delay (known are latency, jitter)" "[{$web,\"toxics\":[{\"type\":\"latency\",\"attributes\":{\"delay\":100}}]}]"
+unknown "proxy 0 toxic 0" 'latency (it belongs in "attributes")' "[{$web,\"toxics\":[{\"type\":\"latency\",\"latency\":100}]}]"
+unknown "proxy 0 toxic 1" "direction (known are name, type, stream, toxicity, toxicity_ppm, attributes)" \
+    "[{$web,\"toxics\":[{\"type\":\"timeout\"},{\"type\":\"latency\",\"direction\":\"upstream\"}]}]"
+unknown "proxy 0" "toxic (is it toxics?)" "[{$web,\"toxic\":[{\"type\":\"timeout\"}]}]"
+unknown "proxy 1" "Enabled (is it enabled?)" "[{\"name\":\"db\",\"upstream\":\"10.77.0.3:6379\"},{$web,\"Enabled\":false}]"
+unknown "proxy 0" "Upstream (is it upstream?)" '[{"name":"web","upstream":"10.77.0.3:6379","Upstream":"10.77.0.2:80"}]'
+unknown "proxy 0 toxic 0" 'enabled (only a proxy can be disabled; for a toxic write "toxicity": 0)' "[{$web,\"toxics\":[{\"type\":\"timeout\",\"enabled\":false}]}]"
+unknown "proxy 0 toxic 0 attributes" "toxicity (it belongs in the toxic)" "[{$web,\"toxics\":[{\"type\":\"timeout\",\"attributes\":{\"toxicity\":0}}]}]"
+unknown "proxy 0" '"a b" (known are name, listen, upstream, enabled, toxics)' "[{$web,\"a b\":1}]"
+
+# refusals, with what stands at their place
+web a.json '{"type": "latency", "stream": "down"}'
+refuses "a stream" 'explain: a.json: refused 17 BadStream scenario 0 proxy 0 toxic 0: a stream is neither upstream nor downstream
+  {"type": "latency", "stream": "down"}' --scenario a.json
+refuses "a stream in the second file" 'explain: a.json: refused 17 BadStream scenario 1 proxy 0 toxic 0: a stream is neither upstream nor downstream
+  {"type": "latency", "stream": "down"}' --capture "$http" --scenario b.json --scenario a.json
+redis a.json ''
+refuses "a host that is not known" 'explain: a.json: refused 15 UnknownHost scenario 0 proxy 0: its host is no address, and no --host names it
+  {"name": "redis", "upstream": "redis:6379", "toxics": []}' --capture "$shop" --scenario a.json
+refuses "a host that is no address" "explain: refused 23 BadHost host 0: a --host is not NAME=ADDR, or was given before" --scenario a.json --host redis
+echo '[' > a.json
+refuses "no JSON" "explain: a.json: refused 10 NotJson scenario 0: a scenario is no JSON
+  line 2 column 1: Expecting value" --scenario a.json
+printf '[\n{"name": 1 "\303\244"}]' > a.json
+refuses "no JSON, in the second line" "explain: a.json: refused 10 NotJson scenario 0: a scenario is no JSON
+  line 2 column 12: Expecting ',' delimiter" --scenario a.json
+printf '[\n{"\303\244": "\344"}]' > a.json
+refuses "no UTF-8" "explain: a.json: refused 10 NotJson scenario 0: a scenario is no JSON
+  line 2 column 8: a byte that is no UTF-8" --scenario a.json
+web a.json '{"type": "timeout", "toxicity": 0.1}'
+refuses "a fraction" 'explain: a.json: refused 21 BadToxicity scenario 0 proxy 0 toxic 0: toxicity is not 0 or 1, or its ppm above a million
+  {"type": "timeout", "toxicity": 0.1}
+  write "toxicity_ppm": 100000 in place of "toxicity"; examples/ppm.jq does so in a whole file' --scenario a.json
+web a.json '{"type": "timeout", "toxicity_ppm": 1000001}'
+refuses "more than a million" 'explain: a.json: refused 21 BadToxicity scenario 0 proxy 0 toxic 0: toxicity is not 0 or 1, or its ppm above a million
+  {"type": "timeout", "toxicity_ppm": 1000001}' --scenario a.json
+echo '{}' > a.json
+refuses "no array" "explain: a.json: refused 11 NotArray scenario 0: it is no array" --scenario a.json
+web a.json '{"type": "bandwidth", "attributes": {"Rate": 10}}'
+explains "a refusal and an unknown field" 2 "a.json: proxy 0 toxic 0 attributes: unknown field Rate (is it rate?)" --scenario a.json
+verdict "a refusal and an unknown field: words" "$(grep -c '^explain: a.json: refused 19 AttributeRange scenario 0 proxy 0 toxic 0: ' faults | grep -vx 1 || true)"
+: > empty.pcap
+refuses "a capture without bytes" "explain: empty.pcap: refused 1 ShortHeader: the capture has fewer than 24 bytes" --capture empty.pcap --scenario b.json
+refuses "no such capture" "explain: none.pcap: No such file or directory" --capture none.pcap --scenario b.json
+refuses "no such scenario" "explain: none.json: No such file or directory" --capture "$http" --scenario none.json
+TOXICAP=$work/none refuses "no program" "explain: there is no program $work/none: put it on the path, or name it in TOXICAP" --scenario b.json
+explains "a seed that is none" 2 "" --capture "$http" --scenario b.json --seed x
+verdict "a seed that is none: words" "$(grep -q "invalid value 'x' for '--seed <N>'" faults || cat faults)"
+explains "no scenario" 2 "" --capture "$http"
+explains "an option that is none" 2 "" --scenario b.json --scenarios b.json
+status=0
+"$explain" --help > output 2> faults || status=$?
+verdict "--help" "$(well; grep -q '^Exit status:' output || cat output)"
+
+# a capture out of a pipe is read as often as it takes
+web a.json '{"type": "timeout"}'
+status=0
+"$explain" --capture /dev/stdin --scenario a.json < <(cat "$http") > output 2> faults || status=$?
+verdict "a capture out of a pipe" "$(well; grep -q 'effect on 1 of 1 connection$' output || cat output)"
+
+# warnings: a tenth or more, and not less
+# warns WHAT TEXT CAPTURE: over it this line is printed, or none.
+warns() {
+    status=0
+    "$explain" --capture "$3" --scenario b.json > output 2> faults || status=$?
+    verdict "$1" "$(fault $((${#2} > 0)); silent faults; told output "${2:+$3: warning: $2$'\n'}")"
+}
+# many COUNT LINE: a line of a capture so often, each a microsecond after the other, from the second 2 on
+many() { for ((number = 0; number < $1; number++)); do printf '2.%06d %s\n' $number "$2"; done; }
+opening=$'1.000000 c>s SYN 1000 0\n1.000100 s>c SYN ACK 5000 1001'
+full='c>s PSH ACK 1001 5001 "hello"'
+{ echo "$opening"; many 7 "$full"; echo '3.000000 d>s PSH ACK 1001 5001 "hello"'; } | made unopened10.dump
+warns "a tenth unopened" "1 of 10 segments are unopened: the opening of their sessions is not in the capture; start recording before the client connects" unopened10.dump
+{ echo "$opening"; many 8 "$full"; echo '3.000000 d>s PSH ACK 1001 5001 "hello"'; } | made unopened11.dump
+warns "less than a tenth unopened" "" unopened11.dump
+{ echo "$opening"; many 7 "$full"; echo 'record 3.000000 02000000000202000000000186dd60000000'; } | made notipv4.dump
+warns "a tenth notipv4" "1 of 10 frames are notipv4: IPv6 (localhost may be ::1), ARP, or two VLAN tags; only IPv4 is rehearsed: connect to an IPv4 address, as 127.0.0.1" notipv4.dump
+{ echo "$opening"; many 7 "$full"; echo 'record 3.000000 0200000000020200000000010800450000ff00004000400600000a0000010a000002'; } | made cut.dump
+warns "a tenth cut" "1 of 10 frames are cut: recorded without their ends, their bytes are missing; record whole packets (tcpdump -s 0)" cut.dump
+{ echo "$opening"; echo '2.000000 c>s PSH ACK 1001 5001 "ninebytes"'; echo '2.100000 c>s PSH ACK 1011 5001 "x"'; } | made lost.dump
+warns "a tenth lost" "1 of 10 bytes are lost: they stand after a gap of the capture, or after a FIN; record again, with a larger buffer where tcpdump dropped packets (-B 65536)" lost.dump
+{ echo "$opening"; echo '2.000000 c>s PSH ACK 1001 5001 "tencharact"'; echo '2.100000 c>s PSH ACK 1012 5001 "x"'; } | made found.dump
+warns "less than a tenth lost" "" found.dump
+
+cd "$OLDPWD"
+for row in a-hole-that-fills bytes-after-a-reset openings-in-other-vlans; do awk -f tests/capture.awk tests/rows/$row/segments > "$work/$row.dump"; done
+tests/explained.py "$program" 16 1 samples/*.pcap tests/recorded/*.pcap "$work"/{upload,a-hole-that-fills,bytes-after-a-reset,openings-in-other-vlans}.dump > "$work/random"
+tail -n 1 "$work/random"
+verdict "random scenarios" "$(grep -v ' 0 faults;' "$work/random" || true)"
+close

@@ -1,0 +1,54 @@
+#!/usr/bin/env bash
+# Searches over calls of the library for C, in Python and Go: the least seed, the smallest scenario and the first prefix, against rows that were
+# worked out by hand (tests/search.json) and known parsers, by tests/search.py and tests/search_rows_test.go; and the examples, which find a planted
+# bug, and none once it is mended. LIBRARY names another libtoxicap_c.a by its whole path, as for release/library.
+set -euo pipefail
+cd "$(dirname "$0")/.."
+. tests/lib.sh
+kit=$work/kit copy=$work/copy
+release/library "$kit" > "$work/told" || { echo "$0: there is no library" >&2; exit 2; }
+export TOXICAP_LIBRARY=$kit/lib/libtoxicap.so.1 CGO_CFLAGS="-I$kit/include" CGO_LDFLAGS="-L$kit/lib"
+export GOFLAGS=-mod=mod GOPROXY=off GO111MODULE=on
+mkdir -p "$copy/tests"
+cp -r examples samples "$copy"
+cp tests/search.{json,py} "$copy/tests"
+cp tests/search_rows_test.go "$copy/examples/go"
+
+# passes WHAT COMMAND..: a command ends well; else what it prints is told.
+passes() { verdict "$1" "$("${@:2}" > "$work/output" 2>&1 || cat "$work/output")"; }
+
+# finds_nothing WHAT COMMAND..: a command fails, and says that it found no bug.
+finds_nothing() {
+    verdict "$1" "$(
+        ! "${@:2}" > "$work/output" 2>&1 || echo "  it passes"
+        grep -q "no seed below 1000 finds a bug" "$work/output" || cat "$work/output"
+    )"
+}
+
+# mend FILE WRONG RIGHT: a line of an example in the copy is changed, which stands there once.
+mend() {
+    verdict "$1 has the planted bug" "$([ "$(grep -cF "$2" "$copy/examples/$1")" = 1 ] || echo "  there is no line $2")"
+    sed -i "s/$2/$3/" "$copy/examples/$1"
+}
+
+if can "Python" python3; then
+    for class in Search Prefixes; do passes "Python: $class" python3 -B "$copy/tests/search.py" $class; done
+    python3 -B examples/python/find_bug.py samples/shop.pcap > "$work/found" 2>&1 || true
+    cat > "$work/wanted" << 'END'
+least seed 118
+seed 0 of [{"name": "redis", "upstream": "redis:6379", "toxics": [{"type": "slicer", "attributes": {"average_size": 1, "size_variation": 0, "delay": 0}}]}]
+prefix of 3007 bytes, then replies of 3000 0 bytes
+END
+    verdict "Python: the example" "$(difference "$work/wanted" "$work/found")"
+    mend python/find_bug.py 'if len(rest) < end:' 'if len(rest) < end + 2:'
+    finds_nothing "Python: the example, mended" python3 -B "$copy/examples/python/find_bug.py" samples/shop.pcap
+fi
+if can "Go" go gcc; then
+    # go_test NAME: a test of the copy, which go vets first.
+    go_test() { (cd "$copy/examples/go" && go vet . && go test -count=1 -run "^$1\$" .); }
+    for name in TestRows TestWrongUses TestFeedPrefixes; do passes "Go: $name" go_test $name; done
+    passes "Go: the example" go_test Example
+    mend go/search_test.go 'if len(rest) < end {' 'if len(rest) < end+2 {'
+    finds_nothing "Go: the example, mended" go_test Example
+fi
+close

@@ -1,0 +1,148 @@
+package main
+
+// The helper examples/go/search.go against rows that were worked out by hand (tests/search.json) and known parsers. tests/search.sh puts this file
+// beside it, in a copy.
+
+import (
+	"encoding/json"
+	"fmt"
+	"os"
+	"reflect"
+	"regexp"
+	"strconv"
+	"strings"
+	"testing"
+)
+
+// read gives a file.
+func read(t *testing.T, name string) []byte {
+	t.Helper()
+	text, err := os.ReadFile(name)
+	if err != nil {
+		t.Fatal(err)
+	}
+	return text
+}
+
+// row is one of tests/search.json.
+type row struct {
+	Row, Sample, Hosts, Finds string
+	Below                     uint64
+	Scenarios                 []json.RawMessage
+	Seed                      *uint64
+	Smallest                  any
+}
+
+func TestRows(t *testing.T) {
+	var rows []row
+	if err := json.Unmarshal(read(t, "../../tests/search.json"), &rows); err != nil {
+		t.Fatal(err)
+	}
+	for _, row := range rows {
+		row := row
+		t.Run(row.Row, func(t *testing.T) { tryRow(t, row) })
+	}
+}
+
+// tryRow compares what is found with a row.
+func tryRow(t *testing.T, row row) {
+	capture, expression := read(t, "../../samples/"+row.Sample+".pcap"), regexp.MustCompile(row.Finds)
+	finds := func(outputs []Output) bool {
+		for _, output := range outputs {
+			if expression.Match(output.Report) {
+				return true
+			}
+		}
+		return false
+	}
+	texts := make([][]byte, len(row.Scenarios))
+	for i, scenario := range row.Scenarios {
+		texts[i] = scenario
+	}
+	seed, found, err := LeastSeed(capture, texts, []byte(row.Hosts), finds, row.Below)
+	if err != nil || found != (row.Seed != nil) || found && seed != *row.Seed {
+		t.Error("least seed", seed, found, err)
+	}
+	if row.Smallest == nil {
+		return
+	}
+	text, seed, err := Shrink(capture, texts[0], []byte(row.Hosts), finds, row.Below)
+	var smallest any
+	if err != nil || json.Unmarshal(text, &smallest) != nil || !reflect.DeepEqual(smallest, row.Smallest) || seed != *row.Seed {
+		t.Error("smallest", seed, string(text), err)
+	}
+}
+
+func TestWrongUses(t *testing.T) {
+	capture := read(t, "../../samples/http-get.pcap")
+	answer := func(answered bool) func([]Output) bool { return func([]Output) bool { return answered } }
+	_, _, noSeed := LeastSeed(capture, [][]byte{[]byte("[]")}, nil, answer(true), 0)
+	_, _, refused := LeastSeed(capture, [][]byte{[]byte("[]"), []byte("[")}, nil, answer(true), 1)
+	_, _, shrinkNoSeed := Shrink(capture, []byte("[]"), nil, answer(true), 0)
+	_, _, shrinkRefused := Shrink(capture, []byte("["), nil, answer(true), 1)
+	_, _, passes := Shrink(capture, []byte("[]"), nil, answer(false), 3)
+	for _, use := range []struct {
+		err    error
+		wanted string
+	}{
+		{noSeed, "below is 0, so there is no seed to try"},
+		{shrinkNoSeed, "below is 0, so there is no seed to try"},
+		{refused, "refused 10 NotJson scenario 1"},
+		{shrinkRefused, "refused 10 NotJson scenario 0"},
+		{passes, "the scenario does not fail under these seeds: there is nothing to shrink"},
+	} {
+		if use.err == nil || use.err.Error() != use.wanted {
+			t.Errorf("%v in place of %s", use.err, use.wanted)
+		}
+	}
+}
+
+// lines makes a right parser of lines: what is not ended yet is kept.
+func lines() func([]byte) ([]string, error) {
+	rest := ""
+	return func(payload []byte) (whole []string, err error) {
+		parts := strings.Split(rest+string(payload), "\n")
+		rest = parts[len(parts)-1]
+		return parts[:len(parts)-1], nil
+	}
+}
+
+// forgetful makes a wrong parser: it parses each payload as if it were whole.
+func forgetful(parse func(string) ([]string, error)) Parser[string] {
+	return func() func([]byte) ([]string, error) {
+		return func(payload []byte) ([]string, error) { return parse(string(payload)) }
+	}
+}
+
+func TestFeedPrefixes(t *testing.T) {
+	digits := regexp.MustCompile("[0-9]+")
+	numbers := forgetful(func(text string) ([]string, error) { return digits.FindAllString(text, -1), nil })
+	toLineFeed := forgetful(func(text string) ([]string, error) { return []string{text[:strings.Index(text, "\n")]}, nil })
+	quoted := forgetful(func(text string) ([]string, error) { whole, err := strconv.Unquote(text); return []string{whole}, err })
+	for _, row := range []struct {
+		parser   Parser[string]
+		stream   string
+		size     int
+		messages string
+		err      string
+	}{
+		{lines, "", 0, "[]", "<nil>"},
+		{lines, "\n", 0, "[]", "<nil>"},
+		{lines, "+OK\n:1234\n", 0, "[]", "<nil>"},
+		{lines, "+OK\n:12", 0, "[]", "<nil>"},
+		{forgetful(func(text string) ([]string, error) { return strings.Fields(text), nil }), "a b", 0, "[]", "<nil>"},
+		{numbers, "7 12 ", 3, "[7 1 2]", "<nil>"},
+		{toLineFeed, "+OK\n", 1, "[]", "panic: runtime error: slice bounds out of range [:-1]"},
+		{toLineFeed, "+OK", 3, "[]", "panic: runtime error: slice bounds out of range [:-1]"},
+		{quoted, `"a"`, 1, "[]", "invalid syntax"},
+		{quoted, `"a`, 2, "[]", "invalid syntax"},
+	} {
+		size, messages, err := FeedPrefixes(row.parser, []byte(row.stream))
+		if told := fmt.Sprint(messages); size != row.size || told != row.messages || fmt.Sprint(err) != row.err {
+			t.Errorf("%q: %d %s %v", row.stream, size, told, err)
+		}
+	}
+	if whole, err := Parser[string](lines).Feed([]byte("+O"), []byte("K\n:1"), []byte("\n:2")); fmt.Sprint(whole, err) != "[+OK :1] <nil>" {
+		t.Error(whole, err)
+	}
+}

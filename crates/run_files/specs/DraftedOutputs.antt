@@ -1,13 +1,7 @@
--- Outputs of which both files are drafts.
-use Rattle.std.specs.Prelude.{⊤, ℕ, List, [], ◌∷◌}
+-- An output of which both files are drafts.
+use Rattle.std.specs.Prelude.{ℕ, List}
 use Rattle.run_files.specs.declared.outputs.Output.{Output}
 
 -- Of an output, given what drafts hold: a draft of its capture, and one of its report.
 abbrev pub IsDraftOf : {Draft : Type 0} → (Draft → List ℕ → Type 0) → Output → Draft × Draft → Type 0
 IsDraftOf Holds output drafted = Holds drafted.0 output.capture × Holds drafted.1 output.report
-
--- the same of some outputs in turn
-abbrev pub AreDraftsOf : {Draft : Type 0} → (Draft → List ℕ → Type 0) → List (Draft × Draft) → List Output → Type 0
-AreDraftsOf Holds [] [] = ⊤
-AreDraftsOf Holds (d ∷ drafts) (o ∷ outputs) = IsDraftOf Holds o d × AreDraftsOf Holds drafts outputs
-AreDraftsOf Holds _ _ = ⊥

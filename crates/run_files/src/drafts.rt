@@ -1,6 +1,6 @@
 //! Drafts: files that are written before a shelf takes them, by many threads side by side.
 ghost use Rattle.std.specs.Prelude.{◌≡◌, ℕ, List, ◌+◌, ◌-◌, ◌^◌, ◌<◌, ◌≤◌, ◌*◌, ◌++◌, [], ◌∷◌, length, OnOk};
-ghost use Rattle.run_files.specs.DraftedOutputs.{AreDraftsOf};
+ghost use Rattle.run_files.specs.DraftedOutputs.{IsDraftOf};
 ghost use Rattle.run_files.specs.declared.outputs.Output.{Output};
 ghost use Rattle.run_files.specs.Shelves.{stored_file, Takes};
 ghost use Rattle.run_files.specs.WrittenOutputs.{files_from, four_digits, PutsAfter, StoresAfter};
@@ -211,32 +211,27 @@ impl<'a, F: Files> Folder<'a, F> {
 /// What one scenario answers, as drafts: that of its capture, and that of its report.
 pub type DraftedOutput<D> = (D, D);
 
-/// Has a shelf take the drafts of outputs: they become the files that [`store_from`](crate::store_from) puts of these outputs, of which
-/// the first has this number.
+/// Has a shelf take the drafts of an output: they become the files that [`store_all`](crate::store_all) puts of the output of this number.
 ///
 /// # Errors
 /// The first file that cannot be stored ends it; none is tried again. The shelf then has the files before that one and no other;
-/// `after` says how many they are, with those of the outputs before the first number.
-pub fn store_drafts<S: DraftShelf>(
+/// `after` says how many they are, with those of the outputs of lower numbers.
+pub fn store_draft<S: DraftShelf>(
     alloc: Global,
-    first: usize,
-    drafts: Vec<DraftedOutput<S::Draft>>,
+    number: usize,
+    drafts: DraftedOutput<S::Draft>,
     shelf: &mut S,
 ) -> Result<(), StoreFault>
     requires failures { S.failures shelf.old < 2 ^ 64 - 1 }
-    requires numbers { first + length drafts.items ≤ 2 ^ 32 }
-    ensures { (outputs : List Output) → AreDraftsOf S.holds drafts.items outputs
-        → StoresAfter (2 * first) (files_from first outputs) (Takes (S.files shelf.old) (S.files shelf.new))
+    requires number { number < 2 ^ 32 }
+    ensures { (output : Output) → IsDraftOf S.holds output drafts
+        → StoresAfter (2 * number) (files_from number (output ∷ [])) (Takes (S.files shelf.old) (S.files shelf.new))
         (S.failures shelf.old) (S.failures shelf.new) result }
 {
-    let mut number = first;
-    for (capture, report) in drafts {
-        let after = 2 * number as u64;
-        take_file(alloc, number, ".pcap", capture, shelf, after)?;
-        take_file(alloc, number, ".txt", report, shelf, after + 1)?;
-        number += 1;
-    }
-    Ok(())
+    let (capture, report) = drafts;
+    let after = 2 * number as u64;
+    take_file(alloc, number, ".pcap", capture, shelf, after)?;
+    take_file(alloc, number, ".txt", report, shelf, after + 1)
 }
 
 // Takes a draft as a file of an output with its number, after so many files.

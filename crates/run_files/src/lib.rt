@@ -15,11 +15,11 @@ mod shelves;
 mod streams;
 mod texts;
 
-pub use drafts::{DraftShelf, DraftedOutput, FolderDraft, MemoryDraft, store_drafts};
+pub use drafts::{DraftShelf, DraftedOutput, FolderDraft, MemoryDraft, store_draft};
 pub use dumps::{capture_bytes, is_dump, undump};
 pub use error::{RunFault, ShelfError, StoreFault};
 pub use fault_lines::fault_line;
-pub use loading::load_by_threads;
+pub use loading::load_by_workers;
 pub use outputs::{Output, Outputs, print_reports, store_all, store_from};
 pub use paths::{FileSystem, Paths};
 pub use shelves::{Folder, MemoryFile, MemoryShelf, Shelf};

@@ -1,5 +1,5 @@
-//! Loading a file by its path: a large one by several threads, block by block.
-ghost use Rattle.std.specs.Prelude.{◌≤◌, ◌<◌, length, All, IfErr, IfOk};
+//! Loading a file by its path: a large one by workers, block by block.
+ghost use Rattle.std.specs.Prelude.{◌≡◌, ◌≤◌, ◌<◌, length, All, IfErr, IfOk};
 ghost use Rattle.pcap_records.specs.Blocks.{block_len, block_limit};
 ghost use Rattle.pcap_records.specs.Reading.{capture_limit};
 ghost use Rattle.run_files.specs.Paths.{IsOfFile};
@@ -7,29 +7,31 @@ ghost use Rattle.run_files.specs.Paths.{IsOfFile};
 use crate::error::RunFault;
 use crate::streams::{Counted, load, room_to_read};
 use crate::texts::Text;
-use pcap_records::{BLOCK_LEN, Blocks, CAPTURE_LIMIT, SLICE_LIMIT};
+use job_matrix::{Phase, Plan, Through, Work, work_all};
+use pcap_records::{BLOCK_LEN, Blocks, CAPTURE_LIMIT, SLICE_LIMIT, Values};
 use std::alloc::{AllocError, Global};
 use std::fs;
 use std::fs::OpenFile;
+use std::marker::Model;
 use std::os::unix::fs::FileExt;
 use std::rt::Files;
-use std::thread::{Threads, map_indices};
+use std::thread::Threads;
 
 // The most blocks that a file may have.
 const BLOCK_LIMIT: usize = CAPTURE_LIMIT / BLOCK_LEN;
 
-/// Loads all bytes of the file at a path, one of several blocks by so many threads. What is written to the file meanwhile may be loaded
-/// or not.
+/// Loads all bytes of the file at a path, one of several blocks by the workers of a plan. What is written to the file meanwhile may be
+/// loaded or not.
 ///
 /// # Errors
 /// [`RunFault::ReadFailed`] where no file can be opened and read there, [`RunFault::CaptureTooLong`] where it has more than 2^30 bytes,
 /// and [`RunFault::Memory`].
-pub fn load_by_threads<R: Files + Threads + Sync>(
+pub fn load_by_workers<R: Files + Threads + Sync>(
     rt: &R,
     alloc: Global,
     path: &str,
-    threads: usize,
-) -> Result<Text, RunFault>
+    plan: Plan,
+) -> Result<Text<'static>, RunFault>
 where
     R::File: FileExt + Sync,
     ensures within { IfOk result (λ text. length text ≤ capture_limit) }
@@ -39,9 +41,8 @@ where
         return Err(RunFault::ReadFailed);
     };
     let count = block_count(&file);
-    if threads > 1 && count > 1 && count <= BLOCK_LIMIT {
-        let parts = parts_by_threads(rt, alloc, &file, count, threads.min(count))?;
-        let blocks = Blocks::of_parts(alloc, parts)?;
+    if plan.workers() > 1 && count > 1 && count <= BLOCK_LIMIT {
+        let blocks = blocks_by_workers(rt, alloc, &file, count, plan)?;
         if let Some(text) = Text::of_blocks(blocks) {
             return Ok(text);
         }
@@ -58,65 +59,93 @@ fn block_count<F: OpenFile>(file: &F) -> usize {
     }
 }
 
-// The parts of a file that are its first blocks, a share of them in a row loaded by each thread.
+// The first blocks of a file, of which each is a job.
 //
 // # Errors
-// The first of a share that could not be loaded.
-fn parts_by_threads<R: Threads + Sync, F: FileExt + Sync>(
+// That of the first block that could not be loaded.
+fn blocks_by_workers<R: Threads + Sync, F: FileExt + Sync>(
     rt: &R,
     alloc: Global,
     file: &F,
-    blocks: usize,
-    threads: usize,
-) -> Result<Vec<Vec<u8>>, RunFault>
-    requires some { 0 < threads }
-    requires few { blocks ≤ block_limit }
-    ensures few { IfOk result (λ parts. length parts.items ≤ block_limit) }
-    ensures short { IfOk result (λ parts. All (λ part. length part.items ≤ block_len) parts.items) }
+    count: usize,
+    plan: Plan,
+) -> Result<Blocks, RunFault>
+    requires some { 0 < count }
+    requires few { count ≤ block_limit }
+    ensures within { IfOk result (λ blocks. length blocks ≤ capture_limit) }
     ensures of_file { IfErr result IsOfFile }
 {
-    let share = blocks.div_ceil(threads);
-    let made = map_indices(
+    let jobs = BlockJobs { alloc, file, count };
+    let workers = plan.workers() as u64;
+    let blocks = work_all(
         rt,
         alloc,
-        threads,
-        &|thread: usize| -> Result<Vec<Vec<u8>>, RunFault>
-            requires { blocks ≤ block_limit }
-            ensures short { IfOk result (λ parts. All (λ part. length part.items ≤ block_len) parts.items) }
-            ensures of_file { IfErr result IsOfFile }
-        { load_share(alloc, file, blocks, share, thread) },
+        count as u64,
+        workers.min(count as u64),
+        Phase::Ranges,
+        &Through,
+        &jobs,
     )?;
-    let mut parts = Vec::with_capacity(alloc, blocks)?;
-    for share in made {
-        let mut share = share?;
-        parts.append(&mut share)?;
-    }
-    parts.truncate(BLOCK_LIMIT);
-    Ok(parts)
+    let parts = parts_of(alloc, blocks)?;
+    let blocks = Blocks::of_parts(alloc, parts)?;
+    Ok(blocks)
 }
 
-// The parts of a file that are one share of its blocks.
+// Blocks of a file: job j loads the block of number j.
+#[derive(Drop)]
+struct BlockJobs<'f, F: FileExt + Sync> {
+    alloc: Global,
+    file: &'f F,
+    count: usize,
+    ghost few: { count ≤ block_limit },
+}
+
+impl<'f, F: FileExt + Sync> Work for BlockJobs<'f, F> {
+    type Out = LoadedBlock;
+
+    ghost use Rattle.std.specs.Prelude.{◌≡◌, ◌<◌, ◌≤◌, IfOk, get_or, length, replicate};
+    ghost use Rattle.pcap_records.specs.Blocks.{block_limit};
+
+    ghost values = { λ w. replicate w.count tt };
+
+    fn value(&self, job: u64) -> Result<LoadedBlock, AllocError> {
+        let bytes = load_part(self.alloc, self.file, job as usize * BLOCK_LEN);
+        Ok(LoadedBlock { bytes })
+    }
+}
+
+// The bytes that a block has of its own, or why they were not loaded. A file tells nothing, so contracts see nothing of the bytes but how
+// many they can be.
+#[derive(Debug, Drop)]
+struct LoadedBlock {
+    bytes: Result<Vec<u8>, RunFault>,
+}
+
+impl Model for LoadedBlock {
+    ghost use Rattle.std.specs.Prelude.{◌≤◌, IfErr, IfOk, length};
+    ghost use Rattle.pcap_records.specs.Blocks.{block_len};
+    ghost use Rattle.run_files.specs.Paths.{IsOfFile};
+
+    ghost Value = { Unit {0} };
+
+    ghost view = { λ b. tt };
+
+    ghost invariant = { λ b. IfOk b.bytes (λ bytes. length bytes.items ≤ block_len) × IfErr b.bytes IsOfFile };
+}
+
+// The bytes of some blocks, block by block.
 //
 // # Errors
-// [`RunFault::ReadFailed`] where a read failed, and [`RunFault::Memory`].
-fn load_share<F: FileExt>(
-    alloc: Global,
-    file: &F,
-    blocks: usize,
-    share: usize,
-    number: usize,
-) -> Result<Vec<Vec<u8>>, RunFault>
-    requires { blocks ≤ block_limit }
+// That of the first block that could not be loaded.
+fn parts_of(alloc: Global, blocks: Values<LoadedBlock>) -> Result<Vec<Vec<u8>>, RunFault>
+    ensures count { IfOk result (λ parts. length parts.items ≡ length blocks) }
     ensures short { IfOk result (λ parts. All (λ part. length part.items ≤ block_len) parts.items) }
     ensures of_file { IfErr result IsOfFile }
 {
-    let from = number.saturating_mul(share).min(blocks);
-    let to = from.saturating_add(share).min(blocks);
-    let mut room = room_to_read(alloc)?;
-    let mut parts = Vec::with_capacity(alloc, to - from)?;
-    for block in from..to {
-        let part = load_part(alloc, file, block * BLOCK_LEN, room.as_mut_slice())?;
-        parts.push(part).map_err(AllocError::from)?;
+    let blocks = blocks.into_vec();
+    let mut parts = Vec::with_capacity(alloc, blocks.len())?;
+    for block in blocks {
+        parts.push(block.bytes?).map_err(AllocError::from)?;
     }
     Ok(parts)
 }
@@ -126,27 +155,23 @@ fn load_share<F: FileExt>(
 //
 // # Errors
 // [`RunFault::ReadFailed`] where a read failed, and [`RunFault::Memory`].
-fn load_part<F: FileExt>(
-    alloc: Global,
-    file: &F,
-    start: usize,
-    room: &mut [u8],
-) -> Result<Vec<u8>, RunFault>
-    requires start { start ≤ capture_limit }
-    requires room { 0 < length room.old }
+fn load_part<F: FileExt>(alloc: Global, file: &F, start: usize) -> Result<Vec<u8>, RunFault>
+    requires { start ≤ capture_limit }
     ensures short { IfOk result (λ part. length part.items ≤ block_len) }
     ensures of_file { IfErr result IsOfFile }
 {
+    let mut room = room_to_read(alloc)?;
+    let buffer = room.as_mut_slice();
     let mut part = Vec::with_capacity(alloc, BLOCK_LEN + SLICE_LIMIT)?;
     'reads: while part.len() < BLOCK_LEN {
-        let wanted = (BLOCK_LEN - part.len()).min(room.len());
-        let Ok(len) = file.read_at(&mut room[..wanted], (start + part.len()) as u64) else {
+        let wanted = (BLOCK_LEN - part.len()).min(buffer.len());
+        let Ok(len) = file.read_at(&mut buffer[..wanted], (start + part.len()) as u64) else {
             return Err(RunFault::ReadFailed);
         };
         if len == 0 {
             break 'reads;
         }
-        part.extend_from_slice(&room[..len])?;
+        part.extend_from_slice(&buffer[..len])?;
     }
     Ok(part)
 }

@@ -1,11 +1,11 @@
-//! The text of a capture as it was loaded: in one piece, or in blocks.
+//! The text of a capture as it was loaded, in one piece or in blocks, or as it is lent.
 ghost use Rattle.std.specs.Prelude.{◌≡◌, if◌then◌else◌, IfSome, Result, Ok};
 ghost use Rattle.pcap_records.specs.Agreement.{Agrees};
 ghost use Rattle.pcap_records.specs.CaptureView.{bytes_of};
 ghost use Rattle.run_files.specs.Dumps.{is_dump, dump_reading};
 ghost use Rattle.run_files.specs.RunFault.{run_refusal};
 
-use crate::dumps::{capture_bytes, is_dump};
+use crate::dumps::{capture_bytes, is_dump, undump};
 use crate::error::RunFault;
 use pcap_records::{Blocks, FileBytes};
 use std::alloc::Global;
@@ -13,20 +13,22 @@ use std::marker::Model;
 
 /// Where the bytes of a text stand.
 #[derive(Debug, Drop)]
-pub(crate) enum TextBytes {
+pub(crate) enum TextBytes<'t> {
     /// In one piece.
     Whole(Vec<u8>),
+    /// In one piece that is another's.
+    Lent(&'t [u8]),
     /// In blocks; then they are no dump.
     InBlocks(Blocks),
 }
 
-/// The text of a capture: its bytes as they were loaded, which may be a dump. Contracts see the bytes.
+/// The text of a capture: its bytes as they were loaded or are lent, which may be a dump. Contracts see the bytes.
 #[derive(Debug, Drop)]
-pub struct Text {
-    bytes: TextBytes,
+pub struct Text<'t> {
+    bytes: TextBytes<'t>,
 }
 
-impl Model for Text {
+impl<'t> Model for Text<'t> {
     ghost use Rattle.std.specs.Prelude.{ℕ, List};
     ghost use Rattle.run_files.specs.Texts.{bytes_of_text, BlocksAreNoDump};
 
@@ -37,9 +39,9 @@ impl Model for Text {
     ghost invariant = { λ t. BlocksAreNoDump t.bytes };
 }
 
-impl Text {
+impl<'t> Text<'t> {
     /// The text of these bytes.
-    pub fn of(bytes: Vec<u8>) -> Text
+    pub fn of(bytes: Vec<u8>) -> Text<'t>
         ensures { result ≡ bytes.items }
     {
         Text {
@@ -47,8 +49,17 @@ impl Text {
         }
     }
 
+    /// The text of bytes that stay where they are.
+    pub fn lent(bytes: &'t [u8]) -> Text<'t>
+        ensures { result ≡ bytes.now }
+    {
+        Text {
+            bytes: TextBytes::Lent(bytes),
+        }
+    }
+
     // The text of a file in blocks, unless that is a dump.
-    pub(crate) fn of_blocks(blocks: Blocks) -> Option<Text>
+    pub(crate) fn of_blocks(blocks: Blocks) -> Option<Text<'t>>
         ensures text { IfSome result (λ text. text ≡ blocks) }
     {
         if is_dump(blocks.slice(0, blocks.len().min(1))) {
@@ -65,6 +76,7 @@ impl Text {
     {
         match &self.bytes {
             TextBytes::Whole(bytes) => FileBytes::Whole(bytes),
+            TextBytes::Lent(bytes) => FileBytes::Whole(bytes),
             TextBytes::InBlocks(blocks) => FileBytes::InBlocks(blocks),
         }
     }
@@ -74,11 +86,13 @@ impl Text {
     ///
     /// # Errors
     /// Those of [`undump`](crate::undump).
-    pub fn undumped(self, alloc: Global) -> Result<Text, RunFault>
-        ensures { Agrees run_refusal (λ text. text) result (if is_dump self then dump_reading self else Ok self) }
+    pub fn undumped(self, alloc: Global) -> Result<Text<'t>, RunFault>
+        ensures { Agrees run_refusal (λ text. text) result (if is_dump self.entry then dump_reading self.entry else Ok self.entry) }
     {
         match self.bytes {
             TextBytes::Whole(bytes) => Ok(Text::of(capture_bytes(alloc, bytes)?)),
+            TextBytes::Lent(bytes) if is_dump(bytes) => Ok(Text::of(undump(alloc, bytes)?)),
+            TextBytes::Lent(bytes) => Ok(Text::lent(bytes)),
             TextBytes::InBlocks(blocks) => Ok(Text {
                 bytes: TextBytes::InBlocks(blocks),
             }),

@@ -11,8 +11,9 @@ mod Evaluated
 mod AnswerSteps
 mod PrintedSteps
 mod OutputSteps
-mod DraftSteps
+mod ReadyDrafts
 mod StoredSteps
+mod TextsTaken
 mod StoringEnds
 mod NamedSteps
 mod RunSteps

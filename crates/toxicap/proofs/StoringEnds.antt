@@ -18,66 +18,18 @@ use Rattle.toxicap.specs.RunEnds.{StoresBy, failed_reads}
 use Rattle.toxicap.specs.StoredOutputs.{StoresOf, StoresUnlessMemory, TakenOf}
 use Rattle.toxicap.proofs.AnswerSteps.{never}
 
--- a shelf took no file
-pub nothing_taken : (had : Option (List StoredFile)) → Takes had had []
-nothing_taken None = tt
-nothing_taken (Some files) = sym (append-nil files)
-
--- nor was any byte read
+-- no byte was read
 pub none_consumed : (left : Option (List ℕ)) → Consumes left left []
 none_consumed None = tt
 none_consumed (Some bytes) = refl
 
 -- who tells want of memory only where nothing is refused, tells it where it may
-unless_memory : (result : Result (Unit {0}) RunFault) (wanted : Result (List Output) RunFault) → StoresOf result wanted → StoresUnlessMemory result wanted
-unless_memory (Ok u) wanted is = is
-unless_memory (Err Memory) wanted is = tt
-unless_memory (Err fault) wanted is = is
+pub stores_unless_memory : (result : Result (Unit {0}) RunFault) (wanted : Result (List Output) RunFault) → StoresOf result wanted → StoresUnlessMemory result wanted
+stores_unless_memory (Ok u) wanted is = is
+stores_unless_memory (Err Memory) wanted is = tt
+stores_unless_memory (Err fault) wanted is = is
 
 module _ (hosts : List KnownHost) (texts : List (List ℕ)) (seed : ℕ) where
-  -- the bytes of the capture are refused
-  called_bytes : (fault : RunFault) (text : List ℕ) → length text ≤ capture_limit → capture_bytes_of text ≡ Err fault → called_for hosts texts seed text ≡ Err fault
-  unfolding called_for
-  called_bytes fault text within is = rw (le-ltb, is) refl
-
-  -- or a scenario is
-  called_scenarios : (fault : RunFault) (text bytes : List ℕ) → length text ≤ capture_limit → capture_bytes_of text ≡ Ok bytes → scenarios_from hosts [] texts ≡ Err fault
-      → called_for hosts texts seed text ≡ Err fault
-  unfolding called_for
-  called_scenarios fault text bytes within is refused = rw (le-ltb, is, refused) refl
-
-  -- or the rehearsal stands
-  called_rehearsal : (text bytes : List ℕ) (scenarios : List (List Proxy)) → length text ≤ capture_limit → capture_bytes_of text ≡ Ok bytes
-      → scenarios_from hosts [] texts ≡ Ok scenarios → called_for hosts texts seed text ≡ answer bytes scenarios seed
-  unfolding called_for
-  called_rehearsal text bytes scenarios within is read = rw (le-ltb, is, read) refl
-
-  pub refused_bytes : (fault : RunFault) (text : List ℕ) → length text ≤ capture_limit → Agrees run_refusal (λ (bytes : List ℕ). bytes) (Err fault) (capture_bytes_of text)
-      → AgreesUnlessMemory run_refusal (λ (outputs : List Output). outputs) (Err fault) (called_for hosts texts seed text)
-  refused_bytes Memory text within is = tt
-  refused_bytes fault text within is = called_bytes fault text within is
-
-  pub refused_scenarios : (fault : RunFault) (text bytes : List ℕ) → length text ≤ capture_limit → capture_bytes_of text ≡ Ok bytes
-      → AgreesUnlessMemory run_refusal (λ (scenarios : List (List Proxy)). scenarios) (Err fault) (scenarios_from hosts [] texts)
-      → AgreesUnlessMemory run_refusal (λ (outputs : List Output). outputs) (Err fault) (called_for hosts texts seed text)
-  refused_scenarios Memory text bytes within is refused = tt
-  refused_scenarios fault text bytes within is refused = called_scenarios fault text bytes within is refused
-
-  -- where a text is refused nothing is stored
-  pub none_stored : (fault : RunFault) (text : List ℕ) (had : Option (List StoredFile)) (failures : ℕ)
-      → AgreesUnlessMemory run_refusal (λ (outputs : List Output). outputs) (Err fault) (called_for hosts texts seed text)
-      → StoresUnlessMemory (Err fault) (called_for hosts texts seed text) × TakenOf (Err fault) (called_for hosts texts seed text) (Takes had had) failures failures
-  none_stored Memory text had failures is = (tt, ((0, nothing_taken had), refl))
-  none_stored (ShelfFailed after) text had failures is = never hosts texts seed text is (λ own. own)
-  none_stored fault text had failures is = (is, (nothing_taken had, refl))
-
-  -- where it is not, the rehearsal is stored
-  pub rehearsal_stored : (result : Result (Unit {0}) RunFault) (text bytes : List ℕ) (scenarios : List (List Proxy)) → length text ≤ capture_limit
-      → capture_bytes_of text ≡ Ok bytes → scenarios_from hosts [] texts ≡ Ok scenarios → StoresOf result (answer bytes scenarios seed)
-      → StoresUnlessMemory result (called_for hosts texts seed text)
-  rehearsal_stored result text bytes scenarios within is read stores =
-      rw (called_rehearsal text bytes scenarios within is read) (unless_memory result (answer bytes scenarios seed) stores)
-
   -- how storing ends, by the text that was read
   pub stores_by : (result : Result (Unit {0}) RunFault) (text : List ℕ) (AtEnd : Type 0) → length text ≤ capture_limit → AtEnd → StoresUnlessMemory result (called_for hosts texts seed text)
       → StoresBy result (called_for hosts texts seed text) text AtEnd

@@ -1,5 +1,6 @@
 pub mod Rehearsal
 pub mod GatheredOutputs
+pub mod CaptureOutputs
 pub mod SoundOutputs
 pub mod ReadingBefore
 pub mod FramesBefore

@@ -34,8 +34,3 @@ TakenOf (Err (ShelfFailed after)) wanted Took old_failures new_failures =
 TakenOf (Err Memory) wanted Took old_failures new_failures =
     ((stored : ℕ) × Took (take stored (files_in wanted))) × (new_failures ≡ old_failures)
 TakenOf (Err fault) wanted Took old_failures new_failures = Took [] × (new_failures ≡ old_failures)
-
--- ---- what stands past the last of a list
-
-abbrev pub no_output : Output
-no_output = record { capture = []; report = [] }

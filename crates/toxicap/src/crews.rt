@@ -1,6 +1,9 @@
 //! Who does the work of a rehearsal: workers in threads, or one thread alone.
 use conn_table::Table;
-use conn_workers::{Recordings, record, record_alone, report_lines, report_lines_alone};
+use conn_workers::{
+    LaidRow, Recordings, deliver_row, deliver_row_alone, record, record_alone, report_lines,
+    report_lines_alone,
+};
 use job_matrix::{Plan, Through};
 use pcap_records::{Capture, Values};
 use range_workers::{table, table_alone};
@@ -9,12 +12,12 @@ use scenarios::Scenario;
 use std::alloc::{AllocError, Global};
 use std::thread::Threads;
 
-/// Who makes the table of a capture, what is recorded of its connections, and the lines of reports. No answer depends on who it is.
+/// Who makes the table of a capture, what is recorded of its connections, and what these contribute to a scenario. No answer depends on
+/// who it is.
 pub(crate) trait Crew {
-    ghost use Rattle.std.specs.Prelude.{◌≡◌, ◌≤◌, length, IfOk};
-    ghost use Rattle.job_matrix.specs.Boards.{number_limit};
+    ghost use Rattle.std.specs.Prelude.{◌≡◌, IfOk};
     ghost use Rattle.conn_workers.specs.CaptureTables.{whole_table};
-    ghost use Rattle.conn_workers.specs.Recordings.{recordings_of, recorded_lines};
+    ghost use Rattle.conn_workers.specs.Recordings.{recordings_of, recorded_lines, recorded_row};
 
     /// What starts its threads, if it starts any, may be shared among them.
     ghost shares: { Self → Type 0 };
@@ -53,9 +56,23 @@ pub(crate) trait Crew {
         scenario: &Scenario,
         seed: u64,
     ) -> Result<Values<ReportText>, AllocError>
-        requires shares { shares self.now }
-        requires few { length recordings.now ≤ number_limit }
+        requires { shares self.now }
         ensures { IfOk result (λ v. v ≡ recorded_lines seed (number, scenario.now) recordings.now) };
+
+    /// What each connection contributes to a scenario with its number.
+    ///
+    /// # Errors
+    /// A growth was refused.
+    fn deliver_row<'a>(
+        &self,
+        alloc: Global,
+        recordings: &Recordings<'_, 'a>,
+        number: u32,
+        scenario: &Scenario,
+        seed: u64,
+    ) -> Result<LaidRow<'a>, AllocError>
+        requires { shares self.now }
+        ensures { IfOk result (λ v. v ≡ recorded_row seed (number, scenario.now) recordings.now) };
 }
 
 /// One thread alone: that of the call.
@@ -87,6 +104,17 @@ impl Crew for Alone {
         seed: u64,
     ) -> Result<Values<ReportText>, AllocError> {
         report_lines_alone(alloc, recordings, number, scenario, seed)
+    }
+
+    fn deliver_row<'a>(
+        &self,
+        alloc: Global,
+        recordings: &Recordings<'_, 'a>,
+        number: u32,
+        scenario: &Scenario,
+        seed: u64,
+    ) -> Result<LaidRow<'a>, AllocError> {
+        deliver_row_alone(alloc, recordings, number, scenario, seed)
     }
 }
 
@@ -126,6 +154,19 @@ impl<'r, R: Threads + Sync> Crew for Workers<'r, R> {
         seed: u64,
     ) -> Result<Values<ReportText>, AllocError> {
         report_lines(
+            self.rt, alloc, recordings, number, scenario, seed, self.plan, &Through,
+        )
+    }
+
+    fn deliver_row<'a>(
+        &self,
+        alloc: Global,
+        recordings: &Recordings<'_, 'a>,
+        number: u32,
+        scenario: &Scenario,
+        seed: u64,
+    ) -> Result<LaidRow<'a>, AllocError> {
+        deliver_row(
             self.rt, alloc, recordings, number, scenario, seed, self.plan, &Through,
         )
     }

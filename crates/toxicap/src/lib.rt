@@ -9,11 +9,13 @@
 mod answering;
 mod commands;
 mod crews;
+mod drafting;
 mod gathering;
 mod host_lines;
 pub mod laws;
 mod layouts;
 mod one_thread;
+mod reading;
 mod rehearsal;
 mod reports;
 mod rows;
@@ -30,5 +32,5 @@ pub use rehearsal::rehearse;
 pub use run_files::{
     Counted, DraftShelf, DraftedOutput, FileSystem, Folder, FolderDraft, MemoryDraft, MemoryFile,
     MemoryShelf, Output, Outputs, Paths, RunFault, Shelf, ShelfError, StoreFault, fault_line,
-    is_dump, load, print_reports, store_all, store_drafts, undump, write_bytes,
+    is_dump, load, print_reports, store_all, store_draft, undump, write_bytes,
 };

@@ -1,25 +1,21 @@
 //! Rehearsals by one thread alone, that of the call: they start no thread, wait for nobody and take no runtime.
-ghost use Rattle.std.specs.Prelude.{◌≡◌, ◌≤◌, [], List, IfOk, length, map};
+ghost use Rattle.std.specs.Prelude.{◌≡◌, ◌≤◌, IfOk, length, map};
 ghost use Rattle.pcap_records.specs.Agreement.{Agrees, AgreesUnlessMemory};
-ghost use Rattle.pcap_records.specs.CaptureView.{contents_of};
-ghost use Rattle.conn_table.specs.SeenCapture.{seen_capture};
+ghost use Rattle.pcap_records.specs.CaptureView.{bytes_of};
 ghost use Rattle.run_files.specs.RunFault.{run_refusal};
-ghost use Rattle.toxicap.specs.Answering.{answer_under, called_for};
+ghost use Rattle.toxicap.specs.Answering.{called_for};
+ghost use Rattle.toxicap.specs.CaptureOutputs.{outputs_for, outputs_from};
 ghost use Rattle.toxicap.specs.PrintedReports.{reports_in};
-ghost use Rattle.toxicap.specs.Rehearsal.{answer, outputs_of, scenario_limit};
+ghost use Rattle.toxicap.specs.Rehearsal.{answer, scenario_limit};
 
-use crate::answering::{read_texts, reports_to_bytes};
-use crate::crews::Alone;
-use crate::rehearsal::SCENARIO_LIMIT;
+use crate::crews::{Alone, Crew};
+use crate::reading::{read_inputs, read_rehearsed};
 use crate::reports::rehearse_reports;
 use crate::sources::Sources;
-use conn_workers::laws::recordings_are_few;
-use conn_workers::record_alone;
 use job_matrix::{Phase, Through, Work, work_alone};
-use pcap_records::{CAPTURE_LIMIT, Capture, FileBytes, read_capture};
-use range_workers::table_alone;
+use pcap_records::{Capture, FileBytes};
 use report::ReportText;
-use run_files::{Output, Outputs, RunFault, is_dump, undump};
+use run_files::{Output, Outputs, RunFault, Text};
 use scenarios::{Hosts, Scenario};
 use std::alloc::{AllocError, Global};
 
@@ -27,7 +23,6 @@ use std::alloc::{AllocError, Global};
 ///
 /// # Errors
 /// Those of `rehearse`.
-#[tactic(auto, unfolding(crate::specs::Rehearsal::answer))]
 pub fn rehearse_alone(
     alloc: Global,
     capture: &[u8],
@@ -36,12 +31,7 @@ pub fn rehearse_alone(
 ) -> Result<Outputs, RunFault>
     ensures { Agrees run_refusal (λ outputs. outputs) result (answer capture.now scenarios.now seed) }
 {
-    if scenarios.len() > SCENARIO_LIMIT {
-        return Err(RunFault::TooManyScenarios);
-    }
-    let capture = read_capture(alloc, capture)?;
-    let outputs = outputs_alone(alloc, &capture, scenarios, seed)?;
-    Ok(outputs)
+    rehearse_file_alone(alloc, FileBytes::Whole(capture), scenarios, seed)
 }
 
 /// The reports of a rehearsal of a capture under each of the scenarios, one after another: those of the outputs that
@@ -66,7 +56,6 @@ pub fn reports_alone(
 /// # Errors
 /// In this order: [`RunFault::CaptureTooLong`], [`RunFault::BadDump`], [`RunFault::BadScenario`] for the first scenario that is refused,
 /// [`RunFault::TooManyScenarios`], the faults of the capture itself; [`RunFault::Memory`] at the growth that was refused.
-#[tactic(auto, unfolding(crate::specs::Answering::called_for))]
 pub fn answers_alone(
     alloc: Global,
     text: &[u8],
@@ -76,21 +65,14 @@ pub fn answers_alone(
 ) -> Result<Outputs, RunFault>
     ensures { AgreesUnlessMemory run_refusal (λ outputs. outputs) result (called_for hosts.now (map (λ t. t.now) texts.now) seed text.now) }
 {
-    if text.len() > CAPTURE_LIMIT {
-        return Err(RunFault::CaptureTooLong);
-    }
-    if is_dump(text) {
-        let bytes = undump(alloc, text)?;
-        return answer_alone_to_bytes(alloc, &bytes, texts, hosts, seed);
-    }
-    answer_alone_to_bytes(alloc, text, texts, hosts, seed)
+    let inputs = read_inputs(alloc, Text::lent(text), texts, hosts)?;
+    rehearse_file_alone(alloc, inputs.capture.bytes(), &inputs.scenarios, seed)
 }
 
 /// The reports that [`answers_alone`] gives, one after another. No segment is written.
 ///
 /// # Errors
 /// Those of [`answers_alone`].
-#[tactic(auto, unfolding(crate::specs::Answering::called_for))]
 pub fn report_answers_alone(
     alloc: Global,
     text: &[u8],
@@ -100,28 +82,22 @@ pub fn report_answers_alone(
 ) -> Result<ReportText, RunFault>
     ensures { AgreesUnlessMemory run_refusal (λ reports. reports) result (reports_in (called_for hosts.now (map (λ t. t.now) texts.now) seed text.now)) }
 {
-    if text.len() > CAPTURE_LIMIT {
-        return Err(RunFault::CaptureTooLong);
-    }
-    if is_dump(text) {
-        let bytes = undump(alloc, text)?;
-        return reports_to_bytes(&Alone, alloc, FileBytes::Whole(&bytes), texts, hosts, seed);
-    }
-    reports_to_bytes(&Alone, alloc, FileBytes::Whole(text), texts, hosts, seed)
+    let inputs = read_inputs(alloc, Text::lent(text), texts, hosts)?;
+    rehearse_reports(&Alone, alloc, inputs.capture.bytes(), &inputs.scenarios, seed)
 }
 
-// The answer to a capture's bytes.
-fn answer_alone_to_bytes(
+// The answer to a capture wherever its bytes stand.
+fn rehearse_file_alone(
     alloc: Global,
-    bytes: &[u8],
-    texts: &[&[u8]],
-    hosts: &Hosts,
+    capture: FileBytes<'_>,
+    scenarios: &[Scenario],
     seed: u64,
 ) -> Result<Outputs, RunFault>
-    ensures { AgreesUnlessMemory run_refusal (λ outputs. outputs) result (answer_under hosts.now (map (λ t. t.now) texts.now) seed bytes.now) }
+    ensures { Agrees run_refusal (λ outputs. outputs) result (answer (bytes_of capture.entry) scenarios.now seed) }
 {
-    let scenarios = read_texts(alloc, texts, hosts)?;
-    rehearse_alone(alloc, bytes, &scenarios, seed)
+    let capture = read_rehearsed(alloc, capture, scenarios)?;
+    let outputs = outputs_alone(alloc, &capture, scenarios, seed)?;
+    Ok(outputs)
 }
 
 // What each scenario answers.
@@ -135,14 +111,10 @@ fn outputs_alone(
     seed: u64,
 ) -> Result<Outputs, AllocError>
     requires few { length scenarios.now ≤ scenario_limit }
-    ensures { IfOk result (λ v. v ≡ outputs_of (seen_capture (contents_of capture.now)) scenarios.now seed) }
+    ensures { IfOk result (λ v. v ≡ outputs_for capture.now scenarios.now seed) }
 {
-    recordings_are_few();
-    let table = table_alone(alloc, capture)?;
-    let recordings = record_alone(alloc, capture, &table)?;
-    let count = recordings.as_slice().len();
-    // each connection begins at a record of its own
-    prove!(count <= capture.records().len());
+    let table = Alone.table(alloc, capture)?;
+    let recordings = Alone.record(alloc, capture, &table)?;
     let sources = Sources {
         alloc,
         capture,
@@ -151,19 +123,9 @@ fn outputs_alone(
         scenarios,
         seed,
     };
-    outputs_from_sources(&sources)
-}
-
-// The outputs that are made of their sources, one after another.
-//
-// # Errors
-// A growth was refused.
-fn outputs_from_sources(sources: &Sources<'_, '_, '_>) -> Result<Outputs, AllocError>
-    ensures { IfOk result (λ v. v ≡ outputs_of (seen_capture (contents_of sources.now.capture.now)) sources.now.scenarios.now sources.now.seed) }
-{
-    let jobs = OutputJobs { sources };
-    let count = sources.scenarios.len() as u64;
-    work_alone(sources.alloc, count, Phase::Jobs, &Through, &jobs)
+    let jobs = OutputJobs { sources: &sources };
+    let count = scenarios.len() as u64;
+    work_alone(alloc, count, Phase::Jobs, &Through, &jobs)
 }
 
 // Scenarios: job j makes the output of the one with number j.
@@ -176,17 +138,11 @@ impl<'s, 'w, 'v, 'a> Work for OutputJobs<'s, 'w, 'v, 'a> {
     type Out = Output;
 
     ghost use Rattle.std.specs.Prelude.{◌≡◌, ◌<◌, IfOk, get_or, length};
-    ghost use Rattle.pcap_records.specs.CaptureView.{contents_of};
-    ghost use Rattle.conn_table.specs.SeenCapture.{seen_capture};
-    ghost use Rattle.toxicap.specs.Rehearsal.{outputs_of};
-    ghost use Rattle.toxicap.specs.StoredOutputs.{no_output};
+    ghost use Rattle.toxicap.specs.CaptureOutputs.{outputs_from};
 
-    ghost jobs = { λ w. length w.sources.now.scenarios.now };
-
-    ghost meaning = { λ w job. get_or (outputs_of (seen_capture (contents_of w.sources.now.capture.now))
-        w.sources.now.scenarios.now w.sources.now.seed) job no_output };
+    ghost values = { λ w. outputs_from w.sources.now };
 
     fn value(&self, job: u64) -> Result<Output, AllocError> {
-        self.sources.output_alone(job as usize)
+        self.sources.output(&Alone, job as usize)
     }
 }

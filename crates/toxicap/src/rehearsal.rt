@@ -1,16 +1,17 @@
 //! Rehearsing a capture: its table, what each connection contributes to each scenario, and the outputs, one after another.
 ghost use Rattle.pcap_records.specs.Agreement.{Agrees};
-ghost use Rattle.toxicap.specs.Rehearsal.{answer, outputs_of, scenario_limit};
+ghost use Rattle.pcap_records.specs.CaptureView.{bytes_of};
+ghost use Rattle.toxicap.specs.CaptureOutputs.{outputs_for};
+ghost use Rattle.toxicap.specs.Rehearsal.{answer, scenario_limit};
 ghost use Rattle.run_files.specs.RunFault.{run_refusal};
 ghost use Rattle.std.specs.Prelude.{◌≡◌, ◌≤◌, IfOk, length};
-ghost use Rattle.pcap_records.specs.CaptureView.{contents_of};
-ghost use Rattle.conn_table.specs.SeenCapture.{seen_capture};
 
 use crate::gathering::{gathered_output, take_row};
+use crate::reading::read_rehearsed;
 use conn_table::laws::indexed_connections_agree;
 use conn_workers::deliver;
 use job_matrix::{Gate, Plan};
-use pcap_records::{Capture, Values, read_capture};
+use pcap_records::{Capture, FileBytes, Values};
 use range_workers::table;
 use run_files::{Output, Outputs, RunFault};
 use scenarios::Scenario;
@@ -19,16 +20,12 @@ use std::alloc::{AllocError, Global};
 use std::sync::Wait;
 use std::thread::Threads;
 
-// The most scenarios of a rehearsal.
-pub(crate) const SCENARIO_LIMIT: usize = 256;
-
 /// Rehearses a capture under each of the scenarios: for each, in order, a capture of what each side would have received and a
 /// report. The answer is that of the definition, `answer` in `specs/Rehearsal.antt`, whatever the plan and the gate; no scenario gives no output.
 ///
 /// # Errors
 /// `TooManyScenarios` for more than 256, before the capture is looked at; then the capture's own fault; then `Memory`, where a
 /// growth was refused.
-#[tactic(auto, unfolding(crate::specs::Rehearsal::answer))]
 pub fn rehearse<R: Threads + Wait + Sync, G: Gate>(
     rt: &R,
     alloc: Global,
@@ -40,10 +37,33 @@ pub fn rehearse<R: Threads + Wait + Sync, G: Gate>(
 ) -> Result<Outputs, RunFault>
     ensures { Agrees run_refusal (λ outputs. outputs) result (answer capture.now scenarios.now seed) }
 {
-    if scenarios.len() > SCENARIO_LIMIT {
-        return Err(RunFault::TooManyScenarios);
-    }
-    let capture = read_capture(alloc, capture)?;
+    rehearse_file(
+        rt,
+        alloc,
+        FileBytes::Whole(capture),
+        scenarios,
+        seed,
+        plan,
+        gate,
+    )
+}
+
+/// The same of a capture wherever its bytes stand.
+///
+/// # Errors
+/// Those of [`rehearse`].
+pub(crate) fn rehearse_file<R: Threads + Wait + Sync, G: Gate>(
+    rt: &R,
+    alloc: Global,
+    capture: FileBytes<'_>,
+    scenarios: &[Scenario],
+    seed: u64,
+    plan: Plan,
+    gate: &G,
+) -> Result<Outputs, RunFault>
+    ensures { Agrees run_refusal (λ outputs. outputs) result (answer (bytes_of capture.entry) scenarios.now seed) }
+{
+    let capture = read_rehearsed(alloc, capture, scenarios)?;
     let outputs = list_outputs(rt, alloc, &capture, scenarios, seed, plan, gate)?;
     Ok(Values::of(outputs))
 }
@@ -63,7 +83,7 @@ fn list_outputs<R: Threads + Sync, G: Gate>(
     gate: &G,
 ) -> Result<Vec<Output>, AllocError>
     requires few { length scenarios.now ≤ scenario_limit }
-    ensures { IfOk result (λ outputs. outputs.items ≡ outputs_of (seen_capture (contents_of capture.now)) scenarios.now seed) }
+    ensures { IfOk result (λ outputs. outputs.items ≡ outputs_for capture.now scenarios.now seed) }
 {
     indexed_connections_agree();
     keys_rise();

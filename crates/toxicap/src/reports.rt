@@ -1,19 +1,19 @@
 //! The reports of a rehearsal alone: no segment is written, and no capture made.
 ghost use Rattle.std.specs.Prelude.{◌≡◌, ◌≤◌, IfOk, length};
 ghost use Rattle.pcap_records.specs.Agreement.{Agrees};
-ghost use Rattle.pcap_records.specs.CaptureView.{bytes_of, contents_of};
-ghost use Rattle.conn_table.specs.SeenCapture.{seen_capture};
+ghost use Rattle.pcap_records.specs.CaptureView.{bytes_of};
 ghost use Rattle.run_files.specs.RunFault.{run_refusal};
 ghost use Rattle.run_files.specs.WrittenOutputs.{reports_of};
+ghost use Rattle.toxicap.specs.CaptureOutputs.{outputs_for};
 ghost use Rattle.toxicap.specs.PrintedReports.{reports_in};
-ghost use Rattle.toxicap.specs.Rehearsal.{answer, outputs_of, scenario_limit};
+ghost use Rattle.toxicap.specs.Rehearsal.{answer, scenario_limit};
 
 use crate::crews::Crew;
 use crate::gathering::gathered_report;
-use crate::rehearsal::SCENARIO_LIMIT;
+use crate::reading::read_rehearsed;
 use conn_table::laws::indexed_connections_agree;
-use conn_workers::laws::{lines_are_contributed, recordings_are_few};
-use pcap_records::{Capture, FileBytes, read_file};
+use conn_workers::laws::lines_are_contributed;
+use pcap_records::{Capture, FileBytes};
 use report::ReportText;
 use run_files::RunFault;
 use scenarios::Scenario;
@@ -24,7 +24,6 @@ use std::alloc::{AllocError, Global};
 ///
 /// # Errors
 /// Those of `rehearse`.
-#[tactic(auto, unfolding(crate::specs::Rehearsal::answer))]
 pub(crate) fn rehearse_reports<C: Crew>(
     crew: &C,
     alloc: Global,
@@ -35,10 +34,7 @@ pub(crate) fn rehearse_reports<C: Crew>(
     requires { C.shares crew.now }
     ensures { Agrees run_refusal (λ text. text) result (reports_in (answer (bytes_of capture.entry) scenarios.now seed)) }
 {
-    if scenarios.len() > SCENARIO_LIMIT {
-        return Err(RunFault::TooManyScenarios);
-    }
-    let capture = read_file(alloc, capture)?;
+    let capture = read_rehearsed(alloc, capture, scenarios)?;
     let text = join_reports(crew, alloc, &capture, scenarios, seed)?;
     Ok(ReportText::of(text))
 }
@@ -58,16 +54,12 @@ fn join_reports<C: Crew>(
     requires crew { C.shares crew.now }
     requires few { length scenarios.now ≤ scenario_limit }
     ensures { IfOk result (λ text. text.items
-        ≡ reports_of (outputs_of (seen_capture (contents_of capture.now)) scenarios.now seed)) }
+        ≡ reports_of (outputs_for capture.now scenarios.now seed)) }
 {
     indexed_connections_agree();
     lines_are_contributed();
-    recordings_are_few();
     let table = crew.table(alloc, capture)?;
     let recordings = crew.record(alloc, capture, &table)?;
-    let count = recordings.as_slice().len();
-    // each connection begins at a record of its own
-    prove!(count <= capture.records().len());
     let mut text = Vec::new(alloc);
     for number in 0..scenarios.len() {
         let scenario = &scenarios[number];

@@ -13,11 +13,15 @@ ghost use Rattle.toxicap.specs.Inputs.{IsOfFiles, texts_or_bare};
 ghost use Rattle.run_files.specs.Paths.{IsOfFile, text_at};
 ghost use Rattle.run_files.specs.RunFault.{run_refusal};
 
-use crate::answering::{Options, reports_to_text, store_for_text};
+use crate::answering::Options;
+use crate::crews::Workers;
 use crate::host_lines::read_hosts;
+use crate::reading::read_inputs;
+use crate::reports::rehearse_reports;
+use crate::storing::store_rehearsal;
 use command_line::Asked;
 use job_matrix::Plan;
-use run_files::{Counted, Folder, Paths, RunFault, Text, load, load_by_threads, write_bytes};
+use run_files::{Counted, Folder, Paths, RunFault, Text, load, load_by_workers, write_bytes};
 use std::alloc::{AllocError, Global};
 use std::io::{Read, Write};
 use std::os::unix::fs::FileExt;
@@ -70,7 +74,7 @@ where
         seed: asked.seed,
         plan: Plan::new(asked.workers, asked.cut).unwrap(),
     };
-    let text = load_capture(rt, paths, alloc, asked, reader)?;
+    let text = load_capture(rt, paths, alloc, asked, options.plan, reader)?;
     answer_into(rt, paths, alloc, text, writer, asked, &texts, &options)
 }
 
@@ -80,7 +84,7 @@ fn answer_into<H: Files + Threads + Wait + Sync, P: Paths, W: Write>(
     rt: &H,
     paths: &P,
     alloc: Global,
-    text: Text,
+    text: Text<'_>,
     writer: &mut Counted<W>,
     asked: &Asked<'_>,
     texts: &[&[u8]],
@@ -89,23 +93,35 @@ fn answer_into<H: Files + Threads + Wait + Sync, P: Paths, W: Write>(
 where
     H::File: FileExt + Send + Sync,
     H::Dir: Send,
-    requires text { length text ≤ capture_limit }
-    requires writes { writer.old.failed < 2 ^ 64 - 1 }
-    ensures ends { EndsOf asked.now.out result (called_for options.now.hosts (map (λ t. t.now) texts.now) options.now.seed text)
+    requires { writer.old.failed < 2 ^ 64 - 1 }
+    ensures ends { EndsOf asked.now.out result (called_for options.now.hosts (map (λ t. t.now) texts.now) options.now.seed text.entry)
         (Appends (W.contents writer.old.inner) (W.contents writer.new.inner)) }
     ensures unwritten { OnSome asked.now.out (writer.new ≡ writer.old) }
     ensures failed_writes { writer.new.failed ≡ writer.old.failed + failed_writes result }
     ensures untouched { IfErr result (λ fault. fault ≢ RunFault.WriteFailed → writer.new ≡ writer.old) }
 {
+    let inputs = read_inputs(alloc, text, texts, &options.hosts)?;
+    let capture = inputs.capture.bytes();
+    let crew = Workers {
+        rt,
+        plan: options.plan,
+    };
     let Some(folder) = asked.out else {
-        let reports = reports_to_text(rt, alloc, text, texts, options)?;
+        let reports = rehearse_reports(&crew, alloc, capture, &inputs.scenarios, options.seed)?;
         return write_bytes(writer, reports.as_slice());
     };
     let mut shelf = Folder::new(alloc, rt, folder)?;
     if paths.is_file_system() {
         spare_inputs(asked, &mut shelf)?;
     }
-    store_for_text(rt, alloc, text, texts, options, &mut shelf)
+    store_rehearsal(
+        &crew,
+        alloc,
+        capture,
+        &inputs.scenarios,
+        options.seed,
+        &mut shelf,
+    )
 }
 
 // The path of the file that standard input is read from, where it is one.
@@ -151,8 +167,9 @@ fn load_capture<H: Files + Threads + Sync, P: Paths, R: Read>(
     paths: &P,
     alloc: Global,
     asked: &Asked<'_>,
+    plan: Plan,
     reader: &mut Counted<R>,
-) -> Result<Text, RunFault>
+) -> Result<Text<'static>, RunFault>
 where
     H::File: FileExt + Sync,
     requires { reader.old.failed < 2 ^ 64 - 1 }
@@ -164,19 +181,19 @@ where
         (reader.new ≡ reader.old)) }
 {
     match asked.capture {
-        Some(path) => load_file(rt, paths, alloc, path, asked.workers as usize),
+        Some(path) => load_file(rt, paths, alloc, path, plan),
         None => load(alloc, reader).map(Text::of),
     }
 }
 
-// The text of the file at a path, loaded by several threads where it is one of the file system.
+// The text of the file at a path, loaded by workers where it is one of the file system.
 fn load_file<H: Files + Threads + Sync, P: Paths>(
     rt: &H,
     paths: &P,
     alloc: Global,
     path: &str,
-    threads: usize,
-) -> Result<Text, RunFault>
+    plan: Plan,
+) -> Result<Text<'static>, RunFault>
 where
     H::File: FileExt + Sync,
     ensures told { IfSome (P.holds paths.now) (λ held. AgreesUnlessMemory run_refusal (λ text. text) result (text_at held path.now)) }
@@ -184,7 +201,7 @@ where
     ensures of_file { IfErr result IsOfFile }
 {
     if paths.is_file_system() {
-        return load_by_threads(rt, alloc, path, threads);
+        return load_by_workers(rt, alloc, path, plan);
     }
     paths.load(alloc, path).map(Text::of)
 }

@@ -1,21 +1,19 @@
-//! What the outputs of all scenarios are made of, and one output made of it, in memory or as drafts: by this thread, or by workers.
+//! What the outputs of all scenarios are made of, and one output made of it, in memory or as drafts, by whatever crew.
 ghost use Rattle.std.specs.Prelude.{◌≡◌, ◌≤◌, length};
-ghost use Rattle.job_matrix.specs.Boards.{number_limit};
 ghost use Rattle.conn_workers.specs.CaptureTables.{whole_table};
 ghost use Rattle.conn_workers.specs.Recordings.{recordings_of};
 ghost use Rattle.toxicap.specs.Rehearsal.{scenario_limit};
 
+use crate::crews::Crew;
 use crate::layouts::{RowParts, drafted_output, parts_of_row, written_output};
 use conn_table::Table;
+use conn_workers::Recordings;
 use conn_workers::laws::rows_are_contributed;
-use conn_workers::{LaidRow, Recordings, deliver_row, deliver_row_alone};
-use job_matrix::{Plan, Through};
 use pcap_records::Capture;
 use run_files::{DraftShelf, DraftedOutput, Output};
 use scenarios::Scenario;
 use segment_writer::laws::keys_stand_once;
 use std::alloc::{AllocError, Global};
-use std::thread::Threads;
 
 /// A capture with its table and what is recorded of each connection, and the scenarios that it is rehearsed under.
 #[derive(Drop)]
@@ -35,127 +33,48 @@ pub(crate) struct Sources<'w, 'v, 'a> {
     ghost table_is: { table.now ≡ whole_table capture.now },
     ghost recordings_are: { recordings.now ≡ recordings_of capture.now },
     ghost few: { length scenarios.now ≤ scenario_limit },
-    ghost numbered: { length recordings.now ≤ number_limit },
 }
 
 impl<'w, 'v, 'a> Sources<'w, 'v, 'a> {
-    ghost use Rattle.std.specs.Prelude.{◌≡◌, ◌+◌, ◌^◌, ◌<◌, ◌≤◌, IfOk, List, drop, get_or, length, take};
+    ghost use Rattle.std.specs.Prelude.{◌≡◌, ◌^◌, ◌<◌, ◌≤◌, IfOk, get_or, length};
     ghost use Rattle.pcap_records.specs.CaptureView.{contents_of};
     ghost use Rattle.conn_table.specs.SeenCapture.{seen_capture};
     ghost use Rattle.segment_writer.specs.KeyLaws.{HasNoKeyTwice};
     ghost use Rattle.time_merge.specs.MergedCapture.{all_segments};
-    ghost use Rattle.conn_workers.specs.Recordings.{recorded_row};
-    ghost use Rattle.run_files.specs.DraftedOutputs.{AreDraftsOf, IsDraftOf};
+    ghost use Rattle.run_files.specs.DraftedOutputs.{IsDraftOf};
+    ghost use Rattle.toxicap.specs.CaptureOutputs.{no_output, outputs_from};
     ghost use Rattle.toxicap.specs.GatheredOutputs.{gathered_output};
-    ghost use Rattle.scenarios.specs.declared.proxies.Proxy.{Proxy};
-    ghost use Rattle.toxicap.specs.Rehearsal.{outputs_of};
-    ghost use Rattle.toxicap.specs.StoredOutputs.{no_output};
 
-    // The output of the scenario of a number, made by this thread alone.
+    // The output of the scenario of a number.
     //
     // # Errors
     // A growth was refused.
-    pub(crate) fn output_alone(&self, number: usize) -> Result<Output, AllocError>
-        requires { number < length self.now.scenarios.now }
-        ensures { IfOk result (λ o. o
-            ≡ get_or (outputs_of (seen_capture (contents_of self.now.capture.now)) self.now.scenarios.now self.now.seed) number no_output) }
+    pub(crate) fn output<C: Crew>(&self, crew: &C, number: usize) -> Result<Output, AllocError>
+        requires crew { C.shares crew.now }
+        requires within { number < length self.now.scenarios.now }
+        ensures { IfOk result (λ o. o ≡ get_or (outputs_from self.now) number no_output) }
     {
-        let parts = self.parts_alone(number)?;
+        let parts = self.parts(crew, number)?;
         written_output(self.alloc, self.capture, self.table, number as u32, parts)
     }
 
-    // Drafts of the outputs of so many scenarios from a number on, or of as many as there are, made by this thread alone. Their places
-    // on the shelf are those from `place` on.
+    // Drafts of the output of the scenario of a number, in a place of their own on the shelf.
     //
     // # Errors
     // A growth was refused.
-    pub(crate) fn drafts_alone<S: DraftShelf>(
+    pub(crate) fn drafted<C: Crew, S: DraftShelf>(
         &self,
-        number: usize,
-        count: usize,
-        shelf: &S,
-        place: usize,
-    ) -> Result<Vec<DraftedOutput<S::Draft>>, AllocError>
-        requires numbers { number + count ≤ 2 ^ 32 }
-        requires places { place + count ≤ 2 ^ 32 }
-        ensures { IfOk result (λ v. AreDraftsOf S.holds v.items (take count (drop number
-            (outputs_of (seen_capture (contents_of self.now.capture.now)) self.now.scenarios.now self.now.seed)))) }
-    {
-        let left = self.scenarios.len().saturating_sub(number);
-        let mut drafts = Vec::new(self.alloc);
-        for made in 0..count.min(left) {
-            let draft = self.draft_alone(number + made, shelf, place + made)?;
-            drafts.push(draft)?;
-        }
-        Ok(drafts)
-    }
-
-    // Drafts of the output of the scenario of a number, in a place of their own on the shelf, made by this thread alone.
-    //
-    // # Errors
-    // A growth was refused.
-    fn draft_alone<S: DraftShelf>(
-        &self,
+        crew: &C,
         number: usize,
         shelf: &S,
         place: usize,
     ) -> Result<DraftedOutput<S::Draft>, AllocError>
+        requires crew { C.shares crew.now }
         requires within { number < length self.now.scenarios.now }
         requires place { place ≤ 2 ^ 32 }
-        ensures { IfOk result (IsDraftOf S.holds
-            (get_or (outputs_of (seen_capture (contents_of self.now.capture.now)) self.now.scenarios.now self.now.seed) number no_output)) }
+        ensures { IfOk result (IsDraftOf S.holds (get_or (outputs_from self.now) number no_output)) }
     {
-        let parts = self.parts_alone(number)?;
-        self.draft_of(number, parts, shelf, place)
-    }
-
-    // Drafts of the output of the scenario of a number, in the first place of the shelf, with the connections spread over workers.
-    //
-    // # Errors
-    // A growth was refused.
-    pub(crate) fn draft_by_workers<R: Threads + Sync, S: DraftShelf>(
-        &self,
-        rt: &R,
-        number: usize,
-        plan: Plan,
-        shelf: &S,
-    ) -> Result<DraftedOutput<S::Draft>, AllocError>
-        requires { number < length self.now.scenarios.now }
-        ensures { IfOk result (IsDraftOf S.holds
-            (get_or (outputs_of (seen_capture (contents_of self.now.capture.now)) self.now.scenarios.now self.now.seed) number no_output)) }
-    {
-        let row = deliver_row(
-            rt,
-            self.alloc,
-            self.recordings,
-            number as u32,
-            &self.scenarios[number],
-            self.seed,
-            plan,
-            &Through,
-        )?;
-        let parts = self.parts_of(number, row)?;
-        self.draft_of(number, parts, shelf, 0)
-    }
-
-    // Drafts of the output of the scenario of a number, of its parts.
-    fn draft_of<S: DraftShelf>(
-        &self,
-        number: usize,
-        parts: RowParts<'_>,
-        shelf: &S,
-        place: usize,
-    ) -> Result<DraftedOutput<S::Draft>, AllocError>
-        requires within { number < length self.now.scenarios.now }
-        requires place { place ≤ 2 ^ 32 }
-        requires each { length parts.lines.items ≡ length self.now.table.now.conns }
-        requires once { HasNoKeyTwice (all_segments parts.layouts.items) }
-        requires output { gathered_output (seen_capture (contents_of self.now.capture.now)) number self.now.table.now.unopened
-            parts.layouts.items parts.lines.items
-            ≡ get_or (outputs_of (seen_capture (contents_of self.now.capture.now)) self.now.scenarios.now self.now.seed) number no_output }
-        ensures { IfOk result (IsDraftOf S.holds
-            (get_or (outputs_of (seen_capture (contents_of self.now.capture.now)) self.now.scenarios.now self.now.seed) number no_output)) }
-    {
+        let parts = self.parts(crew, number)?;
         drafted_output(
             self.alloc,
             self.capture,
@@ -167,37 +86,20 @@ impl<'w, 'v, 'a> Sources<'w, 'v, 'a> {
         )
     }
 
-    // The parts of the output of the scenario of a number, made by this thread alone.
-    fn parts_alone(&self, number: usize) -> Result<RowParts<'a>, AllocError>
-        requires { number < length self.now.scenarios.now }
-        ensures each { IfOk result (λ parts. length parts.lines.items ≡ length self.now.table.now.conns) }
-        ensures once { IfOk result (λ parts. HasNoKeyTwice (all_segments parts.layouts.items)) }
-        ensures output { IfOk result (λ parts. gathered_output (seen_capture (contents_of self.now.capture.now)) number self.now.table.now.unopened
-            parts.layouts.items parts.lines.items
-            ≡ get_or (outputs_of (seen_capture (contents_of self.now.capture.now)) self.now.scenarios.now self.now.seed) number no_output) }
-    {
-        let row = deliver_row_alone(
-            self.alloc,
-            self.recordings,
-            number as u32,
-            &self.scenarios[number],
-            self.seed,
-        )?;
-        self.parts_of(number, row)
-    }
-
-    // The parts of the output of the scenario of a number, of what each connection contributes to it.
-    fn parts_of<'r>(&self, number: usize, row: LaidRow<'r>) -> Result<RowParts<'r>, AllocError>
+    // The parts of the output of the scenario of a number: what each connection contributes to it.
+    fn parts<C: Crew>(&self, crew: &C, number: usize) -> Result<RowParts<'a>, AllocError>
+        requires crew { C.shares crew.now }
         requires within { number < length self.now.scenarios.now }
-        requires row { (own : List Proxy) → row ≡ recorded_row self.now.seed (number, get_or self.now.scenarios.now number own) self.now.recordings.now }
         ensures each { IfOk result (λ parts. length parts.lines.items ≡ length self.now.table.now.conns) }
         ensures once { IfOk result (λ parts. HasNoKeyTwice (all_segments parts.layouts.items)) }
         ensures output { IfOk result (λ parts. gathered_output (seen_capture (contents_of self.now.capture.now)) number self.now.table.now.unopened
             parts.layouts.items parts.lines.items
-            ≡ get_or (outputs_of (seen_capture (contents_of self.now.capture.now)) self.now.scenarios.now self.now.seed) number no_output) }
+            ≡ get_or (outputs_from self.now) number no_output) }
     {
         rows_are_contributed();
         keys_stand_once();
+        let scenario = &self.scenarios[number];
+        let row = crew.deliver_row(self.alloc, self.recordings, number as u32, scenario, self.seed)?;
         parts_of_row(self.alloc, row)
     }
 }

@@ -1,6 +1,6 @@
 use Rattle.std.proofs.Common.{◌≡◌, [], drop, length, map}
 use Rattle.toxicap.specs.Answering.{scenarios_from}
-use Rattle.toxicap.proofs.answering.read_texts.Given as goal
+use Rattle.toxicap.proofs.reading.read_texts.Given as goal
 
 abbrev pub invariant-loop-number : goal.invariant-loop-number
 invariant-loop-number l =

@@ -1,0 +1,19 @@
+-- What each scenario answers to a capture that was read.
+use Rattle.std.specs.Prelude.{ℕ, List, []}
+use Rattle.pcap_records.specs.CaptureView.{CaptureView, contents_of}
+use Rattle.conn_table.specs.SeenCapture.{seen_capture}
+use Rattle.scenarios.specs.declared.proxies.Proxy.{Proxy}
+use Rattle.run_files.specs.declared.outputs.Output.{Output}
+use Rattle.toxicap.specs.Rehearsal.{outputs_of}
+use Rattle.toxicap.specs.declared.sources.Sources.{Sources}
+
+abbrev pub outputs_for : CaptureView → List (List Proxy) → ℕ → List Output
+outputs_for capture scenarios seed = outputs_of (seen_capture (contents_of capture)) scenarios seed
+
+-- what they are, of what they are made of
+abbrev pub outputs_from : Sources → List Output
+outputs_from sources = outputs_for sources.capture.now sources.scenarios.now sources.seed
+
+-- what stands past the last of them
+abbrev pub no_output : Output
+no_output = record { capture = []; report = [] }

@@ -1,0 +1,143 @@
+//! Drafts of outputs, made by workers: those of some scenarios at once, each by one of them.
+ghost use Rattle.std.specs.Prelude.{◌≡◌, ◌+◌, ◌<◌, ◌≤◌, IfOk, OnOk, drop, get_or, length, take};
+ghost use Rattle.std.specs.Vec.Iter.{into_iter_items};
+ghost use Rattle.toxicap.specs.CaptureOutputs.{no_output, outputs_from};
+
+use crate::crews::{Alone, Workers};
+use crate::sources::Sources;
+use job_matrix::{Phase, Through, Work, work_all};
+use run_files::{DraftShelf, DraftedOutput};
+use std::alloc::AllocError;
+use std::marker::Model;
+use std::thread::Threads;
+use std::vec::IntoIter;
+
+// How many scenarios each worker has drafts of at once, where there are as many.
+const SHARE: usize = 2;
+
+/// The output of one scenario, as drafts. Contracts see the output.
+#[derive(Drop)]
+pub(crate) struct OutputDraft<'s, 'w, 'v, 'a, S: DraftShelf> {
+    sources: &'s Sources<'w, 'v, 'a>,
+    number: usize,
+    drafted: DraftedOutput<S::Draft>,
+}
+
+impl<'s, 'w, 'v, 'a, S: DraftShelf> Model for OutputDraft<'s, 'w, 'v, 'a, S> {
+    ghost use Rattle.std.specs.Prelude.{get_or};
+    ghost use Rattle.run_files.specs.declared.outputs.Output.{Output};
+    ghost use Rattle.run_files.specs.DraftedOutputs.{IsDraftOf};
+    ghost use Rattle.toxicap.specs.CaptureOutputs.{no_output, outputs_from};
+
+    ghost Value = { Output };
+
+    ghost view = { λ d. get_or (outputs_from d.sources.now) d.number no_output };
+
+    ghost invariant = { λ d. IsDraftOf S.holds
+        (get_or (outputs_from d.sources.now) d.number no_output) d.drafted };
+}
+
+impl<'s, 'w, 'v, 'a, S: DraftShelf> OutputDraft<'s, 'w, 'v, 'a, S> {
+    ghost use Rattle.run_files.specs.DraftedOutputs.{IsDraftOf};
+
+    /// The drafts of its capture and its report.
+    pub(crate) fn into_drafts(self) -> DraftedOutput<S::Draft>
+        ensures { IsDraftOf S.holds self.entry result }
+    {
+        self.drafted
+    }
+}
+
+// Scenarios in a row: job j makes drafts of the output of the one with number first + j, in place j of the shelf.
+#[derive(Drop)]
+struct DraftJobs<'j, 's, 'w, 'v, 'a, S: DraftShelf> {
+    sources: &'s Sources<'w, 'v, 'a>,
+    first: usize,
+    count: usize,
+    shelf: &'j S,
+    ghost within: { first + count ≤ length sources.now.scenarios.now },
+}
+
+impl<'j, 's, 'w, 'v, 'a, S: DraftShelf> Work for DraftJobs<'j, 's, 'w, 'v, 'a, S> {
+    type Out = OutputDraft<'s, 'w, 'v, 'a, S>;
+
+    ghost use Rattle.std.specs.Prelude.{◌≡◌, ◌<◌, IfOk, drop, get_or, length, take};
+    ghost use Rattle.toxicap.specs.CaptureOutputs.{outputs_from};
+
+    ghost values = { λ w. take w.count (drop w.first
+        (outputs_from w.sources.now)) };
+
+    fn value(&self, job: u64) -> Result<OutputDraft<'s, 'w, 'v, 'a, S>, AllocError> {
+        let number = self.first + job as usize;
+        let drafted = self
+            .sources
+            .drafted(&Alone, number, self.shelf, job as usize)?;
+        Ok(OutputDraft {
+            sources: self.sources,
+            number,
+            drafted,
+        })
+    }
+}
+
+/// Drafts of the outputs of some scenarios from a number on, one at least: each is made by one of the workers; or, where one scenario is
+/// left or one worker is asked for, its connections are spread over the workers.
+///
+/// # Errors
+/// A growth was refused.
+pub(crate) fn drafts_from<'s, 'w, 'v, 'a, R: Threads + Sync, S: DraftShelf>(
+    crew: &Workers<'_, R>,
+    sources: &'s Sources<'w, 'v, 'a>,
+    number: usize,
+    shelf: &S,
+) -> Result<Vec<OutputDraft<'s, 'w, 'v, 'a, S>>, AllocError>
+    requires { number < length sources.now.scenarios.now }
+    ensures some { IfOk result (λ v. 0 < length v.items) }
+    ensures next { IfOk result (λ v. v.items ≡ take (length v.items) (drop number
+        (outputs_from sources.now))) }
+{
+    let left = sources.scenarios.len() - number;
+    let workers = crew.plan.workers() as usize;
+    if left.min(workers) == 1 {
+        return draft_by_workers(crew, sources, number, shelf);
+    }
+    let jobs = DraftJobs {
+        sources,
+        first: number,
+        count: left.min(SHARE * workers),
+        shelf,
+    };
+    let count = jobs.count as u64;
+    let drafts = work_all(
+        crew.rt,
+        sources.alloc,
+        count,
+        count.min(workers as u64),
+        Phase::Jobs,
+        &Through,
+        &jobs,
+    )?;
+    Ok(drafts.into_vec())
+}
+
+// Drafts of the output of one scenario, whose connections are spread over the workers.
+fn draft_by_workers<'s, 'w, 'v, 'a, R: Threads + Sync, S: DraftShelf>(
+    crew: &Workers<'_, R>,
+    sources: &'s Sources<'w, 'v, 'a>,
+    number: usize,
+    shelf: &S,
+) -> Result<Vec<OutputDraft<'s, 'w, 'v, 'a, S>>, AllocError>
+    requires { number < length sources.now.scenarios.now }
+    ensures some { IfOk result (λ v. 0 < length v.items) }
+    ensures next { IfOk result (λ v. v.items ≡ take (length v.items) (drop number
+        (outputs_from sources.now))) }
+{
+    let drafted = sources.drafted(crew, number, shelf, 0)?;
+    let mut drafts = Vec::with_capacity(sources.alloc, 1)?;
+    drafts.push(OutputDraft {
+        sources,
+        number,
+        drafted,
+    })?;
+    Ok(drafts)
+}

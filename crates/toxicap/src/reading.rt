@@ -1,0 +1,101 @@
+//! What a rehearsal takes: the bytes of a capture and scenarios, read of their texts, and the capture that the bytes are.
+ghost use Rattle.std.specs.Prelude.{◌≡◌, ℕ, ◌≤◌, [], IfErr, IfOk, Err, Ok, List, length, map};
+ghost use Rattle.pcap_records.specs.Agreement.{AgreesUnlessMemory, Refuses};
+ghost use Rattle.pcap_records.specs.CaptureView.{bytes_of};
+ghost use Rattle.run_files.specs.RunFault.{run_refusal};
+ghost use Rattle.run_files.specs.declared.outputs.Output.{Output};
+ghost use Rattle.scenarios.specs.Populate.{scenario};
+ghost use Rattle.toxicap.specs.Answering.{called_for, numbered, scenarios_from};
+ghost use Rattle.toxicap.specs.CaptureOutputs.{outputs_for};
+ghost use Rattle.toxicap.specs.Rehearsal.{answer, scenario_limit};
+
+use pcap_records::{CAPTURE_LIMIT, Capture, FileBytes, read_file};
+use run_files::{RunFault, Text};
+use scenarios::{Hosts, Scenario, ScenarioFault, read_scenario};
+use std::alloc::{AllocError, Global};
+
+// The most scenarios of a rehearsal.
+const SCENARIO_LIMIT: usize = 256;
+
+/// What some texts hold: the bytes of a capture, and scenarios.
+#[derive(Drop)]
+pub(crate) struct Inputs<'t> {
+    /// The capture's bytes, as a text that is no dump.
+    pub(crate) capture: Text<'t>,
+    /// The scenarios.
+    pub(crate) scenarios: Vec<Scenario>,
+}
+
+/// Reads the text of a capture, which may be a dump of it, and the texts of scenarios. What they call for is then the answer to the
+/// capture's bytes under these scenarios.
+///
+/// # Errors
+/// What they call for, whatever the seed: `CaptureTooLong`, `BadDump`, or `BadScenario` for the first text that is refused; or
+/// `Memory`, where a growth was refused.
+#[tactic(auto, unfolding(crate::specs::Answering::called_for))]
+pub(crate) fn read_inputs<'t>(
+    alloc: Global,
+    text: Text<'t>,
+    texts: &[&[u8]],
+    hosts: &Hosts,
+) -> Result<Inputs<'t>, RunFault>
+    ensures taken { IfOk result (λ i. (seed : ℕ) → called_for hosts.now (map (λ t. t.now) texts.now) seed text.entry ≡ answer i.capture i.scenarios.items seed) }
+    ensures refused { IfErr result (λ fault. (seed : ℕ) → AgreesUnlessMemory run_refusal (λ (outputs : List Output). outputs) (Err fault)
+        (called_for hosts.now (map (λ t. t.now) texts.now) seed text.entry)) }
+{
+    if text.bytes().len() > CAPTURE_LIMIT {
+        return Err(RunFault::CaptureTooLong);
+    }
+    let capture = text.undumped(alloc)?;
+    let scenarios = read_texts(alloc, texts, hosts)?;
+    Ok(Inputs { capture, scenarios })
+}
+
+// The scenarios of some texts.
+//
+// # Errors
+// The first refusal, with the number of its text; or a growth was refused.
+#[tactic(auto, unfolding(crate::specs::Answering::scenarios_from))]
+fn read_texts(alloc: Global, texts: &[&[u8]], hosts: &Hosts) -> Result<Vec<Scenario>, RunFault>
+    ensures { AgreesUnlessMemory run_refusal (λ v. v.items) result (scenarios_from hosts.now [] (map (λ t. t.now) texts.now)) }
+{
+    let mut scenarios = Vec::with_capacity(alloc, texts.len())?;
+    for (number, text) in texts.iter().enumerate() {
+        let scenario = read_text(alloc, number, text, hosts)?;
+        scenarios.push(scenario).map_err(AllocError::from)?;
+    }
+    Ok(scenarios)
+}
+
+// The scenario of a text with its number.
+fn read_text(alloc: Global, number: usize, text: &[u8], hosts: &Hosts) -> Result<Scenario, RunFault>
+    ensures { AgreesUnlessMemory run_refusal (λ s. s) result (numbered number (scenario hosts.now text.now)) }
+{
+    match read_scenario(alloc, text, hosts) {
+        Ok(scenario) => Ok(scenario),
+        Err(ScenarioFault::Refused(refusal)) => Err(RunFault::BadScenario { number, refusal }),
+        Err(ScenarioFault::Memory(_)) => Err(RunFault::Memory),
+    }
+}
+
+/// Reads the capture that is to be rehearsed under these scenarios. Its answer is then an output for each of them.
+///
+/// # Errors
+/// The answer, whatever the seed: `TooManyScenarios` for more than 256, before the capture is looked at; then the capture's own fault;
+/// then `Memory`, where a growth was refused.
+#[tactic(auto, unfolding(crate::specs::Rehearsal::answer))]
+pub(crate) fn read_rehearsed<'a>(
+    alloc: Global,
+    capture: FileBytes<'a>,
+    scenarios: &[Scenario],
+) -> Result<Capture<'a>, RunFault>
+    ensures few { IfOk result (λ c. length scenarios.now ≤ scenario_limit) }
+    ensures answered { IfOk result (λ c. (seed : ℕ) → answer (bytes_of capture.entry) scenarios.now seed ≡ Ok (outputs_for c scenarios.now seed)) }
+    ensures refused { IfErr result (λ fault. (seed : ℕ) → Refuses (run_refusal fault) (answer (bytes_of capture.entry) scenarios.now seed)) }
+{
+    if scenarios.len() > SCENARIO_LIMIT {
+        return Err(RunFault::TooManyScenarios);
+    }
+    let capture = read_file(alloc, capture)?;
+    Ok(capture)
+}

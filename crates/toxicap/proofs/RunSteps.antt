@@ -3,7 +3,7 @@ use Rattle.std.proofs.Common.{◌≡◌, ℕ, ◌+◌, ◌<◌, ◌≤◌, List,
 use Rattle.std.specs.Prelude.{IfNone, IfSome, OnSome}
 use Rattle.std.specs.Borrow.{Bor}
 use Rattle.std.proofs.lemmas.List.{length-replicate}
-use Rattle.pcap_records.specs.Agreement.{AgreesUnlessMemory}
+use Rattle.pcap_records.specs.Agreement.{Agrees, AgreesUnlessMemory}
 use Rattle.pcap_records.specs.Reading.{capture_limit}
 use Rattle.scenarios.specs.declared.hosts.KnownHost.{KnownHost}
 use Rattle.command_line.specs.declared.asked.Asked.{Asked}
@@ -23,6 +23,7 @@ use Rattle.toxicap.specs.StoredOutputs.{StoresUnlessMemory}
 use Rattle.toxicap.proofs.AnswerSteps.{never, stopped}
 use Rattle.toxicap.proofs.PrintedSteps.{of_fault}
 use Rattle.toxicap.proofs.StoringEnds.{stores_by, none_failed}
+use Rattle.toxicap.proofs.TextsTaken.{agrees_unless_memory}
 
 -- ---- faults that are no failed write and no failed shelf
 
@@ -40,7 +41,7 @@ ends_refused (Some folder) Memory wanted Wrote own is = tt
 ends_refused (Some folder) (ShelfFailed after) wanted Wrote own is = absurd own
 ends_refused (Some folder) fault wanted Wrote own is = is
 
-pub none_written : (fault : RunFault) → IsOfInput fault → failed_writes (let r : Result (Unit {0}) RunFault = Err fault in r) ≡ 0
+none_written : (fault : RunFault) → IsOfInput fault → failed_writes (let r : Result (Unit {0}) RunFault = Err fault in r) ≡ 0
 none_written WriteFailed own = absurd own
 none_written fault own = refl
 
@@ -70,14 +71,20 @@ module _ (hosts : List KnownHost) (texts : List (List ℕ)) (seed : ℕ) (Wrote 
   input_fault (ShelfFailed after) text is = never hosts texts seed text is (λ own. own)
   input_fault _ text is = tt
 
-  pub reports_fault : (fault : RunFault) (text : List ℕ) → AgreesUnlessMemory run_refusal (λ (reports : List ℕ). reports) (Err fault) (reports_in (called_for hosts texts seed text)) → IsOfInput fault
-  reports_fault fault text is = input_fault fault text (of_fault fault (called_for hosts texts seed text) is)
+  pub refused : (out : Option (Bor (List ℕ))) (fault : RunFault) (text : List ℕ)
+      → AgreesUnlessMemory run_refusal (λ (outputs : List Output). outputs) (Err fault) (called_for hosts texts seed text)
+      → EndsOf out (Err fault) (called_for hosts texts seed text) Wrote × (failed_writes (let r : Result (Unit {0}) RunFault = Err fault in r) ≡ 0)
+  refused out fault text is =
+      let own = input_fault fault text is in
+      (ends_refused out fault (called_for hosts texts seed text) Wrote own is, none_written fault own)
 
-  pub reports_refused : (out : Option (Bor (List ℕ))) (fault : RunFault) (text : List ℕ)
-      → AgreesUnlessMemory run_refusal (λ (reports : List ℕ). reports) (Err fault) (reports_in (called_for hosts texts seed text))
-      → EndsOf out (Err fault) (called_for hosts texts seed text) Wrote
-  reports_refused out fault text is =
-      ends_refused out fault (called_for hosts texts seed text) Wrote (reports_fault fault text is) (of_fault fault (called_for hosts texts seed text) is)
+  -- the reports of the rehearsal that is called for are refused
+  pub reports_refused : (out : Option (Bor (List ℕ))) (fault : RunFault) (text : List ℕ) (wanted : Result (List Output) RunFault) → called_for hosts texts seed text ≡ wanted
+      → Agrees run_refusal (λ (reports : List ℕ). reports) (Err fault) (reports_in wanted)
+      → EndsOf out (Err fault) (called_for hosts texts seed text) Wrote × (failed_writes (let r : Result (Unit {0}) RunFault = Err fault in r) ≡ 0)
+  reports_refused out fault text wanted taken is =
+      let told = agrees_unless_memory run_refusal (λ (reports : List ℕ). reports) (Err fault) (reports_in wanted) is in
+      refused out fault text (rw taken (of_fault fault wanted told))
 
   -- storing writes nothing to standard output
   pub none_printed : (result : Result (Unit {0}) RunFault) (text : List ℕ) → StoresUnlessMemory result (called_for hosts texts seed text) → failed_writes result ≡ 0

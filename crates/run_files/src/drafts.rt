@@ -224,7 +224,8 @@ pub fn store_draft<S: DraftShelf>(
 ) -> Result<(), StoreFault>
     requires failures { S.failures shelf.old < 2 ^ 64 - 1 }
     requires number { number < 2 ^ 32 }
-    ensures { (output : Output) → IsDraftOf S.holds output drafts
+    ensures none_failed { OnOk result (S.failures shelf.new ≡ S.failures shelf.old) }
+    ensures stores { (output : Output) → IsDraftOf S.holds output drafts
         → StoresAfter (2 * number) (files_from number (output ∷ [])) (Takes (S.files shelf.old) (S.files shelf.new))
         (S.failures shelf.old) (S.failures shelf.new) result }
 {

@@ -1,5 +1,5 @@
 //! Drafts of outputs: on a shelf in memory, on one that fails, and in a folder.
-ghost use Rattle.std.specs.Prelude.{◌≡◌, ◌<◌, IfOk, length};
+ghost use Rattle.std.specs.Prelude.{◌-◌, ◌<◌, ◌^◌};
 
 use super::shelves::{FailsOnce, are_files};
 use std::alloc::{AllocError, AllocGlobal, Global};
@@ -7,8 +7,7 @@ use std::fs;
 use std::process::Abort;
 use std::rt::Files;
 use toxicap::{
-    DraftShelf, DraftedOutput, Folder, MemoryDraft, MemoryShelf, ShelfError, StoreFault,
-    store_drafts,
+    DraftShelf, DraftedOutput, Folder, MemoryDraft, MemoryShelf, ShelfError, StoreFault, store_draft,
 };
 
 // The files of two outputs with the numbers 7 and 8, in the order in which they are stored.
@@ -31,13 +30,11 @@ fn draft_with<S: DraftShelf>(
     Ok(draft)
 }
 
+// Drafts of two outputs.
+type TwoDrafts<D> = (DraftedOutput<D>, DraftedOutput<D>);
+
 // Drafts of both, the later one begun first, and the first file written in turns of a byte.
-fn two_drafts<S: DraftShelf>(
-    alloc: Global,
-    shelf: &S,
-) -> Result<Vec<DraftedOutput<S::Draft>>, AllocError>
-    ensures { IfOk result (λ drafts. length drafts.items ≡ 2) }
-{
+fn two_drafts<S: DraftShelf>(alloc: Global, shelf: &S) -> Result<TwoDrafts<S::Draft>, AllocError> {
     let later = (
         shelf.draft(alloc, 2)?,
         draft_with(alloc, shelf, 3, FILES[3].1)?,
@@ -47,10 +44,19 @@ fn two_drafts<S: DraftShelf>(
         S::append(&mut capture, &FILES[0].1[place..place + 1]);
     }
     let earlier = (capture, draft_with(alloc, shelf, 1, FILES[1].1)?);
-    let mut drafts = Vec::new(alloc);
-    drafts.push(earlier)?;
-    drafts.push(later)?;
-    Ok(drafts)
+    Ok((earlier, later))
+}
+
+// Has a shelf take both.
+fn store_both<S: DraftShelf>(
+    alloc: Global,
+    drafts: TwoDrafts<S::Draft>,
+    shelf: &mut S,
+) -> Result<(), StoreFault>
+    requires { S.failures shelf.old < 2 ^ 64 - 1 }
+{
+    store_draft(alloc, 7, drafts.0, shelf)?;
+    store_draft(alloc, 8, drafts.1, shelf)
 }
 
 impl DraftShelf for FailsOnce {
@@ -89,7 +95,7 @@ fn check_failing(rt: &(impl Abort + AllocGlobal), after: u64)
 {
     let mut shelf = FailsOnce::new(rt.alloc(), after);
     let drafts = two_drafts(rt.alloc(), &shelf).expect(rt, "memory");
-    let stored = store_drafts(rt.alloc(), 7, drafts, &mut shelf);
+    let stored = store_both(rt.alloc(), drafts, &mut shelf);
     let refused = stored == Err(StoreFault::ShelfFailed { after: 14 + after })
         && shelf.failed == 1
         && shelf.calls_before == u64::MAX;
@@ -138,7 +144,7 @@ fn a_folder_by_drafts(rt: HostRuntime) {
     let left = files_in(&rt, "drafts");
     assert!(rt; begun == 5 && left == 1, "{begun} {left}");
     let drafts = two_drafts(alloc, &folder).expect(&rt, "memory");
-    let stored = store_drafts(alloc, 7, drafts, &mut folder);
+    let stored = store_both(alloc, drafts, &mut folder);
     let good = stored == Ok(()) && folder.failed() == 0;
     let many = files_in(&rt, "drafts");
     assert!(rt;
@@ -153,7 +159,7 @@ fn a_folder_by_drafts(rt: HostRuntime) {
 fn no_folder_by_drafts(rt: HostRuntime) {
     let mut folder = Folder::new(rt.alloc(), &rt, "nowhere").expect(&rt, "memory");
     let drafts = two_drafts(rt.alloc(), &folder).expect(&rt, "memory");
-    let stored = store_drafts(rt.alloc(), 7, drafts, &mut folder);
+    let stored = store_both(rt.alloc(), drafts, &mut folder);
     let refused = stored == Err(StoreFault::ShelfFailed { after: 14 });
     assert!(rt; refused && folder.failed() == 1);
 }

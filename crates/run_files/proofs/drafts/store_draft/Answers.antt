@@ -5,15 +5,15 @@ use Rattle.run_files.proofs.DraftedFiles.{capture_stops, report_put}
 use Rattle.run_files.proofs.drafts.store_draft.Goals as goal
 
 -- the capture was not taken
-pub returns-in_err-take_file : goal.returns-in_err-take_file
-returns-in_err-take_file g c = λ output held.
+pub returns-in_err-take_file-clause-stores : goal.returns-in_err-take_file-clause-stores
+returns-in_err-take_file-clause-stores g c = λ output held.
     let number : ℕ = c.args.number in
     let fault = err_from_is_err_and c.from_residual.result c.from_residual.ensures.1 in
     rw (fault.1, fault.2)
     (capture_stops (capture_file number output) (report_file number output) (2 * number) _ _ _ _ _ (c.in_err-take_file.ensures.puts output.capture held.0))
 
-pub returns : goal.returns
-returns g c = λ output held.
+pub returns-clause-stores : goal.returns-clause-stores
+returns-clause-stores g c = λ output held.
     let number : ℕ = c.args.number in
     let one = c.in_ok-take_file.ensures in
     report_put (capture_file number output) (report_file number output) (2 * number) _ _ _ _ _ _ c.take_file-2.result (one.puts output.capture held.0).0

@@ -32,7 +32,7 @@ returns-in_err-store_draft-clause-ends g c =
     let loop = c.loop-number.invariant in
     let fault = err_from_is_err_and c.from_residual-in_err-store_draft.result c.from_residual-in_err-store_draft.ensures.1 in
     rw (fault.1, fault.2)
-    (stops_among all c.loop-number.number (this ∷ []) within are _ _ _ loop.taken _ _ _ _ loop.none_failed (c.in_err-store_draft.ensures this c.into_drafts.ensures)).0
+    (stops_among all c.loop-number.number (this ∷ []) within are _ _ _ loop.taken _ _ _ _ loop.none_failed (c.in_err-store_draft.ensures.stores this c.into_drafts.ensures)).0
 
 pub returns-in_err-store_draft-clause-taken : goal.returns-in_err-store_draft-clause-taken
 returns-in_err-store_draft-clause-taken g c =
@@ -45,7 +45,7 @@ returns-in_err-store_draft-clause-taken g c =
     let loop = c.loop-number.invariant in
     let fault = err_from_is_err_and c.from_residual-in_err-store_draft.result c.from_residual-in_err-store_draft.ensures.1 in
     rw (fault.1, fault.2)
-    (stops_among all c.loop-number.number (this ∷ []) within are _ _ _ loop.taken _ _ _ _ loop.none_failed (c.in_err-store_draft.ensures this c.into_drafts.ensures)).1
+    (stops_among all c.loop-number.number (this ∷ []) within are _ _ _ loop.taken _ _ _ _ loop.none_failed (c.in_err-store_draft.ensures.stores this c.into_drafts.ensures)).1
 
 pub loop-number-preserved : goal.loop-number-preserved
 loop-number-preserved g c =
@@ -56,7 +56,7 @@ loop-number-preserved g c =
     let this : Output = c.in_ok-draft.draft in
     let are = alone all c.loop-number.number this below c.in_ok-draft.ensures.draft in
     let loop = c.loop-number.invariant in
-    let stored = c.in_ok-store_draft.ensures this c.into_drafts.ensures in
+    let stored = c.in_ok-store_draft.ensures.stores this c.into_drafts.ensures in
     record {
       taken = taken_more all c.loop-number.number (this ∷ []) within are _ _ _ loop.taken stored.0;
       none_failed = stored.1 ∙ loop.none_failed;

@@ -1,10 +1,9 @@
 -- What is made of recordings, against the definition of what connections contribute.
 use Rattle.std.proofs.Common.{◌≡◌, ◌<◌, ℕ, ◌+◌, ◌*◌, ◌/◌, ◌%◌, List, [], ◌∷◌, length, map, get_or, refl, sym, ap, ap₂, ◌∙◌, arith}
-use Rattle.std.specs.List.{enumerate_from, range_with_len}
+use Rattle.std.specs.List.{enumerate_from}
 use Rattle.std.proofs.lemmas.Nat.{div_below}
 use Rattle.std.proofs.lemmas.List.{length-map}
 use Rattle.std.proofs.lemmas.List.FromFn.{length-enumerate_from, get_or-enumerate_from}
-use Rattle.pcap_records.proofs.Lists.{listed}
 use Rattle.pcap_records.specs.CaptureView.{CaptureView, contents_of}
 use Rattle.conn_table.specs.SeenCapture.{seen_capture}
 use Rattle.conn_table.specs.IndexedConnections.{IndexedConnection, without_indices, IndexedConnectionsAgree}
@@ -16,7 +15,7 @@ use Rattle.conn_workers.specs.declared.deliveries.Delivery.{Delivery}
 use Rattle.conn_workers.specs.DeliveryLaws.{LinesAreContributed, RowsAreContributed}
 use Rattle.conn_workers.specs.DeliveryRows.{connections_of, delivery_of, deliveries}
 use Rattle.conn_workers.specs.CaptureTables.{whole_table, whole_connections}
-use Rattle.conn_workers.specs.Recordings.{RecordingView, recording_in, recordings_of, no_recording, recorded_delivery, recorded_deliveries, recorded_row, recorded_lines, no_delivery}
+use Rattle.conn_workers.specs.Recordings.{RecordingView, recording_in, recordings_of, recorded_delivery, recorded_deliveries, recorded_row, recorded_lines}
 use Rattle.conn_workers.proofs.RowLemmas.{length-rows, some_columns, at_place, rows_alike}
 use Rattle.conn_workers.proofs.TableConnections.{connections_are, conns_are}
 
@@ -59,14 +58,15 @@ unfolding recorded_deliveries
 length-recorded_deliveries seed recordings scenarios =
     length-rows (recorded_delivery seed) (enumerate_from 0 scenarios) recordings ∙ ap (λ n. n * length recordings) (length-enumerate_from 0 scenarios)
 
--- the delivery of a job, whatever stands past the last of either list
-pub job_is : (seed : ℕ) (recordings : List RecordingView) (scenarios : List (List Proxy)) (job : ℕ) (r : RecordingView) (proxies : List Proxy)
-    → job < length scenarios * length recordings
+-- the delivery of a job, whatever stands past the last of any list
+pub job_is : (seed : ℕ) (recordings : List RecordingView) (scenarios : List (List Proxy)) (job : ℕ) (r : RecordingView) (proxies : List Proxy) (other : Delivery)
+    → job < length (recorded_deliveries seed recordings scenarios)
     → recorded_delivery seed (job / length recordings, get_or scenarios (job / length recordings) proxies) (get_or recordings (job % length recordings) r)
-    ≡ get_or (recorded_deliveries seed recordings scenarios) job no_delivery
+    ≡ get_or (recorded_deliveries seed recordings scenarios) job other
 unfolding recorded_deliveries
-job_is seed recordings scenarios job r proxies below =
+job_is seed recordings scenarios job r proxies other within =
     let count : ℕ = length recordings in
+    let below : job < length scenarios * count = omega (arith, within, length-recorded_deliveries seed recordings scenarios) in
     let some : 0 < count = some_columns job (length scenarios) count below in
     let row : job / count < length scenarios = div_below job count (length scenarios) some below in
     let zero_on : 0 + job / count ≡ job / count = omega arith in
@@ -74,14 +74,8 @@ job_is seed recordings scenarios job r proxies below =
     get_or-enumerate_from 0 scenarios (job / count) (0, proxies) row
     ∙ ap (λ (n : ℕ). let p : ℕ × List Proxy = (n, get_or scenarios (job / count) proxies) in p) zero_on in
     let inside : job < length (enumerate_from 0 scenarios) * count = rw (length-enumerate_from 0 scenarios) below in
-    sym (at_place (recorded_delivery seed) (enumerate_from 0 scenarios) recordings job no_delivery (0, proxies) r some inside
+    sym (at_place (recorded_delivery seed) (enumerate_from 0 scenarios) recordings job other (0, proxies) r some inside
     ∙ ap (λ s. recorded_delivery seed s (get_or recordings (job % count) r)) numbered)
-
--- all jobs of the first work give the recordings
-pub all_recordings : (c : CaptureView) (n : ℕ) → n ≡ length (whole_table c).conns → map (λ j. get_or (recordings_of c) j no_recording) (range_with_len 0 n) ≡ recordings_of c
-all_recordings c n is =
-    listed (recordings_of c) n no_recording
-    (length-map (whole_connections c) (recording_in c) ∙ sym (length-map (whole_connections c) (conn_in c)) ∙ ap length (sym (conns_are c)) ∙ sym is)
 
 pub as_many : (c : CaptureView) → length (recordings_of c) ≡ length (whole_table c).conns
 as_many c = length-map (whole_connections c) (recording_in c) ∙ sym (length-map (whole_connections c) (conn_in c)) ∙ ap length (sym (conns_are c))

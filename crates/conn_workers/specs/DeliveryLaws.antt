@@ -1,5 +1,5 @@
 -- Where each delivery stands, and what it does not depend on.
-use Rattle.std.specs.Prelude.{◌≡◌, ℕ, ◌+◌, ◌*◌, ◌≤◌, List, length, map, Option, Some, slice_get}
+use Rattle.std.specs.Prelude.{◌≡◌, ℕ, ◌+◌, ◌*◌, List, length, map, Option, Some, slice_get}
 use Rattle.pcap_records.specs.CaptureView.{CaptureView, contents_of}
 use Rattle.conn_table.specs.SeenCapture.{SeenCapture, seen_capture}
 use Rattle.conn_table.specs.Connections.{Connection}
@@ -53,12 +53,6 @@ ContributionsAreIsolated =
     → members_of x ≡ members_of y → met_proxy (server_of x) a ≡ met_proxy (server_of y) b
     → (contribution_of ticks seed (s, a) x ≡ contribution_of ticks seed (s, b) y)
     × (delivery_at ticks seed first number s ≡ delivery_at ticks seed second number s)
-
--- ---- how many
-
--- each connection begins at a record of its own
-abbrev pub RecordingsAreFew : Type 0
-RecordingsAreFew = (c : CaptureView) → length (recordings_of c) ≤ length c.records
 
 -- ---- one scenario
 

@@ -1,13 +1,12 @@
 -- What the table of a capture shows of its connections, with what is recorded of them, and what they contribute by
 -- that.
-use Rattle.std.specs.Prelude.{◌≡◌, List, [], map, None, ℕ}
+use Rattle.std.specs.Prelude.{◌≡◌, List, map, ℕ}
 use Rattle.pcap_records.specs.CaptureView.{CaptureView}
-use Rattle.frame_headers.specs.declared.peers.Peer.{Peer}
 use Rattle.conn_table.specs.IndexedConnections.{IndexedConnection, without_indices}
 use Rattle.conn_table.specs.Tables.{conn_in}
 use Rattle.conn_table.specs.declared.conns.Conn.{Conn}
 use Rattle.reassembly.specs.LineLaws.{IsLine}
-use Rattle.reassembly.specs.RecordedLines.{RecordedConnection, RecordedSide, recorded_connection, empty_line}
+use Rattle.reassembly.specs.RecordedLines.{RecordedConnection, recorded_connection}
 use Rattle.reassembly.specs.declared.recordings.Recorded.{Recorded}
 use Rattle.conn_workers.specs.CaptureTables.{whole_connections}
 use Rattle.std.specs.List.{enumerate_from}
@@ -68,29 +67,3 @@ recorded_row seed s recordings = map (recorded_delivery seed s) recordings
 -- the lines of all connections in the report of a scenario with its number
 abbrev pub recorded_lines : ℕ → ℕ × List Proxy → List RecordingView → List (List ℕ)
 recorded_lines seed s recordings = map (λ r. (recorded_delivery seed s r).line) recordings
-
--- ---- what stands past the last of a list
-
-abbrev pub no_peer : Peer
-no_peer = record { addr = 0; port = 0 }
-
-abbrev pub no_side : RecordedSide
-no_side = record { line = empty_line; lost = 0 }
-
-abbrev pub no_recording : RecordingView
-no_recording = record {
-  ticks = 0;
-  conn = record { number = 0; opening = 0; opened = 0; vlan = None; client = no_peer; server = no_peer; members = [] };
-  recorded = record {
-    up = no_side;
-    down = no_side;
-    client_base = 0;
-    server_base = None;
-    opened = 0;
-    mac_client = [];
-    mac_server = [];
-  };
-}
-
-abbrev pub no_delivery : Delivery
-no_delivery = record { scenario = 0; conn = 0; segments = []; line = [] }

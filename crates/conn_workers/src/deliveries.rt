@@ -59,24 +59,16 @@ pub fn deliver<R: Threads + Sync, G: Gate>(
 {
     indexed_connections_agree();
     let recordings = record(rt, alloc, capture, table, plan, gate)?;
-    let contribution_jobs = ContributionJobs {
+    let jobs = ContributionJobs {
         alloc,
         recordings: recordings.as_slice(),
         scenarios,
         seed,
     };
-    let count = recordings.as_slice().len() as u64;
+    let count = jobs.recordings.len() as u64;
     // each connection begins at a record of its own
     prove!(count <= capture.records().len() as u64);
-    let jobs = scenarios.len() as u64 * count;
+    let all = scenarios.len() as u64 * count;
     let workers = plan.workers() as u64;
-    work_all(
-        rt,
-        alloc,
-        jobs,
-        workers,
-        Phase::Jobs,
-        gate,
-        &contribution_jobs,
-    )
+    work_all(rt, alloc, all, workers, Phase::Jobs, gate, &jobs)
 }

@@ -1,11 +1,10 @@
 //! What each connection of a capture contributes to one scenario.
-ghost use Rattle.std.specs.Prelude.{◌≡◌, ◌≤◌, length, IfOk};
-ghost use Rattle.job_matrix.specs.Boards.{number_limit};
+ghost use Rattle.std.specs.Prelude.{◌≡◌, IfOk};
 ghost use Rattle.conn_workers.specs.Recordings.{recorded_row};
 
 use crate::laid_deliveries::LaidDelivery;
 use crate::recordings::Recordings;
-use crate::scenario_jobs::RowJobs;
+use crate::scenario_jobs::{RowJobs, UnderScenario};
 use job_matrix::{Gate, Phase, Plan, Through, Values, work_all, work_alone};
 use scenarios::Scenario;
 use std::alloc::{AllocError, Global};
@@ -29,18 +28,10 @@ pub fn deliver_row<'a, R: Threads + Sync, G: Gate>(
     plan: Plan,
     gate: &G,
 ) -> Result<LaidRow<'a>, AllocError>
-    requires { length recordings.now ≤ number_limit }
     ensures { IfOk result (λ v. v ≡ recorded_row seed (number, scenario.now) recordings.now) }
 {
-    let recordings = recordings.as_slice();
-    let jobs = RowJobs {
-        alloc,
-        recordings,
-        number,
-        scenario,
-        seed,
-    };
-    let count = recordings.len() as u64;
+    let jobs = RowJobs(UnderScenario::of(alloc, recordings, number, scenario, seed));
+    let count = jobs.0.recordings.len() as u64;
     let workers = plan.workers() as u64;
     work_all(rt, alloc, count, workers, Phase::Jobs, gate, &jobs)
 }
@@ -56,17 +47,9 @@ pub fn deliver_row_alone<'a>(
     scenario: &Scenario,
     seed: u64,
 ) -> Result<LaidRow<'a>, AllocError>
-    requires { length recordings.now ≤ number_limit }
     ensures { IfOk result (λ v. v ≡ recorded_row seed (number, scenario.now) recordings.now) }
 {
-    let recordings = recordings.as_slice();
-    let jobs = RowJobs {
-        alloc,
-        recordings,
-        number,
-        scenario,
-        seed,
-    };
-    let count = recordings.len() as u64;
+    let jobs = RowJobs(UnderScenario::of(alloc, recordings, number, scenario, seed));
+    let count = jobs.0.recordings.len() as u64;
     work_alone(alloc, count, Phase::Jobs, &Through, &jobs)
 }

@@ -1,15 +1,16 @@
 //! The two works of a delivery: what is recorded of each connection, and what each connection contributes to each
 //! scenario.
-ghost use Rattle.std.specs.Prelude.{◌≡◌, ◌≤◌, IfOk, IfSome, length, option_map};
+ghost use Rattle.std.specs.Prelude.{◌≡◌, ◌≤◌, ◌*◌, IfOk, IfSome, length, option_map};
 ghost use Rattle.toxic_defs.specs.DeliveredLines.{met_view};
 ghost use Rattle.toxic_defs.specs.Limits.{most_toxics};
 ghost use Rattle.conn_workers.specs.CaptureTables.{whole_table};
 ghost use Rattle.conn_workers.specs.DeliveryRows.{scenario_limit};
 ghost use Rattle.conn_workers.specs.MetProxies.{met_of, met_proxy};
+ghost use Rattle.conn_workers.specs.Recordings.{recordings_of, recorded_deliveries};
 
 use crate::deliveries::Delivery;
 use crate::laid_deliveries::laid_delivery;
-use conn_table::Conn;
+use conn_table::{Conn, Table};
 use frame_headers::Peer;
 use job_matrix::Work;
 use pcap_records::Capture;
@@ -54,17 +55,30 @@ pub(crate) struct LineJobs<'w, 'a> {
     /// The connections of its table.
     pub(crate) conns: &'w [Conn],
     ghost shown: { conns.now ≡ (whole_table capture.now).conns },
+    ghost each: { length conns.now ≡ length (recordings_of capture.now) },
+}
+
+impl<'w, 'a> LineJobs<'w, 'a> {
+    /// Those of a capture and its table.
+    pub(crate) fn of(alloc: Global, capture: &'w Capture<'a>, table: &'w Table) -> Self
+        requires { table.now ≡ whole_table capture.now }
+        ensures { result.capture.now ≡ capture.now }
+    {
+        LineJobs {
+            alloc,
+            capture,
+            conns: table.conns(),
+        }
+    }
 }
 
 impl<'w, 'a> Work for LineJobs<'w, 'a> {
     type Out = Recording<'w, 'a>;
 
     ghost use Rattle.std.specs.Prelude.{◌≡◌, ◌<◌, length, get_or, IfOk};
-    ghost use Rattle.conn_workers.specs.Recordings.{recordings_of, no_recording};
+    ghost use Rattle.conn_workers.specs.Recordings.{recordings_of};
 
-    ghost jobs = { λ w. length w.conns.now };
-
-    ghost meaning = { λ w job. get_or (recordings_of w.capture.now) job no_recording };
+    ghost values = { λ w. recordings_of w.capture.now };
 
     fn value(&self, job: u64) -> Result<Recording<'w, 'a>, AllocError> {
         connections_are_of_capture();
@@ -88,18 +102,16 @@ pub(crate) struct ContributionJobs<'w, 'v, 'a> {
     /// The seed of the random words.
     pub(crate) seed: u64,
     ghost few: { length scenarios.now ≤ scenario_limit },
+    ghost each: { length (recorded_deliveries seed recordings.now scenarios.now) ≡ length scenarios.now * length recordings.now },
 }
 
 impl<'w, 'v, 'a> Work for ContributionJobs<'w, 'v, 'a> {
     type Out = Delivery;
 
-    ghost use Rattle.std.specs.Prelude.{◌≡◌, ◌<◌, ◌*◌, length, get_or, IfOk};
-    ghost use Rattle.conn_workers.specs.Recordings.{recorded_deliveries, no_delivery};
+    ghost use Rattle.std.specs.Prelude.{◌≡◌, ◌<◌, length, get_or, IfOk};
+    ghost use Rattle.conn_workers.specs.Recordings.{recorded_deliveries};
 
-    ghost jobs = { λ w. length w.scenarios.now * length w.recordings.now };
-
-    ghost meaning = { λ w job.
-        get_or (recorded_deliveries w.seed w.recordings.now w.scenarios.now) job no_delivery };
+    ghost values = { λ w. recorded_deliveries w.seed w.recordings.now w.scenarios.now };
 
     #[tactic(auto, using(crate::proofs::DeliverySteps::job_is))]
     fn value(&self, job: u64) -> Result<Delivery, AllocError> {

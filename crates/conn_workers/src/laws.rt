@@ -5,7 +5,7 @@ ghost use Rattle.std.specs.List.{AllByRecursion};
 ghost use Rattle.reassembly.specs.RecordedLines.{recorded_connection};
 ghost use Rattle.toxic_defs.specs.Laws.{IsRecordedInTime};
 ghost use Rattle.scenarios.specs.ProxyLaws.{IsSound};
-ghost use Rattle.conn_workers.specs.DeliveryLaws.{RowsAreWhole, DeliveriesArePlaced, ContributionsAreIsolated, RecordingsAreFew, LinesAreContributed, RowsAreContributed};
+ghost use Rattle.conn_workers.specs.DeliveryLaws.{RowsAreWhole, DeliveriesArePlaced, ContributionsAreIsolated, LinesAreContributed, RowsAreContributed};
 ghost use Rattle.conn_workers.specs.DeliveryRows.{deliveries};
 ghost use Rattle.conn_workers.specs.RecordedDeliveries.{table_connections, IsOfRecorded, IsOfScenario};
 ghost use Rattle.conn_workers.specs.Recordings.{recordings_of, recorded_row};
@@ -31,11 +31,6 @@ pub fn deliveries_are_placed()
 /// that it meets has the same number, enabled flag and toxics.
 pub fn contributions_are_isolated()
     ensures { ContributionsAreIsolated }
-{}
-
-/// No more connections are recorded of a capture than it has records.
-pub fn recordings_are_few()
-    ensures { RecordingsAreFew }
 {}
 
 /// What is recorded of a capture gives what its connections contribute to a scenario.

@@ -1,11 +1,10 @@
 //! What is recorded of each connection of a capture, and the lines that reports tell of it.
-ghost use Rattle.std.specs.Prelude.{◌≡◌, ◌≤◌, length, IfOk};
-ghost use Rattle.job_matrix.specs.Boards.{number_limit};
+ghost use Rattle.std.specs.Prelude.{◌≡◌, IfOk};
 ghost use Rattle.conn_workers.specs.CaptureTables.{whole_table};
 ghost use Rattle.conn_workers.specs.Recordings.{recordings_of, recorded_lines};
 
 use crate::jobs::{LineJobs, Recording};
-use crate::scenario_jobs::ReportLineJobs;
+use crate::scenario_jobs::{ReportLineJobs, UnderScenario};
 use conn_table::Table;
 use job_matrix::{Gate, Phase, Plan, Through, Values, work_all, work_alone};
 use pcap_records::Capture;
@@ -35,16 +34,8 @@ pub fn record<'w, 'a, R: Threads + Sync, G: Gate>(
     requires table { table.now ≡ whole_table capture.now }
     ensures { IfOk result (λ v. v ≡ recordings_of capture.now) }
 {
-    let conns = table.conns();
-    let records = capture.records();
-    // each connection begins at a record of its own
-    prove!(conns.len() <= records.len());
-    let jobs = LineJobs {
-        alloc,
-        capture,
-        conns,
-    };
-    let count = conns.len() as u64;
+    let jobs = LineJobs::of(alloc, capture, table);
+    let count = jobs.conns.len() as u64;
     let workers = plan.workers() as u64;
     work_all(rt, alloc, count, workers, Phase::Lines, gate, &jobs)
 }
@@ -61,16 +52,8 @@ pub fn record_alone<'w, 'a>(
     requires table { table.now ≡ whole_table capture.now }
     ensures { IfOk result (λ v. v ≡ recordings_of capture.now) }
 {
-    let conns = table.conns();
-    let records = capture.records();
-    // each connection begins at a record of its own
-    prove!(conns.len() <= records.len());
-    let jobs = LineJobs {
-        alloc,
-        capture,
-        conns,
-    };
-    let count = conns.len() as u64;
+    let jobs = LineJobs::of(alloc, capture, table);
+    let count = jobs.conns.len() as u64;
     work_alone(alloc, count, Phase::Lines, &Through, &jobs)
 }
 
@@ -89,18 +72,10 @@ pub fn report_lines<R: Threads + Sync, G: Gate>(
     plan: Plan,
     gate: &G,
 ) -> Result<Values<ReportText>, AllocError>
-    requires { length recordings.now ≤ number_limit }
     ensures { IfOk result (λ v. v ≡ recorded_lines seed (number, scenario.now) recordings.now) }
 {
-    let recordings = recordings.as_slice();
-    let jobs = ReportLineJobs {
-        alloc,
-        recordings,
-        number,
-        scenario,
-        seed,
-    };
-    let count = recordings.len() as u64;
+    let jobs = ReportLineJobs(UnderScenario::of(alloc, recordings, number, scenario, seed));
+    let count = jobs.0.recordings.len() as u64;
     let workers = plan.workers() as u64;
     work_all(rt, alloc, count, workers, Phase::Jobs, gate, &jobs)
 }
@@ -117,17 +92,9 @@ pub fn report_lines_alone(
     scenario: &Scenario,
     seed: u64,
 ) -> Result<Values<ReportText>, AllocError>
-    requires { length recordings.now ≤ number_limit }
     ensures { IfOk result (λ v. v ≡ recorded_lines seed (number, scenario.now) recordings.now) }
 {
-    let recordings = recordings.as_slice();
-    let jobs = ReportLineJobs {
-        alloc,
-        recordings,
-        number,
-        scenario,
-        seed,
-    };
-    let count = recordings.len() as u64;
+    let jobs = ReportLineJobs(UnderScenario::of(alloc, recordings, number, scenario, seed));
+    let count = jobs.0.recordings.len() as u64;
     work_alone(alloc, count, Phase::Jobs, &Through, &jobs)
 }

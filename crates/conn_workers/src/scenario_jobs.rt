@@ -1,83 +1,97 @@
 //! The two works under one scenario: what each connection contributes to it, and each connection's line of its report.
-ghost use Rattle.std.specs.Prelude.{◌≡◌, IfOk};
+ghost use Rattle.std.specs.Prelude.{◌≡◌};
 
 use crate::jobs::{Recording, met_proxy};
 use crate::laid_deliveries::{LaidDelivery, laid_delivery};
+use crate::recordings::Recordings;
 use job_matrix::Work;
 use report::{ReportText, line};
 use scenarios::Scenario;
 use std::alloc::{AllocError, Global};
 use toxic_defs::delivered_by;
 
-/// Recordings of connections, and a scenario with its number: job c makes what connection c contributes to it.
+/// Recordings of connections, and a scenario with its number.
 #[derive(Drop)]
-pub(crate) struct RowJobs<'w, 'v, 'a> {
-    /// Where deliveries are kept.
-    pub(crate) alloc: Global,
+pub(crate) struct UnderScenario<'w, 'v, 'a> {
+    // Where what is made is kept.
+    alloc: Global,
     /// The connections with what is recorded of them.
     pub(crate) recordings: &'w [Recording<'v, 'a>],
-    /// The number of the scenario.
-    pub(crate) number: u32,
-    /// The scenario.
-    pub(crate) scenario: &'w Scenario,
-    /// The seed of the random words.
-    pub(crate) seed: u64,
+    number: u32,
+    scenario: &'w Scenario,
+    // That of the random words.
+    seed: u64,
 }
+
+impl<'w, 'v, 'a> UnderScenario<'w, 'v, 'a> {
+    /// All of these together.
+    pub(crate) fn of(
+        alloc: Global,
+        recordings: &'w Recordings<'v, 'a>,
+        number: u32,
+        scenario: &'w Scenario,
+        seed: u64,
+    ) -> Self
+        ensures recordings { result.recordings.now ≡ recordings.now }
+        ensures number { result.number ≡ number }
+        ensures scenario { result.scenario.now ≡ scenario.now }
+        ensures seed { result.seed ≡ seed }
+    {
+        UnderScenario {
+            alloc,
+            recordings: recordings.as_slice(),
+            number,
+            scenario,
+            seed,
+        }
+    }
+}
+
+/// Job c makes what connection c contributes to the scenario.
+#[derive(Drop)]
+pub(crate) struct RowJobs<'w, 'v, 'a>(pub(crate) UnderScenario<'w, 'v, 'a>);
 
 impl<'w, 'v, 'a> Work for RowJobs<'w, 'v, 'a> {
     type Out = LaidDelivery<'a>;
 
     ghost use Rattle.std.specs.Prelude.{◌≡◌, ◌<◌, length, get_or, IfOk};
-    ghost use Rattle.conn_workers.specs.Recordings.{recorded_row, no_delivery};
+    ghost use Rattle.conn_workers.specs.Recordings.{recorded_row};
 
-    ghost jobs = { λ w. length w.recordings.now };
-
-    ghost meaning = { λ w job. get_or (recorded_row w.seed (w.number, w.scenario.now) w.recordings.now) job no_delivery };
+    ghost values = { λ w. recorded_row w.0.seed (w.0.number, w.0.scenario.now) w.0.recordings.now };
 
     fn value(&self, job: u64) -> Result<LaidDelivery<'a>, AllocError> {
-        let recording = &self.recordings[job as usize];
-        laid_delivery(self.alloc, recording, self.number, self.scenario, self.seed)
+        let under = &self.0;
+        let recording = &under.recordings[job as usize];
+        laid_delivery(under.alloc, recording, under.number, under.scenario, under.seed)
     }
 }
 
-/// Recordings of connections, and a scenario with its number: job c makes the line of connection c in its report.
+/// Job c makes the line of connection c in the scenario's report.
 #[derive(Drop)]
-pub(crate) struct ReportLineJobs<'w, 'v, 'a> {
-    /// Where lines are kept.
-    pub(crate) alloc: Global,
-    /// The connections with what is recorded of them.
-    pub(crate) recordings: &'w [Recording<'v, 'a>],
-    /// The number of the scenario.
-    pub(crate) number: u32,
-    /// The scenario.
-    pub(crate) scenario: &'w Scenario,
-    /// The seed of the random words.
-    pub(crate) seed: u64,
-}
+pub(crate) struct ReportLineJobs<'w, 'v, 'a>(pub(crate) UnderScenario<'w, 'v, 'a>);
 
 impl<'w, 'v, 'a> Work for ReportLineJobs<'w, 'v, 'a> {
     type Out = ReportText;
 
-    ghost use Rattle.std.specs.Prelude.{◌≡◌, ◌<◌, length, get_or, IfOk, []};
+    ghost use Rattle.std.specs.Prelude.{◌≡◌, ◌<◌, length, get_or, IfOk};
     ghost use Rattle.conn_workers.specs.Recordings.{recorded_lines};
 
-    ghost jobs = { λ w. length w.recordings.now };
-
-    ghost meaning = { λ w job. get_or (recorded_lines w.seed (w.number, w.scenario.now) w.recordings.now) job [] };
+    ghost values = { λ w. recorded_lines w.0.seed (w.0.number, w.0.scenario.now) w.0.recordings.now };
 
     fn value(&self, job: u64) -> Result<ReportText, AllocError> {
-        let recording = &self.recordings[job as usize];
+        let under = &self.0;
+        let recording = &under.recordings[job as usize];
         let conn = recording.conn;
         let recorded = &recording.recorded;
-        let met = met_proxy(self.scenario, conn.server);
+        let met = met_proxy(under.scenario, conn.server);
         let delivered = delivered_by(
-            self.alloc,
+            under.alloc,
             recorded,
             met,
-            self.seed,
-            self.number,
+            under.seed,
+            under.number,
             conn.number,
         )?;
-        line(self.alloc, conn, recorded, &delivered)
+        line(under.alloc, conn, recorded, &delivered)
     }
 }

@@ -1,14 +1,14 @@
 -- What lies in a tray into which values were put one after another.
-use Rattle.std.proofs.Common.{◌≡◌, ℕ, ◌<◌, ◌++◌, true, List, [], ◌∷◌, length, map, Option, Some, None, slice_get, refl, ◌≢◌, replicate, get_or, Result, Ok, Err, IfOk, sym, ap, ◌∙◌, subst, length-set, lt_of_not-le, arith}
+use Rattle.std.proofs.Common.{◌≡◌, ℕ, ◌<◌, ◌++◌, true, List, [], ◌∷◌, length, map, Option, Some, None, slice_get, refl, ◌≢◌, replicate, get_or, Result, Ok, Err, IfOk, sym, ap, ap₂, ◌∙◌, subst, length-set, lt_of_not-le, arith}
 use Rattle.std.specs.Option.{is_some}
 use Rattle.std.proofs.lemmas.Option.{slice_get_within, slice_get-get_or, get_or_from_slice_get}
-use Rattle.job_matrix.specs.Trays.{Has, IsFree, put_one, put_where, IsRefused, jobs_in, EachJob, AreRight, with_values, put_each, FillsInOrder}
+use Rattle.job_matrix.specs.Trays.{Has, IsFree, put_one, put_where, IsRefused, jobs_in, EachJob, AreRight, AreDone, put_each, FillsInOrder}
 use Rattle.std.specs.List.{range_with_len}
-use Rattle.std.proofs.lemmas.List.{length-replicate, get_or-replicate, map-append}
+use Rattle.std.proofs.lemmas.List.{length-replicate, get_or-replicate, map-append, nil_from_length}
 use Rattle.std.proofs.lemmas.List.FromFn.{fill_by_all}
 use mathlib.Core.Logic.{dite}
 use native.Mathlib.Decide.{ℕ_discrete}
-use Rattle.pcap_records.proofs.Lists.{slice_get-set_same, slice_get-set_other}
+use Rattle.pcap_records.proofs.Lists.{listed, slice_get-set_same, slice_get-set_other}
 use Rattle.job_matrix.specs.Counting.{times, CountsBelow}
 use Rattle.job_matrix.specs.declared.trays.PutFault.{PutFault}
 use Rattle.job_matrix.specs.declared.trays.PutFault.TheVariants.{Stranger, Twice}
@@ -126,17 +126,18 @@ module _ {V : Type 0} where
       let same = some_injective xs ys tails in
       cc
 
-  -- the values that jobs are to give are right
-  pub with_values_right : (meaning : ℕ → V) (jobs : List ℕ) → AreRight meaning (with_values meaning jobs)
-  with_values_right meaning [] = tt
-  with_values_right meaning (job ∷ jobs) = (refl, with_values_right meaning jobs)
+  pub each_append : (P : ℕ → V → Type 0) (xs ys : List (ℕ × V)) → EachJob P xs → EachJob P ys → EachJob P (xs ++ ys)
+  each_append P [] ys all more = more
+  each_append P (x ∷ xs) ys all more = (all.0, each_append P xs ys all.1 more)
 
-  pub jobs_with_values : (meaning : ℕ → V) (jobs : List ℕ) → jobs_in (with_values meaning jobs) ≡ jobs
-  jobs_with_values meaning [] = refl
-  jobs_with_values meaning (job ∷ jobs) = ap (λ (js : List ℕ). job ∷ js) (jobs_with_values meaning jobs)
+  -- jobs that are done, and more of them
+  pub done_append : (values : List V) (jobs others : List ℕ) (xs ys : List (ℕ × V)) → AreDone values jobs xs → AreDone values others ys → AreDone values (jobs ++ others) (xs ++ ys)
+  done_append values jobs others xs ys done more =
+      (map-append (λ (d : ℕ × V). d.0) xs ys ∙ ap₂ (λ (a b : List ℕ). a ++ b) done.0 more.0, each_append (λ job value. (other : V) → value ≡ get_or values job other) xs ys done.1 more.1)
 
-  pub with_values-append : (meaning : ℕ → V) (xs ys : List ℕ) → with_values meaning (xs ++ ys) ≡ with_values meaning xs ++ with_values meaning ys
-  with_values-append meaning xs ys = map-append (λ (job : ℕ). (job, meaning job)) xs ys
+  are_right : (values : List V) (other : V) (done : List (ℕ × V)) → EachJob (λ job value. (other : V) → value ≡ get_or values job other) done → AreRight (λ job. get_or values job other) done
+  are_right values other [] all = tt
+  are_right values other (d ∷ done) all = (all.0 other, are_right values other done all.1)
 
 pub filled_in_order : (V : Type 0) → FillsInOrder V
 filled_in_order V meaning n done counts right =
@@ -147,9 +148,18 @@ filled_in_order V meaning n done counts right =
     get_or_from_slice_get slots k (Some (meaning k)) None (there.2 ∙ ap (λ (v : V). Some (Some v)) there.1) in
     fill_by_all (λ k. Some (meaning k)) slots n None len each ∙ map_twice meaning (range_with_len 0 n)
 
--- a list that is a tray's, filled with all jobs, is that of the values in order
-pub values_in_order : {V E : Type 0} (meaning : ℕ → V) (n count : ℕ) (done : List (ℕ × V)) (r : Result (List V) E) → count ≡ n → CountsBelow count (λ x. times x (jobs_in done)) → AreRight meaning done
-    → IfOk r (λ v. map Some v ≡ put_each (replicate count None) done) → IfOk r (λ v. v ≡ map meaning (range_with_len 0 n))
-values_in_order {V = V} meaning n count done (Ok v) same counts right filled =
-    some_injective v (map meaning (range_with_len 0 n)) (filled ∙ filled_in_order V meaning count done counts right ∙ ap (λ (k : ℕ). map Some (map meaning (range_with_len 0 k))) same)
-values_in_order meaning n count done (Err e) same counts right filled = tt
+-- so it is filled with the values that all jobs are to give
+filled_with : {V : Type 0} (values : List V) (jobs : List ℕ) (done : List (ℕ × V)) → CountsBelow (length values) (λ x. times x (jobs_in done)) → AreDone values jobs done
+    → put_each (replicate (length values) None) done ≡ map Some values
+filled_with [] jobs done counts are = nil_from_length _ (length-put_each [] done)
+filled_with {V = V} (v ∷ values) jobs done counts are =
+    let all : List V = v ∷ values in
+    filled_in_order V (λ job. get_or all job v) (length all) done counts (are_right all v done are.1) ∙ ap (map Some) (listed all (length all) v refl)
+
+-- and so is a list that is the tray's
+pub values_in_order : {V E : Type 0} (values : List V) (count : ℕ) (jobs : List ℕ) (done : List (ℕ × V)) (r : Result (List V) E) → count ≡ length values → CountsBelow count (λ x. times x (jobs_in done)) → AreDone values jobs done
+    → IfOk r (λ v. map Some v ≡ put_each (replicate count None) done) → IfOk r (λ v. v ≡ values)
+values_in_order values count jobs done (Ok v) same counts are filled =
+    let all = subst (λ (k : ℕ). CountsBelow k (λ x. times x (jobs_in done))) same counts in
+    some_injective v values (filled ∙ ap (λ (k : ℕ). put_each (replicate k None) done) same ∙ filled_with values jobs done all are)
+values_in_order values count jobs done (Err e) same counts are filled = tt

@@ -11,7 +11,7 @@ use Rattle.job_matrix.proofs.Sums.{times-append, times_one}
 use Rattle.std.specs.List.{sum_by}
 use Rattle.std.proofs.lemmas.List.Sums.{sum_by-cons}
 use Rattle.std.proofs.lemmas.List.Sorted.{sum_by-IsPermutation, All-permutation}
-use Rattle.job_matrix.proofs.FilledTrays.{filled_in_order}
+use Rattle.job_matrix.proofs.FilledTrays.{each_append, filled_in_order}
 
 -- the sum after a change of one element, as std reads lists
 total_set_at : {A : Type 0} (f : A → ℕ) (l : List A) (i : ℕ) (v w : A) → slice_get l i ≡ Some v → total f (set l i w) + f v ≡ total f l + f w
@@ -29,10 +29,6 @@ nobody_holds (suc workers) x = omega (arith, nobody_holds workers x)
 module _ {V : Type 0} where
   jobs-append : (done : List (ℕ × V)) (job : ℕ) (value : V) → jobs_in (done ++ (job, value) ∷ []) ≡ jobs_in done ++ job ∷ []
   jobs-append done job value = map-append (λ (d : ℕ × V). d.0) done ((job, value) ∷ [])
-
-  right-append : (meaning : ℕ → V) (done : List (ℕ × V)) (job : ℕ) → AreRight meaning done → AreRight meaning (done ++ (job, meaning job) ∷ [])
-  right-append meaning [] job right = (refl, tt)
-  right-append meaning (d ∷ done) job right = (right.0, right-append meaning done job right.1)
 
   -- a number is claimed
   claims_next : (meaning : ℕ → V) (n : ℕ) (s : World V) (w : ℕ) → slice_get s.workers w ≡ Some (worker None false false) → IsWhole meaning n s → s.next < n
@@ -84,7 +80,7 @@ module _ {V : Type 0} where
         let more = ap (times x) (jobs-append s.done job (meaning job)) ∙ times-append x (jobs_in s.done) (job ∷ []) in
         let once = whole.once x in
         ((λ h. omega (arith, now, more, once.0 h)), (λ h. omega (arith, now, more, once.1 h)));
-    right = right-append meaning s.done job whole.right;
+    right = each_append (λ j value. value ≡ meaning j) s.done ((job, meaning job) ∷ []) whole.right (refl, tt);
     within = whole.within;
   }
 

@@ -11,7 +11,7 @@ use Rattle.job_matrix.specs.Counting.{times, total, CountsBelow}
 
 -- the greatest limit of a board's numbers
 abbrev pub number_limit : ℕ
-number_limit = 2 ^ 48
+number_limit = 2 ^ 63
 
 -- the most passes that a chief makes
 abbrev pub pass_limit : ℕ

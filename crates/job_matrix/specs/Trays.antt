@@ -1,5 +1,5 @@
 -- Trays: a slot for the value of each job, what lies there, and jobs that are done, each with its value.
-use Rattle.std.specs.Prelude.{◌≡◌, ◌≤◌, ℕ, List, [], ◌∷◌, length, map, replicate, Option, Some, None, slice_get, slice_set}
+use Rattle.std.specs.Prelude.{◌≡◌, ◌≤◌, ℕ, List, [], ◌∷◌, get_or, length, map, replicate, Option, Some, None, slice_get, slice_set}
 use Rattle.std.specs.List.{range_with_len}
 use Rattle.job_matrix.specs.declared.trays.PutFault.{PutFault}
 use Rattle.job_matrix.specs.declared.trays.PutFault.TheVariants.{Stranger, Twice}
@@ -41,9 +41,9 @@ module _ {V : Type 0} where
   abbrev pub AreRight : (ℕ → V) → List (ℕ × V) → Type 0
   AreRight meaning done = EachJob (λ job value. value ≡ meaning job) done
 
-  -- jobs with the values that they are to give
-  abbrev pub with_values : (ℕ → V) → List ℕ → List (ℕ × V)
-  with_values meaning jobs = map (λ job. (job, meaning job)) jobs
+  -- these jobs are done, each with its value of those that all jobs are to give
+  abbrev pub AreDone : List V → List ℕ → List (ℕ × V) → Type 0
+  AreDone values jobs done = (jobs_in done ≡ jobs) × EachJob (λ job value. (other : V) → value ≡ get_or values job other) done
 
   -- values put into a tray, one after another
   abbrev pub put_each : List (Option V) → List (ℕ × V) → List (Option V)

@@ -92,7 +92,7 @@ impl Model for Pass {
 }
 
 impl Board {
-    /// A board of the numbers below `limit`, at most 2^48, and its chief.
+    /// A board of the numbers below `limit`, at most 2^63, and its chief.
     pub fn open(alloc: Global, limit: u64) -> Result<(Board, Chief), AllocError>
         requires { limit ≤ number_limit }
         ensures limit { IfOk result (λ r. r.0.limit ≡ limit) }

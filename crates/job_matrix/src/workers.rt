@@ -1,11 +1,10 @@
 //! Workers, who claim the jobs of a work from one board, and the values of all jobs in order.
-ghost use Rattle.std.specs.Prelude.{◌≡◌, ◌+◌, ◌-◌, ◌<◌, ◌≤◌, ℕ, true, [], ◌++◌, map, replicate, Some, None, IfOk, IsOkAnd};
-ghost use Rattle.std.specs.List.{range_with_len};
+ghost use Rattle.std.specs.Prelude.{◌≡◌, ◌+◌, ◌-◌, ◌<◌, ◌≤◌, ℕ, true, [], ◌++◌, length, map, replicate, Some, None, IfOk, IsOkAnd};
 ghost use Rattle.std.specs.Thread.{IsSync};
 ghost use Rattle.job_matrix.specs.Counting.{times, CountsBelow};
 ghost use Rattle.job_matrix.specs.Boards.{number_limit, pass_limit};
 ghost use Rattle.job_matrix.specs.Plans.{worker_limit};
-ghost use Rattle.job_matrix.specs.Trays.{jobs_in, with_values, put_each};
+ghost use Rattle.job_matrix.specs.Trays.{jobs_in, AreDone, put_each};
 
 use crate::boards::{Board, Chief, Pass};
 use crate::trays::Tray;
@@ -26,9 +25,9 @@ fn do_jobs<W: Work, G: Gate>(
 where
     W::Out: Drop,
     requires pass { (pass.board ≡ board.now) × (pass.jobs ≡ []) }
-    requires jobs { board.now.limit ≤ W.jobs work.now }
+    requires jobs { board.now.limit ≤ length (W.values work.now) }
     ensures board { result.0.board ≡ board.now }
-    ensures done { IfOk result.1 (λ v. v.items ≡ with_values (W.meaning work.now) result.0.jobs) }
+    ensures done { IfOk result.1 (λ v. AreDone (W.values work.now) result.0.jobs v.items) }
     ensures told { IfOk result.1 (λ v. result.0.told ≡ true) }
 {
     let mut done = Vec::new(alloc);
@@ -75,11 +74,11 @@ where
     W::Out: Send + Drop,
     requires chief { (chief.board ≡ board.now) × (chief.jobs ≡ []) }
     requires workers { (0 < workers) × (chief.made + workers ≤ pass_limit) }
-    requires jobs { board.now.limit ≤ W.jobs work.now }
+    requires jobs { board.now.limit ≤ length (W.values work.now) }
     ensures board { result.0.board ≡ board.now }
     ensures back { (result.0.made ≡ chief.made + workers) × (result.0.back ≡ chief.back + workers) }
     ensures done { IfOk result.1 (λ v.
-        (v.items ≡ with_values (W.meaning work.now) result.0.jobs) × (0 < result.0.told)) }
+        AreDone (W.values work.now) result.0.jobs v.items × (0 < result.0.told)) }
 {
     let Ok(pass) = chief.split(board) else {
         unreachable!()
@@ -92,16 +91,16 @@ where
     let ((pass, mine), (mut chief, others)) = join(
         rt,
         move || -> (Pass, Result<Vec<(u64, W::Out)>, AllocError>)
-            requires { (pass.board ≡ board.now) × (pass.jobs ≡ []) × (board.now.limit ≤ W.jobs work.now) }
+            requires { (pass.board ≡ board.now) × (pass.jobs ≡ []) × (board.now.limit ≤ length (W.values work.now)) }
             ensures { (result.0.board ≡ board.entry.now) × IfOk result.1 (λ v.
-                (v.items ≡ with_values (W.meaning work.entry.now) result.0.jobs) × (result.0.told ≡ true)) }
+                AreDone (W.values work.entry.now) result.0.jobs v.items × (result.0.told ≡ true)) }
         { do_jobs(alloc, board, pass, phase, gate, work) },
         move || -> (Chief, Result<Vec<(u64, W::Out)>, AllocError>)
             requires { IsSync R.row × (chief.board ≡ board.now) × (chief.jobs ≡ []) × (1 < workers)
-                × (chief.made + (workers - 1) ≤ pass_limit) × (board.now.limit ≤ W.jobs work.now) }
+                × (chief.made + (workers - 1) ≤ pass_limit) × (board.now.limit ≤ length (W.values work.now)) }
             ensures { (result.0.board ≡ board.entry.now) × (result.0.made ≡ chief.made + (workers - 1))
                 × (result.0.back ≡ chief.back + (workers - 1)) × IfOk result.1 (λ v.
-                (v.items ≡ with_values (W.meaning work.entry.now) result.0.jobs) × (0 < result.0.told)) }
+                AreDone (W.values work.entry.now) result.0.jobs v.items × (0 < result.0.told)) }
         { spread(rt, alloc, board, chief, phase, gate, work, workers - 1) },
     );
     chief.take_back(board, pass);
@@ -129,7 +128,7 @@ fn put_in_order<V: Drop>(
     Ok(values)
 }
 
-/// The values of the jobs below `n`, in order, made by this thread alone. It passes the gate before each job.
+/// The values of all jobs of a work, `n` of them, in order, made by this thread alone. It passes the gate before each job.
 pub fn work_alone<W: Work, G: Gate>(
     alloc: Global,
     n: u64,
@@ -139,9 +138,8 @@ pub fn work_alone<W: Work, G: Gate>(
 ) -> Result<Values<W::Out>, AllocError>
 where
     W::Out: Drop,
-    requires few { n ≤ number_limit }
-    requires jobs { n ≤ W.jobs work.now }
-    ensures { IfOk result (λ v. v ≡ map (W.meaning work.now) (range_with_len 0 n)) }
+    requires { n ≡ length (W.values work.now) }
+    ensures { IfOk result (λ v. v ≡ W.values work.now) }
 {
     let mut values = Vec::with_capacity(alloc, n as usize)?;
     for job in 0..n {
@@ -152,8 +150,8 @@ where
     Ok(Values::of(values))
 }
 
-/// The values of the jobs below `n`, in order. They are the same for every number of workers and in whatever order these
-/// come.
+/// The values of all jobs of a work, `n` of them, in order. They are the same for every number of workers and in whatever order
+/// these come.
 pub fn work_all<W: Work, G: Gate, R: Threads + Sync>(
     rt: &R,
     alloc: Global,
@@ -167,8 +165,8 @@ where
     W::Out: Send + Drop,
     requires few { n ≤ number_limit }
     requires workers { (1 ≤ workers) × (workers ≤ worker_limit) }
-    requires jobs { n ≤ W.jobs work.now }
-    ensures { IfOk result (λ v. v ≡ map (W.meaning work.now) (range_with_len 0 n)) }
+    requires jobs { n ≡ length (W.values work.now) }
+    ensures { IfOk result (λ v. v ≡ W.values work.now) }
 {
     if workers == 1 {
         return work_alone(alloc, n, phase, gate, work);

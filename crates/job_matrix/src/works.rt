@@ -3,21 +3,18 @@ use std::alloc::AllocError;
 
 /// Jobs, numbered from 0, each with a value.
 pub trait Work: Sync {
-    ghost use Rattle.std.specs.Prelude.{◌≡◌, ◌<◌, ℕ, IfOk};
+    ghost use Rattle.std.specs.Prelude.{◌≡◌, ◌<◌, List, length, get_or, IfOk};
 
     /// What a job gives.
     type Out;
 
-    /// Each number below it is a job.
-    ghost jobs: { Self → ℕ };
-
-    /// What each job is to give.
-    ghost meaning: { Self → ℕ → Self.Out };
+    /// What each job is to give, in order: there are so many jobs.
+    ghost values: { Self → List Self.Out };
 
     /// Does a job.
     fn value(&self, job: u64) -> Result<Self::Out, AllocError>
-        requires { job < jobs self.now }
-        ensures { IfOk result (λ v. v ≡ meaning self.now job) };
+        requires { job < length (values self.now) }
+        ensures { IfOk result (λ v. (other : Self.Out) → v ≡ get_or (values self.now) job other) };
 }
 
 /// What the workers are doing.

@@ -1,20 +1,12 @@
 -- Ranges that follow one another, and the join of their partials.
-use Rattle.std.proofs.Common.{◌≡◌, ◌<◌, ◌≤◌, ℕ, ◌+◌, List, [], ◌∷◌, ◌++◌, map, length, get_or, refl, sym, ap, ◌∙◌, subst, arith}
-use Rattle.std.specs.List.{range_with_len}
-use Rattle.std.proofs.lemmas.List.{append_assoc, length-map}
+use Rattle.std.proofs.Common.{◌≡◌, ◌<◌, ◌≤◌, ℕ, ◌+◌, List, [], ◌∷◌, ◌++◌, length, refl, sym, ap, ◌∙◌, subst, arith}
+use Rattle.std.proofs.lemmas.List.{append_assoc}
 use Rattle.std.proofs.lemmas.List.Elements.{All-nil, All-cons}
 use Rattle.pcap_records.specs.CaptureView.{CaptureView}
-use Rattle.pcap_records.proofs.Lists.{listed}
 use Rattle.conn_table.specs.Partials.{partial_in, JoinsAgree}
 use Rattle.range_workers.specs.declared.ranges.Range.{Range}
 use Rattle.range_workers.specs.Ranges.{range_in, AreRanges, IsWithin, AreWithin}
-use Rattle.range_workers.specs.RangePartials.{partial_of, partials_of, no_partial, AreAdjacentFrom, AreAdjacent, joined_to, joined_all}
-
--- the meanings of the jobs are the partials of the ranges
-pub all_partials : (c : CaptureView) (n : ℕ) (lent ranges : List Range) → lent ≡ ranges → length lent ≡ n
-    → map (λ j. get_or (partials_of c lent) j no_partial) (range_with_len 0 n) ≡ partials_of c ranges
-all_partials c n lent ranges is len =
-    listed (partials_of c lent) n no_partial (length-map lent (partial_of c) ∙ len) ∙ ap (partials_of c) is
+use Rattle.range_workers.specs.RangePartials.{partials_of, AreAdjacentFrom, AreAdjacent, joined_to, joined_all}
 
 -- ---- ranges
 

@@ -20,11 +20,9 @@ impl<'w, 'a> Work for RangeJobs<'w, 'a> {
     type Out = Partial;
 
     ghost use Rattle.std.specs.Prelude.{◌≡◌, ◌<◌, length, get_or, IfOk};
-    ghost use Rattle.range_workers.specs.RangePartials.{partials_of, no_partial};
+    ghost use Rattle.range_workers.specs.RangePartials.{partials_of};
 
-    ghost jobs = { λ w. length w.ranges.now };
-
-    ghost meaning = { λ w job. get_or (partials_of w.capture.now w.ranges.now) job no_partial };
+    ghost values = { λ w. partials_of w.capture.now w.ranges.now };
 
     fn value(&self, job: u64) -> Result<Partial, AllocError> {
         let range = self.ranges[job as usize];

@@ -1,5 +1,5 @@
 //! The ranges that the records of a capture are cut into.
-ghost use Rattle.std.specs.Prelude.{◌≤◌, ◌^◌, length, IfOk};
+ghost use Rattle.std.specs.Prelude.{◌≤◌, IfOk};
 ghost use Rattle.range_workers.specs.Ranges.{AreRanges};
 
 use pcap_records::{Capture, Moment};
@@ -24,8 +24,7 @@ pub(crate) fn ranges_of(
     cut: usize,
 ) -> Result<Vec<Range>, AllocError>
     requires { 1 ≤ cut }
-    ensures cut { IfOk result (λ ranges. AreRanges capture.now cut 0 ranges.items) }
-    ensures few { IfOk result (λ ranges. length ranges.items ≤ 2 ^ 26) }
+    ensures { IfOk result (λ ranges. AreRanges capture.now cut 0 ranges.items) }
 {
     let count = capture.records().len();
     let mut ranges = Vec::with_capacity(alloc, count / cut + 1)?;

@@ -60,10 +60,6 @@ taken_are_left xs ys first are =
     let both = length-append (take (length ys) (drop first xs)) (drop (length ys) (drop first xs)) in
     omega (arith, all, both, ap length are, length-drop first xs)
 
--- all of a list, one by one
-pub all_of : {X : Type 0} (xs : List X) (n : ℕ) (d : X) → length xs ≡ n → map (λ j. get_or xs j d) (range_with_len 0 n) ≡ xs
-all_of xs n d many = sym (fill_by_all (λ j. get_or xs j d) xs n d many (λ k below. refl))
-
 -- what holds of a value by two facts of it
 pub both_ok : {T E : Type 0} (r : Result T E) (P Q R : T → Type 0) → ((x : T) → P x → Q x → R x) → IfOk r P → IfOk r Q → IfOk r R
 both_ok (Ok x) P Q R by p q = by x p q

@@ -11,8 +11,7 @@ use std::thread::Threads;
 
 /// Who makes the table of a capture, what is recorded of its connections, and the lines of reports. No answer depends on who it is.
 pub(crate) trait Crew {
-    ghost use Rattle.std.specs.Prelude.{◌≡◌, ◌≤◌, length, IfOk};
-    ghost use Rattle.job_matrix.specs.Boards.{number_limit};
+    ghost use Rattle.std.specs.Prelude.{◌≡◌, IfOk};
     ghost use Rattle.conn_workers.specs.CaptureTables.{whole_table};
     ghost use Rattle.conn_workers.specs.Recordings.{recordings_of, recorded_lines};
 
@@ -53,8 +52,7 @@ pub(crate) trait Crew {
         scenario: &Scenario,
         seed: u64,
     ) -> Result<Values<ReportText>, AllocError>
-        requires shares { shares self.now }
-        requires few { length recordings.now ≤ number_limit }
+        requires { shares self.now }
         ensures { IfOk result (λ v. v ≡ recorded_lines seed (number, scenario.now) recordings.now) };
 }
 

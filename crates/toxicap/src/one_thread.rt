@@ -13,7 +13,6 @@ use crate::crews::Alone;
 use crate::rehearsal::SCENARIO_LIMIT;
 use crate::reports::rehearse_reports;
 use crate::sources::Sources;
-use conn_workers::laws::recordings_are_few;
 use conn_workers::record_alone;
 use job_matrix::{Phase, Through, Work, work_alone};
 use pcap_records::{CAPTURE_LIMIT, Capture, FileBytes, read_capture};
@@ -137,12 +136,8 @@ fn outputs_alone(
     requires few { length scenarios.now ≤ scenario_limit }
     ensures { IfOk result (λ v. v ≡ outputs_of (seen_capture (contents_of capture.now)) scenarios.now seed) }
 {
-    recordings_are_few();
     let table = table_alone(alloc, capture)?;
     let recordings = record_alone(alloc, capture, &table)?;
-    let count = recordings.as_slice().len();
-    // each connection begins at a record of its own
-    prove!(count <= capture.records().len());
     let sources = Sources {
         alloc,
         capture,
@@ -179,12 +174,9 @@ impl<'s, 'w, 'v, 'a> Work for OutputJobs<'s, 'w, 'v, 'a> {
     ghost use Rattle.pcap_records.specs.CaptureView.{contents_of};
     ghost use Rattle.conn_table.specs.SeenCapture.{seen_capture};
     ghost use Rattle.toxicap.specs.Rehearsal.{outputs_of};
-    ghost use Rattle.toxicap.specs.StoredOutputs.{no_output};
 
-    ghost jobs = { λ w. length w.sources.now.scenarios.now };
-
-    ghost meaning = { λ w job. get_or (outputs_of (seen_capture (contents_of w.sources.now.capture.now))
-        w.sources.now.scenarios.now w.sources.now.seed) job no_output };
+    ghost values = { λ w. outputs_of (seen_capture (contents_of w.sources.now.capture.now))
+        w.sources.now.scenarios.now w.sources.now.seed };
 
     fn value(&self, job: u64) -> Result<Output, AllocError> {
         self.sources.output_alone(job as usize)

@@ -12,7 +12,7 @@ use crate::crews::Crew;
 use crate::gathering::gathered_report;
 use crate::rehearsal::SCENARIO_LIMIT;
 use conn_table::laws::indexed_connections_agree;
-use conn_workers::laws::{lines_are_contributed, recordings_are_few};
+use conn_workers::laws::lines_are_contributed;
 use pcap_records::{Capture, FileBytes, read_file};
 use report::ReportText;
 use run_files::RunFault;
@@ -62,12 +62,8 @@ fn join_reports<C: Crew>(
 {
     indexed_connections_agree();
     lines_are_contributed();
-    recordings_are_few();
     let table = crew.table(alloc, capture)?;
     let recordings = crew.record(alloc, capture, &table)?;
-    let count = recordings.as_slice().len();
-    // each connection begins at a record of its own
-    prove!(count <= capture.records().len());
     let mut text = Vec::new(alloc);
     for number in 0..scenarios.len() {
         let scenario = &scenarios[number];

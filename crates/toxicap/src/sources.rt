@@ -1,6 +1,5 @@
 //! What the outputs of all scenarios are made of, and one output made of it, in memory or as drafts: by this thread, or by workers.
 ghost use Rattle.std.specs.Prelude.{◌≡◌, ◌≤◌, length};
-ghost use Rattle.job_matrix.specs.Boards.{number_limit};
 ghost use Rattle.conn_workers.specs.CaptureTables.{whole_table};
 ghost use Rattle.conn_workers.specs.Recordings.{recordings_of};
 ghost use Rattle.toxicap.specs.Rehearsal.{scenario_limit};
@@ -35,7 +34,6 @@ pub(crate) struct Sources<'w, 'v, 'a> {
     ghost table_is: { table.now ≡ whole_table capture.now },
     ghost recordings_are: { recordings.now ≡ recordings_of capture.now },
     ghost few: { length scenarios.now ≤ scenario_limit },
-    ghost numbered: { length recordings.now ≤ number_limit },
 }
 
 impl<'w, 'v, 'a> Sources<'w, 'v, 'a> {

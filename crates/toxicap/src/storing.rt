@@ -11,7 +11,6 @@ ghost use Rattle.toxicap.specs.StoredOutputs.{StoresOf, TakenOf};
 
 use crate::rehearsal::SCENARIO_LIMIT;
 use crate::sources::Sources;
-use conn_workers::laws::recordings_are_few;
 use conn_workers::record;
 use job_matrix::{Plan, Through};
 use pcap_records::{Capture, FileBytes, read_file};
@@ -67,12 +66,8 @@ fn store_outputs<R: Threads + Sync, S: DraftShelf>(
     ensures taken { TakenOf result (Ok (outputs_of (seen_capture (contents_of capture.now)) scenarios.now seed))
         (Takes (S.files shelf.old) (S.files shelf.new)) (S.failures shelf.old) (S.failures shelf.new) }
 {
-    recordings_are_few();
     let table = table(rt, alloc, capture, plan, &Through)?;
     let recordings = record(rt, alloc, capture, &table, plan, &Through)?;
-    let count = recordings.as_slice().len();
-    // each connection begins at a record of its own
-    prove!(count <= capture.records().len());
     let sources = Sources {
         alloc,
         capture,

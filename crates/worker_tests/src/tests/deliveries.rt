@@ -192,7 +192,6 @@ fn check_second_row<R: Abort + Threads + Sync>(
     recordings: &Recordings<'_, '_>,
     plan: Plan,
 ) -> Result<(), Fail>
-    requires { length recordings.now ≤ 256 }
 {
     let second = scenario(alloc, &[DISABLED])?;
     let row = deliver_row_alone(alloc, recordings, 1, &second, 42)?;

@@ -10,20 +10,21 @@ use std::test::Fail;
 use std::thread::Threads;
 use worked_sessions::gates::{Counting, Holding, wait_for};
 
-// Three times a job's number and one more, but for one job, which finds no memory.
+// So many jobs, each with three times its number and one more; but one job finds no memory.
 #[derive(Drop)]
 struct Tripled {
+    count: u64,
     refused: Option<u64>,
+    ghost few: { count ≤ 2 ^ 32 },
 }
 
 impl Work for Tripled {
     type Out = u64;
 
-    ghost use Rattle.std.specs.Prelude.{◌+◌, ◌*◌, ◌^◌};
+    ghost use Rattle.std.specs.Prelude.{◌+◌, ◌*◌, map};
+    ghost use Rattle.std.specs.List.{range_with_len};
 
-    ghost jobs = { λ work. 2 ^ 32 };
-
-    ghost meaning = { λ work job. 3 * job + 1 };
+    ghost values = { λ work. map (λ job. 3 * job + 1) (range_with_len 0 work.count) };
 
     fn value(&self, job: u64) -> Result<u64, AllocError> {
         if self.refused == Some(job) {
@@ -44,9 +45,9 @@ struct Meeting {
 impl Work for Meeting {
     type Out = u64;
 
-    ghost jobs = { λ work. 2 };
+    ghost use Rattle.std.specs.List.{range_with_len};
 
-    ghost meaning = { λ work job. job };
+    ghost values = { λ work. range_with_len 0 2 };
 
     fn value(&self, job: u64) -> Result<u64, AllocError> {
         if job == 0 {
@@ -77,7 +78,10 @@ fn check_tripled<R: Abort + Threads + Sync>(
     requires workers { 1 ≤ workers × workers ≤ 16 }
     requires count { count ≤ 2 ^ 32 }
 {
-    let work = Tripled { refused: None };
+    let work = Tripled {
+        count,
+        refused: None,
+    };
     let values = work_all(rt, alloc, count, workers, Phase::Jobs, &Through, &work)?;
     check(rt, "values", are_tripled(values.as_slice(), count as usize));
     Ok(())
@@ -96,9 +100,16 @@ fn values_by_one_two_and_sixteen_workers(rt: HostRuntime) -> Result<(), Fail> {
 fn check_refused<R: Abort + Threads + Sync>(rt: &R, alloc: Global, workers: u64) -> Result<(), Fail>
     requires { 1 ≤ workers × workers ≤ 16 }
 {
-    let work = Tripled { refused: Some(3) };
+    let work = Tripled {
+        count: 5,
+        refused: Some(3),
+    };
     let answer = work_all(rt, alloc, 5, workers, Phase::Jobs, &Through, &work);
     check(rt, "want of memory", answer.is_err());
+    let work = Tripled {
+        count: 3,
+        refused: Some(3),
+    };
     let values = work_all(rt, alloc, 3, workers, Phase::Jobs, &Through, &work)?;
     check(rt, "values", are_tripled(values.as_slice(), 3));
     Ok(())
@@ -114,9 +125,16 @@ fn want_of_memory_in_one_job(rt: HostRuntime) -> Result<(), Fail> {
 
 #[test]
 fn values_after_want_of_memory_alone(rt: HostRuntime) -> Result<(), Fail> {
-    let work = Tripled { refused: Some(3) };
+    let work = Tripled {
+        count: 5,
+        refused: Some(3),
+    };
     let answer = work_alone(rt.alloc(), 5, Phase::Jobs, &Through, &work);
     check(&rt, "want of memory", answer.is_err());
+    let work = Tripled {
+        count: 3,
+        refused: Some(3),
+    };
     let values = work_alone(rt.alloc(), 3, Phase::Jobs, &Through, &work)?;
     check(&rt, "values", are_tripled(values.as_slice(), 3));
     Ok(())
@@ -124,7 +142,10 @@ fn values_after_want_of_memory_alone(rt: HostRuntime) -> Result<(), Fail> {
 
 #[test]
 fn job_held_until_the_next_has_passed(rt: HostRuntime) -> Result<(), Fail> {
-    let work = Tripled { refused: None };
+    let work = Tripled {
+        count: 4,
+        refused: None,
+    };
     let gate = Holding::new(Phase::Jobs);
     let values = work_all(&rt, rt.alloc(), 4, 2, Phase::Jobs, &gate, &work)?;
     check(&rt, "values", are_tripled(values.as_slice(), 4));
@@ -148,7 +169,10 @@ fn two_jobs_that_wait_for_each_other(rt: HostRuntime) -> Result<(), Fail> {
 
 #[test]
 fn each_job_passes_the_gate_of_its_phase(rt: HostRuntime) -> Result<(), Fail> {
-    let work = Tripled { refused: None };
+    let work = Tripled {
+        count: 10,
+        refused: None,
+    };
     let gate = Counting::new(Phase::Lines);
     let _values = work_all(&rt, rt.alloc(), 10, 3, Phase::Lines, &gate, &work)?;
     check(&rt, "passed", gate.passed() == 10);
@@ -175,9 +199,9 @@ impl Gate for Lanes {
 impl Work for Lanes {
     type Out = u64;
 
-    ghost jobs = { λ work. 8 };
+    ghost use Rattle.std.specs.List.{range_with_len};
 
-    ghost meaning = { λ work job. job };
+    ghost values = { λ work. range_with_len 0 8 };
 
     fn value(&self, job: u64) -> Result<u64, AllocError> {
         if job >= 8 || (self.passed.load(Ordering::SeqCst) >> (8 * job)) % 256 == 0 {
@@ -229,11 +253,9 @@ impl Gate for InTurn {
 impl Work for InTurn {
     type Out = u64;
 
-    ghost use Rattle.std.specs.Prelude.{◌^◌};
+    ghost use Rattle.std.specs.List.{range_with_len};
 
-    ghost jobs = { λ work. 2 ^ 32 };
-
-    ghost meaning = { λ work job. job };
+    ghost values = { λ work. range_with_len 0 5 };
 
     fn value(&self, job: u64) -> Result<u64, AllocError> {
         if self.passed.load(Ordering::SeqCst) != job.saturating_add(1) {

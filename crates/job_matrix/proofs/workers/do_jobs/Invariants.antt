@@ -1,12 +1,12 @@
 use Rattle.std.proofs.Common.{◌≡◌, ◌-◌}
-use Rattle.job_matrix.specs.Trays.{with_values}
+use Rattle.job_matrix.specs.Trays.{AreDone}
 use Rattle.job_matrix.proofs.Sums.{above_all}
 use Rattle.job_matrix.proofs.workers.do_jobs.Given as goal
 
 abbrev pub invariant-claims : goal.invariant-claims
 invariant-claims g l = record {
   board : l.pass.board ≡ l.board;
-  done : l.done.items ≡ with_values (g.W.Work.meaning l.work) l.pass.jobs;
+  done : AreDone (g.W.Work.values l.work) l.pass.jobs l.done.items;
 }
 
 abbrev pub decreases-claims : goal.decreases-claims

@@ -13,10 +13,9 @@ cuts-preserved c =
     let within : to < length capture.records = omega (arith, c.min.ensures, c.cuts.invariant.0, c.cuts.invariant.1, c.if-to-count.false) in
     let at : to ≡ from + c.args.cut = omega (arith, c.min.ensures, c.cuts.invariant.0, c.cuts.invariant.1, c.if-to-count.false) in
     let r : Range = record { from = from; to = to; carry = c.cuts.carry } in
-    let is : r ≡ range_in capture from to = ap (λ n. let x : Range = record { from = from; to = to; carry = n } in x) c.cuts.invariant.3 in (
+    let is : r ≡ range_in capture from to = ap (λ n. let x : Range = record { from = from; to = to; carry = n } in x) c.cuts.invariant.2 in (
       c.cuts.invariant.0,
       omega (arith, within, c.cuts.invariant.0),
-      omega (arith, at, c.requires, c.cuts.invariant.2, c.in_ok-push.ensures.len),
-      c.greater-carry.ensures ∙ ap₂ max c.cuts.invariant.3 c.peak.ensures ∙ sym (carried-append capture 0 from to 0 (omega arith) (omega arith)),
-      one_more capture c.args.cut from to c.cuts.ranges.items c.push.new.self.items r c.cuts.invariant.4 is at within c.in_ok-push.ensures.items,
+      c.greater-carry.ensures ∙ ap₂ max c.cuts.invariant.2 c.peak.ensures ∙ sym (carried-append capture 0 from to 0 (omega arith) (omega arith)),
+      one_more capture c.args.cut from to c.cuts.ranges.items c.push.new.self.items r c.cuts.invariant.3 is at within c.in_ok-push.ensures.items,
     )

@@ -8,7 +8,6 @@ abbrev pub invariant-cuts : goal.invariant-cuts
 invariant-cuts l =
     (l.count ≡ length l.capture.records) ×
     (l.from ≤ l.count) ×
-    (length l.ranges.items ≤ l.from) ×
     (l.carry ≡ carried l.capture 0 l.from 0) ×
     ((rest : List Range) → AreRanges l.capture l.cut l.from rest → AreRanges l.capture l.cut 0 (l.ranges.items ++ rest))
 

@@ -12,12 +12,6 @@ use Rattle.toxicap.proofs.WholeTables.{as_many_recorded, unopened_is}
 use Rattle.toxicap.proofs.PrintedSteps.{report_is, numbered_at, one_more}
 use Rattle.toxicap.proofs.reports.join_reports.Goals as goal
 
-pub prove-unreachable-requires : goal.prove-unreachable-requires
-prove-unreachable-requires g c =
-    let count = ap length (c.as_slice-count.ensures ∙ c.in_ok-recordings.ensures) in
-    let records = ap length c.records.ensures.records in
-    omega (arith, count, records, c.recordings_are_few.ensures c.args.capture.now, c.if-prove.true)
-
 pub gathered_report-requires-clause-each : goal.gathered_report-requires-clause-each
 gathered_report-requires-clause-each g c =
     let capture = c.args.capture.now in

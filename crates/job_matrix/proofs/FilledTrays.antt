@@ -1,5 +1,5 @@
 -- What lies in a tray into which values were put one after another.
-use Rattle.std.proofs.Common.{◌≡◌, ℕ, ◌<◌, ◌++◌, true, List, [], ◌∷◌, length, map, Option, Some, None, slice_get, refl, ◌≢◌, replicate, get_or, Result, Ok, Err, IfOk, sym, ap, ap₂, ◌∙◌, subst, length-set, lt_of_not-le, arith}
+use Rattle.std.proofs.Common.{◌≡◌, ℕ, ◌<◌, ◌++◌, true, List, [], ◌∷◌, length, map, Option, Some, None, slice_get, refl, ◌≢◌, replicate, get_or, Result, Ok, Err, IfOk, IsOkAnd, sym, ap, ap₂, ◌∙◌, subst, length-set, lt_of_not-le, arith}
 use Rattle.std.specs.Option.{is_some}
 use Rattle.std.proofs.lemmas.Option.{slice_get_within, slice_get-get_or, get_or_from_slice_get}
 use Rattle.job_matrix.specs.Trays.{Has, IsFree, put_one, put_where, IsRefused, jobs_in, EachJob, AreRight, AreDone, put_each, FillsInOrder}
@@ -134,6 +134,17 @@ module _ {V : Type 0} where
   pub done_append : (values : List V) (jobs others : List ℕ) (xs ys : List (ℕ × V)) → AreDone values jobs xs → AreDone values others ys → AreDone values (jobs ++ others) (xs ++ ys)
   done_append values jobs others xs ys done more =
       (map-append (λ (d : ℕ × V). d.0) xs ys ∙ ap₂ (λ (a b : List ℕ). a ++ b) done.0 more.0, each_append (λ job value. (other : V) → value ≡ get_or values job other) xs ys done.1 more.1)
+
+  -- jobs of two results, one after the other
+  pub both_done : {D E : Type 0} (items : D → List (ℕ × V)) (values : List V) (jobs others : List ℕ) (P Q R : Type 0) (r first second : Result D E)
+      → IfOk r (λ v. IsOkAnd first (λ a. IsOkAnd second (λ b. items v ≡ items a ++ items b)))
+      → IfOk first (λ v. AreDone values jobs (items v) × P) → IfOk second (λ v. AreDone values others (items v) × Q) → (P → R)
+      → IfOk r (λ v. AreDone values (jobs ++ others) (items v) × R)
+  both_done items values jobs others P Q R (Ok v) (Ok a) (Ok b) all done more further =
+      (subst (λ (xs : List (ℕ × V)). AreDone values (jobs ++ others) xs) (sym all) (done_append values jobs others (items a) (items b) done.0 more.0), further done.1)
+  both_done items values jobs others P Q R (Ok v) (Ok a) (Err e) all done more further = absurd all
+  both_done items values jobs others P Q R (Ok v) (Err e) second all done more further = absurd all
+  both_done items values jobs others P Q R (Err e) first second all done more further = tt
 
   are_right : (values : List V) (other : V) (done : List (ℕ × V)) → EachJob (λ job value. (other : V) → value ≡ get_or values job other) done → AreRight (λ job. get_or values job other) done
   are_right values other [] all = tt

@@ -1,4 +1,4 @@
-use Rattle.std.proofs.Common.{◌≡◌, ◌+◌, ◌<◌, true, IfOk, sym, ap, subst, arith}
+use Rattle.std.proofs.Common.{◌≡◌, ◌+◌, ◌<◌, true, IfOk, sym, subst, arith}
 use Rattle.job_matrix.specs.Boards.{worth}
 use Rattle.job_matrix.specs.Trays.{AreDone}
 use Rattle.job_matrix.proofs.FilledTrays.{both_done}

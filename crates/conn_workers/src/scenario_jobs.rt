@@ -61,7 +61,8 @@ impl<'w, 'v, 'a> Work for RowJobs<'w, 'v, 'a> {
 
     fn value(&self, job: u64) -> Result<LaidDelivery<'a>, AllocError> {
         let under = &self.0;
-        let recording = &under.recordings[job as usize];
+        let recordings = under.recordings;
+        let recording = &recordings[job as usize];
         laid_delivery(under.alloc, recording, under.number, under.scenario, under.seed)
     }
 }
@@ -80,7 +81,8 @@ impl<'w, 'v, 'a> Work for ReportLineJobs<'w, 'v, 'a> {
 
     fn value(&self, job: u64) -> Result<ReportText, AllocError> {
         let under = &self.0;
-        let recording = &under.recordings[job as usize];
+        let recordings = under.recordings;
+        let recording = &recordings[job as usize];
         let conn = recording.conn;
         let recorded = &recording.recorded;
         let met = met_proxy(under.scenario, conn.server);

@@ -5,7 +5,7 @@ use borrow.Author.Tests.{ltb-true}
 use mathlib.Core.Logic.{dite}
 use native.Mathlib.Decide.{ℕ_discrete}
 use Rattle.job_matrix.specs.Counting.{times, total}
-use Rattle.job_matrix.specs.Trays.{jobs_in, AreRight, EachJob}
+use Rattle.job_matrix.specs.Trays.{jobs_in, EachJob}
 use Rattle.job_matrix.specs.BoardWorld.{Worker, World, Event, claims, finishes, leaves, worker, held, after_claim, after_finish, after_leave, event_by, whose, after_event, world_after, first_world, IsWhole, AnyOrder, AllDone, TrayIsFilled}
 use Rattle.job_matrix.proofs.Sums.{times-append, times_one}
 use Rattle.std.specs.List.{sum_by}

@@ -1,4 +1,4 @@
-use Rattle.std.proofs.Common.{ℕ, get_or, sym, ap, ap₂, ◌∙◌, subst, arith}
+use Rattle.std.proofs.Common.{ℕ, ◌<◌, length, get_or, sym, ap, ap₂, ◌∙◌, subst, arith}
 use Rattle.std.proofs.lemmas.List.{get_or-map}
 use Rattle.conn_table.specs.declared.conns.Conn.{Conn}
 use Rattle.reassembly.specs.RecordedLines.{RecordedConnection}
@@ -11,7 +11,7 @@ use Rattle.conn_workers.proofs.jobs.LineJobsWork.value.Goals as goal
 pub lines-requires : goal.lines-requires
 lines-requires c =
     let work = c.args.self.now in
-    let inside = omega (arith, c.requires, work.each) in
+    let inside : c.args.job < length work.conns.now = omega (arith, c.requires, work.each) in
     subst (IsConnOf work.capture.now) c.index-self-job.is
     (is_of_capture work.capture.now work.conns.now work.shown c.args.job inside c.conns_are_of_capture.ensures c.index-self-job.result c.index-self-job.is)
 
@@ -19,7 +19,7 @@ pub returns : goal.returns
 returns c = λ other.
     let work = c.args.self.now in
     let capture = work.capture.now in
-    let inside = omega (arith, c.requires, work.each) in
+    let inside : c.args.job < length work.conns.now = omega (arith, c.requires, work.each) in
     let at = here capture work.conns.now work.shown c.args.job inside in
     let within = in_connections capture work.conns.now work.shown c.args.job inside in
     let of_capture = connection_of_capture capture work.conns.now work.shown c.args.job inside c.connections_are_of_capture.ensures in

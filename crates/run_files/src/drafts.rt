@@ -13,16 +13,16 @@ use std::fs;
 use std::io::Write;
 use std::rt::Files;
 
-/// A shelf whose files may be written before it takes them: any thread begins a draft and writes it, and the shelf takes drafts one
-/// after another, under names that they get then.
+/// A shelf whose files may be written before it takes them: whoever has it, any thread where it is `Sync`, begins a draft and writes it, and
+/// the shelf takes drafts one after another, under names that they get then.
 ///
 /// What fails while a draft is written shows when the shelf is to take it.
-pub trait DraftShelf: Shelf + Sync {
+pub trait DraftShelf: Shelf {
     ghost use Rattle.std.specs.Prelude.{◌≡◌, ℕ, ◌+◌, ◌-◌, ◌^◌, ◌<◌, [], ◌∷◌, ◌++◌, List, IfOk, OnOk, OnErr, is_ok, if◌then◌else◌};
     ghost use Rattle.run_files.specs.Shelves.{stored_file, Takes};
 
     /// A file that is written and that the shelf has not taken. One that is let go leaves nothing.
-    type Draft: Send + Drop;
+    type Draft: Drop;
 
     /// A draft holds these bytes, unless it has failed.
     ghost holds: { Self.Draft → List ℕ → Type 0 };
@@ -156,10 +156,7 @@ impl<F: Files> Drop for FolderDraft<'_, F> {
     }
 }
 
-impl<'a, F: Files + Sync> DraftShelf for Folder<'a, F>
-where
-    F::File: Send,
-{
+impl<'a, F: Files> DraftShelf for Folder<'a, F> {
     type Draft = FolderDraft<'a, F>;
 
     ghost holds = { λ _ _. Unit {0} };

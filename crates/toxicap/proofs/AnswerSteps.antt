@@ -41,7 +41,7 @@ of_answer_to : (r : Result SeenCapture CaptureFault) (scenarios : List (List Pro
 of_answer_to (Ok c) scenarios seed = tt
 of_answer_to (Err f) scenarios seed = of_capture_fault f
 
-of_answer : (bytes : List ℕ) (scenarios : List (List Proxy)) (seed : ℕ) → IfErr (answer bytes scenarios seed) IsOfText
+pub of_answer : (bytes : List ℕ) (scenarios : List (List Proxy)) (seed : ℕ) → IfErr (answer bytes scenarios seed) IsOfText
 unfolding answer
 of_answer bytes scenarios seed = by (nat_lt scenario_limit (length scenarios))
   where

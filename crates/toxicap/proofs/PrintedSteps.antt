@@ -64,3 +64,13 @@ of_fault fault wanted is = by (run_refusal fault) is
     by : (refused : Option RunFault) → IfSome refused (λ f. reports_in wanted ≡ Err f) → IfSome refused (λ f. wanted ≡ Err f)
     by (Some f) is = is_fault wanted f is
     by None is = tt
+
+-- and where what is wanted is a fault, so are its reports
+pub of_fault_printed : (fault : RunFault) (wanted : Result (List Output) RunFault)
+    → AgreesUnlessMemory run_refusal (λ (outputs : List Output). outputs) (Err fault) wanted
+    → AgreesUnlessMemory run_refusal (λ (reports : List ℕ). reports) (Err fault) (reports_in wanted)
+of_fault_printed fault wanted is = by (run_refusal fault) is
+  where
+    by : (refused : Option RunFault) → IfSome refused (λ f. wanted ≡ Err f) → IfSome refused (λ f. reports_in wanted ≡ Err f)
+    by (Some f) is = ap reports_in is
+    by None is = tt

@@ -1,8 +1,8 @@
 -- How storing ends, by what a text calls for.
-use Rattle.std.proofs.Common.{◌≡◌, ℕ, ◌<◌, ◌≤◌, List, [], length, Option, Some, None, Result, Ok, Err, refl, sym, append-nil, arith}
+use Rattle.std.proofs.Common.{◌≡◌, ℕ, ◌<◌, ◌≤◌, List, [], length, Option, Some, None, Result, Ok, Err, IfErr, refl, sym, subst, append-nil, arith}
 use Rattle.std.proofs.lemmas.Bool.{le-ltb}
 use Rattle.std.specs.Io.KnownBytes.{Consumes}
-use Rattle.pcap_records.specs.Agreement.{Agrees, AgreesUnlessMemory}
+use Rattle.pcap_records.specs.Agreement.{Refuses}
 use Rattle.pcap_records.specs.Reading.{capture_limit}
 use Rattle.scenarios.specs.declared.hosts.KnownHost.{KnownHost}
 use Rattle.scenarios.specs.declared.proxies.Proxy.{Proxy}
@@ -12,11 +12,16 @@ use Rattle.run_files.specs.declared.outputs.Output.{Output}
 use Rattle.run_files.specs.RunFault.{run_refusal}
 use Rattle.run_files.specs.Shelves.{StoredFile, Takes}
 use Rattle.run_files.specs.WrittenOutputs.{files_from}
-use Rattle.toxicap.specs.Answering.{called_for, capture_bytes_of, scenarios_from}
+use Rattle.toxicap.specs.Answering.{IsOfText, called_for}
 use Rattle.toxicap.specs.Rehearsal.{answer}
 use Rattle.toxicap.specs.RunEnds.{StoresBy, failed_reads}
 use Rattle.toxicap.specs.StoredOutputs.{StoresOf, StoresUnlessMemory, TakenOf}
-use Rattle.toxicap.proofs.AnswerSteps.{never}
+use Rattle.toxicap.proofs.AnswerSteps.{never, of_answer}
+
+-- a shelf took no file
+pub nothing_taken : (had : Option (List StoredFile)) → Takes had had []
+nothing_taken None = tt
+nothing_taken (Some files) = sym (append-nil files)
 
 -- no byte was read
 pub none_consumed : (left : Option (List ℕ)) → Consumes left left []
@@ -28,6 +33,14 @@ pub stores_unless_memory : (result : Result (Unit {0}) RunFault) (wanted : Resul
 stores_unless_memory (Ok u) wanted is = is
 stores_unless_memory (Err Memory) wanted is = tt
 stores_unless_memory (Err fault) wanted is = is
+
+-- where a rehearsal is refused nothing is stored
+pub none_stored : (fault : RunFault) (bytes : List ℕ) (scenarios : List (List Proxy)) (seed : ℕ) (had : Option (List StoredFile)) (failures : ℕ)
+    → Refuses (run_refusal fault) (answer bytes scenarios seed)
+    → StoresOf (Err fault) (answer bytes scenarios seed) × TakenOf (Err fault) (answer bytes scenarios seed) (Takes had had) failures failures
+none_stored Memory bytes scenarios seed had failures is = (is, ((0, nothing_taken had), refl))
+none_stored (ShelfFailed after) bytes scenarios seed had failures is = absurd (subst (λ wanted. IfErr wanted IsOfText) is (of_answer bytes scenarios seed))
+none_stored fault bytes scenarios seed had failures is = (is, (nothing_taken had, refl))
 
 module _ (hosts : List KnownHost) (texts : List (List ℕ)) (seed : ℕ) where
   -- how storing ends, by the text that was read

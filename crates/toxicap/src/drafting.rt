@@ -58,7 +58,7 @@ struct DraftJobs<'j, 's, 'w, 'v, 'a, S: DraftShelf> {
     ghost within: { first + count ≤ length sources.now.scenarios.now },
 }
 
-impl<'j, 's, 'w, 'v, 'a, S: DraftShelf> Work for DraftJobs<'j, 's, 'w, 'v, 'a, S> {
+impl<'j, 's, 'w, 'v, 'a, S: DraftShelf + Sync> Work for DraftJobs<'j, 's, 'w, 'v, 'a, S> {
     type Out = OutputDraft<'s, 'w, 'v, 'a, S>;
 
     ghost use Rattle.std.specs.Prelude.{◌≡◌, ◌<◌, IfOk, drop, get_or, length, take};
@@ -85,12 +85,14 @@ impl<'j, 's, 'w, 'v, 'a, S: DraftShelf> Work for DraftJobs<'j, 's, 'w, 'v, 'a, S
 ///
 /// # Errors
 /// A growth was refused.
-pub(crate) fn drafts_from<'s, 'w, 'v, 'a, R: Threads + Sync, S: DraftShelf>(
+pub(crate) fn drafts_from<'s, 'w, 'v, 'a, R: Threads + Sync, S: DraftShelf + Sync>(
     crew: &Workers<'_, R>,
     sources: &'s Sources<'w, 'v, 'a>,
     number: usize,
     shelf: &S,
 ) -> Result<Vec<OutputDraft<'s, 'w, 'v, 'a, S>>, AllocError>
+where
+    S::Draft: Send,
     requires { number < length sources.now.scenarios.now }
     ensures some { IfOk result (λ v. 0 < length v.items) }
     ensures next { IfOk result (λ v. v.items ≡ take (length v.items) (drop number

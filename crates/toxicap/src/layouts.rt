@@ -104,7 +104,7 @@ pub(crate) fn drafted_output<S: DraftShelf>(
     Ok((draft, report))
 }
 
-// A draft without bytes, once the capture of the segments of all layouts is written to it, batch by batch.
+// A draft without bytes, once the capture of the segments of all layouts is written to it.
 //
 // # Errors
 // A growth was refused.
@@ -120,6 +120,19 @@ fn written_draft<S: DraftShelf>(
     ensures { IfOk result (λ d. S.holds d (capture_of (ticks_of unit) (all_segments layouts.now))) }
 {
     let merged = merge_layouts(alloc, layouts)?;
+    written_in_turn::<S>(alloc, &merged, unit, draft)
+}
+
+// A draft without bytes, once the header of a capture and the records of some segments are written to it, batch by batch.
+fn written_in_turn<S: DraftShelf>(
+    alloc: Global,
+    merged: &MergedLayouts<'_, '_>,
+    unit: Unit,
+    draft: S::Draft,
+) -> Result<S::Draft, AllocError>
+    requires { S.holds draft [] }
+    ensures { IfOk result (λ d. S.holds d (capture_in_turn (ticks_of unit) merged.now)) }
+{
     let mut draft = draft;
     let mut batch = Vec::new(alloc);
     write_header(&mut batch, unit)?;

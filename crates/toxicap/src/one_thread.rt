@@ -8,12 +8,14 @@ ghost use Rattle.toxicap.specs.CaptureOutputs.{outputs_for, outputs_from};
 ghost use Rattle.toxicap.specs.PrintedReports.{reports_in};
 ghost use Rattle.toxicap.specs.Rehearsal.{answer, scenario_limit};
 
-use crate::crews::{Alone, Crew};
+use crate::crews::Alone;
 use crate::reading::{read_inputs, read_rehearsed};
 use crate::reports::rehearse_reports;
 use crate::sources::Sources;
+use conn_workers::record_alone;
 use job_matrix::{Phase, Through, Work, work_alone};
 use pcap_records::{Capture, FileBytes};
+use range_workers::table_alone;
 use report::ReportText;
 use run_files::{Output, Outputs, RunFault, Text};
 use scenarios::{Hosts, Scenario};
@@ -113,8 +115,8 @@ fn outputs_alone(
     requires few { length scenarios.now ≤ scenario_limit }
     ensures { IfOk result (λ v. v ≡ outputs_for capture.now scenarios.now seed) }
 {
-    let table = Alone.table(alloc, capture)?;
-    let recordings = Alone.record(alloc, capture, &table)?;
+    let table = table_alone(alloc, capture)?;
+    let recordings = record_alone(alloc, capture, &table)?;
     let sources = Sources {
         alloc,
         capture,
@@ -123,9 +125,19 @@ fn outputs_alone(
         scenarios,
         seed,
     };
-    let jobs = OutputJobs { sources: &sources };
-    let count = scenarios.len() as u64;
-    work_alone(alloc, count, Phase::Jobs, &Through, &jobs)
+    outputs_from_sources(&sources)
+}
+
+// The outputs that are made of their sources, one after another.
+//
+// # Errors
+// A growth was refused.
+fn outputs_from_sources(sources: &Sources<'_, '_, '_>) -> Result<Outputs, AllocError>
+    ensures { IfOk result (λ v. v ≡ outputs_from sources.now) }
+{
+    let jobs = OutputJobs { sources };
+    let count = sources.scenarios.len() as u64;
+    work_alone(sources.alloc, count, Phase::Jobs, &Through, &jobs)
 }
 
 // Scenarios: job j makes the output of the one with number j.

@@ -43,7 +43,8 @@ pub(crate) fn read_inputs<'t>(
     ensures refused { IfErr result (λ fault. (seed : ℕ) → AgreesUnlessMemory run_refusal (λ (outputs : List Output). outputs) (Err fault)
         (called_for hosts.now (map (λ t. t.now) texts.now) seed text.entry)) }
 {
-    if text.bytes().len() > CAPTURE_LIMIT {
+    let len = text.bytes().len();
+    if len > CAPTURE_LIMIT {
         return Err(RunFault::CaptureTooLong);
     }
     let capture = text.undumped(alloc)?;

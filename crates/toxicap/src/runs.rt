@@ -182,7 +182,10 @@ where
 {
     match asked.capture {
         Some(path) => load_file(rt, paths, alloc, path, plan),
-        None => load(alloc, reader).map(Text::of),
+        None => match load(alloc, reader) {
+            Ok(bytes) => Ok(Text::of(bytes)),
+            Err(fault) => Err(fault),
+        },
     }
 }
 
@@ -203,7 +206,10 @@ where
     if paths.is_file_system() {
         return load_by_workers(rt, alloc, path, plan);
     }
-    paths.load(alloc, path).map(Text::of)
+    match paths.load(alloc, path) {
+        Ok(bytes) => Ok(Text::of(bytes)),
+        Err(fault) => Err(fault),
+    }
 }
 
 // The texts of the scenarios of files; without one, the text of a scenario without proxies.

@@ -25,7 +25,7 @@ use std::vec::IntoIter;
 /// # Errors
 /// Those of `rehearse`, and [`RunFault::ShelfFailed`] at the first file that the shelf does not take. The shelf then has the files
 /// before that one; where memory is wanting it has a first part of the files, and at any other refusal none of them.
-pub(crate) fn store_rehearsal<R: Threads + Sync, S: DraftShelf>(
+pub(crate) fn store_rehearsal<R: Threads + Sync, S: DraftShelf + Sync>(
     crew: &Workers<'_, R>,
     alloc: Global,
     capture: FileBytes<'_>,
@@ -33,6 +33,8 @@ pub(crate) fn store_rehearsal<R: Threads + Sync, S: DraftShelf>(
     seed: u64,
     shelf: &mut S,
 ) -> Result<(), RunFault>
+where
+    S::Draft: Send,
     requires { S.failures shelf.old < 2 ^ 64 - 1 }
     ensures ends { StoresOf result (answer (bytes_of capture.entry) scenarios.now seed) }
     ensures taken { TakenOf result (answer (bytes_of capture.entry) scenarios.now seed) (Takes (S.files shelf.old) (S.files shelf.new))
@@ -43,7 +45,7 @@ pub(crate) fn store_rehearsal<R: Threads + Sync, S: DraftShelf>(
 }
 
 // Stores what each scenario answers. Workers make the table of the capture, range by range, and what is recorded of each connection.
-fn store_outputs<R: Threads + Sync, S: DraftShelf>(
+fn store_outputs<R: Threads + Sync, S: DraftShelf + Sync>(
     crew: &Workers<'_, R>,
     alloc: Global,
     capture: &Capture<'_>,
@@ -51,6 +53,8 @@ fn store_outputs<R: Threads + Sync, S: DraftShelf>(
     seed: u64,
     shelf: &mut S,
 ) -> Result<(), RunFault>
+where
+    S::Draft: Send,
     requires few { length scenarios.now ≤ scenario_limit }
     requires failures { S.failures shelf.old < 2 ^ 64 - 1 }
     ensures ends { StoresOf result (Ok (outputs_for capture.now scenarios.now seed)) }
@@ -71,11 +75,13 @@ fn store_outputs<R: Threads + Sync, S: DraftShelf>(
 }
 
 // Stores the output of each scenario, of what they are made of.
-fn store_each<R: Threads + Sync, S: DraftShelf>(
+fn store_each<R: Threads + Sync, S: DraftShelf + Sync>(
     crew: &Workers<'_, R>,
     sources: &Sources<'_, '_, '_>,
     shelf: &mut S,
 ) -> Result<(), RunFault>
+where
+    S::Draft: Send,
     requires { S.failures shelf.old < 2 ^ 64 - 1 }
     ensures ends { StoresOf result (Ok (outputs_from sources.now)) }
     ensures taken { TakenOf result (Ok (outputs_from sources.now))
@@ -93,13 +99,15 @@ fn store_each<R: Threads + Sync, S: DraftShelf>(
 //
 // # Errors
 // A growth was refused.
-fn next_draft<'s, 'w, 'v, 'a, R: Threads + Sync, S: DraftShelf>(
+fn next_draft<'s, 'w, 'v, 'a, R: Threads + Sync, S: DraftShelf + Sync>(
     crew: &Workers<'_, R>,
     sources: &'s Sources<'w, 'v, 'a>,
     number: usize,
     shelf: &S,
     ready: &mut IntoIter<OutputDraft<'s, 'w, 'v, 'a, S>>,
 ) -> Result<OutputDraft<'s, 'w, 'v, 'a, S>, AllocError>
+where
+    S::Draft: Send,
     requires within { number < length sources.now.scenarios.now }
     requires ready { into_iter_items ready.old ≡ take (length (into_iter_items ready.old)) (drop number
         (outputs_from sources.now)) }

@@ -1,4 +1,4 @@
-use Rattle.std.proofs.Common.{◌≡◌, ◌≤◌, ◌<◌, ◌+◌, ℕ, List, [], ◌∷◌, length, take, drop, get_or, refl, sym, ap, ◌∙◌, arith}
+use Rattle.std.proofs.Common.{◌≡◌, ◌≤◌, ◌<◌, ◌+◌, ℕ, List, [], ◌∷◌, length, take, drop, get_or, refl, sym, ap, subst, ◌∙◌, arith}
 use Rattle.std.proofs.lemmas.List.{take_all}
 use Rattle.std.proofs.lemmas.Result.{err_from_is_err_and}
 use Rattle.pcap_records.specs.CaptureView.{contents_of}
@@ -7,8 +7,18 @@ use Rattle.run_files.specs.declared.outputs.Output.{Output}
 use Rattle.toxicap.specs.CaptureOutputs.{no_output, outputs_from}
 use Rattle.toxicap.proofs.OutputSteps.{length-outputs_of}
 use Rattle.toxicap.proofs.ReadyDrafts.{alone}
+use Rattle.toxicap.proofs.StoringEnds.{nothing_taken}
 use Rattle.toxicap.proofs.StoredSteps.{taken_more, stops_among, stops_before}
 use Rattle.toxicap.proofs.storing.store_each.Goals as goal
+
+pub loop-number-init : goal.loop-number-init
+loop-number-init g c =
+    let none = c.into_iter-ready.ensures.rest ∙ c.new.ensures.items in
+    record {
+      taken = nothing_taken _;
+      none_failed = refl;
+      ready = subst (λ (xs : List Output). xs ≡ take (length xs) (outputs_from c.args.sources.now)) (sym none) refl;
+    }
 
 -- there was no memory for the next drafts
 pub returns-in_err-draft-clause-taken : goal.returns-in_err-draft-clause-taken

@@ -1,8 +1,8 @@
 -- Outputs of scenarios, one of them or some from a number on.
-use Rattle.std.proofs.Common.{◌≡◌, ◌<◌, ◌≤◌, ℕ, ◌+◌, ◌-◌, List, length, map, take, drop, get_or, Result, Ok, Err, refl, sym, ap, ◌∙◌, arith}
+use Rattle.std.proofs.Common.{◌≡◌, ◌<◌, ◌≤◌, ℕ, ◌-◌, List, length, map, take, drop, get_or, Result, Ok, Err, refl, sym, ap, ◌∙◌, arith}
 use Rattle.std.specs.List.{enumerate_from, range_with_len}
 use Rattle.std.specs.Result.{IfOk}
-use Rattle.std.proofs.lemmas.List.{get_or-map, length-map, length-drop, length-append, length-take-le, take-append-drop, get_or-take, get_or-drop}
+use Rattle.std.proofs.lemmas.List.{get_or-map, length-map, length-drop, length-append, take-append-drop}
 use Rattle.std.proofs.lemmas.List.FromFn.{length-enumerate_from, fill_by_all}
 use Rattle.pcap_records.specs.CaptureView.{CaptureView, contents_of}
 use Rattle.conn_table.specs.SeenCapture.{SeenCapture, seen_capture}
@@ -44,14 +44,6 @@ unfolding outputs_of
 output_at c scenarios seed number own within =
     let inside : number < length (enumerate_from 0 scenarios) = omega (arith, within, length-enumerate_from 0 scenarios) in
     ap (output c seed) (sym (numbered_at scenarios number own within)) ∙ sym (get_or-map (output c seed) (enumerate_from 0 scenarios) number (0, own) no_output inside)
-
--- so many of a list, from a place on, one by one
-pub some_from : {X : Type 0} (xs : List X) (first n : ℕ) (d : X) → n ≤ length xs - first
-    → map (λ j. get_or xs (first + j) d) (range_with_len 0 n) ≡ take n (drop first xs)
-some_from xs first n d few =
-    let left : n ≤ length (drop first xs) = omega (arith, length-drop first xs, few) in
-    sym (fill_by_all (λ j. get_or xs (first + j) d) (take n (drop first xs)) n d (length-take-le n (drop first xs) left)
-    (λ k below. get_or-take n (drop first xs) k d below ∙ get_or-drop first xs k d))
 
 -- so many of a list from a place on are no more than are left there
 pub taken_are_left : {X : Type 0} (xs ys : List X) (first : ℕ) → ys ≡ take (length ys) (drop first xs) → length ys ≤ length xs - first

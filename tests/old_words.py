@@ -10,7 +10,7 @@ is not there, as in a shallow clone, nothing is."""
 import pathlib, re, shutil, subprocess, sys
 
 TREE, COMMIT = pathlib.Path(__file__).resolve().parent.parent, 'd578439'
-START = ('toxicap', 'AnswersBefore', 'answer_before')
+START = ('old_answers', 'AnswersBefore', 'answer_before')
 WORDS, FROZEN = 307, 55
 RECORDS = [('frame_headers', 'Frame', 'SegmentFields'), ('segment_writer', 'WrittenSegments', 'WrittenConnection')]
 NAME = re.compile(r"[A-Za-z_][A-Za-z0-9_'-]*")

@@ -3,10 +3,6 @@ mod WrittenFrames
 mod SoundConnections
 mod ReadTicks
 mod OutputsRead
-mod FramesKept
-mod ConnectionsKept
-mod ContributionsKept
-mod AnswersKept
 mod Evaluated
 mod AnswerSteps
 mod PrintedSteps

@@ -33,7 +33,7 @@ heading_is bytes h is = by (nat_lt capture_limit (length bytes)) (nat_lt (length
     by false true is = absurd cc
     by false false is = checked_is (magic_heading bytes) bytes h is
 
-pub reading_heading : ReadingsSplit → (bytes : List ℕ) (r : Reading) → reading bytes ≡ Ok r
+reading_heading : ReadingsSplit → (bytes : List ℕ) (r : Reading) → reading bytes ≡ Ok r
     → (h : Heading) × (magic_heading bytes ≡ Some h) × (r.contents.ticks ≡ h.ticks)
 reading_heading readings_split bytes r is =
     let split = readings_split bytes r is in
@@ -44,7 +44,7 @@ reading_heading readings_split bytes r is =
 heading_in : ℕ → Order → Heading
 heading_in ticks o = record { order = o; ticks = ticks }
 
-pub ticks_by : (number ticks : ℕ) (bytes : List ℕ) (h : Heading) → heading_by number ticks bytes ≡ Some h → h.ticks ≡ ticks
+ticks_by : (number ticks : ℕ) (bytes : List ℕ) (h : Heading) → heading_by number ticks bytes ≡ Some h → h.ticks ≡ ticks
 unfolding heading_in
 ticks_by number ticks bytes h is = by (number_in Big 4 bytes == number) (number_in Little 4 bytes == number) is
   where

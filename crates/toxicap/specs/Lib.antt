@@ -2,14 +2,6 @@ pub mod Rehearsal
 pub mod GatheredOutputs
 pub mod CaptureOutputs
 pub mod SoundOutputs
-pub mod ReadingBefore
-pub mod FramesBefore
-pub mod ConnectionsBefore
-pub mod SegmentsBefore
-pub mod ReportsBefore
-pub mod WritingBefore
-pub mod AnswersBefore
-pub mod OldAnswers
 pub mod Answering
 pub mod PrintedReports
 pub mod StoredOutputs

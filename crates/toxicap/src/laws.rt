@@ -2,7 +2,6 @@
 //! contract is the theorem.
 ghost use Rattle.toxicap.specs.SoundOutputs.{OutputsAreRead};
 ghost use Rattle.toxicap.specs.NamedFiles.{FilesAreLoadedInOrder};
-ghost use Rattle.toxicap.specs.OldAnswers.{OldAnswersAreKept};
 ghost use Rattle.toxicap.specs.Rehearsal.{ByteOrderDoesNotMatter};
 
 use frame_headers::laws::{headers_are_sound, segments_fit};
@@ -27,15 +26,6 @@ pub fn outputs_are_read()
     headers_are_sound();
     segments_fit();
     sorted_never_falls();
-}
-
-/// A capture whose first four bytes are the first magic number, that of files in microseconds, and in which no frame has a tag
-/// (bytes 12 and 13 are `81 00`), is answered as it was before captures in nanoseconds and frames with a tag: with the same
-/// outputs, or with the same refusal. `answer_before` is the outcome as it was defined then.
-pub fn old_answers_are_kept()
-    ensures { OldAnswersAreKept }
-{
-    readings_split();
 }
 
 /// Named files are loaded in order, each at its own path; where some cannot be loaded, the fault of the first of them is told.

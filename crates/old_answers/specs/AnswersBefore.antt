@@ -20,11 +20,11 @@ use Rattle.scenarios.specs.declared.proxies.Proxy.{Proxy}
 use Rattle.conn_workers.specs.MetProxies.{met_proxy}
 use Rattle.conn_workers.specs.Contributions.{Contribution}
 use Rattle.report.specs.ReportText.{report_text}
-use Rattle.toxicap.specs.ReadingBefore.{reading_before}
-use Rattle.toxicap.specs.WritingBefore.{file_header_before}
-use Rattle.toxicap.specs.ConnectionsBefore.{seen_capture_before, connections_before, unopened_count_before}
-use Rattle.toxicap.specs.SegmentsBefore.{written_segments_before, written_connection_before}
-use Rattle.toxicap.specs.ReportsBefore.{connection_text_before}
+use Rattle.old_answers.specs.ReadingBefore.{reading_before}
+use Rattle.old_answers.specs.WritingBefore.{file_header_before}
+use Rattle.old_answers.specs.ConnectionsBefore.{seen_capture_before, connections_before, unopened_count_before}
+use Rattle.old_answers.specs.SegmentsBefore.{written_segments_before, written_connection_before}
+use Rattle.old_answers.specs.ReportsBefore.{connection_text_before}
 use Rattle.toxicap.specs.Rehearsal.{scenario_limit}
 
 -- ---- what a connection contributes

@@ -11,7 +11,7 @@ use Rattle.conn_table.specs.declared.conns.Pair.{Pair}
 use Rattle.conn_table.specs.SeenCapture.{SeenPacket, SeenCapture}
 use Rattle.conn_table.specs.IndexedSegments.{IndexedSegment, same_peer, peer_le}
 use Rattle.conn_table.specs.Connections.{last_of, is_opening, repeats, is_at, Connection}
-use Rattle.toxicap.specs.FramesBefore.{seen_frame_before}
+use Rattle.old_answers.specs.FramesBefore.{seen_frame_before}
 
 -- ---- what is seen of a capture
 

@@ -1,13 +1,9 @@
 -- Captures of the first magic number without a tagged frame are answered as they were before captures in nanoseconds and frames with a tag.
-use Rattle.std.proofs.Common.{◌≡◌, ℕ, Bool, true, false, ◌==◌, ◌++◌, nat_lt, List, [], ◌∷◌, length, map, Option, Some, None, Result, Ok, Err, inl, inr, refl, sym, ap, ap₂, ◌∙◌, if◌then◌else◌}
-use Rattle.std.specs.Prelude.{◌⊎◌, IfOk}
-use Rattle.std.specs.Option.{option_or}
+use Rattle.std.proofs.Common.{◌≡◌, ℕ, ◌++◌, nat_lt, List, [], ◌∷◌, length, map, None, Result, Ok, Err, IfOk, refl, sym, ap, ap₂, ◌∙◌, if◌then◌else◌}
 use Rattle.std.specs.List.{AllByRecursion, enumerate_from, flat_map}
 use Rattle.pcap_records.specs.declared.fault.CaptureFault.{CaptureFault}
-use Rattle.pcap_records.specs.declared.fault.CaptureFault.TheVariants.{CaptureTooLong, ShortHeader}
-use Rattle.pcap_records.specs.declared.heading.Order.TheVariants.{Big, Little}
-use Rattle.pcap_records.specs.Instants.{microseconds, nanoseconds}
-use Rattle.pcap_records.specs.Reading.{Heading, Reading, capture_limit, file_header_len, number_in, magic, nanosecond_magic, heading_by, magic_heading, checked_heading, file_heading, reading_with, reading}
+use Rattle.pcap_records.specs.Instants.{microseconds}
+use Rattle.pcap_records.specs.Reading.{Reading, reading}
 use Rattle.pcap_records.specs.Writing.{file_header}
 use Rattle.pcap_records.specs.Grammar.{ReadingsSplit}
 use Rattle.segment_writer.specs.declared.framed.Framed.{Framed}
@@ -24,47 +20,16 @@ use Rattle.run_files.specs.declared.outputs.Output.{Output}
 use Rattle.scenarios.specs.declared.proxies.Proxy.{Proxy}
 use Rattle.conn_workers.specs.Contributions.{Contribution, contribution_of}
 use Rattle.toxicap.specs.Rehearsal.{contributions, output, outputs_of, scenario_limit, seen_file, answer_to, answer}
-use Rattle.toxicap.specs.ReadingBefore.{magic_heading_before, file_heading_before, reading_before}
-use Rattle.toxicap.specs.WritingBefore.{file_header_before}
-use Rattle.toxicap.specs.ConnectionsBefore.{seen_capture_before, connections_before, unopened_count_before}
-use Rattle.toxicap.specs.AnswersBefore.{contribution_of_before, contributions_before, capture_of_before, output_before, outputs_of_before, seen_file_before, answer_to_before, answer_before}
-use Rattle.toxicap.specs.OldAnswers.{HasFirstMagic, AreUntagged, OldAnswersAreKept}
-use Rattle.toxicap.proofs.ReadTicks.{reading_heading, ticks_by}
-use Rattle.toxicap.proofs.FramesKept.{HasNoVlan, seen_kept, segments_have_none}
-use Rattle.toxicap.proofs.ConnectionsKept.{connections_kept, unopened_kept, connections_have_none}
-use Rattle.toxicap.proofs.ContributionsKept.{contribution_is_kept}
+use Rattle.old_answers.specs.WritingBefore.{file_header_before}
+use Rattle.old_answers.specs.ConnectionsBefore.{seen_capture_before, connections_before, unopened_count_before}
+use Rattle.old_answers.specs.AnswersBefore.{contribution_of_before, contributions_before, capture_of_before, output_before, outputs_of_before, seen_file_before, answer_to_before, answer_before}
+use Rattle.old_answers.specs.OldAnswers.{AreUntagged, OldAnswersAreKept}
+use Rattle.old_answers.proofs.ReadingKept.{reading_kept, counts_as_before}
+use Rattle.old_answers.proofs.FramesKept.{HasNoVlan, seen_kept, segments_have_none}
+use Rattle.old_answers.proofs.ConnectionsKept.{connections_kept, unopened_kept, connections_have_none}
+use Rattle.old_answers.proofs.ContributionsKept.{contribution_is_kept}
 
--- ---- the file is read as before
-
--- where the first magic number is found, no other is asked for
-found : {A : Type 0} (big little : Bool) (x y : A) (other : Option A) → (big ≡ true) ⊎ (little ≡ true)
-    → option_or (if big then Some x else (if little then Some y else None)) other ≡ (if big then Some x else (if little then Some y else None))
-found true little x y other has = refl
-found false true x y other has = refl
-found false false x y other (inl has) = absurd cc
-found false false x y other (inr has) = absurd cc
-
-passes : (bytes : List ℕ) → HasFirstMagic bytes → ((number_in Big 4 bytes == magic) ≡ true) ⊎ ((number_in Little 4 bytes == magic) ≡ true)
-passes bytes (inl has) = inl (ap (λ n. n == magic) has)
-passes bytes (inr has) = inr (ap (λ n. n == magic) has)
-
-heading_kept : (bytes : List ℕ) → HasFirstMagic bytes → magic_heading bytes ≡ magic_heading_before bytes
-heading_kept bytes has =
-    found (number_in Big 4 bytes == magic) (number_in Little 4 bytes == magic) _ _ (heading_by nanosecond_magic nanoseconds bytes) (passes bytes has)
-
-reading_kept : (bytes : List ℕ) → HasFirstMagic bytes → reading bytes ≡ reading_before bytes
-unfolding file_heading file_heading_before reading reading_before
-reading_kept bytes has =
-    ap (λ (told : Option Heading). reading_with (if nat_lt capture_limit (length bytes) then Err CaptureTooLong else (if nat_lt (length bytes) file_header_len then Err ShortHeader else checked_heading told bytes)) bytes)
-    (heading_kept bytes has)
-
--- it counts microseconds
-counts_as_before : ReadingsSplit → (bytes : List ℕ) → HasFirstMagic bytes → (r : Reading) → reading bytes ≡ Ok r → r.contents.ticks ≡ microseconds
-counts_as_before readings_split bytes has r is =
-    let read = reading_heading readings_split bytes r is in
-    read.2 ∙ ticks_by magic microseconds bytes read.0 (sym (heading_kept bytes has) ∙ read.1)
-
--- ---- and so are outputs written
+-- ---- outputs are written as before
 
 microsecond_header_kept : file_header microseconds ≡ file_header_before microseconds
 unfolding file_header file_header_before

@@ -5,7 +5,7 @@ use Rattle.pcap_records.specs.declared.heading.Order.TheVariants.{Big, Little}
 use Rattle.pcap_records.specs.Reading.{Packet, number_in, magic, reading}
 use Rattle.frame_headers.specs.Frame.{is_tagged}
 use Rattle.scenarios.specs.declared.proxies.Proxy.{Proxy}
-use Rattle.toxicap.specs.AnswersBefore.{answer_before}
+use Rattle.old_answers.specs.AnswersBefore.{answer_before}
 use Rattle.toxicap.specs.Rehearsal.{answer}
 
 -- the first four bytes are the first magic number, that of files in microseconds, in one of the two orders

@@ -1,12 +1,12 @@
 -- Segments without a VLAN make the connections that they made before frames with a tag.
 use Rattle.std.proofs.Common.{◌≡◌, ℕ, ◌+◌, Bool, cond, ◌&&◌, not, nat_lt, nat_le, List, [], ◌∷◌, length, map, filter, Option, None, is_none, refl, ap, ap₂, ◌∙◌}
 use Rattle.std.specs.List.{AllByRecursion, enumerate_from}
+use Rattle.std.proofs.lemmas.List.Elements.{All-from_recursion, recursion_from_All, All-filter}
 use Rattle.conn_table.specs.IndexedSegments.{IndexedSegment, same_vlan}
 use Rattle.conn_table.specs.Connections.{last_of, is_opening, of_one_pair, repeats, openings_before, begins, beginnings, beginning_of, is_at, later_members, Connection, connection_of, connections, is_unopened, unopened_count}
 use Rattle.reassembly.specs.Positions.{vlan_of}
-use Rattle.toxicap.specs.ConnectionsBefore.{of_one_pair_before, openings_before_before, begins_before, beginnings_before, beginning_of_before, later_members_before, connection_of_before, connections_before, is_unopened_before, unopened_count_before}
-use Rattle.toxicap.proofs.EachElement.{each_filtered}
-use Rattle.toxicap.proofs.FramesKept.{HasNoVlan}
+use Rattle.old_answers.specs.ConnectionsBefore.{of_one_pair_before, openings_before_before, begins_before, beginnings_before, beginning_of_before, later_members_before, connection_of_before, connections_before, is_unopened_before, unopened_count_before}
+use Rattle.old_answers.proofs.FramesKept.{HasNoVlan}
 
 one_pair_kept : (s x : IndexedSegment) → HasNoVlan s → HasNoVlan x → of_one_pair s x ≡ of_one_pair_before s x
 one_pair_kept s x s_has_none x_has_none = ap₂ (λ (v w : Option ℕ). same_vlan v w && of_one_pair_before s x) x_has_none s_has_none
@@ -33,7 +33,8 @@ beginnings_kept segs none = keeps_same (begins segs) (begins_before segs) (λ s 
 
 beginnings_have_none : (segs : List IndexedSegment) → AllByRecursion HasNoVlan segs → AllByRecursion HasNoVlan (beginnings_before segs)
 unfolding beginnings_before
-beginnings_have_none segs none = each_filtered HasNoVlan (begins_before segs) segs none
+beginnings_have_none segs none =
+    recursion_from_All HasNoVlan (filter (begins_before segs) segs) (All-filter (begins_before segs) HasNoVlan segs (All-from_recursion HasNoVlan segs none))
 
 beginning_kept : (segs : List IndexedSegment) (s : IndexedSegment) → AllByRecursion HasNoVlan segs → HasNoVlan s → beginning_of segs s ≡ beginning_of_before segs s
 beginning_kept segs s none s_has_none =

@@ -6,9 +6,9 @@ use Rattle.pcap_records.specs.Reading.{Packet, Contents}
 use Rattle.frame_headers.specs.Frame.{is_tagged, frame_class, frame_class_in, segment_fields, segment_fields_in, FrameClass, SegmentFields, SeenFrame, seen_frame}
 use Rattle.conn_table.specs.SeenCapture.{SeenPacket, SeenCapture, seen_packet, seen_packets, seen_capture}
 use Rattle.conn_table.specs.IndexedSegments.{IndexedSegment, is_segment, indexed_segment, indexed_segments}
-use Rattle.toxicap.specs.FramesBefore.{frame_class_before, segment_fields_before, seen_frame_before}
-use Rattle.toxicap.specs.ConnectionsBefore.{seen_packet_before, seen_packets_before, seen_capture_before}
-use Rattle.toxicap.specs.OldAnswers.{AreUntagged}
+use Rattle.old_answers.specs.FramesBefore.{frame_class_before, segment_fields_before, seen_frame_before}
+use Rattle.old_answers.specs.ConnectionsBefore.{seen_packet_before, seen_packets_before, seen_capture_before}
+use Rattle.old_answers.specs.OldAnswers.{AreUntagged}
 
 -- ---- what is seen
 

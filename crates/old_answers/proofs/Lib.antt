@@ -1,0 +1,5 @@
+mod ReadingKept
+mod FramesKept
+mod ConnectionsKept
+mod ContributionsKept
+mod AnswersKept

@@ -1,9 +1,9 @@
 //! One capture of many lists of written segments.
 #![tactic(auto)]
 
-mod captures;
 mod key_order;
 mod merging;
 
-pub use captures::{MergedLayouts, merge_layouts, merged_capture};
-pub use merging::{Merged, merge};
+pub use merging::{
+    InOrder, Lists, Merged, MergedLayouts, merge, merge_layouts, merged_capture,
+};

@@ -1,11 +1,13 @@
 //! The segments of many lists by their keys, and their order.
-ghost use Rattle.std.specs.Prelude.{◌≡◌, ◌++◌, All, IfOk, IsPermutation, OnOk};
+ghost use Rattle.std.specs.Prelude.{◌≡◌, ◌++◌, All, IfOk, IsPermutation, OnOk, map};
+ghost use Rattle.std.specs.List.{flat_map};
 ghost use Rattle.std.specs.List.Sorted.{IsSorted};
+ghost use Rattle.segment_writer.specs.KeyLaws.{HasNoKeyTwice};
 ghost use Rattle.segment_writer.specs.WrittenSegments.{sorted_by_key};
-ghost use Rattle.time_merge.specs.KeyedSegments.{all_keyed_segments, keyed_cmp, keyed_left, keyed_segments};
+ghost use Rattle.time_merge.specs.KeyedSegments.{all_keyed_segments, IsKeyed, keyed_cmp, keyed_left, keyed_segments, segment_of};
 
 use itertools::Itertools;
-use segment_writer::laws::sorted_never_falls;
+use segment_writer::laws::{one_order, sorted_never_falls};
 use segment_writer::{Keys, SegKey};
 use std::alloc::{AllocError, Global};
 
@@ -113,4 +115,16 @@ fn add_keys<L: Keys>(
     ensures { OnOk result (keys.new.items ≡ keys.old.items ++ keyed_segments list 0 (L.segments segments.now)) }
 {
     keys.extend(keyed(list, segments))
+}
+
+// Keyed segments of all lists, in order: they stand for the segments in order of key, where no key stands twice.
+pub(crate) fn in_order<L: Keys>(lists: &[L], keys: Vec<KeyedSegment>) -> Vec<KeyedSegment>
+    requires once { HasNoKeyTwice (flat_map L.segments lists.now) }
+    requires all { IsPermutation (all_keyed_segments L.segments lists.now) keys.items }
+    requires sorted { IsSorted keyed_cmp keys.items }
+    ensures keyed { All (IsKeyed L.segments lists.now) result.items }
+    ensures order { map (segment_of L.segments lists.now) result.items ≡ sorted_by_key (flat_map L.segments lists.now) }
+{
+    one_order();
+    keys
 }

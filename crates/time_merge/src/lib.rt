@@ -4,6 +4,4 @@
 mod key_order;
 mod merging;
 
-pub use merging::{
-    InOrder, Lists, Merged, MergedLayouts, merge, merge_layouts, merged_capture,
-};
+pub use merging::{Merged, MergedLayouts, merge, merge_layouts, merged_capture};

@@ -1,13 +1,13 @@
 //! Merging lists of segments, in memory or laid out, and the capture of what was merged, each record written in its place.
-ghost use Rattle.std.specs.Prelude.{◌≡◌, All, IfOk};
+ghost use Rattle.std.specs.Prelude.{◌≡◌, ◌++◌, All, IfOk, OnErr, OnOk, map};
 ghost use Rattle.pcap_records.specs.Instants.{ticks_of};
 ghost use Rattle.segment_writer.specs.KeyLaws.{HasNoKeyTwice};
 ghost use Rattle.segment_writer.specs.WrittenSegments.{sorted_by_key};
-ghost use Rattle.time_merge.specs.MergedCapture.{all_segments, capture_of};
+ghost use Rattle.time_merge.specs.KeyedSegments.{IsKeyed, segment_of};
+ghost use Rattle.time_merge.specs.MergedCapture.{all_segments, capture_in_turn, capture_of};
 
-use crate::key_order::{KeyedSegment, merged_keys, sorted_keys};
+use crate::key_order::{KeyedSegment, in_order, merged_keys, sorted_keys};
 use pcap_records::{FILE_HEADER_LEN, Unit, write_header};
-use segment_writer::laws::one_order;
 use segment_writer::{Keys, Layout, SegList};
 use std::alloc::{AllocError, Global};
 use std::marker::Model;
@@ -22,8 +22,41 @@ pub fn merge(alloc: Global, lists: Vec<SegList>) -> Result<Merged, AllocError>
     requires once { HasNoKeyTwice (all_segments lists.items) }
     ensures { IfOk result (λ merged. merged ≡ sorted_by_key (all_segments lists.items)) }
 {
-    let order = merged_keys(alloc, &lists)?;
-    Ok(InOrder::of(lists, order))
+    let keys = merged_keys(alloc, &lists)?;
+    let order = in_order(&lists, keys);
+    Ok(Merged { lists, order })
+}
+
+/// The segments of some lists, in one order. The lists stay as they are: beside them stands the order, of keyed segments.
+#[derive(Debug, Drop)]
+pub struct Merged {
+    lists: Vec<SegList>,
+    order: Vec<KeyedSegment>,
+}
+
+impl Model for Merged {
+    ghost use Rattle.std.specs.Prelude.{List, All, map};
+    ghost use Rattle.segment_writer.specs.declared.framed.Framed.{Framed};
+    ghost use Rattle.time_merge.specs.KeyedSegments.{IsKeyed, segment_of};
+
+    ghost Value = { List Framed };
+
+    ghost view = { λ m. map (segment_of (λ l. l) m.lists.items) m.order.items };
+
+    ghost invariant = { λ m. All (IsKeyed (λ l. l) m.lists.items) m.order.items };
+}
+
+impl Merged {
+    /// The capture of the segments, whose instants count in `unit`: the header of a file, and the record of each segment in turn.
+    /// Its length is known before the first byte is written, so that memory is asked for once.
+    ///
+    /// # Errors
+    /// Where that growth is refused.
+    pub fn capture(&self, alloc: Global, unit: Unit) -> Result<Vec<u8>, AllocError>
+        ensures { IfOk result (λ bytes. bytes.items ≡ capture_in_turn (ticks_of unit) self.now) }
+    {
+        captured(alloc, &self.lists, &self.order, unit)
+    }
 }
 
 /// The segments of all layouts, in order of key, whose records are written one at a time. Over all layouts no key stands twice.
@@ -37,108 +70,33 @@ pub fn merge_layouts<'l, 'a>(
     requires { HasNoKeyTwice (all_segments layouts.now) }
     ensures { IfOk result (λ merged. merged ≡ sorted_by_key (all_segments layouts.now)) }
 {
-    let order = sorted_keys(alloc, layouts)?;
-    Ok(InOrder::of(layouts, order))
+    let keys = sorted_keys(alloc, layouts)?;
+    let order = in_order(layouts, keys);
+    Ok(MergedLayouts { layouts, order })
 }
 
-/// The capture of the segments of all layouts, whose instants count in `unit`: what [`merge`] and [`Merged::capture`](InOrder::capture)
-/// give of them, but that each record is written in its place.
-///
-/// # Errors
-/// Where a growth is refused.
-#[tactic(auto, unfolding(crate::specs::MergedCapture::capture_of))]
-pub fn merged_capture(
-    alloc: Global,
-    layouts: &[Layout<'_>],
-    unit: Unit,
-) -> Result<Vec<u8>, AllocError>
-    requires { HasNoKeyTwice (all_segments layouts.now) }
-    ensures { IfOk result (λ bytes. bytes.items ≡ capture_of (ticks_of unit) (all_segments layouts.now)) }
-{
-    merge_layouts(alloc, layouts)?.capture(alloc, unit)
-}
-
-/// Some lists of segments, owned or lent.
-pub trait Lists: Drop {
-    /// One of them.
-    type Item: Keys;
-
-    ghost use Rattle.std.specs.Prelude.{◌≡◌, List};
-
-    ghost held: { Self → List Self.Item };
-
-    /// All of them.
-    fn lent(&self) -> &[Self::Item]
-        ensures { result.now ≡ held self.now };
-}
-
-impl Lists for Vec<SegList> {
-    type Item = SegList;
-
-    ghost held = { λ v. v.items };
-
-    fn lent(&self) -> &[SegList] {
-        self
-    }
-}
-
-impl<'a> Lists for &[Layout<'a>] {
-    type Item = Layout<'a>;
-
-    ghost held = { λ s. s.now };
-
-    fn lent(&self) -> &[Layout<'a>] {
-        self
-    }
-}
-
-/// The segments of some lists, in one order. The lists stay as they are: beside them stands the order, of keyed segments. Contracts see
-/// the segments as they are written.
+/// The segments of some layouts, in one order. Contracts see them as they are written.
 #[derive(Debug, Drop)]
-pub struct InOrder<S: Lists> {
-    lists: S,
+pub struct MergedLayouts<'l, 'a> {
+    layouts: &'l [Layout<'a>],
     order: Vec<KeyedSegment>,
 }
 
-/// What [`merge`] gives.
-pub type Merged = InOrder<Vec<SegList>>;
-
-/// What [`merge_layouts`] gives.
-pub type MergedLayouts<'l, 'a> = InOrder<&'l [Layout<'a>]>;
-
-impl<S: Lists> Model for InOrder<S> {
+impl<'l, 'a> Model for MergedLayouts<'l, 'a> {
     ghost use Rattle.std.specs.Prelude.{List, All, map};
     ghost use Rattle.segment_writer.specs.declared.framed.Framed.{Framed};
     ghost use Rattle.time_merge.specs.KeyedSegments.{IsKeyed, segment_of};
 
     ghost Value = { List Framed };
 
-    ghost view = { λ m. map (segment_of S.Item.segments (S.held m.lists)) m.order.items };
+    ghost view = { λ m. map (segment_of (λ l. l) m.layouts.now) m.order.items };
 
-    ghost invariant = { λ m. All (IsKeyed S.Item.segments (S.held m.lists)) m.order.items };
+    ghost invariant = { λ m. All (IsKeyed (λ l. l) m.layouts.now) m.order.items };
 }
 
-impl<S: Lists> InOrder<S> {
-    ghost use Rattle.std.specs.Prelude.{◌≡◌, ◌<◌, ◌++◌, All, IfOk, IsPermutation, OnOk, OnErr, length, map, slice_index_or};
-    ghost use Rattle.std.specs.List.{flat_map};
-    ghost use Rattle.std.specs.List.Sorted.{IsSorted};
-    ghost use Rattle.pcap_records.specs.Instants.{ticks_of};
-    ghost use Rattle.segment_writer.specs.KeyLaws.{HasNoKeyTwice};
+impl<'l, 'a> MergedLayouts<'l, 'a> {
+    ghost use Rattle.std.specs.Prelude.{◌≡◌, ◌<◌, ◌++◌, OnOk, OnErr, length, slice_index_or};
     ghost use Rattle.segment_writer.specs.LaidSegments.{no_segment};
-    ghost use Rattle.segment_writer.specs.WrittenSegments.{sorted_by_key};
-    ghost use Rattle.time_merge.specs.KeyedSegments.{all_keyed_segments, keyed_cmp};
-    ghost use Rattle.time_merge.specs.MergedCapture.{capture_in_turn};
-
-    // Lists, and their keyed segments in order.
-    fn of(lists: S, order: Vec<KeyedSegment>) -> InOrder<S>
-        requires once { HasNoKeyTwice (flat_map S.Item.segments (S.held lists)) }
-        requires all { IsPermutation (all_keyed_segments S.Item.segments (S.held lists)) order.items }
-        requires sorted { IsSorted keyed_cmp order.items }
-        ensures { result ≡ sorted_by_key (flat_map S.Item.segments (S.held lists)) }
-    {
-        one_order();
-        InOrder { lists, order }
-    }
 
     /// How many segments there are.
     pub fn count(&self) -> usize
@@ -156,25 +114,44 @@ impl<S: Lists> InOrder<S> {
         ensures ok { OnOk result (out.new.items ≡ out.old.items ++ (slice_index_or self.now place no_segment).bytes) }
         ensures err { OnErr result (out.new.items ≡ out.old.items) }
     {
-        let keyed = &self.order[place];
-        self.lists.lent()[keyed.list].put(keyed.index, out)
+        put_keyed(self.layouts, &self.order[place], out)
     }
+}
 
-    /// The capture of the segments, whose instants count in `unit`: the header of a file, and the record of each segment in turn.
-    /// Its length is known before the first byte is written, so that memory is asked for once.
-    ///
-    /// # Errors
-    /// Where that growth is refused.
-    pub fn capture(&self, alloc: Global, unit: Unit) -> Result<Vec<u8>, AllocError>
-        ensures { IfOk result (λ bytes. bytes.items ≡ capture_in_turn (ticks_of unit) self.now) }
-    {
-        let mut bytes = Vec::with_capacity(alloc, capture_len(self.lists.lent()))?;
-        write_header(&mut bytes, unit)?;
-        for place in 0..self.count() {
-            self.put(place, &mut bytes)?;
-        }
-        Ok(bytes)
+/// The capture of the segments of all layouts, whose instants count in `unit`: what [`merge`] and [`Merged::capture`] give of them,
+/// but that each record is written in its place.
+///
+/// # Errors
+/// Where a growth is refused.
+#[tactic(auto, unfolding(crate::specs::MergedCapture::capture_of))]
+pub fn merged_capture(
+    alloc: Global,
+    layouts: &[Layout<'_>],
+    unit: Unit,
+) -> Result<Vec<u8>, AllocError>
+    requires { HasNoKeyTwice (all_segments layouts.now) }
+    ensures { IfOk result (λ bytes. bytes.items ≡ capture_of (ticks_of unit) (all_segments layouts.now)) }
+{
+    let keys = sorted_keys(alloc, layouts)?;
+    captured(alloc, layouts, &in_order(layouts, keys), unit)
+}
+
+// The header of a file, and the records of some keyed segments in turn.
+fn captured<L: Keys>(
+    alloc: Global,
+    lists: &[L],
+    order: &[KeyedSegment],
+    unit: Unit,
+) -> Result<Vec<u8>, AllocError>
+    requires { All (IsKeyed L.segments lists.now) order.now }
+    ensures { IfOk result (λ bytes. bytes.items ≡ capture_in_turn (ticks_of unit) (map (segment_of L.segments lists.now) order.now)) }
+{
+    let mut bytes = Vec::with_capacity(alloc, capture_len(lists))?;
+    write_header(&mut bytes, unit)?;
+    for keyed in order {
+        put_keyed(lists, keyed, &mut bytes)?;
     }
+    Ok(bytes)
 }
 
 // The length of the capture of some lists, or the greatest number where it is past that.
@@ -184,4 +161,17 @@ fn capture_len<L: Keys>(lists: &[L]) -> usize {
         len = len.saturating_add(list.written_len());
     }
     len
+}
+
+// Appends the record of a keyed segment.
+fn put_keyed<L: Keys>(
+    lists: &[L],
+    keyed: &KeyedSegment,
+    out: &mut Vec<u8>,
+) -> Result<(), AllocError>
+    requires { IsKeyed L.segments lists.now keyed.now }
+    ensures ok { OnOk result (out.new.items ≡ out.old.items ++ (segment_of L.segments lists.now keyed.now).bytes) }
+    ensures err { OnErr result (out.new.items ≡ out.old.items) }
+{
+    lists[keyed.list].put(keyed.index, out)
 }

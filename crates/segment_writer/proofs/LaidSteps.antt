@@ -111,8 +111,3 @@ module _ (client : Sender) (up down : List LinePart) (first : client.is_server �
       let first_two = all_append P opening ups opening_laid (all_weaker (IsLaid (in_turn client 1) up) P (up_laid client up down first) ups ups_laid) in
       all_sorted laid_below P (sorted_by laid_below (opening ++ ups) ++ downs)
       (all_append P (sorted_by laid_below (opening ++ ups)) downs (all_sorted laid_below P (opening ++ ups) first_two) (all_weaker (IsLaid (peer_in client 2) down) P (down_laid client up down first) downs downs_laid))
-
--- what is written has the keys of what is laid out
-pub written_keys : (client : Sender) (up down : List LinePart) (laid : List Laid) → map (λ (l : Laid). l.key) laid ≡ map (λ (x : Framed). x.key) (map (framed_in client up down) laid)
-written_keys client up down [] = refl
-written_keys client up down (l ∷ laid) = ap (λ keys. l.key ∷ keys) (written_keys client up down laid)

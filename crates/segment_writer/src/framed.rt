@@ -41,6 +41,36 @@ impl Keyed for Framed {
     }
 }
 
+/// A list of written segments, which lends their keys and appends their records.
+pub trait Keys: Drop {
+    ghost use Rattle.std.specs.Prelude.{◌≡◌, ◌<◌, ◌++◌, List, length, slice_index_or, OnOk, OnErr};
+    ghost use Rattle.segment_writer.specs.declared.framed.Framed.{Framed};
+    ghost use Rattle.segment_writer.specs.LaidSegments.{no_segment};
+
+    ghost segments: { Self → List Framed };
+
+    /// How many segments there are.
+    fn count(&self) -> usize
+        ensures { result ≡ length (segments self.now) };
+
+    /// The key of a segment.
+    fn key(&self, index: usize) -> SegKey
+        requires { index < length (segments self.now) }
+        ensures { result ≡ (slice_index_or (segments self.now) index no_segment).key };
+
+    /// How many bytes the records of all segments have, or the greatest number where they are more.
+    fn written_len(&self) -> usize;
+
+    /// Appends the record of a segment.
+    ///
+    /// # Errors
+    /// Where a growth is refused; `out` is then unchanged.
+    fn put(&self, index: usize, out: &mut Vec<u8>) -> Result<(), AllocError>
+        requires { index < length (segments self.now) }
+        ensures ok { OnOk result (out.new.items ≡ out.old.items ++ (slice_index_or (segments self.now) index no_segment).bytes) }
+        ensures err { OnErr result (out.new.items ≡ out.old.items) };
+}
+
 /// Written segments, one after another.
 #[derive(Debug, Drop)]
 pub struct SegList {
@@ -96,6 +126,30 @@ impl SegList {
     {
         let list = merged(alloc, left.into_vec(), right.into_vec())?;
         Ok(SegList::of(list))
+    }
+}
+
+impl Keys for SegList {
+    ghost segments = { λ l. l };
+
+    fn count(&self) -> usize {
+        self.list.len()
+    }
+
+    fn key(&self, index: usize) -> SegKey {
+        self.list[index].key
+    }
+
+    fn written_len(&self) -> usize {
+        let mut len = 0usize;
+        for segment in &self.list {
+            len = len.saturating_add(segment.bytes.as_slice().len());
+        }
+        len
+    }
+
+    fn put(&self, index: usize, out: &mut Vec<u8>) -> Result<(), AllocError> {
+        out.extend_from_slice(self.list[index].bytes.as_slice())
     }
 }
 

@@ -12,9 +12,8 @@ use reassembly::LinePart;
 /// A segment that is to be written: its key, who sends it, its numbers and flags, and the `len` bytes of its payload, which begin
 /// at a cursor over the parts of its sender's line.
 #[derive(Clone, Copy, Debug)]
-pub struct Laid {
-    /// What it is ordered by.
-    pub key: SegKey,
+pub(crate) struct Laid {
+    pub(crate) key: SegKey,
     pub(crate) is_server: bool,
     pub(crate) flags: Flags,
     pub(crate) seq: u32,

@@ -1,9 +1,9 @@
 //! The segments of a connection, laid out: no record is written yet, and payloads are lent by what was delivered.
-ghost use Rattle.std.specs.Prelude.{◌≡◌, ◌≤◌, ◌<◌, ◌++◌, true, length, slice_index_or, map, IfOk, OnOk, OnErr, ◌↔◌, IsTrue};
+ghost use Rattle.std.specs.Prelude.{◌≡◌, map, IfOk};
 ghost use Rattle.std.specs.List.{AllByRecursion};
-ghost use Rattle.segment_writer.specs.LaidSegments.{framed_in, no_segment, IsLaidIn};
+ghost use Rattle.segment_writer.specs.LaidSegments.{framed_in, IsLaidIn};
 
-use crate::framed::{Framed, SegKey, SegList};
+use crate::framed::{Framed, Keys, SegKey, SegList};
 use crate::laid::{Laid, parts_of, sender_of};
 use crate::records::{put_record, record_len};
 use crate::senders::Sender;
@@ -53,37 +53,6 @@ impl<'a> Layout<'a> {
         }
     }
 
-    /// The segments as they are laid out: what can be told of each without its record is its key.
-    pub fn laid(&self) -> &[Laid]
-        ensures { map (λ l. l.key) result.now ≡ map (λ x. x.key) self.now }
-    {
-        &self.laid
-    }
-
-    /// How many bytes the records of all segments have, or the greatest number where they are more.
-    pub fn written_len(&self) -> usize {
-        let mut len = 0usize;
-        for laid in &self.laid {
-            len = len.saturating_add(record_len(&self.client, laid));
-        }
-        len
-    }
-
-    /// Appends the record of a segment.
-    ///
-    /// # Errors
-    /// Where a growth is refused; `out` is then unchanged.
-    pub fn put(&self, index: usize, out: &mut Vec<u8>) -> Result<(), AllocError>
-        requires { index < length self.now }
-        ensures ok { OnOk result (out.new.items ≡ out.old.items ++ (slice_index_or self.now index no_segment).bytes) }
-        ensures err { OnErr result (out.new.items ≡ out.old.items) }
-    {
-        let laid = &self.laid[index];
-        let sender = sender_of(&self.client, laid.is_server);
-        let own = parts_of(&self.up, &self.down, laid.is_server);
-        put_record(out, &sender, own, laid)
-    }
-
     /// The segments, each with its record.
     ///
     /// # Errors
@@ -102,5 +71,32 @@ impl<'a> Layout<'a> {
             })?;
         }
         Ok(SegList::of(list))
+    }
+}
+
+impl Keys for Layout<'_> {
+    ghost segments = { λ l. l };
+
+    fn count(&self) -> usize {
+        self.laid.len()
+    }
+
+    fn key(&self, index: usize) -> SegKey {
+        self.laid[index].key
+    }
+
+    fn written_len(&self) -> usize {
+        let mut len = 0usize;
+        for laid in &self.laid {
+            len = len.saturating_add(record_len(&self.client, laid));
+        }
+        len
+    }
+
+    fn put(&self, index: usize, out: &mut Vec<u8>) -> Result<(), AllocError> {
+        let laid = &self.laid[index];
+        let sender = sender_of(&self.client, laid.is_server);
+        let own = parts_of(&self.up, &self.down, laid.is_server);
+        put_record(out, &sender, own, laid)
     }
 }

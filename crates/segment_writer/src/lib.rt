@@ -13,6 +13,5 @@ mod senders;
 mod turns;
 
 pub use connection_segments::{lay_out, segments};
-pub use framed::{Framed, RecordBytes, SegKey, SegList};
-pub use laid::Laid;
+pub use framed::{Framed, Keys, RecordBytes, SegKey, SegList};
 pub use layout::Layout;

@@ -11,16 +11,9 @@ use Rattle.itertools.specs.KMerge.{SourcesGive, joined_lists}
 use Rattle.segment_writer.specs.declared.framed.Framed.{Framed}
 use Rattle.segment_writer.specs.WrittenSegments.{sorted_by_key}
 use Rattle.segment_writer.specs.KeyLaws.{NeverFalls, SortedNeverFalls}
-use Rattle.time_merge.specs.declared.merging.KeyedSegment.{KeyedSegment}
+use Rattle.time_merge.specs.declared.key_order.KeyedSegment.{KeyedSegment}
 use Rattle.time_merge.specs.KeyedSegments.{keyed_segments, all_keyed_segments, keyed_cmp}
 use Rattle.time_merge.proofs.KeyedOrder.{below, derived, derived_is_below, keys_sorted}
-
--- the keyed segments of each list
-abbrev pub keys_of_list : ℕ × List Framed → List KeyedSegment
-keys_of_list (list, xs) = keyed_segments list 0 xs
-
-abbrev pub keys_of_lists : List (List Framed) → List (List KeyedSegment)
-keys_of_lists lists = map keys_of_list (enumerate_from 0 lists)
 
 -- sources that give what is left of them
 module _ {Source : Type 0} (left : Source → List KeyedSegment) where
@@ -28,37 +21,46 @@ module _ {Source : Type 0} (left : Source → List KeyedSegment) where
   sources_give [] = tt
   sources_give (s ∷ sources) = ((λ j same. (YieldsList-from_first (λ x. x) left (left s) (ap left same)).runs), sources_give sources)
 
-  -- the run over the lists gave sources that give the keyed segments of each
-  pub run_gives : {S : Type 0} {steps : S → Option Source → S → Type 0} {s : S} {P : Run steps → Type 0} (lists : List (List Framed)) (run : WholeRun steps s P) → YieldsList steps left s (keys_of_lists lists)
-      → SourcesGive (λ (s r : Source). r ≡ s) (YieldsFirst left) run.0.items (keys_of_lists lists)
+  -- a run that is to give sources of these lists gave them
+  pub run_gives : {S : Type 0} {steps : S → Option Source → S → Type 0} {s : S} {P : Run steps → Type 0} (lists : List (List KeyedSegment)) (run : WholeRun steps s P) → YieldsList steps left s lists
+      → SourcesGive (λ (s r : Source). r ≡ s) (YieldsFirst left) run.0.items lists
   unfolding YieldsRun
   run_gives {steps = steps} lists run chain =
       let drained = subst (λ s. DrainsIf steps (run.0.whole ≡ true) s run.0.items) run.1 run.0.gave.0 in
-      let read : map left run.0.items ≡ keys_of_lists lists = items_from_drains run.0.items (drained.0, drained.1, λ _. drained.2 run.2) chain in
+      let read : map left run.0.items ≡ lists = items_from_drains run.0.items (drained.0, drained.1, λ _. drained.2 run.2) chain in
       subst (λ (ls : List (List KeyedSegment)). SourcesGive (λ (s r : Source). r ≡ s) (YieldsFirst left) run.0.items ls) read (sources_give run.0.items)
 
-joined : (zs : List (ℕ × List Framed)) → joined_lists (map keys_of_list zs) ≡ flat_map keys_of_list zs
-joined [] = refl
-joined (z ∷ zs) = ap (λ ks. keys_of_list z ++ ks) (joined zs)
+module _ {L : Type 0} (segments : L → List Framed) where
+  -- the keyed segments of each list
+  abbrev pub keys_of_list : ℕ × L → List KeyedSegment
+  keys_of_list (list, l) = keyed_segments list 0 (segments l)
 
-pub joined_keys : (lists : List (List Framed)) → joined_lists (keys_of_lists lists) ≡ all_keyed_segments lists
-joined_keys lists = joined (enumerate_from 0 lists)
+  abbrev pub keys_of_lists : List L → List (List KeyedSegment)
+  keys_of_lists lists = map keys_of_list (enumerate_from 0 lists)
 
-sorted_from : SortedNeverFalls → (n : ℕ) (lists : List (List Framed)) → All (λ list. sorted_by_key list ≡ list) lists → All (IsSortedBy below) (map keys_of_list (enumerate_from n lists))
-sorted_from never_falls n [] all = All-nil (IsSortedBy below)
-sorted_from never_falls n (xs ∷ lists) all =
-    let own : NeverFalls xs = subst (λ (ys : List Framed). NeverFalls ys) (All-head (λ list. sorted_by_key list ≡ list) xs lists all) (never_falls xs) in
-    All-cons (IsSortedBy below) (keyed_segments n 0 xs) (map keys_of_list (enumerate_from (n + 1) lists)) (keys_sorted n 0 xs own)
-    (sorted_from never_falls (n + 1) lists (All-tail (λ list. sorted_by_key list ≡ list) xs lists all))
+  joined : (zs : List (ℕ × L)) → joined_lists (map keys_of_list zs) ≡ flat_map keys_of_list zs
+  joined [] = refl
+  joined (z ∷ zs) = ap (λ ks. keys_of_list z ++ ks) (joined zs)
 
-pub all_sorted : SortedNeverFalls → (lists : List (List Framed)) → All (λ list. sorted_by_key list ≡ list) lists → All (IsSortedBy derived) (keys_of_lists lists)
-all_sorted never_falls lists all = subst (λ lt. All (IsSortedBy lt) (keys_of_lists lists)) (sym derived_is_below) (sorted_from never_falls 0 lists all)
+  -- a list in order
+  abbrev pub InOrder : L → Type 0
+  InOrder l = sorted_by_key (segments l) ≡ segments l
 
--- what a merge gave of all keys, and nothing is left
-pub gave_all : (lists : List (List Framed)) (xs rest items : List KeyedSegment) → IsPermutation (joined_lists (keys_of_lists lists)) (xs ++ rest) → rest ≡ [] → items ≡ xs → IsPermutation (all_keyed_segments lists) items
-gave_all lists xs rest items moved none are =
-    let gave : xs ++ rest ≡ items = ap (λ ys. xs ++ ys) none ∙ append-nil xs ∙ sym are in
-    subst (λ ks. IsPermutation ks items) (joined_keys lists) (subst (λ ys. IsPermutation (joined_lists (keys_of_lists lists)) ys) gave moved)
+  sorted_from : SortedNeverFalls → (n : ℕ) (lists : List L) → All InOrder lists → All (IsSortedBy below) (map keys_of_list (enumerate_from n lists))
+  sorted_from never_falls n [] all = All-nil (IsSortedBy below)
+  sorted_from never_falls n (l ∷ lists) all =
+      let own : NeverFalls (segments l) = subst (λ (ys : List Framed). NeverFalls ys) (All-head InOrder l lists all) (never_falls (segments l)) in
+      All-cons (IsSortedBy below) (keyed_segments n 0 (segments l)) (map keys_of_list (enumerate_from (n + 1) lists)) (keys_sorted n 0 (segments l) own)
+      (sorted_from never_falls (n + 1) lists (All-tail InOrder l lists all))
+
+  pub all_sorted : SortedNeverFalls → (lists : List L) → All InOrder lists → All (IsSortedBy derived) (keys_of_lists lists)
+  all_sorted never_falls lists all = subst (λ lt. All (IsSortedBy lt) (keys_of_lists lists)) (sym derived_is_below) (sorted_from never_falls 0 lists all)
+
+  -- what a merge gave of all keys, and nothing is left
+  pub gave_all : (lists : List L) (xs rest items : List KeyedSegment) → IsPermutation (joined_lists (keys_of_lists lists)) (xs ++ rest) → rest ≡ [] → items ≡ xs → IsPermutation (all_keyed_segments segments lists) items
+  gave_all lists xs rest items moved none are =
+      let gave : xs ++ rest ≡ items = ap (λ ys. xs ++ ys) none ∙ append-nil xs ∙ sym are in
+      subst (λ ks. IsPermutation ks items) (joined (enumerate_from 0 lists)) (subst (λ ys. IsPermutation (joined_lists (keys_of_lists lists)) ys) gave moved)
 
 pub gave_in_order : (xs items : List KeyedSegment) → IsSortedBy derived xs → items ≡ xs → IsSorted keyed_cmp items
 gave_in_order xs items sorted are = subst (λ ys. IsSorted keyed_cmp ys) (sym are) (subst (λ lt. IsSortedBy lt xs) derived_is_below sorted)

@@ -2,7 +2,7 @@
 use Rattle.std.proofs.Common.{◌≡◌, ℕ, zero, suc, ◌+◌, ◌<◌, ◌≤◌, Bool, false, ◌==◌, nat_lt, nat_cmp, is_lt, List, [], ◌∷◌, length, map, slice_index_or, refl, sym, ap₂, ◌∙◌, subst, Ordering, Less, Equal, Greater, arith, add-one}
 use Rattle.std.specs.Ordering.{ordering_then, is_some_and, partial_lt}
 use Rattle.std.specs.Cmp.{IsStrictWeakOrder}
-use Rattle.std.specs.List.{All}
+use Rattle.std.specs.List.{All, flat_map}
 use Rattle.std.specs.List.Sorted.{IsSortedBy, IsSorted, IsPermutation}
 use Rattle.std.proofs.lemmas.Bool.Decides.{nat_tests}
 use Rattle.std.proofs.lemmas.List.Elements.{All-head, All-tail}
@@ -12,10 +12,9 @@ use Rattle.segment_writer.specs.declared.framed.Framed.{Framed}
 use Rattle.segment_writer.specs.WrittenSegments.{is_key_below, sorted_by_key}
 use Rattle.segment_writer.specs.KeyLaws.{NoneLower, NeverFalls, HasNoKeyTwice, OneOrder}
 use Rattle.segment_writer.proofs.InOrder.{derived_is_lower, then_test, last_test}
-use Rattle.time_merge.specs.declared.merging.KeyedSegment.{KeyedSegment}
-use Rattle.time_merge.specs.contracts.merging.KeyedSegmentOrd.TheImpl.Laws.{total-law, matches_partial_cmp-law}
-use Rattle.time_merge.specs.contracts.merging.KeyedSegmentPartialOrd.TheImpl.{ghosts as partial}
-use Rattle.time_merge.specs.MergedCapture.{all_segments}
+use Rattle.time_merge.specs.declared.key_order.KeyedSegment.{KeyedSegment}
+use Rattle.time_merge.specs.contracts.key_order.KeyedSegmentOrd.TheImpl.Laws.{total-law, matches_partial_cmp-law}
+use Rattle.time_merge.specs.contracts.key_order.KeyedSegmentPartialOrd.TheImpl.{ghosts as partial}
 use Rattle.time_merge.specs.KeyedSegments.{key_cmp, keyed_cmp, keyed_segments, all_keyed_segments, segment_of, IsKeyed}
 use Rattle.time_merge.proofs.WalkedLists.{all_keyed, all_shown}
 
@@ -76,30 +75,30 @@ keys_sorted list index (x ∷ y ∷ ys) falls k d low within =
 
 -- ---- keyed segments in order stand for segments that never fall
 
-module _ (lists : List (List Framed)) where
-  none_lower : (k : KeyedSegment) (ks : List KeyedSegment) → IsKeyed lists k → All (IsKeyed lists) ks
-      → ((j : ℕ) (d : KeyedSegment) → j < length ks → below (slice_index_or ks j d) k ≡ false) → NoneLower (segment_of lists k).key (map (segment_of lists) ks)
+module _ {L : Type 0} (segments : L → List Framed) (lists : List L) where
+  none_lower : (k : KeyedSegment) (ks : List KeyedSegment) → IsKeyed segments lists k → All (IsKeyed segments lists) ks
+      → ((j : ℕ) (d : KeyedSegment) → j < length ks → below (slice_index_or ks j d) k ≡ false) → NoneLower (segment_of segments lists k).key (map (segment_of segments lists) ks)
   none_lower k [] here all far = tt
   none_lower k (l ∷ ks) here all far =
-      let there = All-head (IsKeyed lists) l ks all in (
+      let there = All-head (IsKeyed segments lists) l ks all in (
         ap₂ is_key_below there.key here.key ∙ not_below-key l k (far 0 l (omega arith)),
-        none_lower k ks here (All-tail (IsKeyed lists) l ks all) (λ j d within. far (suc j) d (omega arith)),
+        none_lower k ks here (All-tail (IsKeyed segments lists) l ks all) (λ j d within. far (suc j) d (omega arith)),
       )
 
-  never_falls : (ks : List KeyedSegment) → All (IsKeyed lists) ks → ((i j : ℕ) (d : KeyedSegment) → i ≤ j → j < length ks → below (slice_index_or ks j d) (slice_index_or ks i d) ≡ false)
-      → NeverFalls (map (segment_of lists) ks)
+  never_falls : (ks : List KeyedSegment) → All (IsKeyed segments lists) ks → ((i j : ℕ) (d : KeyedSegment) → i ≤ j → j < length ks → below (slice_index_or ks j d) (slice_index_or ks i d) ≡ false)
+      → NeverFalls (map (segment_of segments lists) ks)
   never_falls [] all far = tt
   never_falls (k ∷ ks) all far = (
-    none_lower k ks (All-head (IsKeyed lists) k ks all) (All-tail (IsKeyed lists) k ks all) (λ j d within. far 0 (suc j) d (omega arith) (omega arith)),
-    never_falls ks (All-tail (IsKeyed lists) k ks all) (λ i j d le within. far (suc i) (suc j) d (omega arith) (omega arith)),
+    none_lower k ks (All-head (IsKeyed segments lists) k ks all) (All-tail (IsKeyed segments lists) k ks all) (λ j d within. far 0 (suc j) d (omega arith) (omega arith)),
+    never_falls ks (All-tail (IsKeyed segments lists) k ks all) (λ i j d le within. far (suc i) (suc j) d (omega arith) (omega arith)),
   )
 
-  pub merged_keyed : (ks : List KeyedSegment) → IsPermutation (all_keyed_segments lists) ks → All (IsKeyed lists) ks
-  merged_keyed ks moved = All-permutation (IsKeyed lists) (all_keyed_segments lists) ks moved (all_keyed lists)
+  pub merged_keyed : (ks : List KeyedSegment) → IsPermutation (all_keyed_segments segments lists) ks → All (IsKeyed segments lists) ks
+  merged_keyed ks moved = All-permutation (IsKeyed segments lists) (all_keyed_segments segments lists) ks moved (all_keyed segments lists)
 
-  pub merged_sorted : OneOrder → HasNoKeyTwice (all_segments lists) → (ks : List KeyedSegment) → IsPermutation (all_keyed_segments lists) ks → IsSorted keyed_cmp ks
-      → map (segment_of lists) ks ≡ sorted_by_key (all_segments lists)
+  pub merged_sorted : OneOrder → HasNoKeyTwice (flat_map segments lists) → (ks : List KeyedSegment) → IsPermutation (all_keyed_segments segments lists) ks → IsSorted keyed_cmp ks
+      → map (segment_of segments lists) ks ≡ sorted_by_key (flat_map segments lists)
   merged_sorted one_order once ks moved sorted =
-      one_order (all_segments lists) (map (segment_of lists) ks) once
-      (subst (λ (xs : List Framed). IsPermutation xs (map (segment_of lists) ks)) (all_shown lists) (IsPermutation-map (segment_of lists) (all_keyed_segments lists) ks moved))
+      one_order (flat_map segments lists) (map (segment_of segments lists) ks) once
+      (subst (λ (xs : List Framed). IsPermutation xs (map (segment_of segments lists) ks)) (all_shown segments lists) (IsPermutation-map (segment_of segments lists) (all_keyed_segments segments lists) ks moved))
       (never_falls ks (merged_keyed ks moved) (sorted_far below below_order ks sorted))

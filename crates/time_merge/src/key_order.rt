@@ -1,94 +1,130 @@
-//! The segments that are laid out, in order of key.
-ghost use Rattle.std.specs.Prelude.{◌≡◌, ◌++◌, IfOk, OnOk, IsPermutation};
+//! The segments of many lists by their keys, and their order.
+ghost use Rattle.std.specs.Prelude.{◌≡◌, ◌++◌, All, IfOk, IsPermutation, OnOk, map};
+ghost use Rattle.std.specs.List.{flat_map};
 ghost use Rattle.std.specs.List.Sorted.{IsSorted};
-ghost use Rattle.time_merge.specs.KeyedSegments.{all_keyed_segments, keyed_cmp, keyed_segments, laid_left};
+ghost use Rattle.segment_writer.specs.KeyLaws.{HasNoKeyTwice};
+ghost use Rattle.segment_writer.specs.WrittenSegments.{sorted_by_key};
+ghost use Rattle.time_merge.specs.KeyedSegments.{all_keyed_segments, IsKeyed, keyed_cmp, keyed_left, keyed_segments, segment_of};
 
-use crate::merging::KeyedSegment;
-use segment_writer::{Laid, Layout};
+use itertools::Itertools;
+use segment_writer::laws::{one_order, sorted_never_falls};
+use segment_writer::{Keys, SegKey};
 use std::alloc::{AllocError, Global};
 
-// The keyed segments of all layouts, in order. They are sorted and not merged: where connections are many, each step of a merge goes from
-// one to another through all of their memory.
-pub(crate) fn keys_in_order(
-    alloc: Global,
-    layouts: &[Layout<'_>],
-) -> Result<Vec<KeyedSegment>, AllocError>
-    ensures all { IfOk result (λ keys. IsPermutation (all_keyed_segments layouts.now) keys.items) }
-    ensures sorted { IfOk result (λ keys. IsSorted keyed_cmp keys.items) }
-{
-    let mut keys = keys_of(alloc, layouts)?;
-    keys.sort_unstable();
-    Ok(keys)
-}
-
-// The keyed segments of all layouts, one layout after another.
-fn keys_of(alloc: Global, layouts: &[Layout<'_>]) -> Result<Vec<KeyedSegment>, AllocError>
-    ensures { IfOk result (λ keys. keys.items ≡ all_keyed_segments layouts.now) }
-{
-    let mut keys = Vec::with_capacity(alloc, segment_count(layouts))?;
-    for (list, layout) in layouts.iter().enumerate() {
-        add_keys(&mut keys, list, layout)?;
-    }
-    Ok(keys)
-}
-
-// How many segments some layouts have, or the greatest number where they are more.
-fn segment_count(layouts: &[Layout<'_>]) -> usize {
-    let mut count = 0usize;
-    for layout in layouts {
-        count = count.saturating_add(layout.laid().len());
-    }
-    count
-}
-
-// Appends the keyed segments of the layout of this number.
-fn add_keys(
-    keys: &mut Vec<KeyedSegment>,
-    list: usize,
-    layout: &Layout<'_>,
-) -> Result<(), AllocError>
-    ensures { OnOk result (keys.new.items ≡ keys.old.items ++ keyed_segments list 0 layout.now) }
-{
-    keys.extend(laid_segments(list, layout))
-}
-
-// The segments of a layout of this number.
-fn laid_segments<'l>(list: usize, layout: &'l Layout<'_>) -> LaidSegments<'l>
-    ensures { laid_left result ≡ keyed_segments list 0 layout.now }
-{
-    LaidSegments {
-        segments: layout.laid(),
-        list,
-        index: 0,
-    }
-}
-
-// The keyed segments of a layout, from one of them on.
-#[derive(Drop)]
-pub(crate) struct LaidSegments<'l> {
-    pub(crate) segments: &'l [Laid],
+// A segment of some lists: its key, the number of its list, and its index there. Keyed segments are ordered by all three.
+#[derive(Clone, Copy, Debug, PartialEq, Eq, PartialOrd, Ord)]
+pub(crate) struct KeyedSegment {
+    pub(crate) key: SegKey,
     pub(crate) list: usize,
     pub(crate) index: usize,
 }
 
-impl Iterator for LaidSegments<'_> {
+// The keyed segments of a list, from one of them on.
+#[derive(Drop)]
+pub(crate) struct KeyedSegments<'l, L: Keys> {
+    pub(crate) segments: &'l L,
+    pub(crate) list: usize,
+    pub(crate) index: usize,
+}
+
+impl<L: Keys> Iterator for KeyedSegments<'_, L> {
     type Item = KeyedSegment;
 
     ghost use Rattle.std.specs.Iterator.{YieldsFirst, item_count};
-    ghost use Rattle.time_merge.specs.KeyedSegments.{laid_left};
+    ghost use Rattle.time_merge.specs.KeyedSegments.{keyed_left};
 
-    ghost next_gives = { YieldsFirst laid_left };
+    ghost next_gives = { YieldsFirst (keyed_left L.segments) };
 
-    ghost remaining = { item_count laid_left };
+    ghost remaining = { item_count (keyed_left L.segments) };
 
     fn next(&mut self) -> Option<KeyedSegment> {
-        let segment = self.segments.get(self.index)?;
+        if self.index >= self.segments.count() {
+            return None;
+        }
         let keyed = KeyedSegment {
-            key: segment.key,
+            key: self.segments.key(self.index),
             list: self.list,
             index: self.index,
         };
         self.index += 1;
         Some(keyed)
     }
+}
+
+// All keyed segments of a list of this number.
+fn keyed<L: Keys>(list: usize, segments: &L) -> KeyedSegments<'_, L>
+    ensures { keyed_left L.segments result ≡ keyed_segments list 0 (L.segments segments.now) }
+{
+    KeyedSegments {
+        segments,
+        list,
+        index: 0,
+    }
+}
+
+// The keyed segments of all lists, each of which is in order of key, in order: lists are merged by the keys of their first segments that
+// are left.
+pub(crate) fn merged_keys<L: Keys>(
+    alloc: Global,
+    lists: &[L],
+) -> Result<Vec<KeyedSegment>, AllocError>
+    requires { All (λ l. sorted_by_key (L.segments l) ≡ L.segments l) lists.now }
+    ensures all { IfOk result (λ keys. IsPermutation (all_keyed_segments L.segments lists.now) keys.items) }
+    ensures sorted { IfOk result (λ keys. IsSorted keyed_cmp keys.items) }
+{
+    sorted_never_falls();
+    let sources = lists.iter().enumerate().map(|(list, l)| keyed(list, l));
+    sources.kmerge(alloc)?.collect(alloc)
+}
+
+// The same of lists in any order. They are sorted and not merged: where connections are many, each step of a merge goes from one to another
+// through all of their memory.
+pub(crate) fn sorted_keys<L: Keys>(
+    alloc: Global,
+    lists: &[L],
+) -> Result<Vec<KeyedSegment>, AllocError>
+    ensures all { IfOk result (λ keys. IsPermutation (all_keyed_segments L.segments lists.now) keys.items) }
+    ensures sorted { IfOk result (λ keys. IsSorted keyed_cmp keys.items) }
+{
+    let mut keys = keys_of(alloc, lists)?;
+    keys.sort_unstable();
+    Ok(keys)
+}
+
+// The keyed segments of all lists, one list after another.
+fn keys_of<L: Keys>(alloc: Global, lists: &[L]) -> Result<Vec<KeyedSegment>, AllocError>
+    ensures { IfOk result (λ keys. keys.items ≡ all_keyed_segments L.segments lists.now) }
+{
+    let mut count = 0usize;
+    for l in lists {
+        count = count.saturating_add(l.count());
+    }
+    let mut keys = Vec::with_capacity(alloc, count)?;
+    for (list, l) in lists.iter().enumerate() {
+        add_keys(&mut keys, list, l)?;
+    }
+    Ok(keys)
+}
+
+// Appends the keyed segments of the list of this number.
+fn add_keys<L: Keys>(
+    keys: &mut Vec<KeyedSegment>,
+    list: usize,
+    segments: &L,
+) -> Result<(), AllocError>
+    ensures { OnOk result (keys.new.items ≡ keys.old.items ++ keyed_segments list 0 (L.segments segments.now)) }
+{
+    keys.extend(keyed(list, segments))
+}
+
+// Keyed segments of all lists, in order: they stand for the segments in order of key, where no key stands twice.
+pub(crate) fn in_order<L: Keys>(lists: &[L], keys: Vec<KeyedSegment>) -> Vec<KeyedSegment>
+    requires once { HasNoKeyTwice (flat_map L.segments lists.now) }
+    requires all { IsPermutation (all_keyed_segments L.segments lists.now) keys.items }
+    requires sorted { IsSorted keyed_cmp keys.items }
+    ensures keyed { All (IsKeyed L.segments lists.now) result.items }
+    ensures order { map (segment_of L.segments lists.now) result.items ≡ sorted_by_key (flat_map L.segments lists.now) }
+{
+    one_order();
+    keys
 }

@@ -1,9 +1,7 @@
 //! One capture of many lists of written segments.
 #![tactic(auto)]
 
-mod captures;
 mod key_order;
 mod merging;
 
-pub use captures::{MergedLayouts, merge_layouts, merged_capture};
-pub use merging::{Merged, merge};
+pub use merging::{Merged, MergedLayouts, merge, merge_layouts, merged_capture};

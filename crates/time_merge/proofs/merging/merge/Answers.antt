@@ -1,10 +1,11 @@
-use Rattle.std.proofs.Common.{◌∙◌}
-use Rattle.time_merge.proofs.KeyedOrder.{merged_keyed, merged_sorted}
+use Rattle.std.proofs.Common.{◌≡◌, List, map, subst}
+use Rattle.segment_writer.specs.declared.framed.Framed.{Framed}
+use Rattle.segment_writer.specs.WrittenSegments.{sorted_by_key}
+use Rattle.time_merge.specs.KeyedSegments.{segment_of}
+use Rattle.time_merge.specs.MergedCapture.{all_segments}
 use Rattle.time_merge.proofs.merging.merge.Goals as goal
-
-pub of-requires : goal.of-requires
-of-requires c = merged_keyed c.args.lists.items c.in_ok-order.order.items (rw c.deref.ensures.value at c.in_ok-order.ensures.all)
 
 pub returns : goal.returns
 returns c =
-    c.of.ensures ∙ merged_sorted c.args.lists.items c.one_order.ensures c.requires.once c.in_ok-order.order.items (rw c.deref.ensures.value at c.in_ok-order.ensures.all) c.in_ok-order.ensures.sorted
+    subst (λ (lists : List (List Framed)). map (segment_of (λ l. l) lists) c.in_order-order.result.items ≡ sorted_by_key (all_segments lists))
+    c.deref-2.ensures.value c.in_order-order.ensures.order

@@ -1,9 +1,9 @@
 -- Outputs of scenarios, one of them or some from a number on.
-use Rattle.std.proofs.Common.{◌≡◌, ◌<◌, ◌≤◌, ℕ, ◌-◌, List, length, map, take, drop, get_or, Result, Ok, Err, refl, sym, ap, ◌∙◌, arith}
-use Rattle.std.specs.List.{enumerate_from, range_with_len}
+use Rattle.std.proofs.Common.{◌≡◌, ◌<◌, ◌≤◌, ℕ, ◌-◌, List, length, map, take, drop, get_or, Result, Ok, Err, sym, ap, ◌∙◌, arith}
+use Rattle.std.specs.List.{enumerate_from}
 use Rattle.std.specs.Result.{IfOk}
 use Rattle.std.proofs.lemmas.List.{get_or-map, length-map, length-drop, length-append, take-append-drop}
-use Rattle.std.proofs.lemmas.List.FromFn.{length-enumerate_from, fill_by_all}
+use Rattle.std.proofs.lemmas.List.FromFn.{length-enumerate_from}
 use Rattle.pcap_records.specs.CaptureView.{CaptureView, contents_of}
 use Rattle.conn_table.specs.SeenCapture.{SeenCapture, seen_capture}
 use Rattle.conn_workers.specs.declared.deliveries.Delivery.{Delivery}

@@ -1,10 +1,10 @@
-use Rattle.std.proofs.Common.{◌≡◌, ◌≤◌, ◌<◌, ◌+◌, ℕ, List, [], ◌∷◌, length, take, drop, get_or, refl, sym, ap, subst, ◌∙◌, arith}
+use Rattle.std.proofs.Common.{◌≡◌, ◌≤◌, ◌<◌, List, [], ◌∷◌, length, take, refl, sym, subst, ◌∙◌, arith}
 use Rattle.std.proofs.lemmas.List.{take_all}
 use Rattle.std.proofs.lemmas.Result.{err_from_is_err_and}
 use Rattle.pcap_records.specs.CaptureView.{contents_of}
 use Rattle.conn_table.specs.SeenCapture.{seen_capture}
 use Rattle.run_files.specs.declared.outputs.Output.{Output}
-use Rattle.toxicap.specs.CaptureOutputs.{no_output, outputs_from}
+use Rattle.toxicap.specs.CaptureOutputs.{outputs_from}
 use Rattle.toxicap.proofs.OutputSteps.{length-outputs_of}
 use Rattle.toxicap.proofs.ReadyDrafts.{alone}
 use Rattle.toxicap.proofs.StoringEnds.{nothing_taken}

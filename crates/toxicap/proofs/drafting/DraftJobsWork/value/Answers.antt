@@ -1,4 +1,4 @@
-use Rattle.std.proofs.Common.{◌≤◌, ◌<◌, ◌+◌, ℕ, List, length, sym, arith}
+use Rattle.std.proofs.Common.{◌≤◌, ◌+◌, List, length, arith}
 use Rattle.pcap_records.specs.CaptureView.{contents_of}
 use Rattle.conn_table.specs.SeenCapture.{seen_capture}
 use Rattle.run_files.specs.declared.outputs.Output.{Output}

@@ -1,4 +1,4 @@
-use Rattle.std.proofs.Common.{List, arith, ◌∙◌}
+use Rattle.std.proofs.Common.{arith, ◌∙◌}
 use Rattle.std.proofs.lemmas.List.{get_or_default}
 use Rattle.std.proofs.lemmas.Result.{IfOk-weaker}
 use Rattle.pcap_records.specs.CaptureView.{contents_of}

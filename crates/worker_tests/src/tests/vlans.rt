@@ -1,16 +1,13 @@
 //! The same two peers in no VLAN and in two: their connections, by ranges joined from the left and the right, and what is delivered.
-ghost use Rattle.std.specs.Prelude.{◌≤◌, length};
-
 use super::checks::check;
-use super::deliveries::{delivered, is_delivery, scenario};
+use super::deliveries::{WantedDelivery, are_wanted, delivered, scenario};
 use super::tables::{Wanted, check_table, from_left, from_right, whole};
-use conn_table::{Table, finish};
+use conn_table::Table;
 use conn_workers::Delivery;
 use job_matrix::Through;
 use pcap_records::{Capture, read_capture};
 use std::alloc::{AllocError, Global};
 use std::process::Abort;
-use std::test::Fail;
 use std::thread::Threads;
 use worked_sessions::sessions::{ACK, CLIENT, PSH, SERVER, SYN, file, segment};
 
@@ -55,33 +52,47 @@ fn check_vlans(rt: &impl Abort, table: &Table) {
 }
 
 // That ranges of so many records give this table, joined from the left and from the right.
-fn check_cut(
-    rt: &impl Abort,
-    alloc: Global,
-    capture: &Capture<'_>,
-    cut: usize,
-) -> Result<(), Fail> {
-    check_vlans(rt, &from_left(alloc, capture, cut)?);
-    let right = finish(alloc, from_right(alloc, capture, 0, cut)?)?;
-    check_vlans(rt, &right);
-    Ok(())
+fn check_cut(rt: &impl Abort, alloc: Global, capture: &Capture<'_>, cut: usize) {
+    check_vlans(rt, &from_left(rt, alloc, capture, cut));
+    check_vlans(rt, &from_right(rt, alloc, capture, cut));
 }
 
 #[test]
-fn a_connection_for_each_vlan(rt: HostRuntime) -> Result<(), Fail> {
+fn a_connection_for_each_vlan(rt: HostRuntime) {
     let alloc = rt.alloc();
-    let bytes = recorded(alloc)?;
-    let capture = read_capture(alloc, &bytes)?;
-    check_vlans(&rt, &whole(alloc, &capture)?);
-    check_cut(&rt, alloc, &capture, 1)?;
-    check_cut(&rt, alloc, &capture, 2)?;
-    check_cut(&rt, alloc, &capture, 3)?;
-    check_cut(&rt, alloc, &capture, 5)?;
-    check_cut(&rt, alloc, &capture, 4096)?;
-    Ok(())
+    let bytes = recorded(alloc).expect(&rt, "memory");
+    let capture = read_capture(alloc, &bytes).expect(&rt, "a capture");
+    check_vlans(&rt, &whole(&rt, alloc, &capture));
+    check_cut(&rt, alloc, &capture, 1);
+    check_cut(&rt, alloc, &capture, 2);
+    check_cut(&rt, alloc, &capture, 3);
+    check_cut(&rt, alloc, &capture, 5);
+    check_cut(&rt, alloc, &capture, 4096);
 }
 
-// Whether each of a delivery's four segments has these bytes after its record's header and its two Ethernet addresses, and they have
+// What is delivered of each VLAN.
+const DELIVERED: [WantedDelivery; 3] = [
+    (
+        0,
+        0,
+        4,
+        "0 10.0.0.1:40000 > 10.0.0.2:80 proxy - up 1/1/0 open max 0 down 0/0/0 open max 0\n",
+    ),
+    (
+        0,
+        1,
+        4,
+        "1 10.0.0.1:40000 > 10.0.0.2:80 vlan 1 proxy - up 1/1/0 open max 0 down 0/0/0 open max 0\n",
+    ),
+    (
+        0,
+        2,
+        4,
+        "2 10.0.0.1:40000 > 10.0.0.2:80 vlan 2 proxy - up 1/1/0 open max 0 down 0/0/0 open max 0\n",
+    ),
+];
+
+// Whether each of a delivery's segments has these bytes after its record's header and its two Ethernet addresses, and they have
 // together so many bytes.
 fn are_written_so(delivery: &Delivery, link: &[u8], len: usize) -> bool {
     let mut right = true;
@@ -95,43 +106,30 @@ fn are_written_so(delivery: &Delivery, link: &[u8], len: usize) -> bool {
     right && all == len
 }
 
-const LINES: [&str; 3] = [
-    "0 10.0.0.1:40000 > 10.0.0.2:80 proxy - up 1/1/0 open max 0 down 0/0/0 open max 0\n",
-    "1 10.0.0.1:40000 > 10.0.0.2:80 vlan 1 proxy - up 1/1/0 open max 0 down 0/0/0 open max 0\n",
-    "2 10.0.0.1:40000 > 10.0.0.2:80 vlan 2 proxy - up 1/1/0 open max 0 down 0/0/0 open max 0\n",
-];
-
-// That so many workers deliver of each VLAN four segments with its tag and without a priority: records of 16 bytes, headers of 54 or
-// 58, and a byte.
-fn check_delivered<R: Abort + Threads + Sync>(
-    rt: &R,
-    alloc: Global,
-    workers: u32,
-) -> Result<(), Fail> {
-    let bytes = recorded(alloc)?;
-    let scenarios = [scenario(alloc, &[])?];
-    let made = delivered(rt, alloc, &bytes, &scenarios, workers, &Through)?;
-    let mut told = made.len() == 3;
-    for (line, number) in LINES.iter().zip(0_u32..) {
-        told = told && is_delivery(&made, number as usize, (0, number), 4, line);
-    }
-    check(rt, "lines", told);
-    let written = match made.as_slice() {
+// Whether the segments of each VLAN have its tag, without a priority: records of 16 bytes, headers of 54 or 58, and a byte.
+fn have_tags(made: &[Delivery]) -> bool {
+    match made {
         [first, second, third] => {
             are_written_so(first, &[8, 0, 0x45], 281)
                 && are_written_so(second, &[0x81, 0, 0, 1, 8, 0, 0x45], 297)
                 && are_written_so(third, &[0x81, 0, 0, 2, 8, 0, 0x45], 297)
         }
         _ => false,
-    };
-    check(rt, "segments", written);
-    Ok(())
+    }
+}
+
+// That so many workers deliver of each VLAN four segments with its tag.
+fn check_delivered<R: Abort + Threads + Sync>(rt: &R, alloc: Global, workers: u32) {
+    let bytes = recorded(alloc).expect(rt, "memory");
+    let scenarios = [scenario(rt, alloc, &[])];
+    let made = delivered(rt, alloc, &bytes, &scenarios, workers, &Through);
+    check(rt, "lines", are_wanted(&made, &DELIVERED));
+    check(rt, "segments", have_tags(&made));
 }
 
 #[test]
-fn a_tag_on_each_delivered_segment(rt: HostRuntime) -> Result<(), Fail> {
-    check_delivered(&rt, rt.alloc(), 1)?;
-    check_delivered(&rt, rt.alloc(), 2)?;
-    check_delivered(&rt, rt.alloc(), 16)?;
-    Ok(())
+fn a_tag_on_each_delivered_segment(rt: HostRuntime) {
+    check_delivered(&rt, rt.alloc(), 1);
+    check_delivered(&rt, rt.alloc(), 2);
+    check_delivered(&rt, rt.alloc(), 16);
 }

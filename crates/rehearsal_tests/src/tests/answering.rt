@@ -88,17 +88,20 @@ pub fn dump(alloc: Global, bytes: &[u8]) -> Result<String, AllocError> {
     Ok(text)
 }
 
-fn is_answered_dumped<R: Threads + Wait + Sync>(rt: &R, alloc: Global) -> Result<bool, RunFault> {
-    let text = dump(alloc, &PLAIN_SESSION)?;
-    is_answered(rt, alloc, text.as_bytes())
+fn check_answered(
+    rt: &(impl Abort + AllocGlobal + Threads + Wait + Sync),
+    row: &str,
+    text: &[u8],
+) {
+    let good = is_answered(rt, rt.alloc(), text) == Ok(true);
+    assert!(rt; good, "{row}");
 }
 
 #[test]
 fn scenarios_of_a_dump_in_order(rt: HostRuntime) {
-    let capture = is_answered(&rt, rt.alloc(), &PLAIN_SESSION) == Ok(true);
-    let dump = is_answered_dumped(&rt, rt.alloc()) == Ok(true);
-    assert!(rt; capture, "a capture");
-    assert!(rt; dump, "its dump");
+    let text = dump(rt.alloc(), &PLAIN_SESSION).expect(&rt, "memory");
+    check_answered(&rt, "a capture", &PLAIN_SESSION);
+    check_answered(&rt, "its dump", text.as_bytes());
 }
 
 // Whether a capture's text under texts of scenarios is refused with this line; where the line is empty, it answers no output.

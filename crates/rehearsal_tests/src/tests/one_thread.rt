@@ -60,7 +60,7 @@ fn texts_by_one_thread(rt: HostRuntime) {
 }
 
 // Whether an answer is refused with this line.
-fn is_refused<T: Drop>(alloc: Global, answer: &Result<T, RunFault>, line: &str) -> bool {
+fn is_refused<T>(alloc: Global, answer: &Result<T, RunFault>, line: &str) -> bool {
     match answer {
         Ok(_) => false,
         Err(fault) => match fault_line(alloc, fault) {

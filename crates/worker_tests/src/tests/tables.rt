@@ -187,42 +187,6 @@ pub(super) fn check_instants(rt: &impl Abort, table: &Table, micros: u64) {
     check(rt, "instants of a table", has_instants(table, micros));
 }
 
-#[test]
-fn an_unopened_pair_first(rt: HostRuntime) {
-    let segments = [
-        segment((1, 0), SERVER, CLIENT, ACK, (7000, 1), b""),
-        segment((2, 0), SECOND_CLIENT, SERVER, SYN, (2000, 0), b""),
-        segment((3, 0), CLIENT, SERVER, SYN, (1000, 0), b""),
-    ];
-    let bytes = file(rt.alloc(), true, &segments).expect(&rt, "memory");
-    let capture = read_capture(rt.alloc(), &bytes).expect(&rt, "a capture");
-    let table = whole(&rt, rt.alloc(), &capture);
-    check_table(&rt, &table, &[(SECOND_CLIENT, &[1]), (CLIENT, &[2])], 1);
-    check(&rt, "counts", table.counts().segment == 3);
-}
-
-// Whether the last connection of a table has this server.
-fn has_last_server(table: &Table, server: Peer) -> bool {
-    match table.conns().last() {
-        Some(conn) => conn.server == server,
-        None => false,
-    }
-}
-
-#[test]
-fn openings_from_both_sides(rt: HostRuntime) {
-    let segments = [
-        segment((1, 0), CLIENT, SERVER, SYN, (1000, 0), b""),
-        segment((1, 100_000), SERVER, CLIENT, SYN, (1000, 0), b""),
-    ];
-    let bytes = file(rt.alloc(), false, &segments).expect(&rt, "memory");
-    let capture = read_capture(rt.alloc(), &bytes).expect(&rt, "a capture");
-    let table = whole(&rt, rt.alloc(), &capture);
-    check_table(&rt, &table, &[(CLIENT, &[0]), (SERVER, &[1])], 0);
-    let last = has_last_server(&table, peer(CLIENT));
-    check(&rt, "the last server", last);
-}
-
 // That ranges of so many records give this table, joined from the left and from the right.
 fn check_cut(rt: &impl Abort, alloc: Global, capture: &Capture<'_>, cut: usize, wanted: &[Wanted]) {
     check_table(rt, &from_left(rt, alloc, capture, cut), wanted, 0);

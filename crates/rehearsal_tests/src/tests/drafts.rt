@@ -108,38 +108,30 @@ fn a_shelf_that_fails_once_by_drafts(rt: HostRuntime) {
     check_failing(&rt, 4);
 }
 
-// Two drafts that are let go leave nothing in a folder of one file.
-fn check_let_go(rt: &(impl Abort + AllocGlobal + Files + Clone), path: &str) {
-    let folder = Folder::new(rt.alloc(), rt, path).expect(rt, "memory");
-    let let_go = two_drafts(rt.alloc(), &folder).expect(rt, "memory");
-    let begun = files_in(rt, path);
-    drop(let_go);
-    let left = files_in(rt, path);
-    assert!(rt; begun == 5 && left == 1, "{begun} {left}");
-}
-
-// Two drafts in the folder of this path are stored, or are refused with this.
-fn check_stored(
-    rt: &(impl Abort + AllocGlobal + Files),
-    path: &str,
-    wanted: Result<(), StoreFault>,
-) {
-    let mut folder = Folder::new(rt.alloc(), rt, path).expect(rt, "memory");
-    let drafts = two_drafts(rt.alloc(), &folder).expect(rt, "memory");
-    let stored = store_drafts(rt.alloc(), 7, drafts, &mut folder);
-    let good = stored == wanted && folder.failed() == u64::from(wanted.is_err());
-    assert!(rt; good, "{path}");
-}
-
-// Two drafts in a folder become its files, in place of older ones; drafts that are let go leave nothing. Where there is no folder a
-// draft fails, and that shows when it is taken.
+// Two drafts in a folder become its files, in place of older ones; drafts that are let go leave nothing.
 #[test]
 fn a_folder_by_drafts(rt: HostRuntime) {
     fs::create_dir(&rt, "drafts").expect(&rt, "a folder");
     fs::write(&rt, "drafts/0008.txt", "an older file").expect(&rt, "a file");
-    check_let_go(&rt, "drafts");
-    check_stored(&rt, "drafts", Ok(()));
+    let mut folder = Folder::new(rt.alloc(), &rt, "drafts").expect(&rt, "memory");
+    let let_go = two_drafts(rt.alloc(), &folder).expect(&rt, "memory");
+    let begun = files_in(&rt, "drafts");
+    drop(let_go);
+    let left = files_in(&rt, "drafts");
+    assert!(rt; begun == 5 && left == 1, "{begun} {left}");
+    let drafts = two_drafts(rt.alloc(), &folder).expect(&rt, "memory");
+    let stored = store_drafts(rt.alloc(), 7, drafts, &mut folder);
+    assert!(rt; stored == Ok(()) && folder.failed() == 0);
     check_files(&rt, "drafts", FILES);
     fs::remove_dir_all(&rt, "drafts").expect(&rt, "removed");
-    check_stored(&rt, "nowhere", Err(StoreFault::ShelfFailed { after: 14 }));
+}
+
+// Where there is no folder a draft fails, and that shows when it is taken.
+#[test]
+fn no_folder_by_drafts(rt: HostRuntime) {
+    let mut folder = Folder::new(rt.alloc(), &rt, "nowhere").expect(&rt, "memory");
+    let drafts = two_drafts(rt.alloc(), &folder).expect(&rt, "memory");
+    let stored = store_drafts(rt.alloc(), 7, drafts, &mut folder);
+    let refused = stored == Err(StoreFault::ShelfFailed { after: 14 });
+    assert!(rt; refused && folder.failed() == 1);
 }

@@ -11,13 +11,12 @@ use conn_workers::{
 use job_matrix::{Gate, Phase, Plan, Through};
 use pcap_records::{Capture, Moment, read_capture};
 use scenarios::{Hosts, Scenario, read_scenario};
-use segment_writer::Framed;
 use std::alloc::{AllocError, Global};
 use std::process::Abort;
 use std::thread::Threads;
 use worked_sessions::gates::{Counting, Holding};
 use worked_sessions::sessions::{
-    ACK, CLIENT, PSH, RecordedSegment, SECOND_CLIENT, SERVER, SYN, file, put, put_field, segment,
+    ACK, CLIENT, PSH, RecordedSegment, SECOND_CLIENT, SERVER, SYN, file, segment,
 };
 
 // Latency with jitter before the server of the second connection.
@@ -40,10 +39,6 @@ const SECOND_LINE: &str =
 pub(super) const REFUSED_LINE: &str =
     "1 10.0.0.1:40000 > 10.0.0.2:80 proxy 0 up 0/2/0 refused max 0 down 0/0/0 refused max 0\n";
 
-// With seed 42 the jitter leaves 73 ms.
-const DELAYED_LINE: &str =
-    "1 10.0.0.1:40000 > 10.0.0.2:80 proxy 0 up 2/2/0 open max 73000 down 0/0/0 open max 0\n";
-
 // A client's openings to two servers, and two bytes to the second.
 pub(super) fn segments() -> [RecordedSegment<'static>; 3] {
     [
@@ -51,18 +46,6 @@ pub(super) fn segments() -> [RecordedSegment<'static>; 3] {
         segment((1, 100_000), CLIENT, SERVER, SYN, (2000, 0), b""),
         segment((1, 200_000), CLIENT, SERVER, PSH + ACK, (2001, 0), b"ab"),
     ]
-}
-
-// The same with a record that holds no frame before the last one.
-fn with_another_record(alloc: Global) -> Result<Vec<u8>, AllocError> {
-    let [opening, second, data] = segments();
-    let mut bytes = file(alloc, true, &[opening, second])?;
-    for number in [1, 150_000, 2, 2] {
-        put_field(&mut bytes, true, number)?;
-    }
-    bytes.extend_from_slice(b"zz")?;
-    put(&mut bytes, true, &data)?;
-    Ok(bytes)
 }
 
 // The scenario of some proxies.
@@ -86,7 +69,7 @@ pub(super) fn whole_table(alloc: Global, capture: &Capture<'_>) -> Result<Table,
 }
 
 // The deliveries of a file by so many workers, who pass a gate, with seed 42.
-pub(super) fn delivered<R: Abort + Threads + Sync, G: Gate>(
+fn delivered<R: Abort + Threads + Sync, G: Gate>(
     rt: &R,
     alloc: Global,
     bytes: &[u8],
@@ -104,7 +87,7 @@ pub(super) fn delivered<R: Abort + Threads + Sync, G: Gate>(
 }
 
 // A delivery as a test wants it: the numbers of its scenario and of its connection, how many segments it has, and its line.
-pub(super) type WantedDelivery = (u32, u32, usize, &'static str);
+type WantedDelivery = (u32, u32, usize, &'static str);
 
 // Whether a delivery is such.
 fn is_wanted(delivery: &Delivery, (scenario, conn, segments, line): &WantedDelivery) -> bool {
@@ -115,7 +98,7 @@ fn is_wanted(delivery: &Delivery, (scenario, conn, segments, line): &WantedDeliv
 }
 
 // Whether deliveries are these, in this order.
-pub(super) fn are_wanted(made: &[Delivery], wanted: &[WantedDelivery]) -> bool {
+fn are_wanted(made: &[Delivery], wanted: &[WantedDelivery]) -> bool {
     let mut right = made.len() == wanted.len();
     for (delivery, wanted) in made.iter().zip(wanted) {
         right = right && is_wanted(delivery, wanted);
@@ -127,24 +110,6 @@ pub(super) fn are_wanted(made: &[Delivery], wanted: &[WantedDelivery]) -> bool {
 const BARE: [WantedDelivery; 2] = [(0, 0, 3, FIRST_LINE), (0, 1, 4, SECOND_LINE)];
 
 const REFUSED: [WantedDelivery; 2] = [(1, 0, 3, FIRST_LINE), (1, 1, 2, REFUSED_LINE)];
-
-// Whether two written segments are the same.
-fn is_same_segment(left: &Framed, right: &Framed) -> bool {
-    left.key == right.key && left.bytes.as_slice() == right.bytes.as_slice()
-}
-
-// Whether the second deliveries of two lists have the same segments and the same line.
-fn have_same_second(left: &[Delivery], right: &[Delivery]) -> bool {
-    let (Some(left), Some(right)) = (left.get(1), right.get(1)) else {
-        return false;
-    };
-    let (ours, theirs) = (left.segments.as_slice(), right.segments.as_slice());
-    let mut same = ours.len() == theirs.len();
-    for (one, other) in ours.iter().zip(theirs) {
-        same = same && is_same_segment(one, other);
-    }
-    same && left.line.as_slice() == right.line.as_slice()
-}
 
 // That so many workers give a row for each of two scenarios.
 fn check_rows<R: Abort + Threads + Sync>(rt: &R, alloc: Global, workers: u32) {
@@ -211,96 +176,11 @@ fn a_row_of_what_is_recorded(rt: HostRuntime) {
     check_recorded_row(&rt, rt.alloc(), 2);
 }
 
-// Whether a written segment of connection 1 has this instant, turn, place and length.
-fn is_segment(framed: &Framed, micros: u64, turn: u8, place: u32, len: usize) -> bool {
-    framed.key.moment.count() == micros
-        && framed.key.conn == 1
-        && framed.key.turn == turn
-        && framed.key.place == place
-        && framed.bytes.as_slice().len() == len
-}
-
-// Whether a list has the opening of the second connection, SYN, SYN ACK and ACK, and then its bytes, 73 ms late.
-fn is_delayed(list: &[Framed]) -> bool {
-    match list {
-        [first, second, third, data] => {
-            is_segment(first, 1_100_000, 0, 0, 70)
-                && is_segment(second, 1_100_000, 0, 1, 70)
-                && is_segment(third, 1_100_000, 0, 2, 70)
-                && is_segment(data, 1_273_000, 1, 0, 72)
-        }
-        _ => false,
-    }
-}
-
-// Whether the second delivery of a list is the delayed one.
-fn has_delayed(made: &[Delivery]) -> bool {
-    match made {
-        [_, delivery] => {
-            is_wanted(delivery, &(0, 1, 4, DELAYED_LINE))
-                && is_delayed(delivery.segments.as_slice())
-        }
-        _ => false,
-    }
-}
-
-#[test]
-fn segments_of_a_connection(rt: HostRuntime) {
-    let bytes = file(rt.alloc(), true, &segments()).expect(&rt, "memory");
-    let scenarios = [scenario(&rt, rt.alloc(), &[DELAYED])];
-    let made = delivered(&rt, rt.alloc(), &bytes, &scenarios, 2, &Through);
-    check(&rt, "the delivery", has_delayed(&made));
-}
-
-// The deliveries of a file under the scenario of some proxies, by so many workers.
-fn under<R: Abort + Threads + Sync>(
-    rt: &R,
-    alloc: Global,
-    bytes: &[u8],
-    proxies: &[&str],
-    workers: u32,
-) -> Vec<Delivery> {
-    let scenarios = [scenario(rt, alloc, proxies)];
-    delivered(rt, alloc, bytes, &scenarios, workers, &Through)
-}
-
-// That by so many workers neither what the other connection meets nor a further record changes what a connection contributes.
-fn check_isolated<R: Abort + Threads + Sync>(rt: &R, alloc: Global, workers: u32) {
-    let bytes = file(alloc, true, &segments()).expect(rt, "memory");
-    let longer = with_another_record(alloc).expect(rt, "memory");
-    let first = under(rt, alloc, &bytes, &[DELAYED], workers);
-    let own = are_wanted(&first, &[(0, 0, 3, FIRST_LINE), (0, 1, 4, DELAYED_LINE)]);
-    check(rt, "its own", own);
-    let second = under(rt, alloc, &bytes, &[DELAYED, SILENT], workers);
-    check(rt, "beside another", have_same_second(&first, &second));
-    let held = is_held(&second);
-    check(rt, "met", held);
-    let third = under(rt, alloc, &longer, &[DELAYED], workers);
-    check(rt, "with a record more", have_same_second(&first, &third));
-}
-
-// Whether the first of some deliveries met the second proxy.
-fn is_held(made: &[Delivery]) -> bool {
-    match made.first() {
-        Some(met) => {
-            let begins = b"0 10.0.0.1:40000 > 10.0.0.3:40001 proxy 1 ";
-            met.line.as_slice().starts_with(begins)
-        }
-        None => false,
-    }
-}
-
-#[test]
-fn connections_are_isolated(rt: HostRuntime) {
-    check_isolated(&rt, rt.alloc(), 1);
-    check_isolated(&rt, rt.alloc(), 2);
-    check_isolated(&rt, rt.alloc(), 16);
-}
-
 #[test]
 fn nothing_is_delivered_of_nothing(rt: HostRuntime) {
     let empty = file(rt.alloc(), true, &[]).expect(&rt, "memory");
-    let none = under(&rt, rt.alloc(), &empty, &[], 16);
+    let scenarios = [scenario(&rt, rt.alloc(), &[])];
+    let none = delivered(&rt, rt.alloc(), &empty, &scenarios, 16, &Through);
     check(&rt, "no connection", none.is_empty());
     let bytes = file(rt.alloc(), true, &segments()).expect(&rt, "memory");
     let none = delivered(&rt, rt.alloc(), &bytes, &[], 2, &Through);

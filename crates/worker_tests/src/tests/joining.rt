@@ -3,14 +3,13 @@ ghost use Rattle.std.specs.Prelude.{◌≡◌, All};
 ghost use Rattle.segment_writer.specs.WrittenSegments.{sorted_by_key};
 
 use super::checks::check;
-use super::merging::written;
-use super::tables::falling;
-use pcap_records::{Capture, read_capture};
+use super::merging::{WantedFrame, check_frames, written};
+use pcap_records::read_capture;
 use segment_writer::SegList;
 use std::alloc::{AllocError, Global};
 use std::process::Abort;
 use worked_sessions::sessions::{
-    ACK, CLIENT, PSH, RecordedSegment, SERVER, SYN, file, header, segment,
+    ACK, CLIENT, PSH, RecordedSegment, SECOND_CLIENT, SERVER, SYN, file, header, segment,
 };
 
 // The lists of the connections of some recorded segments.
@@ -48,16 +47,32 @@ fn joined(alloc: Global, left: SegList, right: SegList) -> Result<Vec<u8>, Alloc
     Ok(bytes)
 }
 
-// Whether the frames of a capture are all at one instant and sent by these hosts, of each of which the last byte of its address
-// is told.
-fn are_sent_by(capture: &Capture<'_>, hosts: &[u8]) -> bool {
-    let mut right = capture.records().len() == hosts.len();
-    for ((place, record), host) in capture.records().iter().enumerate().zip(hosts) {
-        let sender = capture.packet(place).get(29);
-        right = right && record.stamp.count() == 5_000_000 && sender == Some(host);
-    }
-    right
+// An opening, and a session whose stamps are before it.
+fn falling() -> [RecordedSegment<'static>; 3] {
+    [
+        segment((5, 0), CLIENT, SERVER, SYN, (1000, 0), b""),
+        segment((4, 0), SECOND_CLIENT, SERVER, SYN, (2000, 0), b""),
+        segment(
+            (4, 500_000),
+            SECOND_CLIENT,
+            SERVER,
+            PSH + ACK,
+            (2001, 1),
+            b"q",
+        ),
+    ]
 }
+
+// What is written of both, the first connection's frames and then the second's: all is at one instant.
+const WRITTEN: [WantedFrame; 7] = [
+    (5_000_000, 1, SYN, 0),
+    (5_000_000, 2, SYN + ACK, 0),
+    (5_000_000, 1, ACK, 0),
+    (5_000_000, 3, SYN, 0),
+    (5_000_000, 2, SYN + ACK, 0),
+    (5_000_000, 3, ACK, 0),
+    (5_000_000, 3, PSH + ACK, 1),
+];
 
 // The two connections' lists, in this order or the other, give one capture.
 fn check_order(rt: &impl Abort, alloc: Global, turned: bool) {
@@ -70,9 +85,7 @@ fn check_order(rt: &impl Abort, alloc: Global, turned: bool) {
         joined(alloc, first, second)
     };
     let bytes = made.expect(rt, "memory");
-    let capture = read_capture(alloc, &bytes).expect(rt, "a capture");
-    let sent = are_sent_by(&capture, &[1, 2, 1, 3, 2, 3, 3]);
-    check(rt, "two lists", sent && bytes.len() == 515);
+    check_frames(rt, alloc, &bytes, &WRITTEN);
 }
 
 #[test]

@@ -107,7 +107,7 @@ fn merged(rt: &impl Abort, alloc: Global, segments: &[RecordedSegment<'_>]) -> V
 }
 
 // A frame as a test wants it: its stamp, the last byte of its sender's address, its flags and the length of its payload.
-type WantedFrame = (u64, u8, u8, usize);
+pub(super) type WantedFrame = (u64, u8, u8, usize);
 
 // Whether a packet, stamped so, is this frame.
 fn is_frame(micros: u64, packet: &[u8], wanted: &WantedFrame) -> bool {
@@ -119,7 +119,7 @@ fn is_frame(micros: u64, packet: &[u8], wanted: &WantedFrame) -> bool {
 }
 
 // That the frames of a capture are these.
-fn check_frames(rt: &impl Abort, alloc: Global, bytes: &[u8], wanted: &[WantedFrame]) {
+pub(super) fn check_frames(rt: &impl Abort, alloc: Global, bytes: &[u8], wanted: &[WantedFrame]) {
     let capture = read_capture(alloc, bytes).expect(rt, "a capture");
     let mut right = capture.records().len() == wanted.len();
     for ((place, record), wanted) in capture.records().iter().enumerate().zip(wanted) {
@@ -147,37 +147,6 @@ fn the_plain_session(rt: HostRuntime) {
     let wanted = session_written(rt.alloc()).expect(&rt, "memory");
     let same = written.as_slice() == wanted.as_slice();
     check(&rt, "449 bytes", same && written.len() == 449);
-}
-
-// The second connection is recorded earlier than the first, but stands after it in the file: all is at one instant.
-#[test]
-fn connections_in_order_of_number(rt: HostRuntime) {
-    let data = segment(
-        (4, 500_000),
-        SECOND_CLIENT,
-        SERVER,
-        PSH + ACK,
-        (2001, 1),
-        b"q",
-    );
-    let segments = [
-        segment((5, 0), CLIENT, SERVER, SYN, (1000, 0), b""),
-        segment((4, 0), SECOND_CLIENT, SERVER, SYN, (2000, 0), b""),
-        data,
-    ];
-    let bytes = merged(&rt, rt.alloc(), &segments);
-    check(&rt, "length", bytes.len() == 515);
-    let at = 5_000_000;
-    let wanted = [
-        (at, 1, SYN, 0),
-        (at, 2, SYN + ACK, 0),
-        (at, 1, ACK, 0),
-        (at, 3, SYN, 0),
-        (at, 2, SYN + ACK, 0),
-        (at, 3, ACK, 0),
-        (at, 3, PSH + ACK, 1),
-    ];
-    check_frames(&rt, rt.alloc(), &bytes, &wanted);
 }
 
 // At one instant the client's line comes before the server's, and the pieces of a chunk in turn.

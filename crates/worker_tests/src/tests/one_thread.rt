@@ -7,6 +7,7 @@ use pcap_records::read_capture;
 use range_workers::table_alone;
 use report::ReportText;
 use std::alloc::AllocGlobal;
+use std::process::Abort;
 use worked_sessions::sessions::file;
 
 #[test]

@@ -16,6 +16,7 @@ use job_matrix::{Plan, Through};
 use pcap_records::{Capture, read_capture};
 use scenarios::Scenario;
 use std::alloc::{AllocError, Global};
+use std::process::Abort;
 use std::thread::Threads;
 use worked_sessions::sessions::file;
 

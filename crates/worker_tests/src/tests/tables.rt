@@ -5,10 +5,10 @@ use super::checks::check;
 use conn_table::{Conn, Member, Partial, Table, finish};
 use frame_headers::{Flags, Peer};
 use pcap_records::{Capture, read_capture};
-use std::alloc::{AllocError, Global};
+use std::alloc::{AllocGlobal, Global};
 use std::process::Abort;
 use worked_sessions::sessions::{
-    ACK, CLIENT, Host, PSH, RecordedSegment, SECOND_CLIENT, SERVER, SYN, file, header, put, segment,
+    ACK, CLIENT, Host, PSH, RecordedSegment, SERVER, SYN, file, segment,
 };
 
 fn peer(host: Host) -> Peer {
@@ -45,13 +45,13 @@ fn join(rt: &impl Abort, left: Partial, right: Partial) -> Partial
 }
 
 // The table of all records in one range.
-pub(super) fn whole(rt: &impl Abort, alloc: Global, capture: &Capture<'_>) -> Table {
+fn whole(rt: &impl Abort, alloc: Global, capture: &Capture<'_>) -> Table {
     let partial = partial(rt, alloc, capture, 0, capture.records().len());
     finish(alloc, partial).expect(rt, "memory")
 }
 
 // The table by ranges of `cut` records, joined from the left.
-pub(super) fn from_left(
+fn from_left(
     rt: &impl Abort,
     alloc: Global,
     capture: &Capture<'_>,
@@ -89,7 +89,7 @@ fn right_of(
 }
 
 // The table by ranges of `cut` records, joined from the right.
-pub(super) fn from_right(
+fn from_right(
     rt: &impl Abort,
     alloc: Global,
     capture: &Capture<'_>,
@@ -145,47 +145,6 @@ pub(super) fn repeated() -> [RecordedSegment<'static>; 6] {
 }
 
 pub(super) const REPEATED: [Wanted; 2] = [(CLIENT, &[0, 1, 2, 3]), (CLIENT, &[4, 5])];
-
-// An opening, and a session whose stamps are before it.
-pub(super) fn falling() -> [RecordedSegment<'static>; 3] {
-    [
-        segment((5, 0), CLIENT, SERVER, SYN, (1000, 0), b""),
-        segment((4, 0), SECOND_CLIENT, SERVER, SYN, (2000, 0), b""),
-        segment(
-            (4, 500_000),
-            SECOND_CLIENT,
-            SERVER,
-            PSH + ACK,
-            (2001, 0),
-            b"h",
-        ),
-    ]
-}
-
-pub(super) const FALLING: [Wanted; 2] = [(CLIENT, &[0]), (SECOND_CLIENT, &[1, 2])];
-
-// Whether all members have this instant.
-fn are_at(members: &[Member], micros: u64) -> bool {
-    let mut right = true;
-    for member in members {
-        right = right && member.at.count() == micros;
-    }
-    right
-}
-
-// Whether all members of a table have this instant.
-fn has_instants(table: &Table, micros: u64) -> bool {
-    let mut right = true;
-    for conn in table.conns() {
-        right = right && conn.opened.count() == micros && are_at(conn.members.as_slice(), micros);
-    }
-    right
-}
-
-// That all members of a table have this instant.
-pub(super) fn check_instants(rt: &impl Abort, table: &Table, micros: u64) {
-    check(rt, "instants of a table", has_instants(table, micros));
-}
 
 // That ranges of so many records give this table, joined from the left and from the right.
 fn check_cut(rt: &impl Abort, alloc: Global, capture: &Capture<'_>, cut: usize, wanted: &[Wanted]) {
@@ -270,59 +229,4 @@ fn what_a_member_tells(rt: HostRuntime) {
     };
     check(&rt, "members", told);
     check(&rt, "its byte", bytes.get(304) == Some(&b'h'));
-}
-
-#[test]
-fn instants_where_stamps_fall_back(rt: HostRuntime) {
-    let bytes = file(rt.alloc(), true, &falling()).expect(&rt, "memory");
-    let capture = read_capture(rt.alloc(), &bytes).expect(&rt, "a capture");
-    let one = whole(&rt, rt.alloc(), &capture);
-    check_table(&rt, &one, &FALLING, 0);
-    check_instants(&rt, &one, 5_000_000);
-    let three = from_left(&rt, rt.alloc(), &capture, 1);
-    check_table(&rt, &three, &FALLING, 0);
-    check_instants(&rt, &three, 5_000_000);
-}
-
-// Whether a table has a hundred connections of forty members, each opened by the record of its own number.
-fn has_hundred(table: &Table) -> bool {
-    let conns = table.conns();
-    let mut right = conns.len() == 100 && table.unopened() == 0 && table.counts().segment == 4000;
-    for conn in conns {
-        right = right && conn.members.as_slice().len() == 40 && conn.opening == conn.number;
-    }
-    right
-}
-
-// Appends a segment from each of a hundred clients to the server.
-fn put_round(bytes: &mut Vec<u8>, round: u32, flags: u8, seq: u32) -> Result<(), AllocError> {
-    for port in 40_000..40_100_u16 {
-        let client = Host { port, ..CLIENT };
-        let data = segment((round, 0), client, SERVER, flags, (seq, 0), b"");
-        put(bytes, true, &data)?;
-    }
-    Ok(())
-}
-
-// Forty rounds in which each of a hundred clients sends a segment: openings in the first, and the same again in the second.
-fn many_records(alloc: Global) -> Result<Vec<u8>, AllocError> {
-    let mut bytes = header(alloc, true)?;
-    put_round(&mut bytes, 0, SYN, 1000)?;
-    put_round(&mut bytes, 1, SYN, 1000)?;
-    for round in 2..40_u32 {
-        put_round(&mut bytes, round, ACK, 1001)?;
-    }
-    Ok(bytes)
-}
-
-#[test]
-fn thousands_of_records(rt: HostRuntime) {
-    let bytes = many_records(rt.alloc()).expect(&rt, "memory");
-    let capture = read_capture(rt.alloc(), &bytes).expect(&rt, "a capture");
-    let one = whole(&rt, rt.alloc(), &capture);
-    check(&rt, "one range", has_hundred(&one));
-    let left = from_left(&rt, rt.alloc(), &capture, 64);
-    check(&rt, "from the left", has_hundred(&left));
-    let right = from_right(&rt, rt.alloc(), &capture, 512);
-    check(&rt, "from the right", has_hundred(&right));
 }

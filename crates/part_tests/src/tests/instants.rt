@@ -17,7 +17,9 @@ fn check_times(
         return;
     }
     let carry = Moment::of(carry, Unit::Micros);
-    let times = capture.times(rt.alloc(), from, to, carry).expect(rt, "memory");
+    let times = capture
+        .times(rt.alloc(), from, to, carry)
+        .expect(rt, "memory");
     let mut same = times.as_slice().len() == wanted.len();
     for (time, wanted) in times.as_slice().iter().zip(wanted) {
         same = same && time.count() == *wanted;

@@ -148,13 +148,7 @@ fn tagged_payload_after_options_and_before_padding(rt: HostRuntime) {
 }
 
 // That a frame of the known session with the tag of VLAN 7 is read, summed and written as it stands.
-fn check_known(
-    rt: &impl Abort,
-    alloc: Global,
-    row: &str,
-    frame: &[u8],
-    header: Header,
-)
+fn check_known(rt: &impl Abort, alloc: Global, row: &str, frame: &[u8], header: Header)
     requires { 12 ≤ length frame.now }
 {
     let frame = tagged(alloc, frame, b"\x81\0\0\x07").expect(rt, "memory");

@@ -42,8 +42,7 @@ fn has_latency(scenario: &Scenario, ppm: u64) -> bool {
 fn check_taken(rt: &(impl Abort + AllocGlobal), more: &str, ppm: u64) {
     let toxic = format!(in rt.alloc();
         "{{\"type\":\"latency\",\"stream\":\"upstream\"{more},\"attributes\":{{\"latency\":null,\"jitter\":7,\"rate\":\"x\"}}}}"
-    )
-    .expect(rt, "memory");
+    ).expect(rt, "memory");
     let scenario = with_toxics(rt.alloc(), &toxic).expect(rt, "taken");
     check(rt, more, has_latency(&scenario, ppm));
 }

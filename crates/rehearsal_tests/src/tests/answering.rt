@@ -88,11 +88,7 @@ pub fn dump(alloc: Global, bytes: &[u8]) -> Result<String, AllocError> {
     Ok(text)
 }
 
-fn check_answered(
-    rt: &(impl Abort + AllocGlobal + Threads + Wait + Sync),
-    row: &str,
-    text: &[u8],
-) {
+fn check_answered(rt: &(impl Abort + AllocGlobal + Threads + Wait + Sync), row: &str, text: &[u8]) {
     let good = is_answered(rt, rt.alloc(), text) == Ok(true);
     assert!(rt; good, "{row}");
 }

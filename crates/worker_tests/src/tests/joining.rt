@@ -13,11 +13,7 @@ use worked_sessions::sessions::{
 };
 
 // The lists of the connections of some recorded segments.
-fn lists_of(
-    rt: &impl Abort,
-    alloc: Global,
-    segments: &[RecordedSegment<'_>],
-) -> Vec<SegList>
+fn lists_of(rt: &impl Abort, alloc: Global, segments: &[RecordedSegment<'_>]) -> Vec<SegList>
     ensures { All (λ list. sorted_by_key list ≡ list) result.items }
 {
     let bytes = file(alloc, true, segments).expect(rt, "memory");

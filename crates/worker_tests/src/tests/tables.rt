@@ -19,13 +19,7 @@ fn peer(host: Host) -> Peer {
 }
 
 // The partial of a range, with the greatest stamp before it.
-fn partial(
-    rt: &impl Abort,
-    alloc: Global,
-    capture: &Capture<'_>,
-    from: usize,
-    to: usize,
-) -> Partial
+fn partial(rt: &impl Abort, alloc: Global, capture: &Capture<'_>, from: usize, to: usize) -> Partial
     requires ordered { from ≤ to }
     requires within { to ≤ length capture.now.records }
     ensures from { result.from ≡ from }
@@ -51,12 +45,7 @@ fn whole(rt: &impl Abort, alloc: Global, capture: &Capture<'_>) -> Table {
 }
 
 // The table by ranges of `cut` records, joined from the left.
-fn from_left(
-    rt: &impl Abort,
-    alloc: Global,
-    capture: &Capture<'_>,
-    cut: usize,
-) -> Table {
+fn from_left(rt: &impl Abort, alloc: Global, capture: &Capture<'_>, cut: usize) -> Table {
     let count = capture.records().len();
     let mut done = partial(rt, alloc, capture, 0, 0);
     let mut at = 0;
@@ -69,13 +58,7 @@ fn from_left(
 }
 
 // The partial of the records from `at` on, by ranges of `cut` records, joined from the right.
-fn right_of(
-    rt: &impl Abort,
-    alloc: Global,
-    capture: &Capture<'_>,
-    at: usize,
-    cut: usize,
-) -> Partial
+fn right_of(rt: &impl Abort, alloc: Global, capture: &Capture<'_>, at: usize, cut: usize) -> Partial
     requires { at ≤ length capture.now.records }
     ensures { result.from ≡ at }
 {
@@ -89,12 +72,7 @@ fn right_of(
 }
 
 // The table by ranges of `cut` records, joined from the right.
-fn from_right(
-    rt: &impl Abort,
-    alloc: Global,
-    capture: &Capture<'_>,
-    cut: usize,
-) -> Table {
+fn from_right(rt: &impl Abort, alloc: Global, capture: &Capture<'_>, cut: usize) -> Table {
     finish(alloc, right_of(rt, alloc, capture, 0, cut)).expect(rt, "memory")
 }
 

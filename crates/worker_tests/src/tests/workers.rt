@@ -69,12 +69,7 @@ fn are_tripled(values: &[u64], count: usize) -> bool {
 }
 
 // That so many workers give the values of so many jobs.
-fn check_tripled<R: Abort + Threads + Sync>(
-    rt: &R,
-    alloc: Global,
-    workers: u64,
-    count: u64,
-)
+fn check_tripled<R: Abort + Threads + Sync>(rt: &R, alloc: Global, workers: u64, count: u64)
     requires workers { 1 ≤ workers × workers ≤ 16 }
     requires count { count ≤ 2 ^ 32 }
 {
@@ -135,7 +130,9 @@ fn two_jobs_that_wait_for_each_other(rt: HostRuntime) {
         second: AtomicU64::new(0),
         gave_up: AtomicU64::new(0),
     };
-    let values = work_all(&rt, rt.alloc(), 2, 2, Phase::Jobs, &Through, &work).expect(&rt, "memory");
+    let values = work_all(&rt, rt.alloc(), 2, 2, Phase::Jobs, &Through, &work).expect(
+        &rt, "memory",
+    );
     check(&rt, "values", values.as_slice() == [0, 1].as_slice());
     let met = work.gave_up.load(Ordering::SeqCst) == 0;
     check(&rt, "they met", met);
@@ -145,7 +142,9 @@ fn two_jobs_that_wait_for_each_other(rt: HostRuntime) {
 fn each_job_passes_the_gate_of_its_phase(rt: HostRuntime) {
     let work = Tripled { refused: None };
     let gate = Counting::new(Phase::Lines);
-    let _values = work_all(&rt, rt.alloc(), 10, 3, Phase::Lines, &gate, &work).expect(&rt, "memory");
+    let _values = work_all(&rt, rt.alloc(), 10, 3, Phase::Lines, &gate, &work).expect(
+        &rt, "memory",
+    );
     let passed = gate.passed() == 10 && gate.numbers() == 45;
     check(&rt, "passed", passed);
 }

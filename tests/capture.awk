@@ -7,16 +7,18 @@
 # N is the tag's 16 bits: the lower 12 are the VLAN's number, the others its priority. It is decimal, or 0x and hexadecimal digits: 0x2007 is
 # priority 1 of VLAN 7. A frame of `vlan 7 vlan 8` has two tags, in this order.
 # A first line `nanoseconds` gives the file that magic number: TIME has nine digits after the point then. A line `highest` puts the highest
-# byte of each field first.
+# byte of each field first; with `-v turned=1` each file has the other order.
 function field(number, digits) { return sprintf("%0" digits "x", number) }
+# whether the highest byte of each field comes first
+function falls() { return highest + 0 != turned + 0 }
 # a number of 32 bits as the file has it: its lowest byte first, or its highest
 function ordered(number,    text) {
     text = wide(number)
-    return highest ? text : substr(text, 7, 2) substr(text, 5, 2) substr(text, 3, 2) substr(text, 1, 2)
+    return falls() ? text : substr(text, 7, 2) substr(text, 5, 2) substr(text, 3, 2) substr(text, 1, 2)
 }
 function heading() {
     if (headed++) return
-    print ordered(nanoseconds ? 2712812621 : 2712847316) " " (highest ? "00020004" : "02000400") " 00000000 00000000 " ordered(65535) " " ordered(1)
+    print ordered(nanoseconds ? 2712812621 : 2712847316) " " (falls() ? "00020004" : "02000400") " 00000000 00000000 " ordered(65535) " " ordered(1)
 }
 function wide(number) { return sprintf("%04x%04x", int(number / 65536), number % 65536) }
 # a number in decimal, or in hexadecimal digits after 0x

@@ -40,6 +40,12 @@ misused() {
     )"
 }
 
+# said TEXT INPUT [ARGUMENT..]: a run over a file prints this text.
+said() {
+    run "${@:2}"
+    verdict "toxicap ${*:3} < $2" "$(well; told output "$1")"
+}
+
 # names FILE TEXT..: what a file does not have of these texts.
 names() {
     local file=$1 text
@@ -51,6 +57,37 @@ reported "$stored"
 reported /dev/null --capture "$stored" --seed 7 --workers 2 --cut 1
 reported "$stored" --seed 18446744073709551615 --workers 16 --cut 1048576
 
+# the plain session: from standard input or a file, by the least and the most workers and records, and under two scenarios in order, of which the
+# second names a host
+session=crates/library_example/stdin
+counts=$'records 7 rest 0 segment 7 short 0 notipv4 0 badipv4 0 fragment 0 nottcp 0 cut 0 badtcp 0 sameends 0\nconnections 1 unopened 0'
+
+# line PROXY UP: the lines of a scenario's report, but for the first one's two words, where this is told of the proxy and of the client's line.
+line() { printf '%s\n0 10.0.0.1:40000 > 10.0.0.2:80 proxy %s up %s down 0/0/0 fin+3000 max 0\n' "$counts" "$1" "$2"; }
+bare="scenario 0 $(line - '5/5/0 fin+2000 max 0')"$'\n'
+slow="scenario 1 $(line 0 '5/5/0 fin+101000 max 100000')"$'\n'
+printf '[]' > "$work/bare.json"
+printf '[{"name":"web","upstream":"web:80","toxics":[{"type":"latency","stream":"upstream","attributes":{"latency":100}}]}]' > "$work/slow.json"
+said "$bare" $session
+said "$bare" /dev/null --capture $session
+said "$bare" $session --workers 16 --cut 1048576
+said "$bare" $session --workers 1 --cut 1
+said "$bare$slow" /dev/null --capture=$session --host db=10.0.0.7 --scenario "$work/bare.json" --scenario="$work/slow.json" --host=web=10.0.0.2
+
+# seeded TIMES UP WORD: what is told of the client's line where a toxic that would take all its bytes applies at so many times in a million.
+# The first words that are drawn are 872,008 of a million with the seed 0, which is the one where none is told, and 663,470 with the seed 42.
+seeded() {
+    printf '[{"name":"web","upstream":"10.0.0.2:80","toxics":[{"type":"timeout","stream":"upstream","toxicity_ppm":%s}]}]' "$1" > "$work/seeded.json"
+    said "scenario 0 $(line 0 "$2")"$'\n' $session --scenario "$work/seeded.json" "$3"
+}
+kept="5/5/0 fin+2000 max 0" taken="0/5/0 open max 0"
+seeded 872009 "$taken" --cut=1
+seeded 872008 "$kept" --cut=1
+seeded 872009 "$taken" --seed=0
+seeded 663471 "$kept" --seed=0
+seeded 663471 "$taken" --seed=42
+seeded 663470 "$kept" --seed=42
+
 # captures that are refused
 printf 'a1b2cd34 00020004 00000000 00000000 0000ffff 00000001' > "$work/unknown"
 printf 'd4c' > "$work/broken"
@@ -59,6 +96,17 @@ unread "refused 1 ShortHeader" /dev/null
 unread "refused 2 BadMagic" "$work/unknown"
 unread "refused 5 RecordTooLong at 0" "$work/long"
 unread "refused 55 BadDump at 3" "$work/broken"
+
+# what is refused first: hosts, files of scenarios, the capture's bytes, its dump, scenarios, the capture, and then the folder
+printf '[' > "$work/broken.json"
+none=$work/none
+unread "refused 23 BadHost host 0" /dev/null --capture "$none" --scenario "$none" --host x --out "$none"
+unread "refused 61 ReadFailed" /dev/null --capture "$work/broken" --scenario "$none" --out "$none"
+unread "refused 61 ReadFailed" /dev/null --capture "$none" --scenario "$work/broken.json" --out "$none"
+unread "refused 55 BadDump at 3" /dev/null --capture "$work/broken" --scenario "$work/broken.json" --out "$none"
+unread "refused 10 NotJson scenario 0" /dev/null --scenario "$work/broken.json" --out "$none"
+unread "refused 1 ShortHeader" /dev/null --out "$none"
+refused "refused 60 ShelfFailed after 0" --out "$none"
 
 # hosts
 printf '[{"name":"web","upstream":"web:80"}]' > "$work/named.json"
@@ -70,14 +118,14 @@ refused "refused 23 BadHost host 1" --host a=10.0.0.9 --host a=10.0.0.9
 refused "refused 23 BadHost host 0" --host =10.0.0.9
 refused "refused 23 BadHost host 0" --host a=b=10.0.0.9
 
-# scenarios: all are read before they are too many
-printf '[]' > "$work/bare.json"
-printf '[' > "$work/broken.json"
+# scenarios: all are read before they are too many, and the capture is looked at last
 many=()
 for _ in {1..256}; do many+=(--scenario "$work/bare.json"); done
 unread "refused 1 ShortHeader" /dev/null "${many[@]}"
 refused "refused 22 TooManyScenarios" "${many[@]}" --scenario "$work/bare.json"
+unread "refused 22 TooManyScenarios" /dev/null "${many[@]}" --scenario "$work/bare.json"
 refused "refused 10 NotJson scenario 256" "${many[@]}" --scenario "$work/broken.json"
+unread "refused 10 NotJson scenario 257" /dev/null "${many[@]}" --scenario "$work/bare.json" --scenario "$work/broken.json"
 
 # the line of each refusal of a scenario has its place: the scenario, its proxy, and the toxic of that where it is of one
 # toxics COUNT LAST: so many toxics of a proxy, the last one of them such.

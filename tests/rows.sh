@@ -6,15 +6,18 @@
 #     fault                             in place of these: the line of a refusal
 #     about                             what it shows, and where its values come from
 # Each is run by 1, 2, 4 and 16 workers in ranges of 1, 2, 3 and 4,096 records, and once without any of that; the words of a plan come last.
+# Captures of segments are run so in the other byte order too: the answer is the same.
 set -euo pipefail
 cd "$(dirname "$0")/.."
 . tests/lib.sh
 
-# dump ROW: the row's capture, as hexadecimal text, in the file `dump` of the folder `work`.
+# dump ROW [-v turned=1]: the row's capture, as hexadecimal text; one of segments in the other byte order if told so.
 dump() {
-    if [ -f "$1/dump" ]; then cp "$1/dump" "$work/dump"
-    elif [ -f "$1/segments" ]; then awk -f tests/capture.awk "$1/segments" > "$work/dump"
-    else awk -f "$1/segments.awk" < /dev/null | awk -f tests/capture.awk > "$work/dump"; fi
+    local row=$1
+    shift
+    if [ -f "$row/dump" ]; then cat "$row/dump"
+    elif [ -f "$row/segments" ]; then awk "$@" -f tests/capture.awk "$row/segments"
+    else awk -f "$row/segments.awk" < /dev/null | awk "$@" -f tests/capture.awk; fi
 }
 
 # printed ROW: what is at fault with what was printed and told.
@@ -55,29 +58,38 @@ stored() {
     done
 }
 
-# row ROW: runs a row under all plans.
-row() {
-    local name arguments=() workers cut
-    name=$(basename "$1")
-    dump "$1"
+# once ROW CAPTURE WORD..: runs a row with these words after its own.
+once() {
+    local arguments=() capture=$2
     [ ! -f "$1/arguments" ] || mapfile -t arguments < "$1/arguments"
     pushd "$1" > /dev/null
-    run "$work/dump" "${arguments[@]}"
+    run "$capture" "${arguments[@]}" "${@:3}"
     popd > /dev/null
-    verdict "$name" "$(printed "$1")"
+}
+
+# row ROW CAPTURE NAME: runs a row under all plans, over its capture in this file.
+row() {
+    local workers cut
+    once "$1" "$2"
+    verdict "$3" "$(printed "$1")"
     [ ! -f "$1/fault" ] || return 0
     wanted "$1" > "$work/wanted"
     for workers in 1 2 4 16; do
         for cut in 1 2 3 4096; do
             rm -rf "$work/outputs"
             mkdir "$work/outputs"
-            pushd "$1" > /dev/null
-            run "$work/dump" "${arguments[@]}" --out "$work/outputs" --workers $workers --cut $cut
-            popd > /dev/null
-            verdict "$name by $workers workers, ranges of $cut" "$(stored "$1")"
+            once "$1" "$2" --out "$work/outputs" --workers $workers --cut $cut
+            verdict "$3 by $workers workers, ranges of $cut" "$(stored "$1")"
         done
     done
 }
 
-for folder in tests/rows/*/; do row "${folder%/}"; done
+for folder in tests/rows/*/; do
+    folder=${folder%/}
+    dump "$folder" > "$work/dump"
+    row "$folder" "$work/dump" "${folder##*/}"
+    [ ! -f "$folder/dump" ] || continue
+    dump "$folder" -v turned=1 > "$work/turned"
+    row "$folder" "$work/turned" "${folder##*/} in the other byte order"
+done
 close

@@ -50,41 +50,23 @@ pub const SERVER_ENDS: [u8; 54] = [
     0xff, 0xff, 0xe7, 0xc8, 0x00, 0x00,
 ];
 
-/// Appends what is written of one frame: its record, stamped so many microseconds after the first second. After the frame's Ethernet
-/// addresses it has the tag of a VLAN, if there is one.
-pub fn put_written(
-    file: &mut Vec<u8>,
-    micros: u32,
-    frame: &[u8],
-    vlan: Option<u16>,
-) -> Result<(), AllocError> {
-    let tag_len = if vlan.is_some() { 4 } else { 0 };
-    let len = frame.len().min(1514) as u32 + tag_len;
+// Appends what is written of one frame: its record, stamped so many microseconds after the first second.
+fn put_written(file: &mut Vec<u8>, micros: u32, frame: &[u8]) -> Result<(), AllocError> {
+    let len = frame.len().min(1514) as u32;
     for number in [1, micros, len, len] {
         file.extend_from_slice(&number.to_le_bytes())?;
     }
-    let (addresses, rest) = frame.split_at(frame.len().min(12));
-    file.extend_from_slice(addresses)?;
-    if let Some(vlan) = vlan {
-        file.extend_from_slice(&[0x81, 0])?;
-        file.extend_from_slice(&vlan.to_be_bytes())?;
-    }
-    file.extend_from_slice(rest)
-}
-
-/// The output capture of the plain session: 449 bytes, and 4 more for each of its six frames where they have the tag of a VLAN.
-pub fn session_written_in(alloc: Global, vlan: Option<u16>) -> Result<Vec<u8>, AllocError> {
-    let mut file = header(alloc, true)?;
-    put_written(&mut file, 0, &OPENING, vlan)?;
-    put_written(&mut file, 0, &OPENING_ANSWERED, vlan)?;
-    put_written(&mut file, 0, &ACKNOWLEDGED, vlan)?;
-    put_written(&mut file, 1000, &DATA, vlan)?;
-    put_written(&mut file, 2000, &CLIENT_ENDS, vlan)?;
-    put_written(&mut file, 3000, &SERVER_ENDS, vlan)?;
-    Ok(file)
+    file.extend_from_slice(frame)
 }
 
 /// The output capture of the plain session: 449 bytes.
 pub fn session_written(alloc: Global) -> Result<Vec<u8>, AllocError> {
-    session_written_in(alloc, None)
+    let mut file = header(alloc, true)?;
+    put_written(&mut file, 0, &OPENING)?;
+    put_written(&mut file, 0, &OPENING_ANSWERED)?;
+    put_written(&mut file, 0, &ACKNOWLEDGED)?;
+    put_written(&mut file, 1000, &DATA)?;
+    put_written(&mut file, 2000, &CLIENT_ENDS)?;
+    put_written(&mut file, 3000, &SERVER_ENDS)?;
+    Ok(file)
 }

@@ -8,5 +8,4 @@ mod one_thread;
 mod range_tables;
 mod recorded_bytes;
 mod tables;
-mod vlans;
 mod workers;

@@ -8,7 +8,6 @@ use super::written_headers::{check_payload, is_known};
 use frame_headers::{Class, Flags, Header, classify};
 use std::alloc::{AllocError, Global};
 use std::process::Abort;
-use std::test::Fail;
 use worked_sessions::written_frames::{
     ACKNOWLEDGED, CLIENT_ENDS, DATA, OPENING, OPENING_ANSWERED, SERVER_ENDS,
 };
@@ -30,60 +29,56 @@ fn in_vlan(vlan: Option<u16>, header: Header) -> Header {
 }
 
 // That the first frame of the session with this tag is the same segment of this VLAN.
-fn check_tag(rt: &impl Abort, alloc: Global, tag: &[u8], vlan: Option<u16>) -> Result<(), Fail> {
-    let frame = tagged(alloc, &OPENING, tag)?;
+fn check_tag(rt: &impl Abort, alloc: Global, tag: &[u8], vlan: Option<u16>) {
+    let frame = tagged(alloc, &OPENING, tag).expect(rt, "memory");
     let opening = in_vlan(vlan, sent(1000, 0, Flags::SYN));
     check(rt, "a tag", is_read_as(&frame, &opening, b""));
-    Ok(())
 }
 
 // The lower 12 bits are the number of the VLAN, the four above them are not, and 0 is the number of none.
 #[test]
-fn numbers_of_vlans(rt: HostRuntime) -> Result<(), Fail> {
+fn numbers_of_vlans(rt: HostRuntime) {
     let alloc = rt.alloc();
-    check_tag(&rt, alloc, b"", None)?;
-    check_tag(&rt, alloc, b"\x81\0\x20\x07", Some(7))?;
-    check_tag(&rt, alloc, b"\x81\0\0\x01", Some(1))?;
-    check_tag(&rt, alloc, b"\x81\0\x0f\xff", Some(4095))?;
-    check_tag(&rt, alloc, b"\x81\0\xff\xff", Some(4095))?;
-    check_tag(&rt, alloc, b"\x81\0\x10\x01", Some(1))?;
-    check_tag(&rt, alloc, b"\x81\0\0\0", None)?;
-    check_tag(&rt, alloc, b"\x81\0\x20\0", None)?;
-    check_tag(&rt, alloc, b"\x81\0\xf0\0", None)?;
-    Ok(())
+    check_tag(&rt, alloc, b"", None);
+    check_tag(&rt, alloc, b"\x81\0\x20\x07", Some(7));
+    check_tag(&rt, alloc, b"\x81\0\0\x01", Some(1));
+    check_tag(&rt, alloc, b"\x81\0\x0f\xff", Some(4095));
+    check_tag(&rt, alloc, b"\x81\0\xff\xff", Some(4095));
+    check_tag(&rt, alloc, b"\x81\0\x10\x01", Some(1));
+    check_tag(&rt, alloc, b"\x81\0\0\0", None);
+    check_tag(&rt, alloc, b"\x81\0\x20\0", None);
+    check_tag(&rt, alloc, b"\x81\0\xf0\0", None);
 }
 
 // That the first frame of the session with these bytes after its addresses has this class.
-fn check_class(rt: &impl Abort, alloc: Global, tags: &[u8], class: &str) -> Result<(), Fail> {
-    let frame = tagged(alloc, &OPENING, tags)?;
+fn check_class(rt: &impl Abort, alloc: Global, tags: &[u8], class: &str) {
+    let frame = tagged(alloc, &OPENING, tags).expect(rt, "memory");
     check(rt, class, class_of(&frame) == class);
-    Ok(())
 }
 
 // Two tags, other types in a tag's place, of which 88a8 begins a tag of another kind, and a type after the tag that is not IPv4's.
 #[test]
-fn more_than_one_tag_of_one_type(rt: HostRuntime) -> Result<(), Fail> {
+fn more_than_one_tag_of_one_type(rt: HostRuntime) {
     let alloc = rt.alloc();
-    check_class(&rt, alloc, b"\x81\0\0\x07", "Segment")?;
-    check_class(&rt, alloc, b"\x81\0\0\x07\x81\0\0\x08", "NotIpv4")?;
-    check_class(&rt, alloc, b"\x81\0\0\0\x81\0\0\x08", "NotIpv4")?;
-    check_class(&rt, alloc, b"\x88\xa8\0\x07", "NotIpv4")?;
-    check_class(&rt, alloc, b"\x88\xa8\0\x07\x81\0\0\x08", "NotIpv4")?;
-    check_class(&rt, alloc, b"\x81\x01\0\x07", "NotIpv4")?;
-    check_class(&rt, alloc, b"\x91\0\0\x07", "NotIpv4")?;
-    let mut frame = tagged(alloc, &OPENING, b"\x81\0\0\x07")?;
+    check_class(&rt, alloc, b"\x81\0\0\x07", "Segment");
+    check_class(&rt, alloc, b"\x81\0\0\x07\x81\0\0\x08", "NotIpv4");
+    check_class(&rt, alloc, b"\x81\0\0\0\x81\0\0\x08", "NotIpv4");
+    check_class(&rt, alloc, b"\x88\xa8\0\x07", "NotIpv4");
+    check_class(&rt, alloc, b"\x88\xa8\0\x07\x81\0\0\x08", "NotIpv4");
+    check_class(&rt, alloc, b"\x81\x01\0\x07", "NotIpv4");
+    check_class(&rt, alloc, b"\x91\0\0\x07", "NotIpv4");
+    let mut frame = tagged(alloc, &OPENING, b"\x81\0\0\x07").expect(&rt, "memory");
     change(&mut frame, 16, b"\x08\x06");
     check(&rt, "another type", class_of(&frame) == "NotIpv4");
-    Ok(())
 }
 
 #[test]
-fn classes_of_each_tagged_length(rt: HostRuntime) -> Result<(), Fail> {
+fn classes_of_each_tagged_length(rt: HostRuntime) {
     let mut padded = [0; 60];
     change(
         &mut padded,
         0,
-        &tagged(rt.alloc(), &OPENING, b"\x81\0\x20\x07")?,
+        &tagged(rt.alloc(), &OPENING, b"\x81\0\x20\x07").expect(&rt, "memory"),
     );
     check_front(&rt, &padded, 0, "Short");
     check_front(&rt, &padded, 13, "Short");
@@ -101,7 +96,6 @@ fn classes_of_each_tagged_length(rt: HostRuntime) -> Result<(), Fail> {
     // without the tag, 14 bytes are the whole Ethernet header
     check_front(&rt, &OPENING, 13, "Short");
     check_front(&rt, &OPENING, 14, "BadIpv4");
-    Ok(())
 }
 
 // Whether a frame is read as the session's data of VLAN 7.
@@ -120,13 +114,13 @@ fn offset_of(frame: &[u8]) -> u16 {
 
 // Each header stands 4 bytes further on than in an untagged frame.
 #[test]
-fn tagged_payload_after_options_and_before_padding(rt: HostRuntime) -> Result<(), Fail> {
+fn tagged_payload_after_options_and_before_padding(rt: HostRuntime) {
     check(&rt, "no tag", offset_of(&DATA) == 54);
     let mut padded = [0xaa; 74];
     change(
         &mut padded,
         0,
-        &tagged(rt.alloc(), &DATA, b"\x81\0\x20\x07")?,
+        &tagged(rt.alloc(), &DATA, b"\x81\0\x20\x07").expect(&rt, "memory"),
     );
     check(&rt, "padding", is_data(&padded) && offset_of(&padded) == 58);
 
@@ -151,27 +145,19 @@ fn tagged_payload_after_options_and_before_padding(rt: HostRuntime) -> Result<()
     change(&mut padded, 54, b"\x50");
     change(&mut padded, 21, b"\x2b");
     check(&rt, "a short header", class_of(&padded) == "BadTcp");
-    Ok(())
 }
 
 // That a frame of the known session with the tag of VLAN 7 is read, summed and written as it stands.
-fn check_known(
-    rt: &impl Abort,
-    alloc: Global,
-    row: &str,
-    frame: &[u8],
-    header: Header,
-) -> Result<(), Fail>
+fn check_known(rt: &impl Abort, alloc: Global, row: &str, frame: &[u8], header: Header)
     requires { 12 ≤ length frame.now }
 {
-    let frame = tagged(alloc, frame, b"\x81\0\0\x07")?;
+    let frame = tagged(alloc, frame, b"\x81\0\0\x07").expect(rt, "memory");
     check(rt, row, is_known(&frame, &in_vlan(Some(7), header)));
-    Ok(())
 }
 
 // No byte after the tag is another than in the untagged frame: no checksum covers the tag.
 #[test]
-fn known_frames_of_a_vlan(rt: HostRuntime) -> Result<(), Fail> {
+fn known_frames_of_a_vlan(rt: HostRuntime) {
     let alloc = rt.alloc();
     let syn_ack = Flags::SYN.with(Flags::ACK);
     let psh_ack = Flags::PSH.with(Flags::ACK);
@@ -181,13 +167,12 @@ fn known_frames_of_a_vlan(rt: HostRuntime) -> Result<(), Fail> {
     let data = sent(1001, 5001, psh_ack);
     let client_ends = sent(1006, 5001, fin_ack);
     let server_ends = answered(5001, 1007, fin_ack);
-    check_known(&rt, alloc, "SYN", &OPENING, sent(1000, 0, Flags::SYN))?;
-    check_known(&rt, alloc, "SYN ACK", &OPENING_ANSWERED, opened)?;
-    check_known(&rt, alloc, "ACK", &ACKNOWLEDGED, acknowledged)?;
-    check_known(&rt, alloc, "data", &DATA, data)?;
-    check_known(&rt, alloc, "FIN", &CLIENT_ENDS, client_ends)?;
-    check_known(&rt, alloc, "FIN back", &SERVER_ENDS, server_ends)?;
-    Ok(())
+    check_known(&rt, alloc, "SYN", &OPENING, sent(1000, 0, Flags::SYN));
+    check_known(&rt, alloc, "SYN ACK", &OPENING_ANSWERED, opened);
+    check_known(&rt, alloc, "ACK", &ACKNOWLEDGED, acknowledged);
+    check_known(&rt, alloc, "data", &DATA, data);
+    check_known(&rt, alloc, "FIN", &CLIENT_ENDS, client_ends);
+    check_known(&rt, alloc, "FIN back", &SERVER_ENDS, server_ends);
 }
 
 #[test]

@@ -1,12 +1,11 @@
 //! Random words, what applies, and the ranges of toxics, with values from outside.
 use super::checks::check;
 use std::process::Abort;
-use std::test::Fail;
 use toxic_defs::{Key, Kind, Toxic, applies, word};
 
 // The seed, the scenario, the connection, the direction and the toxic of the drawn words.
 #[test]
-fn words_and_what_applies(rt: HostRuntime) -> Result<(), Fail> {
+fn words_and_what_applies(rt: HostRuntime) {
     let key = Key {
         seed: 42,
         s: 0,
@@ -17,11 +16,10 @@ fn words_and_what_applies(rt: HostRuntime) -> Result<(), Fail> {
     check(&rt, "word 0", word(key, 0) == 0xa15c_02b7);
     check(&rt, "word 1", word(key, 1) == 0x7b47_f409);
     check(&rt, "word 2", word(key, 2) == 0xba1d_3330);
-    let below = Toxic::new(Kind::Bandwidth { rate: 1 }, 161_783).ok_or("a toxic")?;
+    let below = Toxic::new(Kind::Bandwidth { rate: 1 }, 161_783).expect(&rt, "a toxic");
     check(&rt, "at the word", !applies(&below, key));
-    let above = Toxic::new(Kind::Bandwidth { rate: 1 }, 161_784).ok_or("a toxic")?;
+    let above = Toxic::new(Kind::Bandwidth { rate: 1 }, 161_784).expect(&rt, "a toxic");
     check(&rt, "above the word", applies(&above, key));
-    Ok(())
 }
 
 // That a kind of toxic is in range or not, and that no more than a million in a million is.

@@ -1,7 +1,5 @@
 //! Calls that are made again, with the same values. The script tests/growths.sh runs these tests with each growth of memory refused in turn:
 //! one of two calls may want memory then, and the other answers in full.
-use super::connections::repeated;
-use super::isolation::{ONE_PROXY, TWO_PROXIES, capture};
 use super::rehearsed::rehearsed_by;
 use scenarios::{Hosts, Scenario, read_scenario};
 use std::alloc::{AllocGlobal, Global};
@@ -9,7 +7,37 @@ use std::process::Abort;
 use std::sync::Wait;
 use std::thread::Threads;
 use toxicap::{Counted, Options, Outputs, Plan, RunFault, Through, answers};
-use worked_sessions::sessions::{PLAIN_SESSION, file};
+use worked_sessions::sessions::{
+    ACK, CLIENT, PLAIN_SESSION, PSH, RecordedSegment, SECOND_CLIENT, SERVER, SYN, file, segment,
+};
+
+// An opening that is sent again, its answer and a byte, and a second session of the same ends.
+pub fn repeated() -> [RecordedSegment<'static>; 6] {
+    [
+        segment((1, 0), CLIENT, SERVER, SYN, (1000, 0), b""),
+        segment((1, 500_000), CLIENT, SERVER, SYN, (1000, 0), b""),
+        segment((1, 600_000), SERVER, CLIENT, SYN + ACK, (5000, 1001), b""),
+        segment((1, 700_000), CLIENT, SERVER, PSH + ACK, (1001, 5001), b"a"),
+        segment((2, 0), CLIENT, SERVER, SYN, (9000, 0), b""),
+        segment((2, 100_000), CLIENT, SERVER, PSH + ACK, (9001, 0), b"b"),
+    ]
+}
+
+// The openings of two connections of one client, and two bytes of the second.
+fn beside() -> [RecordedSegment<'static>; 3] {
+    [
+        segment((1, 0), CLIENT, SECOND_CLIENT, SYN, (1000, 0), b""),
+        segment((1, 100_000), CLIENT, SERVER, SYN, (2000, 0), b""),
+        segment((1, 200_000), CLIENT, SERVER, PSH + ACK, (2001, 0), b"ab"),
+    ]
+}
+
+// A proxy for the second connection's server alone, and beside one for that of the first.
+const ONE_PROXY: &str =
+    "[{\"name\":\"web\",\"upstream\":\"10.0.0.2:80\",\"toxics\":[{\"type\":\"latency\",\"stream\":\"upstream\",\"attributes\":{\"latency\":100,\"jitter\":50}}]}]";
+
+const TWO_PROXIES: &str =
+    "[{\"name\":\"web\",\"upstream\":\"10.0.0.2:80\",\"toxics\":[{\"type\":\"latency\",\"stream\":\"upstream\",\"attributes\":{\"latency\":100,\"jitter\":50}}]},{\"name\":\"other\",\"upstream\":\"10.0.0.3:40001\",\"toxics\":[{\"type\":\"timeout\",\"stream\":\"upstream\",\"attributes\":{\"timeout\":0}}]}]";
 
 // Adler-32 (RFC 1950) of what a sum stands for, and of some bytes after it.
 fn add_to_sum(sum: u32, bytes: &[u8]) -> u32 {
@@ -118,13 +146,13 @@ fn again_a_repeated_opening_and_second_session(rt: HostRuntime) {
 
 #[test]
 fn again_another_connection_without_a_proxy(rt: HostRuntime) {
-    let bytes = capture(rt.alloc(), false).expect(&rt, "no memory yet");
+    let bytes = file(rt.alloc(), true, &beside()).expect(&rt, "no memory yet");
     check_again(&rt, (&bytes, ONE_PROXY), 0x7472_9a7c);
 }
 
 #[test]
 fn again_another_connection_that_is_held(rt: HostRuntime) {
-    let bytes = capture(rt.alloc(), false).expect(&rt, "no memory yet");
+    let bytes = file(rt.alloc(), true, &beside()).expect(&rt, "no memory yet");
     check_again(&rt, (&bytes, TWO_PROXIES), 0x7676_9a80);
 }
 

@@ -1,6 +1,5 @@
-//! Whole answers: sessions under proxies, and the outputs or the refusal of the texts of a capture and of scenarios.
+//! Whole answers: the outputs or the refusal of the texts of a capture and of scenarios.
 use super::captures::PLAIN_REPORT;
-use super::rehearsed::check_file;
 use scenarios::Hosts;
 use std::alloc::{AllocError, AllocGlobal, Global};
 use std::process::Abort;
@@ -8,7 +7,7 @@ use std::sync::Wait;
 use std::thread::Threads;
 use toxicap::{Counted, Options, Output, Outputs, Plan, RunFault, answers, fault_line};
 use worked_sessions::sessions::PLAIN_SESSION;
-use worked_sessions::written_frames::{OPENING, session_written};
+use worked_sessions::written_frames::session_written;
 
 // A disabled proxy, and an enabled one after it, for the server of the plain session.
 pub const BOTH: &str =
@@ -25,17 +24,6 @@ const RESET: [u8; 70] = [
     0x00, 0x01, 0x00, 0x50, 0x9c, 0x40, 0x00, 0x00, 0x00, 0x00, 0x00, 0x00, 0x03, 0xe9, 0x50, 0x14,
     0xff, 0xff, 0xfb, 0x54, 0x00, 0x00,
 ];
-
-// The first proxy for the server is met, though it is disabled and another one stands after it.
-#[test]
-fn a_disabled_proxy_refuses(rt: HostRuntime) {
-    check_file(
-        &rt,
-        "a disabled proxy",
-        (&PLAIN_SESSION, BOTH),
-        (164, &[(40, &OPENING), (94, &RESET)], REFUSED_LINE),
-    );
-}
 
 // What a capture's text answers under the texts of scenarios, with one known host, `web` at 10.0.0.2.
 fn answered<R: Threads + Wait + Sync>(
@@ -100,17 +88,16 @@ pub fn dump(alloc: Global, bytes: &[u8]) -> Result<String, AllocError> {
     Ok(text)
 }
 
-fn is_answered_dumped<R: Threads + Wait + Sync>(rt: &R, alloc: Global) -> Result<bool, RunFault> {
-    let text = dump(alloc, &PLAIN_SESSION)?;
-    is_answered(rt, alloc, text.as_bytes())
+fn check_answered(rt: &(impl Abort + AllocGlobal + Threads + Wait + Sync), row: &str, text: &[u8]) {
+    let good = is_answered(rt, rt.alloc(), text) == Ok(true);
+    assert!(rt; good, "{row}");
 }
 
 #[test]
 fn scenarios_of_a_dump_in_order(rt: HostRuntime) {
-    let capture = is_answered(&rt, rt.alloc(), &PLAIN_SESSION) == Ok(true);
-    let dump = is_answered_dumped(&rt, rt.alloc()) == Ok(true);
-    assert!(rt; capture, "a capture");
-    assert!(rt; dump, "its dump");
+    let text = dump(rt.alloc(), &PLAIN_SESSION).expect(&rt, "memory");
+    check_answered(&rt, "a capture", &PLAIN_SESSION);
+    check_answered(&rt, "its dump", text.as_bytes());
 }
 
 // Whether a capture's text under texts of scenarios is refused with this line; where the line is empty, it answers no output.
@@ -166,28 +153,4 @@ fn the_first_refusal_counts(rt: HostRuntime) {
     );
     check_refused(&rt, "d4c3", "{}", "refused 11 NotArray scenario 1");
     check_refused(&rt, "d4c3", "[]", "refused 1 ShortHeader");
-}
-
-// So many texts `[]` and one more after them are refused with this line.
-fn check_many(
-    rt: &(impl Abort + AllocGlobal + Threads + Wait + Sync),
-    many: usize,
-    last: &str,
-    line: &str,
-) {
-    let mut texts = [b"[]".as_slice(); 258];
-    if many < texts.len() {
-        texts[many] = last.as_bytes();
-    }
-    let some = &texts[..texts.len().min(many.saturating_add(1))];
-    let good = is_told(rt, rt.alloc(), b"d4c3", some, line) == Ok(true);
-    assert!(rt; good, "{line}");
-}
-
-// All texts are read before they are too many, and the capture is looked at last.
-#[test]
-fn too_many_texts(rt: HostRuntime) {
-    check_many(&rt, 255, "[]", "refused 1 ShortHeader");
-    check_many(&rt, 256, "[]", "refused 22 TooManyScenarios");
-    check_many(&rt, 257, "[", "refused 10 NotJson scenario 257");
 }

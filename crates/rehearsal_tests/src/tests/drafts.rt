@@ -1,7 +1,7 @@
 //! Drafts of outputs: on a shelf in memory, on one that fails, and in a folder.
 ghost use Rattle.std.specs.Prelude.{◌-◌, ◌<◌, ◌^◌};
 
-use super::shelves::{FailsOnce, are_files};
+use super::shelves::{FailsOnce, are_files, check_files, files_in};
 use std::alloc::{AllocError, AllocGlobal, Global};
 use std::fs;
 use std::process::Abort;
@@ -107,50 +107,28 @@ fn check_failing(rt: &(impl Abort + AllocGlobal), after: u64)
 // A draft that is not taken is not tried again.
 #[test]
 fn a_shelf_that_fails_once_by_drafts(rt: HostRuntime) {
-    for after in 0..5 {
-        check_failing(&rt, after);
-    }
-}
-
-// How many files a folder has.
-fn files_in(rt: &(impl Abort + AllocGlobal + Files + Clone), path: &str) -> usize {
-    fs::read_dir(rt, path).expect(rt, "a folder").count()
-}
-
-// Whether a folder has these files.
-fn has_files(rt: &(impl Abort + AllocGlobal + Files), path: &str) -> bool {
-    for (name, bytes) in FILES {
-        let file = format!(in rt.alloc(); "{path}/{name}").expect(rt, "memory");
-        let Ok(found) = fs::read(rt, file.as_str()) else {
-            return false;
-        };
-        if found.as_slice() != bytes {
-            return false;
-        }
-    }
-    true
+    check_failing(&rt, 0);
+    check_failing(&rt, 1);
+    check_failing(&rt, 2);
+    check_failing(&rt, 3);
+    check_failing(&rt, 4);
 }
 
 // Two drafts in a folder become its files, in place of older ones; drafts that are let go leave nothing.
 #[test]
 fn a_folder_by_drafts(rt: HostRuntime) {
-    let alloc = rt.alloc();
     fs::create_dir(&rt, "drafts").expect(&rt, "a folder");
     fs::write(&rt, "drafts/0008.txt", "an older file").expect(&rt, "a file");
-    let mut folder = Folder::new(alloc, &rt, "drafts").expect(&rt, "memory");
-    let let_go = two_drafts(alloc, &folder).expect(&rt, "memory");
+    let mut folder = Folder::new(rt.alloc(), &rt, "drafts").expect(&rt, "memory");
+    let let_go = two_drafts(rt.alloc(), &folder).expect(&rt, "memory");
     let begun = files_in(&rt, "drafts");
     drop(let_go);
     let left = files_in(&rt, "drafts");
     assert!(rt; begun == 5 && left == 1, "{begun} {left}");
-    let drafts = two_drafts(alloc, &folder).expect(&rt, "memory");
-    let stored = store_both(alloc, drafts, &mut folder);
-    let good = stored == Ok(()) && folder.failed() == 0;
-    let many = files_in(&rt, "drafts");
-    assert!(rt;
-        good && has_files(&rt, "drafts") && many == FILES.len(),
-        "{many}"
-    );
+    let drafts = two_drafts(rt.alloc(), &folder).expect(&rt, "memory");
+    let stored = store_both(rt.alloc(), drafts, &mut folder);
+    assert!(rt; stored == Ok(()) && folder.failed() == 0);
+    check_files(&rt, "drafts", FILES);
     fs::remove_dir_all(&rt, "drafts").expect(&rt, "removed");
 }
 

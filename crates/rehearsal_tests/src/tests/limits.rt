@@ -1,4 +1,4 @@
-//! The limits of plans and of the number of scenarios, and an output of over ten million bytes.
+//! The limit of the number of scenarios, and an output of over ten million bytes.
 use super::rehearsed::{rehearsed_by, scenarios_of};
 use std::alloc::{AllocError, AllocGlobal, Global};
 use std::process::Abort;
@@ -45,25 +45,6 @@ fn too_many_scenarios_and_none(rt: HostRuntime) {
     check_scenarios(&rt, b"", 256, Err(RunFault::ShortHeader));
     check_scenarios(&rt, &PLAIN_SESSION, 256, Ok(256));
     check_scenarios(&rt, &PLAIN_SESSION, 0, Ok(0));
-}
-
-// Whether there is a plan of so many workers and ranges of so many records, and tells them.
-fn check_plan(rt: &impl Abort, workers: u32, cut: u32, wanted: bool) {
-    let good = match Plan::new(workers, cut) {
-        Some(plan) => wanted && plan.workers() == workers && plan.cut() == cut,
-        None => !wanted,
-    };
-    assert!(rt; good, "{workers} workers, ranges of {cut}");
-}
-
-#[test]
-fn limits_of_plans(rt: HostRuntime) {
-    check_plan(&rt, 0, 1, false);
-    check_plan(&rt, 17, 1, false);
-    check_plan(&rt, 1, 0, false);
-    check_plan(&rt, 1, 1_048_577, false);
-    check_plan(&rt, 1, 1, true);
-    check_plan(&rt, 16, 1_048_576, true);
 }
 
 // An opening, and 100 segments of 1,460 bytes, a second after one another.

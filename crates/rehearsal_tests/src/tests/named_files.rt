@@ -1,7 +1,5 @@
 //! The program over paths that are no files of the file system: each is loaded at its own, and the first at fault is told.
 use super::captures::PLAIN_REPORT;
-use super::commands::{BOTH_REPORTS, SLOW, check, make_file, remove_file};
-use super::running::{STORED_REPORT, STORED_RUN};
 use pcap_records::CAPTURE_LIMIT;
 use std::alloc::{AllocError, AllocGlobal, Global};
 use std::os::unix::fs::FileExt;
@@ -11,6 +9,14 @@ use std::sync::Wait;
 use std::thread::Threads;
 use toxicap::{Counted, Paths, RunFault, command_over};
 use worked_sessions::sessions::PLAIN_SESSION;
+
+// A proxy for the host `web` that holds the client's bytes for 100 ms.
+const SLOW: &str =
+    "[{\"name\":\"web\",\"upstream\":\"web:80\",\"toxics\":[{\"type\":\"latency\",\"stream\":\"upstream\",\"attributes\":{\"latency\":100}}]}]";
+
+// The plain session's reports without a proxy, and with that one.
+const BOTH_REPORTS: &str =
+    "scenario 0 records 7 rest 0 segment 7 short 0 notipv4 0 badipv4 0 fragment 0 nottcp 0 cut 0 badtcp 0 sameends 0\nconnections 1 unopened 0\n0 10.0.0.1:40000 > 10.0.0.2:80 proxy - up 5/5/0 fin+2000 max 0 down 0/0/0 fin+3000 max 0\nscenario 1 records 7 rest 0 segment 7 short 0 notipv4 0 badipv4 0 fragment 0 nottcp 0 cut 0 badtcp 0 sameends 0\nconnections 1 unopened 0\n0 10.0.0.1:40000 > 10.0.0.2:80 proxy 0 up 5/5/0 fin+101000 max 100000 down 0/0/0 fin+3000 max 0\n";
 
 /// Files in memory by their paths, without bytes where a file cannot be read. They do not tell what the paths hold.
 #[derive(Drop)]
@@ -175,27 +181,4 @@ fn the_first_file_at_fault(rt: HostRuntime) {
     check_over(&rt, &Faulty, &["--capture=unread", short], unread);
     let header = (1, "", "refused 1 ShortHeader\n");
     check_over(&rt, &Faulty, &["--capture=bare", short], header);
-}
-
-// Over 300 KB of the file system, where what is read comes in several reads.
-#[test]
-fn wide_files(rt: HostRuntime) {
-    let (begin, end) = STORED_RUN.split_at(30);
-    let capture = wide(rt.alloc(), begin, end).expect(&rt, "memory");
-    let scenario = wide(rt.alloc(), "[", "]").expect(&rt, "memory");
-    let broken = wide(rt.alloc(), "[", "").expect(&rt, "memory");
-    make_file(&rt, "wide.txt", &capture);
-    make_file(&rt, "wide.json", &scenario);
-    make_file(&rt, "broken_at_its_end.json", &broken);
-    let words = ["--capture=wide.txt", "--scenario=wide.json"];
-    check(&rt, &words, b"", (0, STORED_REPORT, ""));
-    let words = [
-        "--capture=wide.txt",
-        "--scenario=wide.json",
-        "--scenario=broken_at_its_end.json",
-    ];
-    check(&rt, &words, b"", (1, "", "refused 10 NotJson scenario 1\n"));
-    remove_file(&rt, "wide.txt");
-    remove_file(&rt, "wide.json");
-    remove_file(&rt, "broken_at_its_end.json");
 }

@@ -3,7 +3,7 @@ use super::answering::{BOTH, NAMED, REFUSED_LINE, are_answers, dump};
 use super::captures::PLAIN_REPORT;
 use super::rehearsed::scenarios_of;
 use scenarios::Hosts;
-use std::alloc::{AllocError, AllocGlobal, Global};
+use std::alloc::{AllocGlobal, Global};
 use std::process::Abort;
 use toxicap::{
     RunFault, answers_alone, fault_line, read_host_lines, rehearse_alone, report_answers_alone,
@@ -47,72 +47,65 @@ fn is_answered(alloc: Global, text: &[u8]) -> Result<bool, RunFault> {
     Ok(are_answers(alloc, outputs.as_slice())? && are_reports(reports.as_slice()))
 }
 
-fn is_answered_dumped(alloc: Global) -> Result<bool, RunFault> {
-    is_answered(alloc, dump(alloc, &PLAIN_SESSION)?.as_bytes())
+fn check_answered(rt: &(impl Abort + AllocGlobal), row: &str, text: &[u8]) {
+    let good = is_answered(rt.alloc(), text) == Ok(true);
+    assert!(rt; good, "{row}");
 }
 
 #[test]
 fn texts_by_one_thread(rt: HostRuntime) {
-    assert!(rt;
-        is_answered(rt.alloc(), &PLAIN_SESSION) == Ok(true),
-        "a capture"
-    );
-    assert!(rt; is_answered_dumped(rt.alloc()) == Ok(true), "its dump");
+    let text = dump(rt.alloc(), &PLAIN_SESSION).expect(&rt, "memory");
+    check_answered(&rt, "a capture", &PLAIN_SESSION);
+    check_answered(&rt, "its dump", text.as_bytes());
 }
 
-// Whether a text under texts of scenarios, with no known host, is refused with this line, for its outputs and for its reports.
-fn is_told(alloc: Global, text: &[u8], texts: &[&[u8]], line: &str) -> Result<bool, AllocError> {
-    let hosts = Hosts::new(alloc);
-    let outputs = answers_alone(alloc, text, texts, &hosts, 7);
-    let reports = report_answers_alone(alloc, text, texts, &hosts, 7);
-    match (outputs, reports) {
-        (Err(first), Err(second)) => {
-            Ok(
-                fault_line(alloc, &first)?.as_str() == line
-                    && fault_line(alloc, &second)?.as_str() == line,
-            )
-        }
-        _ => Ok(false),
+// Whether an answer is refused with this line.
+fn is_refused<T>(alloc: Global, answer: &Result<T, RunFault>, line: &str) -> bool {
+    match answer {
+        Ok(_) => false,
+        Err(fault) => match fault_line(alloc, fault) {
+            Ok(told) => told.as_str() == line,
+            Err(_) => false,
+        },
     }
+}
+
+// A text under texts of scenarios, with no known host, is refused with this line, for its outputs and for its reports.
+fn check_told(rt: &(impl Abort + AllocGlobal), text: &[u8], texts: &[&[u8]], line: &str) {
+    let hosts = Hosts::new(rt.alloc());
+    let outputs = answers_alone(rt.alloc(), text, texts, &hosts, 7);
+    let reports = report_answers_alone(rt.alloc(), text, texts, &hosts, 7);
+    let good = is_refused(rt.alloc(), &outputs, line) && is_refused(rt.alloc(), &reports, line);
+    assert!(rt; good, "{line}");
 }
 
 #[test]
 fn refusals_by_one_thread(rt: HostRuntime) {
     let named = [b"[]".as_slice(), NAMED.as_bytes()];
     let unknown = "refused 15 UnknownHost scenario 1 proxy 0";
-    assert!(rt; is_told(rt.alloc(), b"d4 zz", &named, "refused 55 BadDump at 3") == Ok(true));
-    assert!(rt; is_told(rt.alloc(), b"d4c3", &named, unknown) == Ok(true));
-    assert!(rt; is_told(rt.alloc(), b"d4c3", &[], "refused 1 ShortHeader") == Ok(true));
+    check_told(&rt, b"d4 zz", &named, "refused 55 BadDump at 3");
+    check_told(&rt, b"d4c3", &named, unknown);
+    check_told(&rt, b"d4c3", &[], "refused 1 ShortHeader");
 }
 
-// Whether the lines of a text are refused at this one, from 0; `None` where they are taken.
-fn is_refused_at(alloc: Global, text: &[u8], at: Option<usize>) -> bool {
-    match read_host_lines(alloc, text) {
-        Ok(_) => at.is_none(),
-        Err(fault) => match at {
-            Some(at) => fault == RunFault::BadHost { at },
-            None => false,
-        },
-    }
+// The lines of a text are refused at this one, from 0; `None` where they are taken.
+fn check_hosts(rt: &(impl Abort + AllocGlobal), row: &str, text: &[u8], wanted: Option<usize>) {
+    let good = match read_host_lines(rt.alloc(), text) {
+        Ok(_) => wanted == None,
+        Err(RunFault::BadHost { at }) => wanted == Some(at),
+        Err(_) => false,
+    };
+    assert!(rt; good, "{row}");
 }
 
 #[test]
 fn lines_of_hosts(rt: HostRuntime) {
-    let alloc = rt.alloc();
-    assert!(rt; is_refused_at(alloc, b"", None), "no line");
-    assert!(rt; is_refused_at(alloc, HOSTS, None), "two lines");
-    assert!(rt; is_refused_at(alloc, b"web=10.0.0.2", None), "no line feed");
-    assert!(rt; is_refused_at(alloc, b"\n", Some(0)), "an empty line");
-    assert!(rt;
-        is_refused_at(alloc, b"web=10.0.0.2\n\n", Some(1)),
-        "an empty line at the end"
-    );
-    assert!(rt;
-        is_refused_at(alloc, b"web=10.0.0.2\nw\xffb=10.0.0.3\n", Some(1)),
-        "no text"
-    );
-    assert!(rt;
-        is_refused_at(alloc, b"web=10.0.0.2\nweb=10.0.0.3\n", Some(1)),
-        "a name twice"
-    );
+    let twice = b"web=10.0.0.2\nweb=10.0.0.3\n";
+    check_hosts(&rt, "no line", b"", None);
+    check_hosts(&rt, "two lines", HOSTS, None);
+    check_hosts(&rt, "no line feed", b"web=10.0.0.2", None);
+    check_hosts(&rt, "an empty line", b"\n", Some(0));
+    check_hosts(&rt, "an empty last line", b"web=10.0.0.2\n\n", Some(1));
+    check_hosts(&rt, "no text", b"web=10.0.0.2\nw\xffb=10.0.0.3\n", Some(1));
+    check_hosts(&rt, "a name twice", twice, Some(1));
 }

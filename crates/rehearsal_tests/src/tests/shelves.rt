@@ -165,16 +165,34 @@ fn check_store(
     assert!(rt; good, "{path}");
 }
 
-// A folder has these files.
-fn check_stored(rt: &(impl Abort + AllocGlobal + Files), path: &str) {
-    for (name, bytes) in FILES {
-        let file = format!(in rt.alloc(); "{path}/{name}").expect(rt, "memory");
-        let good = match fs::read(rt, file.as_str()) {
-            Ok(found) => found.as_slice() == bytes,
-            Err(_) => false,
-        };
-        assert!(rt; good, "{name}");
+// Whether a folder has a file of this name with these bytes.
+pub(super) fn has_file(
+    rt: &(impl Abort + AllocGlobal + Files),
+    path: &str,
+    (name, bytes): (&str, &[u8]),
+) -> bool {
+    let file = format!(in rt.alloc(); "{path}/{name}").expect(rt, "memory");
+    match fs::read(rt, file.as_str()) {
+        Ok(found) => found.as_slice() == bytes,
+        Err(_) => false,
     }
+}
+
+// A folder has these four files, and no other.
+pub(super) fn check_files(
+    rt: &(impl Abort + AllocGlobal + Files + Clone),
+    path: &str,
+    [a, b, c, d]: [(&str, &[u8]); 4],
+) {
+    let captures = has_file(rt, path, a) && has_file(rt, path, c);
+    let reports = has_file(rt, path, b) && has_file(rt, path, d);
+    let many = files_in(rt, path);
+    assert!(rt; captures && reports && many == 4, "{path}");
+}
+
+// How many files a folder has.
+pub(super) fn files_in(rt: &(impl Abort + AllocGlobal + Files + Clone), path: &str) -> usize {
+    fs::read_dir(rt, path).expect(rt, "a folder").count()
 }
 
 // A folder with an older file in it.
@@ -190,9 +208,7 @@ fn a_folder(rt: HostRuntime) {
     check_store(&rt, "files", Err(StoreFault::ShelfFailed { after: 0 }));
     make_folder(&rt, "files");
     check_store(&rt, "files", Ok(()));
-    check_stored(&rt, "files");
-    let many = fs::read_dir(&rt, "files").expect(&rt, "a folder").count();
-    assert!(rt; many == FILES.len());
+    check_files(&rt, "files", FILES);
     fs::remove_dir_all(&rt, "files").expect(&rt, "removed");
 }
 
@@ -228,10 +244,7 @@ fn a_folder_spares_a_file(rt: HostRuntime) {
     let refused = folder.put("input", b"1") == Err(ShelfError);
     let followed = folder.put("link", b"2") == Err(ShelfError);
     let others = folder.put("nowhere", b"3") == Ok(()) && folder.failed() == 2;
-    let stays = match fs::read(&rt, "spared/input") {
-        Ok(found) => found.as_slice() == b"as recorded".as_slice(),
-        Err(_) => false,
-    };
+    let stays = has_file(&rt, "spared", ("input", b"as recorded"));
     assert!(rt; refused && followed && others && stays);
     fs::remove_dir_all(&rt, "spared").expect(&rt, "removed");
 }

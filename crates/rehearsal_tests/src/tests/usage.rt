@@ -1,5 +1,4 @@
-//! How the program refuses: the order of refusals, faults of the command line, help, and words that cannot be had.
-use super::commands::{check, make_file, remove_file};
+//! How the program ends: its status, a fault of the command line, texts that cannot be written, and words that cannot be had.
 use super::readers::Pieces;
 use super::running::{STORED_REPORT, STORED_RUN};
 use super::writers::{RefusesOnce, Sips};
@@ -12,66 +11,27 @@ use std::sync::Wait;
 use std::thread::Threads;
 use toxicap::{Counted, command, refuse_words};
 
-// What is refused first: hosts, files of scenarios, the capture's bytes, its dump, scenarios, the capture, and then the folder.
-#[test]
-fn the_order_of_refusals(rt: HostRuntime) {
-    make_file(&rt, "broken.json", b"[");
-    make_file(&rt, "broken.txt", b"d4c");
-    let host = [
-        "--capture",
-        "none",
-        "--scenario",
-        "none",
-        "--host",
-        "x",
-        "--out",
-        "none",
-    ];
-    check(&rt, &host, b"", (1, "", "refused 23 BadHost host 0\n"));
-    let scenario = [
-        "--capture",
-        "broken.txt",
-        "--scenario",
-        "none",
-        "--out",
-        "none",
-    ];
-    check(&rt, &scenario, b"", (1, "", "refused 61 ReadFailed\n"));
-    let capture = [
-        "--capture",
-        "none",
-        "--scenario",
-        "broken.json",
-        "--out",
-        "none",
-    ];
-    check(&rt, &capture, b"", (1, "", "refused 61 ReadFailed\n"));
-    let dump = [
-        "--capture",
-        "broken.txt",
-        "--scenario",
-        "broken.json",
-        "--out",
-        "none",
-    ];
-    check(&rt, &dump, b"", (1, "", "refused 55 BadDump at 3\n"));
-    let json = ["--scenario", "broken.json", "--out", "none"];
-    check(&rt, &json, b"", (1, "", "refused 10 NotJson scenario 0\n"));
-    check(
-        &rt,
-        &["--out", "none"],
-        b"",
-        (1, "", "refused 1 ShortHeader\n"),
-    );
-    let stored = STORED_RUN.as_bytes();
-    check(
-        &rt,
-        &["--out", "none"],
-        stored,
-        (1, "", "refused 60 ShelfFailed after 0\n"),
-    );
-    remove_file(&rt, "broken.json");
-    remove_file(&rt, "broken.txt");
+// The program ends with this status, and has written and told these texts, of words and a text as its standard input, which it reads
+// none of where the words are at fault.
+fn check<H: Abort + AllocGlobal + Files + Threads + Wait + Sync>(
+    rt: &H,
+    words: &[&str],
+    text: &[u8],
+    (status, written, told): (u8, &str, &str),
+)
+where
+    H::File: FileExt + Send + Sync,
+    H::Dir: Send,
+{
+    let mut input = Counted::new(text);
+    let mut output = Counted::new(Vec::new(rt.alloc()));
+    let mut faults = Counted::new(Vec::new(rt.alloc()));
+    let ended = command(rt, rt.alloc(), words, &mut input, &mut output, &mut faults);
+    let good = ended == status
+        && output.into_inner().as_slice() == written.as_bytes()
+        && faults.into_inner().as_slice() == told.as_bytes()
+        && (status != 2 || input.into_inner().len() == text.len());
+    assert!(rt; good, "{words:?}");
 }
 
 #[test]

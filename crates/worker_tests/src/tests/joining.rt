@@ -1,39 +1,33 @@
 //! Joining the lists of two connections: whichever comes first, their segments in order of key.
-ghost use Rattle.std.specs.Prelude.{◌≡◌, All, IfOk, OnOk};
+ghost use Rattle.std.specs.Prelude.{◌≡◌, All};
 ghost use Rattle.segment_writer.specs.WrittenSegments.{sorted_by_key};
 
 use super::checks::check;
-use super::merging::written;
-use super::tables::falling;
+use super::merging::{WantedFrame, check_frames, written};
 use pcap_records::read_capture;
 use segment_writer::SegList;
 use std::alloc::{AllocError, Global};
 use std::process::Abort;
-use std::test::Fail;
 use worked_sessions::sessions::{
-    ACK, CLIENT, PSH, RecordedSegment, SERVER, SYN, file, header, segment,
+    ACK, CLIENT, PSH, RecordedSegment, SECOND_CLIENT, SERVER, SYN, file, header, segment,
 };
 
 // The lists of the connections of some recorded segments.
-fn lists_of(
-    rt: &impl Abort,
-    alloc: Global,
-    segments: &[RecordedSegment<'_>],
-) -> Result<Vec<SegList>, Fail>
-    ensures { IfOk result (λ lists. All (λ list. sorted_by_key list ≡ list) lists.items) }
+fn lists_of(rt: &impl Abort, alloc: Global, segments: &[RecordedSegment<'_>]) -> Vec<SegList>
+    ensures { All (λ list. sorted_by_key list ≡ list) result.items }
 {
-    let bytes = file(alloc, true, segments)?;
-    let capture = read_capture(alloc, &bytes)?;
-    Ok(written(rt, alloc, &capture)?)
+    let bytes = file(alloc, true, segments).expect(rt, "memory");
+    let capture = read_capture(alloc, &bytes).expect(rt, "a capture");
+    written(rt, alloc, &capture).expect(rt, "memory")
 }
 
 // Takes the last of some lists.
-fn take_last(lists: &mut Vec<SegList>) -> Result<SegList, Fail>
+fn take_last(rt: &impl Abort, lists: &mut Vec<SegList>) -> SegList
     requires { All (λ list. sorted_by_key list ≡ list) lists.old.items }
-    ensures taken { IfOk result (λ list. sorted_by_key list ≡ list) }
-    ensures left { OnOk result (All (λ list. sorted_by_key list ≡ list) lists.new.items) }
+    ensures taken { sorted_by_key result ≡ result }
+    ensures left { All (λ list. sorted_by_key list ≡ list) lists.new.items }
 {
-    Ok(lists.pop().ok_or("no list")?)
+    lists.pop().expect(rt, "a list")
 }
 
 // The capture of the segments of two lists, joined.
@@ -49,78 +43,91 @@ fn joined(alloc: Global, left: SegList, right: SegList) -> Result<Vec<u8>, Alloc
     Ok(bytes)
 }
 
-// Whether the frames of a capture are all at one instant and sent by these hosts, of each of which the last byte of its address
-// is told.
-fn are_sent_by(alloc: Global, bytes: &[u8], hosts: &[u8]) -> Result<bool, Fail> {
-    let capture = read_capture(alloc, bytes)?;
-    let mut right = capture.records().len() == hosts.len();
-    for ((place, record), host) in capture.records().iter().enumerate().zip(hosts) {
-        let sender = capture.packet(place).get(29);
-        right = right && record.stamp.count() == 5_000_000 && sender == Some(host);
-    }
-    Ok(right)
+// An opening, and a session whose stamps are before it.
+fn falling() -> [RecordedSegment<'static>; 3] {
+    [
+        segment((5, 0), CLIENT, SERVER, SYN, (1000, 0), b""),
+        segment((4, 0), SECOND_CLIENT, SERVER, SYN, (2000, 0), b""),
+        segment(
+            (4, 500_000),
+            SECOND_CLIENT,
+            SERVER,
+            PSH + ACK,
+            (2001, 1),
+            b"q",
+        ),
+    ]
 }
 
+// What is written of both, the first connection's frames and then the second's: all is at one instant.
+const WRITTEN: [WantedFrame; 7] = [
+    (5_000_000, 1, SYN, 0),
+    (5_000_000, 2, SYN + ACK, 0),
+    (5_000_000, 1, ACK, 0),
+    (5_000_000, 3, SYN, 0),
+    (5_000_000, 2, SYN + ACK, 0),
+    (5_000_000, 3, ACK, 0),
+    (5_000_000, 3, PSH + ACK, 1),
+];
+
 // The two connections' lists, in this order or the other, give one capture.
-fn check_order(rt: &impl Abort, alloc: Global, turned: bool) -> Result<(), Fail> {
-    let mut lists = lists_of(rt, alloc, &falling())?;
-    let second = take_last(&mut lists)?;
-    let first = take_last(&mut lists)?;
-    let bytes = if turned {
-        joined(alloc, second, first)?
+fn check_order(rt: &impl Abort, alloc: Global, turned: bool) {
+    let mut lists = lists_of(rt, alloc, &falling());
+    let second = take_last(rt, &mut lists);
+    let first = take_last(rt, &mut lists);
+    let made = if turned {
+        joined(alloc, second, first)
     } else {
-        joined(alloc, first, second)?
+        joined(alloc, first, second)
     };
-    let sent = are_sent_by(alloc, &bytes, &[1, 2, 1, 3, 2, 3, 3])?;
-    check(rt, "two lists", sent && bytes.len() == 515);
-    Ok(())
+    let bytes = made.expect(rt, "memory");
+    check_frames(rt, alloc, &bytes, &WRITTEN);
 }
 
 #[test]
-fn two_connections_in_either_order(rt: HostRuntime) -> Result<(), Fail> {
-    check_order(&rt, rt.alloc(), false)?;
-    check_order(&rt, rt.alloc(), true)?;
-    Ok(())
+fn two_connections_in_either_order(rt: HostRuntime) {
+    check_order(&rt, rt.alloc(), false);
+    check_order(&rt, rt.alloc(), true);
 }
 
 // The list of a connection of which nothing is written, since all of it is at the horizon.
-fn nothing_written(rt: &impl Abort, alloc: Global) -> Result<SegList, Fail>
-    ensures { IfOk result (λ list. sorted_by_key list ≡ list) }
+fn nothing_written(rt: &impl Abort, alloc: Global) -> SegList
+    ensures { sorted_by_key result ≡ result }
 {
     let last = (u32::MAX, u32::MAX);
     let never = [
         segment(last, CLIENT, SERVER, SYN, (1000, 0), b""),
         segment(last, CLIENT, SERVER, PSH + ACK, (1001, 0), b"a"),
     ];
-    let mut lists = lists_of(rt, alloc, &never)?;
-    take_last(&mut lists)
+    let mut lists = lists_of(rt, alloc, &never);
+    take_last(rt, &mut lists)
 }
 
-// That a list of one of the two connections, the first if told so, is itself when it is joined with an empty one on either side.
-fn check_empty(rt: &impl Abort, alloc: Global, first: bool, len: usize) -> Result<(), Fail> {
-    let mut lists = lists_of(rt, alloc, &falling())?;
+// The list of one of the two connections, the first if told so.
+fn one_of_two(rt: &impl Abort, alloc: Global, first: bool) -> SegList
+    ensures { sorted_by_key result ≡ result }
+{
+    let mut lists = lists_of(rt, alloc, &falling());
+    let second = take_last(rt, &mut lists);
     if first {
-        let _second = take_last(&mut lists)?;
+        return take_last(rt, &mut lists);
     }
-    let list = take_last(&mut lists)?;
-    let empty = nothing_written(rt, alloc)?;
-    check(rt, "an empty list", empty.as_slice().is_empty());
-    let bytes = joined(alloc, list, empty)?;
-    check(rt, "an empty list on the right", bytes.len() == len);
+    second
+}
 
-    let mut lists = lists_of(rt, alloc, &falling())?;
-    if first {
-        let _second = take_last(&mut lists)?;
-    }
-    let list = take_last(&mut lists)?;
-    let bytes = joined(alloc, nothing_written(rt, alloc)?, list)?;
+// That the list of one of the two connections is itself when it is joined with an empty one on either side.
+fn check_empty(rt: &impl Abort, alloc: Global, first: bool, len: usize) {
+    let empty = nothing_written(rt, alloc);
+    check(rt, "an empty list", empty.as_slice().is_empty());
+    let bytes = joined(alloc, one_of_two(rt, alloc, first), empty).expect(rt, "memory");
+    check(rt, "an empty list on the right", bytes.len() == len);
+    let empty = nothing_written(rt, alloc);
+    let bytes = joined(alloc, empty, one_of_two(rt, alloc, first)).expect(rt, "memory");
     check(rt, "an empty list on the left", bytes.len() == len);
-    Ok(())
 }
 
 #[test]
-fn an_empty_list_on_either_side(rt: HostRuntime) -> Result<(), Fail> {
-    check_empty(&rt, rt.alloc(), true, 234)?;
-    check_empty(&rt, rt.alloc(), false, 305)?;
-    Ok(())
+fn an_empty_list_on_either_side(rt: HostRuntime) {
+    check_empty(&rt, rt.alloc(), true, 234);
+    check_empty(&rt, rt.alloc(), false, 305);
 }

@@ -15,7 +15,6 @@ use segment_writer::laws::{keys_rise, keys_stand_once, once_in_any_order, rising
 use segment_writer::{SegList, segments};
 use std::alloc::{AllocError, Global};
 use std::process::Abort;
-use std::test::Fail;
 use time_merge::merge;
 use toxic_defs::delivered_by;
 use worked_sessions::sessions::{
@@ -92,109 +91,68 @@ fn captured(alloc: Global, lists: Vec<SegList>) -> Result<Vec<u8>, AllocError>
 }
 
 // The capture of what is written of these recorded segments: the same whichever list comes first, and among empty lists.
-fn merged(
-    rt: &impl Abort,
-    alloc: Global,
-    segments: &[RecordedSegment<'_>],
-) -> Result<Vec<u8>, Fail> {
-    let bytes = file(alloc, true, segments)?;
-    let capture = read_capture(alloc, &bytes)?;
-    let in_turn = captured(alloc, written(rt, alloc, &capture)?)?;
-    let turned = captured(alloc, backwards(written(rt, alloc, &capture)?))?;
+fn merged(rt: &impl Abort, alloc: Global, segments: &[RecordedSegment<'_>]) -> Vec<u8> {
+    let bytes = file(alloc, true, segments).expect(rt, "memory");
+    let capture = read_capture(alloc, &bytes).expect(rt, "a capture");
+    let lists = written(rt, alloc, &capture).expect(rt, "memory");
+    let in_turn = captured(alloc, lists).expect(rt, "memory");
+    let lists = written(rt, alloc, &capture).expect(rt, "memory");
+    let turned = captured(alloc, backwards(lists)).expect(rt, "memory");
     check(rt, "turned", turned.as_slice() == in_turn.as_slice());
-    let spaced = captured(
-        alloc,
-        among_empty_ones(alloc, written(rt, alloc, &capture)?)?,
-    )?;
+    let lists = written(rt, alloc, &capture).expect(rt, "memory");
+    let lists = among_empty_ones(alloc, lists).expect(rt, "memory");
+    let spaced = captured(alloc, lists).expect(rt, "memory");
     check(rt, "spaced", spaced.as_slice() == in_turn.as_slice());
-    Ok(in_turn)
+    in_turn
 }
 
 // A frame as a test wants it: its stamp, the last byte of its sender's address, its flags and the length of its payload.
-type WantedFrame = (u64, u8, u8, usize);
+pub(super) type WantedFrame = (u64, u8, u8, usize);
+
+// Whether a packet, stamped so, is this frame.
+fn is_frame(micros: u64, packet: &[u8], wanted: &WantedFrame) -> bool {
+    let (at, sender, flags, len) = wanted;
+    micros == *at
+        && packet.get(29) == Some(sender)
+        && packet.get(47) == Some(flags)
+        && packet.len() == len.saturating_add(54)
+}
 
 // That the frames of a capture are these.
-fn check_frames(
-    rt: &impl Abort,
-    alloc: Global,
-    bytes: &[u8],
-    wanted: &[WantedFrame],
-) -> Result<(), Fail> {
-    let capture = read_capture(alloc, bytes)?;
-    let mut frames = Vec::new(alloc);
-    for (place, record) in capture.records().iter().enumerate() {
-        let packet = capture.packet(place);
-        let sender = packet.get(29).ok_or("no sender")?;
-        let flags = packet.get(47).ok_or("no flags")?;
-        frames.push((
-            record.stamp.count(),
-            *sender,
-            *flags,
-            packet.len().saturating_sub(54),
-        ))?;
+pub(super) fn check_frames(rt: &impl Abort, alloc: Global, bytes: &[u8], wanted: &[WantedFrame]) {
+    let capture = read_capture(alloc, bytes).expect(rt, "a capture");
+    let mut right = capture.records().len() == wanted.len();
+    for ((place, record), wanted) in capture.records().iter().enumerate().zip(wanted) {
+        right = right && is_frame(record.stamp.count(), capture.packet(place), wanted);
     }
-    check(rt, "frames", frames.as_slice() == wanted);
-    Ok(())
+    check(rt, "frames", right);
 }
 
 #[test]
-fn nothing_to_merge(rt: HostRuntime) -> Result<(), Fail> {
+fn nothing_to_merge(rt: HostRuntime) {
     let stated = [
         0xd4, 0xc3, 0xb2, 0xa1, 2, 0, 4, 0, 0, 0, 0, 0, 0, 0, 0, 0, 0xff, 0xff, 0, 0, 1, 0, 0, 0,
     ];
-    let none = captured(rt.alloc(), Vec::new(rt.alloc()))?;
+    let none = captured(rt.alloc(), Vec::new(rt.alloc())).expect(&rt, "memory");
     check(&rt, "no list", none.as_slice() == stated.as_slice());
-    let three = among_empty_ones(rt.alloc(), Vec::new(rt.alloc()))?;
-    let of_empty_ones = captured(rt.alloc(), three)?;
+    let three = among_empty_ones(rt.alloc(), Vec::new(rt.alloc())).expect(&rt, "memory");
+    let of_empty_ones = captured(rt.alloc(), three).expect(&rt, "memory");
     let same = of_empty_ones.as_slice() == stated.as_slice();
     check(&rt, "empty lists", same);
-    Ok(())
 }
 
 #[test]
-fn the_plain_session(rt: HostRuntime) -> Result<(), Fail> {
-    let written = merged(&rt, rt.alloc(), &session())?;
-    let wanted = session_written(rt.alloc())?;
+fn the_plain_session(rt: HostRuntime) {
+    let written = merged(&rt, rt.alloc(), &session());
+    let wanted = session_written(rt.alloc()).expect(&rt, "memory");
     let same = written.as_slice() == wanted.as_slice();
     check(&rt, "449 bytes", same && written.len() == 449);
-    Ok(())
-}
-
-// The second connection is recorded earlier than the first, but stands after it in the file: all is at one instant.
-#[test]
-fn connections_in_order_of_number(rt: HostRuntime) -> Result<(), Fail> {
-    let data = segment(
-        (4, 500_000),
-        SECOND_CLIENT,
-        SERVER,
-        PSH + ACK,
-        (2001, 1),
-        b"q",
-    );
-    let segments = [
-        segment((5, 0), CLIENT, SERVER, SYN, (1000, 0), b""),
-        segment((4, 0), SECOND_CLIENT, SERVER, SYN, (2000, 0), b""),
-        data,
-    ];
-    let bytes = merged(&rt, rt.alloc(), &segments)?;
-    check(&rt, "length", bytes.len() == 515);
-    let at = 5_000_000;
-    let wanted = [
-        (at, 1, SYN, 0),
-        (at, 2, SYN + ACK, 0),
-        (at, 1, ACK, 0),
-        (at, 3, SYN, 0),
-        (at, 2, SYN + ACK, 0),
-        (at, 3, ACK, 0),
-        (at, 3, PSH + ACK, 1),
-    ];
-    check_frames(&rt, rt.alloc(), &bytes, &wanted)
 }
 
 // At one instant the client's line comes before the server's, and the pieces of a chunk in turn.
 #[test]
-fn turns_and_places_at_one_instant(rt: HostRuntime) -> Result<(), Fail> {
-    let chunk = vec![in rt.alloc(); 7u8; 1461]?;
+fn turns_and_places_at_one_instant(rt: HostRuntime) {
+    let chunk = [7u8; 1461];
     let segments = [
         segment((1, 0), CLIENT, SERVER, SYN, (1000, 0), b""),
         segment((1, 0), SERVER, CLIENT, SYN + ACK, (5000, 1001), b""),
@@ -204,7 +162,7 @@ fn turns_and_places_at_one_instant(rt: HostRuntime) -> Result<(), Fail> {
         segment((2, 0), SECOND_CLIENT, SERVER, PSH + ACK, (2001, 1), b"d"),
         segment((2, 0), SERVER, CLIENT, PSH + ACK, (5003, 2462), b"e"),
     ];
-    let bytes = merged(&rt, rt.alloc(), &segments)?;
+    let bytes = merged(&rt, rt.alloc(), &segments);
     let (first, second) = (1_000_000, 2_000_000);
     let wanted = [
         (first, 1, SYN, 0),
@@ -219,5 +177,5 @@ fn turns_and_places_at_one_instant(rt: HostRuntime) -> Result<(), Fail> {
         (second, 2, PSH + ACK, 1),
         (second, 3, PSH + ACK, 1),
     ];
-    check_frames(&rt, rt.alloc(), &bytes, &wanted)
+    check_frames(&rt, rt.alloc(), &bytes, &wanted);
 }

@@ -7,41 +7,40 @@ use pcap_records::read_capture;
 use range_workers::table_alone;
 use report::ReportText;
 use std::alloc::AllocGlobal;
-use std::test::Fail;
+use std::process::Abort;
 use worked_sessions::sessions::file;
 
 #[test]
-fn a_table_by_one_thread(rt: HostRuntime) -> Result<(), Fail> {
+fn a_table_by_one_thread(rt: HostRuntime) {
     let alloc = rt.alloc();
-    let bytes = file(alloc, true, &repeated())?;
-    let capture = read_capture(alloc, &bytes)?;
-    check_table(&rt, &table_alone(alloc, &capture)?, &REPEATED, 0);
-    Ok(())
+    let bytes = file(alloc, true, &repeated()).expect(&rt, "memory");
+    let capture = read_capture(alloc, &bytes).expect(&rt, "a capture");
+    let table = table_alone(alloc, &capture).expect(&rt, "memory");
+    check_table(&rt, &table, &REPEATED, 0);
 }
 
-// Whether a line of a report is this one.
-fn is_line(line: Option<&ReportText>, wanted: &str) -> bool {
-    match line {
-        Some(line) => line.as_slice() == wanted.as_bytes(),
-        None => false,
+// Whether lines of a report are those of the second scenario.
+fn are_lines(lines: &[ReportText]) -> bool {
+    match lines {
+        [first, second] => {
+            first.as_slice() == FIRST_LINE.as_bytes()
+                && second.as_slice() == REFUSED_LINE.as_bytes()
+        }
+        _ => false,
     }
 }
 
 #[test]
-fn lines_by_one_thread(rt: HostRuntime) -> Result<(), Fail> {
+fn lines_by_one_thread(rt: HostRuntime) {
     let alloc = rt.alloc();
-    let bytes = file(alloc, true, &segments())?;
-    let capture = read_capture(alloc, &bytes)?;
-    let table = table_alone(alloc, &capture)?;
-    let recordings = record_alone(alloc, &capture, &table)?;
+    let bytes = file(alloc, true, &segments()).expect(&rt, "memory");
+    let capture = read_capture(alloc, &bytes).expect(&rt, "a capture");
+    let table = table_alone(alloc, &capture).expect(&rt, "memory");
+    let recordings = record_alone(alloc, &capture, &table).expect(&rt, "memory");
     if recordings.as_slice().len() != 2 {
-        return Err("not two recordings")?;
+        rt.panic("not two recordings");
     }
-    let second = scenario(alloc, &[DISABLED])?;
-    let lines = report_lines_alone(alloc, &recordings, 1, &second, 42)?;
-    let lines = lines.as_slice();
-    check(&rt, "the first", is_line(lines.first(), FIRST_LINE));
-    check(&rt, "the second", is_line(lines.get(1), REFUSED_LINE));
-    check(&rt, "no other", lines.len() == 2);
-    Ok(())
+    let second = scenario(&rt, alloc, &[DISABLED]);
+    let lines = report_lines_alone(alloc, &recordings, 1, &second, 42).expect(&rt, "memory");
+    check(&rt, "lines", are_lines(lines.as_slice()));
 }

@@ -16,7 +16,7 @@ use job_matrix::{Plan, Through};
 use pcap_records::{Capture, read_capture};
 use scenarios::Scenario;
 use std::alloc::{AllocError, Global};
-use std::test::Fail;
+use std::process::Abort;
 use std::thread::Threads;
 use worked_sessions::sessions::file;
 
@@ -54,21 +54,20 @@ fn delivered<R: Threads + Sync>(
 }
 
 #[test]
-fn recorded_bytes_are_delivered(rt: HostRuntime) -> Result<(), Fail> {
+fn recorded_bytes_are_delivered(rt: HostRuntime) {
     let alloc = rt.alloc();
-    let bytes = file(alloc, true, &segments())?;
-    let capture = read_capture(alloc, &bytes)?;
-    let table = whole_table(alloc, &capture)?;
-    let plan = Plan::new(2, 4096).ok_or("no such plan")?;
-    let scenarios = [scenario(alloc, &[DELAYED])?];
-    let made = delivered(&rt, alloc, &capture, &table, &scenarios, plan)?;
+    let bytes = file(alloc, true, &segments()).expect(&rt, "memory");
+    let capture = read_capture(alloc, &bytes).expect(&rt, "a capture");
+    let table = whole_table(alloc, &capture).expect(&rt, "memory");
+    let plan = Plan::new(2, 4096).expect(&rt, "a plan");
+    let scenarios = [scenario(&rt, alloc, &[DELAYED])];
+    let made = delivered(&rt, alloc, &capture, &table, &scenarios, plan).expect(&rt, "memory");
     check(&rt, "deliveries", made.as_slice().len() == 2);
-    let recordings = recorded(&rt, alloc, &capture, &table, plan)?;
+    let recordings = recorded(&rt, alloc, &capture, &table, plan).expect(&rt, "memory");
     if recordings.as_slice().len() != 2 {
-        return Err("not two recordings")?;
+        rt.panic("not two recordings");
     }
     rows_are_recorded(&capture, 0, &scenarios[0], 42);
-    let row = deliver_row_alone(alloc, &recordings, 0, &scenarios[0], 42)?;
+    let row = deliver_row_alone(alloc, &recordings, 0, &scenarios[0], 42).expect(&rt, "memory");
     check(&rt, "a row", row.as_slice().len() == 2);
-    Ok(())
 }

@@ -6,7 +6,6 @@ use job_matrix::{Gate, Phase, Through, Work, work_all, work_alone};
 use std::alloc::{AllocError, Global};
 use std::process::Abort;
 use std::sync::atomic::{AtomicU64, Ordering};
-use std::test::Fail;
 use std::thread::Threads;
 use worked_sessions::gates::{Counting, Holding, wait_for};
 
@@ -63,18 +62,15 @@ impl Work for Meeting {
 
 // Whether values are those of the tripled jobs, so many of them.
 fn are_tripled(values: &[u64], count: usize) -> bool {
-    let right = values.iter().zip(0_u64..).all(|(value, job)| *value
-        == job.saturating_mul(3).saturating_add(1));
-    right && values.len() == count
+    let mut right = values.len() == count;
+    for (value, job) in values.iter().zip(0_u64..) {
+        right = right && *value == job.saturating_mul(3).saturating_add(1);
+    }
+    right
 }
 
 // That so many workers give the values of so many jobs.
-fn check_tripled<R: Abort + Threads + Sync>(
-    rt: &R,
-    alloc: Global,
-    workers: u64,
-    count: u64,
-) -> Result<(), Fail>
+fn check_tripled<R: Abort + Threads + Sync>(rt: &R, alloc: Global, workers: u64, count: u64)
     requires workers { 1 ≤ workers × workers ≤ 16 }
     requires count { count ≤ 2 ^ 32 }
 {
@@ -82,22 +78,21 @@ fn check_tripled<R: Abort + Threads + Sync>(
         count,
         refused: None,
     };
-    let values = work_all(rt, alloc, count, workers, Phase::Jobs, &Through, &work)?;
+    let values = work_all(rt, alloc, count, workers, Phase::Jobs, &Through, &work);
+    let values = values.expect(rt, "memory");
     check(rt, "values", are_tripled(values.as_slice(), count as usize));
-    Ok(())
 }
 
 #[test]
-fn values_by_one_two_and_sixteen_workers(rt: HostRuntime) -> Result<(), Fail> {
-    check_tripled(&rt, rt.alloc(), 1, 300)?;
-    check_tripled(&rt, rt.alloc(), 2, 300)?;
-    check_tripled(&rt, rt.alloc(), 16, 300)?;
-    check_tripled(&rt, rt.alloc(), 2, 0)?;
-    Ok(())
+fn values_by_one_two_and_sixteen_workers(rt: HostRuntime) {
+    check_tripled(&rt, rt.alloc(), 1, 300);
+    check_tripled(&rt, rt.alloc(), 2, 300);
+    check_tripled(&rt, rt.alloc(), 16, 300);
+    check_tripled(&rt, rt.alloc(), 2, 0);
 }
 
 // That so many workers find no memory where one of five jobs finds none, and then give the values of the three jobs before it.
-fn check_refused<R: Abort + Threads + Sync>(rt: &R, alloc: Global, workers: u64) -> Result<(), Fail>
+fn check_refused<R: Abort + Threads + Sync>(rt: &R, alloc: Global, workers: u64)
     requires { 1 ≤ workers × workers ≤ 16 }
 {
     let work = Tripled {
@@ -110,21 +105,19 @@ fn check_refused<R: Abort + Threads + Sync>(rt: &R, alloc: Global, workers: u64)
         count: 3,
         refused: Some(3),
     };
-    let values = work_all(rt, alloc, 3, workers, Phase::Jobs, &Through, &work)?;
+    let values = work_all(rt, alloc, 3, workers, Phase::Jobs, &Through, &work).expect(rt, "memory");
     check(rt, "values", are_tripled(values.as_slice(), 3));
-    Ok(())
 }
 
 #[test]
-fn want_of_memory_in_one_job(rt: HostRuntime) -> Result<(), Fail> {
-    check_refused(&rt, rt.alloc(), 1)?;
-    check_refused(&rt, rt.alloc(), 2)?;
-    check_refused(&rt, rt.alloc(), 16)?;
-    Ok(())
+fn want_of_memory_in_one_job(rt: HostRuntime) {
+    check_refused(&rt, rt.alloc(), 1);
+    check_refused(&rt, rt.alloc(), 2);
+    check_refused(&rt, rt.alloc(), 16);
 }
 
 #[test]
-fn values_after_want_of_memory_alone(rt: HostRuntime) -> Result<(), Fail> {
+fn values_after_want_of_memory_alone(rt: HostRuntime) {
     let work = Tripled {
         count: 5,
         refused: Some(3),
@@ -135,49 +128,49 @@ fn values_after_want_of_memory_alone(rt: HostRuntime) -> Result<(), Fail> {
         count: 3,
         refused: Some(3),
     };
-    let values = work_alone(rt.alloc(), 3, Phase::Jobs, &Through, &work)?;
+    let values = work_alone(rt.alloc(), 3, Phase::Jobs, &Through, &work).expect(&rt, "memory");
     check(&rt, "values", are_tripled(values.as_slice(), 3));
-    Ok(())
 }
 
 #[test]
-fn job_held_until_the_next_has_passed(rt: HostRuntime) -> Result<(), Fail> {
+fn job_held_until_the_next_has_passed(rt: HostRuntime) {
     let work = Tripled {
         count: 4,
         refused: None,
     };
     let gate = Holding::new(Phase::Jobs);
-    let values = work_all(&rt, rt.alloc(), 4, 2, Phase::Jobs, &gate, &work)?;
+    let values = work_all(&rt, rt.alloc(), 4, 2, Phase::Jobs, &gate, &work).expect(&rt, "memory");
     check(&rt, "values", are_tripled(values.as_slice(), 4));
     check(&rt, "held", !gate.gave_up());
-    Ok(())
 }
 
 #[test]
-fn two_jobs_that_wait_for_each_other(rt: HostRuntime) -> Result<(), Fail> {
+fn two_jobs_that_wait_for_each_other(rt: HostRuntime) {
     let work = Meeting {
         first: AtomicU64::new(0),
         second: AtomicU64::new(0),
         gave_up: AtomicU64::new(0),
     };
-    let values = work_all(&rt, rt.alloc(), 2, 2, Phase::Jobs, &Through, &work)?;
+    let values = work_all(&rt, rt.alloc(), 2, 2, Phase::Jobs, &Through, &work).expect(
+        &rt, "memory",
+    );
     check(&rt, "values", values.as_slice() == [0, 1].as_slice());
     let met = work.gave_up.load(Ordering::SeqCst) == 0;
     check(&rt, "they met", met);
-    Ok(())
 }
 
 #[test]
-fn each_job_passes_the_gate_of_its_phase(rt: HostRuntime) -> Result<(), Fail> {
+fn each_job_passes_the_gate_of_its_phase(rt: HostRuntime) {
     let work = Tripled {
         count: 10,
         refused: None,
     };
     let gate = Counting::new(Phase::Lines);
-    let _values = work_all(&rt, rt.alloc(), 10, 3, Phase::Lines, &gate, &work)?;
-    check(&rt, "passed", gate.passed() == 10);
-    check(&rt, "numbers", gate.numbers() == 45);
-    Ok(())
+    let _values = work_all(&rt, rt.alloc(), 10, 3, Phase::Lines, &gate, &work).expect(
+        &rt, "memory",
+    );
+    let passed = gate.passed() == 10 && gate.numbers() == 45;
+    check(&rt, "passed", passed);
 }
 
 // A gate and a work of eight jobs, which count in lanes of eight bits how often each job has passed the gate, and was done. A job
@@ -214,21 +207,18 @@ impl Work for Lanes {
 
 // A body that passes the gate after the job, or does a job twice, keeps every clause: it fails here.
 #[test]
-fn each_job_passes_the_gate_first_and_is_done_once(rt: HostRuntime) -> Result<(), Fail> {
+fn each_job_passes_the_gate_first_and_is_done_once(rt: HostRuntime) {
     let lanes = Lanes {
         passed: AtomicU64::new(0),
         done: AtomicU64::new(0),
     };
-    let values = work_all(&rt, rt.alloc(), 8, 3, Phase::Jobs, &lanes, &lanes)?;
+    let values = work_all(&rt, rt.alloc(), 8, 3, Phase::Jobs, &lanes, &lanes).expect(&rt, "memory");
     check(&rt, "values", values.as_slice().len() == 8);
     let once = 0x0101_0101_0101_0101;
-    check(
-        &rt,
-        "passed once",
-        lanes.passed.load(Ordering::SeqCst) == once,
-    );
-    check(&rt, "done once", lanes.done.load(Ordering::SeqCst) == once);
-    Ok(())
+    let passed = lanes.passed.load(Ordering::SeqCst) == once;
+    check(&rt, "passed once", passed);
+    let done = lanes.done.load(Ordering::SeqCst) == once;
+    check(&rt, "done once", done);
 }
 
 // A gate and a work whose jobs come in turn, each after it has passed the gate once: at any other job there is no memory.
@@ -273,20 +263,21 @@ fn are_in_turn(work: &InTurn, values: &[u64]) -> bool {
     passed == 5 && done == 5 && values == [0, 1, 2, 3, 4].as_slice()
 }
 
+// Jobs that come in turn, of which none was done.
+fn in_turn() -> InTurn {
+    InTurn {
+        passed: AtomicU64::new(0),
+        done: AtomicU64::new(0),
+    }
+}
+
 // No clause speaks of the order in which one worker passes the gate.
 #[test]
-fn one_worker_does_the_jobs_in_turn(rt: HostRuntime) -> Result<(), Fail> {
-    let work = InTurn {
-        passed: AtomicU64::new(0),
-        done: AtomicU64::new(0),
-    };
-    let values = work_alone(rt.alloc(), 5, Phase::Lines, &work, &work)?;
+fn one_worker_does_the_jobs_in_turn(rt: HostRuntime) {
+    let work = in_turn();
+    let values = work_alone(rt.alloc(), 5, Phase::Lines, &work, &work).expect(&rt, "memory");
     check(&rt, "alone", are_in_turn(&work, values.as_slice()));
-    let work = InTurn {
-        passed: AtomicU64::new(0),
-        done: AtomicU64::new(0),
-    };
-    let values = work_all(&rt, rt.alloc(), 5, 1, Phase::Lines, &work, &work)?;
+    let work = in_turn();
+    let values = work_all(&rt, rt.alloc(), 5, 1, Phase::Lines, &work, &work).expect(&rt, "memory");
     check(&rt, "one worker", are_in_turn(&work, values.as_slice()));
-    Ok(())
 }

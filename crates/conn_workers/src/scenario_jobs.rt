@@ -63,7 +63,8 @@ impl<'w, 'v, 'a> Work for RowJobs<'w, 'v, 'a> {
         let under = &self.0;
         let recordings = under.recordings;
         let recording = &recordings[job as usize];
-        laid_delivery(under.alloc, recording, under.number, under.scenario, under.seed)
+        let number = under.number;
+        laid_delivery(under.alloc, recording, number, under.scenario, under.seed)
     }
 }
 

@@ -74,5 +74,5 @@ pub counts_as_before : ReadingsSplit → (bytes : List ℕ) → HasFirstMagic by
 counts_as_before readings_split bytes has r is =
     let split = readings_split bytes r is in
     let counted : CountsMicroseconds split.0 =
-        subst (λ (heading : Result Heading CaptureFault). IfOk heading CountsMicroseconds) (sym (heading_kept bytes has) ∙ split.3.0) (heading_counts bytes) in
+    subst (λ (heading : Result Heading CaptureFault). IfOk heading CountsMicroseconds) (sym (heading_kept bytes has) ∙ split.3.0) (heading_counts bytes) in
     ap (λ (x : Reading). x.contents.ticks) split.3.3 ∙ counted

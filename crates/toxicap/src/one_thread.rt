@@ -85,7 +85,13 @@ pub fn report_answers_alone(
     ensures { AgreesUnlessMemory run_refusal (λ reports. reports) result (reports_in (called_for hosts.now (map (λ t. t.now) texts.now) seed text.now)) }
 {
     let inputs = read_inputs(alloc, Text::lent(text), texts, hosts)?;
-    rehearse_reports(&Alone, alloc, inputs.capture.bytes(), &inputs.scenarios, seed)
+    rehearse_reports(
+        &Alone,
+        alloc,
+        inputs.capture.bytes(),
+        &inputs.scenarios,
+        seed,
+    )
 }
 
 // The answer to a capture wherever its bytes stand.

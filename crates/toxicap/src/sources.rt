@@ -99,7 +99,13 @@ impl<'w, 'v, 'a> Sources<'w, 'v, 'a> {
         rows_are_contributed();
         keys_stand_once();
         let scenario = &self.scenarios[number];
-        let row = crew.deliver_row(self.alloc, self.recordings, number as u32, scenario, self.seed)?;
+        let row = crew.deliver_row(
+            self.alloc,
+            self.recordings,
+            number as u32,
+            scenario,
+            self.seed,
+        )?;
         parts_of_row(self.alloc, row)
     }
 }

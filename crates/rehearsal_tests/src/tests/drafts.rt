@@ -7,7 +7,8 @@ use std::fs;
 use std::process::Abort;
 use std::rt::Files;
 use toxicap::{
-    DraftShelf, DraftedOutput, Folder, MemoryDraft, MemoryShelf, ShelfError, StoreFault, store_draft,
+    DraftShelf, DraftedOutput, Folder, MemoryDraft, MemoryShelf, ShelfError, StoreFault,
+    store_draft,
 };
 
 // The files of two outputs with the numbers 7 and 8, in the order in which they are stored.

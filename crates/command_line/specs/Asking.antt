@@ -12,8 +12,8 @@ use Rattle.command_line.specs.declared.error.Stop.{Stop}
 use Rattle.command_line.specs.declared.error.Stop.TheVariants.{Shown, Usage, Memory}
 
 -- the numbers of a plan are in range
-abbrev pub IsInRange : Asked → Type 0
-IsInRange asked = (1 ≤ asked.workers) × (asked.workers ≤ most_workers) × (1 ≤ asked.cut) × (asked.cut ≤ most_cut)
+abbrev pub IsPlanInRange : Asked → Type 0
+IsPlanInRange asked = (1 ≤ asked.workers) × (asked.workers ≤ most_workers) × (1 ≤ asked.cut) × (asked.cut ≤ most_cut)
 
 -- the number that a text is in decimal, if it is one below a bound
 abbrev pub number_below : ℕ → Text → Option ℕ
@@ -32,14 +32,14 @@ number_to most default (Some n) = if nat_le 1 n && nat_le n most then n else def
 abbrev pub number_of : ℕ → Text → List Row → Option ℕ
 number_of bound id rows = option_and_then (number_below bound) (one_of id rows)
 
-abbrev pub values_of : Text → List Row → List Text
-values_of id rows = unwrap_or (all_of id rows) []
+abbrev pub option_values : Text → List Row → List Text
+option_values id rows = unwrap_or (all_of id rows) []
 
 -- what the matches of all options ask for
 pub record Asks (rows : List Row) (asked : Asked) : Type 0 where
   pub capture : option_map (λ path. path.now) asked.capture ≡ first_of (codes "capture") rows
-  pub scenarios : map (λ path. path.now) asked.scenarios.items ≡ values_of (codes "scenario") rows
-  pub hosts : map (λ host. host.now) asked.hosts.items ≡ values_of (codes "host") rows
+  pub scenarios : map (λ path. path.now) asked.scenarios.items ≡ option_values (codes "scenario") rows
+  pub hosts : map (λ host. host.now) asked.hosts.items ≡ option_values (codes "host") rows
   pub seed : asked.seed ≡ unwrap_or (number_of (2 ^ 64) (codes "seed") rows) 0
   pub workers : asked.workers ≡ number_to most_workers default_workers (number_of (2 ^ 32) (codes "workers") rows)
   pub cut : asked.cut ≡ number_to most_cut default_cut (number_of (2 ^ 32) (codes "cut") rows)
@@ -59,7 +59,7 @@ matches_in arguments = matches_of program_options arguments
 -- How arguments are read. Arguments without a fault ask for what their matches do; a text is shown or a fault told
 -- where clap's definition has one of that kind; memory may be wanted for any arguments.
 abbrev pub ReadsAs : List Text → Result Asked Stop → Type 0
-ReadsAs arguments (Ok asked) = IsInRange asked × (faults_in arguments ≡ []) × Asks (matches_in arguments) asked
+ReadsAs arguments (Ok asked) = IsPlanInRange asked × (faults_in arguments ≡ []) × Asks (matches_in arguments) asked
 ReadsAs arguments (Err (Shown text)) = (kind : ErrorKind) × IsAmong kind (faults_in arguments) × AsksText kind
 ReadsAs arguments (Err (Usage text)) = (kind : ErrorKind) × IsAmong kind (faults_in arguments) × (AsksText kind → ⊥)
 ReadsAs arguments (Err Memory) = Unit {0}

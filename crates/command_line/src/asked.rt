@@ -1,7 +1,7 @@
 //! What the arguments of a command line ask for.
 ghost use Rattle.std.specs.Prelude.{◌≡◌, ◌≤◌, [], map, option_map, unwrap_or, IfOk};
 ghost use Rattle.clap.specs.Words.{found_of, kind_of, rows_of};
-ghost use Rattle.command_line.specs.Asking.{Asks, IsInRange, ReadsAs, StopsFor, number_to};
+ghost use Rattle.command_line.specs.Asking.{Asks, IsPlanInRange, ReadsAs, StopsFor, number_to};
 
 use crate::error::Stop;
 use crate::options::{DEFAULT_CUT, DEFAULT_WORKERS, MOST_CUT, MOST_WORKERS, program};
@@ -46,7 +46,7 @@ pub fn read_arguments<'a, S: AsStr>(alloc: Global, arguments: &'a [S]) -> Result
 
 // What the arguments ask for, as clap found it.
 fn asked_in<'a>(alloc: Global, matches: &ArgMatches<'a>) -> Result<Asked<'a>, AllocError>
-    ensures range { IfOk result IsInRange }
+    ensures range { IfOk result IsPlanInRange }
     ensures asks { IfOk result (Asks (rows_of (found_of matches.now))) }
 {
     Ok(Asked {

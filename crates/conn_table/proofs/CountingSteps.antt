@@ -1,55 +1,12 @@
 -- The counts of packets one after another.
 use Rattle.std.proofs.Common.{◌≡◌, ℕ, ◌+◌, ◌≤◌, List, [], ◌∷◌, ◌++◌, length, refl, ◌∙◌, cond, add-zero}
 use Rattle.std.specs.Prelude.{◌==◌}
-use Rattle.std.proofs.lemmas.List.Sums.{sum_by_push, sum_by-append, count_by-le-length}
-use Rattle.frame_headers.specs.Frame.{FrameClass, short, not_ipv4, bad_ipv4, fragment, not_tcp, cut, bad_tcp, same_ends, segment}
+use Rattle.std.proofs.lemmas.List.Sums.{sum_by-append, count_by-le-length}
+use Rattle.frame_headers.specs.Frame.{FrameClass, SegmentFields, short, not_ipv4, bad_ipv4, fragment, not_tcp, cut, bad_tcp, same_ends, segment}
 use Rattle.conn_table.specs.SeenCapture.{SeenPacket}
-use Rattle.conn_table.specs.ClassCounts.{class_number, count_of, counts_of, counts_with, count_at}
+use Rattle.conn_table.specs.ClassCounts.{class_number, counts_of, counts_with, count_at}
 use Rattle.conn_table.specs.Partials.{counts_sum}
 use Rattle.conn_table.specs.declared.class_counts.Counts.{Counts}
-
--- what a packet of one class adds to the count of another
-hit : FrameClass → FrameClass → ℕ
-hit a b = cond (class_number a == class_number b) 1 0
-
--- each count with what a packet of a class adds to it
-with_hits : Counts → FrameClass → Counts
-with_hits n k = record {
-  segment = n.segment + hit k segment;
-  short = n.short + hit k short;
-  not_ipv4 = n.not_ipv4 + hit k not_ipv4;
-  bad_ipv4 = n.bad_ipv4 + hit k bad_ipv4;
-  fragment = n.fragment + hit k fragment;
-  not_tcp = n.not_tcp + hit k not_tcp;
-  cut = n.cut + hit k cut;
-  bad_tcp = n.bad_tcp + hit k bad_tcp;
-  same_ends = n.same_ends + hit k same_ends;
-}
-
-count_of-push : (k : FrameClass) (packets : List SeenPacket) (p : SeenPacket) → count_of k (packets ++ p ∷ []) ≡ count_of k packets + hit p.frame.class k
-unfolding hit
-count_of-push k packets p = sum_by_push (λ (p : SeenPacket). cond (class_number p.frame.class == class_number k) 1 0) packets p
-
-with_hits-counts_with : (k : FrameClass) (n : Counts) → with_hits n k ≡ counts_with k n
-unfolding hit with_hits
-with_hits-counts_with segment n = simp add-zero
-with_hits-counts_with short n = simp add-zero
-with_hits-counts_with not_ipv4 n = simp add-zero
-with_hits-counts_with bad_ipv4 n = simp add-zero
-with_hits-counts_with fragment n = simp add-zero
-with_hits-counts_with not_tcp n = simp add-zero
-with_hits-counts_with cut n = simp add-zero
-with_hits-counts_with bad_tcp n = simp add-zero
-with_hits-counts_with same_ends n = simp add-zero
-
--- one packet more
-pub counts_of-push : (packets : List SeenPacket) (p : SeenPacket) → counts_of (packets ++ p ∷ []) ≡ counts_with p.frame.class (counts_of packets)
-unfolding counts_of with_hits
-counts_of-push packets p =
-    let more = λ (k : FrameClass). count_of-push k packets p in
-    let all : counts_of (packets ++ p ∷ []) ≡ with_hits (counts_of packets) p.frame.class =
-    rw (more segment, more short, more not_ipv4, more bad_ipv4, more fragment, more not_tcp, more cut, more bad_tcp, more same_ends) refl in
-    all ∙ with_hits-counts_with p.frame.class (counts_of packets)
 
 -- the packets of two lists
 pub counts_of-append : (xs ys : List SeenPacket) → counts_of (xs ++ ys) ≡ counts_sum (counts_of xs) (counts_of ys)
@@ -57,6 +14,23 @@ unfolding counts_of
 counts_of-append xs ys =
     let both = λ (k : FrameClass). sum_by-append (λ (p : SeenPacket). cond (class_number p.frame.class == class_number k) 1 0) xs ys in
     rw (both segment, both short, both not_ipv4, both bad_ipv4, both fragment, both not_tcp, both cut, both bad_tcp, both same_ends) refl
+
+-- a packet of a class
+counted-one : (at : ℕ) (k : FrameClass) (fields : SegmentFields) (n : Counts) → counts_sum n (counts_of (record { at = at; frame = record { class = k; fields = fields } } ∷ [])) ≡ counts_with k n
+unfolding counts_of
+counted-one at segment fields n = simp add-zero
+counted-one at short fields n = simp add-zero
+counted-one at not_ipv4 fields n = simp add-zero
+counted-one at bad_ipv4 fields n = simp add-zero
+counted-one at fragment fields n = simp add-zero
+counted-one at not_tcp fields n = simp add-zero
+counted-one at cut fields n = simp add-zero
+counted-one at bad_tcp fields n = simp add-zero
+counted-one at same_ends fields n = simp add-zero
+
+-- one packet more
+pub counts_of-push : (packets : List SeenPacket) (p : SeenPacket) → counts_of (packets ++ p ∷ []) ≡ counts_with p.frame.class (counts_of packets)
+counts_of-push packets p = counts_of-append packets (p ∷ []) ∙ counted-one p.at p.frame.class p.frame.fields (counts_of packets)
 
 -- a class has no more packets than there are
 pub count_at-le-length : (k : FrameClass) (packets : List SeenPacket) → count_at k (counts_of packets) ≤ length packets

@@ -1,37 +1,30 @@
--- What filters keep of lists that are joined or grow.
-use Rattle.std.proofs.Common.{◌≡◌, Bool, true, false, ◌&&◌, cond, List, [], ◌∷◌, ◌++◌, filter, Option, Some, refl}
+-- What filters keep of lists.
+use Rattle.std.proofs.Common.{◌≡◌, Bool, true, false, cond, List, [], ◌∷◌, ◌++◌, filter, Option, Some, None, refl, subst}
 use Rattle.std.specs.List.{AllByRecursion, last_or}
-use Rattle.std.proofs.Math.Bool.{and-true}
-use Rattle.std.proofs.lemmas.Bool.{and_right}
+use Rattle.std.proofs.lemmas.List.Elements.{recursion_from_All, filter_passes}
+use Rattle.std.proofs.lemmas.Option.{same_Some}
 
--- ---- two lists, of which a test T passes one
+-- tests that agree at each of some elements keep the same of these
+pub filter_alike : {X : Type 0} (P Q : X → Bool) (xs : List X) → AllByRecursion (λ x. P x ≡ Q x) xs → filter P xs ≡ filter Q xs
+filter_alike P Q [] all = refl
+filter_alike P Q (x ∷ xs) all = rw (all.0, filter_alike P Q xs all.1) refl
 
-pub filter_first : {X : Type 0} (P T : X → Bool) (xs ys : List X) → AllByRecursion (λ x. T x ≡ true) xs → AllByRecursion (λ x. T x ≡ false) ys
-    → filter (λ x. P x && T x) (xs ++ ys) ≡ filter P xs
-filter_first P T [] [] in_first in_second = refl
-filter_first P T [] (y ∷ ys) in_first in_second = rw (and_right (P y) (T y) in_second.0) (filter_first P T [] ys tt in_second.1)
-filter_first P T (x ∷ xs) ys in_first in_second =
-    rw (in_first.0, filter_first P T xs ys in_first.1 in_second, and-true (P x)) refl
+pub filter_none : {X : Type 0} (P : X → Bool) (xs : List X) → AllByRecursion (λ x. P x ≡ false) xs → filter P xs ≡ []
+filter_none P [] all = refl
+filter_none P (x ∷ xs) all = rw all.0 (filter_none P xs all.1)
 
-pub filter_second : {X : Type 0} (T P : X → Bool) (xs ys : List X) → AllByRecursion (λ x. T x ≡ false) xs → AllByRecursion (λ x. T x ≡ true) ys
-    → filter (λ x. T x && P x) (xs ++ ys) ≡ filter P ys
-filter_second T P [] [] in_first in_second = refl
-filter_second T P [] (y ∷ ys) in_first in_second = rw (in_second.0, filter_second T P [] ys tt in_second.1) refl
-filter_second T P (x ∷ xs) ys in_first in_second = rw in_first.0 (filter_second T P xs ys in_first.1 in_second)
-
--- ---- one filter after another
-
-pub filter-filter : {X : Type 0} (P Q : X → Bool) (xs : List X) → filter Q (filter P xs) ≡ filter (λ x. P x && Q x) xs
-filter-filter P Q [] = refl
-filter-filter P Q (x ∷ xs) = by_tests (P x) (Q x) refl (filter-filter P Q xs)
-  where
-    by_tests : (b c : Bool) → Q x ≡ c → filter Q (filter P xs) ≡ filter (λ x. P x && Q x) xs
-        → filter Q (cond b (x ∷ filter P xs) (filter P xs)) ≡ cond (b && c) (x ∷ filter (λ x. P x && Q x) xs) (filter (λ x. P x && Q x) xs)
-    by_tests true true is rest = rw (is, rest) refl
-    by_tests true false is rest = rw is rest
-    by_tests false c is rest = rest
+pub all_pass : {X : Type 0} (P : X → Bool) (xs : List X) → AllByRecursion (λ x. P x ≡ true) (filter P xs)
+all_pass P xs = recursion_from_All (λ x. P x ≡ true) (filter P xs) (filter_passes P xs)
 
 -- ---- the last that is kept
+
+pub last_has : {X : Type 0} (H : X → Type 0) (xs : List X) (y : X) → AllByRecursion H xs → last_or None xs ≡ Some y → H y
+last_has H [] y all is = absurd cc
+last_has H (x ∷ []) y all is = subst H (same_Some x y is) all.0
+last_has H (x ∷ z ∷ zs) y all is = last_has H (z ∷ zs) y all.1 is
+
+pub last_passes : {X : Type 0} (P : X → Bool) (xs : List X) (y : X) → last_or None (filter P xs) ≡ Some y → P y ≡ true
+last_passes P xs y is = last_has (λ x. P x ≡ true) (filter P xs) y (all_pass P xs) is
 
 pub last_or-push : {X : Type 0} (before : Option X) (P : X → Bool) (xs : List X) (y : X)
     → last_or before (filter P (xs ++ y ∷ [])) ≡ cond (P y) (Some y) (last_or before (filter P xs))

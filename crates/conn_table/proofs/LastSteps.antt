@@ -3,7 +3,7 @@ use Rattle.std.proofs.Common.{◌≡◌, ◌<◌, ℕ, Bool, true, false, cond, 
 use Rattle.std.proofs.lemmas.Bool.{cases_eq, false_from_ne_true}
 use Rattle.std.proofs.lemmas.List.{length-replicate, get_or-replicate}
 use Rattle.std.proofs.lemmas.Option.{same_Some, slice_get-get_or, slice_get_read, slice_get_within}
-use Rattle.pcap_records.proofs.Lists.{slice_get-set_same, slice_get-set_other}
+use Rattle.lists.proofs.Lists.{slice_get-set_same, slice_get-set_other}
 use Rattle.indexmap.specs.IndexMap.{get}
 use Rattle.conn_table.specs.declared.conns.Pair.{Pair}
 use Rattle.conn_table.specs.declared.lasts.Current.{Current}

@@ -1,5 +1,5 @@
 -- The partial of a range, one record after another.
-use Rattle.std.proofs.Common.{◌≡◌, ◌<◌, ◌≤◌, ℕ, ◌+◌, ◌-◌, max, ◌^◌, Bool, true, false, cond, List, [], ◌∷◌, ◌++◌, length, map, take, drop, get_or, slice_get, Option, Some, None, refl, sym, ap, ap₂, subst, ◌∙◌, arith, length-take}
+use Rattle.std.proofs.Common.{◌≡◌, ◌<◌, ◌≤◌, ℕ, ◌+◌, ◌-◌, max, ◌^◌, Bool, true, false, cond, List, [], ◌∷◌, ◌++◌, length, map, take, drop, get_or, slice_get, Option, Some, None, refl, sym, ap, subst, ◌∙◌, arith, length-take}
 use Rattle.std.specs.Prelude.{unwrap_or}
 use Rattle.std.specs.List.{cons_option}
 use Rattle.std.proofs.lemmas.List.{length-map, get_or-map, map_push, append-nil}
@@ -8,7 +8,7 @@ use Rattle.pcap_records.specs.Instants.{instants}
 use Rattle.pcap_records.specs.declared.capture.Record.{Record}
 use Rattle.pcap_records.specs.Reading.{Packet}
 use Rattle.pcap_records.specs.CaptureView.{CaptureView, contents_of, packet_of, packet_at, IsSoundCapture, IsWithinFile}
-use Rattle.frame_headers.specs.Frame.{FrameClass, SegmentFields, frame_class, segment, segment_fields, payload_offset}
+use Rattle.frame_headers.specs.Frame.{FrameClass, frame_class, segment, segment_fields, payload_offset}
 use Rattle.frame_headers.specs.Class.{frame_class_of}
 use Rattle.frame_headers.specs.declared.classes.Class.{Class}
 use Rattle.frame_headers.specs.declared.classes.Class.TheVariants as classes
@@ -16,8 +16,8 @@ use Rattle.frame_headers.specs.declared.classes.Segment.{Segment}
 use Rattle.conn_table.specs.SeenCapture.{SeenPacket, seen_packet, seen_packets}
 use Rattle.conn_table.specs.IndexedSegments.{IndexedSegment, is_segment, indexed_segments}
 use Rattle.conn_table.specs.ClassCounts.{counts_of, counts_with, count_at}
-use Rattle.conn_table.specs.KeptSegments.{KeptSegment, kept_in, kept_at, segment_read, frame_at, payload_start}
-use Rattle.conn_table.specs.Partials.{MarkedKept, marked_in, marked_after, packets_between, segments_between, carried}
+use Rattle.conn_table.specs.KeptSegments.{kept_in, kept_at, segment_read, frame_at, payload_start}
+use Rattle.conn_table.specs.Partials.{packets_between, segments_between, carried}
 use Rattle.conn_table.proofs.CountingSteps.{counts_of-push, count_at-le-length}
 use Rattle.conn_table.proofs.RangeSteps.{packets_between-more, length-packets_between, indexed_segments-append, carried-more}
 
@@ -79,76 +79,67 @@ kept-none c from carry = rw (no_packets c from carry) refl
 
 -- ---- one record more
 
-abbrev next_packet : CaptureView → ℕ → ℕ → ℕ → Record → List ℕ → SeenPacket
-next_packet c from i carry r bytes = seen_packet (max (carried c from i carry) r.stamp, record { stamp = r.stamp; bytes = bytes })
+-- the segments of a packet: one, or none
+abbrev pub segment_list : Bool → IndexedSegment → List IndexedSegment
+segment_list is s = cond is (s ∷ []) []
 
-packets_more : (c : CaptureView) (from i carry : ℕ) (r : Record) (bytes : List ℕ) → from ≤ i → IsRecordOf c i r bytes
-    → packets_between c from (i + 1) carry ≡ packets_between c from i carry ++ next_packet c from i carry r bytes ∷ []
-packets_more c from i carry r bytes ordered here =
-    let p : Packet = record { stamp = r.stamp; bytes = bytes } in
-    let len = length-packets c in
-    packets_between-more c from i carry p ordered (omega (arith, here.within, len))
-    ∙ ap (λ (x : Packet). packets_between c from i carry ++ seen_packet (max (carried c from i carry) x.stamp, x) ∷ []) (packet_is c i r bytes p here)
+module _ (c : CaptureView) (from i carry : ℕ) (r : Record) (bytes : List ℕ) (ordered : from ≤ i) (here : IsRecordOf c i r bytes) where
+  -- the greatest stamp up to it
+  abbrev at : ℕ
+  at = max (carried c from i carry) r.stamp
 
-pub at-more : (c : CaptureView) (from i carry : ℕ) (r : Record) (bytes : List ℕ) → from ≤ i → IsRecordOf c i r bytes → max (carried c from i carry) r.stamp ≡ carried c from (i + 1) carry
-at-more c from i carry r bytes ordered here =
-    let p : Packet = record { stamp = r.stamp; bytes = bytes } in
-    let len = length-packets c in
-    sym (carried-more c from i carry p ordered (omega (arith, here.within, len)) ∙ ap (λ (x : Packet). max (carried c from i carry) x.stamp) (packet_is c i r bytes p here))
+  abbrev next_packet : SeenPacket
+  next_packet = seen_packet (at, record { stamp = r.stamp; bytes = bytes })
 
-pub counts-more : (c : CaptureView) (from i carry : ℕ) (r : Record) (bytes : List ℕ) → from ≤ i → IsRecordOf c i r bytes
-    → counts_with (frame_class bytes) (counts_of (packets_between c from i carry)) ≡ counts_of (packets_between c from (i + 1) carry)
-counts-more c from i carry r bytes ordered here =
-    sym (ap (λ (ps : List SeenPacket). counts_of ps) (packets_more c from i carry r bytes ordered here) ∙ counts_of-push (packets_between c from i carry) (next_packet c from i carry r bytes))
+  packets_more : packets_between c from (i + 1) carry ≡ packets_between c from i carry ++ next_packet ∷ []
+  packets_more =
+      let p : Packet = record { stamp = r.stamp; bytes = bytes } in
+      packets_between-more c from i carry p ordered (omega (arith, here.within, length-packets c))
+      ∙ ap (λ (x : Packet). packets_between c from i carry ++ seen_packet (max (carried c from i carry) x.stamp, x) ∷ []) (packet_is c i r bytes p here)
+
+  pub at-more : at ≡ carried c from (i + 1) carry
+  at-more =
+      let p : Packet = record { stamp = r.stamp; bytes = bytes } in
+      sym (carried-more c from i carry p ordered (omega (arith, here.within, length-packets c)) ∙ ap (λ (x : Packet). max (carried c from i carry) x.stamp) (packet_is c i r bytes p here))
+
+  pub counts-more : counts_with (frame_class bytes) (counts_of (packets_between c from i carry)) ≡ counts_of (packets_between c from (i + 1) carry)
+  counts-more = sym (ap (λ (ps : List SeenPacket). counts_of ps) packets_more ∙ counts_of-push (packets_between c from i carry) next_packet)
+
+  -- its segment, if it has one
+  abbrev pub next_segment : IndexedSegment
+  next_segment = segment_read i at (segment_fields bytes)
+
+  pub segments_more : segments_between c from (i + 1) carry ≡ segments_between c from i carry ++ segment_list (is_segment (frame_class bytes)) next_segment
+  unfolding indexed_segments
+  segments_more =
+      let len : length (packets_between c from i carry) ≡ i - from = length-packets_between c from i carry ordered (omega (arith, length-packets c, here.within)) in
+      let place : from + length (packets_between c from i carry) ≡ i = omega arith in
+      let both = rw place at (indexed_segments-append from (packets_between c from i carry) (next_packet ∷ [])) in
+      ap (λ (ps : List SeenPacket). indexed_segments from ps) packets_more
+      ∙ (both ∙ ap (λ (xs : List IndexedSegment). indexed_segments from (packets_between c from i carry) ++ xs) (by_test (is_segment (frame_class bytes))))
+    where
+      by_test : (b : Bool) → cons_option (cond b (Some next_segment) None) [] ≡ segment_list b next_segment
+      by_test true = refl
+      by_test false = refl
+
+  pub kept-segment : frame_class bytes ≡ segment
+      → map (kept_in c) (segments_between c from i carry) ++ kept_at (r.start + payload_offset bytes) next_segment ∷ [] ≡ map (kept_in c) (segments_between c from (i + 1) carry)
+  kept-segment is =
+      let segs : List IndexedSegment = segments_between c from i carry in
+      let all : segments_between c from (i + 1) carry ≡ segs ++ next_segment ∷ [] = segments_more ∙ ap (λ (k : FrameClass). segs ++ segment_list (is_segment k) next_segment) is in
+      ap (λ (n : ℕ). map (kept_in c) segs ++ kept_at n next_segment ∷ []) (sym (start_is c i r bytes here))
+      ∙ (sym (map_push (kept_in c) segs next_segment) ∙ ap (λ (xs : List IndexedSegment). map (kept_in c) xs) (sym all))
+
+  pub kept-other : is_segment (frame_class bytes) ≡ false → map (kept_in c) (segments_between c from i carry) ≡ map (kept_in c) (segments_between c from (i + 1) carry)
+  kept-other other =
+      let segs : List IndexedSegment = segments_between c from i carry in
+      let all = segments_more ∙ ap (λ (b : Bool). segs ++ segment_list b next_segment) other in
+      ap (λ (xs : List IndexedSegment). map (kept_in c) xs) (sym (all ∙ append-nil segs))
 
 pub counts-few : (c : CaptureView) (from to carry : ℕ) (k : FrameClass) → from ≤ to → to ≤ length c.records → count_at k (counts_of (packets_between c from to carry)) ≤ to - from
 counts-few c from to carry k ordered within =
     let len = length-packets_between c from to carry ordered (omega (arith, length-packets c)) in
     omega (arith, count_at-le-length k (packets_between c from to carry), len)
-
--- the segments after one record more: there is one more where the packet is a segment
-abbrev pub segment_list : Bool → IndexedSegment → List IndexedSegment
-segment_list is s = cond is (s ∷ []) []
-
-pub segments_more : (c : CaptureView) (from i carry : ℕ) (r : Record) (bytes : List ℕ) → from ≤ i → IsRecordOf c i r bytes
-    → segments_between c from (i + 1) carry ≡ segments_between c from i carry ++ segment_list (is_segment (frame_class bytes)) (segment_read i (max (carried c from i carry) r.stamp) (segment_fields bytes))
-unfolding indexed_segments
-segments_more c from i carry r bytes ordered here =
-    let len : length (packets_between c from i carry) ≡ i - from = length-packets_between c from i carry ordered (omega (arith, length-packets c, here.within)) in
-    let place : from + length (packets_between c from i carry) ≡ i = omega arith in
-    let q : SeenPacket = next_packet c from i carry r bytes in
-    let both = indexed_segments-append from (packets_between c from i carry) (q ∷ []) in
-    let both' = rw place at both in
-    ap (λ (ps : List SeenPacket). indexed_segments from ps) (packets_more c from i carry r bytes ordered here) ∙ (both' ∙ ap (λ (xs : List IndexedSegment). indexed_segments from (packets_between c from i carry) ++ xs) (by_test (is_segment (frame_class bytes))))
-  where
-    by_test : (b : Bool) → cons_option (cond b (Some (segment_read i (max (carried c from i carry) r.stamp) (segment_fields bytes))) None) [] ≡ segment_list b (segment_read i (max (carried c from i carry) r.stamp) (segment_fields bytes))
-    by_test true = refl
-    by_test false = refl
-
-abbrev pub marks_between : CaptureView → ℕ → ℕ → ℕ → List MarkedKept
-marks_between c from to carry = map (marked_in c) (marked_after [] (segments_between c from to carry))
-
-pub kept-segment : (c : CaptureView) (from i carry : ℕ) (r : Record) (bytes : List ℕ) (done : List KeptSegment) (k : KeptSegment) (start : ℕ) (fields : SegmentFields)
-    → from ≤ i → IsRecordOf c i r bytes → frame_class bytes ≡ segment → done ≡ map (kept_in c) (segments_between c from i carry)
-    → start ≡ r.start + payload_offset bytes → fields ≡ segment_fields bytes
-    → k ≡ kept_at start (segment_read i (max (carried c from i carry) r.stamp) fields)
-    → done ++ k ∷ [] ≡ map (kept_in c) (segments_between c from (i + 1) carry)
-kept-segment c from i carry r bytes done k start fields ordered here is so_far starts are kept =
-    let s : IndexedSegment = segment_read i (max (carried c from i carry) r.stamp) (segment_fields bytes) in
-    let segs : List IndexedSegment = segments_between c from i carry in
-    let all : segments_between c from (i + 1) carry ≡ segs ++ s ∷ [] = segments_more c from i carry r bytes ordered here ∙ ap (λ (k : FrameClass). segs ++ segment_list (is_segment k) s) is in
-    let same : k ≡ kept_in c s =
-    kept ∙ ap₂ (λ (n : ℕ) (f : SegmentFields). kept_at n (segment_read i (max (carried c from i carry) r.stamp) f)) (starts ∙ sym (start_is c i r bytes here)) are in
-    ap₂ (λ (ks : List KeptSegment) (x : KeptSegment). ks ++ x ∷ []) so_far same
-    ∙ (sym (map_push (kept_in c) segs s) ∙ ap (λ (xs : List IndexedSegment). map (kept_in c) xs) (sym all))
-
-pub kept-other : (c : CaptureView) (from i carry : ℕ) (r : Record) (bytes : List ℕ) → from ≤ i → IsRecordOf c i r bytes → is_segment (frame_class bytes) ≡ false
-    → map (kept_in c) (segments_between c from i carry) ≡ map (kept_in c) (segments_between c from (i + 1) carry)
-kept-other c from i carry r bytes ordered here other =
-    let s : IndexedSegment = segment_read i (max (carried c from i carry) r.stamp) (segment_fields bytes) in
-    let segs : List IndexedSegment = segments_between c from i carry in
-    let all : segments_between c from (i + 1) carry ≡ segs ++ [] = segments_more c from i carry r bytes ordered here ∙ ap (λ (b : Bool). segs ++ segment_list b s) other in
-    ap (λ (xs : List IndexedSegment). map (kept_in c) xs) (sym (all ∙ append-nil segs))
 
 -- the class of what is no segment
 pub is_segment-other : (k : Class) → ((s : Segment) → k ≡ classes.Segment s → ⊥) → is_segment (frame_class_of k) ≡ false

@@ -1,16 +1,18 @@
--- The packets and the segments of a range of records, and of two adjacent ones.
+-- The packets and the segments of a range of records, and of two adjacent ones, and the join of their partials.
 use Rattle.std.proofs.Common.{◌≡◌, ◌<◌, ◌≤◌, ℕ, suc, ◌+◌, ◌-◌, max, List, [], ◌∷◌, ◌++◌, length, map, drop, get_or, refl, ap, ◌∙◌, arith, length-take, length-drop}
 use Rattle.std.specs.List.{slice_range, enumerate_from}
 use Rattle.std.proofs.Math.Seq.{take-add}
-use Rattle.std.proofs.lemmas.List.{drop-drop, map-append, drop_more}
+use Rattle.std.proofs.lemmas.List.{drop-drop, map-append, drop_more, length-map}
 use Rattle.std.proofs.lemmas.List.Elements.{filter_map-append}
 use Rattle.pcap_records.specs.Instants.{greatest}
 use Rattle.pcap_records.specs.Reading.{Packet}
-use Rattle.pcap_records.specs.CaptureView.{CaptureView, contents_of, stamps_between}
+use Rattle.pcap_records.specs.CaptureView.{CaptureView, contents_of, packet_of, stamps_between}
 use Rattle.pcap_records.proofs.Running.{instants-cons, instants-nil}
 use Rattle.conn_table.specs.SeenCapture.{SeenPacket, seen_packet, seen_packets}
 use Rattle.conn_table.specs.IndexedSegments.{indexed_segment, indexed_segments}
-use Rattle.conn_table.specs.Partials.{packets_between, segments_between, carried}
+use Rattle.conn_table.specs.KeptSegments.{kept_in}
+use Rattle.conn_table.specs.Partials.{packets_between, segments_between, carried, partial_in, joined_partial, JoinsAgree}
+use Rattle.conn_table.proofs.CountingSteps.{counts_of-append}
 
 -- ---- parts of lists
 
@@ -46,7 +48,7 @@ length-seen_packets carry (p ∷ ps) = rw (seen_packets-cons carry p ps, length-
 
 -- ---- segments with their numbers
 
-enumerate_from-append : {X : Type 0} (n : ℕ) (xs ys : List X) → enumerate_from n (xs ++ ys) ≡ enumerate_from n xs ++ enumerate_from (n + length xs) ys
+pub enumerate_from-append : {X : Type 0} (n : ℕ) (xs ys : List X) → enumerate_from n (xs ++ ys) ≡ enumerate_from n xs ++ enumerate_from (n + length xs) ys
 enumerate_from-append n [] ys = let e : n + 0 ≡ n = omega arith in rw e refl
 enumerate_from-append n (x ∷ xs) ys = let e : n + 1 + length xs ≡ n + suc (length xs) = omega arith in rw (enumerate_from-append (n + 1) xs ys, e) refl
 
@@ -74,6 +76,17 @@ segments_between-append c from mid to carry first second within =
     let len : length (packets_between c from mid carry) ≡ mid - from = length-packets_between c from mid carry first (omega arith) in
     let place : from + length (packets_between c from mid carry) ≡ mid = omega arith in
     rw (packets_between-append c from mid to carry first second, indexed_segments-append from (packets_between c from mid carry) (packets_between c mid to (carried c from mid carry)), place) refl
+
+pub joins_agree : JoinsAgree
+unfolding joined_partial partial_in
+joins_agree c from mid to carry first second within =
+    let next = carried c from mid carry in
+    rw (
+      segments_between-append c from mid to carry first second (omega (arith, length-map c.records (packet_of c.bytes))),
+      map-append (kept_in c) (segments_between c from mid carry) (segments_between c mid to next),
+      packets_between-append c from mid to carry first second,
+      counts_of-append (packets_between c from mid carry) (packets_between c mid to next),
+    ) refl
 
 -- ---- one packet more
 

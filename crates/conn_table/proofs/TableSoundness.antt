@@ -9,15 +9,16 @@ use Rattle.pcap_records.specs.CaptureView.{CaptureView, packet_of, IsSoundCaptur
 use Rattle.frame_headers.specs.Frame.{frame_class, segment, segment_fields, payload_offset}
 use Rattle.frame_headers.specs.HeaderLaws.{IsPayloadInPlace, PayloadsAreInPlace}
 use Rattle.conn_table.specs.IndexedSegments.{IndexedSegment, is_segment}
-use Rattle.conn_table.specs.Connections.{begins, beginnings, is_at, beginning_of, later_members}
+use Rattle.conn_table.specs.Connections.{begins_in, beginnings, is_at, beginning_of}
 use Rattle.conn_table.specs.IndexedConnections.{indexed_connection_of, indexed_connections}
 use Rattle.conn_table.specs.KeptSegments.{payload_start, segment_read}
 use Rattle.conn_table.specs.Partials.{packets_between, segments_between, carried}
 use Rattle.conn_table.specs.Tables.{member_in, conn_in, table_in}
-use Rattle.conn_table.specs.TableFacts.{IsPlaced, PayloadsArePlaced, AreRising, IsSoundConn, ConnsAreSound}
+use Rattle.conn_table.specs.TableFacts.{IsPlaced, PayloadsArePlaced, MembersRise, IsSoundConn, ConnsAreSound}
 use Rattle.conn_table.specs.declared.conns.Member.{Member}
-use Rattle.pcap_records.proofs.Lists.{all_append, all_filter, drop_of_take}
-use Rattle.conn_table.proofs.GroupingOrder.{IsRising, IsSplitAt-first}
+use Rattle.lists.proofs.Lists.{all_append, all_filter, all_map, all_weaker, drop_of_take}
+use Rattle.conn_table.proofs.GroupingFilters.{all_pass}
+use Rattle.conn_table.proofs.GroupingOrder.{IsRising, rising_lower, rising_between}
 use Rattle.conn_table.proofs.Peers.{class_is}
 use Rattle.conn_table.proofs.PartialSteps.{IsRecordOf, start_is, segments_more, segment_list, segments-none}
 
@@ -81,10 +82,6 @@ payloads_are_placed in_place c from to carry sound ordered within =
 
 -- ---- members
 
-rising_lower : (m n : ℕ) (segs : List IndexedSegment) → m ≤ n → IsRising n segs → IsRising m segs
-rising_lower m n [] le rising = tt
-rising_lower m n (s ∷ segs) le rising = (omega (arith, rising.0), rising.1)
-
 rising_filter : (n : ℕ) (Q : IndexedSegment → Bool) (segs : List IndexedSegment) → IsRising n segs → IsRising n (filter Q segs)
 rising_filter n Q [] rising = tt
 rising_filter n Q (s ∷ segs) rising = by_test (Q s) (rising_filter (s.index + 1) Q segs rising.1)
@@ -93,30 +90,23 @@ rising_filter n Q (s ∷ segs) rising = by_test (Q s) (rising_filter (s.index + 
     by_test true rest = (rising.0, rest)
     by_test false rest = rising_lower n (s.index + 1) (filter Q segs) (omega (arith, rising.0)) rest
 
--- those that pass a test stand from m on
-rising_from : (m n : ℕ) (Q : IndexedSegment → Bool) (segs : List IndexedSegment) → ((s : IndexedSegment) → Q s ≡ true → m ≤ s.index) → IsRising n segs → IsRising m (filter Q segs)
-rising_from m n Q [] behind rising = tt
-rising_from m n Q (s ∷ segs) behind rising = by_test (Q s) refl (rising_filter (s.index + 1) Q segs rising.1) (rising_from m (s.index + 1) Q segs behind rising.1)
-  where
-    by_test : (t : Bool) → Q s ≡ t → IsRising (s.index + 1) (filter Q segs) → IsRising m (filter Q segs) → IsRising m (cond t (s ∷ filter Q segs) (filter Q segs))
-    by_test true passes next rest = (behind s passes, next)
-    by_test false fails next rest = rest
+-- where all stand from m on
+rising_above : (m n : ℕ) (segs : List IndexedSegment) → AllByRecursion (λ s. m ≤ s.index) segs → IsRising n segs → IsRising m segs
+rising_above m n [] above rising = tt
+rising_above m n (s ∷ segs) above rising = (above.0, rising.1)
 
-members_rise : (c : CaptureView) (p : IndexedSegment) (n : ℕ) (segs : List IndexedSegment) → IsRising n segs → AreRising n (map (member_in c p.timed.fields.from) segs)
+members_rise : (c : CaptureView) (p : IndexedSegment) (n : ℕ) (segs : List IndexedSegment) → IsRising n segs → MembersRise n (map (member_in c p.timed.fields.from) segs)
 members_rise c p n [] rising = tt
 members_rise c p n (s ∷ segs) rising = (rising.0, members_rise c p (s.index + 1) segs rising.1)
-
-members_placed : (c : CaptureView) (p : IndexedSegment) (segs : List IndexedSegment) → AllByRecursion (IsPlaced c) segs → AllByRecursion (λ (m : Member). m.start + m.len ≤ length c.bytes) (map (member_in c p.timed.fields.from) segs)
-members_placed c p [] all = tt
-members_placed c p (s ∷ segs) all = (all.0.within, members_placed c p segs all.1)
 
 conn_is_sound : (c : CaptureView) (n k : ℕ) (all : List IndexedSegment) (b : IndexedSegment) → IsRising n all → AllByRecursion (IsPlaced c) all → IsPlaced c b → IsSoundConn c.bytes (conn_in c (indexed_connection_of all (k, b)))
 conn_is_sound c n k all b rising placed mine =
     let Q : IndexedSegment → Bool = λ s. nat_lt b.index s.index && is_at b (beginning_of all s) in
-    let behind : (s : IndexedSegment) → Q s ≡ true → b.index + 1 ≤ s.index = λ s passes. omega (arith, ltb-true b.index s.index (and_parts (nat_lt b.index s.index) (is_at b (beginning_of all s)) passes).0) in
+    let above = all_weaker (λ s. Q s ≡ true) (λ s. b.index + 1 ≤ s.index) (λ s passes. omega (arith, ltb-true b.index s.index (and_parts (nat_lt b.index s.index) (is_at b (beginning_of all s)) passes).0)) (filter Q all) (all_pass Q all) in
+    let within = all_weaker (IsPlaced c) (λ s. payload_start c s.index + length s.timed.fields.payload ≤ length c.bytes) (λ s is. is.within) (filter Q all) (all_filter (IsPlaced c) Q all placed) in
     record {
-      rising = (omega arith, members_rise c b (b.index + 1) (later_members all b) (rising_from (b.index + 1) n Q all behind rising));
-      placed = (mine.within, members_placed c b (later_members all b) (all_filter (IsPlaced c) Q all placed));
+      rising = (omega arith, members_rise c b (b.index + 1) (filter Q all) (rising_above (b.index + 1) n (filter Q all) above (rising_filter n Q all rising)));
+      placed = (mine.within, all_map (λ (m : Member). m.start + m.len ≤ length c.bytes) (member_in c b.timed.fields.from) (filter Q all) within);
     }
 
 conns_sound : (c : CaptureView) (n k : ℕ) (all bs : List IndexedSegment) → IsRising n all → AllByRecursion (IsPlaced c) all → AllByRecursion (IsPlaced c) bs
@@ -129,5 +119,5 @@ unfolding table_in indexed_connections beginnings
 conns_are_sound in_place c from to carry sound ordered within =
     let segs : List IndexedSegment = segments_between c from to carry in
     let placed = payloads_are_placed in_place c from to carry sound ordered within in
-    let cut = IsSplitAt-first from (packets_between c from to carry) in
-    conns_sound c from 0 segs (filter (begins segs) segs) cut.rising placed (all_filter (IsPlaced c) (begins segs) segs placed)
+    let rising = rising_between from (packets_between c from to carry) in
+    conns_sound c from 0 segs (filter (begins_in segs) segs) rising placed (all_filter (IsPlaced c) (begins_in segs) segs placed)

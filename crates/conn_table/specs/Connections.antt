@@ -1,9 +1,8 @@
--- Connections: the segments of each pair of peers, from a beginning up to the pair's next one.
-use Rattle.std.specs.Prelude.{◌≡◌, ℕ, ◌+◌, List, [], ◌∷◌, ◌++◌, length, map, filter, Option, Some, None, is_none, Bool, false, ◌&&◌, ◌==◌, not, nat_lt, nat_le, if◌then◌else◌}
+-- Connections: the segments of each pair of peers, from a beginning up to the pair's next one, by filtering the list of all segments.
+use Rattle.std.specs.Prelude.{ℕ, List, length, map, filter, Option, Some, None, is_none, Bool, false, ◌&&◌, ◌==◌, not, nat_lt, nat_le}
 use Rattle.std.specs.List.{enumerate_from, last_or}
-use Rattle.conn_table.specs.SeenCapture.{SeenPacket}
 use Rattle.frame_headers.specs.Flags.{has_flag, syn_flag, ack_flag, rst_flag}
-use Rattle.conn_table.specs.IndexedSegments.{TimedSegment, IndexedSegment, indexed_segments, same_peer, same_pair, pair_of_segment}
+use Rattle.conn_table.specs.IndexedSegments.{TimedSegment, IndexedSegment, same_peer, same_pair, pair_of_segment}
 
 -- the last of a list
 abbrev pub last_of : {X : Type 0} → List X → Option X
@@ -21,18 +20,16 @@ abbrev pub repeats : Option IndexedSegment → IndexedSegment → Bool
 repeats None s = false
 repeats (Some last) s = same_peer last.timed.fields.from s.timed.fields.from && (last.timed.fields.seq == s.timed.fields.seq)
 
--- ---- by filtering the whole list
-
 -- the openings of its pair that stand earlier in the file
 abbrev pub openings_before : List IndexedSegment → IndexedSegment → List IndexedSegment
 openings_before segs s = filter (λ x. is_opening x && of_one_pair s x && nat_lt x.index s.index) segs
 
 -- an opening that is not sent again begins a connection
-abbrev pub begins : List IndexedSegment → IndexedSegment → Bool
-begins segs s = is_opening s && not (repeats (last_of (openings_before segs s)) s)
+abbrev pub begins_in : List IndexedSegment → IndexedSegment → Bool
+begins_in segs s = is_opening s && not (repeats (last_of (openings_before segs s)) s)
 
 unfoldable pub beginnings : List IndexedSegment → List IndexedSegment
-beginnings segs = filter (begins segs) segs
+beginnings segs = filter (begins_in segs) segs
 
 -- the last beginning of its pair that stands at or before it
 abbrev pub beginning_of : List IndexedSegment → IndexedSegment → Option IndexedSegment
@@ -65,48 +62,3 @@ is_unopened segs s = is_none (beginning_of segs s)
 
 unfoldable pub unopened_count : List IndexedSegment → ℕ
 unopened_count segs = length (filter (is_unopened segs) segs)
-
--- ---- by what stands earlier
-
--- the last opening of its pair among earlier segments
-abbrev pub opening_before : List IndexedSegment → IndexedSegment → Option IndexedSegment
-opening_before earlier s = last_of (filter (λ x. is_opening x && of_one_pair s x) earlier)
-
-abbrev pub begins_after : List IndexedSegment → IndexedSegment → Bool
-begins_after earlier s = is_opening s && not (repeats (opening_before earlier s) s)
-
-unfoldable pub beginnings_after : List IndexedSegment → List IndexedSegment → List IndexedSegment
-beginnings_after earlier [] = []
-beginnings_after earlier (s ∷ segs) =
-    if begins_after earlier s then s ∷ beginnings_after (earlier ++ s ∷ []) segs else beginnings_after (earlier ++ s ∷ []) segs
-
--- the segments of b's pair up to its next beginning
-unfoldable pub members_after : List IndexedSegment → IndexedSegment → List IndexedSegment → List IndexedSegment
-members_after earlier b [] = []
-members_after earlier b (s ∷ segs) =
-    if of_one_pair b s
-    then (if begins_after earlier s then [] else s ∷ members_after (earlier ++ s ∷ []) b segs)
-    else members_after (earlier ++ s ∷ []) b segs
-
--- a connection for each beginning, from a number on
-unfoldable pub connections_after : ℕ → List IndexedSegment → List IndexedSegment → List Connection
-connections_after n earlier [] = []
-connections_after n earlier (s ∷ segs) =
-    if begins_after earlier s
-    then record { number = n; opening = s.timed; later = map (λ x. x.timed) (members_after (earlier ++ s ∷ []) s segs) } ∷ connections_after (n + 1) (earlier ++ s ∷ []) segs
-    else connections_after n (earlier ++ s ∷ []) segs
-
--- a segment is unopened where no opening of its pair stands before it, nor is it one
-unfoldable pub unopened_count_after : List IndexedSegment → List IndexedSegment → ℕ
-unopened_count_after earlier [] = 0
-unopened_count_after earlier (s ∷ segs) =
-    (if not (is_opening s) && is_none (opening_before earlier s) then 1 else 0) + unopened_count_after (earlier ++ s ∷ []) segs
-
--- both say the same of every capture
-pub record FilterAgrees (segs : List IndexedSegment) : Type 0 where
-  pub begun : beginnings segs ≡ beginnings_after [] segs
-  pub connected : connections segs ≡ connections_after 0 [] segs
-  pub not_opened : unopened_count segs ≡ unopened_count_after [] segs
-
-abbrev pub GroupingsAgree : Type 0
-GroupingsAgree = (n : ℕ) (packets : List SeenPacket) → FilterAgrees (indexed_segments n packets)

@@ -1,7 +1,9 @@
--- Connections that grow segment by segment.
-use Rattle.std.specs.Prelude.{◌≡◌, ℕ, zero, suc, List, [], ◌∷◌, ◌++◌, Option, Some, None, Bool, ◌&&◌, if◌then◌else◌}
+-- The table of a partial, which grows segment by segment.
+use Rattle.std.specs.Prelude.{◌≡◌, ◌<◌, ◌^◌, ℕ, zero, suc, ◌+◌, List, [], ◌∷◌, ◌++◌, map, length, fold, Option, Some, None, Bool, ◌&&◌, not, if◌then◌else◌}
+use Rattle.std.specs.Bool.{beq}
 use Rattle.std.specs.Option.{option_map}
 use Rattle.indexmap.specs.IndexMap.{get}
+use Rattle.frame_headers.specs.declared.peers.Peer.{Peer}
 use Rattle.conn_table.specs.declared.conns.Pair.{Pair}
 use Rattle.conn_table.specs.declared.conns.Member.{Member}
 use Rattle.conn_table.specs.declared.conns.Conn.{Conn}
@@ -9,11 +11,33 @@ use Rattle.conn_table.specs.declared.entries.Entry.{Entry}
 use Rattle.conn_table.specs.declared.lasts.Current.{Current}
 use Rattle.conn_table.specs.declared.growth.Growth.{Growth}
 use Rattle.conn_table.specs.IndexedSegments.{same_pair}
-use Rattle.conn_table.specs.KeptSegments.{opening_of, last_opening}
+use Rattle.conn_table.specs.KeptSegments.{KeptSegment, is_from_low, opens, opening_of, is_again}
 use Rattle.conn_table.specs.LastConnections.{IsLasts}
-use Rattle.conn_table.specs.Partials.{MarkedKept}
-use Rattle.conn_table.specs.Tables.{conns_from, unopened_after}
-use Rattle.conn_table.specs.Entries.{kept_to, marks_to}
+use Rattle.conn_table.specs.Entries.{kept_by}
+
+-- ---- connections
+
+abbrev pub sender_of : KeptSegment → Peer
+sender_of k = if is_from_low k then k.pair.low else k.pair.high
+
+abbrev pub receiver_of : KeptSegment → Peer
+receiver_of k = if is_from_low k then k.pair.high else k.pair.low
+
+-- a segment of a connection whose client is the lower peer, or is not
+abbrev pub member_from : Bool → KeptSegment → Member
+member_from client_low k = record k.member { from_client = beq k.member.from_client client_low }
+
+-- the connection of that number which k begins, with no other member yet
+abbrev pub conn_with : ℕ → KeptSegment → Conn
+conn_with n k = record {
+  number = n;
+  opening = k.member.index;
+  opened = k.member.at;
+  vlan = k.pair.vlan;
+  client = sender_of k;
+  server = receiver_of k;
+  members = member_from (is_from_low k) k ∷ [];
+}
 
 -- one member more in the connection at a place
 abbrev pub grown_at : ℕ → Member → List Conn → List Conn
@@ -21,24 +45,53 @@ grown_at n x [] = []
 grown_at zero x (c ∷ cs) = record c { members = c.members ++ x ∷ [] } ∷ cs
 grown_at (suc n) x (c ∷ cs) = c ∷ grown_at n x cs
 
--- a place further on where one more connection stands before it, or this place where there is none
-abbrev pub further : Option Current → Bool → Option Current → Option Current
-further None begins here = here
-further (Some c) begins here =
-    Some (record { number = if begins then suc c.number else c.number; opening = c.opening })
+-- ---- one segment after another
 
--- the last connection of a pair among those that some marked segments begin
-abbrev pub current_of : Pair → List MarkedKept → Option Current
-current_of p [] = None
-current_of p (m ∷ ms) =
-    further (current_of p ms) m.begins
-    (if m.begins && same_pair m.kept.pair p then Some (record { number = 0; opening = opening_of m.kept }) else None)
+-- the connections of some segments, how many of these are unopened, and of each pair its last connection: its number, and the
+-- opening that begins it
+pub record GrownView : Type 0 where
+  pub conns : List Conn
+  pub unopened : ℕ
+  pub current : Pair → Option Current
 
--- what has grown of the first n segments: the connections, how many segments are unopened, and for each pair its last connection,
--- whose opening is the pair's last opening
-pub record HasGrown (es : List Entry) (n : ℕ) (g : Growth) : Type 0 where
-  pub conns : g.conns.items ≡ conns_from 0 (marks_to es n)
-  pub unopened : g.unopened ≡ unopened_after [] (marks_to es n)
+abbrev pub grown_none : GrownView
+grown_none = record { conns = []; unopened = 0; current = λ p. None }
+
+-- an opening begins a connection, unless it is that of its pair's last connection, sent again
+abbrev pub begins : Option Current → KeptSegment → Bool
+begins last k = opens k && not (is_again (option_map (λ c. c.opening) last) (opening_of k))
+
+abbrev pub grown_begun : GrownView → KeptSegment → GrownView
+grown_begun g k = record {
+  conns = g.conns ++ conn_with (length g.conns) k ∷ [];
+  unopened = g.unopened;
+  current = λ p. if same_pair k.pair p then Some (record { number = length g.conns; opening = opening_of k }) else g.current p;
+}
+
+-- any other segment belongs to its pair's last connection, or is unopened
+abbrev pub grown_plain : Option Current → GrownView → KeptSegment → GrownView
+grown_plain None g k = record g { unopened = g.unopened + 1 }
+grown_plain (Some c) g k = record g { conns = grown_at c.number (member_from c.opening.from_low k) g.conns }
+
+abbrev pub grown_with : GrownView → KeptSegment → GrownView
+grown_with g k = if begins (g.current k.pair) k then grown_begun g k else grown_plain (g.current k.pair) g k
+
+unfoldable pub grown_of : List KeptSegment → GrownView
+grown_of ks = fold grown_with grown_none ks
+
+-- ---- what the code has of it
+
+abbrev pub shown_by : Growth → GrownView
+shown_by g = record { conns = g.conns.items; unopened = g.unopened; current = λ p. get same_pair g.lasts.map p }
+
+-- what has grown of some segments
+pub record HasGrown (done : List Entry) (g : Growth) : Type 0 where
+  pub shown : shown_by g ≡ grown_of (map kept_by done)
   pub lasts : IsLasts g.lasts
-  pub current : (p : Pair) → get same_pair g.lasts.map p ≡ current_of p (marks_to es n)
-  pub last : (p : Pair) → last_opening (kept_to es n) p ≡ option_map (λ c. c.opening) (current_of p (marks_to es n))
+
+-- one segment more may be taken
+pub record IsReady (g : Growth) : Type 0 where
+  pub lasts : IsLasts g.lasts
+  pub few : length g.conns.items < 2 ^ 31
+  pub few_unopened : g.unopened < 2 ^ 31
+  pub placed : (p : Pair) (x : Current) → get same_pair g.lasts.map p ≡ Some x → x.number < length g.conns.items

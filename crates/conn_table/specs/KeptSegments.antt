@@ -1,15 +1,14 @@
--- What a table keeps of a segment, and how kept segments are read in turn.
-use Rattle.std.specs.Prelude.{ℕ, ◌+◌, List, length, filter, Option, Some, None, Bool, false, ◌&&◌, ◌==◌, not, slice_get, unwrap_or, []}
+-- What a table keeps of a segment, and what tells openings.
+use Rattle.std.specs.Prelude.{ℕ, ◌+◌, List, length, Option, Some, None, Bool, false, ◌&&◌, ◌==◌, not, slice_get, unwrap_or, []}
 use Rattle.std.specs.Bool.{beq}
-use Rattle.std.specs.Option.{option_map, option_map_or}
+use Rattle.std.specs.Option.{option_map_or}
 use Rattle.pcap_records.specs.CaptureView.{CaptureView, packet_at}
 use Rattle.frame_headers.specs.Flags.{has_flag, syn_flag, ack_flag, rst_flag}
 use Rattle.frame_headers.specs.Frame.{SegmentFields, payload_offset}
 use Rattle.conn_table.specs.declared.conns.Member.{Member}
 use Rattle.conn_table.specs.declared.conns.Pair.{Pair}
 use Rattle.conn_table.specs.declared.entries.Opening.{Opening}
-use Rattle.conn_table.specs.IndexedSegments.{IndexedSegment, peer_le, same_pair, pair_of_segment}
-use Rattle.conn_table.specs.Connections.{last_of}
+use Rattle.conn_table.specs.IndexedSegments.{IndexedSegment, peer_le, pair_of_segment}
 
 -- its pair, and the member that it is where the pair's lower peer is the client
 pub record KeptSegment : Type 0 where
@@ -56,7 +55,7 @@ segment_read index at fields = record { index = index; timed = record { at = at;
 abbrev pub kept_in : CaptureView → IndexedSegment → KeptSegment
 kept_in c s = kept_at (payload_start c s.index) s
 
--- ---- openings and beginnings
+-- ---- openings
 
 -- SYN, and neither ACK nor RST
 abbrev pub opens : KeptSegment → Bool
@@ -70,11 +69,3 @@ opening_of k = record { from_low = is_from_low k; seq = k.member.seq }
 abbrev pub is_again : Option Opening → Opening → Bool
 is_again None o = false
 is_again (Some last) o = beq last.from_low o.from_low && (last.seq == o.seq)
-
--- the last opening of a pair
-abbrev pub last_opening : List KeptSegment → Pair → Option Opening
-last_opening earlier p = option_map opening_of (last_of (filter (λ x. opens x && same_pair x.pair p) earlier))
-
--- an opening that does not repeat the last one of its pair
-abbrev pub begins_behind : List KeptSegment → KeptSegment → Bool
-begins_behind earlier k = opens k && not (is_again (last_opening earlier k.pair) (opening_of k))

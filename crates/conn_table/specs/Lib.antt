@@ -5,12 +5,12 @@ pub mod IndexedConnections
 pub mod ClassCounts
 pub mod KeptSegments
 pub mod Partials
-pub mod Groups
-pub mod Tables
+pub mod RowSegments
 pub mod PairWords
 pub mod LastConnections
 pub mod Entries
 pub mod Growing
+pub mod Tables
 pub mod TableFacts
 pub use Rattle.pcap_records.specs.Instants
 pub use Rattle.pcap_records.specs.Reading

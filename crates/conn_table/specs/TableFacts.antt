@@ -24,13 +24,13 @@ PayloadsArePlaced =
     → AllByRecursion (IsPlaced c) (segments_between c from to carry)
 
 -- the numbers of members' records rise, from n on
-abbrev pub AreRising : ℕ → List Member → Type 0
-AreRising n [] = Unit {0}
-AreRising n (m ∷ ms) = (n ≤ m.index) × AreRising (m.index + 1) ms
+abbrev pub MembersRise : ℕ → List Member → Type 0
+MembersRise n [] = Unit {0}
+MembersRise n (m ∷ ms) = (n ≤ m.index) × MembersRise (m.index + 1) ms
 
 -- the members of a connection stand in the order of the file, its beginning first, and their payloads lie in the file
 pub record IsSoundConn (bytes : List ℕ) (x : Conn) : Type 0 where
-  pub rising : AreRising x.opening x.members
+  pub rising : MembersRise x.opening x.members
   pub placed : AllByRecursion (λ (m : Member). m.start + m.len ≤ length bytes) x.members
 
 abbrev pub ConnsAreSound : Type 0

@@ -72,7 +72,6 @@ impl Entry {
         }
     }
 
-    // Its pair.
     pub(crate) fn pair(&self) -> Pair
         ensures { result ≡ pair_in self.now }
     {

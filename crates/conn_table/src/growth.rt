@@ -1,9 +1,7 @@
 //! The connections of a capture, which grow segment by segment.
-ghost use Rattle.std.specs.Prelude.{◌≡◌, ◌&&◌, ◌<◌, length, not, OnOk};
-ghost use Rattle.std.specs.Option.{option_map};
-ghost use Rattle.conn_table.specs.KeptSegments.{opens, opening_of, is_again};
+ghost use Rattle.std.specs.Prelude.{◌≡◌, ◌<◌, length, OnOk};
 ghost use Rattle.conn_table.specs.Entries.{kept_by};
-ghost use Rattle.conn_table.specs.Growing.{grown_at};
+ghost use Rattle.conn_table.specs.Growing.{begins, grown_at};
 
 use crate::conns::{Conn, Member, Members};
 use crate::entries::Entry;
@@ -22,15 +20,14 @@ pub(crate) struct Growth {
 }
 
 impl Growth {
-    ghost use Rattle.std.specs.Prelude.{◌≡◌, ◌+◌, ◌<◌, ◌^◌, [], ◌∷◌, ◌++◌, length, IfOk, OnOk};
-    ghost use Rattle.conn_table.specs.Tables.{conn_with};
-    ghost use Rattle.conn_table.specs.Entries.{all_of, range_at, count_to};
-    ghost use Rattle.conn_table.specs.Growing.{HasGrown};
+    ghost use Rattle.std.specs.Prelude.{◌≡◌, ◌<◌, ◌^◌, [], ◌∷◌, ◌++◌, length, IfOk, OnOk};
+    ghost use Rattle.conn_table.specs.LastConnections.{IsLasts};
+    ghost use Rattle.conn_table.specs.Growing.{conn_with, grown_with, shown_by, HasGrown, IsReady};
 
     // No connections yet, and room for those of some segments: as many as these have openings, each with as many members as there are
     // segments for an opening.
     pub(crate) fn of_none(alloc: Global, ranges: &[Vec<Entry>]) -> Result<Growth, AllocError>
-        ensures { IfOk result (HasGrown (all_of ranges.now) 0) }
+        ensures { IfOk result (HasGrown []) }
     {
         let (keys, openings) = PairKeys::of_openings(ranges);
         Ok(Growth {
@@ -41,39 +38,12 @@ impl Growth {
         })
     }
 
-    // Takes the segments of a range, where those of the ranges before it have been taken.
-    pub(crate) fn take_range(
-        &mut self,
-        alloc: Global,
-        ranges: &[Vec<Entry>],
-        range: usize,
-    ) -> Result<(), AllocError>
-        requires within { range < length ranges.now }
-        requires few { length (all_of ranges.now) < 2 ^ 31 }
-        requires grown { HasGrown (all_of ranges.now) (count_to ranges.now range) self.old }
-        ensures { OnOk result (HasGrown (all_of ranges.now) (count_to ranges.now (range + 1)) self.new) }
+    // Takes one segment more.
+    pub(crate) fn take(&mut self, alloc: Global, entry: &Entry) -> Result<(), AllocError>
+        requires { IsReady self.old }
+        ensures shown { OnOk result (shown_by self.new ≡ grown_with (shown_by self.old) (kept_by entry.now)) }
+        ensures lasts { OnOk result (IsLasts self.new.lasts) }
     {
-        for at in 0..ranges[range].len() {
-            self.take(alloc, ranges, range, at)?;
-        }
-        Ok(())
-    }
-
-    // Takes the segment at a place of a range, where those before it have been taken.
-    fn take(
-        &mut self,
-        alloc: Global,
-        ranges: &[Vec<Entry>],
-        range: usize,
-        at: usize,
-    ) -> Result<(), AllocError>
-        requires range { range < length ranges.now }
-        requires within { at < length (range_at ranges.now range) }
-        requires few { length (all_of ranges.now) < 2 ^ 31 }
-        requires grown { HasGrown (all_of ranges.now) (count_to ranges.now range + at) self.old }
-        ensures { OnOk result (HasGrown (all_of ranges.now) (count_to ranges.now range + at + 1) self.new) }
-    {
-        let entry = &ranges[range][at];
         let pair = entry.pair();
         let last = self.lasts.last_of(pair);
         if begins(entry, last) {
@@ -94,7 +64,7 @@ impl Growth {
         requires { length self.old.conns.items < 2 ^ 31 }
         ensures number { IfOk result (λ number. number ≡ length self.old.conns.items) }
         ensures conns { OnOk result (self.new.conns.items
-            ≡ self.old.conns.items ++ conn_with (length self.old.conns.items) (kept_by entry.now) [] ∷ []) }
+            ≡ self.old.conns.items ++ conn_with (length self.old.conns.items) (kept_by entry.now) ∷ []) }
         ensures lasts { OnOk result (self.new.lasts ≡ self.old.lasts) }
         ensures unopened { OnOk result (self.new.unopened ≡ self.old.unopened) }
     {
@@ -125,8 +95,7 @@ fn segments_in(ranges: &[Vec<Entry>]) -> usize {
 
 // Whether a segment begins a connection, given the last one of its pair: it opens, and is no repeat of that one's opening.
 fn begins(entry: &Entry, last: Option<Current>) -> bool
-    ensures { result ≡ (opens (kept_by entry.now)
-        && not (is_again (option_map (λ c. c.opening) last) (opening_of (kept_by entry.now)))) }
+    ensures { result ≡ begins last (kept_by entry.now) }
 {
     entry.opens() && !last.is_some_and(|last| last.opening.is_same(entry.opening()))
 }

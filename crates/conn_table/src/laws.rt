@@ -1,19 +1,11 @@
 //! Theorems about the definitions of this crate. Each function does nothing, or names the theorem that it stands on: its
 //! contract is the theorem.
-ghost use Rattle.conn_table.specs.Connections.{GroupingsAgree};
 ghost use Rattle.conn_table.specs.IndexedConnections.{IndexedConnectionsAgree};
 ghost use Rattle.conn_table.specs.Partials.{JoinsAgree};
-ghost use Rattle.conn_table.specs.Groups.{GroupsAgree};
 ghost use Rattle.conn_table.specs.Tables.{TablesAgree};
 ghost use Rattle.conn_table.specs.TableFacts.{PayloadsArePlaced, ConnsAreSound, MembersHaveSides};
 
 use frame_headers::laws::payloads_are_in_place;
-
-/// For every list of packets, filtering the list of its segments and reading it in turn give the same beginnings, the same
-/// connections with the same segments, and the same number of unopened segments.
-pub fn groupings_agree()
-    ensures { GroupingsAgree }
-{}
 
 /// The connections whose segments have the numbers of their records are, without these, the connections.
 pub fn indexed_connections_agree()
@@ -21,17 +13,11 @@ pub fn indexed_connections_agree()
 {}
 
 /// The join of the partials of two adjacent ranges of a capture's records is the partial of both together. So every cut of the
-/// records, joined in whatever grouping of adjacent ranges, gives the partial of one range: empty ranges, openings that are sent
-/// again across a border and openings that are cut off from their segments included. The right one carries the greatest stamp
-/// before it.
+/// records, joined in whatever grouping of adjacent ranges, gives the partial of one range, and so one table: empty ranges,
+/// openings that are sent again across a border and openings that are cut off from their segments included. The right one carries
+/// the greatest stamp before it.
 pub fn joins_agree()
     ensures { JoinsAgree }
-{}
-
-/// Read by pairs, the partial of a range has for each pair, in the order of its first segment, its segments split before each
-/// that the filters of the range's segments call a beginning.
-pub fn groups_agree()
-    ensures { GroupsAgree }
 {}
 
 /// The table of a range's partial has the connections that filtering the range's segments gives, as many unopened segments and

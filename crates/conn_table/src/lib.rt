@@ -12,7 +12,6 @@ mod lasts;
 pub mod laws;
 mod pair_keys;
 mod partial;
-mod rows;
 mod table;
 
 pub use class_counts::Counts;

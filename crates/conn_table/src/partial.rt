@@ -6,9 +6,8 @@ use pcap_records::{Capture, Moment};
 use std::alloc::{AllocError, Global};
 use std::marker::Model;
 
-/// What is known of a range of records: how many of its packets are of each class, and its segments. Contracts see each segment
-/// with the mark whether it begins a connection as read on the range alone. The partials of adjacent ranges are joined by
-/// [`Partial::join`].
+/// What is known of a range of records: how many of its packets are of each class, and its segments. The partials of adjacent
+/// ranges are joined by [`Partial::join`].
 #[derive(Drop)]
 pub struct Partial {
     pub(crate) from: usize,
@@ -23,16 +22,17 @@ impl Model for Partial {
 
     ghost Value = { PartialView };
 
-    ghost use Rattle.conn_table.specs.Entries.{IsPartial, all_of, marks_of};
+    ghost use Rattle.std.specs.Prelude.{map};
+    ghost use Rattle.conn_table.specs.Entries.{IsPartial, all_of, kept_by};
 
-    ghost view = { λ p. record { from = p.from; to = p.to; counts = p.counts; marked = marks_of (all_of p.ranges.items) } };
+    ghost view = { λ p. record { from = p.from; to = p.to; counts = p.counts; segments = map kept_by (all_of p.ranges.items) } };
 
     ghost invariant = { λ p. IsPartial p.from p.to p.counts (all_of p.ranges.items) };
 }
 
 impl Partial {
     ghost use Rattle.std.specs.Prelude.{◌≡◌, ◌≤◌, length, IfOk};
-    ghost use Rattle.conn_table.specs.Partials.{partial_in, joined};
+    ghost use Rattle.conn_table.specs.Partials.{partial_in, joined_partial};
 
     /// The partial of the records from `from` to below `to`, each packet of which is classified once. `carry` is the greatest
     /// stamp before `from`, or the least instant where there is none.
@@ -80,7 +80,7 @@ impl Partial {
     /// A growth was refused.
     pub fn join(left: Partial, right: Partial) -> Result<Partial, AllocError>
         requires { left.to ≡ right.from }
-        ensures exact { IfOk result (λ partial. partial ≡ joined left right) }
+        ensures exact { IfOk result (λ partial. partial ≡ joined_partial left right) }
         ensures from { IfOk result (λ partial. partial.from ≡ left.from) }
         ensures to { IfOk result (λ partial. partial.to ≡ right.to) }
     {

@@ -50,8 +50,8 @@ impl Table {
     }
 }
 
-/// The table of a partial, which covers all records of the capture: each segment that is marked begins a connection, and the
-/// others belong to the last one of their pair, or to none.
+/// The table of a partial, which covers all records of the capture: an opening that is not sent again begins a connection, and any
+/// other segment belongs to the last one of its pair, or to none.
 ///
 /// # Errors
 /// A growth was refused.
@@ -60,8 +60,10 @@ pub fn finish(alloc: Global, partial: Partial) -> Result<Table, AllocError>
 {
     let ranges = &partial.ranges;
     let mut growth = Growth::of_none(alloc, ranges)?;
-    for range in 0..ranges.len() {
-        growth.take_range(alloc, ranges, range)?;
+    for range in ranges {
+        for entry in range {
+            growth.take(alloc, entry)?;
+        }
     }
     let Growth {
         conns,

@@ -3,6 +3,7 @@ use Rattle.std.proofs.Common.{◌≡◌, ◌<◌, ℕ, ◌+◌, ◌*◌, ◌/◌
 use Rattle.std.specs.List.{enumerate_from}
 use Rattle.std.proofs.lemmas.Nat.{div_below}
 use Rattle.std.proofs.lemmas.List.{length-map}
+use Rattle.std.proofs.lemmas.Simd.{map-map}
 use Rattle.std.proofs.lemmas.List.FromFn.{length-enumerate_from, get_or-enumerate_from}
 use Rattle.pcap_records.specs.CaptureView.{CaptureView, contents_of}
 use Rattle.conn_table.specs.SeenCapture.{seen_capture}
@@ -16,7 +17,7 @@ use Rattle.conn_workers.specs.DeliveryLaws.{LinesAreContributed, RowsAreContribu
 use Rattle.conn_workers.specs.DeliveryRows.{connections_of, delivery_of, deliveries}
 use Rattle.conn_workers.specs.CaptureTables.{whole_table, whole_connections}
 use Rattle.conn_workers.specs.Recordings.{RecordingView, recording_in, recordings_of, recorded_delivery, recorded_deliveries, recorded_row, recorded_lines}
-use Rattle.conn_workers.proofs.RowLemmas.{length-rows, some_columns, at_place, rows_alike}
+use Rattle.conn_workers.proofs.RowLemmas.{length-rows, some_columns, at_place, row_alike, rows_alike}
 use Rattle.conn_workers.proofs.TableConnections.{connections_are, conns_are}
 
 -- of the table's connection and what is recorded of it, or of the connection
@@ -31,24 +32,15 @@ deliveries_are agree seed c scenarios =
     rows_alike (recorded_delivery seed) (delivery_of c.ticks seed) (recording_in c) without_indices (delivery_is seed c) (enumerate_from 0 scenarios) (whole_connections c)
     ∙ ap (λ conns. deliveries c.ticks seed conns scenarios) (connections_are agree c)
 
-row_alike : (seed : ℕ) (c : CaptureView) (s : ℕ × List Proxy) (xs : List IndexedConnection)
-    → recorded_row seed s (map (recording_in c) xs) ≡ map (delivery_of c.ticks seed s) (map without_indices xs)
-row_alike seed c s [] = refl
-row_alike seed c s (x ∷ xs) = ap₂ (λ (d : Delivery) (ds : List Delivery). d ∷ ds) (delivery_is seed c s x) (row_alike seed c s xs)
-
 pub rows_are_contributed : IndexedConnectionsAgree → RowsAreContributed
 rows_are_contributed agree seed c s =
-    row_alike seed c s (whole_connections c) ∙ ap (λ (cs : List Connection). map (delivery_of c.ticks seed s) cs) (connections_are agree c)
-
-lines_alike : (seed : ℕ) (c : CaptureView) (s : ℕ × List Proxy) (xs : List IndexedConnection)
-    → recorded_lines seed s (map (recording_in c) xs) ≡ map (λ (p : Contribution). p.line) (map (contribution_of c.ticks seed s) (map without_indices xs))
-lines_alike seed c s [] = refl
-lines_alike seed c s (x ∷ xs) = ap₂ (λ (l : List ℕ) (ls : List (List ℕ)). l ∷ ls) (ap (λ (d : Delivery). d.line) (delivery_is seed c s x)) (lines_alike seed c s xs)
+    row_alike (recorded_delivery seed) (delivery_of c.ticks seed) (recording_in c) without_indices (delivery_is seed c) s (whole_connections c)
+    ∙ ap (λ (cs : List Connection). map (delivery_of c.ticks seed s) cs) (connections_are agree c)
 
 pub lines_are_contributed : IndexedConnectionsAgree → LinesAreContributed
 lines_are_contributed agree seed c s =
-    lines_alike seed c s (whole_connections c)
-    ∙ ap (λ (cs : List Connection). map (λ (p : Contribution). p.line) (map (contribution_of c.ticks seed s) cs)) (connections_are agree c)
+    row_alike (λ t r. (recorded_delivery seed t r).line) (λ t x. (contribution_of c.ticks seed t x).line) (recording_in c) without_indices (λ t x. ap (λ (d : Delivery). d.line) (delivery_is seed c t x)) s (whole_connections c)
+    ∙ ap (λ (cs : List Connection). map (λ x. (contribution_of c.ticks seed s x).line) cs) (connections_are agree c) ∙ sym (map-map (λ (p : Contribution). p.line) (contribution_of c.ticks seed s) (connections_of (seen_capture (contents_of c))))
 
 -- ---- by jobs
 

@@ -2,7 +2,7 @@
 use Rattle.std.proofs.Common.{◌≡◌, ℕ, suc, ◌+◌, Bool, true, false, List, [], ◌∷◌, map, find, Option, Some, None, option_map, refl, sym, ap, ◌∙◌, arith}
 use Rattle.std.specs.List.{AllByRecursion, enumerate_from, flat_map, slice_get}
 use Rattle.pcap_records.specs.CaptureView.{CaptureView, contents_of}
-use Rattle.pcap_records.proofs.Lists.{all_append, all_found}
+use Rattle.lists.proofs.Lists.{all_append, all_found}
 use Rattle.frame_headers.specs.declared.peers.Peer.{Peer}
 use Rattle.conn_table.specs.SeenCapture.{seen_capture}
 use Rattle.conn_table.specs.IndexedSegments.{indexed_segments}

@@ -3,7 +3,7 @@ use Rattle.std.proofs.Common.{ℕ, List, [], ◌∷◌, map, length, Some, sym, 
 use Rattle.std.specs.List.{AllByRecursion}
 use Rattle.pcap_records.specs.Instants.{horizon}
 use Rattle.pcap_records.specs.CaptureView.{CaptureView, IsSoundCapture}
-use Rattle.pcap_records.proofs.Lists.{all_weaker, all_map}
+use Rattle.lists.proofs.Lists.{all_weaker, all_map}
 use Rattle.conn_table.specs.Connections.{Connection, connections}
 use Rattle.conn_table.specs.IndexedConnections.{without_indices, IndexedConnectionsAgree}
 use Rattle.reassembly.specs.Positions.{members_of, client_of, server_of, client_base, server_base}

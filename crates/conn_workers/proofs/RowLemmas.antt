@@ -54,7 +54,7 @@ module _ {R C V : Type 0} (f : R → C → V) where
 
 -- two layouts of lists that are mapped from one list
 module _ {R C D E V : Type 0} (f : R → C → V) (g : R → D → V) (a : E → C) (b : E → D) (alike : (r : R) (x : E) → f r (a x) ≡ g r (b x)) where
-  row_alike : (r : R) (xs : List E) → map (f r) (map a xs) ≡ map (g r) (map b xs)
+  pub row_alike : (r : R) (xs : List E) → map (f r) (map a xs) ≡ map (g r) (map b xs)
   row_alike r [] = refl
   row_alike r (x ∷ xs) = rw (alike r x, row_alike r xs) refl
 

@@ -4,13 +4,13 @@ use Rattle.std.specs.List.{AllByRecursion, enumerate_from, filter_map, cons_opti
 use Rattle.std.proofs.lemmas.List.{length-map, take_all, get_or-map, get_or_default}
 use Rattle.std.proofs.lemmas.List.Sums.{count_by-le-length, length-filter}
 use Rattle.std.proofs.lemmas.List.FromFn.{length-enumerate_from}
-use Rattle.pcap_records.proofs.Lists.{all_at}
+use Rattle.lists.proofs.Lists.{all_at}
 use Rattle.pcap_records.specs.Reading.{Packet}
 use Rattle.pcap_records.specs.CaptureView.{CaptureView, contents_of, packet_of}
 use Rattle.conn_table.specs.declared.conns.Conn.{Conn}
 use Rattle.conn_table.specs.SeenCapture.{SeenPacket, seen_packets, seen_capture}
 use Rattle.conn_table.specs.IndexedSegments.{IndexedSegment, indexed_segment, indexed_segments}
-use Rattle.conn_table.specs.Connections.{connections, beginnings, begins}
+use Rattle.conn_table.specs.Connections.{connections, beginnings, begins_in}
 use Rattle.conn_table.specs.IndexedConnections.{indexed_connections, indexed_connection_of, without_indices, IndexedConnectionsAgree}
 use Rattle.conn_table.specs.Partials.{packets_between, segments_between}
 use Rattle.conn_table.specs.Tables.{table_in, conn_in}
@@ -59,8 +59,8 @@ few_beginnings segs =
       arith,
       length-map (enumerate_from 0 (beginnings segs)) (indexed_connection_of segs),
       length-enumerate_from 0 (beginnings segs),
-      length-filter (begins segs) segs,
-      count_by-le-length (begins segs) segs,
+      length-filter (begins_in segs) segs,
+      count_by-le-length (begins_in segs) segs,
     )
 
 pub few_connections : (c : CaptureView) → length (whole_connections c) ≤ length c.records

@@ -8,7 +8,7 @@ use Rattle.scenarios.specs.declared.proxies.Proxy.{Proxy}
 use Rattle.conn_workers.specs.declared.deliveries.Delivery.{Delivery}
 use Rattle.conn_workers.specs.Contributions.{Contribution, contribution_of}
 
--- the greatest number of scenarios of a delivery
+-- the most scenarios of a rehearsal
 abbrev pub scenario_limit : ℕ
 scenario_limit = 256
 

@@ -8,7 +8,7 @@ use Rattle.std.proofs.lemmas.List.{length-replicate, get_or-replicate, map-appen
 use Rattle.std.proofs.lemmas.List.FromFn.{fill_by_all}
 use mathlib.Core.Logic.{dite}
 use native.Mathlib.Decide.{ℕ_discrete}
-use Rattle.pcap_records.proofs.Lists.{listed, slice_get-set_same, slice_get-set_other}
+use Rattle.lists.proofs.Lists.{listed, slice_get-set_same, slice_get-set_other}
 use Rattle.job_matrix.specs.Counting.{times, CountsBelow}
 use Rattle.job_matrix.specs.declared.trays.PutFault.{PutFault}
 use Rattle.job_matrix.specs.declared.trays.PutFault.TheVariants.{Stranger, Twice}

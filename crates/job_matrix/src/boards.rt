@@ -15,7 +15,7 @@ const PASS_LIMIT: u64 = 1 << 16;
 /// Why no pass is made.
 #[derive(Clone, Copy, Debug, PartialEq, Eq, Drop, Error)]
 pub enum SplitFault {
-    /// The chief has made 65,536 passes already (50).
+    /// The chief has made 65,536 passes already.
     #[error("65536 passes were made already")]
     TooManyPasses,
 }
@@ -135,7 +135,7 @@ impl Board {
     ///
     /// # Errors
     ///
-    /// The board and the chief as they were, exactly where passes are out (51). A pass that was dropped is out for
+    /// The board and the chief as they were, exactly where passes are out. A pass that was dropped is out for
     /// good.
     pub fn close(self, chief: Chief) -> Result<u64, (Board, Chief)>
         requires { chief.board ≡ self }

@@ -11,7 +11,7 @@ mod workers;
 mod works;
 
 pub use boards::{Board, Chief, Pass, SplitFault};
-pub use pcap_records::Values;
+pub use lists::Values;
 pub use plans::Plan;
 pub use trays::{PutFault, Tray};
 pub use workers::{work_all, work_alone};

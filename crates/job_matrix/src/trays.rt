@@ -2,7 +2,7 @@
 ghost use Rattle.std.specs.Prelude.{◌≡◌, ◌<◌, ℕ, length, map, replicate, Some, None, IfOk, IfErr, IfSome, IfNone, OnOk};
 ghost use Rattle.job_matrix.specs.Trays.{IsFree, Has, IsRefused, put_one};
 
-use pcap_records::Values;
+use lists::Values;
 use std::alloc::{AllocError, Global};
 use std::marker::Model;
 use thiserror::Error;
@@ -10,10 +10,10 @@ use thiserror::Error;
 /// Why a tray does not take a value, which is handed back.
 #[derive(Debug, Drop, Error)]
 pub enum PutFault<V> {
-    /// The tray has no slot for this job (52).
+    /// The tray has no slot for this job.
     #[error("the tray has no place for this job")]
     Stranger(V),
-    /// The job's slot has a value already (53).
+    /// The job's slot has a value already.
     #[error("the job's place has a value already")]
     Twice(V),
 }
@@ -87,7 +87,7 @@ impl<V: Drop> Tray<V> {
     ///
     /// # Errors
     ///
-    /// The tray as it was and the least job whose value is missing (54).
+    /// The tray as it was and the least job whose value is missing.
     pub fn finish(self) -> Result<Values<V>, (Tray<V>, u64)>
         ensures ok { IfOk result (λ v. map Some v ≡ self) }
         ensures err { IfErr result (λ r.

@@ -9,7 +9,7 @@ ghost use Rattle.job_matrix.specs.Trays.{jobs_in, AreDone, put_each};
 use crate::boards::{Board, Chief, Pass};
 use crate::trays::Tray;
 use crate::works::{Gate, Phase, Work};
-use pcap_records::Values;
+use lists::Values;
 use std::alloc::{AllocError, Global};
 use std::thread::{Threads, join};
 

@@ -19,7 +19,7 @@ use Rattle.run_files.specs.declared.error.RunFault.TheVariants.{TooManyScenarios
 use Rattle.run_files.specs.declared.outputs.Output.{Output}
 use Rattle.scenarios.specs.declared.proxies.Proxy.{Proxy}
 use Rattle.conn_workers.specs.Contributions.{Contribution, contribution_of}
-use Rattle.toxicap.specs.Rehearsal.{contributions, output, outputs_of, scenario_limit, seen_file, answer_to, answer}
+use Rattle.toxicap.specs.Rehearsal.{contributions, scenario_output, outputs_of, scenario_limit, seen_file, answer_to, answer}
 use Rattle.old_answers.specs.WritingBefore.{file_header_before}
 use Rattle.old_answers.specs.ConnectionsBefore.{seen_capture_before, connections_before, unopened_count_before}
 use Rattle.old_answers.specs.AnswersBefore.{contribution_of_before, contributions_before, capture_of_before, output_before, outputs_of_before, seen_file_before, answer_to_before, answer_before}
@@ -60,8 +60,8 @@ contributions_kept c old seed s =
     each [] none = refl
     each (x ∷ xs) none = ap₂ (λ y ys. y ∷ ys) (contribution_is_kept c.ticks seed s x none.0) (each xs none.1)
 
-output_kept : (c : SeenCapture) → IsOld c → (seed : ℕ) (s : ℕ × List Proxy) → output c seed s ≡ output_before c seed s
-unfolding output output_before
+output_kept : (c : SeenCapture) → IsOld c → (seed : ℕ) (s : ℕ × List Proxy) → scenario_output c seed s ≡ output_before c seed s
+unfolding scenario_output output_before
 output_kept c old seed s =
     ap₂ (λ (parts : List Contribution) (unopened : ℕ). made (capture_of c.ticks (flat_map (λ p. p.segments) parts)) (report_text s.0 c unopened (map (λ p. p.line) parts)))
     (contributions_kept c old seed s) (unopened_kept (indexed_segments 0 c.packets) old.none)
@@ -71,7 +71,7 @@ output_kept c old seed s =
     made : List ℕ → List ℕ → Output
     made capture report = record { capture = capture; report = report }
 
-each_kept : (c : SeenCapture) → IsOld c → (seed : ℕ) (ss : List (ℕ × List Proxy)) → map (output c seed) ss ≡ map (output_before c seed) ss
+each_kept : (c : SeenCapture) → IsOld c → (seed : ℕ) (ss : List (ℕ × List Proxy)) → map (scenario_output c seed) ss ≡ map (output_before c seed) ss
 each_kept c old seed [] = refl
 each_kept c old seed (s ∷ ss) = ap₂ (λ o os. o ∷ os) (output_kept c old seed s) (each_kept c old seed ss)
 

@@ -3,7 +3,7 @@ use Rattle.std.proofs.Common.{◌≡◌, ℕ, ◌+◌, Bool, cond, ◌&&◌, not
 use Rattle.std.specs.List.{AllByRecursion, enumerate_from}
 use Rattle.std.proofs.lemmas.List.Elements.{All-from_recursion, recursion_from_All, All-filter}
 use Rattle.conn_table.specs.IndexedSegments.{IndexedSegment, same_vlan}
-use Rattle.conn_table.specs.Connections.{last_of, is_opening, of_one_pair, repeats, openings_before, begins, beginnings, beginning_of, is_at, later_members, Connection, connection_of, connections, is_unopened, unopened_count}
+use Rattle.conn_table.specs.Connections.{last_of, is_opening, of_one_pair, repeats, openings_before, begins_in, beginnings, beginning_of, is_at, later_members, Connection, connection_of, connections, is_unopened, unopened_count}
 use Rattle.reassembly.specs.Positions.{vlan_of}
 use Rattle.old_answers.specs.ConnectionsBefore.{of_one_pair_before, openings_before_before, begins_before, beginnings_before, beginning_of_before, later_members_before, connection_of_before, connections_before, is_unopened_before, unopened_count_before}
 use Rattle.old_answers.proofs.FramesKept.{HasNoVlan}
@@ -23,13 +23,13 @@ openings_kept segs s none s_has_none =
     keeps_same (λ x. is_opening x && of_one_pair s x && nat_lt x.index s.index) (λ x. is_opening x && of_one_pair_before s x && nat_lt x.index s.index)
     (λ x x_has_none. ap (λ (paired : Bool). is_opening x && paired && nat_lt x.index s.index) (one_pair_kept s x s_has_none x_has_none)) segs none
 
-begins_kept : (segs : List IndexedSegment) (s : IndexedSegment) → AllByRecursion HasNoVlan segs → HasNoVlan s → begins segs s ≡ begins_before segs s
+begins_kept : (segs : List IndexedSegment) (s : IndexedSegment) → AllByRecursion HasNoVlan segs → HasNoVlan s → begins_in segs s ≡ begins_before segs s
 begins_kept segs s none s_has_none =
     ap (λ (openings : List IndexedSegment). is_opening s && not (repeats (last_of openings) s)) (openings_kept segs s none s_has_none)
 
 beginnings_kept : (segs : List IndexedSegment) → AllByRecursion HasNoVlan segs → beginnings segs ≡ beginnings_before segs
 unfolding beginnings beginnings_before
-beginnings_kept segs none = keeps_same (begins segs) (begins_before segs) (λ s s_has_none. begins_kept segs s none s_has_none) segs none
+beginnings_kept segs none = keeps_same (begins_in segs) (begins_before segs) (λ s s_has_none. begins_kept segs s none s_has_none) segs none
 
 beginnings_have_none : (segs : List IndexedSegment) → AllByRecursion HasNoVlan segs → AllByRecursion HasNoVlan (beginnings_before segs)
 unfolding beginnings_before

@@ -67,11 +67,6 @@ extended_last bytes_of blocks last new bytes n count some is extended =
     map-set bytes_of blocks (n - 1) new
     ∙ rw (extended, is, count, length-map blocks bytes_of, get_or-map bytes_of blocks (length blocks - 1) last [] (omega arith)) refl
 
-pub extended_none : {A : Type 0} (bytes_of : A → List ℕ) (blocks : List A) (bytes : List ℕ)
-    → length blocks ≡ 0 → map bytes_of blocks ≡ with_last_extended (map bytes_of blocks) bytes
-extended_none bytes_of [] bytes none = refl
-extended_none bytes_of (block ∷ blocks) bytes none = absurd (omega arith)
-
 -- ---- past the last block
 
 pub none_after : (text : List ℕ) (start len : ℕ) → length text ≤ start → [] ≡ take len (drop start text)

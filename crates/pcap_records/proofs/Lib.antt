@@ -1,4 +1,3 @@
-pub mod Lists
 mod FileBlocks
 mod FileHeaders
 mod Passes

@@ -8,7 +8,7 @@ use Rattle.pcap_records.specs.Instants.{horizon}
 use Rattle.pcap_records.specs.Listed.{IsRecordAt}
 use Rattle.pcap_records.specs.declared.fault.CaptureFault.{CaptureFault}
 use Rattle.pcap_records.specs.declared.fault.CaptureFault.TheVariants.{RecordTooLong}
-use Rattle.pcap_records.specs.Agreement.{Refuses}
+use Rattle.lists.specs.Agreement.{Refuses}
 
 -- ---- from one record to the next
 

@@ -1,12 +1,11 @@
 -- The greatest stamp so far, one stamp at a time.
 use Rattle.std.proofs.Common.{◌≡◌, ◌≤◌, ◌<◌, ℕ, zero, suc, get_or, ◌+◌, ◌-◌, max, List, [], ◌∷◌, ◌++◌, length, map, take, drop, refl, sym, ap, ◌∙◌, arith}
 use Rattle.std.specs.List.{slice_range}
-use Rattle.std.proofs.lemmas.List.FromFn.{length-map-range_with_len}
 use Rattle.std.proofs.lemmas.List.{append-nil, append_assoc, take-map, drop-map, drop_more, drop_all}
 use Rattle.pcap_records.specs.declared.capture.Record.{Record}
 use Rattle.pcap_records.specs.CaptureView.{packet_of}
 use Rattle.pcap_records.specs.Instants.{greatest, greatest_so_far, instants, CarriedIsWhole}
-use Rattle.pcap_records.proofs.Lists.{map_next}
+use Rattle.lists.proofs.Lists.{map_next}
 
 next_greatest : (carry s : ℕ) (stamps : List ℕ) (i : ℕ) → greatest_so_far carry (s ∷ stamps) (i + 1) ≡ greatest_so_far (max carry s) stamps i
 next_greatest carry s stamps i =
@@ -83,7 +82,3 @@ pub carried_is_whole : CarriedIsWhole
 carried_is_whole stamps from to ordered within =
     let none : max 0 (greatest (take from stamps)) ≡ greatest (take from stamps) = omega arith in
     rw (instants-drop 0 from stamps, none, instants-take (greatest (take from stamps)) (to - from) (drop from stamps)) refl
-
-pub length-instants : (carry : ℕ) (stamps : List ℕ) → length (instants carry stamps) ≡ length stamps
-unfolding instants
-length-instants carry stamps = length-map-range_with_len (greatest_so_far carry stamps) 0 (length stamps)

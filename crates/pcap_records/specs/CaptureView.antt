@@ -61,11 +61,11 @@ pub record IsSoundCapture (ticks : ℕ) (bytes : List ℕ) (records : List Recor
   pub few : length records < 2 ^ 26
 
 -- what a fault of reading refuses
-abbrev pub refusal : CaptureFault → Option CaptureFault
-refusal (Memory e) = None
-refusal CaptureTooLong = Some CaptureTooLong
-refusal ShortHeader = Some ShortHeader
-refusal BadMagic = Some BadMagic
-refusal BadVersion = Some BadVersion
-refusal BadLink = Some BadLink
-refusal (RecordTooLong k) = Some (RecordTooLong k)
+abbrev pub capture_refusal : CaptureFault → Option CaptureFault
+capture_refusal (Memory e) = None
+capture_refusal CaptureTooLong = Some CaptureTooLong
+capture_refusal ShortHeader = Some ShortHeader
+capture_refusal BadMagic = Some BadMagic
+capture_refusal BadVersion = Some BadVersion
+capture_refusal BadLink = Some BadLink
+capture_refusal (RecordTooLong k) = Some (RecordTooLong k)

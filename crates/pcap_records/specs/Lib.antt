@@ -1,7 +1,6 @@
 pub mod Instants
 pub mod Reading
 pub mod Grammar
-pub mod Agreement
 pub mod Blocks
 pub mod CaptureView
 pub mod Listed

@@ -1,9 +1,9 @@
 //! The file header: the order of the bytes in a file's fields, and the unit of its stamps.
 ghost use Rattle.std.specs.Prelude.{◌≡◌, ◌≤◌, length, option_map, OnOk};
 ghost use Rattle.pcap_records.specs.Reading.{capture_limit, checked_heading, file_header_len, file_heading, heading_by, magic_heading, number_in};
-ghost use Rattle.pcap_records.specs.CaptureView.{bytes_of, heading_of, refusal};
+ghost use Rattle.pcap_records.specs.CaptureView.{bytes_of, heading_of, capture_refusal};
 ghost use Rattle.pcap_records.specs.Instants.{ticks_of};
-ghost use Rattle.pcap_records.specs.Agreement.{AgreesWithoutMemory};
+ghost use Rattle.lists.specs.Agreement.{AgreesWithoutMemory};
 
 use crate::fault::CaptureFault;
 use crate::file_bytes::FileBytes;
@@ -91,7 +91,7 @@ fn told_by(magic: u32, unit: Unit, bytes: &[u8]) -> Option<Heading>
 // What a file's magic number tells, or the first fault of its length and header.
 #[tactic(auto, unfolding(crate::specs::Reading::file_heading))]
 pub(crate) fn read_heading(bytes: FileBytes<'_>) -> Result<Heading, CaptureFault>
-    ensures exact { AgreesWithoutMemory refusal heading_of result (file_heading (bytes_of bytes.entry)) }
+    ensures exact { AgreesWithoutMemory capture_refusal heading_of result (file_heading (bytes_of bytes.entry)) }
     ensures whole { OnOk result (file_header_len ≤ length (bytes_of bytes.entry)) }
     ensures limited { OnOk result (length (bytes_of bytes.entry) ≤ capture_limit) }
 {
@@ -107,7 +107,7 @@ pub(crate) fn read_heading(bytes: FileBytes<'_>) -> Result<Heading, CaptureFault
 // What a file header tells, or its first fault.
 fn heading_in(header: &[u8]) -> Result<Heading, CaptureFault>
     requires { file_header_len ≤ length header.now }
-    ensures { AgreesWithoutMemory refusal heading_of result (checked_heading (magic_heading header.now) header.now) }
+    ensures { AgreesWithoutMemory capture_refusal heading_of result (checked_heading (magic_heading header.now) header.now) }
 {
     let Some(heading) = told(header) else {
         return Err(CaptureFault::BadMagic);

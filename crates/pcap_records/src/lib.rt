@@ -13,7 +13,6 @@ pub mod laws;
 mod moment;
 mod reader;
 mod unit;
-mod values;
 mod writing;
 
 pub use blocks::{BLOCK_LEN, Blocks, SLICE_LIMIT};
@@ -21,8 +20,8 @@ pub use capture::{Capture, Record};
 pub use fault::CaptureFault;
 pub use file_bytes::FileBytes;
 pub use heading::{CAPTURE_LIMIT, FILE_HEADER_LEN, Order};
+pub use lists::Values;
 pub use moment::Moment;
 pub use reader::{PACKET_LIMIT, RECORD_HEADER_LEN, read_capture, read_file};
 pub use unit::Unit;
-pub use values::Values;
 pub use writing::{record_header_bytes, write_header, write_record};

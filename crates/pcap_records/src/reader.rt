@@ -1,8 +1,8 @@
 //! Reading a whole file in one pass, record after record.
 ghost use Rattle.std.specs.Prelude.{◌≡◌, ◌≤◌, ◌<◌, ◌*◌, length, drop, IfOk};
 ghost use Rattle.pcap_records.specs.Reading.{reading, capture_limit, file_header_len, record_header_len, records_after, stamp_of};
-ghost use Rattle.pcap_records.specs.Agreement.{Agrees, Refuses};
-ghost use Rattle.pcap_records.specs.CaptureView.{bytes_of, heading_of, reading_of, refusal, IsSoundCapture};
+ghost use Rattle.lists.specs.Agreement.{Agrees, Refuses};
+ghost use Rattle.pcap_records.specs.CaptureView.{bytes_of, heading_of, reading_of, capture_refusal, IsSoundCapture};
 ghost use Rattle.pcap_records.specs.Instants.{ticks_of};
 ghost use Rattle.pcap_records.specs.Listed.{listed_contents, IsFoundAt};
 
@@ -33,7 +33,7 @@ pub(crate) struct RecordList {
 /// The first fault of the file, in the order of [`CaptureFault`]; else `Memory`, where a growth was refused. So a fault
 /// of the file is told even where memory is scarce.
 pub fn read_capture<'a>(alloc: Global, bytes: &'a [u8]) -> Result<Capture<'a>, CaptureFault>
-    ensures exact { Agrees refusal reading_of result (reading bytes.now) }
+    ensures exact { Agrees capture_refusal reading_of result (reading bytes.now) }
     ensures of { IfOk result (λ capture. capture.bytes ≡ bytes.now) }
 {
     read_file(alloc, FileBytes::Whole(bytes))
@@ -44,7 +44,7 @@ pub fn read_capture<'a>(alloc: Global, bytes: &'a [u8]) -> Result<Capture<'a>, C
 /// # Errors
 /// Those of [`read_capture`].
 pub fn read_file<'a>(alloc: Global, bytes: FileBytes<'a>) -> Result<Capture<'a>, CaptureFault>
-    ensures exact { Agrees refusal reading_of result (reading (bytes_of bytes.entry)) }
+    ensures exact { Agrees capture_refusal reading_of result (reading (bytes_of bytes.entry)) }
     ensures of { IfOk result (λ capture. capture.bytes ≡ bytes_of bytes.entry) }
 {
     let heading = read_heading(bytes)?;
@@ -60,7 +60,7 @@ fn list_records(
 ) -> Result<RecordList, CaptureFault>
     requires header { file_header_len ≤ length (bytes_of bytes) }
     requires limited { length (bytes_of bytes) ≤ capture_limit }
-    ensures exact { Agrees refusal (listed_contents (ticks_of heading.unit) (bytes_of bytes.entry)) result
+    ensures exact { Agrees capture_refusal (listed_contents (ticks_of heading.unit) (bytes_of bytes.entry)) result
         (records_after 0 (heading_of heading) 0 (drop file_header_len (bytes_of bytes.entry))) }
     ensures sound { IfOk result (λ list. IsSoundCapture (ticks_of heading.unit) (bytes_of bytes.entry) list.records.items) }
 {
@@ -93,7 +93,7 @@ fn fault_after(heading: Heading, bytes: FileBytes<'_>, at: usize, count: u32) ->
     requires inside { at ≤ length (bytes_of bytes) }
     requires limited { length (bytes_of bytes) ≤ capture_limit }
     requires header_each { record_header_len * count ≤ at }
-    ensures { Refuses (refusal result) (records_after 0 (heading_of heading) count (drop at (bytes_of bytes.entry))) }
+    ensures { Refuses (capture_refusal result) (records_after 0 (heading_of heading) count (drop at (bytes_of bytes.entry))) }
 {
     let mut at = at;
     let mut count = count;

@@ -26,14 +26,6 @@ one_more c cut from to rs more r stand is at within all rest behind =
     subst (AreRanges c cut 0) (sym e)
     (stand (r ∷ rest) (range_before c cut from r rest (is ∙ ap (range_in c from) at) (omega (arith, at, within)) (subst (λ n. AreRanges c cut n rest) at behind)))
 
--- the last of them
-pub last_more : (c : CaptureView) (cut from to : ℕ) (rs more : List Range) (r : Range)
-    → ((rest : List Range) → AreRanges c cut from rest → AreRanges c cut 0 (rs ++ rest))
-    → r ≡ range_in c from to → to ≡ length c.records → from ≤ to → to ≤ from + cut → more ≡ rs ++ r ∷ []
-    → AreRanges c cut 0 more
-last_more c cut from to rs more r stand is at start end all =
-    subst (AreRanges c cut 0) (sym all) (stand (r ∷ []) (is ∙ ap (range_in c from) at, omega (arith, at, start), omega (arith, at, end)))
-
 -- each range is within the records
 pub are_within : (c : CaptureView) (cut from : ℕ) (rs : List Range) → AreRanges c cut from rs → AreWithin c rs
 are_within c cut from [] none = absurd none

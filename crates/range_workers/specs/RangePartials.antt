@@ -2,7 +2,7 @@
 use Rattle.std.specs.Prelude.{◌≡◌, ℕ, List, [], ◌∷◌, map}
 use Rattle.pcap_records.specs.CaptureView.{CaptureView}
 use Rattle.conn_table.specs.ClassCounts.{counts_of}
-use Rattle.conn_table.specs.Partials.{PartialView, partial_in, joined}
+use Rattle.conn_table.specs.Partials.{PartialView, partial_in, joined_partial}
 use Rattle.range_workers.specs.declared.ranges.Range.{Range}
 
 abbrev pub partial_of : CaptureView → Range → PartialView
@@ -13,7 +13,7 @@ partials_of c rs = map (partial_of c) rs
 
 -- what stands past the last of them
 abbrev pub no_partial : PartialView
-no_partial = record { from = 0; to = 0; counts = counts_of []; marked = [] }
+no_partial = record { from = 0; to = 0; counts = counts_of []; segments = [] }
 
 -- each begins where the one before it ends, and the first at a record
 abbrev pub AreAdjacentFrom : ℕ → List PartialView → Type 0
@@ -28,7 +28,7 @@ AreAdjacent (p ∷ ps) = AreAdjacentFrom p.to ps
 -- others joined to one in turn
 abbrev pub joined_to : PartialView → List PartialView → PartialView
 joined_to p [] = p
-joined_to p (q ∷ qs) = joined_to (joined p q) qs
+joined_to p (q ∷ qs) = joined_to (joined_partial p q) qs
 
 -- all of them together
 abbrev pub joined_all : List PartialView → PartialView

@@ -1,5 +1,5 @@
 -- What the members of a connection make is what its segments make.
-use Rattle.std.proofs.Common.{◌≡◌, ℕ, not, ◌&&◌, Bool, true, false, List, [], ◌∷◌, map, filter, Option, Some, None, option_map, refl, sym, ap, ◌∙◌, subst}
+use Rattle.std.proofs.Common.{◌≡◌, arith, ℕ, not, ◌&&◌, Bool, true, false, List, ◌∷◌, map, filter, Option, Some, None, option_map, refl, sym, ap, ◌∙◌, subst}
 use Rattle.std.specs.List.{AllByRecursion, All, take_while, find}
 use Rattle.std.proofs.lemmas.List.Elements.{All-from_recursion}
 use Rattle.pcap_records.specs.CaptureView.{CaptureView, IsSoundCapture}
@@ -9,24 +9,24 @@ use Rattle.frame_headers.specs.Flags.{has_flag, syn_flag, ack_flag}
 use Rattle.frame_headers.specs.Frame.{segment_fields}
 use Rattle.conn_table.specs.KeptSegments.{frame_at}
 use Rattle.conn_table.specs.IndexedSegments.{TimedSegment, IndexedSegment, same_peer}
-use Rattle.conn_table.specs.Connections.{of_one_pair}
+use Rattle.conn_table.specs.Connections.{Connection, of_one_pair}
 use Rattle.conn_table.specs.IndexedConnections.{IndexedConnection, without_indices}
 use Rattle.conn_table.specs.Tables.{member_in, conn_in}
 use Rattle.conn_table.specs.declared.conns.Member.{Member}
 use Rattle.conn_table.specs.declared.conns.Conn.{Conn}
 use Rattle.conn_table.proofs.Peers.{one_pair-itself}
-use Rattle.reassembly.specs.Positions.{effective_members, is_reset, is_answer, server_base, shifted_start}
-use Rattle.reassembly.specs.RecordedLines.{End, RecordedSide, RecordedConnection, fin_segment, is_counted_fin, reset_or_live, sent_by, recorded_side, recorded_connection, side_of}
-use Rattle.reassembly.specs.MemberSpans.{IsInFile, span_at, member_span, member_spans, segment_span, own_members, is_of, is_reset_member, is_server_answer, members_before_reset, is_fin_member}
-use Rattle.reassembly.specs.SideLines.{fin_of, segment_fin, IsSideOf}
+use Rattle.reassembly.specs.Positions.{members_of, client_of, server_of, client_base, effective_members, is_reset, is_answer, server_base, shifted_start}
+use Rattle.reassembly.specs.RecordedLines.{RecordedSide, RecordedConnection, is_counted_fin, reset_or_live, sent_by, side_of, recorded_side, recorded_connection}
+use Rattle.reassembly.specs.MemberSpans.{IsInFile, span_at, segment_span, member_span, member_spans, own_members, is_of, is_reset_member, is_server_answer, members_before_reset, is_fin_member}
+use Rattle.reassembly.specs.SideLines.{segment_fin, counted_fin, fin_of, fin_of_members, without_bytes, IsSideOf}
+use Rattle.reassembly.specs.LineLaws.{HasShortPayload, IsLine}
 use Rattle.reassembly.specs.RecordedView.{IsRecorded, IsConnectionOf, IsOfMembers, reset_end, other_end}
 use Rattle.std.proofs.lemmas.Simd.{map-map}
-use Rattle.pcap_records.proofs.Lists.{all_weaker, all_map, all_filter, all_take_while}
-use Rattle.reassembly.proofs.MappedLists.{take_while-map, filter-map, find-map, map_same, filter_same, find_same, and_both}
+use Rattle.lists.proofs.Lists.{all_weaker, all_map, all_filter, all_take_while}
+use Rattle.reassembly.proofs.MappedLists.{take_while-map, filter-map, found_same, map_same, filter_same, and_both}
+use Rattle.reassembly.proofs.Chunks.{recorded_sides_are_lines}
+use Rattle.reassembly.proofs.Joining.{sides_agree}
 use Rattle.reassembly.proofs.RecordedSegments.{IsHeard, heard}
-
-abbrev segments : IndexedConnection → List IndexedSegment
-segments x = x.opening ∷ x.later
 
 abbrev timed : IndexedSegment → TimedSegment
 timed s = s.timed
@@ -69,14 +69,15 @@ module _ (c : CaptureView) (client server : Peer) where
   effective_are : (segs : List IndexedSegment) → effective_members (map timed segs) ≡ map timed (counted segs)
   effective_are segs = take_while-map (λ m. not (is_reset m)) timed segs
 
-  reset_same : (segs : List IndexedSegment) → other_end (map shown segs) ≡ reset_or_live (find is_reset (map timed segs))
-  reset_same segs =
-      ap (λ o. reset_end (option_map (λ (m : Member). m.at) o)) (find-map is_reset_member shown segs) ∙ by_cases (find (λ s. is_reset s.timed) segs)
-      ∙ sym (ap reset_or_live (find-map is_reset timed segs))
+  reset_same : (segs : List IndexedSegment) → AllByRecursion (IsHeard c client server) segs → other_end (map shown segs) ≡ reset_or_live (find is_reset (map timed segs))
+  reset_same segs all =
+      ap reset_end
+      (found_same (λ (m : Member). m.at) is_reset_member shown (λ (m : TimedSegment). m.at) is_reset timed segs (all_weaker (IsHeard c client server) _ (λ s h. (refl, refl)) segs all))
+      ∙ by (find is_reset (map timed segs))
     where
-      by_cases : (o : Option IndexedSegment) → reset_end (option_map (λ (m : Member). m.at) (option_map shown o)) ≡ reset_or_live (option_map timed o)
-      by_cases None = refl
-      by_cases (Some s) = refl
+      by : (o : Option TimedSegment) → reset_end (option_map (λ (m : TimedSegment). m.at) o) ≡ reset_or_live o
+      by None = refl
+      by (Some m) = refl
 
   -- the peer of a side
   abbrev sender : Bool → Peer
@@ -104,51 +105,33 @@ module _ (c : CaptureView) (client server : Peer) where
       ∙ map_same (λ s. segment_span base s.timed) (λ s. member_span base c.bytes (shown s)) segs (all_weaker (IsHeard c client server) (λ s. segment_span base s.timed ≡ member_span base c.bytes (shown s)) (λ s h. ap (λ p. span_at (shifted_start base s.timed) s.timed.at p) (sym h.payload)) segs all)
       ∙ sym (map-map (member_span base c.bytes) shown segs)
 
-  fin_same : (base : ℕ) (segs : List IndexedSegment)
-      → option_map (segment_fin base) (fin_segment base (map timed segs)) ≡ option_map (fin_of base) (find (is_fin_member base) (map shown segs))
-  fin_same base segs =
-      ap (option_map (segment_fin base)) (find-map (is_counted_fin base) timed segs) ∙ by_cases (find (λ s. is_counted_fin base s.timed) segs)
-      ∙ sym (ap (option_map (fin_of base)) (find-map (is_fin_member base) shown segs))
-    where
-      by_cases : (o : Option IndexedSegment) → option_map (segment_fin base) (option_map timed o) ≡ option_map (fin_of base) (option_map shown o)
-      by_cases None = refl
-      by_cases (Some s) = refl
+  fin_same : (base : ℕ) (segs : List IndexedSegment) → AllByRecursion (IsHeard c client server) segs → fin_of_members base (map shown segs) ≡ counted_fin base (map timed segs)
+  fin_same base segs all = found_same (fin_of base) (is_fin_member base) shown (segment_fin base) (is_counted_fin base) timed segs (all_weaker (IsHeard c client server) _ (λ s h. (refl, refl)) segs all)
 
   side_is_recorded : (base : Option ℕ) (up : Bool) (segs : List IndexedSegment) (s : RecordedSide) → AllByRecursion (IsHeard c client server) segs
       → IsSideOf base up c.bytes (members_before_reset (map shown segs)) (other_end (map shown segs)) s → s ≡ recorded_side (map timed segs) (sender up) base
   unfolding recorded_side
-  side_is_recorded None up segs s all is = is ∙ ap (λ (e : End). let r : RecordedSide = record { line = record { bytes = []; end = e }; lost = 0 } in r) (reset_same segs)
+  side_is_recorded None up segs s all is = is ∙ ap without_bytes (reset_same segs all)
   side_is_recorded (Some base) up segs s all is =
       let E : List IndexedSegment = counted segs in
       let all_E = all_take_while (IsHeard c client server) (λ s. not (is_reset s.timed)) segs all in
       let all_F = all_filter (IsHeard c client server) (λ s. same_peer s.timed.fields.from (sender up)) E all_E in
-      let ms : List TimedSegment = map timed (sent up E) in
       let own : own_members up (members_before_reset (map shown segs)) ≡ map shown (sent up E) = ap (own_members up) (members_are segs) ∙ own_are up E all_E in
-      let ours : sent_by (sender up) (effective_members (map timed segs)) ≡ ms = ap (sent_by (sender up)) (effective_are segs) ∙ sent_are up E in
-      is ms (spans_same base (sent up E) all_F ∙ ap (member_spans base c.bytes) (sym own)) (fin_same base (sent up E) ∙ ap (λ l. option_map (fin_of base) (find (is_fin_member base) l)) (sym own))
-      ∙ ap (side_of base ms) (reset_same segs) ∙ ap (λ l. side_of base l (reset_or_live (find is_reset (map timed segs)))) (sym ours)
+      let ours : sent_by (sender up) (effective_members (map timed segs)) ≡ map timed (sent up E) = ap (sent_by (sender up)) (effective_are segs) ∙ sent_are up E in
+      let spans_are : map (segment_span base) (map timed (sent up E)) ≡ member_spans base c.bytes (map shown (sent up E)) = spans_same base (sent up E) all_F in
+      let fin_is : fin_of_members base (map shown (sent up E)) ≡ counted_fin base (map timed (sent up E)) = fin_same base (sent up E) all_F in
+      let ends : other_end (map shown segs) ≡ reset_or_live (find is_reset (map timed segs)) = reset_same segs all in
+      (rw (own, ← spans_are, fin_is, ends) at is) ∙ sides_agree base (map timed (sent up E)) (reset_or_live (find is_reset (map timed segs)))
+      ∙ ap (λ l. side_of base l (reset_or_live (find is_reset (map timed segs)))) (sym ours)
 
   answer_same : (segs : List IndexedSegment) → AllByRecursion (IsHeard c client server) segs
       → option_map (λ (m : Member). m.seq) (find is_server_answer (members_before_reset (map shown segs))) ≡ option_map (λ (m : TimedSegment). m.fields.seq) (find (is_answer server) (effective_members (map timed segs)))
   answer_same segs all =
-      let E : List IndexedSegment = counted segs in
-      let all_E = all_take_while (IsHeard c client server) (λ s. not (is_reset s.timed)) segs all in
-      ap (λ l. option_map (λ (m : Member). m.seq) (find is_server_answer l)) (members_are segs)
-      ∙ ap (option_map (λ (m : Member). m.seq)) (find-map is_server_answer shown E)
-      ∙ ap (λ o. option_map (λ (m : Member). m.seq) (option_map shown o)) (find_same (λ s. is_server_answer (shown s)) (λ s. is_answer server s.timed) E (all_weaker (IsHeard c client server) (λ s. is_server_answer (shown s) ≡ is_answer server s.timed) (λ s h. ap (λ b. b && has_flag s.timed.fields.flags syn_flag && has_flag s.timed.fields.flags ack_flag) (sym h.server_sent)) E all_E))
-      ∙ by_cases (find (λ s. is_answer server s.timed) E)
-      ∙ sym (ap (option_map (λ (m : TimedSegment). m.fields.seq)) (find-map (is_answer server) timed E))
-      ∙ sym (ap (λ l. option_map (λ (m : TimedSegment). m.fields.seq) (find (is_answer server) l)) (effective_are segs))
-    where
-      by_cases : (o : Option IndexedSegment) → option_map (λ (m : Member). m.seq) (option_map shown o) ≡ option_map (λ (m : TimedSegment). m.fields.seq) (option_map timed o)
-      by_cases None = refl
-      by_cases (Some s) = refl
+      rw (members_are segs, effective_are segs)
+      (found_same (λ (m : Member). m.seq) is_server_answer shown (λ (m : TimedSegment). m.fields.seq) (is_answer server) timed (counted segs)
+      (all_weaker (IsHeard c client server) _ (λ s h. (ap (λ b. b && has_flag s.timed.fields.flags syn_flag && has_flag s.timed.fields.flags ack_flag) (sym h.server_sent), refl)) (counted segs) (all_take_while (IsHeard c client server) (λ s. not (is_reset s.timed)) segs all)))
 
 -- ---- the whole connection
-
-abbrev made : RecordedSide → RecordedSide → ℕ → Option ℕ → ℕ → List ℕ → List ℕ → RecordedConnection
-made up down client server opened mac_client mac_server =
-    record { up = up; down = down; client_base = client; server_base = server; opened = opened; mac_client = mac_client; mac_server = mac_server }
 
 server_base_is : (c : CaptureView) (x : IndexedConnection) → AllByRecursion (IsHeard c x.opening.timed.fields.from x.opening.timed.fields.to) (x.opening ∷ x.later)
     → option_map (λ (m : Member). m.seq) (find is_server_answer (members_before_reset (map (member_in c x.opening.timed.fields.from) (x.opening ∷ x.later)))) ≡ server_base (without_indices x)
@@ -175,10 +158,36 @@ recorded_is ticks c x file conn members r sound law of is are shown sides opened
     let first : r.client_base ≡ b.timed.fields.seq = s.client in
     let rec = of.recorded in
     let fields : segment_fields (frame_at c conn.opening) ≡ b.timed.fields = ap (λ k. segment_fields (frame_at c k.opening)) shown ∙ sym rec.0.fields in
-    ap (λ u. made u r.down r.client_base r.server_base r.opened r.mac_client r.mac_server) (up ∙ ap (λ k. recorded_side (map timed segs) client (Some k)) first)
-    ∙ ap (λ d. made (recorded_side (map timed segs) client (Some b.timed.fields.seq)) d r.client_base r.server_base r.opened r.mac_client r.mac_server) (down ∙ ap (recorded_side (map timed segs) server) base)
-    ∙ ap (λ k. made (recorded_side (map timed segs) client (Some b.timed.fields.seq)) (recorded_side (map timed segs) server (server_base (without_indices x))) k r.server_base r.opened r.mac_client r.mac_server) first
-    ∙ ap (λ k. made (recorded_side (map timed segs) client (Some b.timed.fields.seq)) (recorded_side (map timed segs) server (server_base (without_indices x))) b.timed.fields.seq k r.opened r.mac_client r.mac_server) base
-    ∙ ap (λ k. made (recorded_side (map timed segs) client (Some b.timed.fields.seq)) (recorded_side (map timed segs) server (server_base (without_indices x))) b.timed.fields.seq (server_base (without_indices x)) k r.mac_client r.mac_server) (opened ∙ ap (λ k. k.opened) shown)
-    ∙ ap (λ k. made (recorded_side (map timed segs) client (Some b.timed.fields.seq)) (recorded_side (map timed segs) server (server_base (without_indices x))) b.timed.fields.seq (server_base (without_indices x)) b.timed.at k r.mac_server) (mac_client ∙ ap (λ f. f.mac_from) fields)
-    ∙ ap (λ k. made (recorded_side (map timed segs) client (Some b.timed.fields.seq)) (recorded_side (map timed segs) server (server_base (without_indices x))) b.timed.fields.seq (server_base (without_indices x)) b.timed.at b.timed.fields.mac_from k) (mac_server ∙ ap (λ f. f.mac_to) fields)
+    λ i. record {
+      up = (up ∙ ap (λ k. recorded_side (map timed segs) client (Some k)) first) i;
+      down = (down ∙ ap (recorded_side (map timed segs) server) base) i;
+      client_base = first i;
+      server_base = base i;
+      opened = (opened ∙ ap (λ k. k.opened) shown) i;
+      mac_client = (mac_client ∙ ap (λ f. f.mac_from) fields) i;
+      mac_server = (mac_server ∙ ap (λ f. f.mac_to) fields) i;
+    }
+
+-- ---- both lines of it are lines
+
+pub record AreLines (r : RecordedConnection) : Type 0 where
+  pub up : IsLine r.up.line
+  pub down : IsLine r.down.line
+
+pub shorts : (ticks : ℕ) (c : CaptureView) (x : IndexedConnection) → IsSoundCapture ticks c.bytes c.records → PayloadsAreInPlace → IsConnectionOf c x → AllByRecursion HasShortPayload (members_of (without_indices x))
+shorts ticks c x sound law of =
+    all_map HasShortPayload (λ s. s.timed) (x.opening ∷ x.later)
+    (all_weaker (IsHeard c x.opening.timed.fields.from x.opening.timed.fields.to) (λ s. HasShortPayload s.timed) short (x.opening ∷ x.later) (all_heard ticks c x sound law of))
+  where
+    short : (s : IndexedSegment) → IsHeard c x.opening.timed.fields.from x.opening.timed.fields.to s → HasShortPayload s.timed
+    short s h = let a = h.in_file in let b = sound.limited in omega (arith, a, b)
+
+pub are_lines : (ticks : ℕ) (c : CaptureView) (x : IndexedConnection) (r : RecordedConnection) → IsSoundCapture ticks c.bytes c.records → PayloadsAreInPlace → IsConnectionOf c x
+    → r ≡ recorded_connection (without_indices x) → AreLines r
+are_lines ticks c x r sound law of is =
+    let k : Connection = without_indices x in
+    let short = shorts ticks c x sound law of in
+    subst AreLines (sym is) (record {
+      up = recorded_sides_are_lines (members_of k) (client_of k) (Some (client_base k)) of.rising short;
+      down = recorded_sides_are_lines (members_of k) (server_of k) (server_base k) of.rising short;
+    })

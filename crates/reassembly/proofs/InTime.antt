@@ -1,57 +1,30 @@
 -- The segments of a capture's connections were recorded between their connection's opening and the horizon.
-use Rattle.std.proofs.Common.{◌≤◌, ℕ, ◌+◌, ◌-◌, Bool, true, false, List, [], ◌∷◌, map, length, take, drop, slice_range, nat_lt, ◌&&◌, Some, None, arith, if◌then◌else◌}
-use Rattle.std.specs.List.{AllByRecursion, filter_map, cons_option, enumerate_from, zip, range_with_len}
+use Rattle.std.proofs.Common.{◌≤◌, ℕ, ◌+◌, ◌-◌, List, [], ◌∷◌, map, take, drop, slice_range, nat_lt, ◌&&◌, arith}
+use Rattle.std.specs.List.{AllByRecursion}
 use Rattle.std.proofs.Math.Nat.{le_trans, le_refl}
 use Rattle.std.proofs.lemmas.List.Elements.{recursion_from_All}
 use Rattle.pcap_records.specs.Reading.{Packet}
-use Rattle.pcap_records.specs.CaptureView.{CaptureView, contents_of, packet_of, IsWithinFile, IsSoundCapture}
-use Rattle.pcap_records.specs.Instants.{horizon, greatest, greatest_so_far, instants}
-use Rattle.pcap_records.proofs.Lists.{all_weaker, all_map, all_take, all_drop, all_filter}
+use Rattle.pcap_records.specs.CaptureView.{CaptureView, contents_of, stamps_between, packet_of, IsWithinFile, IsSoundCapture}
+use Rattle.pcap_records.specs.Instants.{horizon}
+use Rattle.lists.proofs.Lists.{all_weaker, all_map, all_take, all_drop, all_filter}
 use Rattle.frame_headers.specs.HeaderLaws.{PayloadsAreInPlace}
-use Rattle.frame_headers.specs.Frame.{frame_class, segment_fields}
-use Rattle.conn_table.specs.SeenCapture.{seen_packet, seen_packets}
-use Rattle.conn_table.specs.IndexedSegments.{TimedSegment, IndexedSegment, is_segment, indexed_segment, indexed_segments}
-use Rattle.conn_table.specs.Connections.{begins, beginnings, beginning_of, is_at}
+use Rattle.conn_table.specs.IndexedSegments.{TimedSegment, IndexedSegment}
+use Rattle.conn_table.specs.Connections.{begins_in, beginnings, beginning_of, is_at}
 use Rattle.conn_table.specs.IndexedConnections.{IndexedConnection, indexed_connection_of, indexed_connections, without_indices, IndexedConnectionsAgree}
 use Rattle.conn_table.specs.Partials.{segments_between}
 use Rattle.reassembly.specs.Positions.{members_of}
 use Rattle.reassembly.specs.LineLaws.{InstantsRise, IsBetween}
 use Rattle.reassembly.specs.RecordedView.{IsConnectionOf}
 use Rattle.reassembly.specs.ConnectionInstants.{IsInTime, ConnectionsAreInTime}
-use Rattle.reassembly.proofs.Chunks.{all_mapped}
-use Rattle.reassembly.proofs.LinesMade.{shorts}
-use Rattle.reassembly.proofs.MappedLists.{and_both}
-use Rattle.reassembly.proofs.OfCapture.{connections_are_of_capture}
+use Rattle.reassembly.proofs.Chunks.{greatest-le}
+use Rattle.reassembly.proofs.ConnectionJoin.{shorts}
+use Rattle.reassembly.proofs.MappedLists.{and_both, all_enumerated}
+use Rattle.reassembly.proofs.OfCapture.{IsKnown, segments_known, connections_are_of_capture}
 
 -- ---- none past a limit
 
 abbrev IsUpTo : ℕ → IndexedSegment → Type 0
 IsUpTo limit s = s.timed.at ≤ limit
-
-greatest_up_to : (limit : ℕ) (ns : List ℕ) → AllByRecursion (λ n. n ≤ limit) ns → greatest ns ≤ limit
-greatest_up_to limit [] all = omega arith
-greatest_up_to limit (n ∷ ns) all = omega (arith, all.0, greatest_up_to limit ns all.1)
-
-so_far_up_to : (limit carry : ℕ) (stamps : List ℕ) → carry ≤ limit → AllByRecursion (λ n. n ≤ limit) stamps → (i : ℕ) → greatest_so_far carry stamps i ≤ limit
-so_far_up_to limit carry stamps first all i = omega (arith, first, greatest_up_to limit (take (i + 1) stamps) (all_take (λ n. n ≤ limit) (i + 1) stamps all))
-
-instants_up_to : (limit carry : ℕ) (stamps : List ℕ) → carry ≤ limit → AllByRecursion (λ n. n ≤ limit) stamps → AllByRecursion (λ n. n ≤ limit) (instants carry stamps)
-unfolding instants
-instants_up_to limit carry stamps first all = all_mapped (λ n. n ≤ limit) (greatest_so_far carry stamps) (so_far_up_to limit carry stamps first all) (range_with_len 0 (length stamps))
-
-seen_up_to : (limit n : ℕ) (ats : List ℕ) (ps : List Packet) → AllByRecursion (λ at. at ≤ limit) ats
-    → AllByRecursion (IsUpTo limit) (filter_map indexed_segment (enumerate_from n (map seen_packet (zip ats ps))))
-seen_up_to limit n [] ps all = tt
-seen_up_to limit n (at ∷ ats) [] all = tt
-seen_up_to limit n (at ∷ ats) (p ∷ ps) all = by (is_segment (frame_class p.bytes)) (seen_up_to limit (n + 1) ats ps all.1)
-  where
-    rest : List IndexedSegment
-    rest = filter_map indexed_segment (enumerate_from (n + 1) (map seen_packet (zip ats ps)))
-
-    by : (t : Bool) → AllByRecursion (IsUpTo limit) rest
-        → AllByRecursion (IsUpTo limit) (cons_option (if t then Some (record { index = n; timed = record { at = at; fields = segment_fields p.bytes } }) else None) rest)
-    by true more = (all.0, more)
-    by false more = more
 
 stamps_up_to : (c : CaptureView) (from to : ℕ) → IsSoundCapture c.ticks c.bytes c.records → AllByRecursion (λ n. n ≤ horizon c.ticks) (map (λ p. p.stamp) (slice_range (contents_of c).packets from to))
 stamps_up_to c from to sound =
@@ -62,26 +35,23 @@ stamps_up_to c from to sound =
     all_map (λ n. n ≤ horizon c.ticks) (λ p. p.stamp) (slice_range ps from to) (all_take (λ p. p.stamp ≤ horizon c.ticks) (to - from) (drop from ps) (all_drop (λ p. p.stamp ≤ horizon c.ticks) from ps packets))
 
 segments_up_to : (c : CaptureView) (from to carry : ℕ) → IsSoundCapture c.ticks c.bytes c.records → carry ≤ horizon c.ticks → AllByRecursion (IsUpTo (horizon c.ticks)) (segments_between c from to carry)
-unfolding indexed_segments seen_packets
 segments_up_to c from to carry sound first =
-    let ps : List Packet = slice_range (contents_of c).packets from to in
-    let stamps : List ℕ = map (λ p. p.stamp) ps in
-    seen_up_to (horizon c.ticks) from (instants carry stamps) ps (instants_up_to (horizon c.ticks) carry stamps first (stamps_up_to c from to sound))
+    let stamps : List ℕ = stamps_between c from to in
+    let limit : ℕ = horizon c.ticks in
+    all_weaker (IsKnown c from carry stamps) (IsUpTo limit)
+    (λ s known. rw known.at (omega (arith, first, greatest-le limit (take (s.index - from + 1) stamps) (all_take (λ n. n ≤ limit) (s.index - from + 1) stamps (stamps_up_to c from to sound)))))
+    (segments_between c from to carry) (segments_known c from to carry)
 
 -- ---- the segments of connections
 
 abbrev EndsBy : ℕ → IndexedConnection → Type 0
 EndsBy limit x = AllByRecursion (IsUpTo limit) (x.opening ∷ x.later)
 
-each_ends : (limit : ℕ) (segs : List IndexedSegment) → AllByRecursion (IsUpTo limit) segs → (n : ℕ) (bs : List IndexedSegment) → AllByRecursion (IsUpTo limit) bs
-    → AllByRecursion (EndsBy limit) (map (indexed_connection_of segs) (enumerate_from n bs))
-each_ends limit segs all n [] mine = tt
-each_ends limit segs all n (b ∷ bs) mine =
-    ((mine.0, all_filter (IsUpTo limit) (λ s. nat_lt b.index s.index && is_at b (beginning_of segs s)) segs all), each_ends limit segs all (n + 1) bs mine.1)
-
 connections_end : (limit : ℕ) (segs : List IndexedSegment) → AllByRecursion (IsUpTo limit) segs → AllByRecursion (EndsBy limit) (indexed_connections segs)
 unfolding indexed_connections beginnings
-connections_end limit segs all = each_ends limit segs all 0 (beginnings segs) (all_filter (IsUpTo limit) (begins segs) segs all)
+connections_end limit segs all =
+    all_enumerated (IsUpTo limit) (EndsBy limit) (indexed_connection_of segs)
+    (λ n b here. (here, all_filter (IsUpTo limit) (λ s. nat_lt b.index s.index && is_at b (beginning_of segs s)) segs all)) 0 (beginnings segs) (all_filter (IsUpTo limit) (begins_in segs) segs all)
 
 -- ---- and from the opening on
 

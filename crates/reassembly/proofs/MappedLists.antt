@@ -1,6 +1,6 @@
 -- Lists that are made from another one, element by element.
-use Rattle.std.proofs.Common.{◌≡◌, Bool, true, false, cond, List, [], ◌∷◌, map, filter, Option, Some, option_map, refl, sym, ap, ◌∙◌}
-use Rattle.std.specs.List.{take_while, find, AllByRecursion}
+use Rattle.std.proofs.Common.{◌≡◌, ℕ, ◌+◌, Bool, true, false, cond, List, [], ◌∷◌, map, filter, Some, option_map, refl, sym, ap, ◌∙◌}
+use Rattle.std.specs.List.{take_while, find, enumerate_from, AllByRecursion}
 use Rattle.std.proofs.lemmas.List.Sums.{take_while-cons}
 
 pub take_while-map : {A B : Type 0} (p : B → Bool) (f : A → B) (xs : List A) → take_while p (map f xs) ≡ map f (take_while (λ x. p (f x)) xs)
@@ -21,13 +21,18 @@ filter-map {A} {B} p f (x ∷ xs) = step (p (f x)) (filter p (map f xs)) (filter
     step true ys zs e = ap (λ l. f x ∷ l) e
     step false ys zs e = e
 
-pub find-map : {A B : Type 0} (p : B → Bool) (f : A → B) (xs : List A) → find p (map f xs) ≡ option_map f (find (λ x. p (f x)) xs)
-find-map p f [] = refl
-find-map {A} {B} p f (x ∷ xs) = step (p (f x)) (find p (map f xs)) (find (λ y. p (f y)) xs) (find-map p f xs)
+-- the first that passes is found alike in two lists that are made from one, where both agree on each element
+pub found_same : {A B C D : Type 0} (f : B → D) (p : B → Bool) (h : A → B) (g : C → D) (q : C → Bool) (k : A → C) (xs : List A) → AllByRecursion (λ x. (p (h x) ≡ q (k x)) × (f (h x) ≡ g (k x))) xs
+    → option_map f (find p (map h xs)) ≡ option_map g (find q (map k xs))
+found_same f p h g q k [] all = refl
+found_same {A} {B} {C} {D} f p h g q k (x ∷ xs) all = step (p (h x)) (q (k x)) all.0.0 (found_same f p h g q k xs all.1)
   where
-    step : (b : Bool) (o : Option B) (q : Option A) → o ≡ option_map f q → cond b (Some (f x)) o ≡ option_map f (cond b (Some x) q)
-    step true o q e = refl
-    step false o q e = e
+    step : (a b : Bool) → a ≡ b → option_map f (find p (map h xs)) ≡ option_map g (find q (map k xs))
+        → option_map f (cond a (Some (h x)) (find p (map h xs))) ≡ option_map g (cond b (Some (k x)) (find q (map k xs)))
+    step true true same rest = ap Some all.0.1
+    step true false same rest = absurd cc
+    step false true same rest = absurd cc
+    step false false same rest = rest
 
 pub map_same : {A B : Type 0} (f g : A → B) (xs : List A) → AllByRecursion (λ x. f x ≡ g x) xs → map f xs ≡ map g xs
 map_same f g [] all = refl
@@ -37,10 +42,11 @@ pub filter_same : {A : Type 0} (p q : A → Bool) (xs : List A) → AllByRecursi
 filter_same p q [] all = refl
 filter_same p q (x ∷ xs) all = ap (λ b. cond b (x ∷ filter p xs) (filter p xs)) all.0 ∙ ap (λ l. cond (q x) (x ∷ l) l) (filter_same p q xs all.1)
 
-pub find_same : {A : Type 0} (p q : A → Bool) (xs : List A) → AllByRecursion (λ x. p x ≡ q x) xs → find p xs ≡ find q xs
-find_same p q [] all = refl
-find_same p q (x ∷ xs) all = ap (λ b. cond b (Some x) (find p xs)) all.0 ∙ ap (λ o. cond (q x) (Some x) o) (find_same p q xs all.1)
-
 pub and_both : {A : Type 0} (P Q R : A → Type 0) → ((a : A) → P a → Q a → R a) → (xs : List A) → AllByRecursion P xs → AllByRecursion Q xs → AllByRecursion R xs
 and_both P Q R f [] p q = tt
 and_both P Q R f (x ∷ xs) p q = (f x p.0 q.0, and_both P Q R f xs p.1 q.1)
+
+pub all_enumerated : {A B : Type 0} (P : A → Type 0) (Q : B → Type 0) (f : ℕ × A → B) → ((n : ℕ) (x : A) → P x → Q (f (n, x))) → (n : ℕ) (xs : List A) → AllByRecursion P xs
+    → AllByRecursion Q (map f (enumerate_from n xs))
+all_enumerated P Q f each n [] all = tt
+all_enumerated P Q f each n (x ∷ xs) all = (each n x all.0, all_enumerated P Q f each (n + 1) xs all.1)

@@ -4,8 +4,8 @@ use Rattle.std.specs.Option.{option_or}
 use Rattle.std.proofs.lemmas.Bool.{le-leb, lt-leb, cases_lt}
 use Rattle.std.proofs.lemmas.List.{get_or-take, get_or-drop}
 use Rattle.std.proofs.lemmas.Option.{slice_get-get_or, slice_get_past}
-use Rattle.pcap_records.proofs.Lists.{option_or-assoc}
-use Rattle.reassembly.specs.Spans.{Span, TimedByte, end_of, byte_in, first_byte, front_of, back_of, with_bytes, unless_empty, AreOrdered}
+use Rattle.lists.proofs.Lists.{option_or-assoc}
+use Rattle.reassembly.specs.Spans.{Span, TimedByte, end_of, byte_in, first_byte, span_below, span_from, with_bytes, unless_empty, AreOrdered}
 
 -- the byte of a span that covers position x
 abbrev pub inner_byte : Span → ℕ → TimedByte
@@ -22,45 +22,45 @@ byte_in-within p x a b = rw (le-leb p.from x a, slice_get-get_or p.bytes (x - p.
 
 -- ---- parts of a span
 
-pub front-keeps : (n : ℕ) (p : Span) (x : ℕ) → x < n → byte_in (front_of n p) x ≡ byte_in p x
+pub front-keeps : (n : ℕ) (p : Span) (x : ℕ) → x < n → byte_in (span_below n p) x ≡ byte_in p x
 front-keeps n p x h =
     elim (cases_lt x p.from) [
-      | inl a ↦ byte_in-before (front_of n p) x a ∙ sym (byte_in-before p x a)
+      | inl a ↦ byte_in-before (span_below n p) x a ∙ sym (byte_in-before p x a)
       | inr a ↦ elim (cases_lt x (end_of p)) [
         | inl b ↦
-            byte_in-within (front_of n p) x a (omega (arith, length-take (n - p.from) p.bytes))
+            byte_in-within (span_below n p) x a (omega (arith, length-take (n - p.from) p.bytes))
             ∙ ap (λ v. Some (let r : TimedByte = record { value = v; at = p.at } in r)) (get_or-take (n - p.from) p.bytes (x - p.from) 0 (omega arith))
             ∙ sym (byte_in-within p x a b)
-        | inr b ↦ byte_in-past (front_of n p) x (omega (arith, length-take (n - p.from) p.bytes)) ∙ sym (byte_in-past p x b)
+        | inr b ↦ byte_in-past (span_below n p) x (omega (arith, length-take (n - p.from) p.bytes)) ∙ sym (byte_in-past p x b)
       ]
     ]
 
-pub front-hides : (n : ℕ) (p : Span) (x : ℕ) → n ≤ x → byte_in (front_of n p) x ≡ None
+pub front-hides : (n : ℕ) (p : Span) (x : ℕ) → n ≤ x → byte_in (span_below n p) x ≡ None
 front-hides n p x h =
     elim (cases_lt x p.from) [
-      | inl a ↦ byte_in-before (front_of n p) x a
-      | inr a ↦ byte_in-past (front_of n p) x (omega (arith, length-take (n - p.from) p.bytes))
+      | inl a ↦ byte_in-before (span_below n p) x a
+      | inr a ↦ byte_in-past (span_below n p) x (omega (arith, length-take (n - p.from) p.bytes))
     ]
 
-pub back-hides : (n : ℕ) (p : Span) (x : ℕ) → x < n → byte_in (back_of n p) x ≡ None
-back-hides n p x h = byte_in-before (back_of n p) x (omega arith)
+pub back-hides : (n : ℕ) (p : Span) (x : ℕ) → x < n → byte_in (span_from n p) x ≡ None
+back-hides n p x h = byte_in-before (span_from n p) x (omega arith)
 
-pub back-keeps : (n : ℕ) (p : Span) (x : ℕ) → n ≤ x → byte_in (back_of n p) x ≡ byte_in p x
+pub back-keeps : (n : ℕ) (p : Span) (x : ℕ) → n ≤ x → byte_in (span_from n p) x ≡ byte_in p x
 back-keeps n p x h =
     elim (cases_lt x p.from) [
-      | inl a ↦ byte_in-before (back_of n p) x (omega arith) ∙ sym (byte_in-before p x a)
+      | inl a ↦ byte_in-before (span_from n p) x (omega arith) ∙ sym (byte_in-before p x a)
       | inr a ↦ elim (cases_lt x (end_of p)) [
         | inl b ↦
             let place : n - p.from + (x - (p.from + (n - p.from))) ≡ x - p.from = omega arith in
-            byte_in-within (back_of n p) x (omega arith) (omega (arith, length-drop (n - p.from) p.bytes))
+            byte_in-within (span_from n p) x (omega arith) (omega (arith, length-drop (n - p.from) p.bytes))
             ∙ ap (λ v. Some (let r : TimedByte = record { value = v; at = p.at } in r)) (get_or-drop (n - p.from) p.bytes (x - (p.from + (n - p.from))) 0 ∙ ap (λ k. get_or p.bytes k 0) place)
             ∙ sym (byte_in-within p x a b)
-        | inr b ↦ byte_in-past (back_of n p) x (omega (arith, length-drop (n - p.from) p.bytes)) ∙ sym (byte_in-past p x b)
+        | inr b ↦ byte_in-past (span_from n p) x (omega (arith, length-drop (n - p.from) p.bytes)) ∙ sym (byte_in-past p x b)
       ]
     ]
 
 -- a span that begins at n or after it
-pub back-all : (n : ℕ) (p : Span) → n ≤ p.from → back_of n p ≡ p
+pub back-all : (n : ℕ) (p : Span) → n ≤ p.from → span_from n p ≡ p
 back-all n p h =
     let none : n - p.from ≡ 0 = omega arith in
     ap (λ k. let r : Span = record { from = p.from + k; at = p.at; bytes = drop k p.bytes } in r) none
@@ -104,9 +104,6 @@ AreOrdered-down low low' (p ∷ ps) high o h = let a : low ≤ p.from = o.0 in (
 pub AreOrdered-append : (low mid high : ℕ) (ps qs : List Span) → AreOrdered low ps mid → AreOrdered mid qs high → AreOrdered low (ps ++ qs) high
 AreOrdered-append low mid high [] qs o r = AreOrdered-down mid low qs high r o
 AreOrdered-append low mid high (p ∷ ps) qs o r = (o.0, o.1, AreOrdered-append (end_of p) mid high ps qs o.2 r)
-
-pub AreOrdered-one : (low high : ℕ) (p : Span) → low ≤ p.from → 0 < length p.bytes → end_of p ≤ high → AreOrdered low (p ∷ []) high
-AreOrdered-one low high p a b c = (a, b, c)
 
 ordered_unless_empty : (low high : ℕ) (p : Span) (bytes : List ℕ) → p.bytes ≡ bytes → low ≤ high → low ≤ p.from → (0 < length p.bytes → end_of p ≤ high) → AreOrdered low (with_bytes p bytes) high
 ordered_unless_empty low high p [] e h a c = h

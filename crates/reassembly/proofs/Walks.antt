@@ -1,22 +1,26 @@
 -- Going over an ordered list of spans up to the first gap: what each turn keeps.
-use Rattle.std.proofs.Common.{◌≡◌, ◌<◌, ◌≤◌, inl, inr, ℕ, zero, suc, ◌+◌, ◌-◌, ◌==◌, ◌||◌, not, max, List, [], ◌∷◌, ◌++◌, map, length, slice_index, Option, Some, None, Bool, true, false, refl, sym, ap, ◌∙◌, arith, length-take, add-one, add-zero, zero-add}
+use Rattle.std.proofs.Common.{◌≡◌, ◌<◌, ◌≤◌, inl, inr, ℕ, zero, suc, ◌+◌, ◌-◌, ◌==◌, ◌||◌, not, max, List, [], ◌∷◌, ◌++◌, map, length, slice_index, Option, Some, None, Bool, true, false, refl, sym, ap, ◌∙◌, arith, length-take, add-zero, zero-add}
 use Rattle.std.specs.Option.{option_or, is_some}
 use Rattle.std.specs.List.{range_with_len}
 use Rattle.std.proofs.lemmas.Bool.{cases_lt, eq-eqb, ne_eqb}
 use Rattle.std.proofs.lemmas.List.{get_or-take, map-append}
+use Rattle.std.proofs.lemmas.List.FromFn.{map-range_with_len_more}
+use Rattle.pcap_records.specs.Instants.{greatest}
 use Rattle.reassembly.specs.RecordedLines.{LineByte}
-use Rattle.reassembly.specs.LineView.{bytes_with_mark, bytes_without_mark}
-use Rattle.reassembly.specs.Spans.{Span, TimedByte, limit, end_of, first_byte, front_of, AreOrdered}
+use Rattle.reassembly.specs.LineView.{bytes_with_mark}
+use Rattle.reassembly.specs.Spans.{Span, TimedByte, limit, end_of, first_byte, span_below, AreOrdered}
 use Rattle.reassembly.specs.SideLines.{value_of, instant_of, latest_below, line_byte, line_bytes, IsFront, first_from}
+use Rattle.reassembly.proofs.LineBytes.{unmarked}
 use Rattle.reassembly.proofs.SpanBytes.{byte_in-past, byte_in-within, AreOrdered-bounds, AreOrdered-down, first_byte-before}
 
-pub latest_below-more : (g : ℕ → Option TimedByte) (x : ℕ) → latest_below g (x + 1) ≡ max (latest_below g x) (instant_of (g x))
-unfolding latest_below
-latest_below-more g x = rw (add-one) refl
+greatest-last : (xs : List ℕ) (y : ℕ) → greatest (xs ++ y ∷ []) ≡ max (greatest xs) y
+greatest-last [] y = omega arith
+greatest-last (x ∷ xs) y = ap (max x) (greatest-last xs y) ∙ omega arith
 
-pub latest_below-none : (g : ℕ → Option TimedByte) → latest_below g 0 ≡ 0
-unfolding latest_below
-latest_below-none g = refl
+pub latest_below-more : (g : ℕ → Option TimedByte) (x : ℕ) → latest_below g (x + 1) ≡ max (latest_below g x) (instant_of (g x))
+latest_below-more g x =
+    let f : ℕ → ℕ = λ k. instant_of (g k) in
+    ap greatest (map-range_with_len_more f 0 x x (zero-add x)) ∙ greatest-last (map f (range_with_len 0 x)) (f x)
 
 pub range_append : (a n k : ℕ) → range_with_len a (n + k) ≡ range_with_len a n ++ range_with_len (a + n) k
 range_append a zero k = rw (zero-add k, add-zero a) refl
@@ -37,11 +41,6 @@ tail_holds g x b bytes at holds i h =
 head_holds : (g : ℕ → Option TimedByte) (x b : ℕ) (bytes : List ℕ) (at : ℕ) → Holds g x (b ∷ bytes) at → g x ≡ Some (record { value = b; at = at })
 head_holds g x b bytes at holds = ap g (sym (add-zero x)) ∙ holds 0 (omega arith)
 
--- after the first byte of such bytes no chunk starts, and the greatest instant stays
-pub record Runs (g : ℕ → Option TimedByte) (x : ℕ) (bytes : List ℕ) (at : ℕ) : Type 0 where
-  pub bytes_are : map (line_byte g) (range_with_len x (length bytes)) ≡ bytes_without_mark at bytes
-  pub latest_is : latest_below g (x + length bytes) ≡ at
-
 line_byte_is : (g : ℕ → Option TimedByte) (x value at now : ℕ) (starts : Bool) → g x ≡ Some (record { value = value; at = at }) → latest_below g (x + 1) ≡ now
     → (x == 0 || not (now == latest_below g x)) ≡ starts → line_byte g x ≡ record { value = value; at = now; starts = starts }
 line_byte_is g x value at now starts is after start =
@@ -49,35 +48,25 @@ line_byte_is g x value at now starts is after start =
     ∙ ap (λ p. let r : LineByte = record { value = value; at = p; starts = x == 0 || not (p == latest_below g x) } in r) after
     ∙ ap (λ s. let r : LineByte = record { value = value; at = now; starts = s } in r) start
 
-runs : (g : ℕ → Option TimedByte) (bytes : List ℕ) (x at now : ℕ) → 0 < x → Holds g x bytes at → latest_below g x ≡ now → at ≤ now → Runs g x bytes now
-runs g [] x at now some holds is le = record { bytes_are = refl; latest_is = ap (latest_below g) (add-zero x) ∙ is }
-runs g (b ∷ bytes) x at now some holds is le =
-    let first = head_holds g x b bytes at holds in
-    let after : latest_below g (x + 1) ≡ now = latest_below-more g x ∙ ap (λ o. max (latest_below g x) (instant_of o)) first ∙ omega arith in
-    let starts : (x == 0 || not (now == latest_below g x)) ≡ false = rw (ne_eqb x 0 (λ e. omega arith), eq-eqb now (latest_below g x) (sym is)) refl in
-    let rest = runs g bytes (x + 1) at now (omega arith) (tail_holds g x b bytes at holds) after le in
-    let e : x + 1 + length bytes ≡ x + suc (length bytes) = omega arith in
-    record {
-      bytes_are = ap (λ c. c ∷ map (line_byte g) (range_with_len (x + 1) (length bytes))) (line_byte_is g x b at now false first after starts) ∙ ap (λ l. record { value = b; at = now; starts = false } ∷ l) rest.bytes_are;
-      latest_is = ap (latest_below g) (sym e) ∙ rest.latest_is;
-    }
-
--- with the first byte of such bytes a chunk starts where the greatest instant changes
+-- with the first byte of such bytes a chunk starts where the greatest instant changes, and after it none does
 pub record Joins (g : ℕ → Option TimedByte) (x : ℕ) (bytes : List ℕ) (now : ℕ) (starts : Bool) : Type 0 where
   pub bytes_are : map (line_byte g) (range_with_len x (length bytes)) ≡ bytes_with_mark now starts bytes
   pub latest_is : latest_below g (x + length bytes) ≡ now
 
-joins : (g : ℕ → Option TimedByte) (bytes : List ℕ) (x at carry now : ℕ) (starts : Bool) → 0 < length bytes → Holds g x bytes at → latest_below g x ≡ carry → now ≡ max carry at
-    → starts ≡ (x == 0 || not (now == carry)) → Joins g x bytes now starts
-joins g [] x at carry now starts some holds is max_is start = absurd (omega arith)
-joins g (b ∷ bytes) x at carry now starts some holds is max_is start =
+joins : (g : ℕ → Option TimedByte) (bytes : List ℕ) (x at carry now : ℕ) (starts : Bool) → Holds g x bytes at → latest_below g x ≡ carry → now ≡ max carry at
+    → starts ≡ (x == 0 || not (now == carry)) → (length bytes ≡ 0 → carry ≡ now) → Joins g x bytes now starts
+joins g [] x at carry now starts holds is max_is start none = record { bytes_are = refl; latest_is = ap (latest_below g) (add-zero x) ∙ is ∙ none refl }
+joins g (b ∷ bytes) x at carry now starts holds is max_is start none =
     let first = head_holds g x b bytes at holds in
     let after : latest_below g (x + 1) ≡ now = latest_below-more g x ∙ ap (λ o. max (latest_below g x) (instant_of o)) first ∙ ap (λ k. max k at) is ∙ sym max_is in
     let start' : (x == 0 || not (now == latest_below g x)) ≡ starts = ap (λ k. x == 0 || not (now == k)) is ∙ sym start in
-    let rest = runs g bytes (x + 1) at now (omega arith) (tail_holds g x b bytes at holds) after (omega arith) in
+    let stays : (x + 1 == 0 || not (now == now)) ≡ false = rw (ne_eqb (x + 1) 0 (λ e. omega arith), eq-eqb now now refl) refl in
+    let rest = joins g bytes (x + 1) at now now false (tail_holds g x b bytes at holds) after (omega arith) (sym stays) (λ e. refl) in
     let e : x + 1 + length bytes ≡ x + suc (length bytes) = omega arith in
     record {
-      bytes_are = ap (λ c. c ∷ map (line_byte g) (range_with_len (x + 1) (length bytes))) (line_byte_is g x b at now starts first after start') ∙ ap (λ l. record { value = b; at = now; starts = starts } ∷ l) rest.bytes_are;
+      bytes_are =
+          ap (λ c. c ∷ map (line_byte g) (range_with_len (x + 1) (length bytes))) (line_byte_is g x b at now starts first after start')
+          ∙ ap (λ l. record { value = b; at = now; starts = starts } ∷ l) (rest.bytes_are ∙ sym (unmarked now bytes));
       latest_is = ap (latest_below g) (sym e) ∙ rest.latest_is;
     }
 
@@ -91,53 +80,62 @@ pub record Walk (g : ℕ → Option TimedByte) (stop n latest : ℕ) (out : List
   pub rest_is : (x : ℕ) → n ≤ x → x < stop → g x ≡ first_byte rest x
   pub rest_from : AreOrdered n rest limit
 
-pub walk_start : (g : ℕ → Option TimedByte) (stop : ℕ) (ps : List Span) → AreOrdered 0 ps limit → ((x : ℕ) → g x ≡ first_byte ps x) → Walk g stop 0 0 [] ps
-walk_start g stop ps o e = record {
-  out_is = refl;
-  latest_is = latest_below-none g;
+pub walk_begin : (g : ℕ → Option TimedByte) (stop latest : ℕ) (out : List LineByte) (rest : List Span) → AreOrdered 0 rest limit → ((x : ℕ) → g x ≡ first_byte rest x)
+    → latest ≡ 0 → out ≡ [] → Walk g stop 0 latest out rest
+walk_begin g stop latest out rest o e a b = record {
+  out_is = b;
+  latest_is = sym a;
   covered = λ x h. absurd (omega arith);
   within = omega arith;
   rest_is = λ x a b. e x;
   rest_from = o;
 }
 
-module _ (g : ℕ → Option TimedByte) (stop n latest : ℕ) (out : List LineByte) (p : Span) (ps : List Span) where
-  part_holds : Walk g stop n latest out (p ∷ ps) → p.from ≡ n → n < stop → Holds g n (front_of stop p).bytes p.at
-  part_holds w at_n before i h =
-      let len = length-take (stop - p.from) p.bytes in
-      let e : n + i - p.from ≡ i = omega arith in
-      w.rest_is (n + i) (omega arith) (omega arith)
-      ∙ ap (λ o. option_or o (first_byte ps (n + i))) (byte_in-within p (n + i) (omega arith) (omega arith))
-      ∙ ap (λ k. Some (let r : TimedByte = record { value = slice_index p.bytes k; at = p.at } in r)) e
-      ∙ ap (λ v. Some (let r : TimedByte = record { value = v; at = p.at } in r)) (sym (get_or-take (stop - p.from) p.bytes i 0 (omega arith)))
+part_holds : (g : ℕ → Option TimedByte) (stop n latest : ℕ) (out : List LineByte) (p : Span) (ps : List Span) → Walk g stop n latest out (p ∷ ps) → p.from ≡ n → n < stop
+    → Holds g n (span_below stop p).bytes p.at
+part_holds g stop n latest out p ps w at_n before i h =
+    let len = length-take (stop - p.from) p.bytes in
+    let e : n + i - p.from ≡ i = omega arith in
+    w.rest_is (n + i) (omega arith) (omega arith)
+    ∙ ap (λ o. option_or o (first_byte ps (n + i))) (byte_in-within p (n + i) (omega arith) (omega arith))
+    ∙ ap (λ k. Some (let r : TimedByte = record { value = slice_index p.bytes k; at = p.at } in r)) e
+    ∙ ap (λ v. Some (let r : TimedByte = record { value = v; at = p.at } in r)) (sym (get_or-take (stop - p.from) p.bytes i 0 (omega arith)))
 
-  pub walk_more : Walk g stop n latest out (p ∷ ps) → p.from ≡ n → n < stop → (now : ℕ) (starts : Bool) → now ≡ max latest p.at → starts ≡ (n == 0 || not (now == latest))
-      → Walk g stop (end_of (front_of stop p)) now (out ++ bytes_with_mark now starts (front_of stop p).bytes) ps
-  walk_more w at_n before now starts now_is starts_is =
-      let part : Span = front_of stop p in
-      let len = length-take (stop - p.from) p.bytes in
-      let o = w.rest_from in
-      let some : 0 < length p.bytes = o.1 in
-      let holds = part_holds w at_n before in
-      let join = joins g part.bytes n p.at latest now starts (omega arith) holds w.latest_is now_is starts_is in
-      let ends : end_of part ≡ n + length part.bytes = omega arith in
-      let stays : end_of part ≤ end_of p = omega arith in
-      record {
-        out_is =
-            ap (λ l. l ++ bytes_with_mark now starts part.bytes) w.out_is ∙ ap (λ l. line_bytes g n ++ l) (sym join.bytes_are)
-            ∙ sym (map-append (line_byte g) (range_with_len 0 n) (range_with_len n (length part.bytes)))
-            ∙ ap (λ k. map (line_byte g) (range_with_len 0 n ++ range_with_len k (length part.bytes))) (sym (zero-add n))
-            ∙ ap (map (line_byte g)) (sym (range_append 0 n (length part.bytes)))
-            ∙ ap (line_bytes g) (sym ends);
-        latest_is = ap (latest_below g) ends ∙ join.latest_is;
-        covered = λ x h. elim (cases_lt x n) [
-          | inl a ↦ w.covered x a
-          | inr a ↦ let e : n + (x - n) ≡ x = omega arith in ap (λ k. is_some (g k)) (sym e) ∙ ap is_some (holds (x - n) (omega arith))
-        ];
-        within = omega arith;
-        rest_is = λ x a b. w.rest_is x (omega arith) b ∙ ap (λ q. option_or q (first_byte ps x)) (byte_in-past p x (omega arith));
-        rest_from = AreOrdered-down (end_of p) (end_of part) ps limit o.2 stays;
-      }
+pub walk_at : (g : ℕ → Option TimedByte) (stop n latest : ℕ) (out : List LineByte) (rest : List Span) → Walk g stop n latest out rest
+    → (p : Span) (ps : List Span) → rest ≡ p ∷ ps → (from : ℕ) → from ≡ first_from rest → from ≤ n → n < stop
+    → (part : Span) → part ≡ span_below stop p → (now : ℕ) → now ≡ max latest part.at → (starts : Bool) → starts ≡ (n == 0 || not (now == latest))
+    → (len : ℕ) → len ≡ end_of part → (new : List LineByte) → new ≡ out ++ bytes_with_mark now starts part.bytes
+    → Walk g stop len now new ps
+walk_at g stop n latest out rest old p ps e from is at_n before part part_is now now_is starts starts_is len len_is new new_is =
+    let w = rw e at old in
+    let is' = rw e at is in
+    let now_is' = rw part_is at now_is in
+    let o = w.rest_from in
+    let from_n : p.from ≡ n = omega (arith, is', at_n, o.0) in
+    let cut : Span = span_below stop p in
+    let cut_len = length-take (stop - p.from) p.bytes in
+    let some : 0 < length p.bytes = o.1 in
+    let holds = part_holds g stop n latest out p ps w from_n before in
+    let join = joins g cut.bytes n p.at latest now starts holds w.latest_is now_is' starts_is (λ e. absurd (omega arith)) in
+    let ends : end_of cut ≡ n + length cut.bytes = omega arith in
+    let stays : end_of cut ≤ end_of p = omega arith in
+    rw (new_is, len_is, part_is)
+    (record {
+      out_is =
+          ap (λ l. l ++ bytes_with_mark now starts cut.bytes) w.out_is ∙ ap (λ l. line_bytes g n ++ l) (sym join.bytes_are)
+          ∙ sym (map-append (line_byte g) (range_with_len 0 n) (range_with_len n (length cut.bytes)))
+          ∙ ap (λ k. map (line_byte g) (range_with_len 0 n ++ range_with_len k (length cut.bytes))) (sym (zero-add n))
+          ∙ ap (map (line_byte g)) (sym (range_append 0 n (length cut.bytes)))
+          ∙ ap (line_bytes g) (sym ends);
+      latest_is = ap (latest_below g) ends ∙ join.latest_is;
+      covered = λ x h. elim (cases_lt x n) [
+        | inl a ↦ w.covered x a
+        | inr a ↦ let e : n + (x - n) ≡ x = omega arith in ap (λ k. is_some (g k)) (sym e) ∙ ap is_some (holds (x - n) (omega arith))
+      ];
+      within = omega arith;
+      rest_is = λ x a b. w.rest_is x (omega arith) b ∙ ap (λ q. option_or q (first_byte ps x)) (byte_in-past p x (omega arith));
+      rest_from = AreOrdered-down (end_of p) (end_of cut) ps limit o.2 stays;
+    })
 
 -- ---- where the walk ends
 
@@ -164,25 +162,8 @@ gap_next (p ∷ ps) n from o is h =
     first_byte-before p.from (p ∷ ps) limit n (omega arith, o.1, o.2) strict
 
 pub part_near : (g : ℕ → Option TimedByte) (stop n latest : ℕ) (out : List LineByte) (rest : List Span) → Walk g stop n latest out rest
-    → (p : Span) (ps : List Span) → rest ≡ p ∷ ps → (part : Span) → part ≡ front_of stop p → end_of part ≤ limit
+    → (p : Span) (ps : List Span) → rest ≡ p ∷ ps → (part : Span) → part ≡ span_below stop p → end_of part ≤ limit
 part_near g stop n latest out rest w p ps e part is =
     let o = rw e at w.rest_from in
     let h : end_of p ≤ limit = AreOrdered-bounds (end_of p) ps limit o.2 in
     rw is (omega (arith, length-take (stop - p.from) p.bytes))
-
-pub walk_at : (g : ℕ → Option TimedByte) (stop n latest : ℕ) (out : List LineByte) (rest : List Span) → Walk g stop n latest out rest
-    → (p : Span) (ps : List Span) → rest ≡ p ∷ ps → (from : ℕ) → from ≡ first_from rest → from ≤ n → n < stop
-    → (part : Span) → part ≡ front_of stop p → (now : ℕ) → now ≡ max latest part.at → (starts : Bool) → starts ≡ (n == 0 || not (now == latest))
-    → (len : ℕ) → len ≡ end_of part → (new : List LineByte) → new ≡ out ++ bytes_with_mark now starts part.bytes
-    → Walk g stop len now new ps
-walk_at g stop n latest out rest w p ps e from is at_n before part part_is now now_is starts starts_is len len_is new new_is =
-    let w' = rw e at w in
-    let is' = rw e at is in
-    let now_is' = rw part_is at now_is in
-    let o = w'.rest_from in
-    let from_n : p.from ≡ n = omega (arith, is', at_n, o.0) in
-    rw (new_is, len_is, part_is) (walk_more g stop n latest out p ps w' from_n before now starts now_is' starts_is)
-
-pub walk_begin : (g : ℕ → Option TimedByte) (stop latest : ℕ) (out : List LineByte) (rest : List Span) → AreOrdered 0 rest limit → ((x : ℕ) → g x ≡ first_byte rest x)
-    → latest ≡ 0 → out ≡ [] → Walk g stop 0 latest out rest
-walk_begin g stop latest out rest o e a b = rw (a, b) (walk_start g stop rest o e)

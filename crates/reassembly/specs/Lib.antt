@@ -7,4 +7,5 @@ pub mod SideLines
 pub mod LineLaws
 pub mod RecordedView
 pub mod ConnectionInstants
+pub mod RowLines
 pub mod RecordedRows

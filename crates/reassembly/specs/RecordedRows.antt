@@ -1,15 +1,10 @@
 -- Worked rows: what the definition of a recorded side gives, beside values from outside.
 use Rattle.std.specs.Prelude.{◌≡◌, ℕ, List, [], ◌∷◌, Some, None, true, false}
-use Rattle.frame_headers.specs.declared.peers.Peer.{Peer}
 use Rattle.conn_table.specs.IndexedSegments.{TimedSegment}
+use Rattle.conn_table.specs.RowSegments.{client, server}
 use Rattle.reassembly.specs.Positions.{shifted_start, covers, value_at, is_covered}
 use Rattle.reassembly.specs.RecordedLines.{LineByte, live, fin, reset, is_counted_fin, recorded_side}
-
-abbrev pub client : Peer
-client = record { addr = 0x0a000001; port = 40000 }
-
-abbrev pub server : Peer
-server = record { addr = 0x0a000002; port = 80 }
+use Rattle.reassembly.specs.RowLines.{hello}
 
 -- a segment of each side: instant, sequence number, flags, payload
 abbrev pub from_client : ℕ → ℕ → ℕ → List ℕ → TimedSegment
@@ -70,9 +65,6 @@ StampsFell =
 
 -- ---- a plain session that the server resets: data first, then RST
 
-abbrev pub hello : List LineByte
-hello = first_of_chunk 1001000 104 ∷ same_chunk 1001000 101 ∷ same_chunk 1001000 108 ∷ same_chunk 1001000 108 ∷ same_chunk 1001000 111 ∷ []
-
 abbrev pub closed : List TimedSegment
 closed =
     from_client 1000000 1000 2 [] ∷ from_server 1000100 5000 18 [] ∷ from_client 1001000 1001 24 (104 ∷ 101 ∷ 108 ∷ 108 ∷ 111 ∷ [])
@@ -81,7 +73,7 @@ closed =
 -- a whole line keeps its FIN, also where a reset came later
 abbrev pub SessionClosed : Type 0
 SessionClosed =
-    (recorded_side closed client (Some 1000) ≡ record { line = record { bytes = hello; end = fin 1002000 }; lost = 0 })
+    (recorded_side closed client (Some 1000) ≡ record { line = record { bytes = hello 1001000; end = fin 1002000 }; lost = 0 })
     × (recorded_side closed server (Some 5000) ≡ record { line = record { bytes = []; end = fin 1003000 }; lost = 0 })
 
 -- ---- a SYN and a FIN with data, in one segment

@@ -1,31 +1,30 @@
--- A side's line from what each position has: its bytes up to the first gap or a FIN, and its end.
-use Rattle.std.specs.Prelude.{◌≡◌, ◌≤◌, ◌<◌, ℕ, zero, suc, ◌+◌, ◌-◌, ◌==◌, ◌⊎◌, max, Bool, true, ◌||◌, not, List, [], ◌∷◌, map, length, sum_by, find, Option, Some, None, is_some, option_map, if◌then◌else◌}
-use Rattle.std.specs.List.{range_with_len}
+-- A side's line by spans: its bytes up to the first gap or a FIN, and its end; from the members, and from ordered spans.
+use Rattle.std.specs.Prelude.{◌≡◌, ◌≤◌, ◌<◌, ℕ, ◌+◌, ◌-◌, ◌==◌, ◌⊎◌, min, max, Bool, true, ◌||◌, not, List, [], ◌∷◌, map, length, count_by, sum_by, find, Option, Some, None, is_some, option_map, unwrap_or, if◌then◌else◌}
+use Rattle.std.specs.List.{range_with_len, prefix_len}
+use Rattle.pcap_records.specs.Instants.{greatest}
 use Rattle.conn_table.specs.IndexedSegments.{TimedSegment}
 use Rattle.conn_table.specs.declared.conns.Member.{Member}
 use Rattle.reassembly.specs.declared.sides.CountedFin.{CountedFin}
 use Rattle.reassembly.specs.declared.sides.SideLine.{SideLine}
 use Rattle.reassembly.specs.Positions.{origin}
 use Rattle.reassembly.specs.LineView.{line_of}
-use Rattle.reassembly.specs.RecordedLines.{LineByte, End, fin, RecordedSide, fin_position, fin_segment, side_of}
-use Rattle.reassembly.specs.Spans.{Span, TimedByte, limit, first_byte}
-use Rattle.reassembly.specs.MemberSpans.{member_position, segment_span, member_spans, own_members, is_fin_member}
+use Rattle.reassembly.specs.RecordedLines.{LineByte, End, fin, RecordedSide, fin_position, fin_segment}
+use Rattle.reassembly.specs.Spans.{Span, TimedByte, limit, end_of, first_byte}
+use Rattle.reassembly.specs.MemberSpans.{member_position, member_spans, own_members, is_fin_member}
 
--- ---- bytes
+-- ---- bytes, where g has for each position its byte
 
 abbrev pub value_of : Option TimedByte → ℕ
-value_of None = 0
-value_of (Some b) = b.value
+value_of o = unwrap_or (option_map (λ b. b.value) o) 0
 
 abbrev pub instant_of : Option TimedByte → ℕ
-instant_of None = 0
-instant_of (Some b) = b.at
+instant_of o = unwrap_or (option_map (λ b. b.at) o) 0
 
--- the greatest instant of the positions below x
-unfoldable pub latest_below : (ℕ → Option TimedByte) → ℕ → ℕ
-latest_below g zero = 0
-latest_below g (suc x) = max (latest_below g x) (instant_of (g x))
+-- when all of the first n positions were there
+abbrev pub latest_below : (ℕ → Option TimedByte) → ℕ → ℕ
+latest_below g n = greatest (map (λ x. instant_of (g x)) (range_with_len 0 n))
 
+-- a byte is available when it and all before it have come; a chunk starts where that instant changes
 abbrev pub line_byte : (ℕ → Option TimedByte) → ℕ → LineByte
 line_byte g x = record {
   value = value_of (g x);
@@ -36,9 +35,20 @@ line_byte g x = record {
 abbrev pub line_bytes : (ℕ → Option TimedByte) → ℕ → List LineByte
 line_bytes g n = map (line_byte g) (range_with_len 0 n)
 
+abbrev pub has_byte : (ℕ → Option TimedByte) → ℕ → Bool
+has_byte g x = is_some (g x)
+
+-- the least position that is not covered, where none is from `end` on
+abbrev pub gap_before : (ℕ → Option TimedByte) → ℕ → ℕ
+gap_before g end = prefix_len (has_byte g) (range_with_len 0 end)
+
+-- how many positions from n on to `end` are covered
+abbrev pub count_from : (ℕ → Option TimedByte) → ℕ → ℕ → ℕ
+count_from g end n = count_by (has_byte g) (range_with_len n (end - n))
+
 -- all positions below n have a byte, and n is `stop` or has none
 pub record IsFront (g : ℕ → Option TimedByte) (stop n : ℕ) : Type 0 where
-  pub covered : (x : ℕ) → x < n → is_some (g x) ≡ true
+  pub covered : (x : ℕ) → x < n → has_byte g x ≡ true
   pub within : n ≤ stop
   pub ends : (n ≡ stop) ⊎ (g n ≡ None)
 
@@ -47,50 +57,71 @@ abbrev pub first_from : List Span → ℕ
 first_from [] = 0
 first_from (p ∷ ps) = p.from
 
--- ---- the FIN that counts, and the end
+-- ---- the FIN
+
+-- the FIN of segments that counts
+abbrev pub segment_fin : ℕ → TimedSegment → CountedFin
+segment_fin base m = record { position = fin_position base m; at = m.at }
+
+abbrev pub counted_fin : ℕ → List TimedSegment → Option CountedFin
+counted_fin base members = option_map (segment_fin base) (fin_segment base members)
 
 -- where a member's FIN stands, and when it was captured
 abbrev pub fin_of : ℕ → Member → CountedFin
 fin_of base m = record { position = member_position base m + m.len - origin; at = m.at }
 
--- the same of a segment as the definitions see it
-abbrev pub segment_fin : ℕ → TimedSegment → CountedFin
-segment_fin base m = record { position = fin_position base m; at = m.at }
+-- the first FIN of members that counts
+abbrev pub fin_of_members : ℕ → List Member → Option CountedFin
+fin_of_members base members = option_map (fin_of base) (find (is_fin_member base) members)
 
 -- the position by which a line ends
 abbrev pub stop_of : Option CountedFin → ℕ
 stop_of None = limit
 stop_of (Some c) = c.position
 
--- the end of a line of n bytes, of which the last was available at `latest`
+-- the bytes before the first gap, and before the FIN
+abbrev pub length_to : Option CountedFin → ℕ → ℕ
+length_to None gap = gap
+length_to (Some c) gap = min c.position gap
+
+-- by the FIN where no byte before it is missing, when it and these had come; else as the connection ends
 abbrev pub end_by : ℕ → ℕ → End → Option CountedFin → End
 end_by n latest other None = other
 end_by n latest other (Some c) = if n == c.position then fin (max c.at latest) else other
+
+-- ---- a side
+
+-- the first n positions, and how many bytes are lost
+abbrev pub side_to : (ℕ → Option TimedByte) → Option CountedFin → End → ℕ → ℕ → RecordedSide
+side_to g counted other n lost = record { line = record { bytes = line_bytes g n; end = end_by n (latest_below g n) other counted }; lost = lost }
+
+-- no position from here on is covered
+abbrev pub end_of_all : List Span → ℕ
+end_of_all ps = greatest (map end_of ps)
+
+-- the side that payloads make of which the first that covers a position counts there, with the FIN that counts, of a connection
+-- that else ends so
+abbrev pub side_of_spans : List Span → Option CountedFin → End → RecordedSide
+side_of_spans ps counted other =
+    let n = length_to counted (gap_before (first_byte ps) (end_of_all ps)) in
+    side_to (first_byte ps) counted other n (count_from (first_byte ps) (end_of_all ps) n)
+
+abbrev pub without_bytes : End → RecordedSide
+without_bytes end = record { line = record { bytes = []; end = end }; lost = 0 }
 
 abbrev pub len_of : Span → ℕ
 len_of p = length p.bytes
 
 -- the line of the first n positions; the other bytes of the ordered spans are lost
 abbrev pub side_by : List Span → Option CountedFin → End → ℕ → RecordedSide
-side_by ps counted other n = record {
-  line = record {
-    bytes = line_bytes (first_byte ps) n;
-    end = end_by n (latest_below (first_byte ps) n) other counted;
-  };
-  lost = sum_by len_of ps - n;
-}
+side_by ps counted other n = side_to (first_byte ps) counted other n (sum_by len_of ps - n)
 
--- ---- the side that members make
-
--- without a base it has no bytes; with one it is the side of all segments that have these members' spans and FIN
+-- the side that members make: without a base it has no bytes
 abbrev pub IsSideOf : Option ℕ → Bool → List ℕ → List Member → End → RecordedSide → Type 0
-IsSideOf None client file members other s = s ≡ record { line = record { bytes = []; end = other }; lost = 0 }
+IsSideOf None client file members other s = s ≡ without_bytes other
 IsSideOf (Some base) client file members other s =
-    (ms : List TimedSegment) → map (segment_span base) ms ≡ member_spans base file (own_members client members)
-    → option_map (segment_fin base) (fin_segment base ms) ≡ option_map (fin_of base) (find (is_fin_member base) (own_members client members))
-    → s ≡ side_of base ms other
-
--- ---- of the code
+    let own = own_members client members in
+    s ≡ side_of_spans (member_spans base file own) (fin_of_members base own) other
 
 abbrev pub side_view : SideLine → RecordedSide
 side_view s = record { line = line_of s.parts.items s.end; lost = s.lost }

@@ -1,5 +1,6 @@
 -- Spans: bytes from a position on, with the instant at which they were captured; and what a list of spans has for each position.
 use Rattle.std.specs.Prelude.{◌≡◌, ◌≤◌, ◌<◌, ◌^◌, ℕ, ◌+◌, ◌-◌, List, [], ◌∷◌, map, length, take, drop, Option, None, is_some, true, option_map, slice_get, nat_le, if◌then◌else◌}
+use Rattle.std.specs.List.{AllByRecursion}
 use Rattle.std.specs.Option.{option_or}
 use Rattle.reassembly.specs.declared.patches.Patch.{Patch}
 
@@ -36,11 +37,11 @@ abbrev pub layered_byte : List Span → List Span → ℕ → Option TimedByte
 layered_byte upper lower x = option_or (first_byte upper x) (first_byte lower x)
 
 -- the positions of a span below n, and those from n on
-abbrev pub front_of : ℕ → Span → Span
-front_of n p = record { from = p.from; at = p.at; bytes = take (n - p.from) p.bytes }
+abbrev pub span_below : ℕ → Span → Span
+span_below n p = record { from = p.from; at = p.at; bytes = take (n - p.from) p.bytes }
 
-abbrev pub back_of : ℕ → Span → Span
-back_of n p = record { from = p.from + (n - p.from); at = p.at; bytes = drop (n - p.from) p.bytes }
+abbrev pub span_from : ℕ → Span → Span
+span_from n p = record { from = p.from + (n - p.from); at = p.at; bytes = drop (n - p.from) p.bytes }
 
 -- no span, where it has no bytes
 abbrev pub with_bytes : Span → List ℕ → List Span
@@ -53,7 +54,7 @@ unless_empty p = with_bytes p p.bytes
 -- the positions of a list's first span from `floor` on, and its other spans
 abbrev pub spans_from : ℕ → List Span → List Span
 spans_from floor [] = []
-spans_from floor (r ∷ rs) = back_of floor r ∷ rs
+spans_from floor (r ∷ rs) = span_from floor r ∷ rs
 
 -- none is empty, the first begins at `low` or after it, each other at the end of the one before or after it, the last ends by `high`
 abbrev pub AreOrdered : ℕ → List Span → ℕ → Type 0
@@ -61,9 +62,11 @@ AreOrdered low [] high = low ≤ high
 AreOrdered low (p ∷ ps) high = (low ≤ p.from) × (0 < length p.bytes) × AreOrdered (end_of p) ps high
 
 -- none is empty, and all end by the limit
+abbrev pub IsNear : Span → Type 0
+IsNear p = (0 < length p.bytes) × (end_of p ≤ limit)
+
 abbrev pub AreNear : List Span → Type 0
-AreNear [] = Unit {0}
-AreNear (p ∷ ps) = (0 < length p.bytes) × (end_of p ≤ limit) × AreNear ps
+AreNear ps = AllByRecursion IsNear ps
 
 -- ---- a pass over a side's spans
 

@@ -127,7 +127,6 @@ impl<'a> Line<'a> {
     }
 }
 
-// Adds a part.
 pub(crate) fn add_part<'a>(
     parts: &mut Vec<LinePart<'a>>,
     part: &LinePart<'a>,

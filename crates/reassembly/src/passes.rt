@@ -1,5 +1,5 @@
 //! The patches of a side, in one pass over the connection's members.
-ghost use Rattle.std.specs.Prelude.{◌≡◌, ◌≤◌, ℕ, IfOk, All, max, nat_lt, if◌then◌else◌};
+ghost use Rattle.std.specs.Prelude.{◌≡◌, ◌≤◌, ℕ, IfOk, All, nat_lt, if◌then◌else◌};
 ghost use Rattle.std.specs.Option.{option_or};
 ghost use Rattle.reassembly.specs.Spans.{span_of, spans, end_of, limit, byte_in, first_byte, layered_byte, AreOrdered, Taken};
 ghost use Rattle.reassembly.specs.MemberSpans.{IsInFile, member_spans, own_members};
@@ -67,7 +67,7 @@ fn take<'a>(
     let since = run_since(patch.from, run);
     Ok(Run {
         since,
-        high: greater(run.high, end(patch)),
+        high: run.high.max(end(patch)),
     })
 }
 
@@ -76,13 +76,6 @@ fn run_since(from: usize, run: Run) -> usize
     ensures { result ≡ (if nat_lt run.high from then from else run.since) }
 {
     if from > run.high { from } else { run.since }
-}
-
-// The greater of two positions.
-fn greater(a: usize, b: usize) -> usize
-    ensures { result ≡ max a b }
-{
-    if a < b { b } else { a }
 }
 
 // The ordered patches with the late ones under them.

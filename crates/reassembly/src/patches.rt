@@ -1,6 +1,6 @@
 //! Patches: bytes from a position on, as a slice, with the instant at which they were captured.
 ghost use Rattle.std.specs.Prelude.{◌≡◌, ◌+◌, ◌≤◌, ◌<◌, [], ◌∷◌, ◌++◌, length, drop, OnOk};
-ghost use Rattle.reassembly.specs.Spans.{span_of, spans, end_of, front_of, back_of, unless_empty, limit};
+ghost use Rattle.reassembly.specs.Spans.{span_of, spans, end_of, span_below, span_from, unless_empty, limit};
 
 use pcap_records::Moment;
 use std::alloc::AllocError;
@@ -14,7 +14,6 @@ pub(crate) struct Patch<'a> {
     pub bytes: &'a [u8],
 }
 
-/// Where a patch ends.
 pub(crate) fn end(patch: &Patch) -> usize
     requires { end_of (span_of patch.now) ≤ limit }
     ensures { result ≡ end_of (span_of patch.now) }
@@ -24,7 +23,7 @@ pub(crate) fn end(patch: &Patch) -> usize
 
 /// The positions of a patch below `n`.
 pub(crate) fn front<'a>(patch: &Patch<'a>, n: usize) -> Patch<'a>
-    ensures { span_of result ≡ front_of n (span_of patch.now) }
+    ensures { span_of result ≡ span_below n (span_of patch.now) }
 {
     let len = n.saturating_sub(patch.from).min(patch.bytes.len());
     Patch {
@@ -36,7 +35,7 @@ pub(crate) fn front<'a>(patch: &Patch<'a>, n: usize) -> Patch<'a>
 
 /// The positions of a patch from `n` on.
 pub(crate) fn back<'a>(patch: &Patch<'a>, n: usize) -> Patch<'a>
-    ensures { span_of result ≡ back_of n (span_of patch.now) }
+    ensures { span_of result ≡ span_from n (span_of patch.now) }
 {
     let hidden = n.saturating_sub(patch.from);
     let cut = hidden.min(patch.bytes.len());
@@ -47,7 +46,6 @@ pub(crate) fn back<'a>(patch: &Patch<'a>, n: usize) -> Patch<'a>
     }
 }
 
-/// Patch `i`.
 pub(crate) fn patch_at<'a>(patches: &[Patch<'a>], i: usize) -> Patch<'a>
     requires { i < length patches.now }
     ensures { spans (drop i patches.now) ≡ span_of result ∷ spans (drop (i + 1) patches.now) }
@@ -60,7 +58,6 @@ pub(crate) fn patch_at<'a>(patches: &[Patch<'a>], i: usize) -> Patch<'a>
     }
 }
 
-/// Adds a patch.
 pub(crate) fn add<'a>(patches: &mut Vec<Patch<'a>>, patch: &Patch<'a>) -> Result<(), AllocError>
     ensures { OnOk result (spans patches.new.items ≡ spans patches.old.items ++ span_of patch.now ∷ []) }
 {

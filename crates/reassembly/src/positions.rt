@@ -70,7 +70,6 @@ pub(crate) fn effective_members(members: &[Member]) -> &[Member]
     }
 }
 
-// The number of the first reset.
 fn first_reset(members: &[Member]) -> Option<usize>
     ensures exact { result ≡ position is_reset_member members.now }
     ensures within { IfSome result (λ count. count < length members.now) }

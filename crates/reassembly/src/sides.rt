@@ -1,8 +1,8 @@
 //! One side of a connection, from its members: its line up to the first gap or to the FIN that counts, and how many bytes lie after.
-ghost use Rattle.std.specs.Prelude.{◌≡◌, ◌<◌, ◌==◌, ◌||◌, [], not, length, drop, find, option_map, sum_by, IfOk, All};
+ghost use Rattle.std.specs.Prelude.{◌≡◌, ◌<◌, ◌==◌, ◌||◌, not, length, drop, sum_by, IfOk, All};
 ghost use Rattle.reassembly.specs.LineView.{bytes_of_parts, end_view};
-ghost use Rattle.reassembly.specs.MemberSpans.{IsInFile, is_fin_member, own_members};
-ghost use Rattle.reassembly.specs.SideLines.{IsFront, IsSideOf, end_by, fin_of, first_from, latest_below, len_of, line_bytes, side_by, side_view, stop_of};
+ghost use Rattle.reassembly.specs.MemberSpans.{IsInFile, own_members};
+ghost use Rattle.reassembly.specs.SideLines.{IsFront, IsSideOf, end_by, fin_of_members, first_from, latest_below, len_of, line_bytes, side_by, side_view, stop_of, without_bytes};
 ghost use Rattle.reassembly.specs.Spans.{AreOrdered, first_byte, limit, spans};
 ghost use Rattle.pcap_records.specs.CaptureView.{bytes_of};
 
@@ -37,7 +37,7 @@ pub(crate) fn recorded_side<'a>(
 
 // The line without bytes.
 fn without_base<'a>(alloc: Global, other: End) -> SideLine<'a>
-    ensures { side_view result ≡ record { line = record { bytes = []; end = end_view other }; lost = 0 } }
+    ensures { side_view result ≡ without_bytes (end_view other) }
 {
     SideLine {
         parts: Vec::new(alloc),
@@ -56,7 +56,7 @@ pub(crate) struct CountedFin {
 
 // The first FIN of one side in the file that stands at position 0 or later.
 fn first_fin(base: u32, client: bool, members: &[Member]) -> Option<CountedFin>
-    ensures { result ≡ option_map (fin_of base) (find (is_fin_member base) (own_members client members.now)) }
+    ensures { result ≡ fin_of_members base (own_members client members.now) }
 {
     members
         .iter()

@@ -1,9 +1,9 @@
 -- The delays of two lines, over runs of bytes of one instant.
-use Rattle.std.proofs.Common.{◌≡◌, ◌≢◌, ◌≤◌, ◌<◌, ℕ, zero, suc, ◌+◌, ◌-◌, ◌==◌, min, max, Bool, true, false, cond, List, [], ◌∷◌, ◌++◌, map, length, drop, get_or, replicate, refl, sym, ap, ◌∙◌, arith, zero-add, drop-cons, ne_eqb}
+use Rattle.std.proofs.Common.{◌≡◌, ◌≤◌, ◌<◌, ℕ, zero, suc, ◌+◌, ◌-◌, ◌==◌, min, max, Bool, true, false, cond, List, [], ◌∷◌, ◌++◌, map, length, drop, get_or, replicate, refl, sym, ap, ◌∙◌, arith, zero-add, drop-cons, ne_eqb}
 use Rattle.std.specs.List.{zip, flat_map}
 use Rattle.std.proofs.Math.ListN.{drop_of_length-le}
 use Rattle.std.proofs.Math.Seq.{drop-nil}
-use Rattle.std.proofs.lemmas.Bool.{eqb-true, eqb-false}
+use Rattle.std.proofs.lemmas.Bool.{eqb-true}
 use Rattle.std.proofs.lemmas.List.{map-append}
 use Rattle.pcap_records.specs.Instants.{greatest}
 use Rattle.reassembly.specs.RecordedLines.{LineByte}
@@ -135,12 +135,6 @@ pub record Walk (recorded delivered : List LinePart) (from to : Cursor) (longest
   pub to_within : IsWithin delivered to
   pub done : max longest (longest_of (rest_at recorded from) (rest_at delivered to)) ≡ longest_of (instants_of_parts recorded) (instants_of_parts delivered)
 
-abbrev pub start : Cursor
-start = record { part = 0; offset = 0 }
-
-pub walk_begins : (recorded delivered : List LinePart) → Walk recorded delivered start start 0
-walk_begins recorded delivered = record { from_within = omega arith; to_within = omega arith; done = omega arith }
-
 pub walk_on : (recorded delivered : List LinePart) (from to : Cursor) (longest longer run : ℕ) (s c : LinePart) → Walk recorded delivered from to longest
     → from.part < length recorded → to.part < length delivered → s ≡ get_or recorded from.part s → c ≡ get_or delivered to.part c
     → run ≡ min (length s.bytes.now - from.offset) (length c.bytes.now - to.offset) → longer ≡ max longest (cond (run == 0) 0 (c.at - s.at))
@@ -190,19 +184,3 @@ pub delivered_ends : (recorded delivered : List LinePart) (from to : Cursor) (lo
     → longest ≡ longest_delay (bytes_of_parts recorded) (bytes_of_parts delivered)
 delivered_ends recorded delivered from to longest w h =
     walk_whole recorded delivered from to longest w (ap (longest_of (rest_at recorded from)) (rest_none delivered to h) ∙ longest_none (rest_at recorded from))
-
--- ---- the measure
-
-pub nearer : (i k m j l n run len other : ℕ) → k ≤ m → l ≤ n → run ≡ min (m - k) (n - l) → i < len → j < other
-    → (len - (cursor_on (record { part = i; offset = k }) m run).part) + (other - (cursor_on (record { part = j; offset = l }) n run).part) < (len - i) + (other - j)
-nearer i k m j l n run len other hk hl r lt lt' = by_tests (k + run == m) (l + run == n) refl refl
-  where
-    by_tests : (t u : Bool) → (k + run == m) ≡ t → (l + run == n) ≡ u
-        → (len - (let q : Cursor = cond t (record { part = i + 1; offset = 0 }) (record { part = i; offset = k + run }) in q).part) + (other - (let q : Cursor = cond u (record { part = j + 1; offset = 0 }) (record { part = j; offset = l + run }) in q).part) < (len - i) + (other - j)
-    by_tests true true e f = omega arith
-    by_tests true false e f = omega arith
-    by_tests false true e f = omega arith
-    by_tests false false e f =
-        let a : k + run ≢ m = eqb-false (k + run) m e in
-        let b : l + run ≢ n = eqb-false (l + run) n f in
-        absurd (omega arith)

@@ -1,3 +1,2 @@
 pub mod ByteRuns
-pub mod PartBytes
 pub mod SeenCounts

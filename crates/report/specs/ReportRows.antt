@@ -1,50 +1,23 @@
 -- Worked rows of a connection's line: what is told of lines that became others, and were cut.
 use Rattle.std.specs.Prelude.{◌≡◌, ℕ, List, [], ◌∷◌, codes, Some, None, true, false}
-use Rattle.frame_headers.specs.declared.peers.Peer.{Peer}
-use Rattle.reassembly.specs.RecordedLines.{LineByte, Line, End, live, fin, close, reset, RecordedConnection}
+use Rattle.conn_table.specs.RowSegments.{client, server}
+use Rattle.reassembly.specs.RecordedLines.{LineByte, Line, live, fin, close, reset, RecordedConnection}
+use Rattle.reassembly.specs.RowLines.{hello, four_of_hello, line_with, session}
 use Rattle.toxic_defs.specs.DeliveredLines.{DeliveredConnection, delivered_connection}
 use Rattle.toxic_defs.specs.SessionCut.{cut_line}
 use Rattle.report.specs.ReportText.{connection_text}
-
-abbrev pub client : Peer
-client = record { addr = 0x0a000001; port = 40000 }
-
-abbrev pub server : Peer
-server = record { addr = 0x0a000002; port = 80 }
-
--- a chunk of five bytes, or of four, at an instant
-abbrev pub hello : ℕ → List LineByte
-hello at = record { value = 104; at = at; starts = true } ∷ record { value = 101; at = at; starts = false } ∷ record { value = 108; at = at; starts = false } ∷ record { value = 108; at = at; starts = false } ∷ record { value = 111; at = at; starts = false } ∷ []
-
-abbrev pub hell : ℕ → List LineByte
-hell at = record { value = 104; at = at; starts = true } ∷ record { value = 101; at = at; starts = false } ∷ record { value = 108; at = at; starts = false } ∷ record { value = 108; at = at; starts = false } ∷ []
 
 -- two chunks of a byte
 abbrev pub ho : ℕ → ℕ → List LineByte
 ho first second = record { value = 104; at = first; starts = true } ∷ record { value = 111; at = second; starts = true } ∷ []
 
-abbrev pub line_with : List LineByte → End → Line
-line_with bytes end = record { bytes = bytes; end = end }
-
--- the lines of a session, written out by hand
-abbrev pub session : RecordedConnection
-session = record {
-  up = record { line = line_with (hello 1001000) (fin 1002000); lost = 0 };
-  down = record { line = line_with [] (fin 1003000); lost = 0 };
-  client_base = 1000;
-  server_base = Some 5000;
-  opened = 1000000;
-  mac_client = 2 ∷ 0 ∷ 0 ∷ 0 ∷ 0 ∷ 1 ∷ [];
-  mac_server = 2 ∷ 0 ∷ 0 ∷ 0 ∷ 0 ∷ 2 ∷ [];
-}
-
 -- two lines after a proxy, cut
-abbrev pub both_cut : Line → Line → DeliveredConnection
-both_cut up down = record { proxy = Some 0; refused = false; up = cut_line 1000000 up down up; down = cut_line 1000000 up down down }
+abbrev pub delivered_cut : Line → Line → DeliveredConnection
+delivered_cut up down = record { proxy = Some 0; refused = false; up = cut_line 1000000 up down up; down = cut_line 1000000 up down down }
 
 -- what is told of a session where its lines became these
 abbrev pub text_of : RecordedConnection → Line → Line → List ℕ
-text_of recorded up down = connection_text 0 None client server recorded (both_cut up down)
+text_of recorded up down = connection_text 0 None client server recorded (delivered_cut up down)
 
 -- ---- as recorded, and refused
 
@@ -63,7 +36,7 @@ RefusedTold =
 -- a close after four bytes ends both directions
 abbrev pub LimitedText : Type 0
 LimitedText =
-    text_of session (line_with (hell 1001000) (close 1001000)) (line_with [] (fin 1003000))
+    text_of session (line_with (four_of_hello 1001000) (close 1001000)) (line_with [] (fin 1003000))
     ≡ codes "0 10.0.0.1:40000 > 10.0.0.2:80 proxy 0 up 4/5/0 close+1000 max 0 down 0/0/0 close+1000 max 0\n"
 
 -- a recorded reset cuts what comes later than it

@@ -48,7 +48,7 @@ pub fn report(
 }
 
 // The first two lines of a report, with room for the lines of so many connections.
-#[tactic(auto, unfolding(crate::specs::ReportText::counts_text))]
+#[tactic(auto, using(crate::proofs::SeenCounts::seen_count), unfolding(crate::specs::ReportText::counts_text))]
 fn open_report(
     alloc: Global,
     scenario: u32,

@@ -1,12 +1,9 @@
-//! Worked rows of the definitions: each function does nothing, and its contract is evaluated.
+//! Worked rows of the definitions: the function does nothing, and its contract is evaluated.
 ghost use Rattle.report.specs.ReportRows.{SessionTold, RefusedTold, LimitedText, ResetText, StoppedText, ResetAtOnceText, TieText, FinStaysText, AtHorizonText, BeforeHorizonText, LaterText, LongestText};
 
-fn plain_rows()
+fn line_rows()
     ensures session { SessionTold }
     ensures refused { RefusedTold }
-{}
-
-fn cut_rows()
     ensures limited { LimitedText }
     ensures reset { ResetText }
     ensures stopped { StoppedText }
@@ -15,9 +12,6 @@ fn cut_rows()
     ensures fin_stays { FinStaysText }
     ensures at_horizon { AtHorizonText }
     ensures before_horizon { BeforeHorizonText }
-{}
-
-fn delay_rows()
     ensures later { LaterText }
     ensures longest { LongestText }
 {}

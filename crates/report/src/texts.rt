@@ -17,7 +17,6 @@ pub(crate) fn push(text: &mut Vec<u8>, words: &str) -> Result<(), AllocError>
     Ok(())
 }
 
-/// Appends a number.
 pub(crate) fn push_number(text: &mut Vec<u8>, number: u64) -> Result<(), AllocError>
     ensures { OnOk result (text.new.items ≡ text.old.items ++ decimal number) }
 {

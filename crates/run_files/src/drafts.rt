@@ -7,7 +7,8 @@ ghost use Rattle.run_files.specs.WrittenOutputs.{files_from, four_digits, PutsAf
 
 use crate::error::{ShelfError, StoreFault};
 use crate::outputs::file_name;
-use crate::shelves::{Folder, MemoryFile, MemoryShelf, Shelf};
+use crate::shelves::{Folder, MemoryShelf, Shelf};
+use crate::streams::count_failure;
 use std::alloc::{AllocError, Global};
 use std::fs;
 use std::io::Write;
@@ -79,9 +80,7 @@ impl DraftShelf for MemoryShelf {
 
     fn take(&mut self, name: &str, draft: MemoryDraft) -> Result<(), ShelfError> {
         let kept = self.keep_draft(name, draft);
-        if kept.is_err() {
-            self.failed += 1;
-        }
+        count_failure(&kept, &mut self.failed);
         kept
     }
 }
@@ -100,9 +99,7 @@ impl MemoryShelf {
         if draft.has_failed {
             return Err(ShelfError);
         }
-        let file = MemoryFile::of(self.alloc, name, draft.bytes)?;
-        self.files.push(file).map_err(AllocError::from)?;
-        Ok(())
+        Ok(self.add(name, draft.bytes)?)
     }
 }
 
@@ -181,9 +178,7 @@ impl<'a, F: Files> DraftShelf for Folder<'a, F> {
 
     fn take(&mut self, name: &str, draft: FolderDraft<'a, F>) -> Result<(), ShelfError> {
         let taken = self.name_draft(name, draft);
-        if taken.is_err() {
-            self.failed += 1;
-        }
+        count_failure(&taken, &mut self.failed);
         taken
     }
 }

@@ -1,9 +1,9 @@
 //! Bytes from their hexadecimal digits.
-ghost use Rattle.std.specs.Prelude.{◌≡◌, ◌<◌, ◌%◌, ◌==◌, if◌then◌else◌, Ok, Some, IfSome, IsOk, OnOk, IfErr, count_by, position};
+ghost use Rattle.std.specs.Prelude.{◌≡◌, ◌<◌, ◌%◌, ◌==◌, if◌then◌else◌, Ok, Some, IfOk, IfSome, IsOk, OnOk, IfErr, count_by, position};
 ghost use Rattle.hex.specs.Hex.{hex_digit_value, is_hex_digit};
-ghost use Rattle.pcap_records.specs.Agreement.{Agrees};
+ghost use Rattle.lists.specs.Agreement.{Agrees};
 ghost use Rattle.run_files.specs.RunFault.{run_refusal};
-ghost use Rattle.run_files.specs.Dumps.{is_foreign, digit_meaning, is_dump, dump_reading};
+ghost use Rattle.run_files.specs.Dumps.{is_foreign, digit_meaning, is_dump, dump_reading, dumped_bytes};
 
 use crate::error::RunFault;
 use std::alloc::{AllocError, Global};
@@ -30,6 +30,13 @@ pub fn undump(alloc: Global, text: &[u8]) -> Result<Vec<u8>, RunFault>
     ensures { Agrees run_refusal (λ bytes. bytes.items) result (dump_reading text.now) }
 {
     let digits = check_dump(text)?;
+    Ok(joined_digits(alloc, text, digits)?)
+}
+
+// The bytes that a text's digits make, with room for so many digits.
+fn joined_digits(alloc: Global, text: &[u8], digits: usize) -> Result<Vec<u8>, AllocError>
+    ensures { IfOk result (λ bytes. bytes.items ≡ dumped_bytes text.now) }
+{
     let mut bytes = Vec::with_capacity(alloc, digits / 2)?;
     let mut higher = None;
     'digits: for b in text {
@@ -37,7 +44,7 @@ pub fn undump(alloc: Global, text: &[u8]) -> Result<Vec<u8>, RunFault>
             match higher {
                 None => higher = Some(value),
                 Some(first) => {
-                    bytes.push(first * 16 + value).map_err(AllocError::from)?;
+                    bytes.push(first * 16 + value)?;
                     higher = None;
                 }
             }

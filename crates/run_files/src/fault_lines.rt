@@ -1,5 +1,5 @@
 //! The line that tells a fault.
-ghost use Rattle.std.specs.Prelude.{◌≡◌, ◌++◌, IfOk, OnOk};
+ghost use Rattle.std.specs.Prelude.{◌≡◌, ◌++◌, IfOk, OnOk, Some};
 ghost use Rattle.std.specs.String.{string_bytes};
 ghost use Rattle.run_files.specs.declared.error.RunFault.TheVariants as RunFault;
 ghost use Rattle.run_files.specs.RunFault.{cause_entry, fault_entry, fault_text, known_text, place_text};
@@ -9,7 +9,7 @@ use scenarios::{Cause, Refusal};
 use std::alloc::{AllocError, Global};
 
 /// Where a fault lies.
-#[derive(Clone, Copy, Debug, PartialEq, Eq)]
+#[derive(Clone, Copy)]
 pub(crate) enum FaultPlace {
     /// It knows no place.
     Nowhere,
@@ -28,7 +28,7 @@ pub(crate) enum FaultPlace {
 }
 
 /// What is told of a fault: its number, its name, and its place.
-#[derive(Clone, Copy, Debug)]
+#[derive(Clone, Copy)]
 pub(crate) struct FaultEntry {
     pub number: u32,
     pub name: &'static str,
@@ -105,36 +105,41 @@ fn entry_of(fault: &RunFault) -> FaultEntry
     }
 }
 
-// Adds a number that is known, after the name of what it counts.
+// Adds a number, after the name of what it counts.
+fn push_number(line: &mut String, name: &str, number: u64) -> Result<(), AllocError>
+    ensures { OnOk result (string_bytes line.new ≡ string_bytes line.old ++ known_text name.now (Some number)) }
+{
+    write!(line, "{name}{number}")
+}
+
+// Adds it where it is known.
 fn push_known(line: &mut String, name: &str, number: Option<usize>) -> Result<(), AllocError>
     ensures { OnOk result (string_bytes line.new ≡ string_bytes line.old ++ known_text name.now number) }
 {
-    if let Some(number) = number {
-        write!(line, "{name}{number}")?;
+    match number {
+        None => Ok(()),
+        Some(number) => push_number(line, name, number as u64),
     }
-    Ok(())
 }
 
-// Adds a place.
 fn push_place(line: &mut String, place: &FaultPlace) -> Result<(), AllocError>
     ensures { OnOk result (string_bytes line.new ≡ string_bytes line.old ++ place_text place.now) }
 {
     match place {
-        FaultPlace::Nowhere => {}
-        FaultPlace::At(at) => write!(line, " at {at}")?,
-        FaultPlace::Host(at) => write!(line, " host {at}")?,
-        FaultPlace::After(files) => write!(line, " after {files}")?,
+        FaultPlace::Nowhere => Ok(()),
+        FaultPlace::At(at) => push_number(line, " at ", *at),
+        FaultPlace::Host(at) => push_number(line, " host ", *at),
+        FaultPlace::After(files) => push_number(line, " after ", *files),
         FaultPlace::In {
             scenario,
             proxy,
             toxic,
         } => {
-            push_known(line, " scenario ", Some(*scenario))?;
+            push_number(line, " scenario ", *scenario as u64)?;
             push_known(line, " proxy ", *proxy)?;
-            push_known(line, " toxic ", *toxic)?;
+            push_known(line, " toxic ", *toxic)
         }
     }
-    Ok(())
 }
 
 /// The line that tells a fault: `refused`, its number, its name and, where the fault knows one, its

@@ -1,11 +1,11 @@
 //! Loading a file by its path: a large one by workers, block by block.
-ghost use Rattle.std.specs.Prelude.{◌≡◌, ◌≤◌, ◌<◌, length, All, IfErr, IfOk};
+ghost use Rattle.std.specs.Prelude.{◌≡◌, ◌≤◌, ◌<◌, length, All, IfErr, IfOk, IfSome};
 ghost use Rattle.pcap_records.specs.Blocks.{block_len, block_limit};
 ghost use Rattle.pcap_records.specs.Reading.{capture_limit};
 ghost use Rattle.run_files.specs.Paths.{IsOfFile};
 
 use crate::error::RunFault;
-use crate::streams::{Counted, load, room_to_read};
+use crate::streams::{load_file, room_to_read};
 use crate::texts::Text;
 use job_matrix::{Phase, Plan, Through, Work, work_all};
 use pcap_records::{BLOCK_LEN, Blocks, CAPTURE_LIMIT, SLICE_LIMIT, Values};
@@ -40,15 +40,28 @@ where
     let Ok(file) = fs::open(rt, path) else {
         return Err(RunFault::ReadFailed);
     };
-    let count = block_count(&file);
-    if plan.workers() > 1 && count > 1 && count <= BLOCK_LIMIT {
-        let blocks = blocks_by_workers(rt, alloc, &file, count, plan)?;
-        if let Some(text) = Text::of_blocks(blocks) {
-            return Ok(text);
-        }
+    if let Some(text) = text_in_blocks(rt, alloc, &file, plan)? {
+        return Ok(text);
     }
-    let bytes = load(alloc, &mut Counted::new(file))?;
-    Ok(Text::of(bytes))
+    Ok(Text::of(load_file(alloc, file)?))
+}
+
+// The text of a file in blocks, unless it is to be loaded in one piece.
+fn text_in_blocks<R: Threads + Sync, F: OpenFile + FileExt + Sync>(
+    rt: &R,
+    alloc: Global,
+    file: &F,
+    plan: Plan,
+) -> Result<Option<Text<'static>>, RunFault>
+    ensures within { IfOk result (λ text. IfSome text (λ text. length text ≤ capture_limit)) }
+    ensures of_file { IfErr result IsOfFile }
+{
+    let count = block_count(file);
+    if plan.workers() < 2 || count < 2 || count > BLOCK_LIMIT {
+        return Ok(None);
+    }
+    let blocks = blocks_by_workers(rt, alloc, file, count, plan)?;
+    Ok(Text::of_blocks(blocks))
 }
 
 // How many blocks a file has; none where it is not a regular one, which may have no end.
@@ -116,7 +129,7 @@ impl<'f, F: FileExt + Sync> Work for BlockJobs<'f, F> {
 
 // The bytes that a block has of its own, or why they were not loaded. A file tells nothing, so contracts see nothing of the bytes but how
 // many they can be.
-#[derive(Debug, Drop)]
+#[derive(Drop)]
 struct LoadedBlock {
     bytes: Result<Vec<u8>, RunFault>,
 }

@@ -126,7 +126,6 @@ fn put_file<S: Shelf>(
     }
 }
 
-// The name of a file.
 pub(crate) fn file_name(alloc: Global, number: usize, ending: &str) -> Result<String, AllocError>
     ensures { IfOk result (λ name. string_bytes name ≡ four_digits number ++ ending.now) }
 {

@@ -1,6 +1,6 @@
 //! Named files: what is loaded of a path.
 use crate::error::RunFault;
-use crate::streams::{Counted, load};
+use crate::streams::load_file;
 use std::alloc::Global;
 use std::fs;
 use std::rt::Files;
@@ -11,7 +11,7 @@ use std::rt::Files;
 /// files others may change.
 pub trait Paths {
     ghost use Rattle.std.specs.Prelude.{◌≡◌, ◌≤◌, None, Option, length, true, IfErr, IfOk, IfSome};
-    ghost use Rattle.pcap_records.specs.Agreement.{AgreesUnlessMemory};
+    ghost use Rattle.lists.specs.Agreement.{AgreesUnlessMemory};
     ghost use Rattle.pcap_records.specs.Reading.{capture_limit};
     ghost use Rattle.run_files.specs.Paths.{Held, IsOfFile, text_at};
     ghost use Rattle.run_files.specs.RunFault.{run_refusal};
@@ -59,7 +59,7 @@ impl<'a, F: Files> Paths for FileSystem<'a, F> {
         let Ok(file) = fs::open(self.files, path) else {
             return Err(RunFault::ReadFailed);
         };
-        load(alloc, &mut Counted::new(file))
+        load_file(alloc, file)
     }
 
     fn is_file_system(&self) -> bool {

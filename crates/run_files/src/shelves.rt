@@ -4,6 +4,7 @@ ghost use Rattle.std.specs.String.{string_bytes, string_capacity};
 ghost use Rattle.run_files.specs.Shelves.{path_in};
 
 use crate::error::ShelfError;
+use crate::streams::count_failure;
 use std::alloc::{AllocError, Global};
 use std::fs::{self, Metadata, OpenOptions};
 use std::io::{ErrorKind, Write};
@@ -52,19 +53,6 @@ impl Model for MemoryFile {
 }
 
 impl MemoryFile {
-    ghost use Rattle.std.specs.Prelude.{◌≡◌, IfOk};
-    ghost use Rattle.run_files.specs.Shelves.{stored_file};
-
-    // A file of some bytes.
-    pub(crate) fn of(alloc: Global, name: &str, bytes: Vec<u8>) -> Result<MemoryFile, AllocError>
-        ensures { IfOk result (λ f. f ≡ stored_file name.now bytes.items) }
-    {
-        Ok(MemoryFile {
-            name: String::from_str(alloc, name)?,
-            bytes,
-        })
-    }
-
     /// Its name.
     pub fn name(&self) -> &str
         ensures { result.now ≡ self.now.name }
@@ -84,8 +72,8 @@ impl MemoryFile {
 /// refused, and keeps nothing of that file.
 #[derive(Drop)]
 pub struct MemoryShelf {
-    pub(crate) alloc: Global,
-    pub(crate) files: Vec<MemoryFile>,
+    alloc: Global,
+    files: Vec<MemoryFile>,
     pub(crate) failed: u64,
 }
 
@@ -139,8 +127,16 @@ impl MemoryShelf {
         ensures failed { self.new.failed ≡ self.old.failed }
     {
         let copy = Vec::from_slice(self.alloc, bytes)?;
-        let file = MemoryFile::of(self.alloc, name, copy)?;
-        self.files.push(file)?;
+        self.add(name, copy)
+    }
+
+    // Adds a file of some bytes.
+    pub(crate) fn add(&mut self, name: &str, bytes: Vec<u8>) -> Result<(), AllocError>
+        ensures files { self.new.files ≡ (if is_ok result then self.old.files ++ stored_file name.now bytes.items ∷ [] else self.old.files) }
+        ensures failed { self.new.failed ≡ self.old.failed }
+    {
+        let name = String::from_str(self.alloc, name)?;
+        self.files.push(MemoryFile { name, bytes })?;
         Ok(())
     }
 }
@@ -154,9 +150,7 @@ impl Shelf for MemoryShelf {
 
     fn put(&mut self, name: &str, bytes: &[u8]) -> Result<(), ShelfError> {
         let kept = self.keep(name, bytes);
-        if kept.is_err() {
-            self.failed += 1;
-        }
+        count_failure(&kept, &mut self.failed);
         Ok(kept?)
     }
 }
@@ -165,7 +159,7 @@ impl Shelf for MemoryShelf {
 const NAME_LIMIT: usize = 255;
 
 /// What tells a file of the file system from all others, whatever its paths: the device that it is on, and its inode number there.
-#[derive(Clone, Copy, Debug, PartialEq, Eq)]
+#[derive(Clone, Copy, PartialEq, Eq)]
 pub(crate) struct FileId {
     device: u64,
     inode: u64,
@@ -319,9 +313,7 @@ impl<'a, F: Files> Shelf for Folder<'a, F> {
 
     fn put(&mut self, name: &str, bytes: &[u8]) -> Result<(), ShelfError> {
         let written = self.write_file(name, bytes);
-        if written.is_err() {
-            self.failed += 1;
-        }
+        count_failure(&written, &mut self.failed);
         written
     }
 }

@@ -3,6 +3,7 @@ ghost use Rattle.std.specs.Prelude.{◌≡◌, ◌+◌, ◌-◌, ◌^◌, ◌<�
 ghost use Rattle.std.specs.Io.{ReadsAtMost, WritesAtMost};
 ghost use Rattle.std.specs.Io.KnownBytes.{ReadConsumes, WriteAppends, Consumes, IsAtEnd, Appends};
 ghost use Rattle.pcap_records.specs.Reading.{capture_limit};
+ghost use Rattle.run_files.specs.Paths.{IsOfFile};
 ghost use Rattle.run_files.specs.Streams.{StopsLoading};
 
 use crate::error::RunFault;
@@ -64,9 +65,7 @@ impl<R: Read> Counted<R> {
         ensures failed { self.new.failed ≡ (if is_ok result then self.old.failed else self.old.failed + 1) }
     {
         let result = self.inner.read(buf);
-        if result.is_err() {
-            self.failed += 1;
-        }
+        count_failure(&result, &mut self.failed);
         result
     }
 }
@@ -87,10 +86,18 @@ impl<W: Write> Counted<W> {
             Ok(0) if !buf.is_empty() => Err(io::Error::from(ErrorKind::WriteZero)),
             other => other,
         };
-        if result.is_err() {
-            self.failed += 1;
-        }
+        count_failure(&result, &mut self.failed);
         result
+    }
+}
+
+// Counts a call that has failed.
+pub(crate) fn count_failure<T, E>(outcome: &Result<T, E>, failed: &mut u64)
+    requires { failed.old < 2 ^ 64 - 1 }
+    ensures { failed.new ≡ (if is_ok outcome.now then failed.old else failed.old + 1) }
+{
+    if outcome.is_err() {
+        *failed += 1;
     }
 }
 
@@ -133,6 +140,14 @@ pub fn load<R: Read>(alloc: Global, reader: &mut Counted<R>) -> Result<Vec<u8>, 
         }
         bytes.extend_from_slice(&buffer[..len])?;
     }
+}
+
+// Loads a file that is open, as [`load`] does.
+pub(crate) fn load_file<F: Read + Drop>(alloc: Global, file: F) -> Result<Vec<u8>, RunFault>
+    ensures within { IfOk result (λ bytes. length bytes.items ≤ capture_limit) }
+    ensures of_file { IfErr result IsOfFile }
+{
+    load(alloc, &mut Counted::new(file))
 }
 
 // Room for one read. It stands apart so that no proof meets a list of so many zeros.

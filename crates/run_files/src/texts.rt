@@ -1,6 +1,6 @@
 //! The text of a capture as it was loaded, in one piece or in blocks, or as it is lent.
 ghost use Rattle.std.specs.Prelude.{◌≡◌, if◌then◌else◌, IfSome, Result, Ok};
-ghost use Rattle.pcap_records.specs.Agreement.{Agrees};
+ghost use Rattle.lists.specs.Agreement.{Agrees};
 ghost use Rattle.pcap_records.specs.CaptureView.{bytes_of};
 ghost use Rattle.run_files.specs.Dumps.{is_dump, dump_reading};
 ghost use Rattle.run_files.specs.RunFault.{run_refusal};
@@ -12,7 +12,7 @@ use std::alloc::Global;
 use std::marker::Model;
 
 /// Where the bytes of a text stand.
-#[derive(Debug, Drop)]
+#[derive(Drop)]
 pub(crate) enum TextBytes<'t> {
     /// In one piece.
     Whole(Vec<u8>),
@@ -23,7 +23,7 @@ pub(crate) enum TextBytes<'t> {
 }
 
 /// The text of a capture: its bytes as they were loaded or are lent, which may be a dump. Contracts see the bytes.
-#[derive(Debug, Drop)]
+#[derive(Drop)]
 pub struct Text<'t> {
     bytes: TextBytes<'t>,
 }

@@ -1,5 +1,5 @@
 -- What std reads as an IPv4 address is `address` of the text.
-use Rattle.std.proofs.Common.{◌≡◌, ℕ, List, [], ◌∷◌, length, Some, None, option_map, refl, ap, ◌∙◌, append-nil, lit≤}
+use Rattle.std.proofs.Common.{◌≡◌, ℕ, List, [], ◌∷◌, length, Option, Some, None, option_map, refl, ap, ◌∙◌, append-nil, lit≤}
 use Rattle.std.proofs.Math.Dec.{eqb-suc-zero}
 use Rattle.std.specs.Int.{w32, from_be_bytes}
 use Rattle.std.specs.Net.Grammar.{IsDotted, IsIpv4Text}
@@ -16,22 +16,10 @@ address_of_dotted text octets h =
     ap (λ r. option_map (from_be_bytes w32) (whole_value r)) (rw append-nil at (read_ipv4_complete text octets [] h (lit≤ tt)))
 
 -- what was read whole is dotted
-pub dotted_by_reading : (text octets : List ℕ) → read_ipv4 text ≡ Some (octets, []) → IsDotted text octets
+dotted_by_reading : (text octets : List ℕ) → read_ipv4 text ≡ Some (octets, []) → IsDotted text octets
 dotted_by_reading text octets e =
     let found = read_ipv4_sound text octets [] e in
     rw (found.1, append-nil) found.2
-
-none_by_reading : (text octets rest : List ℕ) → read_ipv4 text ≡ Some (octets, rest) → ((a : Ipv4Addr) → ¬ (IsIpv4Text text a)) → option_map (from_be_bytes w32) (whole_value (Some (octets, rest))) ≡ None
-none_by_reading text octets [] e none = absurd (none (record { octets = octets }) (dotted_by_reading text octets e))
-none_by_reading text octets (x ∷ rest) e none = rw (eqb-suc-zero (length rest)) refl
-
-none_of : (text : List ℕ) (r : Read (List ℕ)) → read_ipv4 text ≡ r → ((a : Ipv4Addr) → ¬ (IsIpv4Text text a)) → option_map (from_be_bytes w32) (whole_value r) ≡ None
-none_of text None e none = refl
-none_of text (Some p) e none = none_by_reading text p.0 p.1 e none
-
--- where no address has the text there is none
-pub address_of_none : (text : List ℕ) → ((a : Ipv4Addr) → ¬ (IsIpv4Text text a)) → address text ≡ None
-address_of_none text none = none_of text (read_ipv4 text) refl none
 
 dotted_by_value : (text octets rest : List ℕ) (addr : ℕ) → read_ipv4 text ≡ Some (octets, rest) → option_map (from_be_bytes w32) (whole_value (Some (octets, rest))) ≡ Some addr → (octets : List ℕ) × IsDotted text octets × (from_be_bytes w32 octets ≡ addr)
 dotted_by_value text octets [] addr e value = (octets, dotted_by_reading text octets e, same_Some _ _ value)
@@ -40,6 +28,14 @@ dotted_by_value text octets (x ∷ rest) addr e value = absurd (none-some addr (
 dotted_of : (text : List ℕ) (addr : ℕ) (r : Read (List ℕ)) → read_ipv4 text ≡ r → option_map (from_be_bytes w32) (whole_value r) ≡ Some addr → (octets : List ℕ) × IsDotted text octets × (from_be_bytes w32 octets ≡ addr)
 dotted_of text addr None e value = absurd (none-some addr value)
 dotted_of text addr (Some p) e value = dotted_by_value text p.0 p.1 addr e value
+
+-- where no address has the text there is none
+pub address_of_none : (text : List ℕ) → ((a : Ipv4Addr) → ¬ (IsIpv4Text text a)) → address text ≡ None
+address_of_none text none = by (address text) refl
+  where
+    by : (o : Option ℕ) → address text ≡ o → address text ≡ None
+    by None e = e
+    by (Some addr) e = let dotted = dotted_of text addr (read_ipv4 text) refl e in absurd (none (record { octets = dotted.0 }) dotted.1)
 
 -- a text is an address exactly where it is dotted
 pub addresses_are_dotted : AddressesAreDotted

@@ -52,24 +52,13 @@ first_behind server p proxies (Some n) other first = record {
 Met : Peer → List Proxy → Option ℕ → Type 0
 Met server proxies o = MatchOption o (AllByRecursion (λ q. q.upstream ≢ server) proxies) (IsFirstFor server proxies)
 
-first_of_test : (server : Peer) (p : Proxy) (proxies : List Proxy) (b : Bool) → leads_to server p ≡ b → Met server proxies (met_number server proxies) → Met server (p ∷ proxies) (met_number server (p ∷ proxies))
-unfolding Met
-first_of_test server p proxies true test later = rw (met_here server p proxies test) (record {
-  before = [];
-  proxy = p;
-  after = proxies;
-  split = refl;
-  place = refl;
-  leads = leads server p test;
-  others = tt;
-})
-first_of_test server p proxies false test later = rw (met_behind server p proxies test) (first_behind server p proxies (met_number server proxies) (leads_not server p test) later)
-
-met : (server : Peer) (proxies : List Proxy) → Met server proxies (met_number server proxies)
-unfolding Met
-met server [] = tt
-met server (p ∷ proxies) = first_of_test server p proxies (leads_to server p) refl (met server proxies)
-
 pub first_is_met : FirstIsMet
 unfolding Met
-first_is_met server proxies = met server proxies
+first_is_met server [] = tt
+first_is_met server (p ∷ proxies) = by (leads_to server p) refl (first_is_met server proxies)
+  where
+    by : (b : Bool) → leads_to server p ≡ b → Met server proxies (met_number server proxies) → Met server (p ∷ proxies) (met_number server (p ∷ proxies))
+    by true test later =
+        rw (met_here server p proxies test)
+        (record { before = []; proxy = p; after = proxies; split = refl; place = refl; leads = leads server p test; others = tt })
+    by false test later = rw (met_behind server p proxies test) (first_behind server p proxies (met_number server proxies) (leads_not server p test) later)

@@ -1,14 +1,10 @@
 mod AddressSteps
-mod LastHosts
 mod LastPlaces
 mod MappedNames
-mod PortSteps
-mod Trees
 mod FirstProxies
 mod PassedSteps
 mod SoundToxics
 mod SoundScenarios
 mod ToxicsReadBack
 mod ReadBacks
-mod WorkedRows
-mod WorkedToxicRows
+mod OnLiterals

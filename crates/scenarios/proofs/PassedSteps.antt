@@ -1,7 +1,7 @@
 -- What steps went through, if they gave a value.
 use Rattle.std.proofs.Common.{◌≡◌, Bool, true, false, Option, Some, None, option_and_then, Result, Ok, Err, refl, ap}
 use Rattle.std.proofs.lemmas.Option.{none-some}
-use Rattle.scenarios.specs.Refusals.{with, after, unless, at_place}
+use Rattle.scenarios.specs.Refusals.{with, and_then, unless, at_place}
 use Rattle.scenarios.specs.declared.error.Cause.{Cause}
 use Rattle.scenarios.specs.declared.error.Refusal.{Refusal}
 
@@ -15,7 +15,7 @@ pub of_with : {A B E P : Type 0} (o : Option A) (e : E) (next : A → Result B E
 of_with None e next y is k = err_is_not_ok _ _ is
 of_with (Some x) e next y is k = k x refl is
 
-pub of_after : {A B E P : Type 0} (r : Result A E) (next : A → Result B E) (y : B) → after r next ≡ Ok y → ((x : A) → r ≡ Ok x → next x ≡ Ok y → P) → P
+pub of_after : {A B E P : Type 0} (r : Result A E) (next : A → Result B E) (y : B) → and_then r next ≡ Ok y → ((x : A) → r ≡ Ok x → next x ≡ Ok y → P) → P
 of_after (Ok x) next y is k = k x refl is
 of_after (Err e) next y is k = err_is_not_ok _ _ is
 

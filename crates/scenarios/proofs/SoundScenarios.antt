@@ -1,8 +1,8 @@
 -- The proxies of a scenario are sound.
-use Rattle.std.proofs.Common.{◌≡◌, ℕ, ◌<◌, ◌≤◌, ◌^◌, ◌&&◌, Bool, true, false, nat_lt, nat_le, List, [], ◌∷◌, ◌++◌, codes, length, Some, None, Ok, if◌then◌else◌, refl, sym, ap, subst, ◌∙◌, arith, append-nil, append_assoc, length-append}
-use Rattle.std.proofs.lemmas.Bool.{leb-false, ltb-true}
+use Rattle.std.proofs.Common.{◌≡◌, ℕ, ◌<◌, ◌≤◌, ◌^◌, ◌&&◌, Bool, false, nat_lt, nat_le, List, [], ◌∷◌, ◌++◌, codes, length, Some, None, Ok, if◌then◌else◌, sym, ap, subst, ◌∙◌, arith, append-nil, append_assoc, length-append}
+use Rattle.std.proofs.lemmas.Bool.{leb-false, ltb-true, and_parts}
 use Rattle.std.proofs.lemmas.Bool.Decides.{nat_tests}
-use Rattle.std.proofs.lemmas.Option.{none-some, same_Some}
+use Rattle.std.proofs.lemmas.Option.{cond_some}
 use Rattle.std.specs.List.{AllByRecursion}
 use Rattle.std.specs.Str.{all_ascii_digits}
 use Rattle.std.specs.Str.Parse.{digits_value}
@@ -24,12 +24,9 @@ use Rattle.scenarios.proofs.SoundToxics.{toxics_are_sound}
 -- ---- fields and upstreams
 
 of_test : (len : ℕ) (b : Bool) (m n : ProxyFields) → (if nat_lt 0 len && b then Some m else None) ≡ Some n → (0 < len) × (m ≡ n)
-of_test len b m n is = of_tests (nat_lt 0 len) b refl is
-  where
-    of_tests : (a c : Bool) → nat_lt 0 len ≡ a → (if a && c then Some m else None) ≡ Some n → (0 < len) × (m ≡ n)
-    of_tests true true e given = (ltb-true 0 len e, same_Some _ _ given)
-    of_tests true false e given = absurd (none-some n given)
-    of_tests false c e given = absurd (none-some n given)
+of_test len b m n is =
+    let passed = cond_some (nat_lt 0 len && b) m n is in
+    (ltb-true 0 len (and_parts (nat_lt 0 len) b passed.0).0, passed.1)
 
 fields_have_names : (d : Data) (m : ProxyFields) → proxy_fields d ≡ Some m → 0 < length m.name
 fields_have_names d m is =

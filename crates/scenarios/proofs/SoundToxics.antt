@@ -1,14 +1,14 @@
 -- The toxics of a proxy in a file are in range, and not too many.
-use Rattle.std.proofs.Common.{◌≡◌, ℕ, ◌<◌, Bool, true, false, nat_le, List, [], ◌∷◌, ◌++◌, length, Some, None, option_and_then, if◌then◌else◌, Ok, refl, subst, arith, length-append}
+use Rattle.std.proofs.Common.{◌≡◌, ℕ, ◌<◌, nat_le, List, [], ◌∷◌, ◌++◌, length, Some, option_and_then, Ok, subst, arith, length-append}
 use Rattle.std.proofs.lemmas.Bool.{leb-false}
-use Rattle.std.proofs.lemmas.Option.{none-some, same_Some}
-use Rattle.pcap_records.proofs.Lists.{all_push}
+use Rattle.std.proofs.lemmas.Option.{cond_some}
+use Rattle.lists.proofs.Lists.{all_push}
 use Rattle.serde_json.specs.Data.{Data, Items, no_items, item}
 use Rattle.toxic_defs.specs.declared.kinds.Kind.{Kind}
 use Rattle.toxic_defs.specs.Limits.{most_toxics}
 use Rattle.toxic_defs.specs.Toxics.{RatedKind, is_in_range, IsInRange, made_toxic}
 use Rattle.scenarios.specs.Refusals.{at_place, of_toxic}
-use Rattle.scenarios.specs.ToxicTypes.{toxic_type, stream_of, name_of, kind_in_range, ppm_of}
+use Rattle.scenarios.specs.ToxicTypes.{toxic_type, stream_named, name_of, kind_in_range, ppm_of}
 use Rattle.scenarios.specs.ToxicsInFiles.{toxic_fields, ToxicsRead, no_toxics, direction, is_name_taken, NamedToxic, checked_toxic, toxic_in, with_toxic, toxics_from}
 use Rattle.scenarios.specs.ProxyLaws.{AreSoundToxics}
 use Rattle.scenarios.specs.declared.toxic_types.ToxicType.{ToxicType}
@@ -18,12 +18,11 @@ use Rattle.scenarios.proofs.PassedSteps.{same_ok, of_with, of_after, of_unless, 
 
 -- ---- one toxic
 
-in_range_by_test : (b : Bool) (x toxic : RatedKind) → is_in_range x ≡ b → (if b then Some x else None) ≡ Some toxic → IsInRange toxic
-in_range_by_test true x toxic test is = subst IsInRange (same_Some _ _ is) test
-in_range_by_test false x toxic test is = absurd (none-some toxic is)
-
 made_is_in_range : (kind : Kind) (ppm : ℕ) (toxic : RatedKind) → made_toxic kind ppm ≡ Some toxic → IsInRange toxic
-made_is_in_range kind ppm toxic is = in_range_by_test (is_in_range (record { kind = kind; ppm = ppm })) (record { kind = kind; ppm = ppm }) toxic refl is
+made_is_in_range kind ppm toxic is =
+    let made : RatedKind = record { kind = kind; ppm = ppm } in
+    let passed = cond_some (is_in_range made) made toxic is in
+    subst IsInRange passed.1 passed.0
 
 -- a toxic is in range, and its direction has room for it
 Fits : ToxicsRead → NamedToxic → Type 0
@@ -44,7 +43,7 @@ unfolding toxic_in
 toxic_fits read d t is =
     of_with (toxic_fields d) _ _ t is λ m _ is₁.
     of_with (toxic_type m.type_text) _ _ t is₁ λ type_is _ is₂.
-    of_with (stream_of m.stream) _ _ t is₂ λ stream _ is₃.
+    of_with (stream_named m.stream) _ _ t is₂ λ stream _ is₃.
     checked_fits read (name_of m.name type_is stream) stream type_is d t is₃
 
 -- ---- the toxics of both directions

@@ -11,7 +11,7 @@ use Rattle.toxic_defs.specs.declared.kinds.Kind.{Kind}
 use Rattle.toxic_defs.specs.declared.kinds.Kind.TheVariants.{Latency, Bandwidth, SlowClose, Timeout, ResetPeer, Slicer, LimitData}
 use Rattle.toxic_defs.specs.Limits.{million, most_toxics}
 use Rattle.toxic_defs.specs.Toxics.{RatedKind, fits, IsInRange, made_toxic}
-use Rattle.scenarios.specs.ToxicTypes.{type_name, toxic_type, stream_name, stream_of, name_of, kind_of, type_of, toxic_data, toxics_data}
+use Rattle.scenarios.specs.ToxicTypes.{type_name, toxic_type, stream_name, stream_named, name_of, kind_of, type_of, toxic_data, toxics_data}
 use Rattle.scenarios.specs.ToxicsInFiles.{ToxicsRead, no_toxics, direction, is_name_taken, checked_toxic, toxic_in, with_toxic, toxics_from}
 use Rattle.scenarios.specs.ProxyLaws.{AreSoundToxics}
 use Rattle.scenarios.specs.declared.toxic_types.ToxicType.{ToxicType}
@@ -29,7 +29,7 @@ type_is_read ToxicType.ResetPeer = refl
 type_is_read ToxicType.Slicer = refl
 type_is_read ToxicType.LimitData = refl
 
-stream_is_read : (way : Stream) → stream_of (stream_name way) ≡ Some way
+stream_is_read : (way : Stream) → stream_named (stream_name way) ≡ Some way
 stream_is_read Upstream = refl
 stream_is_read Downstream = refl
 

@@ -3,7 +3,7 @@ use Rattle.std.specs.Prelude.{ℕ, ◌&&◌, List, [], ◌∷◌, ◌++◌, code
 use Rattle.std.specs.List.{list_any}
 use Rattle.serde_json.specs.Data.{Data, Items, no_items, item}
 use Rattle.scenarios.specs.Fields.{required_text, is_text_or_absent, optional_flag, optional_list}
-use Rattle.scenarios.specs.Refusals.{with, after, unless, of_proxy, at_place}
+use Rattle.scenarios.specs.Refusals.{with, and_then, unless, of_proxy, at_place}
 use Rattle.scenarios.specs.ToxicsInFiles.{no_toxics, toxics_from}
 use Rattle.scenarios.specs.Upstreams.{upstream}
 use Rattle.frame_headers.specs.declared.peers.Peer.{Peer}
@@ -52,7 +52,7 @@ pub record CheckedProxy : Type 0 where
 unfoldable pub accepted_proxy : List KnownHost → List Proxy → ProxyFields → Result CheckedProxy Refusal
 accepted_proxy hosts earlier m =
     unless (has_name earlier m.name) (of_proxy (length earlier) DuplicateProxy)
-    (after (at_place (of_proxy (length earlier)) (upstream hosts m.upstream)) (λ peer.
+    (and_then (at_place (of_proxy (length earlier)) (upstream hosts m.upstream)) (λ peer.
     Ok (record { name = m.name; upstream = peer; enabled = m.enabled; toxics = m.toxics })))
 
 -- one proxy before its toxics are read, after those that stand earlier
@@ -64,12 +64,12 @@ checked_proxy hosts earlier d =
 -- one proxy, after those that stand earlier
 unfoldable pub proxy_in : List KnownHost → List Proxy → Data → Result Proxy Refusal
 proxy_in hosts earlier d =
-    after (checked_proxy hosts earlier d) (λ c.
-    after (toxics_from (length earlier) no_toxics c.toxics) (λ t.
+    and_then (checked_proxy hosts earlier d) (λ c.
+    and_then (toxics_from (length earlier) no_toxics c.toxics) (λ t.
     Ok (record { name = c.name; upstream = c.upstream; enabled = c.enabled; up = t.up; down = t.down })))
 
 -- the proxies of the items, after those that stand earlier
 unfoldable pub proxies_from : List KnownHost → List Proxy → Items → Result (List Proxy) Refusal
 proxies_from hosts earlier no_items = Ok earlier
 proxies_from hosts earlier (item d ds) =
-    after (proxy_in hosts earlier d) (λ p. proxies_from hosts (earlier ++ p ∷ []) ds)
+    and_then (proxy_in hosts earlier d) (λ p. proxies_from hosts (earlier ++ p ∷ []) ds)

@@ -16,9 +16,9 @@ abbrev pub of_toxic : ℕ → ℕ → Cause → Refusal
 of_toxic proxy toxic cause = record { cause = cause; proxy = Some proxy; toxic = Some toxic }
 
 -- what a fault refuses: want of memory refuses nothing
-abbrev pub refusal : ScenarioFault → Option Refusal
-refusal (Refused r) = Some r
-refusal (Memory e) = None
+abbrev pub scenario_refusal : ScenarioFault → Option Refusal
+scenario_refusal (Refused r) = Some r
+scenario_refusal (Memory e) = None
 
 -- the next step with a value, or why there is none
 abbrev pub with : {A B E : Type 0} → Option A → E → (A → Result B E) → Result B E
@@ -26,9 +26,9 @@ with None error next = Err error
 with (Some x) error next = next x
 
 -- the next step with what the last one gave, or its error
-abbrev pub after : {A B E : Type 0} → Result A E → (A → Result B E) → Result B E
-after (Ok x) next = next x
-after (Err error) next = Err error
+abbrev pub and_then : {A B E : Type 0} → Result A E → (A → Result B E) → Result B E
+and_then (Ok x) next = next x
+and_then (Err error) next = Err error
 
 -- the next step, unless a test passes
 abbrev pub unless : {B E : Type 0} → Bool → E → Result B E → Result B E

@@ -1,6 +1,6 @@
 -- Worked rows of scenario files, of the server that a proxy stands before, and of hosts.
 use Rattle.std.specs.Prelude.{◌≡◌, ℕ, List, [], ◌∷◌, ◌++◌, codes, Bool, true, false, Some, None, Ok, Err}
-use Rattle.frame_headers.specs.declared.peers.Peer.{Peer}
+use Rattle.conn_table.specs.RowSegments.{server}
 use Rattle.scenarios.specs.Refusals.{of_text, of_proxy, of_toxic}
 use Rattle.scenarios.specs.Hosts.{host_for}
 use Rattle.scenarios.specs.Upstreams.{upstream}
@@ -48,23 +48,20 @@ pub record HostsUnknown : Type 0 where
 -- ---- files of proxies
 
 -- the JSON of a proxy for 10.0.0.2:80 with a name and further members
-abbrev pub proxy_text : List ℕ → List ℕ → List ℕ
-proxy_text name more = codes "{\"name\":\"" ++ name ++ codes "\",\"upstream\":\"10.0.0.2:80\"" ++ more ++ codes "}"
+abbrev pub proxy_json : List ℕ → List ℕ → List ℕ
+proxy_json name more = codes "{\"name\":\"" ++ name ++ codes "\",\"upstream\":\"10.0.0.2:80\"" ++ more ++ codes "}"
 
 abbrev pub of_one : List ℕ → List ℕ
-of_one more = codes "[" ++ proxy_text (codes "web") more ++ codes "]"
+of_one more = codes "[" ++ proxy_json (codes "web") more ++ codes "]"
 
 abbrev pub of_two : List ℕ → List ℕ → List ℕ
 of_two first second = codes "[" ++ first ++ codes "," ++ second ++ codes "]"
 
-abbrev pub server : Peer
-server = record { addr = 0x0a000002; port = 80 }
-
-abbrev pub named : List ℕ → Bool → Proxy
-named name enabled = record { name = name; upstream = server; enabled = enabled; up = []; down = [] }
+abbrev pub proxy_named : List ℕ → Bool → Proxy
+proxy_named name enabled = record { name = name; upstream = server; enabled = enabled; up = []; down = [] }
 
 abbrev pub web : Proxy
-web = named (codes "web") true
+web = proxy_named (codes "web") true
 
 -- members may be absent, or null, or unknown; of a repeated one the last counts
 pub record ProxiesTold : Type 0 where
@@ -74,23 +71,23 @@ pub record ProxiesTold : Type 0 where
   pub null : scenario [] (of_one (codes ",\"listen\":null,\"enabled\":null,\"toxics\":null,\"colour\":[1]"))
       ≡ Ok (web ∷ [])
   pub repeated : scenario [] (of_one (codes ",\"enabled\":true,\"enabled\":false"))
-      ≡ Ok (named (codes "web") false ∷ [])
+      ≡ Ok (proxy_named (codes "web") false ∷ [])
 
 -- a flag that is a text; a name that is empty; a proxy twice; a toxic of a type; one without a type
 pub record ProxiesRefused : Type 0 where
   pub flag : scenario [] (of_one (codes ",\"enabled\":\"yes\"")) ≡ Err (of_proxy 0 BadMember)
-  pub nameless : scenario [] (codes "[" ++ proxy_text [] [] ++ codes "]") ≡ Err (of_proxy 0 BadMember)
-  pub twice : scenario [] (of_two (proxy_text (codes "web") []) (proxy_text (codes "web") []))
+  pub nameless : scenario [] (codes "[" ++ proxy_json [] [] ++ codes "]") ≡ Err (of_proxy 0 BadMember)
+  pub twice : scenario [] (of_two (proxy_json (codes "web") []) (proxy_json (codes "web") []))
       ≡ Err (of_proxy 1 DuplicateProxy)
   pub toxic : scenario [] (of_one (codes ",\"toxics\":[{\"type\":\"explode\"}]")) ≡ Err (of_toxic 0 0 UnknownToxic)
   pub typeless : scenario [] (of_one (codes ",\"toxics\":[{}]")) ≡ Err (of_toxic 0 0 BadMember)
 
 -- a disabled proxy and one after it, both for one server: the first is met
 abbrev pub two_for_one : List Proxy
-two_for_one = named (codes "a") false ∷ named (codes "b") true ∷ []
+two_for_one = proxy_named (codes "a") false ∷ proxy_named (codes "b") true ∷ []
 
 pub record FirstMet : Type 0 where
-  pub both : scenario [] (of_two (proxy_text (codes "a") (codes ",\"enabled\":false")) (proxy_text (codes "b") []))
+  pub both : scenario [] (of_two (proxy_json (codes "a") (codes ",\"enabled\":false")) (proxy_json (codes "b") []))
       ≡ Ok two_for_one
   pub first : met_number server two_for_one ≡ Some 0
   pub other_port : met_number (record { addr = 0x0a000002; port = 81 }) (web ∷ []) ≡ None

@@ -1,11 +1,12 @@
 -- Worked rows of toxics in scenario files.
 use Rattle.std.specs.Prelude.{◌≡◌, ℕ, List, [], ◌∷◌, ◌++◌, codes, true, Ok, Err, Result}
+use Rattle.conn_table.specs.RowSegments.{server}
 use Rattle.toxic_defs.specs.Toxics.{RatedKind}
 use Rattle.toxic_defs.specs.declared.kinds.Kind.{Kind}
 use Rattle.toxic_defs.specs.declared.kinds.Kind.TheVariants.{Latency, Bandwidth, SlowClose, Timeout, ResetPeer, Slicer, LimitData}
 use Rattle.scenarios.specs.Refusals.{of_toxic}
 use Rattle.scenarios.specs.Populate.{scenario}
-use Rattle.scenarios.specs.ScenarioRows.{of_one, server}
+use Rattle.scenarios.specs.ScenarioRows.{of_one}
 use Rattle.scenarios.specs.declared.proxies.Proxy.{Proxy}
 use Rattle.scenarios.specs.declared.error.Cause.TheVariants.{BadMember, UnknownToxic, BadStream, DuplicateToxic, AttributeRange, TooMany, BadToxicity}
 use Rattle.scenarios.specs.declared.error.Refusal.{Refusal}
@@ -31,15 +32,15 @@ abbrev pub toxicity : List ℕ → List ℕ
 toxicity more = toxic_text (codes "latency") more (codes "\"latency\":100")
 
 -- an upstream toxic with a name and further members
-abbrev pub named : List ℕ → List ℕ → List ℕ
-named name more =
+abbrev pub named_toxic : List ℕ → List ℕ → List ℕ
+named_toxic name more =
     codes "{\"type\":\"timeout\",\"stream\":\"upstream\",\"name\":\"" ++ name ++ codes "\"" ++ more ++ codes "}"
 
 abbrev pub eight : List ℕ
 eight =
-    named (codes "a") [] ++ codes "," ++ named (codes "b") [] ++ codes "," ++ named (codes "c") [] ++ codes ","
-    ++ named (codes "d") [] ++ codes "," ++ named (codes "e") [] ++ codes "," ++ named (codes "f") [] ++ codes ","
-    ++ named (codes "g") [] ++ codes "," ++ named (codes "h") []
+    named_toxic (codes "a") [] ++ codes "," ++ named_toxic (codes "b") [] ++ codes "," ++ named_toxic (codes "c") [] ++ codes ","
+    ++ named_toxic (codes "d") [] ++ codes "," ++ named_toxic (codes "e") [] ++ codes "," ++ named_toxic (codes "f") [] ++ codes ","
+    ++ named_toxic (codes "g") [] ++ codes "," ++ named_toxic (codes "h") []
 
 -- ---- what they are read as
 
@@ -49,26 +50,21 @@ applied kind ppm = record { kind = kind; ppm = ppm }
 abbrev pub web_with : List RatedKind → List RatedKind → Result (List Proxy) Refusal
 web_with up down = Ok (record { name = codes "web"; upstream = server; enabled = true; up = up; down = down } ∷ [])
 
+-- a type with these attributes is this kind, for each connection
+abbrev pub IsReadAs : List ℕ → List ℕ → Kind → Type 0
+IsReadAs type_is attributes kind = read_toxics (toxic_text type_is [] attributes) ≡ web_with (applied kind 1000000 ∷ []) []
+
 -- each type with its own attributes; one that is null is 0, and those of other types are not looked at
 pub record KindsRead : Type 0 where
-  pub latency_kind : read_toxics (toxic_text (codes "latency") [] (codes "\"latency\":100,\"jitter\":50"))
-      ≡ web_with (applied (Latency 100 50) 1000000 ∷ []) []
-  pub bandwidth : read_toxics (toxic_text (codes "bandwidth") [] (codes "\"rate\":1"))
-      ≡ web_with (applied (Bandwidth 1) 1000000 ∷ []) []
-  pub slow_close : read_toxics (toxic_text (codes "slow_close") [] (codes "\"delay\":7"))
-      ≡ web_with (applied (SlowClose 7) 1000000 ∷ []) []
-  pub timeout : read_toxics (toxic_text (codes "timeout") [] (codes "\"timeout\":8"))
-      ≡ web_with (applied (Timeout 8) 1000000 ∷ []) []
-  pub reset_peer : read_toxics (toxic_text (codes "reset_peer") [] (codes "\"timeout\":9"))
-      ≡ web_with (applied (ResetPeer 9) 1000000 ∷ []) []
-  pub slicer : read_toxics (toxic_text (codes "slicer") []
-      (codes "\"average_size\":5,\"size_variation\":4,\"delay\":3"))
-      ≡ web_with (applied (Slicer 5 4 3) 1000000 ∷ []) []
-  pub limit_data : read_toxics (toxic_text (codes "limit_data") [] (codes "\"bytes\":1000000000000"))
-      ≡ web_with (applied (LimitData 1000000000000) 1000000 ∷ []) []
+  pub latency_kind : IsReadAs (codes "latency") (codes "\"latency\":100,\"jitter\":50") (Latency 100 50)
+  pub bandwidth : IsReadAs (codes "bandwidth") (codes "\"rate\":1") (Bandwidth 1)
+  pub slow_close : IsReadAs (codes "slow_close") (codes "\"delay\":7") (SlowClose 7)
+  pub timeout : IsReadAs (codes "timeout") (codes "\"timeout\":8") (Timeout 8)
+  pub reset_peer : IsReadAs (codes "reset_peer") (codes "\"timeout\":9") (ResetPeer 9)
+  pub slicer : IsReadAs (codes "slicer") (codes "\"average_size\":5,\"size_variation\":4,\"delay\":3") (Slicer 5 4 3)
+  pub limit_data : IsReadAs (codes "limit_data") (codes "\"bytes\":1000000000000") (LimitData 1000000000000)
   pub null : read_toxics (latency (codes "null")) ≡ web_with (applied (Latency 0 0) 1000000 ∷ []) []
-  pub unknown : read_toxics (toxic_text (codes "timeout") [] (codes "\"latency\":\"1\""))
-      ≡ web_with (applied (Timeout 0) 1000000 ∷ []) []
+  pub unknown : IsReadAs (codes "timeout") (codes "\"latency\":\"1\"") (Timeout 0)
 
 -- a toxicity of 0, of 0 beside a million, and of a part of a million
 pub record ToxicitiesRead : Type 0 where
@@ -87,7 +83,7 @@ pub record StreamsRead : Type 0 where
   pub null : read_toxics (codes "{\"type\":\"timeout\",\"stream\":null,\"name\":null,\"attributes\":null}")
       ≡ web_with [] (applied (Timeout 0) 1000000 ∷ [])
   pub both : read_toxics (latency (codes "1") ++ codes ",{\"type\":\"timeout\"},"
-      ++ named (codes "b") [] ++ codes ",{\"type\":\"slow_close\"}")
+      ++ named_toxic (codes "b") [] ++ codes ",{\"type\":\"slow_close\"}")
       ≡ web_with (applied (Latency 1 0) 1000000 ∷ applied (Timeout 0) 1000000 ∷ [])
       (applied (Timeout 0) 1000000 ∷ applied (SlowClose 0) 1000000 ∷ [])
 
@@ -107,7 +103,7 @@ pub record NamesRefused : Type 0 where
   pub twice : read_toxics (latency (codes "1") ++ codes "," ++ latency (codes "1")) ≡ Err (of_toxic 0 1 DuplicateToxic)
   pub default : read_toxics (codes "{\"type\":\"timeout\",\"name\":\"latency_downstream\"},{\"type\":\"latency\"}")
       ≡ Err (of_toxic 0 1 DuplicateToxic)
-  pub across : read_toxics (named (codes "latency_downstream") [] ++ codes ",{\"type\":\"latency\"}")
+  pub across : read_toxics (named_toxic (codes "latency_downstream") [] ++ codes ",{\"type\":\"latency\"}")
       ≡ Err (of_toxic 0 1 DuplicateToxic)
 
 -- a latency out of range, below 0, no whole number, and a text; numbers that the tree does not hold as whole ones; no
@@ -139,8 +135,8 @@ pub record ToxicitiesRefused : Type 0 where
 
 -- a ninth toxic upstream; the same with a toxicity that is not valid; a place counts the toxics of both directions
 pub record CountsRefused : Type 0 where
-  pub ninth : read_toxics (eight ++ codes "," ++ named (codes "i") []) ≡ Err (of_toxic 0 8 TooMany)
-  pub toxicity_first : read_toxics (eight ++ codes "," ++ named (codes "i") (codes ",\"toxicity\":2"))
+  pub ninth : read_toxics (eight ++ codes "," ++ named_toxic (codes "i") []) ≡ Err (of_toxic 0 8 TooMany)
+  pub toxicity_first : read_toxics (eight ++ codes "," ++ named_toxic (codes "i") (codes ",\"toxicity\":2"))
       ≡ Err (of_toxic 0 8 BadToxicity)
   pub other_direction : read_toxics (eight ++ codes ",{\"type\":\"timeout\"},{\"type\":\"bandwidth\"}")
       ≡ Err (of_toxic 0 9 AttributeRange)

@@ -37,8 +37,8 @@ stream_name Upstream = codes "upstream"
 stream_name Downstream = codes "downstream"
 
 -- the stream that a text names; the empty text stands for downstream
-abbrev pub stream_of : List ℕ → Option Stream
-stream_of text =
+abbrev pub stream_named : List ℕ → Option Stream
+stream_named text =
     if bytes_eq text (stream_name Upstream) then Some Upstream else
     (if bytes_eq text (stream_name Downstream) then Some Downstream else
     (if bytes_eq text [] then Some Downstream else None))

@@ -5,8 +5,8 @@ use Rattle.serde_json.specs.Data.{Data, Items, no_items, item}
 use Rattle.toxic_defs.specs.Limits.{most_toxics}
 use Rattle.toxic_defs.specs.Toxics.{RatedKind, made_toxic}
 use Rattle.scenarios.specs.Fields.{◌>>=◌, required_text, optional_text, is_object_or_absent}
-use Rattle.scenarios.specs.Refusals.{with, after, unless, of_toxic, at_place}
-use Rattle.scenarios.specs.ToxicTypes.{toxic_type, stream_of, name_of, kind_in_range, ppm_of}
+use Rattle.scenarios.specs.Refusals.{with, and_then, unless, of_toxic, at_place}
+use Rattle.scenarios.specs.ToxicTypes.{toxic_type, stream_named, name_of, kind_in_range, ppm_of}
 use Rattle.scenarios.specs.declared.toxic_types.ToxicType.{ToxicType}
 use Rattle.scenarios.specs.declared.toxic_types.Stream.{Stream}
 use Rattle.scenarios.specs.declared.toxic_types.Stream.TheVariants.{Upstream, Downstream}
@@ -69,7 +69,7 @@ unfoldable pub toxic_in : ToxicsRead → Data → Result NamedToxic Cause
 toxic_in read d =
     with (toxic_fields d) BadMember (λ m.
     with (toxic_type m.type_text) UnknownToxic (λ type_is.
-    with (stream_of m.stream) BadStream (λ stream.
+    with (stream_named m.stream) BadStream (λ stream.
     checked_toxic read (name_of m.name type_is stream) stream type_is d)))
 
 -- ---- the toxics of a proxy
@@ -84,5 +84,5 @@ with_toxic read name Downstream toxic =
 unfoldable pub toxics_from : ℕ → ToxicsRead → Items → Result ToxicsRead Refusal
 toxics_from proxy read no_items = Ok read
 toxics_from proxy read (item d ds) =
-    after (at_place (of_toxic proxy (length read.names)) (toxic_in read d)) (λ t.
+    and_then (at_place (of_toxic proxy (length read.names)) (toxic_in read d)) (λ t.
     toxics_from proxy (with_toxic read t.name t.stream t.toxic) ds)

@@ -4,7 +4,7 @@ use Rattle.std.specs.Str.{all_ascii_digits}
 use Rattle.std.specs.Str.Parse.{digits_value}
 use Rattle.frame_headers.specs.declared.peers.Peer.{Peer}
 use Rattle.scenarios.specs.Hosts.{address, is_host_name, look_up}
-use Rattle.scenarios.specs.Refusals.{with, after, unless}
+use Rattle.scenarios.specs.Refusals.{with, and_then, unless}
 use Rattle.scenarios.specs.declared.hosts.KnownHost.{KnownHost}
 use Rattle.scenarios.specs.declared.error.Cause.{Cause}
 use Rattle.scenarios.specs.declared.error.Cause.TheVariants.{BadUpstream, UnknownHost}
@@ -50,5 +50,5 @@ abbrev pub upstream : List KnownHost → List ℕ → Result Peer Cause
 upstream hosts text =
     with (cut_at_last colon text) BadUpstream (λ parts.
     with (port parts.1) BadUpstream (λ port.
-    after (host_address hosts parts.0) (λ addr.
+    and_then (host_address hosts parts.0) (λ addr.
     Ok (record { addr = addr; port = port }))))

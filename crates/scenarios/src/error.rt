@@ -72,7 +72,6 @@ impl Refusal {
         }
     }
 
-    // A refusal of a proxy.
     pub(crate) fn of_proxy(proxy: usize, cause: Cause) -> Refusal
         ensures { result ≡ of_proxy proxy cause }
     {

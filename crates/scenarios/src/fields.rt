@@ -22,7 +22,6 @@ pub(crate) fn required_text<'a>(value: &'a Value, name: &str) -> Option<&'a str>
     field(value, name)?.as_str()
 }
 
-// Whether a field is a text or absent.
 pub(crate) fn is_text_or_absent(value: &Value, name: &str) -> bool
     ensures { result ≡ is_text_or_absent name.now (view value.now) }
 {
@@ -32,7 +31,6 @@ pub(crate) fn is_text_or_absent(value: &Value, name: &str) -> bool
     }
 }
 
-// Whether a field is an object or absent.
 pub(crate) fn is_object_or_absent(value: &Value, name: &str) -> bool
     ensures { result ≡ is_object_or_absent name.now (view value.now) }
 {

@@ -11,6 +11,7 @@ pub fn addresses_are_dotted()
 {}
 
 /// A server meets the first proxy whose upstream it is, and none where it is the upstream of none.
+#[tactic(auto, using(crate::proofs::FirstProxies::first_is_met))]
 pub fn first_is_met()
     ensures { FirstIsMet }
 {}
@@ -22,12 +23,14 @@ pub fn scenarios_are_sound()
 {}
 
 /// A list of at most 64 proxies, each with a name of its own, that is written as JSON is read as these proxies.
+#[tactic(auto, using(crate::proofs::ReadBacks::proxies_are_read_back))]
 pub fn proxies_are_read_back()
     ensures { ProxiesAreReadBack }
 {}
 
 // ---- worked rows
 
+#[tactic(auto, unfolding(crate::proofs::OnLiterals::rows_on_literals))]
 fn file_rows()
     ensures texts { TextsRead }
     ensures told { ProxiesTold }
@@ -35,6 +38,7 @@ fn file_rows()
     ensures first { FirstMet }
 {}
 
+#[tactic(auto, unfolding(crate::proofs::OnLiterals::rows_on_literals))]
 fn host_rows()
     ensures read { UpstreamsRead }
     ensures refused { UpstreamsRefused }
@@ -42,12 +46,14 @@ fn host_rows()
     ensures added { HostsAdded }
 {}
 
+#[tactic(auto, unfolding(crate::proofs::OnLiterals::rows_on_literals))]
 fn toxic_rows()
     ensures kinds { KindsRead }
     ensures toxicities { ToxicitiesRead }
     ensures streams { StreamsRead }
 {}
 
+#[tactic(auto, unfolding(crate::proofs::OnLiterals::rows_on_literals))]
 fn refused_toxic_rows()
     ensures words { WordsRefused }
     ensures names { NamesRefused }

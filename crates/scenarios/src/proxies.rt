@@ -1,10 +1,10 @@
 //! The proxies of a scenario.
-ghost use Rattle.std.specs.Prelude.{◌≡◌, ◌<◌, ◌≤◌, [], length, option_map, IfOk};
+ghost use Rattle.std.specs.Prelude.{◌≡◌, ◌<◌, ◌≤◌, [], length, Some, option_map, IfOk};
 ghost use Rattle.serde_json.specs.View.{view, items_view};
-ghost use Rattle.pcap_records.specs.Agreement.{AgreesUnlessMemory};
-ghost use Rattle.scenarios.specs.Refusals.{refusal};
+ghost use Rattle.lists.specs.Agreement.{Agrees, AgreesUnlessMemory};
+ghost use Rattle.scenarios.specs.Refusals.{scenario_refusal};
 ghost use Rattle.scenarios.specs.Proxies.{proxy_limit, proxy_fields, has_name, accepted_proxy, checked_proxy, proxy_in, proxies_from};
-ghost use Rattle.scenarios.specs.SeenFields.{seen_fields, Accepts};
+ghost use Rattle.scenarios.specs.SeenFields.{seen_fields, seen_proxy};
 
 use crate::error::{Cause, Refusal, ScenarioFault};
 use crate::fields::{is_text_or_absent, optional_flag, optional_list, required_text};
@@ -70,7 +70,6 @@ fn proxy_fields(value: &Value) -> Option<FieldsRead<'_>>
     })
 }
 
-// Whether one of the proxies has a name.
 fn has_name(proxies: &[Proxy], name: &str) -> bool
     ensures { result ≡ has_name proxies.now name.now }
 {
@@ -86,7 +85,7 @@ fn accept<'a>(
     hosts: &Hosts,
     earlier: &[Proxy],
 ) -> Result<Accepted<'a>, Refusal>
-    ensures { Accepts result (accepted_proxy hosts.now earlier.now (seen_fields fields.entry)) }
+    ensures { Agrees (λ r. Some r) seen_proxy result (accepted_proxy hosts.now earlier.now (seen_fields fields.entry)) }
 {
     let number = earlier.len();
     if has_name(earlier, fields.name) {
@@ -111,7 +110,7 @@ fn check_proxy<'a>(
     hosts: &Hosts,
     earlier: &[Proxy],
 ) -> Result<Accepted<'a>, Refusal>
-    ensures is { Accepts result (checked_proxy hosts.now earlier.now (view value.now)) }
+    ensures is { Agrees (λ r. Some r) seen_proxy result (checked_proxy hosts.now earlier.now (view value.now)) }
     ensures room { IfOk result (λ _. length earlier.now < proxy_limit) }
 {
     let number = earlier.len();
@@ -124,7 +123,6 @@ fn check_proxy<'a>(
     accept(fields, hosts, earlier)
 }
 
-// Reads one proxy.
 #[tactic(auto, unfolding(crate::specs::Proxies::proxy_in))]
 fn read_proxy(
     alloc: Global,
@@ -132,7 +130,7 @@ fn read_proxy(
     hosts: &Hosts,
     earlier: &[Proxy],
 ) -> Result<Proxy, ScenarioFault>
-    ensures is { AgreesUnlessMemory refusal (λ p. p) result (proxy_in hosts.now earlier.now (view value.now)) }
+    ensures is { AgreesUnlessMemory scenario_refusal (λ p. p) result (proxy_in hosts.now earlier.now (view value.now)) }
     ensures room { IfOk result (λ _. length earlier.now < proxy_limit) }
 {
     let accepted = check_proxy(value, hosts, earlier)?;
@@ -155,7 +153,7 @@ pub(crate) fn read_proxies(
     items: &[Value],
     hosts: &Hosts,
 ) -> Result<Vec<Proxy>, ScenarioFault>
-    ensures is { AgreesUnlessMemory refusal (λ v. v.items) result (proxies_from hosts.now [] (items_view items.now)) }
+    ensures is { AgreesUnlessMemory scenario_refusal (λ v. v.items) result (proxies_from hosts.now [] (items_view items.now)) }
     ensures bound { IfOk result (λ v. length v.items ≤ proxy_limit) }
 {
     let mut proxies = Vec::new(alloc);

@@ -1,8 +1,8 @@
 //! Scenarios.
 ghost use Rattle.std.specs.Prelude.{◌≡◌, ◌<◌, length, Some, None, IfSome, MatchResult};
 ghost use Rattle.serde_json.specs.View.{view};
-ghost use Rattle.pcap_records.specs.Agreement.{AgreesUnlessMemory};
-ghost use Rattle.scenarios.specs.Refusals.{refusal, of_text};
+ghost use Rattle.lists.specs.Agreement.{AgreesUnlessMemory};
+ghost use Rattle.scenarios.specs.Refusals.{scenario_refusal, of_text};
 ghost use Rattle.scenarios.specs.declared.error.Cause.TheVariants.{NotJson};
 ghost use Rattle.scenarios.specs.Populate.{tree, scenario_of_tree, scenario, leads_to, met_number};
 
@@ -74,7 +74,7 @@ fn first_for(proxies: &[Proxy], server: Peer) -> Option<usize>
 // The tree of a text of JSON.
 fn read_tree(alloc: Global, text: &[u8]) -> Result<Value, ScenarioFault>
     ensures { MatchResult result (λ v. tree text.now ≡ Some (view v))
-        (λ fault. IfSome (refusal fault) (λ r. (r ≡ of_text NotJson) × (tree text.now ≡ None))) }
+        (λ fault. IfSome (scenario_refusal fault) (λ r. (r ≡ of_text NotJson) × (tree text.now ≡ None))) }
 {
     match Value::from_slice(alloc, text) {
         Ok(tree) => Ok(tree),
@@ -83,9 +83,8 @@ fn read_tree(alloc: Global, text: &[u8]) -> Result<Value, ScenarioFault>
     }
 }
 
-// The scenario that a tree stands for.
 fn scenario_of_tree(alloc: Global, tree: &Value, hosts: &Hosts) -> Result<Scenario, ScenarioFault>
-    ensures { AgreesUnlessMemory refusal (λ s. s) result (scenario_of_tree hosts.now (view tree.now)) }
+    ensures { AgreesUnlessMemory scenario_refusal (λ s. s) result (scenario_of_tree hosts.now (view tree.now)) }
 {
     let Some(items) = tree.as_array() else {
         return Err(ScenarioFault::Refused(Refusal::of_text(Cause::NotArray)));
@@ -99,7 +98,7 @@ fn scenario_of_tree(alloc: Global, tree: &Value, hosts: &Hosts) -> Result<Scenar
 /// # Errors
 /// The first refusal of the text, with its proxy and its toxic; or a growth was refused.
 pub fn read_scenario(alloc: Global, text: &[u8], hosts: &Hosts) -> Result<Scenario, ScenarioFault>
-    ensures { AgreesUnlessMemory refusal (λ s. s) result (scenario hosts.now text.now) }
+    ensures { AgreesUnlessMemory scenario_refusal (λ s. s) result (scenario hosts.now text.now) }
 {
     let tree = read_tree(alloc, text)?;
     scenario_of_tree(alloc, &tree, hosts)

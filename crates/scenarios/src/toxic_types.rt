@@ -2,7 +2,7 @@
 ghost use Rattle.std.specs.Prelude.{◌≡◌};
 ghost use Rattle.serde_json.specs.View.{view};
 ghost use Rattle.scenarios.specs.declared.toxic_types.ToxicType.TheVariants.{Slicer};
-ghost use Rattle.scenarios.specs.ToxicTypes.{toxic_type, stream_of, default_name, name_of, attribute, kind_of, kind_in_range, ppm_of};
+ghost use Rattle.scenarios.specs.ToxicTypes.{toxic_type, stream_named, default_name, name_of, attribute, kind_of, kind_in_range, ppm_of};
 
 use crate::fields::{field, optional_whole};
 use serde_json::Value;
@@ -47,8 +47,8 @@ pub(crate) fn toxic_type(text: &str) -> Option<ToxicType>
 }
 
 // The stream that a text names; the empty text stands for downstream.
-pub(crate) fn stream_of(text: &str) -> Option<Stream>
-    ensures { result ≡ stream_of text.now }
+pub(crate) fn stream_named(text: &str) -> Option<Stream>
+    ensures { result ≡ stream_named text.now }
 {
     match text {
         "upstream" => Some(Stream::Upstream),

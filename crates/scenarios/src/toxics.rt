@@ -2,9 +2,9 @@
 ghost use Rattle.std.specs.Prelude.{◌≡◌, bytes_eq, option_map, option_and_then};
 ghost use Rattle.std.specs.List.{list_any};
 ghost use Rattle.serde_json.specs.View.{view, items_view};
-ghost use Rattle.pcap_records.specs.Agreement.{AgreesUnlessMemory};
+ghost use Rattle.lists.specs.Agreement.{AgreesUnlessMemory};
 ghost use Rattle.toxic_defs.specs.Toxics.{made_toxic};
-ghost use Rattle.scenarios.specs.Refusals.{refusal};
+ghost use Rattle.scenarios.specs.Refusals.{scenario_refusal};
 ghost use Rattle.scenarios.specs.ToxicTypes.{ppm_of};
 ghost use Rattle.scenarios.specs.ToxicsInFiles.{toxic_fields, no_toxics, toxics_from};
 ghost use Rattle.scenarios.specs.SeenFields.{seen_texts};
@@ -12,7 +12,7 @@ ghost use Rattle.scenarios.specs.SeenFields.{seen_texts};
 use crate::error::{Cause, Refusal, ScenarioFault};
 use crate::fields::{is_object_or_absent, optional_text, required_text};
 use crate::toxic_types::{
-    Stream, ToxicType, kind_in_range, name_of, ppm_of, stream_of, toxic_type,
+    Stream, ToxicType, kind_in_range, name_of, ppm_of, stream_named, toxic_type,
 };
 use pcap_records::Values;
 use serde_json::Value;
@@ -59,7 +59,6 @@ fn toxic_fields(value: &Value) -> Option<TextsRead<'_>>
     })
 }
 
-// Whether one of some names is a name.
 fn has_name(names: &[&str], name: &str) -> bool
     ensures { result ≡ list_any (λ taken. bytes_eq taken.now name.now) names.now }
 {
@@ -91,10 +90,11 @@ impl<'a> Model for ToxicsSoFar<'a> {
 }
 
 impl<'a> ToxicsSoFar<'a> {
-    ghost use Rattle.std.specs.Prelude.{◌≡◌, length, OnOk};
+    ghost use Rattle.std.specs.Prelude.{◌≡◌, Some, length, OnOk};
     ghost use Rattle.serde_json.specs.View.{view};
+    ghost use Rattle.lists.specs.Agreement.{Agrees};
     ghost use Rattle.scenarios.specs.ToxicsInFiles.{direction, is_name_taken, checked_toxic, toxic_in, no_toxics};
-    ghost use Rattle.scenarios.specs.SeenFields.{AcceptsToxic, after_accepted};
+    ghost use Rattle.scenarios.specs.SeenFields.{seen_toxic, after_accepted};
 
     fn new(alloc: Global) -> ToxicsSoFar<'a>
         ensures { result ≡ no_toxics }
@@ -133,7 +133,7 @@ impl<'a> ToxicsSoFar<'a> {
         toxic_type: ToxicType,
         value: &Value,
     ) -> Result<AcceptedToxic<'a>, Cause>
-        ensures { AcceptsToxic result (checked_toxic self.now name.now stream toxic_type (view value.now)) }
+        ensures { Agrees (λ cause. Some cause) seen_toxic result (checked_toxic self.now name.now stream toxic_type (view value.now)) }
     {
         if self.has_name(name) {
             return Err(Cause::DuplicateToxic);
@@ -153,11 +153,11 @@ impl<'a> ToxicsSoFar<'a> {
     // Looks at one toxic, after those that were read.
     #[tactic(auto, unfolding(crate::specs::ToxicsInFiles::toxic_in))]
     fn look_at(&self, value: &'a Value) -> Result<AcceptedToxic<'a>, Cause>
-        ensures { AcceptsToxic result (toxic_in self.now (view value.now)) }
+        ensures { Agrees (λ cause. Some cause) seen_toxic result (toxic_in self.now (view value.now)) }
     {
         let fields = toxic_fields(value).ok_or(Cause::BadMember)?;
         let toxic_type = toxic_type(fields.type_text).ok_or(Cause::UnknownToxic)?;
-        let stream = stream_of(fields.stream).ok_or(Cause::BadStream)?;
+        let stream = stream_named(fields.stream).ok_or(Cause::BadStream)?;
         let name = name_of(fields.name, toxic_type, stream);
         self.check(name, stream, toxic_type, value)
     }
@@ -191,7 +191,7 @@ pub(crate) fn read_toxics(
     proxy: usize,
     items: &[Value],
 ) -> Result<ToxicsSoFar<'_>, ScenarioFault>
-    ensures { AgreesUnlessMemory refusal (λ t. t) result (toxics_from proxy no_toxics (items_view items.now)) }
+    ensures { AgreesUnlessMemory scenario_refusal (λ t. t) result (toxics_from proxy no_toxics (items_view items.now)) }
 {
     let mut read = ToxicsSoFar::new(alloc);
     for value in items {

@@ -1,10 +1,10 @@
 -- Two lists in order: the higher of their last elements is the last of all.
-use Rattle.std.proofs.Common.{◌≡◌, ◌<◌, Bool, true, false, List, [], ◌∷◌, ◌++◌, length, reverse, if◌then◌else◌, refl, sym, ap, ◌∙◌, subst, arith, append-nil, append_assoc, length-append, ◌+◌, ◌==◌}
+use Rattle.std.proofs.Common.{◌≡◌, ◌<◌, Bool, true, false, List, [], ◌∷◌, ◌++◌, length, reverse, if◌then◌else◌, refl, sym, ap, ◌∙◌, subst, arith, append-nil, append_assoc, ◌==◌}
 use Rattle.std.specs.Cmp.{IsStrictWeakOrder}
 use Rattle.std.specs.List.{AllByRecursion}
 use Rattle.std.proofs.lemmas.Bool.{eqb-true, false≢true}
-use Rattle.std.proofs.lemmas.List.{reverse-append}
-use Rattle.segment_writer.specs.OrderedLists.{NoneBelow, Ordered, insert_by, sorted_by}
+use Rattle.lists.proofs.Lists.{all_append, all_push, all_weaker}
+use Rattle.segment_writer.specs.OrderedLists.{Ordered, insert_by, sorted_by}
 use Rattle.segment_writer.proofs.Sorting.{none_below-chain, ordered_stays, all_sorted}
 
 pub filled : {X : Type 0} (xs : List X) → false ≡ (length xs == 0) → 0 < length xs
@@ -14,9 +14,6 @@ filled (x ∷ xs) h = omega arith
 pub nothing : {X : Type 0} (xs : List X) → true ≡ (length xs == 0) → xs ≡ []
 nothing [] h = refl
 nothing (x ∷ xs) h = let none : length (x ∷ xs) ≡ 0 = eqb-true (length (x ∷ xs)) 0 (sym h) in absurd (omega arith)
-
-pub length-taken : {X : Type 0} (old new : List X) (x : X) → old ≡ new ++ x ∷ [] → length old ≡ length new + 1
-length-taken old new x is = ap length is ∙ length-append new (x ∷ [])
 
 module _ {X : Type 0} (lt : X → X → Bool) (o : IsStrictWeakOrder lt) where
   -- ---- lists in order
@@ -28,38 +25,24 @@ module _ {X : Type 0} (lt : X → X → Bool) (o : IsStrictWeakOrder lt) where
   abbrev pub AllBelow : X → List X → Type 0
   AllBelow x xs = AllByRecursion (λ z. lt z x ≡ true) xs
 
-  none_below-front : (z x : X) (xs : List X) → NoneBelow lt z (xs ++ x ∷ []) → NoneBelow lt z xs
-  none_below-front z x [] none = tt
-  none_below-front z x (y ∷ xs) none = (none.0, none_below-front z x xs none.1)
+  split_all : (P : X → Type 0) (x : X) (xs : List X) → AllByRecursion P (xs ++ x ∷ []) → AllByRecursion P xs × P x
+  split_all P x [] all = (tt, all.0)
+  split_all P x (y ∷ xs) all = let more = split_all P x xs all.1 in ((all.0, more.0), more.1)
 
-  none_below-last : (z x : X) (xs : List X) → NoneBelow lt z (xs ++ x ∷ []) → lt x z ≡ false
-  none_below-last z x [] none = none.0
-  none_below-last z x (y ∷ xs) none = none_below-last z x xs none.1
-
-  ordered-front : (x : X) (xs : List X) → Ordered lt (xs ++ x ∷ []) → Ordered lt xs
-  ordered-front x [] ordered = tt
-  ordered-front x (y ∷ xs) ordered = (none_below-front y x xs ordered.0, ordered-front x xs ordered.1)
-
-  none_above-last : (x : X) (xs : List X) → Ordered lt (xs ++ x ∷ []) → NoneAbove x xs
-  none_above-last x [] ordered = tt
-  none_above-last x (y ∷ xs) ordered = (none_below-last y x xs ordered.0, none_above-last x xs ordered.1)
-
-  none_above-append : (x : X) (xs ys : List X) → NoneAbove x xs → NoneAbove x ys → NoneAbove x (xs ++ ys)
-  none_above-append x [] ys a b = b
-  none_above-append x (y ∷ xs) ys a b = (a.0, none_above-append x xs ys a.1 b)
-
-  none_above-chain : (y x : X) (xs : List X) → lt y x ≡ false → NoneAbove x xs → NoneAbove y xs
-  none_above-chain y x [] h none = tt
-  none_above-chain y x (z ∷ xs) h none = (o.chain y x z h none.0, none_above-chain y x xs h none.1)
+  split_ordered : (x : X) (xs : List X) → Ordered lt (xs ++ x ∷ []) → Ordered lt xs × NoneAbove x xs
+  split_ordered x [] ordered = (tt, tt)
+  split_ordered x (y ∷ xs) ordered =
+      let own = split_all (λ w. lt w y ≡ false) x xs ordered.0 in
+      let more = split_ordered x xs ordered.1 in
+      ((own.0, more.0), (own.1, more.1))
 
   -- below the last of a list that is below x, all are
   all_below-last : (x y : X) (ys : List X) → Ordered lt (ys ++ y ∷ []) → lt y x ≡ true → AllBelow x (ys ++ y ∷ [])
-  all_below-last x y [] ordered h = (h, tt)
-  all_below-last x y (w ∷ ys) ordered h = (by (lt w x) refl, all_below-last x y ys ordered.1 h)
+  all_below-last x y ys ordered h = all_push (λ z. lt z x ≡ true) ys y (all_weaker (λ z. lt y z ≡ false) (λ z. lt z x ≡ true) (λ z not_above. by z (lt z x) refl not_above) ys (split_ordered y ys ordered).1) h
     where
-      by : (b : Bool) → lt w x ≡ b → lt w x ≡ true
-      by true e = e
-      by false e = absurd (false≢true (sym (o.chain y w x (none_below-last w y ys ordered.0) e) ∙ h))
+      by : (z : X) (b : Bool) → lt z x ≡ b → lt y z ≡ false → lt z x ≡ true
+      by z true e not_above = e
+      by z false e not_above = absurd (false≢true (sym (o.chain y z x not_above e) ∙ h))
 
   -- ---- the last of all
 
@@ -82,15 +65,11 @@ module _ {X : Type 0} (lt : X → X → Bool) (o : IsStrictWeakOrder lt) where
 
   -- ---- where the right list comes after the left one
 
-  none_below-append : (z : X) (xs ys : List X) → NoneBelow lt z xs → NoneBelow lt z ys → NoneBelow lt z (xs ++ ys)
-  none_below-append z [] ys a b = b
-  none_below-append z (x ∷ xs) ys a b = (a.0, none_below-append z xs ys a.1 b)
-
   ordered-after : (x y : X) (xs ys : List X) → Ordered lt (xs ++ x ∷ []) → Ordered lt (y ∷ ys) → lt y x ≡ false → Ordered lt ((xs ++ x ∷ []) ++ y ∷ ys)
   ordered-after x y [] ys left right h = ((h, none_below-chain lt o x y ys h right.0), right)
   ordered-after x y (z ∷ xs) ys left right h =
-      let over : lt y z ≡ false = o.chain y x z h (none_below-last z x xs left.0) in
-      (none_below-append z (xs ++ x ∷ []) (y ∷ ys) left.0 (over, none_below-chain lt o z y ys over right.0), ordered-after x y xs ys left.1 right h)
+      let over : lt y z ≡ false = o.chain y x z h (split_all (λ w. lt w z ≡ false) x xs left.0).1 in
+      (all_append (λ w. lt w z ≡ false) (xs ++ x ∷ []) (y ∷ ys) left.0 (over, none_below-chain lt o z y ys over right.0), ordered-after x y xs ys left.1 right h)
 
   pub none_left : (left right : List X) → left ≡ [] → Ordered lt right → sorted_by lt (left ++ right) ≡ left ++ right
   none_left left right none r = rw none (ordered_stays lt right r)
@@ -123,10 +102,10 @@ module _ {X : Type 0} (lt : X → X → Bool) (o : IsStrictWeakOrder lt) where
       left_ordered = subst (λ (ys : List X). Ordered lt ys) is l
 
       pub left_front : Ordered lt xs
-      left_front = ordered-front x xs left_ordered
+      left_front = (split_ordered x xs left_ordered).0
 
       pub left_highest : (0 < length right → (ys : List X) (y : X) → right ≡ ys ++ y ∷ [] → lt y x ≡ true) → sorted_by lt (left ++ right) ≡ sorted_by lt (xs ++ right) ++ x ∷ []
-      left_highest lower = ap (λ ys. sorted_by lt (ys ++ right)) is ∙ ap (sorted_by lt) (append_assoc xs (x ∷ []) right) ∙ highest_last x xs right (none_above-last x xs left_ordered) (by right r lower)
+      left_highest lower = ap (λ ys. sorted_by lt (ys ++ right)) is ∙ ap (sorted_by lt) (append_assoc xs (x ∷ []) right) ∙ highest_last x xs right (split_ordered x xs left_ordered).1 (by right r lower)
         where
           by : (zs : List X) → Ordered lt zs → (0 < length zs → (ys : List X) (y : X) → zs ≡ ys ++ y ∷ [] → lt y x ≡ true) → AllBelow x zs
           by [] ordered lower = tt
@@ -140,12 +119,12 @@ module _ {X : Type 0} (lt : X → X → Bool) (o : IsStrictWeakOrder lt) where
       right_ordered = subst (λ (ys : List X). Ordered lt ys) is r
 
       pub right_front : Ordered lt xs
-      right_front = ordered-front x xs right_ordered
+      right_front = (split_ordered x xs right_ordered).0
 
       pub right_highest : (0 < length left → (ys : List X) (y : X) → left ≡ ys ++ y ∷ [] → lt x y ≡ false) → sorted_by lt (left ++ right) ≡ sorted_by lt (left ++ xs) ++ x ∷ []
       right_highest not_lower =
           ap (λ ys. sorted_by lt (left ++ ys)) is ∙ ap (sorted_by lt) (sym (append_assoc left xs (x ∷ [])))
-          ∙ highest_last x (left ++ xs) [] (none_above-append x left xs (by left l not_lower) (none_above-last x xs right_ordered)) tt
+          ∙ highest_last x (left ++ xs) [] (all_append (λ z. lt x z ≡ false) left xs (by left l not_lower) (split_ordered x xs right_ordered).1) tt
           ∙ ap (λ ys. sorted_by lt ys ++ x ∷ []) (append-nil (left ++ xs))
         where
           by : (zs : List X) → Ordered lt zs → (0 < length zs → (ys : List X) (y : X) → zs ≡ ys ++ y ∷ [] → lt x y ≡ false) → NoneAbove x zs
@@ -153,8 +132,9 @@ module _ {X : Type 0} (lt : X → X → Bool) (o : IsStrictWeakOrder lt) where
           by (z ∷ zs) ordered not_lower =
               let split = last_split (z ∷ zs) (omega arith) in
               let over : lt x split.1 ≡ false = not_lower (omega arith) split.0 split.1 split.2 in
-              let above = none_above-last split.1 split.0 (subst (λ (ys : List X). Ordered lt ys) split.2 ordered) in
-              subst (λ (ys : List X). NoneAbove x ys) (sym split.2) (none_above-append x split.0 (split.1 ∷ []) (none_above-chain x split.1 split.0 over above) (over, tt))
+              let above = (split_ordered split.1 split.0 (subst (λ (ys : List X). Ordered lt ys) split.2 ordered)).1 in
+              let higher = all_weaker (λ w. lt split.1 w ≡ false) (λ w. lt x w ≡ false) (λ w up. o.chain x split.1 w over up) split.0 above in
+              subst (λ (ys : List X). NoneAbove x ys) (sym split.2) (all_push (λ w. lt x w ≡ false) split.0 split.1 higher over)
 
   -- ---- the loop
 
@@ -163,12 +143,3 @@ module _ {X : Type 0} (lt : X → X → Bool) (o : IsStrictWeakOrder lt) where
     pub left_ordered : Ordered lt left
     pub right_ordered : Ordered lt right
     pub done : sorted_by lt (left ++ right) ++ reverse higher ≡ whole
-
-  pub joining_on : (left right higher whole left' right' more : List X) (x : X) → Joining left right higher whole → Ordered lt left' → Ordered lt right'
-      → sorted_by lt (left ++ right) ≡ sorted_by lt (left' ++ right') ++ x ∷ [] → more ≡ higher ++ x ∷ [] → Joining left' right' more whole
-  joining_on left right higher whole left' right' more x was l r e more_is = record {
-    left_ordered = l;
-    right_ordered = r;
-    done = ap (λ ys. sorted_by lt (left' ++ right') ++ reverse ys) more_is ∙ ap (λ ys. sorted_by lt (left' ++ right') ++ ys) (reverse-append higher (x ∷ []))
-        ∙ sym (append_assoc (sorted_by lt (left' ++ right')) (x ∷ []) (reverse higher)) ∙ ap (λ ys. ys ++ reverse higher) (sym e) ∙ was.done;
-  }

@@ -1,69 +1,58 @@
 -- No two segments that are written have one key.
-use Rattle.std.proofs.Common.{◌≡◌, ◌≤◌, ◌<◌, ℕ, ◌+◌, Bool, true, false, not, ◌&&◌, nat_lt, List, [], ◌∷◌, ◌++◌, map, if◌then◌else◌, refl, ap₂, ◌∙◌, arith, append_assoc}
+use Rattle.std.proofs.Common.{◌≡◌, ◌≤◌, ◌<◌, ℕ, ◌+◌, Bool, true, false, cond, not, ◌&&◌, nat_lt, List, [], ◌∷◌, ◌++◌, map, refl, ap, ap₂, ◌∙◌, arith, append_assoc}
 use Rattle.std.specs.List.{All, enumerate_from, flat_map}
-use Rattle.std.proofs.lemmas.List.Elements.{All-nil, All-cons, All-append, All-filter, All-weaker, All-from_recursion}
+use Rattle.std.proofs.lemmas.List.Elements.{All-nil, All-cons, All-append, All-filter, All-weaker}
 use Rattle.std.proofs.lemmas.List.Sorted.{All-permutation}
 use Rattle.pcap_records.specs.Instants.{horizon}
-use Rattle.segment_writer.specs.WrittenSegments.{WrittenConnection, Host, SentSegment, framed_segment, framed_by_client, framed_by_server, syn_segment, syn_ack_segment, ack_segment, refusal_segment, is_key_below, sorted_by_key, segments_before_horizon, opening_turn, up_turn, down_turn, written_segments, segments_sent_by}
+use Rattle.segment_writer.specs.WrittenSegments.{WrittenConnection, Host, SentSegment, framed_segment, is_key_below, below, sorted_by_key, segments_before_horizon, opening_turn, up_turn, down_turn, written_segments, segments_sent_by}
 use Rattle.segment_writer.specs.KeyOrder.{RisesFrom, AreRising}
-use Rattle.segment_writer.specs.KeyLaws.{same_key, times, HasNoKeyTwice, KeysRise, AreNumbered, KeysStandOnce}
+use Rattle.segment_writer.specs.KeyLaws.{same_key, HasNoKeyTwice, KeysRise, AreNumbered, KeysStandOnce}
 use Rattle.segment_writer.specs.declared.framed.SegKey.{SegKey}
 use Rattle.segment_writer.specs.declared.framed.Framed.{Framed}
 use Rattle.segment_writer.specs.OrderedLists.{Ordered}
 use Rattle.segment_writer.proofs.Sorting.{not_below_itself}
-use Rattle.segment_writer.proofs.InOrder.{below, below_order, ordered-sorted_by_key, sorted_keeps_all}
-use Rattle.segment_writer.proofs.KeyTimes.{same_conn, same_turn, same_place, times-sorted, times-filter, apart, one_alone}
+use Rattle.segment_writer.proofs.InOrder.{below_order, sorted_never_falls, sorted_keeps_all}
+use Rattle.segment_writer.proofs.KeyCounts.{same_conn, same_turn, same_place, key_count, key_count-cons, key_count-sorted, key_count-filter, apart, one_alone}
 
 only : (P : Framed → Type 0) (x : Framed) → P x → All P (x ∷ [])
 only P x h = All-cons P x [] h (All-nil P)
 
 -- ---- a turn
 
-module _ (ticks : ℕ) (c : WrittenConnection) (turn : ℕ) (from to : Host) where
-  abbrev framed_all : ℕ → List SentSegment → List Framed
-  framed_all n sent = map (framed_segment ticks c turn from to) (enumerate_from n sent)
+-- segments of one turn, whose places count from n on
+abbrev Counts : ℕ → ℕ → ℕ → List Framed → Type 0
+Counts conn turn n [] = Unit {0}
+Counts conn turn n (x ∷ xs) = ((x.key.conn ≡ conn) × (x.key.turn ≡ turn) × (x.key.place ≡ n)) × Counts conn turn (n + 1) xs
 
-  places_above : (low n : ℕ) (sent : List SentSegment) → low < n → All (λ (x : Framed). low < x.key.place) (framed_all n sent)
-  places_above low n [] h = All-nil (λ (x : Framed). low < x.key.place)
-  places_above low n (s ∷ sent) h = All-cons (λ (x : Framed). low < x.key.place) _ _ h (places_above low (n + 1) sent (omega arith))
+module _ (conn turn : ℕ) where
+  turns_are : (n : ℕ) (xs : List Framed) → Counts conn turn n xs → All (λ (x : Framed). x.key.turn ≡ turn) xs
+  turns_are n [] counts = All-nil (λ (x : Framed). x.key.turn ≡ turn)
+  turns_are n (x ∷ xs) counts = All-cons (λ (x : Framed). x.key.turn ≡ turn) x xs counts.0.1 (turns_are (n + 1) xs counts.1)
 
-  each : (P : Framed → Type 0) → ((m : ℕ) (s : SentSegment) → P (framed_segment ticks c turn from to (m, s))) → (n : ℕ) (sent : List SentSegment) → All P (framed_all n sent)
-  each P holds n [] = All-nil P
-  each P holds n (s ∷ sent) = All-cons P _ _ (holds n s) (each P holds (n + 1) sent)
+  conns_are : (n : ℕ) (xs : List Framed) → Counts conn turn n xs → All (λ (x : Framed). x.key.conn ≡ conn) xs
+  conns_are n [] counts = All-nil (λ (x : Framed). x.key.conn ≡ conn)
+  conns_are n (x ∷ xs) counts = All-cons (λ (x : Framed). x.key.conn ≡ conn) x xs counts.0.0 (conns_are (n + 1) xs counts.1)
 
-  turns_are : (n : ℕ) (sent : List SentSegment) → All (λ (x : Framed). x.key.turn ≡ turn) (framed_all n sent)
-  turns_are = each (λ x. x.key.turn ≡ turn) (λ m s. refl)
+  places_above : (low n : ℕ) (xs : List Framed) → low < n → Counts conn turn n xs → All (λ (x : Framed). low < x.key.place) xs
+  places_above low n [] h counts = All-nil (λ (x : Framed). low < x.key.place)
+  places_above low n (x ∷ xs) h counts =
+      let place : x.key.place ≡ n = counts.0.2 in
+      All-cons (λ (x : Framed). low < x.key.place) x xs (let above : low < x.key.place = omega arith in above) (places_above low (n + 1) xs (omega arith) counts.1)
 
-  conns_are : (n : ℕ) (sent : List SentSegment) → All (λ (x : Framed). x.key.conn ≡ c.number) (framed_all n sent)
-  conns_are = each (λ x. x.key.conn ≡ c.number) (λ m s. refl)
+  turn_once : (n : ℕ) (xs : List Framed) → Counts conn turn n xs → HasNoKeyTwice xs
+  turn_once n [] counts k = omega arith
+  turn_once n (x ∷ xs) counts k =
+      apart (λ key. key.place) same_place n (x ∷ []) xs (only (λ y. y.key.place ≡ n) x counts.0.2) (places_above n (n + 1) xs (omega arith) counts.1) (one_alone x) (turn_once (n + 1) xs counts.1) k
 
-  turn_once : (n : ℕ) (sent : List SentSegment) → HasNoKeyTwice (framed_all n sent)
-  turn_once n [] k = omega arith
-  turn_once n (s ∷ sent) k =
-      apart (λ key. key.place) same_place n (framed_segment ticks c turn from to (n, s) ∷ []) (framed_all (n + 1) sent) (only (λ x. x.key.place ≡ n) (framed_segment ticks c turn from to (n, s)) refl) (places_above n (n + 1) sent (omega arith)) (one_alone (framed_segment ticks c turn from to (n, s))) (turn_once (n + 1) sent) k
+opening_counts : (refused : Bool) (ticks : ℕ) (c : WrittenConnection) → Counts c.number 0 0 (opening_turn refused ticks c)
+opening_counts true ticks c = ((refl, refl, refl), ((refl, refl, refl), tt))
+opening_counts false ticks c = ((refl, refl, refl), ((refl, refl, refl), ((refl, refl, refl), tt)))
+
+sent_counts : (ticks : ℕ) (c : WrittenConnection) (turn : ℕ) (from to : Host) (n : ℕ) (sent : List SentSegment) → Counts c.number turn n (map (framed_segment ticks c turn from to) (enumerate_from n sent))
+sent_counts ticks c turn from to n [] = tt
+sent_counts ticks c turn from to n (s ∷ sent) = ((refl, refl, refl), sent_counts ticks c turn from to (n + 1) sent)
 
 -- ---- a connection
-
-opening_turns : (refused : Bool) (ticks : ℕ) (c : WrittenConnection) → All (λ (x : Framed). x.key.turn ≡ 0) (opening_turn refused ticks c)
-opening_turns true ticks c = All-from_recursion (λ x. x.key.turn ≡ 0) (opening_turn true ticks c) (refl, (refl, tt))
-opening_turns false ticks c = All-from_recursion (λ x. x.key.turn ≡ 0) (opening_turn false ticks c) (refl, (refl, (refl, tt)))
-
-opening_conns : (refused : Bool) (ticks : ℕ) (c : WrittenConnection) → All (λ (x : Framed). x.key.conn ≡ c.number) (opening_turn refused ticks c)
-opening_conns true ticks c = All-from_recursion (λ x. x.key.conn ≡ c.number) (opening_turn true ticks c) (refl, (refl, tt))
-opening_conns false ticks c = All-from_recursion (λ x. x.key.conn ≡ c.number) (opening_turn false ticks c) (refl, (refl, (refl, tt)))
-
-two_once : (x y : Framed) → x.key.place < y.key.place → HasNoKeyTwice (x ∷ y ∷ [])
-two_once x y up =
-    apart (λ k. k.place) same_place x.key.place (x ∷ []) (y ∷ []) (only (λ z. z.key.place ≡ x.key.place) x refl) (only (λ z. x.key.place < z.key.place) y up) (one_alone x) (one_alone y)
-
-three_once : (x y z : Framed) → x.key.place < y.key.place → y.key.place < z.key.place → HasNoKeyTwice (x ∷ y ∷ z ∷ [])
-three_once x y z up on =
-    apart (λ k. k.place) same_place x.key.place (x ∷ []) (y ∷ z ∷ []) (only (λ w. w.key.place ≡ x.key.place) x refl) (All-from_recursion (λ w. x.key.place < w.key.place) (y ∷ z ∷ []) (up, ((let far : x.key.place < z.key.place = omega arith in far), tt)))
-    (one_alone x) (two_once y z on)
-
-opening_once : (refused : Bool) (ticks : ℕ) (c : WrittenConnection) → HasNoKeyTwice (opening_turn refused ticks c)
-opening_once true ticks c = two_once (framed_by_client ticks c 0 (0, syn_segment c)) (framed_by_server ticks c 0 (1, refusal_segment c)) (omega arith)
-opening_once false ticks c = three_once (framed_by_client ticks c 0 (0, syn_segment c)) (framed_by_server ticks c 0 (1, syn_ack_segment c)) (framed_by_client ticks c 0 (2, ack_segment c)) (omega arith) (omega arith)
 
 module _ (ticks : ℕ) (c : WrittenConnection) where
   abbrev opening : List Framed
@@ -75,35 +64,41 @@ module _ (ticks : ℕ) (c : WrittenConnection) where
   abbrev downs : List Framed
   downs = down_turn ticks c
 
+  ups_count : Counts c.number 1 0 ups
+  ups_count = sent_counts ticks c 1 c.client.host c.server.host 0 (segments_sent_by c.client c.server)
+
+  downs_count : Counts c.number 2 0 downs
+  downs_count = sent_counts ticks c 2 c.server.host c.client.host 0 (segments_sent_by c.server c.client)
+
   up_turns : All (λ (x : Framed). x.key.turn ≡ 1) ups
-  up_turns = turns_are ticks c 1 c.client.host c.server.host 0 (segments_sent_by c.client c.server)
+  up_turns = turns_are c.number 1 0 ups ups_count
 
   down_turns : All (λ (x : Framed). x.key.turn ≡ 2) downs
-  down_turns = turns_are ticks c 2 c.server.host c.client.host 0 (segments_sent_by c.server c.client)
+  down_turns = turns_are c.number 2 0 downs downs_count
 
   lines_once : HasNoKeyTwice (ups ++ downs)
   lines_once =
       apart (λ k. k.turn) same_turn 1 ups downs up_turns (All-weaker (λ x. x.key.turn ≡ 2) (λ x. 1 < x.key.turn) (λ x h. omega arith) downs down_turns)
-      (turn_once ticks c 1 c.client.host c.server.host 0 (segments_sent_by c.client c.server)) (turn_once ticks c 2 c.server.host c.client.host 0 (segments_sent_by c.server c.client))
+      (turn_once c.number 1 0 ups ups_count) (turn_once c.number 2 0 downs downs_count)
 
   turns_once : HasNoKeyTwice ((opening ++ ups) ++ downs)
   turns_once =
       rw (append_assoc opening ups downs)
-      (apart (λ k. k.turn) same_turn 0 opening (ups ++ downs) (opening_turns c.refused ticks c)
+      (apart (λ k. k.turn) same_turn 0 opening (ups ++ downs) (turns_are c.number 0 0 opening (opening_counts c.refused ticks c))
       (All-append (λ x. 0 < x.key.turn) ups downs (All-weaker (λ x. x.key.turn ≡ 1) (λ x. 0 < x.key.turn) (λ x h. omega arith) ups up_turns) (All-weaker (λ x. x.key.turn ≡ 2) (λ x. 0 < x.key.turn) (λ x h. omega arith) downs down_turns))
-      (opening_once c.refused ticks c) lines_once)
+      (turn_once c.number 0 0 opening (opening_counts c.refused ticks c)) lines_once)
 
   written_once : HasNoKeyTwice (written_segments ticks c)
   unfolding written_segments
   written_once k =
       let all : List Framed = (opening ++ ups) ++ downs in
       let kept : List Framed = segments_before_horizon ticks all in
-      let few : times k all ≤ 1 = turns_once k in
-      omega (arith, times-sorted k kept, times-filter k (λ x. nat_lt x.key.moment (horizon ticks)) all)
+      let few : key_count k all ≤ 1 = turns_once k in
+      omega (arith, key_count-sorted k kept, key_count-filter k (λ x. nat_lt x.key.moment (horizon ticks)) all)
 
   written_ordered : Ordered below (written_segments ticks c)
   unfolding written_segments
-  written_ordered = ordered-sorted_by_key (segments_before_horizon ticks ((opening ++ ups) ++ downs))
+  written_ordered = sorted_never_falls (segments_before_horizon ticks ((opening ++ ups) ++ downs))
 
   written_conns : All (λ (x : Framed). x.key.conn ≡ c.number) (written_segments ticks c)
   unfolding written_segments
@@ -112,17 +107,14 @@ module _ (ticks : ℕ) (c : WrittenConnection) where
       let of_conn : Framed → Type 0 = λ x. x.key.conn ≡ c.number in
       All-permutation of_conn (segments_before_horizon ticks all) (sorted_by_key (segments_before_horizon ticks all)) (sorted_keeps_all (segments_before_horizon ticks all)) (All-filter (λ x. nat_lt x.key.moment (horizon ticks)) of_conn all
       (All-append of_conn (opening ++ ups) downs
-      (All-append of_conn opening ups (opening_conns c.refused ticks c) (conns_are ticks c 1 c.client.host c.server.host 0 (segments_sent_by c.client c.server)))
-      (conns_are ticks c 2 c.server.host c.client.host 0 (segments_sent_by c.server c.client))))
+      (All-append of_conn opening ups (conns_are c.number 0 0 opening (opening_counts c.refused ticks c)) (conns_are c.number 1 0 ups ups_count)) (conns_are c.number 2 0 downs downs_count)))
 
 -- ---- in order, and no key twice: keys rise
 
 once_behind : (x : Framed) (xs : List Framed) → HasNoKeyTwice (x ∷ xs) → HasNoKeyTwice xs
-once_behind x xs once k = by (same_key k x.key) (once k)
-  where
-    by : (b : Bool) → (if b then 1 + times k xs else times k xs) ≤ 1 → times k xs ≤ 1
-    by true h = omega arith
-    by false h = h
+once_behind x xs once k =
+    let few : key_count k (x ∷ xs) ≤ 1 = once k in
+    omega (arith, key_count-cons k x xs)
 
 same_of : (a b : SegKey) → is_key_below a b ≡ false → is_key_below b a ≡ false → same_key a b ≡ true
 same_of a b e f = ap₂ (λ (u v : Bool). not u && not v) e f
@@ -135,9 +127,10 @@ strictly x y ys up once = by (is_key_below x.key y.key) refl
     by false e =
         let itself = same_of x.key x.key (not_below_itself below below_order x) (not_below_itself below below_order x) in
         let other = same_of x.key y.key e up in
-        let twice : times x.key (x ∷ y ∷ ys) ≡ 1 + (1 + times x.key ys) =
-        ap₂ (λ (u v : Bool). if u then 1 + (if v then 1 + times x.key ys else times x.key ys) else (if v then 1 + times x.key ys else times x.key ys)) itself other in
-        let few : times x.key (x ∷ y ∷ ys) ≤ 1 = once x.key in
+        let twice : key_count x.key (x ∷ y ∷ ys) ≡ 1 + (1 + key_count x.key ys) =
+        key_count-cons x.key x (y ∷ ys) ∙ ap (λ (u : Bool). cond u 1 0 + key_count x.key (y ∷ ys)) itself
+        ∙ ap (λ n. 1 + n) (key_count-cons x.key y ys ∙ ap (λ (v : Bool). cond v 1 0 + key_count x.key ys) other) in
+        let few : key_count x.key (x ∷ y ∷ ys) ≤ 1 = once x.key in
         absurd (omega arith)
 
 rises_from : (x : Framed) (xs : List Framed) → Ordered below (x ∷ xs) → HasNoKeyTwice (x ∷ xs) → RisesFrom x.key xs

@@ -11,6 +11,6 @@ pub mod JoinSteps
 pub mod TurnOrder
 pub mod WholeSegments
 pub mod OneOrderLaw
-pub mod KeyTimes
+pub mod KeyCounts
 pub mod KeysApart
 pub mod LaidSteps

@@ -6,7 +6,7 @@ use Rattle.std.proofs.lemmas.Grind.{flat_map-append}
 use Rattle.std.proofs.lemmas.List.{take-append-drop, take_all, append-nil}
 use Rattle.std.proofs.lemmas.List.Elements.{filter-append}
 use Rattle.std.proofs.Math.Seq.{take-add}
-use Rattle.pcap_records.proofs.Lists.{all_append, all_weaker}
+use Rattle.lists.proofs.Lists.{all_append, all_weaker}
 use Rattle.reassembly.specs.RecordedLines.{LineByte, End, live}
 use Rattle.reassembly.specs.LineView.{bytes_without_mark, bytes_with_mark, bytes_of_part, bytes_of_parts}
 use Rattle.reassembly.proofs.LineBytes.{length-marked}

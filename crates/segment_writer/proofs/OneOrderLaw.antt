@@ -5,11 +5,10 @@ use Rattle.std.specs.List.Sorted.{ties, IsPermutation}
 use Rattle.std.proofs.lemmas.List.Sums.{length-filter}
 use Rattle.std.proofs.lemmas.List.Elements.{All-cons, All-head, All-tail, All-nil}
 use Rattle.std.proofs.lemmas.List.Sorted.{sum_by-IsPermutation, All-permutation}
-use Rattle.segment_writer.specs.KeyLaws.{NoneLower, NeverFalls, OneOrder}
-use Rattle.segment_writer.specs.declared.framed.Framed.{Framed}
-use Rattle.segment_writer.specs.OrderedLists.{NoneBelow, Ordered}
-use Rattle.segment_writer.proofs.InOrder.{below, sorted_by_key-only}
-use Rattle.segment_writer.proofs.KeyTimes.{times_is}
+use Rattle.segment_writer.specs.KeyLaws.{OneOrder}
+use Rattle.segment_writer.specs.WrittenSegments.{below}
+use Rattle.segment_writer.proofs.Sorting.{sorted-only}
+use Rattle.segment_writer.proofs.InOrder.{below_order, in_order_by_key}
 
 -- ---- a test that one element passes at most
 
@@ -57,14 +56,7 @@ module _ {X : Type 0} (p : X → Bool) where
 
 -- ---- keys
 
-none_below : (x : Framed) (ys : List Framed) → NoneLower x.key ys → NoneBelow below x ys
-none_below x [] none = tt
-none_below x (y ∷ ys) none = (none.0, none_below x ys none.1)
-
-ordered : (ys : List Framed) → NeverFalls ys → Ordered below ys
-ordered [] falls = tt
-ordered (y ∷ ys) falls = (none_below y ys falls.0, ordered ys falls.1)
-
 pub one_order : OneOrder
 one_order xs ys once moved falls =
-    sorted_by_key-only xs ys (ordered ys falls) (λ z. same_passes (ties below z) xs ys moved (let few = once z.key in omega (arith, length-filter (ties below z) xs, times_is z.key xs)))
+    sorted-only below below_order xs ys falls (λ z. same_passes (ties below z) xs ys moved (let few = once z.key in omega (arith, length-filter (ties below z) xs)))
+    ∙ (λ i. in_order_by_key i xs)

@@ -5,7 +5,7 @@ use Rattle.reassembly.specs.RecordedLines.{LineByte}
 use Rattle.reassembly.specs.LineView.{bytes_without_mark, bytes_with_mark, bytes_of_parts}
 use Rattle.reassembly.proofs.LineBytes.{unmarked, length-marked}
 use Rattle.reassembly.specs.declared.line_parts.LinePart.{LinePart}
-use Rattle.segment_writer.specs.FirstPieces.{run, piece_size, values, first_instant}
+use Rattle.segment_writer.specs.FirstPieces.{chunk_rest, piece_size, values, first_instant}
 use Rattle.segment_writer.specs.LineCursors.{left_at, IsInside, IsCursor, has_none, goes_on}
 use Rattle.segment_writer.specs.declared.pieces.Cursor.{Cursor}
 
@@ -29,27 +29,19 @@ drop-marked zero at s xs = refl
 drop-marked (suc n) at s [] = refl
 drop-marked (suc n) at s (x ∷ xs) = drop-map (λ y. let b : LineByte = record { value = y; at = at; starts = false } in b) n xs ∙ unmarked at (drop n xs)
 
-pub run-unmarked : (at : ℕ) (xs : List ℕ) (rest : List LineByte) → run (bytes_without_mark at xs ++ rest) ≡ length xs + run rest
-run-unmarked at [] rest = omega arith
-run-unmarked at (x ∷ xs) rest = omega (arith, run-unmarked at xs rest)
+pub chunk_rest-unmarked : (at : ℕ) (xs : List ℕ) (rest : List LineByte) → chunk_rest (bytes_without_mark at xs ++ rest) ≡ length xs + chunk_rest rest
+chunk_rest-unmarked at [] rest = omega arith
+chunk_rest-unmarked at (x ∷ xs) rest = omega (arith, chunk_rest-unmarked at xs rest)
 
 -- ---- a part, and the parts after it
 
-run-on : (at : ℕ) (s : Bool) (xs : List ℕ) (rest : List LineByte) → not s || has_none xs ≡ true → run (bytes_with_mark at s xs ++ rest) ≡ length xs + run rest
-run-on at s [] rest h = omega arith
-run-on at false (x ∷ xs) rest h = omega (arith, run-unmarked at xs rest)
-run-on at true (x ∷ xs) rest h = absurd cc
+chunk_rest-on : (at : ℕ) (s : Bool) (xs : List ℕ) (rest : List LineByte) → not s || has_none xs ≡ true → chunk_rest (bytes_with_mark at s xs ++ rest) ≡ length xs + chunk_rest rest
+chunk_rest-on at s [] rest h = omega arith
+chunk_rest-on at false (x ∷ xs) rest h = omega (arith, chunk_rest-unmarked at xs rest)
+chunk_rest-on at true (x ∷ xs) rest h = absurd cc
 
-run-stops : (at : ℕ) (s : Bool) (xs : List ℕ) (rest : List LineByte) → not s || has_none xs ≡ false → run (bytes_with_mark at s xs ++ rest) ≡ 0
-run-stops at true [] rest h = absurd cc
-run-stops at false xs rest h = absurd cc
-run-stops at true (x ∷ xs) rest h = refl
-
-pub run-part_on : (parts : List LinePart) (i : ℕ) (p : LinePart) (ps : List LinePart) → drop i parts ≡ p ∷ ps → goes_on p ≡ true → run (bytes_of_parts (drop i parts)) ≡ length p.bytes.now + run (bytes_of_parts ps)
-run-part_on parts i p ps e h = rw e (run-on p.at p.starts p.bytes.now (bytes_of_parts ps) h)
-
-pub run-part_stops : (parts : List LinePart) (i : ℕ) (p : LinePart) (ps : List LinePart) → drop i parts ≡ p ∷ ps → goes_on p ≡ false → run (bytes_of_parts (drop i parts)) ≡ 0
-run-part_stops parts i p ps e h = rw e (run-stops p.at p.starts p.bytes.now (bytes_of_parts ps) h)
+pub chunk_rest-part_on : (parts : List LinePart) (i : ℕ) (p : LinePart) (ps : List LinePart) → drop i parts ≡ p ∷ ps → goes_on p ≡ true → chunk_rest (bytes_of_parts (drop i parts)) ≡ length p.bytes.now + chunk_rest (bytes_of_parts ps)
+chunk_rest-part_on parts i p ps e h = rw e (chunk_rest-on p.at p.starts p.bytes.now (bytes_of_parts ps) h)
 
 -- ---- what is left at a cursor in a part
 
@@ -76,9 +68,9 @@ taken-marked n at s xs rest h =
     ap values (take-append-le n (bytes_with_mark at s xs) rest short) ∙ sym (take-map (λ (b : LineByte). b.value) n (bytes_with_mark at s xs)) ∙ ap (take n) (values-marked at s xs)
 
 -- the size of the piece that begins with bytes of a part, whose chunk goes on with others
-pub piece_size-marked : (limit at : ℕ) (s : Bool) (xs : List ℕ) (rest : List LineByte) → 0 < length xs → piece_size limit (bytes_with_mark at s xs ++ rest) ≡ min limit (length xs + run rest)
+pub piece_size-marked : (limit at : ℕ) (s : Bool) (xs : List ℕ) (rest : List LineByte) → 0 < length xs → piece_size limit (bytes_with_mark at s xs ++ rest) ≡ min limit (length xs + chunk_rest rest)
 piece_size-marked limit at s [] rest h = absurd (omega arith)
-piece_size-marked limit at s (x ∷ xs) rest h = let e = run-unmarked at xs rest in omega arith
+piece_size-marked limit at s (x ∷ xs) rest h = let e = chunk_rest-unmarked at xs rest in omega arith
 
 pub first_instant-marked : (at : ℕ) (s : Bool) (xs : List ℕ) (rest : List LineByte) → 0 < length xs → first_instant (bytes_with_mark at s xs ++ rest) ≡ at
 first_instant-marked at s [] rest h = absurd (omega arith)

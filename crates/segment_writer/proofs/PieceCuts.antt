@@ -3,7 +3,7 @@ use Rattle.std.proofs.Common.{◌≡◌, ◌≢◌, ◌<◌, ℕ, suc, ◌+◌, 
 use Rattle.std.proofs.lemmas.Bool.{eqb-true, eqb-false}
 use Rattle.reassembly.specs.RecordedLines.{LineByte}
 use Rattle.segment_writer.specs.WrittenSegments.{pieces, pieces_led_by, is_chunk_border}
-use Rattle.segment_writer.specs.FirstPieces.{run, piece_size, first_of, FirstPiece}
+use Rattle.segment_writer.specs.FirstPieces.{chunk_rest, piece_size, first_of, FirstPiece}
 
 -- a byte that ends its piece
 one_byte : (limit room : ℕ) (b : LineByte) (bytes : List LineByte) → is_chunk_border bytes || room == 1 ≡ true
@@ -20,11 +20,11 @@ more_bytes limit room b bytes e = rw e refl
 abbrev Cut : ℕ → ℕ → LineByte → List LineByte → Type 0
 Cut limit room b bytes = pieces limit room (b ∷ bytes) ≡ first_of room (b ∷ bytes) ∷ pieces limit limit (drop (piece_size room (b ∷ bytes)) (b ∷ bytes))
 
-first_one : (limit room : ℕ) (b : LineByte) (bytes : List LineByte) → is_chunk_border bytes || room == 1 ≡ true → min room (run bytes + 1) ≡ 1 → Cut limit room b bytes
+first_one : (limit room : ℕ) (b : LineByte) (bytes : List LineByte) → is_chunk_border bytes || room == 1 ≡ true → min room (chunk_rest bytes + 1) ≡ 1 → Cut limit room b bytes
 first_one limit room b bytes e one = one_byte limit room b bytes e ∙ rw one refl
 
 first_more : (limit room : ℕ) (b d : LineByte) (bytes : List LineByte) → is_chunk_border (d ∷ bytes) || room == 1 ≡ false → Cut limit (room - 1) d bytes
-    → min room (run (d ∷ bytes) + 1) ≡ suc (piece_size (room - 1) (d ∷ bytes)) → Cut limit room b (d ∷ bytes)
+    → min room (chunk_rest (d ∷ bytes) + 1) ≡ suc (piece_size (room - 1) (d ∷ bytes)) → Cut limit room b (d ∷ bytes)
 first_more limit room b d bytes e cut more = more_bytes limit room b (d ∷ bytes) e ∙ ap (pieces_led_by b) cut ∙ rw more refl
 
 pub first_piece : FirstPiece

@@ -1,5 +1,5 @@
 -- The bytes of a record: its header, the headers of its frame, and the payload.
-use Rattle.std.proofs.Common.{◌≡◌, ◌≤◌, ◌<◌, ℕ, ◌+◌, ◌-◌, Bool, true, false, if◌then◌else◌, List, [], ◌∷◌, ◌++◌, length, take, drop, replicate, refl, sym, ap, ap₂, ◌∙◌, arith, append-nil, append_assoc, length-append, length-drop, length-take, take_all, take_at, drop_at, drop-drop, Option, Some, None}
+use Rattle.std.proofs.Common.{◌≡◌, ◌≤◌, ◌<◌, ℕ, ◌+◌, ◌-◌, Bool, true, false, if◌then◌else◌, List, [], ◌∷◌, ◌++◌, length, take, drop, replicate, refl, sym, ap, ap₂, ◌∙◌, arith, append-nil, append_assoc, length-append, length-drop, length-take, take_all, take_at, drop_at, Option, Some, None}
 use Rattle.std.proofs.lemmas.List.{drop_all, length-map, length-replicate}
 use borrow.Rule.Slice.PartMut.{put_mid}
 use Rattle.pcap_records.specs.Instants.{ticks_of}
@@ -12,54 +12,26 @@ use Rattle.frame_headers.specs.declared.written.Header.{Header}
 use Rattle.reassembly.specs.RecordedLines.{LineByte}
 use Rattle.reassembly.specs.LineView.{bytes_of_parts}
 use Rattle.reassembly.specs.declared.line_parts.LinePart.{LinePart}
-use Rattle.segment_writer.specs.WrittenSegments.{SentSegment, is_chunk_border, opening_segment}
-use Rattle.segment_writer.specs.FirstPieces.{run, piece_size, values, first_instant, first_of}
+use Rattle.segment_writer.specs.WrittenSegments.{is_chunk_border}
+use Rattle.segment_writer.specs.FirstPieces.{chunk_rest, piece_size, values, first_instant, first_of}
 use Rattle.segment_writer.specs.LineCursors.{left_at, IsCursor}
 use Rattle.segment_writer.specs.Senders.{header_with, frame_with, framed_by, piece_segment}
 use Rattle.segment_writer.specs.LaidSegments.{framed_of}
 use Rattle.segment_writer.specs.declared.laid.Laid.{Laid}
-use Rattle.segment_writer.specs.declared.framed.SegKey.{SegKey}
-use Rattle.segment_writer.specs.declared.framed.Framed.{Framed}
 use Rattle.segment_writer.specs.declared.pieces.Cursor.{Cursor}
 use Rattle.segment_writer.specs.declared.senders.Sender.{Sender}
 use Rattle.segment_writer.proofs.PartBytes.{mark, inside_is, left_is, first_instant-marked}
 
--- ---- the headers are written into a record
+-- ---- a record that was opened and filled with its payload
 
--- the length of a record with no payload, of so many bytes of headers
-abbrev pub whole_len : ℕ → ℕ
-whole_len n = record_header_len + n
-
-abbrev behind_header : List ℕ → List ℕ
-behind_header xs = take (length xs - record_header_len) (drop record_header_len xs)
-
-behind_is : (xs : List ℕ) → behind_header xs ≡ drop record_header_len xs
-behind_is xs = take_all (length xs - record_header_len) (drop record_header_len xs) (omega (arith, length-drop record_header_len xs))
-
-frame_behind : (n : ℕ) (xs : List ℕ) → drop n (behind_header xs) ≡ drop (whole_len n) xs
-frame_behind n xs = ap (drop n) (behind_is xs) ∙ drop-drop n record_header_len xs
-
-pub headers_len_is : (n : ℕ) (h : Header) (xs frame : List ℕ) → (whole_len n) ≤ length xs → length frame ≡ length (behind_header xs) → frame ≡ headers h (drop n (behind_header xs)) ++ drop n (behind_header xs) → length (headers h (drop (whole_len n) xs)) ≡ n
-headers_len_is n h xs frame room same is =
-    let whole = ap length (is ∙ ap (λ ys. headers h ys ++ ys) (frame_behind n xs)) ∙ length-append (headers h (drop (whole_len n) xs)) (drop (whole_len n) xs) in
-    omega (arith, length-drop (whole_len n) xs, length-drop record_header_len xs, ap length (behind_is xs))
-
-pub closed_is : (n : ℕ) (h : Header) (xs frame : List ℕ) → frame ≡ headers h (drop n (behind_header xs)) ++ drop n (behind_header xs) → put_mid record_header_len (length xs - record_header_len) xs frame ≡ take record_header_len xs ++ frame_with h (drop (whole_len n) xs)
-closed_is n h xs frame is =
-    let nothing : drop (length xs - record_header_len) (drop record_header_len xs) ≡ [] = drop_all (length xs - record_header_len) (drop record_header_len xs) (omega (arith, length-drop record_header_len xs)) in
-    ap (put_mid record_header_len (length xs - record_header_len) xs) (is ∙ ap (λ ys. headers h ys ++ ys) (frame_behind n xs))
-    ∙ rw (nothing, append-nil (headers h (drop (whole_len n) xs) ++ drop (whole_len n) xs)) refl
-
--- ---- a record that was opened, filled with its payload and closed
+abbrev pub opened_record : ℕ → ℕ → ℕ → ℕ → List ℕ
+opened_record n ticks at len = record_header ticks at len ++ replicate n 0
 
 length-record_header : (ticks at n : ℕ) → length (record_header ticks at n) ≡ record_header_len
 unfolding record_header
 length-record_header ticks at n = refl
 
-abbrev pub opened_record : ℕ → ℕ → ℕ → ℕ → List ℕ
-opened_record n ticks at len = record_header ticks at len ++ replicate n 0
-
-pub length-opened : (n ticks at len : ℕ) → length (opened_record n ticks at len) ≡ whole_len n
+pub length-opened : (n ticks at len : ℕ) → length (opened_record n ticks at len) ≡ record_header_len + n
 length-opened n ticks at len = length-append (record_header ticks at len) (replicate n 0) ∙ ap₂ (λ k m. k + m) (length-record_header ticks at len) (length-replicate n 0)
 
 -- headers are short
@@ -67,63 +39,60 @@ pub few_headers : (vlan : Option ℕ) → headers_len vlan ≤ 58
 few_headers None = omega arith
 few_headers (Some v) = omega arith
 
-pub length-filled : (n ticks at len : ℕ) (payload : List ℕ) → length (opened_record n ticks at len ++ payload) ≡ whole_len n + length payload
-length-filled n ticks at len payload = length-append (opened_record n ticks at len) payload ∙ ap (λ k. k + length payload) (length-opened n ticks at len)
+-- the slice from some length on
+abbrev pub slice_from : ℕ → List ℕ → List ℕ
+slice_from begin xs = take (length xs - begin) (drop begin xs)
 
 -- a slice that was written over, in the vector that holds it
 written_over : (n : ℕ) (new old : List ℕ) → length new ≡ length old → n ≡ length old → take n (new ++ drop (length new) old) ≡ new
 written_over n new old same count = ap (λ k. take k (new ++ drop (length new) old)) (let e : n ≡ length new = omega arith in e) ∙ take_at new (drop (length new) old) (length new) refl
 
-pub record_is : (n : ℕ) (h : Header) (ticks at len : ℕ) (xs payload : List ℕ) → xs ≡ opened_record n ticks at (n + len) ++ payload → length payload ≡ len → length (headers h (drop (whole_len n) xs)) ≡ n
-    → take record_header_len xs ++ frame_with h (drop (whole_len n) xs) ≡ record_bytes ticks at (frame_with h payload)
-record_is n h ticks at len xs payload is count room =
-    let back : drop (whole_len n) xs ≡ payload = ap (drop (whole_len n)) is ∙ drop_at (opened_record n ticks at (n + len)) payload (whole_len n) (length-opened n ticks at (n + len)) in
-    let front : take record_header_len xs ≡ record_header ticks at (n + len) =
-    ap (take record_header_len) (is ∙ append_assoc (record_header ticks at (n + len)) (replicate n 0) payload) ∙ take_at (record_header ticks at (n + len)) (replicate n 0 ++ payload) record_header_len (length-record_header ticks at (n + len)) in
-    let size : n + len ≡ length (headers h payload ++ payload) = omega (arith, length-append (headers h payload) payload, room, ap (λ ys. length (headers h ys)) back, count) in
-    ap (λ ys. take record_header_len xs ++ frame_with h ys) back ∙ ap (λ ys. ys ++ (headers h payload ++ payload)) (front ∙ ap (record_header ticks at) size)
+-- after what was written before
+module _ (n ticks at len frame : ℕ) (out slice payload : List ℕ) (is : slice ≡ (out ++ opened_record n ticks at len) ++ payload) (count : frame ≡ length out + record_header_len) where
+  abbrev before_frame : List ℕ
+  before_frame = out ++ record_header ticks at len
 
--- ---- a record at the end of what was written
+  length-before : length before_frame ≡ frame
+  length-before = length-append out (record_header ticks at len) ∙ ap (λ k. length out + k) (length-record_header ticks at len) ∙ sym count
 
--- the slice from some length on
-abbrev pub slice_from : ℕ → List ℕ → List ℕ
-slice_from begin xs = take (length xs - begin) (drop begin xs)
+  slice_is : slice ≡ before_frame ++ (replicate n 0 ++ payload)
+  slice_is = is ∙ ap (λ xs. xs ++ payload) (sym (append_assoc out (record_header ticks at len) (replicate n 0))) ∙ append_assoc before_frame (replicate n 0) payload
 
-pub appended_is : (n ticks at len begin : ℕ) (out slice whole payload : List ℕ) → slice ≡ whole → whole ≡ (out ++ opened_record n ticks at len) ++ payload → begin ≡ length out → slice_from begin slice ≡ opened_record n ticks at len ++ payload
-appended_is n ticks at len begin out slice whole payload same is count =
-    let all : slice ≡ out ++ (opened_record n ticks at len ++ payload) = same ∙ is ∙ append_assoc out (opened_record n ticks at len) payload in
-    take_all (length slice - begin) (drop begin slice) (omega (arith, length-drop begin slice))
-    ∙ ap (drop begin) all ∙ drop_at out (opened_record n ticks at len ++ payload) begin (sym count)
+  -- its frame has room for the headers, and the payload
+  pub frame_is : slice_from frame slice ≡ replicate n 0 ++ payload
+  frame_is = take_all (length slice - frame) (drop frame slice) (omega (arith, length-drop frame slice)) ∙ ap (drop frame) slice_is ∙ drop_at before_frame (replicate n 0 ++ payload) frame length-before
 
--- where the slice of a record that was opened and filled is closed, the record is appended
-pub put_is : (n : ℕ) (h : Header) (ticks at len begin vec_len : ℕ) (out slice whole new payload : List ℕ) → slice ≡ whole → whole ≡ (out ++ opened_record n ticks at (n + len)) ++ payload → begin ≡ length out → length payload ≡ len
-    → new ≡ take record_header_len (slice_from begin slice) ++ frame_with h (drop (whole_len n) (slice_from begin slice)) → length (headers h (drop (whole_len n) (slice_from begin slice))) ≡ n
-    → length new ≡ length (slice_from begin slice) → vec_len ≡ length whole
-    → take vec_len (put_mid begin (length slice - begin) slice new ++ drop (length (put_mid begin (length slice - begin) slice new)) whole) ≡ out ++ record_bytes ticks at (frame_with h payload)
-put_is n h ticks at len begin vec_len out slice whole new payload same is count size closed room kept all =
-    let filled = appended_is n ticks at (n + len) begin out slice whole payload same is count in
-    let whole_slice : slice ≡ out ++ (opened_record n ticks at (n + len) ++ payload) = same ∙ is ∙ append_assoc out (opened_record n ticks at (n + len)) payload in
-    let new_is : new ≡ record_bytes ticks at (frame_with h payload) = closed ∙ record_is n h ticks at len (slice_from begin slice) payload filled size room in
-    let before : take begin slice ≡ out = ap (take begin) whole_slice ∙ take_at out (opened_record n ticks at (n + len) ++ payload) begin (sym count) in
-    let after : drop (length slice - begin) (drop begin slice) ≡ [] = drop_all (length slice - begin) (drop begin slice) (omega (arith, length-drop begin slice)) in
-    let made : put_mid begin (length slice - begin) slice new ≡ out ++ new = (λ i. before i ++ (new ++ after i)) ∙ ap (λ xs. out ++ xs) (append-nil new) in
-    let lengths : length (put_mid begin (length slice - begin) slice new) ≡ length slice =
-    ap length made ∙ length-append out new ∙ ap (λ k. length out + k) (kept ∙ ap length filled) ∙ sym (ap length whole_slice ∙ length-append out (opened_record n ticks at (n + len) ++ payload)) in
-    written_over vec_len (put_mid begin (length slice - begin) slice new) whole (lengths ∙ ap length same) all ∙ made ∙ ap (λ xs. out ++ xs) new_is
+  pub length-frame : length (slice_from frame slice) ≡ n + length payload
+  length-frame = ap length frame_is ∙ length-append (replicate n 0) payload ∙ ap (λ k. k + length payload) (length-replicate n 0)
+
+  -- where the headers are written into it, the record is appended
+  module _ (h : Header) (vec_len : ℕ) (whole new : List ℕ) (same : slice ≡ whole) (all : vec_len ≡ length whole) (fills : len ≡ n + length payload)
+      (written : new ≡ headers h (drop n (slice_from frame slice)) ++ drop n (slice_from frame slice)) (kept : length new ≡ length (slice_from frame slice)) where
+    pub put_is : take vec_len (put_mid frame (length slice - frame) slice new ++ drop (length (put_mid frame (length slice - frame) slice new)) whole) ≡ out ++ record_bytes ticks at (frame_with h payload)
+    put_is =
+        let new_is : new ≡ frame_with h payload = written ∙ ap (λ xs. headers h xs ++ xs) (ap (drop n) frame_is ∙ drop_at (replicate n 0) payload n (length-replicate n 0)) in
+        let before : take frame slice ≡ before_frame = ap (take frame) slice_is ∙ take_at before_frame (replicate n 0 ++ payload) frame length-before in
+        let after : drop (length slice - frame) (drop frame slice) ≡ [] = drop_all (length slice - frame) (drop frame slice) (omega (arith, length-drop frame slice)) in
+        let made : put_mid frame (length slice - frame) slice new ≡ before_frame ++ new = (λ i. before i ++ (new ++ after i)) ∙ ap (λ xs. before_frame ++ xs) (append-nil new) in
+        let lengths : length (put_mid frame (length slice - frame) slice new) ≡ length slice =
+        ap length made ∙ length-append before_frame new ∙ ap (λ k. length before_frame + k) (kept ∙ ap length frame_is) ∙ sym (ap length slice_is ∙ length-append before_frame (replicate n 0 ++ payload)) in
+        let size : len ≡ length (frame_with h payload) = fills ∙ sym length-frame ∙ sym kept ∙ ap length new_is in
+        written_over vec_len (put_mid frame (length slice - frame) slice new) whole (lengths ∙ ap length same) all ∙ made
+        ∙ append_assoc out (record_header ticks at len) new ∙ (λ i. out ++ (record_header ticks at (size i) ++ new_is i))
 
 -- ---- pieces
 
-length-run : (bytes : List LineByte) → run bytes ≤ length bytes
-length-run [] = omega arith
-length-run (b ∷ bytes) = by b.starts (length-run bytes)
+chunk_rest-le-length : (bytes : List LineByte) → chunk_rest bytes ≤ length bytes
+chunk_rest-le-length [] = omega arith
+chunk_rest-le-length (b ∷ bytes) = by b.starts (chunk_rest-le-length bytes)
   where
-    by : (s : Bool) → run bytes ≤ length bytes → (if s then 0 else run bytes + 1) ≤ length (b ∷ bytes)
+    by : (s : Bool) → chunk_rest bytes ≤ length bytes → (if s then 0 else chunk_rest bytes + 1) ≤ length (b ∷ bytes)
     by true h = omega arith
     by false h = omega arith
 
 pub piece_within : (limit : ℕ) (bytes : List LineByte) → piece_size limit bytes ≤ length bytes
 piece_within limit [] = omega arith
-piece_within limit (b ∷ bytes) = omega (arith, length-run bytes)
+piece_within limit (b ∷ bytes) = omega (arith, chunk_rest-le-length bytes)
 
 pub piece_limited : (limit : ℕ) (bytes : List LineByte) → piece_size limit bytes ≤ limit
 piece_limited limit [] = omega arith
@@ -140,26 +109,12 @@ first_instant-cursor parts c p ps e place =
 
 -- ---- segments
 
--- a segment by its key, of which each part is known
-framed_is : (s : Sender) (place : ℕ) (sent : SentSegment) (key : SegKey) (flags : ℕ) (payload : List ℕ) → key.moment ≡ sent.at → key.conn ≡ s.conn → key.turn ≡ s.turn → key.place ≡ place → flags ≡ sent.flags → payload ≡ sent.payload
-    → ◌≡◌ {A = Framed} (record { key = key; bytes = record_bytes (ticks_of s.unit) key.moment (frame_with (header_with s sent.seq sent.ack flags) payload) }) (framed_by s (place, sent))
-framed_is s place sent key flags payload moment conn turn at_place flags_are is =
-    λ i. record { key = record { moment = moment i; conn = conn i; turn = turn i; place = at_place i }; bytes = record_bytes (ticks_of s.unit) (moment i) (frame_with (header_with s sent.seq sent.ack (flags_are i)) (is i)) }
-
-pub bare_is : (s : Sender) (own : List LinePart) (l : Laid) (at seq ack place flags : ℕ) → l.len ≡ 0 → l.seq ≡ seq → l.ack ≡ ack → l.flags ≡ flags → l.key.moment ≡ at → l.key.conn ≡ s.conn → l.key.turn ≡ s.turn → l.key.place ≡ place
-    → framed_of s own l ≡ framed_by s (place, opening_segment at seq ack flags)
-bare_is s own l at seq ack place flags none seq_is ack_is flags_are moment conn turn at_place =
-    (λ i. record { key = l.key; bytes = record_bytes (ticks_of s.unit) l.key.moment (frame_with (header_with s (seq_is i) (ack_is i) l.flags) (values (take (none i) (left_at own l.from)))) })
-    ∙ framed_is s place (opening_segment at seq ack flags) l.key l.flags [] moment conn turn at_place flags_are refl
-
-pub piece_is : (s : Sender) (own : List LinePart) (l : Laid) (from after : Cursor) (at len seq ack place : ℕ) (border : Bool)
-    → l.from ≡ from → l.len ≡ len → l.seq ≡ seq → l.ack ≡ ack
-    → at ≡ first_instant (left_at own from) → len ≡ piece_size payload_limit (left_at own from) → left_at own after ≡ drop len (left_at own from)
-    → border ≡ is_chunk_border (left_at own after) → l.flags ≡ (if border then psh_flag + ack_flag else ack_flag)
-    → l.key.moment ≡ at → l.key.conn ≡ s.conn → l.key.turn ≡ s.turn → l.key.place ≡ place
-    → framed_of s own l ≡ framed_by s (place, piece_segment seq ack (first_of payload_limit (left_at own from)))
-piece_is s own l from after at len seq ack place border from_is len_of seq_is ack_is at_is len_is left border_is flags_are moment conn turn at_place =
-    let sent : SentSegment = piece_segment seq ack (first_of payload_limit (left_at own from)) in
-    let flags' : l.flags ≡ sent.flags = flags_are ∙ ap (λ (b : Bool). if b then psh_flag + ack_flag else ack_flag) (border_is ∙ ap is_chunk_border (left ∙ ap (λ n. drop n (left_at own from)) len_is)) in
-    (λ i. record { key = l.key; bytes = record_bytes (ticks_of s.unit) l.key.moment (frame_with (header_with s (seq_is i) (ack_is i) l.flags) (values (take (len_of i) (left_at own (from_is i))))) })
-    ∙ framed_is s place sent l.key l.flags (values (take len (left_at own from))) (moment ∙ at_is) conn turn at_place flags' (ap (λ n. values (take n (left_at own from))) len_is)
+-- the segment of a piece, by its key, length and flags
+pub piece_is : (s : Sender) (own : List LinePart) (l : Laid) (at place : ℕ) → l.key ≡ record { moment = at; conn = s.conn; turn = s.turn; place = place } → at ≡ first_instant (left_at own l.from)
+    → l.len ≡ piece_size payload_limit (left_at own l.from) → l.flags ≡ (if is_chunk_border (drop l.len (left_at own l.from)) then psh_flag + ack_flag else ack_flag)
+    → framed_of s own l ≡ framed_by s (place, piece_segment l.seq l.ack (first_of payload_limit (left_at own l.from)))
+piece_is s own l at place key_is at_is len_is flags_are =
+    let ahead : List LineByte = left_at own l.from in
+    let key : l.key ≡ record { moment = first_instant ahead; conn = s.conn; turn = s.turn; place = place } = key_is ∙ (λ i. record { moment = at_is i; conn = s.conn; turn = s.turn; place = place }) in
+    let flags = flags_are ∙ ap (λ n. if is_chunk_border (drop n ahead) then psh_flag + ack_flag else ack_flag) len_is in
+    λ i. record { key = key i; bytes = record_bytes (ticks_of s.unit) (key i).moment (frame_with (header_with s l.seq l.ack (flags i)) (values (take (len_is i) ahead))) }

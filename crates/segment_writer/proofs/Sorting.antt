@@ -1,8 +1,11 @@
--- Lists in order by a test: of two that agree on what ties with each element, there is one alone.
-use Rattle.std.proofs.Common.{◌≡◌, Bool, true, false, cond, not, ◌&&◌, List, [], ◌∷◌, filter, if◌then◌else◌, refl, sym, ap, ◌∙◌}
+-- Lists in order by a test. Putting a list in order keeps its elements, and what ties keeps its order: no other list is so.
+use Rattle.std.proofs.Common.{◌≡◌, Bool, true, false, cond, not, ◌&&◌, List, [], ◌∷◌, ◌++◌, filter, map, if◌then◌else◌, refl, sym, ap, ap₂, ◌∙◌, subst}
 use Rattle.std.specs.List.{AllByRecursion}
 use Rattle.std.specs.Cmp.{IsStrictWeakOrder}
-use Rattle.std.specs.List.Sorted.{ties}
+use Rattle.std.specs.List.Sorted.{ties, IsStableBy, IsPermutation}
+use Rattle.std.proofs.lemmas.List.Elements.{All-from_recursion, recursion_from_All, filter-append}
+use Rattle.std.proofs.lemmas.List.Sorted.{IsPermutation-refl, IsPermutation-sym, IsPermutation-cons, IsPermutation-middle, IsPermutation-trans, All-permutation}
+use Rattle.lists.proofs.Lists.{all_filter, all_weaker}
 use Rattle.segment_writer.specs.OrderedLists.{NoneBelow, Ordered, insert_by, sorted_by}
 
 module _ {X : Type 0} (lt : X → X → Bool) where
@@ -15,18 +18,28 @@ module _ {X : Type 0} (lt : X → X → Bool) where
   ordered_stays [] ordered = refl
   ordered_stays (x ∷ xs) ordered = ap (insert_by lt x) (ordered_stays xs ordered.1) ∙ insert_first x xs ordered.0
 
-  module _ (P : X → Type 0) where
-    all_inserted : (x : X) (ys : List X) → P x → AllByRecursion P ys → AllByRecursion P (insert_by lt x ys)
-    all_inserted x [] h all = (h, tt)
-    all_inserted x (y ∷ ys) h all = by (lt y x) (all_inserted x ys h all.1)
-      where
-        by : (b : Bool) → AllByRecursion P (insert_by lt x ys) → AllByRecursion P (if b then y ∷ insert_by lt x ys else x ∷ y ∷ ys)
-        by true later = (all.0, later)
-        by false later = (h, all)
+  -- ---- the elements stay
 
-    pub all_sorted : (xs : List X) → AllByRecursion P xs → AllByRecursion P (sorted_by lt xs)
-    all_sorted [] all = tt
-    all_sorted (x ∷ xs) all = all_inserted x (sorted_by lt xs) all.0 (all_sorted xs all.1)
+  inserted : (x : X) (ys : List X) → IsPermutation (x ∷ ys) (insert_by lt x ys)
+  inserted x [] = IsPermutation-refl (x ∷ [])
+  inserted x (y ∷ ys) = by (lt y x) (inserted x ys)
+    where
+      by : (b : Bool) → IsPermutation (x ∷ ys) (insert_by lt x ys) → IsPermutation (x ∷ y ∷ ys) (if b then y ∷ insert_by lt x ys else x ∷ y ∷ ys)
+      by true h =
+          IsPermutation-trans (x ∷ y ∷ ys) (y ∷ x ∷ ys) (y ∷ insert_by lt x ys)
+          (IsPermutation-sym (y ∷ x ∷ ys) (x ∷ y ∷ ys) (IsPermutation-middle (y ∷ []) x ys)) (IsPermutation-cons y (x ∷ ys) (insert_by lt x ys) h)
+      by false h = IsPermutation-refl (x ∷ y ∷ ys)
+
+  pub keeps_all : (xs : List X) → IsPermutation xs (sorted_by lt xs)
+  keeps_all [] = IsPermutation-refl []
+  keeps_all (x ∷ xs) =
+      IsPermutation-trans (x ∷ xs) (x ∷ sorted_by lt xs) (insert_by lt x (sorted_by lt xs)) (IsPermutation-cons x xs (sorted_by lt xs) (keeps_all xs)) (inserted x (sorted_by lt xs))
+
+  all_moved : (P : X → Type 0) (xs ys : List X) → IsPermutation xs ys → AllByRecursion P xs → AllByRecursion P ys
+  all_moved P xs ys moved all = recursion_from_All P ys (All-permutation P xs ys moved (All-from_recursion P xs all))
+
+  pub all_sorted : (P : X → Type 0) (xs : List X) → AllByRecursion P xs → AllByRecursion P (sorted_by lt xs)
+  all_sorted P xs all = all_moved P xs (sorted_by lt xs) (keeps_all xs) all
 
   module _ (o : IsStrictWeakOrder lt) where
     below_itself : (b : Bool) → (b ≡ true → b ≡ false) → b ≡ false
@@ -36,14 +49,59 @@ module _ {X : Type 0} (lt : X → X → Bool) where
     pub not_below_itself : (x : X) → lt x x ≡ false
     not_below_itself x = below_itself (lt x x) (o.one_way x x)
 
+    -- what is not below y is not below x
+    pub none_below-chain : (x y : X) (ys : List X) → lt y x ≡ false → NoneBelow lt y ys → NoneBelow lt x ys
+    none_below-chain x y ys h none = all_weaker (λ w. lt w y ≡ false) (λ w. lt w x ≡ false) (λ w up. o.chain w y x up h) ys none
+
+    ordered-insert : (x : X) (ys : List X) → Ordered lt ys → Ordered lt (insert_by lt x ys)
+    ordered-insert x [] h = (tt, tt)
+    ordered-insert x (y ∷ ys) h = by (lt y x) refl (ordered-insert x ys h.1)
+      where
+        by : (b : Bool) → lt y x ≡ b → Ordered lt (insert_by lt x ys) → Ordered lt (if b then y ∷ insert_by lt x ys else x ∷ y ∷ ys)
+        by true lower later = (all_moved (λ w. lt w y ≡ false) (x ∷ ys) (insert_by lt x ys) (inserted x ys) (o.one_way y x lower, h.0), later)
+        by false higher later = ((higher, none_below-chain x y ys higher h.0), h)
+
+    pub ordered-sorted : (xs : List X) → Ordered lt (sorted_by lt xs)
+    ordered-sorted [] = tt
+    ordered-sorted (x ∷ xs) = ordered-insert x (sorted_by lt xs) (ordered-sorted xs)
+
+    -- ---- what ties stays in its order
+
+    tie_parts : (b c : Bool) → not b && not c ≡ true → (b ≡ false) × (c ≡ false)
+    tie_parts false false h = (refl, refl)
+    tie_parts false true h = cc
+    tie_parts true c h = cc
+
+    -- two that tie with one element are not below each other
+    not_below-ties : (z x y : X) → ties lt z x ≡ true → ties lt z y ≡ true → lt y x ≡ false
+    not_below-ties z x y a b = o.chain y z x (tie_parts (lt z y) (lt y z) b).1 (tie_parts (lt z x) (lt x z) a).0
+
+    -- of two elements that do not both pass, either may come first
+    swapped : (u v : Bool) (x y : X) (zs : List X) → (u ≡ true → v ≡ true → ⊥) → cond v (y ∷ cond u (x ∷ zs) zs) (cond u (x ∷ zs) zs) ≡ cond u (x ∷ cond v (y ∷ zs) zs) (cond v (y ∷ zs) zs)
+    swapped true true x y zs h = absurd (h refl refl)
+    swapped true false x y zs h = refl
+    swapped false v x y zs h = refl
+
+    filter-insert : (z x : X) (ys : List X) → filter (ties lt z) (insert_by lt x ys) ≡ filter (ties lt z) (x ∷ ys)
+    filter-insert z x [] = refl
+    filter-insert z x (y ∷ ys) = by (lt y x) refl (filter-insert z x ys)
+      where
+        apart : lt y x ≡ true → ties lt z x ≡ true → ties lt z y ≡ true → ⊥
+        apart lower a b = cc (not_below-ties z x y a b)
+
+        by : (b : Bool) → lt y x ≡ b → filter (ties lt z) (insert_by lt x ys) ≡ filter (ties lt z) (x ∷ ys) → filter (ties lt z) (if b then y ∷ insert_by lt x ys else x ∷ y ∷ ys) ≡ filter (ties lt z) (x ∷ y ∷ ys)
+        by true lower later = ap (λ l. cond (ties lt z y) (y ∷ l) l) later ∙ swapped (ties lt z x) (ties lt z y) x y (filter (ties lt z) ys) (apart lower)
+        by false higher later = refl
+
+    filter-sorted : (z : X) (xs : List X) → filter (ties lt z) (sorted_by lt xs) ≡ filter (ties lt z) xs
+    filter-sorted z [] = refl
+    filter-sorted z (x ∷ xs) = filter-insert z x (sorted_by lt xs) ∙ ap (λ l. cond (ties lt z x) (x ∷ l) l) (filter-sorted z xs)
+
+    -- ---- no other list is so
+
     -- what a filter keeps first is not below x
     first_kept : (p : X → Bool) (x : X) (xs : List X) (y : X) (ys : List X) → NoneBelow lt x xs → filter p xs ≡ y ∷ ys → lt y x ≡ false
-    first_kept p x [] y ys none kept = cc
-    first_kept p x (w ∷ xs) y ys none kept = by (p w) (first_kept p x xs y ys none.1) kept
-      where
-        by : (b : Bool) → (filter p xs ≡ y ∷ ys → lt y x ≡ false) → cond b (w ∷ filter p xs) (filter p xs) ≡ y ∷ ys → lt y x ≡ false
-        by true later kept = let same : y ≡ w = cc in rw same none.0
-        by false later kept = later kept
+    first_kept p x xs y ys none kept = (subst (AllByRecursion (λ w. lt w x ≡ false)) kept (all_filter (λ w. lt w x ≡ false) p xs none)).0
 
     -- a filter by what ties with x keeps an element that ties with x
     keeps_itself : (x y : X) (ys : List X) → lt x y ≡ false → lt y x ≡ false → filter (ties lt x) (y ∷ ys) ≡ y ∷ filter (ties lt x) ys
@@ -54,7 +112,7 @@ module _ {X : Type 0} (lt : X → X → Bool) where
     tail_kept false x y xs ys h = h
 
     -- two lists in order that agree on what ties with each element are one
-    pub only_one : (xs ys : List X) → Ordered lt xs → Ordered lt ys → ((x : X) → filter (ties lt x) xs ≡ filter (ties lt x) ys) → xs ≡ ys
+    only_one : (xs ys : List X) → Ordered lt xs → Ordered lt ys → ((x : X) → filter (ties lt x) xs ≡ filter (ties lt x) ys) → xs ≡ ys
     only_one [] [] a b same = refl
     only_one [] (y ∷ ys) a b same = cc (same y ∙ keeps_itself y y ys (not_below_itself y) (not_below_itself y))
     only_one (x ∷ xs) [] a b same = cc (sym (same x) ∙ keeps_itself x x xs (not_below_itself x) (not_below_itself x))
@@ -68,36 +126,39 @@ module _ {X : Type 0} (lt : X → X → Bool) where
         (same z ∙ ap (λ w. cond (ties lt z w) (y ∷ filter (ties lt z) ys) (filter (ties lt z) ys)) (sym heads))) in
         cc
 
-    -- what is not below y is not below x
-    pub none_below-chain : (x y : X) (ys : List X) → lt y x ≡ false → NoneBelow lt y ys → NoneBelow lt x ys
-    none_below-chain x y [] h none = tt
-    none_below-chain x y (w ∷ ys) h none = (o.chain w y x none.0 h, none_below-chain x y ys h none.1)
+    pub sorted-only : (xs ys : List X) → Ordered lt ys → IsStableBy lt xs ys → ys ≡ sorted_by lt xs
+    sorted-only xs ys ordered stable = only_one ys (sorted_by lt xs) ordered (ordered-sorted xs) (λ z. stable z ∙ sym (filter-sorted z xs))
 
-    tie_parts : (b c : Bool) → not b && not c ≡ true → (b ≡ false) × (c ≡ false)
-    tie_parts false false h = (refl, refl)
-    tie_parts false true h = cc
-    tie_parts true c h = cc
+    -- so a list may be put in order in parts before it is put in order
+    pub parts_sorted : (xs ys : List X) → sorted_by lt (sorted_by lt xs ++ sorted_by lt ys) ≡ sorted_by lt (xs ++ ys)
+    parts_sorted xs ys =
+        let parts : List X = sorted_by lt xs ++ sorted_by lt ys in
+        sorted-only (xs ++ ys) (sorted_by lt parts) (ordered-sorted parts)
+        (λ z. filter-sorted z parts ∙ filter-append (ties lt z) (sorted_by lt xs) (sorted_by lt ys) ∙ ap₂ (λ us vs. us ++ vs) (filter-sorted z xs) (filter-sorted z ys) ∙ sym (filter-append (ties lt z) xs ys))
 
-    -- two that tie with one element are not below each other
-    pub not_below-ties : (z x y : X) → ties lt z x ≡ true → ties lt z y ≡ true → lt y x ≡ false
-    not_below-ties z x y a b = o.chain y z x (tie_parts (lt z y) (lt y z) b).1 (tie_parts (lt z x) (lt x z) a).0
+-- ---- what stands for other elements is in order as these are
 
-    none_below-insert : (z x : X) (ys : List X) → lt x z ≡ false → NoneBelow lt z ys → NoneBelow lt z (insert_by lt x ys)
-    none_below-insert z x [] h none = (h, tt)
-    none_below-insert z x (y ∷ ys) h none = by (lt y x) (none_below-insert z x ys h none.1)
-      where
-        by : (b : Bool) → NoneBelow lt z (insert_by lt x ys) → NoneBelow lt z (if b then y ∷ insert_by lt x ys else x ∷ y ∷ ys)
-        by true later = (none.0, later)
-        by false later = (h, none)
+module _ {X Y : Type 0} (f : X → Y) (lt : Y → Y → Bool) where
+  abbrev by_image : X → X → Bool
+  by_image a b = lt (f a) (f b)
 
-    ordered-insert : (x : X) (ys : List X) → Ordered lt ys → Ordered lt (insert_by lt x ys)
-    ordered-insert x [] h = (tt, tt)
-    ordered-insert x (y ∷ ys) h = by (lt y x) refl (ordered-insert x ys h.1)
-      where
-        by : (b : Bool) → lt y x ≡ b → Ordered lt (insert_by lt x ys) → Ordered lt (if b then y ∷ insert_by lt x ys else x ∷ y ∷ ys)
-        by true lower later = (none_below-insert y x ys (o.one_way y x lower) h.0, later)
-        by false higher later = ((higher, none_below-chain x y ys higher h.0), h)
+  none_below-map : (x : X) (xs : List X) → NoneBelow lt (f x) (map f xs) → NoneBelow by_image x xs
+  none_below-map x [] none = tt
+  none_below-map x (y ∷ xs) none = (none.0, none_below-map x xs none.1)
 
-    pub ordered-sorted : (xs : List X) → Ordered lt (sorted_by lt xs)
-    ordered-sorted [] = tt
-    ordered-sorted (x ∷ xs) = ordered-insert x (sorted_by lt xs) (ordered-sorted xs)
+  pub ordered-map : (xs : List X) → Ordered lt (map f xs) → Ordered by_image xs
+  ordered-map [] ordered = tt
+  ordered-map (x ∷ xs) ordered = (none_below-map x xs ordered.0, ordered-map xs ordered.1)
+
+  insert-map : (x : X) (ys : List X) → map f (insert_by by_image x ys) ≡ insert_by lt (f x) (map f ys)
+  insert-map x [] = refl
+  insert-map x (y ∷ ys) = by (by_image y x) (insert-map x ys)
+    where
+      by : (b : Bool) → map f (insert_by by_image x ys) ≡ insert_by lt (f x) (map f ys)
+          → map f (if b then y ∷ insert_by by_image x ys else x ∷ y ∷ ys) ≡ (if b then f y ∷ insert_by lt (f x) (map f ys) else f x ∷ f y ∷ map f ys)
+      by true later = ap (λ zs. f y ∷ zs) later
+      by false later = refl
+
+  pub sorted-map : (xs : List X) → map f (sorted_by by_image xs) ≡ sorted_by lt (map f xs)
+  sorted-map [] = refl
+  sorted-map (x ∷ xs) = insert-map x (sorted_by by_image xs) ∙ ap (insert_by lt (f x)) (sorted-map xs)

@@ -1,19 +1,19 @@
 -- The segments of a turn are in order of key as they stand.
-use Rattle.std.proofs.Common.{◌≡◌, ◌≤◌, ℕ, ◌+◌, Bool, true, false, ◌&&◌, ◌==◌, nat_lt, List, [], ◌∷◌, filter, cond, refl, sym, subst, arith}
+use Rattle.std.proofs.Common.{◌≡◌, ◌≤◌, ℕ, ◌+◌, Bool, true, false, ◌&&◌, ◌==◌, nat_lt, List, [], ◌∷◌, filter, map, cond, refl, sym, arith}
+use Rattle.std.specs.List.{enumerate_from}
 use Rattle.std.proofs.lemmas.Bool.{le-ltb}
+use Rattle.lists.proofs.Lists.{all_filter}
 use Rattle.pcap_records.specs.Instants.{horizon, ticks_of}
 use Rattle.frame_headers.specs.Layout.{payload_limit}
 use Rattle.reassembly.specs.RecordedLines.{Line}
-use Rattle.segment_writer.specs.WrittenSegments.{SentSegment, is_key_below, pieces, segments_sent_from}
+use Rattle.segment_writer.specs.WrittenSegments.{SentSegment, is_key_below, below, segments_sent_by}
 use Rattle.segment_writer.specs.OrderedLists.{NoneBelow, Ordered}
 use Rattle.segment_writer.specs.TimelyLines.{IsTimely}
 use Rattle.segment_writer.specs.Senders.{framed_by, own_side, peer_side, peer_in, line_written, opening_by, opening_written}
 use Rattle.segment_writer.specs.declared.framed.SegKey.{SegKey}
 use Rattle.segment_writer.specs.declared.framed.Framed.{Framed}
 use Rattle.segment_writer.specs.declared.senders.Sender.{Sender}
-use Rattle.segment_writer.proofs.InOrder.{below}
-use Rattle.segment_writer.proofs.SentClimb.{SentClimbs, line_climbs, written_from}
-use Rattle.segment_writer.proofs.TurnSteps.{whole_is}
+use Rattle.segment_writer.proofs.SentClimb.{SentClimbs, line_climbs}
 
 -- ---- keys
 
@@ -30,53 +30,40 @@ key_after k j later conn turn place =
     let turn' : j.turn ≤ k.turn = omega arith in
     rw (le-ltb k.moment j.moment later, le-ltb k.conn j.conn conn', le-ltb k.turn j.turn turn', le-ltb k.place j.place place) (no_place (k.moment == j.moment) (k.conn == j.conn) (k.turn == j.turn))
 
+-- what is in order is so where some are left out
+ordered-filter : (p : Framed → Bool) (ys : List Framed) → Ordered below ys → Ordered below (filter p ys)
+ordered-filter p [] ordered = tt
+ordered-filter p (y ∷ ys) ordered = by (p y) (ordered-filter p ys ordered.1)
+  where
+    by : (b : Bool) → Ordered below (filter p ys) → Ordered below (cond b (y ∷ filter p ys) (filter p ys))
+    by true rest = (all_filter (λ x. below x y ≡ false) p ys ordered.0, rest)
+    by false rest = rest
+
 -- ---- a line
 
 -- what is sent from an instant and a place on has no key below one of the turn before both
-none_below-sent : (s : Sender) (x : Framed) (place : ℕ) (sent : List SentSegment) → x.key.conn ≡ s.conn → x.key.turn ≡ s.turn → x.key.place ≤ place → SentClimbs x.key.moment sent → NoneBelow below x (written_from s place sent)
+none_below-sent : (s : Sender) (x : Framed) (place : ℕ) (sent : List SentSegment) → x.key.conn ≡ s.conn → x.key.turn ≡ s.turn → x.key.place ≤ place → SentClimbs x.key.moment sent
+    → NoneBelow below x (map (framed_by s) (enumerate_from place sent))
 none_below-sent s x place [] conn turn up climb = tt
 none_below-sent s x place (y ∷ sent) conn turn up climb =
-    by (nat_lt y.at (horizon (ticks_of s.unit))) (none_below-sent s x (place + 1) sent conn turn (omega arith) (climbs_on x.key.moment y.at sent climb.0 climb.1))
+    (key_after (framed_by s (place, y)).key x.key climb.0 conn turn up, none_below-sent s x (place + 1) sent conn turn (omega arith) (climbs_on x.key.moment y.at sent climb.0 climb.1))
   where
     climbs_on : (low mid : ℕ) (sent : List SentSegment) → low ≤ mid → SentClimbs mid sent → SentClimbs low sent
     climbs_on low mid [] h climb = tt
     climbs_on low mid (z ∷ sent) h climb = ((let on : mid ≤ z.at = climb.0 in omega arith), climb.1)
 
-    by : (b : Bool) → NoneBelow below x (written_from s (place + 1) sent) → NoneBelow below x (cond b (framed_by s (place, y) ∷ written_from s (place + 1) sent) (written_from s (place + 1) sent))
-    by true rest = (key_after (framed_by s (place, y)).key x.key climb.0 conn turn up, rest)
-    by false rest = rest
-
-ordered-sent : (s : Sender) (low place : ℕ) (sent : List SentSegment) → SentClimbs low sent → Ordered below (written_from s place sent)
+ordered-sent : (s : Sender) (low place : ℕ) (sent : List SentSegment) → SentClimbs low sent → Ordered below (map (framed_by s) (enumerate_from place sent))
 ordered-sent s low place [] climb = tt
-ordered-sent s low place (y ∷ sent) climb = by (nat_lt y.at (horizon (ticks_of s.unit))) (ordered-sent s y.at (place + 1) sent climb.1)
-  where
-    by : (b : Bool) → Ordered below (written_from s (place + 1) sent) → Ordered below (cond b (framed_by s (place, y) ∷ written_from s (place + 1) sent) (written_from s (place + 1) sent))
-    by true rest = (none_below-sent s (framed_by s (place, y)) (place + 1) sent refl refl (omega arith) climb.1, rest)
-    by false rest = rest
+ordered-sent s low place (y ∷ sent) climb = (none_below-sent s (framed_by s (place, y)) (place + 1) sent refl refl (omega arith) climb.1, ordered-sent s y.at (place + 1) sent climb.1)
 
 pub line_ordered : (s : Sender) (own peer : Line) → IsTimely own → Ordered below (line_written s own peer)
+unfolding line_written
 line_ordered s own peer timely =
-    subst (λ (xs : List Framed). Ordered below xs) (whole_is s own peer)
-    (ordered-sent s 0 0 (segments_sent_from (own_side s own) (peer_side s peer) 0 (pieces payload_limit payload_limit own.bytes)) (line_climbs payload_limit payload_limit 0 (own_side s own) (peer_side s peer) 0 own.bytes timely.climbs))
+    let sent : List SentSegment = segments_sent_by (own_side s own) (peer_side s peer) in
+    ordered-filter (λ x. nat_lt x.key.moment (horizon (ticks_of s.unit))) (map (framed_by s) (enumerate_from 0 sent))
+    (ordered-sent s 0 0 sent (line_climbs payload_limit payload_limit 0 (own_side s own) (peer_side s peer) 0 own.bytes timely.climbs))
 
 -- ---- the opening
-
-module _ (p : Framed → Bool) where
-  none_below-filter : (x : Framed) (ys : List Framed) → NoneBelow below x ys → NoneBelow below x (filter p ys)
-  none_below-filter x [] none = tt
-  none_below-filter x (y ∷ ys) none = by (p y) (none_below-filter x ys none.1)
-    where
-      by : (b : Bool) → NoneBelow below x (filter p ys) → NoneBelow below x (cond b (y ∷ filter p ys) (filter p ys))
-      by true rest = (none.0, rest)
-      by false rest = rest
-
-  ordered-filter : (ys : List Framed) → Ordered below ys → Ordered below (filter p ys)
-  ordered-filter [] ordered = tt
-  ordered-filter (y ∷ ys) ordered = by (p y) (ordered-filter ys ordered.1)
-    where
-      by : (b : Bool) → Ordered below (filter p ys) → Ordered below (cond b (y ∷ filter p ys) (filter p ys))
-      by true rest = (none_below-filter y ys ordered.0, rest)
-      by false rest = rest
 
 abbrev key_of_turn : Sender → ℕ → ℕ → ℕ → SegKey
 key_of_turn client at turn place = record { moment = at; conn = client.conn; turn = turn; place = place }

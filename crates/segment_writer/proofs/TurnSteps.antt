@@ -58,7 +58,7 @@ next_written s own peer place n size (b ∷ bytes) some is early =
     ∙ ap (λ k. framed_by s (place, first_segment s own peer n all) ∷ written_from s (place + 1) (segments_sent_from (own_side s own) (peer_side s peer) (n + k) rest)) count
     ∙ ap (λ k. framed_by s (place, first_segment s own peer n all) ∷ left_written s own peer (place + 1) (n + size) (drop k all)) (sym is)
 
-pub whole_is : (s : Sender) (own peer : Line) → left_written s own peer 0 0 own.bytes ≡ line_written s own peer
+whole_is : (s : Sender) (own peer : Line) → left_written s own peer 0 0 own.bytes ≡ line_written s own peer
 unfolding line_written
 whole_is s own peer = refl
 

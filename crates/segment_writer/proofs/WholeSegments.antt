@@ -10,7 +10,7 @@ use Rattle.reassembly.specs.declared.line_parts.End as code
 use Rattle.reassembly.specs.LineLaws.{IsInChunks, GoesOn, IsNotBefore, last_instant}
 use Rattle.segment_writer.specs.WrittenSegments.{WrittenConnection, frame_bytes, sorted_by_key, opening_turn, up_turn, down_turn, segments_before_horizon, written_segments}
 use Rattle.segment_writer.specs.TimelyLines.{Climbs, LinesAreTimely}
-use Rattle.segment_writer.specs.Senders.{client_in, server_in, line_written, opening_by, opening_written, connection_written}
+use Rattle.segment_writer.specs.Senders.{client_in, peer_in, line_written, opening_by, opening_written, connection_written}
 use Rattle.segment_writer.specs.declared.framed.Framed.{Framed}
 use Rattle.segment_writer.specs.declared.senders.Sender.{Sender}
 
@@ -29,43 +29,26 @@ lines_are_timely l is = record { climbs = by l.bytes is.chunks is.ends; short = 
 
 -- ---- the opening
 
-opening_is : (unit : Unit) (refused : Bool) (c : WrittenConnection) → opening_by refused (client_in unit c 0) (server_in unit c 0) c.opened ≡ opening_turn refused (ticks_of unit) c
+opening_is : (unit : Unit) (refused : Bool) (c : WrittenConnection) → opening_by refused (client_in unit c 0) (peer_in (client_in unit c 0) 0) c.opened ≡ opening_turn refused (ticks_of unit) c
 unfolding frame_bytes
 opening_is unit true c = refl
 opening_is unit false c = refl
 
--- ---- the three turns, by senders of units of so many ticks
+-- ---- the three turns, by a client of a unit of so many ticks
 
-opening_of : (unit : Unit) (ticks : ℕ) (c : WrittenConnection) → ticks_of unit ≡ ticks → opening_written c.refused (client_in unit c 0) (server_in unit c 0) c.opened ≡ segments_before_horizon ticks (opening_turn c.refused ticks c)
-opening_of unit ticks c same = ap (segments_before_horizon (ticks_of unit)) (opening_is unit c.refused c) ∙ ap (λ n. segments_before_horizon n (opening_turn c.refused n c)) same
-
-ups_are : (unit : Unit) (c : WrittenConnection) → line_written (client_in unit c 1) c.client.line c.server.line ≡ segments_before_horizon (ticks_of unit) (up_turn (ticks_of unit) c)
-unfolding line_written frame_bytes
-ups_are unit c = refl
-
-downs_are : (unit : Unit) (c : WrittenConnection) → line_written (server_in unit c 2) c.server.line c.client.line ≡ segments_before_horizon (ticks_of unit) (down_turn (ticks_of unit) c)
-unfolding line_written frame_bytes
-downs_are unit c = refl
-
-whole_is : (ticks : ℕ) (c : WrittenConnection) → sorted_by_key (segments_before_horizon ticks ((opening_turn c.refused ticks c ++ up_turn ticks c) ++ down_turn ticks c)) ≡ written_segments ticks c
-unfolding written_segments
-whole_is ticks c = refl
-
-pub connection_is : (unit : Unit) (ticks : ℕ) (c : WrittenConnection) → ticks_of unit ≡ ticks → connection_written c.refused (client_in unit c 0) c.opened c.client.line c.server.line ≡ written_segments ticks c
-connection_is unit ticks c same =
-    let ups' : line_written (client_in unit c 1) c.client.line c.server.line ≡ segments_before_horizon ticks (up_turn ticks c) = ups_are unit c ∙ ap (λ n. segments_before_horizon n (up_turn n c)) same in
-    let downs' : line_written (server_in unit c 2) c.server.line c.client.line ≡ segments_before_horizon ticks (down_turn ticks c) = downs_are unit c ∙ ap (λ n. segments_before_horizon n (down_turn n c)) same in
-    let in_time : Framed → Bool = λ x. nat_lt x.key.moment (horizon ticks) in
-    ap sorted_by_key
-    (ap₂ (λ xs ys. xs ++ ys) (ap₂ (λ xs ys. xs ++ ys) (opening_of unit ticks c same) ups' ∙ sym (filter-append in_time (opening_turn c.refused ticks c) (up_turn ticks c))) downs'
-    ∙ sym (filter-append in_time (opening_turn c.refused ticks c ++ up_turn ticks c) (down_turn ticks c)))
-    ∙ whole_is ticks c
-
--- the same, where a sender and the lines are known by equations
-pub connection_as : (client : Sender) (unit : Unit) (ticks : ℕ) (c : WrittenConnection) (up down : Line) → client ≡ client_in unit c 0 → ticks_of unit ≡ ticks → up ≡ c.client.line → down ≡ c.server.line
+pub connection_is : (client : Sender) (unit : Unit) (ticks : ℕ) (c : WrittenConnection) (up down : Line) → client ≡ client_in unit c 0 → ticks_of unit ≡ ticks → up ≡ c.client.line → down ≡ c.server.line
     → connection_written c.refused client c.opened up down ≡ written_segments ticks c
-connection_as client unit ticks c up down client_is same up_is down_is =
-    (λ i. connection_written c.refused (client_is i) c.opened (up_is i) (down_is i)) ∙ connection_is unit ticks c same
+unfolding line_written frame_bytes written_segments
+connection_is client unit ticks c up down client_is same up_is down_is =
+    let in_time : Framed → Bool = λ x. nat_lt x.key.moment (horizon ticks) in
+    let opening : opening_written c.refused (client_in unit c 0) (peer_in (client_in unit c 0) 0) c.opened ≡ segments_before_horizon ticks (opening_turn c.refused ticks c) =
+    ap (segments_before_horizon (ticks_of unit)) (opening_is unit c.refused c) ∙ ap (λ n. segments_before_horizon n (opening_turn c.refused n c)) same in
+    let ups : line_written (client_in unit c 1) c.client.line c.server.line ≡ segments_before_horizon ticks (up_turn ticks c) = ap (λ n. segments_before_horizon n (up_turn n c)) same in
+    let downs : line_written (peer_in (client_in unit c 0) 2) c.server.line c.client.line ≡ segments_before_horizon ticks (down_turn ticks c) = ap (λ n. segments_before_horizon n (down_turn n c)) same in
+    (λ i. connection_written c.refused (client_is i) c.opened (up_is i) (down_is i))
+    ∙ ap sorted_by_key
+    (ap₂ (λ xs ys. xs ++ ys) (ap₂ (λ xs ys. xs ++ ys) opening ups ∙ sym (filter-append in_time (opening_turn c.refused ticks c) (up_turn ticks c))) downs
+    ∙ sym (filter-append in_time (opening_turn c.refused ticks c ++ up_turn ticks c) (down_turn ticks c)))
 
 -- parts with the bytes of a line, and its end
 pub line_is : (parts : List LinePart) (ended : code.End) (l : Line) → bytes_of_parts parts ≡ l.bytes → end_view ended ≡ l.end → line_of parts ended ≡ l

@@ -4,13 +4,13 @@ use Rattle.reassembly.specs.RecordedLines.{LineByte}
 use Rattle.segment_writer.specs.WrittenSegments.{Piece, pieces, is_chunk_border}
 
 -- how many of these bytes go on with the chunk of the byte before them
-abbrev pub run : List LineByte → ℕ
-run [] = 0
-run (b ∷ bytes) = if b.starts then 0 else run bytes + 1
+abbrev pub chunk_rest : List LineByte → ℕ
+chunk_rest [] = 0
+chunk_rest (b ∷ bytes) = if b.starts then 0 else chunk_rest bytes + 1
 
 abbrev pub piece_size : ℕ → List LineByte → ℕ
 piece_size limit [] = 0
-piece_size limit (b ∷ bytes) = min limit (run bytes + 1)
+piece_size limit (b ∷ bytes) = min limit (chunk_rest bytes + 1)
 
 abbrev pub values : List LineByte → List ℕ
 values bytes = map (λ b. b.value) bytes

@@ -1,33 +1,24 @@
 -- Keys stand once: in the segments of a connection, and of connections that are numbered in turn.
-use Rattle.std.specs.Prelude.{◌≡◌, ◌≤◌, ℕ, ◌+◌, Bool, false, ◌&&◌, not, List, [], ◌∷◌, if◌then◌else◌}
-use Rattle.std.specs.List.{flat_map}
+use Rattle.std.specs.Prelude.{◌≡◌, ◌≤◌, ℕ, ◌+◌, Bool, ◌&&◌, not, List, [], ◌∷◌}
+use Rattle.std.specs.List.{count_by, flat_map}
 use Rattle.std.specs.List.Sorted.{IsPermutation}
 use Rattle.segment_writer.specs.declared.framed.SegKey.{SegKey}
 use Rattle.segment_writer.specs.declared.framed.Framed.{Framed}
-use Rattle.segment_writer.specs.WrittenSegments.{WrittenConnection, is_key_below, sorted_by_key, written_segments}
+use Rattle.segment_writer.specs.WrittenSegments.{WrittenConnection, is_key_below, below, sorted_by_key, written_segments}
+use Rattle.segment_writer.specs.OrderedLists.{Ordered}
 use Rattle.segment_writer.specs.KeyOrder.{AreRising}
 
 -- neither key is below the other
 abbrev pub same_key : SegKey → SegKey → Bool
 same_key a b = not (is_key_below a b) && not (is_key_below b a)
 
--- how many segments have a key
-abbrev pub times : SegKey → List Framed → ℕ
-times k [] = 0
-times k (x ∷ xs) = if same_key k x.key then 1 + times k xs else times k xs
-
 -- of each key there is one segment at most
 abbrev pub HasNoKeyTwice : List Framed → Type 0
-HasNoKeyTwice xs = (k : SegKey) → times k xs ≤ 1
+HasNoKeyTwice xs = (k : SegKey) → count_by (λ x. same_key k x.key) xs ≤ 1
 
 -- no segment has a key below one before it
-abbrev pub NoneLower : SegKey → List Framed → Type 0
-NoneLower k [] = Unit {0}
-NoneLower k (x ∷ xs) = (is_key_below x.key k ≡ false) × NoneLower k xs
-
 abbrev pub NeverFalls : List Framed → Type 0
-NeverFalls [] = Unit {0}
-NeverFalls (x ∷ xs) = NoneLower x.key xs × NeverFalls xs
+NeverFalls = Ordered below
 
 -- whatever list has the same segments, each of a key of its own, and never falls is the one in order
 abbrev pub OneOrder : Type 0

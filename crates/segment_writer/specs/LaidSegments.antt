@@ -13,13 +13,13 @@ use Rattle.segment_writer.specs.declared.senders.Sender.{Sender}
 
 -- ---- of one sender, whose line has these parts
 
-abbrev pub payload_of : List LinePart → Laid → List ℕ
-payload_of own l = values (take l.len (left_at own l.from))
+abbrev pub laid_payload : List LinePart → Laid → List ℕ
+laid_payload own l = values (take l.len (left_at own l.from))
 
 abbrev pub framed_of : Sender → List LinePart → Laid → Framed
 framed_of s own l = record {
   key = l.key;
-  bytes = record_bytes (ticks_of s.unit) l.key.moment (frame_with (header_with s l.seq l.ack l.flags) (payload_of own l));
+  bytes = record_bytes (ticks_of s.unit) l.key.moment (frame_with (header_with s l.seq l.ack l.flags) (laid_payload own l));
 }
 
 -- it is before the horizon, and what it takes of the line is there and fits
@@ -32,19 +32,19 @@ pub record IsLaid (s : Sender) (own : List LinePart) (l : Laid) : Type 0 where
 
 -- ---- of the two sides of a connection
 
-abbrev pub sender_of : Sender → Bool → Sender
-sender_of client false = client
-sender_of client true = peer_in client 0
+abbrev pub side_sender : Sender → Bool → Sender
+side_sender client false = client
+side_sender client true = peer_in client 0
 
 abbrev pub parts_of : List LinePart → List LinePart → Bool → List LinePart
 parts_of up down false = up
 parts_of up down true = down
 
 abbrev pub framed_in : Sender → List LinePart → List LinePart → Laid → Framed
-framed_in client up down l = framed_of (sender_of client l.is_server) (parts_of up down l.is_server) l
+framed_in client up down l = framed_of (side_sender client l.is_server) (parts_of up down l.is_server) l
 
 abbrev pub IsLaidIn : Sender → List LinePart → List LinePart → Laid → Type 0
-IsLaidIn client up down l = IsLaid (sender_of client l.is_server) (parts_of up down l.is_server) l
+IsLaidIn client up down l = IsLaid (side_sender client l.is_server) (parts_of up down l.is_server) l
 
 abbrev pub no_segment : Framed
 no_segment = record { key = record { moment = 0; conn = 0; turn = 0; place = 0 }; bytes = [] }

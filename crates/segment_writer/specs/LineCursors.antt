@@ -4,6 +4,7 @@ use Rattle.std.specs.List.{AllByRecursion}
 use Rattle.reassembly.specs.RecordedLines.{LineByte}
 use Rattle.reassembly.specs.LineView.{bytes_of_parts}
 use Rattle.reassembly.specs.declared.line_parts.LinePart.{LinePart}
+use Rattle.segment_writer.specs.FirstPieces.{values}
 use Rattle.segment_writer.specs.declared.pieces.Cursor.{Cursor}
 use Rattle.segment_writer.specs.declared.turns.Heard.{Heard}
 
@@ -21,6 +22,12 @@ IsInside (p ∷ ps) offset = offset < length p.bytes.now
 pub record IsCursor (parts : List LinePart) (c : Cursor) : Type 0 where
   pub within : c.part ≤ length parts
   pub inside : IsInside (drop c.part parts) c.offset
+
+-- these bytes are the next ones from a cursor on, and the other cursor comes after them
+pub record IsPassed (parts : List LinePart) (c : Cursor) (passed : List ℕ) (after : Cursor) : Type 0 where
+  pub cursor : IsCursor parts after
+  pub bytes : passed ≡ values (take (length passed) (left_at parts c))
+  pub left : left_at parts after ≡ drop (length passed) (left_at parts c)
 
 abbrev pub has_none : List ℕ → Bool
 has_none [] = true

@@ -1,17 +1,11 @@
 -- Lists of whatever is compared by a test: in order, and put in order.
 use Rattle.std.specs.Prelude.{◌≡◌, Bool, false, List, [], ◌∷◌, if◌then◌else◌}
-use Rattle.segment_writer.specs.declared.framed.SegKey.{SegKey}
-use Rattle.segment_writer.specs.WrittenSegments.{is_key_below}
-
--- a key is lower than another's
-abbrev pub has_lower_key : {X : Type 0} → (X → SegKey) → X → X → Bool
-has_lower_key key x y = is_key_below (key x) (key y)
+use Rattle.std.specs.List.{AllByRecursion}
 
 module _ {X : Type 0} (lt : X → X → Bool) where
   -- none of these is below x
   abbrev pub NoneBelow : X → List X → Type 0
-  NoneBelow x [] = Unit {0}
-  NoneBelow x (y ∷ ys) = (lt y x ≡ false) × NoneBelow x ys
+  NoneBelow x ys = AllByRecursion (λ y. lt y x ≡ false) ys
 
   -- none is below one before it
   abbrev pub Ordered : List X → Type 0

@@ -64,10 +64,6 @@ in_turn s turn = record {
   peer_base = s.peer_base;
 }
 
--- its server
-abbrev pub server_in : Unit → WrittenConnection → ℕ → Sender
-server_in unit c turn = peer_in (client_in unit c turn) turn
-
 -- a sender's own side with a line, and its peer's
 abbrev pub own_side : Sender → Line → WrittenSide
 own_side s line = record { host = record { mac = s.mac_from; peer = s.from }; base = s.base; line = line }

@@ -1,15 +1,10 @@
 -- Worked rows: the segments of small connections, beside values from outside.
 use Rattle.std.specs.Prelude.{◌≡◌, ℕ, List, [], ◌∷◌, map, Bool, true, false, None}
-use Rattle.frame_headers.specs.declared.peers.Peer.{Peer}
-use Rattle.reassembly.specs.RecordedLines.{LineByte, Line, End, live, fin, close, reset, empty_line}
+use Rattle.conn_table.specs.RowSegments.{client, server}
+use Rattle.reassembly.specs.RecordedLines.{Line, live, fin, close, reset, empty_line}
+use Rattle.reassembly.specs.RowLines.{hello, line_with}
 use Rattle.segment_writer.specs.declared.framed.Framed.{Framed}
 use Rattle.segment_writer.specs.WrittenSegments.{WrittenConnection, SentSegment, pieces, segments_sent_by, written_segments}
-
-abbrev pub client : Peer
-client = record { addr = 0x0a000001; port = 40000 }
-
-abbrev pub server : Peer
-server = record { addr = 0x0a000002; port = 80 }
 
 -- a connection of these lines, opened at the second second, whose sides count from 1,000 and 5,000
 abbrev pub connection_with : Bool → Line → Line → WrittenConnection
@@ -22,17 +17,11 @@ connection_with refused up down = record {
   server = record { host = record { mac = 2 ∷ 0 ∷ 0 ∷ 0 ∷ 0 ∷ 2 ∷ []; peer = server }; base = 5000; line = down };
 }
 
--- a chunk of five bytes at an instant
-abbrev pub hello : ℕ → List LineByte
-hello at = record { value = 104; at = at; starts = true } ∷ record { value = 101; at = at; starts = false } ∷ record { value = 108; at = at; starts = false } ∷ record { value = 108; at = at; starts = false } ∷ record { value = 111; at = at; starts = false } ∷ []
-
-abbrev pub line_with : List LineByte → End → Line
-line_with bytes end = record { bytes = bytes; end = end }
-
 -- sequence number, acknowledgment number and flags of each segment of a line
-abbrev pub numbers_of : List SentSegment → List (ℕ × ℕ × ℕ)
-numbers_of sent = map (λ s. (s.seq, s.ack, s.flags)) sent
+abbrev pub sent_numbers : List SentSegment → List (ℕ × ℕ × ℕ)
+sent_numbers sent = map (λ s. (s.seq, s.ack, s.flags)) sent
 
+-- when each segment is written, by which connection, and in which turn and place
 abbrev pub keys_of : List Framed → List (ℕ × ℕ × ℕ × ℕ)
 keys_of framed = map (λ x. (x.key.moment, x.key.conn, x.key.turn, x.key.place)) framed
 
@@ -40,8 +29,8 @@ keys_of framed = map (λ x. (x.key.moment, x.key.conn, x.key.turn, x.key.place))
 abbrev pub LaterSent : Type 0
 LaterSent =
     let c = connection_with false (line_with (hello 1101000) (fin 1101000)) (line_with [] (fin 1003000)) in
-    (numbers_of (segments_sent_by c.client c.server) ≡ (1001, 5002, 24) ∷ (1006, 5002, 17) ∷ [])
-    × (numbers_of (segments_sent_by c.server c.client) ≡ (5001, 1001, 17) ∷ [])
+    (sent_numbers (segments_sent_by c.client c.server) ≡ (1001, 5002, 24) ∷ (1006, 5002, 17) ∷ [])
+    × (sent_numbers (segments_sent_by c.server c.client) ≡ (5001, 1001, 17) ∷ [])
 
 -- bytes of both directions at one instant: neither acknowledges the other, nor a reset the close
 abbrev pub at_once : WrittenConnection
@@ -49,8 +38,8 @@ at_once = connection_with false (line_with (hello 1000000) (close 1000000)) (lin
 
 abbrev pub CrossingSent : Type 0
 CrossingSent =
-    (numbers_of (segments_sent_by at_once.client at_once.server) ≡ (1001, 5001, 24) ∷ (1006, 5001, 17) ∷ [])
-    × (numbers_of (segments_sent_by at_once.server at_once.client) ≡ (5001, 1001, 24) ∷ (5006, 1001, 20) ∷ [])
+    (sent_numbers (segments_sent_by at_once.client at_once.server) ≡ (1001, 5001, 24) ∷ (1006, 5001, 17) ∷ [])
+    × (sent_numbers (segments_sent_by at_once.server at_once.client) ≡ (5001, 1001, 24) ∷ (5006, 1001, 20) ∷ [])
 
 -- everything at the instant of the opening: three turns, in order of key
 abbrev pub TurnsInOrder : Type 0

@@ -180,6 +180,13 @@ is_key_below a b =
     && (nat_lt a.conn b.conn || (a.conn == b.conn
     && (nat_lt a.turn b.turn || (a.turn == b.turn && nat_lt a.place b.place)))))
 
+-- what has a key, compared by it
+abbrev pub has_lower_key : {X : Type 0} → (X → SegKey) → X → X → Bool
+has_lower_key key x y = is_key_below (key x) (key y)
+
+abbrev pub below : Framed → Framed → Bool
+below = has_lower_key (λ x. x.key)
+
 -- into a list in order, before the first that has a higher key
 abbrev pub insert_by_key : Framed → List Framed → List Framed
 insert_by_key x [] = x ∷ []

@@ -1,6 +1,7 @@
 //! What has a key, and the merge of two lists in order of key.
 ghost use Rattle.std.specs.Prelude.{◌≡◌, ◌<◌, ◌+◌, ◌++◌, [], ◌∷◌, List, true, false, length, IfOk};
-ghost use Rattle.segment_writer.specs.OrderedLists.{has_lower_key, Ordered, sorted_by};
+ghost use Rattle.segment_writer.specs.OrderedLists.{Ordered, sorted_by};
+ghost use Rattle.segment_writer.specs.WrittenSegments.{has_lower_key};
 
 use crate::framed::{SegKey, is_key_below};
 use std::alloc::{AllocError, Global};
@@ -11,7 +12,6 @@ pub(crate) trait Keyed: Drop {
 
     ghost key_of: { Self → SegKey };
 
-    /// Its key.
     fn key(&self) -> SegKey
         ensures { result ≡ key_of self.now };
 }
@@ -94,7 +94,6 @@ fn is_last_left<T: Keyed>(left: &[T], right: &[T]) -> bool
     is_key_below(&last_key(right), &last_key(left))
 }
 
-// The key of the first of a list.
 fn first_key<T: Keyed>(list: &[T]) -> SegKey
     requires { 0 < length list.now }
     ensures { (x : T) (xs : List T) → list.now ≡ x ∷ xs → result ≡ T.key_of x }
@@ -102,7 +101,6 @@ fn first_key<T: Keyed>(list: &[T]) -> SegKey
     list[0].key()
 }
 
-// The key of the last of a list.
 fn last_key<T: Keyed>(list: &[T]) -> SegKey
     requires { 0 < length list.now }
     ensures { (xs : List T) (x : T) → list.now ≡ xs ++ x ∷ [] → result ≡ T.key_of x }

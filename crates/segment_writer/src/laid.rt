@@ -1,6 +1,6 @@
 //! Segments laid out: all of a written segment but the bytes of its record.
 ghost use Rattle.std.specs.Prelude.{◌≡◌};
-ghost use Rattle.segment_writer.specs.LaidSegments.{sender_of, parts_of};
+ghost use Rattle.segment_writer.specs.LaidSegments.{side_sender, parts_of};
 
 use crate::framed::SegKey;
 use crate::keyed::Keyed;
@@ -31,8 +31,8 @@ impl Keyed for Laid {
 }
 
 /// The client of a connection, or its server.
-pub(crate) fn sender_of(client: &Sender, is_server: bool) -> Sender
-    ensures { result ≡ sender_of client.now is_server }
+pub(crate) fn side_sender(client: &Sender, is_server: bool) -> Sender
+    ensures { result ≡ side_sender client.now is_server }
 {
     if is_server {
         peer_in(client, 0)

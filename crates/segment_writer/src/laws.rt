@@ -7,22 +7,26 @@ ghost use Rattle.segment_writer.specs.SentRows.{LaterSent, CrossingSent, TurnsIn
 ghost use Rattle.segment_writer.specs.TimelyLines.{LinesAreTimely};
 
 /// Segments whose keys rise are in order already.
+#[tactic(auto, using(crate::proofs::InOrder::rising_is_sorted))]
 pub fn rising_is_sorted()
     ensures { RisingIsSorted }
 {}
 
 /// Two lists of segments may be put in order before they are joined and put in order.
+#[tactic(auto, using(crate::proofs::InOrder::parts_are_sorted_first))]
 pub fn parts_are_sorted_first()
     ensures { PartsAreSortedFirst }
 {}
 
 /// The first piece of some bytes is what their chunk still has, at most the limit, and what comes after it is cut in the same
 /// way. A piece ends its chunk where no byte of the chunk follows.
+#[tactic(auto, using(crate::proofs::PieceCuts::first_piece))]
 pub fn first_piece()
     ensures { FirstPiece }
 {}
 
 /// In a line that follows the rule of lines instants never fall, and its bytes fit the space of sequence numbers.
+#[tactic(auto, using(crate::proofs::WholeSegments::lines_are_timely))]
 pub fn lines_are_timely()
     ensures { LinesAreTimely }
 {}
@@ -33,6 +37,7 @@ pub fn one_order()
 {}
 
 /// The keys of what is written of a connection rise, so no key stands twice.
+#[tactic(auto, using(crate::proofs::KeysApart::keys_rise))]
 pub fn keys_rise()
     ensures { KeysRise }
 {}
@@ -43,11 +48,13 @@ pub fn keys_stand_once()
 {}
 
 /// Of segments in order of key none has a key below one before it.
+#[tactic(auto, using(crate::proofs::InOrder::sorted_never_falls))]
 pub fn sorted_never_falls()
     ensures { SortedNeverFalls }
 {}
 
 /// Segments that are put in order are all of those that there were, none twice.
+#[tactic(auto, using(crate::proofs::InOrder::sorted_keeps_all))]
 pub fn sorted_keeps_all()
     ensures { SortedKeepsAll }
 {}
@@ -57,12 +64,14 @@ pub fn once_in_any_order()
     ensures { OnceInAnyOrder }
 {}
 
+#[tactic(auto, unfolding(crate::specs::WrittenSegments::pieces, crate::specs::WrittenSegments::segments_sent_from))]
 fn sent_rows()
     ensures later { LaterSent }
     ensures crossing { CrossingSent }
     ensures pieces { PiecesCut }
 {}
 
+#[tactic(auto, unfolding(crate::specs::WrittenSegments::pieces, crate::specs::WrittenSegments::segments_sent_from, crate::specs::WrittenSegments::sorted_by_key, crate::specs::WrittenSegments::written_segments))]
 fn order_rows()
     ensures turns { TurnsInOrder }
     ensures refused { RefusedInOrder }

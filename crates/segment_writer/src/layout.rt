@@ -4,7 +4,7 @@ ghost use Rattle.std.specs.List.{AllByRecursion};
 ghost use Rattle.segment_writer.specs.LaidSegments.{framed_in, IsLaidIn};
 
 use crate::framed::{Framed, Keys, SegKey, SegList};
-use crate::laid::{Laid, parts_of, sender_of};
+use crate::laid::{Laid, parts_of, side_sender};
 use crate::records::{put_record, record_len};
 use crate::senders::Sender;
 use pcap_records::Values;
@@ -95,7 +95,7 @@ impl Keys for Layout<'_> {
 
     fn put(&self, index: usize, out: &mut Vec<u8>) -> Result<(), AllocError> {
         let laid = &self.laid[index];
-        let sender = sender_of(&self.client, laid.is_server);
+        let sender = side_sender(&self.client, laid.is_server);
         let own = parts_of(&self.up, &self.down, laid.is_server);
         put_record(out, &sender, own, laid)
     }

@@ -4,7 +4,7 @@ ghost use Rattle.frame_headers.specs.Layout.{payload_limit};
 ghost use Rattle.reassembly.specs.LineView.{bytes_of_parts};
 ghost use Rattle.segment_writer.specs.WrittenSegments.{is_chunk_border};
 ghost use Rattle.segment_writer.specs.FirstPieces.{piece_size, values};
-ghost use Rattle.segment_writer.specs.LineCursors.{left_at, goes_on, IsCursor};
+ghost use Rattle.segment_writer.specs.LineCursors.{left_at, goes_on, IsCursor, IsPassed};
 
 use frame_headers::PAYLOAD_LIMIT;
 use reassembly::LinePart;
@@ -17,7 +17,6 @@ pub(crate) struct Cursor {
     pub offset: usize,
 }
 
-/// Part `i`.
 pub(crate) fn part_at<'a>(parts: &[LinePart<'a>], i: usize) -> LinePart<'a>
     requires { i < length parts.now }
     ensures { drop i parts.now ≡ result ∷ drop (i + 1) parts.now }
@@ -73,6 +72,24 @@ pub(crate) fn is_border(parts: &[LinePart<'_>], from: Cursor) -> bool
     from.part == parts.len() || (from.offset == 0 && part_at(parts, from.part).starts)
 }
 
+// Bytes of one part from a cursor on, at most `most`, and the cursor after them.
+fn next_bytes<'a>(parts: &[LinePart<'a>], from: Cursor, most: usize) -> (&'a [u8], Cursor)
+    requires cursor { IsCursor parts.now from }
+    requires some { 0 < most }
+    requires within { most ≤ length (left_at parts.now from) }
+    ensures some { 0 < length result.0.now }
+    ensures most { length result.0.now ≤ most }
+    ensures passed { IsPassed parts.now from result.0.now result.1 }
+{
+    let bytes = &part_at(parts, from.part).bytes[from.offset..];
+    if most < bytes.len() {
+        let offset = from.offset + most;
+        return (&bytes[..most], Cursor { offset, ..from });
+    }
+    let part = next_filled(parts, from.part + 1);
+    (bytes, Cursor { part, offset: 0 })
+}
+
 /// The cursor `len` bytes after another.
 pub(crate) fn skip_piece(parts: &[LinePart<'_>], from: Cursor, len: usize) -> Cursor
     requires cursor { IsCursor parts.now from }
@@ -80,22 +97,14 @@ pub(crate) fn skip_piece(parts: &[LinePart<'_>], from: Cursor, len: usize) -> Cu
     ensures cursor { IsCursor parts.now result }
     ensures left { left_at parts.now result ≡ drop len (left_at parts.now from) }
 {
-    let mut part = from.part;
-    let mut offset = from.offset;
+    let mut here = from;
     let mut left = len;
     while left > 0 {
-        let bytes = part_at(parts, part).bytes;
-        let rest = &bytes[offset..];
-        let taken = left.min(rest.len());
-        left -= taken;
-        if taken < rest.len() {
-            offset += taken;
-        } else {
-            part = next_filled(parts, part + 1);
-            offset = 0;
-        }
+        let (bytes, after) = next_bytes(parts, here, left);
+        left -= bytes.len();
+        here = after;
     }
-    Cursor { part, offset }
+    here
 }
 
 /// Appends `len` bytes from a cursor on.
@@ -110,21 +119,13 @@ pub(crate) fn copy_piece(
     ensures bytes { OnOk result (out.new.items ≡ out.old.items ++ values (take len (left_at parts.now from))) }
     ensures succeeds { vec_len out.old + len ≤ vec_capacity out.old → IsOk result }
 {
-    let mut part = from.part;
-    let mut offset = from.offset;
+    let mut here = from;
     let mut left = len;
     while left > 0 {
-        let bytes = part_at(parts, part).bytes;
-        let rest = &bytes[offset..];
-        let taken = left.min(rest.len());
-        out.extend_from_slice(&rest[..taken])?;
-        left -= taken;
-        if taken < rest.len() {
-            offset += taken;
-        } else {
-            part = next_filled(parts, part + 1);
-            offset = 0;
-        }
+        let (bytes, after) = next_bytes(parts, here, left);
+        out.extend_from_slice(bytes)?;
+        left -= bytes.len();
+        here = after;
     }
     Ok(())
 }

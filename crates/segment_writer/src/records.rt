@@ -1,5 +1,5 @@
 //! The records of segments that are laid out, and how they are laid out.
-ghost use Rattle.std.specs.Prelude.{◌≡◌, ◌≤◌, ◌<◌, ◌+◌, ◌++◌, List, length, drop, take, replicate, min, vec_len, vec_capacity, IsOk, OnOk, OnErr, if◌then◌else◌};
+ghost use Rattle.std.specs.Prelude.{◌≡◌, ◌≤◌, ◌<◌, ◌+◌, ◌++◌, List, length, drop, take, replicate, min, vec_len, vec_capacity, IfOk, IsOk, OnOk, OnErr, if◌then◌else◌};
 ghost use Rattle.pcap_records.specs.Instants.{horizon, ticks_of};
 ghost use Rattle.pcap_records.specs.Reading.{record_header_len};
 ghost use Rattle.pcap_records.specs.Writing.{record_header};
@@ -11,7 +11,7 @@ ghost use Rattle.segment_writer.specs.WrittenSegments.{opening_segment};
 ghost use Rattle.segment_writer.specs.FirstPieces.{first_instant, first_of, piece_size};
 ghost use Rattle.segment_writer.specs.LineCursors.{left_at, IsCursor};
 ghost use Rattle.segment_writer.specs.Senders.{frame_with, framed_by, piece_segment};
-ghost use Rattle.segment_writer.specs.LaidSegments.{framed_of, payload_of, IsLaid};
+ghost use Rattle.segment_writer.specs.LaidSegments.{framed_of, laid_payload, IsLaid};
 
 use crate::laid::Laid;
 use crate::pieces::{Cursor, copy_piece, is_border, part_at, skip_piece};
@@ -22,15 +22,17 @@ use reassembly::LinePart;
 use std::alloc::AllocError;
 
 // Appends the header of a record whose frame has `len` bytes of payload, and room for the headers of the frame: 0 in place of them.
+// The result is where the frame begins.
 fn open_record(
     out: &mut Vec<u8>,
     at: Moment,
     vlan: Option<u16>,
     len: usize,
     unit: Unit,
-) -> Result<(), AllocError>
+) -> Result<usize, AllocError>
     requires early { at < horizon (ticks_of unit) }
     requires small { len ≤ payload_limit }
+    ensures frame { IfOk result (λ frame. frame ≡ length out.old.items + record_header_len) }
     ensures bytes { OnOk result (out.new.items ≡ out.old.items
         ++ (record_header (ticks_of unit) at (headers_len vlan + len) ++ replicate (headers_len vlan) 0)) }
     ensures succeeds { vec_len out.old + (record_header_len + headers_len vlan) ≤ vec_capacity out.old → IsOk result }
@@ -38,22 +40,12 @@ fn open_record(
 {
     let header = record_header_bytes(at, (headers_len(vlan) + len) as u32, unit);
     out.extend_from_slice(&header)?;
+    let frame = out.len();
     match vlan {
-        Some(_) => out.extend_from_slice(&[0; MOST_HEADERS_LEN]),
-        None => out.extend_from_slice(&[0; LEAST_HEADERS_LEN]),
+        Some(_) => out.extend_from_slice(&[0; MOST_HEADERS_LEN])?,
+        None => out.extend_from_slice(&[0; LEAST_HEADERS_LEN])?,
     }
-}
-
-// Writes the headers of a record's frame, whose payload is in place.
-fn close_record(bytes: &mut [u8], header: &Header)
-    requires room { record_header_len + headers_len header.now.vlan ≤ length bytes.old }
-    requires small { length bytes.old ≤ record_header_len + headers_len header.now.vlan + payload_limit }
-    ensures len { length (headers header.now (drop (record_header_len + headers_len header.now.vlan) bytes.old))
-        ≡ headers_len header.now.vlan }
-    ensures bytes { bytes.new ≡ take record_header_len bytes.old
-        ++ frame_with header.now (drop (record_header_len + headers_len header.now.vlan) bytes.old) }
-{
-    put_headers(&mut bytes[RECORD_HEADER_LEN..], header);
+    Ok(frame)
 }
 
 // ACK, and PSH where a chunk ends.
@@ -133,7 +125,7 @@ fn put_payload(
     laid: &Laid,
 ) -> Result<(), AllocError>
     requires { IsLaid sender.now own.now laid.now }
-    ensures bytes { OnOk result (out.new.items ≡ out.old.items ++ payload_of own.now laid.now) }
+    ensures bytes { OnOk result (out.new.items ≡ out.old.items ++ laid_payload own.now laid.now) }
     ensures succeeds { vec_len out.old + laid.now.len ≤ vec_capacity out.old → IsOk result }
 {
     if laid.len == 0 {
@@ -153,11 +145,10 @@ pub(crate) fn put_record(
     ensures ok { OnOk result (out.new.items ≡ out.old.items ++ (framed_of sender.now own.now laid.now).bytes) }
     ensures err { OnErr result (out.new.items ≡ out.old.items) }
 {
-    let begin = out.len();
     out.reserve(record_len(sender, laid))?;
-    open_record(out, laid.key.moment, sender.vlan, laid.len, sender.unit)?;
-    put_payload(out, sender, own, laid)?;
     let header = header_with(sender, laid.seq, laid.ack, laid.flags);
-    close_record(&mut out[begin..], &header);
+    let frame = open_record(out, laid.key.moment, header.vlan, laid.len, sender.unit)?;
+    put_payload(out, sender, own, laid)?;
+    put_headers(&mut out[frame..], &header);
     Ok(())
 }

@@ -107,10 +107,7 @@ pub(crate) fn header_with(sender: &Sender, seq: u32, ack: u32, flags: Flags) -> 
 
 /// The key of a segment at a place of a sender's turn.
 pub(crate) fn key_at(sender: &Sender, moment: Moment, place: u32) -> SegKey
-    ensures moment { result.moment ≡ moment }
-    ensures conn { result.conn ≡ sender.now.conn }
-    ensures turn { result.turn ≡ sender.now.turn }
-    ensures place { result.place ≡ place }
+    ensures { result ≡ record { moment = moment; conn = sender.now.conn; turn = sender.now.turn; place = place } }
 {
     SegKey {
         moment,

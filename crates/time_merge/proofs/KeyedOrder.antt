@@ -1,7 +1,7 @@
 -- The order of keyed segments: it is that of keys, and a list in order of key has its keyed segments in order.
 use Rattle.std.proofs.Common.{◌≡◌, ℕ, zero, suc, ◌+◌, ◌<◌, ◌≤◌, Bool, false, ◌==◌, nat_lt, nat_cmp, is_lt, List, [], ◌∷◌, length, map, slice_index_or, refl, sym, ap₂, ◌∙◌, subst, Ordering, Less, Equal, Greater, arith, add-one}
 use Rattle.std.specs.Ordering.{ordering_then, is_some_and, partial_lt}
-use Rattle.std.specs.Cmp.{IsStrictWeakOrder}
+use Rattle.std.specs.Cmp.{IsStrictWeakOrder, nat_cmp_is}
 use Rattle.std.specs.List.{All, flat_map}
 use Rattle.std.specs.List.Sorted.{IsSortedBy, IsSorted, IsPermutation}
 use Rattle.std.proofs.lemmas.Bool.Decides.{nat_tests}
@@ -9,9 +9,10 @@ use Rattle.std.proofs.lemmas.List.Elements.{All-head, All-tail}
 use Rattle.std.proofs.lemmas.List.Sorted.{ranks_by, sorted_far, IsPermutation-map, All-permutation}
 use Rattle.segment_writer.specs.declared.framed.SegKey.{SegKey}
 use Rattle.segment_writer.specs.declared.framed.Framed.{Framed}
-use Rattle.segment_writer.specs.WrittenSegments.{is_key_below, sorted_by_key}
-use Rattle.segment_writer.specs.KeyLaws.{NoneLower, NeverFalls, HasNoKeyTwice, OneOrder}
-use Rattle.segment_writer.proofs.InOrder.{derived_is_lower, then_test, last_test}
+use Rattle.segment_writer.specs.WrittenSegments.{is_key_below, below as segment_below, sorted_by_key}
+use Rattle.segment_writer.specs.KeyLaws.{NeverFalls, HasNoKeyTwice, OneOrder}
+use Rattle.segment_writer.specs.OrderedLists.{NoneBelow}
+use Rattle.segment_writer.proofs.InOrder.{derived_is_lower}
 use Rattle.time_merge.specs.declared.key_order.KeyedSegment.{KeyedSegment}
 use Rattle.time_merge.specs.contracts.key_order.KeyedSegmentOrd.TheImpl.Laws.{total-law, matches_partial_cmp-law}
 use Rattle.time_merge.specs.contracts.key_order.KeyedSegmentPartialOrd.TheImpl.{ghosts as partial}
@@ -19,9 +20,6 @@ use Rattle.time_merge.specs.KeyedSegments.{key_cmp, keyed_cmp, keyed_segments, a
 use Rattle.time_merge.proofs.WalkedLists.{all_keyed, all_shown}
 
 -- ---- comparisons
-
-key_test : (a b : SegKey) → is_lt (key_cmp a b) ≡ is_key_below a b
-key_test = derived_is_lower
 
 -- a keyed segment is lower
 abbrev pub below : KeyedSegment → KeyedSegment → Bool
@@ -41,7 +39,7 @@ pub derived_order : IsStrictWeakOrder derived
 derived_order = subst IsStrictWeakOrder (sym derived_is_below) below_order
 
 not_below-key : (a b : KeyedSegment) → below a b ≡ false → is_key_below a.key b.key ≡ false
-not_below-key a b h = sym (key_test a.key b.key) ∙ by (key_cmp a.key b.key) _ h
+not_below-key a b h = sym (derived_is_lower a.key b.key) ∙ by (key_cmp a.key b.key) _ h
   where
     by : (o p : Ordering) → is_lt (ordering_then o p) ≡ false → is_lt o ≡ false
     by Less p h = h
@@ -52,10 +50,11 @@ not_below-key a b h = sym (key_test a.key b.key) ∙ by (key_cmp a.key b.key) _ 
 
 next_not_below : (k j : SegKey) (list index : ℕ) → is_key_below j k ≡ false
     → below (record { key = j; list = list; index = index + 1 }) (record { key = k; list = list; index = index }) ≡ false
-next_not_below k j list index h = by (key_cmp j k) (key_test j k ∙ h)
+next_not_below k j list index h = by (key_cmp j k) (derived_is_lower j k ∙ h)
   where
     later : is_lt (ordering_then (nat_cmp list list) (nat_cmp (index + 1) index)) ≡ false
-    later = then_test list list _ _ (last_test (nat_lt (index + 1) index) (index + 1 == index)) ∙ grind (arith, nat_tests)
+    later = subst (λ o. is_lt (ordering_then (nat_cmp list list) o) ≡ false) (nat_cmp_is (index + 1) index Greater (omega arith))
+        (subst (λ o. is_lt (ordering_then o Greater) ≡ false) (nat_cmp_is list list Equal refl) refl)
 
     by : (o : Ordering) → is_lt o ≡ false → is_lt (ordering_then o (ordering_then (nat_cmp list list) (nat_cmp (index + 1) index))) ≡ false
     by Less e = e
@@ -76,20 +75,20 @@ keys_sorted list index (x ∷ y ∷ ys) falls k d low within =
 -- ---- keyed segments in order stand for segments that never fall
 
 module _ {L : Type 0} (segments : L → List Framed) (lists : List L) where
-  none_lower : (k : KeyedSegment) (ks : List KeyedSegment) → IsKeyed segments lists k → All (IsKeyed segments lists) ks
-      → ((j : ℕ) (d : KeyedSegment) → j < length ks → below (slice_index_or ks j d) k ≡ false) → NoneLower (segment_of segments lists k).key (map (segment_of segments lists) ks)
-  none_lower k [] here all far = tt
-  none_lower k (l ∷ ks) here all far =
+  none_below : (k : KeyedSegment) (ks : List KeyedSegment) → IsKeyed segments lists k → All (IsKeyed segments lists) ks
+      → ((j : ℕ) (d : KeyedSegment) → j < length ks → below (slice_index_or ks j d) k ≡ false) → NoneBelow segment_below (segment_of segments lists k) (map (segment_of segments lists) ks)
+  none_below k [] here all far = tt
+  none_below k (l ∷ ks) here all far =
       let there = All-head (IsKeyed segments lists) l ks all in (
         ap₂ is_key_below there.key here.key ∙ not_below-key l k (far 0 l (omega arith)),
-        none_lower k ks here (All-tail (IsKeyed segments lists) l ks all) (λ j d within. far (suc j) d (omega arith)),
+        none_below k ks here (All-tail (IsKeyed segments lists) l ks all) (λ j d within. far (suc j) d (omega arith)),
       )
 
   never_falls : (ks : List KeyedSegment) → All (IsKeyed segments lists) ks → ((i j : ℕ) (d : KeyedSegment) → i ≤ j → j < length ks → below (slice_index_or ks j d) (slice_index_or ks i d) ≡ false)
       → NeverFalls (map (segment_of segments lists) ks)
   never_falls [] all far = tt
   never_falls (k ∷ ks) all far = (
-    none_lower k ks (All-head (IsKeyed segments lists) k ks all) (All-tail (IsKeyed segments lists) k ks all) (λ j d within. far 0 (suc j) d (omega arith) (omega arith)),
+    none_below k ks (All-head (IsKeyed segments lists) k ks all) (All-tail (IsKeyed segments lists) k ks all) (λ j d within. far 0 (suc j) d (omega arith) (omega arith)),
     never_falls ks (All-tail (IsKeyed segments lists) k ks all) (λ i j d le within. far (suc i) (suc j) d (omega arith) (omega arith)),
   )
 

@@ -1,15 +1,16 @@
 -- What the session cut leaves of a line, and of lines that are made of recorded bytes.
-use Rattle.std.proofs.Common.{◌≡◌, ◌≤◌, ◌<◌, ℕ, ◌+◌, min, Bool, true, false, cond, List, [], ◌∷◌, length, nat_le, nat_lt, Option, Some, None, refl, sym, ap, ◌∙◌, subst, arith}
+use Rattle.std.proofs.Common.{◌≡◌, ◌≤◌, ◌<◌, ℕ, ◌+◌, min, true, cond, List, [], ◌∷◌, length, nat_le, nat_lt, Option, Some, None, refl, sym, ap, ◌∙◌, subst, arith}
 use Rattle.std.proofs.Math.Nat.{le_trans, le_refl}
-use Rattle.std.proofs.lemmas.Bool.{ltb-true, ltb-false, le-ltb}
+use Rattle.std.proofs.lemmas.Bool.{ltb-true, ltb-false, le-ltb, cond_both}
 use Rattle.std.proofs.lemmas.Bool.Decides.{nat_tests}
+use Rattle.lists.proofs.Lists.{all_take}
 use Rattle.pcap_records.specs.Instants.{horizon}
 use Rattle.reassembly.specs.RecordedLines.{LineByte, Line, End, live, fin, close, reset}
 use Rattle.reassembly.specs.LineLaws.{IsInChunks, last_instant, IsNotBefore, IsLine}
 use Rattle.toxic_defs.specs.EndRule.{is_before}
-use Rattle.toxic_defs.specs.SessionCut.{closing_end, first_closing, is_after, line_up_to, line_before, cut_line, cut_limit}
+use Rattle.toxic_defs.specs.SessionCut.{closing_end, first_closing, is_after, line_up_to, line_before, cut_line, cut_instant}
 use Rattle.toxic_defs.specs.Laws.{IsBefore, CutLinesAreLines, FirstBytesStay, CutLinesEndInTime, CutEndsAreNotEarly, DelaysFirst, AreUpTo, RecordedLinesDelay, CutLinesDelay}
-use Rattle.toxic_defs.proofs.FirstBytes.{before_short, bytes_before, up_to, first_stay, before_in_chunks, chunks_go_on, last_not_later, all_before, last_within, taken_all}
+use Rattle.toxic_defs.proofs.FirstBytes.{before_short, bytes_before, up_to, first_stay, before_in_chunks, chunks_go_on, last_not_later, all_before, last_within}
 use Rattle.toxic_defs.proofs.KeptBytes.{itself, taken}
 
 pub not_before_weaker : (a b : ℕ) (e : End) → a ≤ b → IsNotBefore b e → IsNotBefore a e
@@ -36,11 +37,7 @@ closing_is least (reset at) h = record { behind = h; ends = le_refl at }
 first_is : (least : ℕ) (u d : Option (ℕ × End)) → AreClosings least u → AreClosings least d → AreClosings least (first_closing u d)
 first_is least None d hu hd = hd
 first_is least (Some u) None hu hd = hu
-first_is least (Some u) (Some d) hu hd = by_test (nat_le u.0 d.0)
-  where
-    by_test : (t : Bool) → AreClosings least (cond t (Some u) (Some d))
-    by_test true = hu
-    by_test false = hd
+first_is least (Some u) (Some d) hu hd = cond_both (nat_le u.0 d.0) (Some u) (Some d) (AreClosings least) (λ _. hu) (λ _. hd)
 
 -- the closing that cuts both lines
 both_is : (least : ℕ) (up down : Line) → IsNotBefore least up.end → IsNotBefore least down.end → AreClosings least (first_closing (closing_end up.end) (closing_end down.end))
@@ -54,11 +51,7 @@ no_instant (reset at) = omega arith
 
 -- the horizon takes an end away or leaves it as it is
 end_stays : (limit at : ℕ) (e : End) → IsNotBefore at e → IsNotBefore at (cond (is_before limit e) e live)
-end_stays limit at e h = by_test (is_before limit e)
-  where
-    by_test : (t : Bool) → IsNotBefore at (cond t e live)
-    by_test true = h
-    by_test false = tt
+end_stays limit at e h = cond_both (is_before limit e) e live (IsNotBefore at) (λ _. h) (λ _. tt)
 
 is_early : (limit : ℕ) (e : End) → is_before limit e ≡ true → IsBefore limit e
 is_early limit live h = tt
@@ -67,11 +60,7 @@ is_early limit (close at) h = ltb-true at limit h
 is_early limit (reset at) h = ltb-true at limit h
 
 end_in_time : (limit : ℕ) (e : End) → IsBefore limit (cond (is_before limit e) e live)
-end_in_time limit e = by_test (is_before limit e) refl
-  where
-    by_test : (t : Bool) → is_before limit e ≡ t → IsBefore limit (cond t e live)
-    by_test true h = is_early limit e h
-    by_test false h = tt
+end_in_time limit e = cond_both (is_before limit e) e live (IsBefore limit) (is_early limit e) (λ _. tt)
 
 pub cut_lines_end_in_time : CutLinesEndInTime
 unfolding cut_line
@@ -81,11 +70,7 @@ cut_lines_end_in_time ticks up down f =
 
 up_to_not_early : (opened : ℕ) (c : Option (ℕ × End)) (f : Line) → AreClosings opened c → IsNotBefore opened f.end → IsNotBefore opened (line_up_to c f).end
 up_to_not_early opened None f hc h = h
-up_to_not_early opened (Some c) f hc h = by_test (is_after c.0 f.end)
-  where
-    by_test : (t : Bool) → IsNotBefore opened (cond t c.1 f.end)
-    by_test true = not_before_weaker opened c.0 c.1 hc.behind hc.ends
-    by_test false = h
+up_to_not_early opened (Some c) f hc h = cond_both (is_after c.0 f.end) c.1 f.end (IsNotBefore opened) (λ _. not_before_weaker opened c.0 c.1 hc.behind hc.ends) (λ _. h)
 
 pub cut_ends_are_not_early : CutEndsAreNotEarly
 unfolding cut_line
@@ -98,26 +83,22 @@ cut_ends_are_not_early ticks opened up down f hu hd hf =
 before_ends : (limit : ℕ) (bytes : List LineByte) (e : End) → IsInChunks bytes → IsNotBefore (last_instant 0 bytes) e → IsNotBefore (last_instant 0 (bytes_before limit bytes)) e
 before_ends limit bytes e g h = not_before_weaker (last_instant 0 (bytes_before limit bytes)) (last_instant 0 bytes) e (last_not_later limit 0 bytes (chunks_go_on bytes g)) h
 
+-- with an end that is not before the last byte that stays
+before_is_line : (limit : ℕ) (f : Line) (end : End) → IsLine f → IsNotBefore (last_instant 0 (bytes_before limit f.bytes)) end → IsLine (record { bytes = bytes_before limit f.bytes; end = end })
+before_is_line limit f end h ends = record { chunks = before_in_chunks limit f.bytes h.chunks; ends = ends; short = let n = before_short limit f.bytes in let m = h.short in omega (arith, n, m) }
+
 line_before_is : (limit : ℕ) (f : Line) → IsLine f → IsLine (line_before limit f)
-line_before_is limit f h = record {
-  chunks = before_in_chunks limit f.bytes h.chunks;
-  ends = before_ends limit f.bytes (line_before limit f).end h.chunks (end_stays limit (last_instant 0 f.bytes) f.end h.ends);
-  short = let n = before_short limit f.bytes in let m = h.short in omega (arith, n, m);
-}
+line_before_is limit f h = before_is_line limit f (line_before limit f).end h (before_ends limit f.bytes (line_before limit f).end h.chunks (end_stays limit (last_instant 0 f.bytes) f.end h.ends))
 
 line_up_to_is : (c : Option (ℕ × End)) (f : Line) → AreClosings 0 c → IsLine f → IsLine (line_up_to c f)
 line_up_to_is None f hc h = h
-line_up_to_is (Some c) f hc h = subst (λ (bytes : List LineByte). IsLine (record { bytes = bytes; end = cond (is_after c.0 f.end) c.1 f.end })) (sym (up_to c.0 f.bytes)) (record {
-  chunks = before_in_chunks (c.0 + 1) f.bytes h.chunks;
-  ends = by_test (is_after c.0 f.end);
-  short = let n = before_short (c.0 + 1) f.bytes in let m = h.short in omega (arith, n, m);
-})
-  where
-    by_test : (t : Bool) → IsNotBefore (last_instant 0 (bytes_before (c.0 + 1) f.bytes)) (cond t c.1 f.end)
-    by_test true =
-        let last : last_instant 0 (bytes_before (c.0 + 1) f.bytes) < c.0 + 1 = last_within (c.0 + 1) 0 (bytes_before (c.0 + 1) f.bytes) (omega arith) (all_before (c.0 + 1) f.bytes) in
-        not_before_weaker (last_instant 0 (bytes_before (c.0 + 1) f.bytes)) c.0 c.1 (omega arith) hc.ends
-    by_test false = before_ends (c.0 + 1) f.bytes f.end h.chunks h.ends
+line_up_to_is (Some c) f hc h =
+    let bytes : List LineByte = bytes_before (c.0 + 1) f.bytes in
+    let end : End = cond (is_after c.0 f.end) c.1 f.end in
+    let last : last_instant 0 bytes < c.0 + 1 = last_within (c.0 + 1) 0 bytes (omega arith) (all_before (c.0 + 1) f.bytes) in
+    let ends : IsNotBefore (last_instant 0 bytes) end =
+    cond_both (is_after c.0 f.end) c.1 f.end (IsNotBefore (last_instant 0 bytes)) (λ _. not_before_weaker (last_instant 0 bytes) c.0 c.1 (omega arith) hc.ends) (λ _. before_ends (c.0 + 1) f.bytes f.end h.chunks h.ends) in
+    subst (λ (bs : List LineByte). IsLine (record { bytes = bs; end = end })) (sym (up_to c.0 f.bytes)) (before_is_line (c.0 + 1) f end h ends)
 
 pub cut_lines_are_lines : CutLinesAreLines
 unfolding cut_line
@@ -130,21 +111,19 @@ cut_lines_are_lines ticks up down f h =
 -- twice cut is cut at the earlier instant
 before_twice : (a b : ℕ) (bytes : List LineByte) → bytes_before b (bytes_before a bytes) ≡ bytes_before (min a b) bytes
 before_twice a b [] = refl
-before_twice a b (x ∷ bytes) = by_tests (nat_lt x.at a) refl (before_twice a b bytes)
-  where
-    by_tests : (t : Bool) → nat_lt x.at a ≡ t → bytes_before b (bytes_before a bytes) ≡ bytes_before (min a b) bytes
-        → bytes_before b (cond t (x ∷ bytes_before a bytes) (bytes_before a bytes)) ≡ cond (nat_lt x.at (min a b)) (x ∷ bytes_before (min a b) bytes) (bytes_before (min a b) bytes)
-    by_tests true e rest =
-        let lt : x.at < a = ltb-true x.at a e in
-        let same : nat_lt x.at (min a b) ≡ nat_lt x.at b = grind (arith, nat_tests) in
-        rw (rest, same) refl
-    by_tests false e rest =
-        let le : a ≤ x.at = ltb-false x.at a e in
-        let le' : min a b ≤ x.at = omega arith in
-        rw le-ltb rest
+before_twice a b (x ∷ bytes) =
+    cond_both (nat_lt x.at a) (x ∷ bytes_before a bytes) (bytes_before a bytes) (λ bs. bytes_before b bs ≡ bytes_before (min a b) (x ∷ bytes))
+    (λ t.
+    let lt : x.at < a = ltb-true x.at a t in
+    let same : nat_lt x.at (min a b) ≡ nat_lt x.at b = grind (arith, nat_tests) in
+    rw (before_twice a b bytes, same) refl)
+    (λ t.
+    let le : a ≤ x.at = ltb-false x.at a t in
+    let le' : min a b ≤ x.at = omega arith in
+    rw le-ltb (before_twice a b bytes))
 
 -- the bytes of a line that is cut are those before one instant
-pub cut_bytes : (limit : ℕ) (c : Option (ℕ × End)) (f : Line) → (line_before limit (line_up_to c f)).bytes ≡ bytes_before (cut_limit limit c) f.bytes
+pub cut_bytes : (limit : ℕ) (c : Option (ℕ × End)) (f : Line) → (line_before limit (line_up_to c f)).bytes ≡ bytes_before (cut_instant limit c) f.bytes
 cut_bytes limit None f = refl
 cut_bytes limit (Some c) f = ap (bytes_before limit) (up_to c.0 f.bytes) ∙ before_twice (c.0 + 1) limit f.bytes
 
@@ -152,7 +131,7 @@ pub first_bytes_stay : FirstBytesStay
 unfolding cut_line
 first_bytes_stay ticks up down f h =
     let c : Option (ℕ × End) = first_closing (closing_end up.end) (closing_end down.end) in
-    rw (cut_bytes (horizon ticks) c f) (first_stay (cut_limit (horizon ticks) c) 0 f.bytes (chunks_go_on f.bytes h.chunks))
+    rw (cut_bytes (horizon ticks) c f) (first_stay (cut_instant (horizon ticks) c) 0 f.bytes (chunks_go_on f.bytes h.chunks))
 
 -- ---- a line that is made of the bytes and the end that stay
 
@@ -160,7 +139,7 @@ up_to_end : (c : Option (ℕ × End)) (f : Line) → (line_up_to c (record { byt
 up_to_end None f = refl
 up_to_end (Some c) f = refl
 
-pub cut_made : (limit : ℕ) (c : Option (ℕ × End)) (f g : Line) (end : End) → g.bytes ≡ bytes_before (cut_limit limit c) f.bytes
+pub cut_made : (limit : ℕ) (c : Option (ℕ × End)) (f g : Line) (end : End) → g.bytes ≡ bytes_before (cut_instant limit c) f.bytes
     → end ≡ (line_up_to c (record { bytes = []; end = f.end })).end → g.end ≡ (line_before limit (record { bytes = []; end = end })).end
     → g ≡ line_before limit (line_up_to c f)
 cut_made limit c f g end hb he hg =
@@ -181,7 +160,7 @@ cut_lines_delay ticks opened recorded up down f hu hd g =
     let first = sym (first_bytes_stay ticks up down f g.line) in
     record {
       line = cut_lines_are_lines ticks up down f g.line;
-      in_time = subst (AreUpTo (horizon ticks)) first (taken_all (λ b. b.at ≤ horizon ticks) n f.bytes g.in_time);
+      in_time = subst (AreUpTo (horizon ticks)) first (all_take (λ (b : LineByte). b.at ≤ horizon ticks) n f.bytes g.in_time);
       bytes = subst (λ (bs : List LineByte). DelaysFirst bs recorded) first (taken n f.bytes recorded g.bytes);
       ends = cut_ends_are_not_early ticks opened up down f hu hd g.ends;
     }

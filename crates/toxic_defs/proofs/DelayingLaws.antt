@@ -1,80 +1,53 @@
 -- What the toxics that delay bytes keep of a line's bytes: slices, chunks that leave as one, and the toxics.
-use Rattle.std.proofs.Common.{◌≡◌, ◌≤◌, ℕ, suc, ◌+◌, ◌-◌, sym, arith, ◌==◌, ◌||◌, Bool, true, false, cond, List, [], ◌∷◌, length, refl, ap, ◌∙◌, ◌<◌, ◌*◌, min}
+use Rattle.std.proofs.Common.{◌≡◌, ◌≤◌, ℕ, suc, ◌+◌, ◌-◌, arith, ◌==◌, ◌||◌, Bool, true, false, cond, List, [], ◌∷◌, length, refl, sym, ap, subst, ◌<◌, ◌*◌, min}
 use Rattle.std.proofs.Math.Nat.{le_trans, le_refl}
+use Rattle.std.proofs.lemmas.Bool.{cond_both}
 use Rattle.reassembly.specs.RecordedLines.{LineByte}
 use Rattle.reassembly.specs.LineLaws.{GoesOn, IsInChunks}
 use Rattle.pcap_records.specs.Instants.{horizon, millisecond, microsecond}
-use Rattle.toxic_defs.specs.DelayedBytes.{at_instant, begins, latest, moved}
+use Rattle.toxic_defs.specs.DelayedBytes.{at_instant, begins, latest, along, moved}
 use Rattle.toxic_defs.specs.Slices.{sliced}
-use Rattle.toxic_defs.specs.Bandwidth.{joined, settled, bandwidth_leaves, rated_size, rated_bytes}
+use Rattle.toxic_defs.specs.Bandwidth.{joined, settled, ceiling, bandwidth_leaves, rated_size, rated_bytes}
 use Rattle.toxic_defs.specs.Laws.{DelaysFirst, AreUpTo}
-use Rattle.toxic_defs.specs.Slicer.{paced, slice_size, paced_bytes}
+use Rattle.toxic_defs.specs.Slicer.{slice_size, slicer_leaves, paced_bytes}
 use Rattle.toxic_defs.specs.Latency.{drawn_delay, late_bytes}
-use Rattle.toxic_defs.proofs.FirstBytes.{chunks_go_on}
-use Rattle.toxic_defs.proofs.KeptBytes.{KeepsBytes, in_turn}
-use Rattle.toxic_defs.proofs.MovedLaws.{NeverFalls, Starts, length-along, along_low, chunks_move, moved_not_early, rate_never_falls, rated_not_early, moved_starts}
-use Rattle.toxic_defs.proofs.Latest.{LeavesInTurn, late_in_turn, paced_in_turn, rate_low}
+use Rattle.toxic_defs.proofs.KeptBytes.{KeepsBytes, both_delay, same_keeps}
+use Rattle.toxic_defs.proofs.MovedLaws.{LeavesInTurn, by_chunks, by_bytes, begins_same, NeverFalls, moved_delays, chunks_move, never_falls}
+use Rattle.toxic_defs.proofs.Latest.{GivesInTurn, late_gives, paced_gives, rate_gives}
 
-abbrev OnlyMarked : List LineByte → List LineByte → Type 0
-OnlyMarked [] bytes = bytes ≡ []
-OnlyMarked (c ∷ cut) [] = ⊥
-OnlyMarked (c ∷ cut) (b ∷ bytes) = (c.value ≡ b.value) × (c.at ≡ b.at) × (c.starts ≡ false → b.starts ≡ false) × OnlyMarked cut bytes
+-- ---- slices
 
-only_marked : (size : ℕ → ℕ) (k left : ℕ) (bytes : List LineByte) → OnlyMarked (sliced size k left bytes) bytes
-only_marked size k left [] = refl
-only_marked size k left (b ∷ bytes) = by_test (b.starts || left == 0) (only_marked size (k + 1) (size k - 1) bytes) (only_marked size k (left - 1) bytes)
+-- bytes that get more marks, after an instant
+record GetsMarks (limit last : ℕ) (bytes cut : List LineByte) : Type 0 where
+  pub goes : GoesOn last cut
+  pub same : length cut ≡ length bytes
+  pub in_time : AreUpTo limit bytes → AreUpTo limit cut
+  pub front : DelaysFirst cut bytes
+
+sliced_marks : (limit last : ℕ) (size : ℕ → ℕ) (k left : ℕ) (bytes : List LineByte) → GoesOn last bytes → GetsMarks limit last bytes (sliced size k left bytes)
+sliced_marks limit last size k left [] go = record { goes = tt; same = refl; in_time = λ up. tt; front = tt }
+sliced_marks limit last size k left (b ∷ bytes) go =
+    cond_both (b.starts || left == 0) (record { value = b.value; at = b.at; starts = true } ∷ sliced size (k + 1) (size k - 1) bytes) (b ∷ sliced size k (left - 1) bytes) (GetsMarks limit last (b ∷ bytes))
+    (λ _. one true (λ h. absurd (cc h)) (sliced size (k + 1) (size k - 1) bytes) (sliced_marks limit b.at size (k + 1) (size k - 1) bytes go.2))
+    (λ _. one b.starts (λ h. h) (sliced size k (left - 1) bytes) (sliced_marks limit b.at size k (left - 1) bytes go.2))
   where
-    by_test : (t : Bool) → OnlyMarked (sliced size (k + 1) (size k - 1) bytes) bytes → OnlyMarked (sliced size k (left - 1) bytes) bytes
-        → OnlyMarked (cond t (record { value = b.value; at = b.at; starts = true } ∷ sliced size (k + 1) (size k - 1) bytes) (b ∷ sliced size k (left - 1) bytes)) (b ∷ bytes)
-    by_test true next on = (refl, refl, (λ h. absurd (cc h)), next)
-    by_test false next on = (refl, refl, (λ h. h), on)
-
-marked_length : (cut bytes : List LineByte) → OnlyMarked cut bytes → length cut ≡ length bytes
-marked_length [] bytes m = ap length (sym m)
-marked_length (c ∷ cut) [] m = absurd m
-marked_length (c ∷ cut) (b ∷ bytes) m = ap suc (marked_length cut bytes m.3)
-
-marked_goes_on : (last : ℕ) (cut bytes : List LineByte) → OnlyMarked cut bytes → GoesOn last bytes → GoesOn last cut
-marked_goes_on last [] bytes m go = tt
-marked_goes_on last (c ∷ cut) [] m go = absurd m
-marked_goes_on last (c ∷ cut) (b ∷ bytes) m go = rw m.1 (go.0, (λ h. go.1 (m.2 h)), marked_goes_on b.at cut bytes m.3 go.2)
-
-marked_up_to : (limit : ℕ) (cut bytes : List LineByte) → OnlyMarked cut bytes → AreUpTo limit bytes → AreUpTo limit cut
-marked_up_to limit [] bytes m up = tt
-marked_up_to limit (c ∷ cut) [] m up = absurd m
-marked_up_to limit (c ∷ cut) (b ∷ bytes) m up = (rw m.1 up.0, marked_up_to limit cut bytes m.3 up.1)
-
-marked_front : (cut bytes : List LineByte) → OnlyMarked cut bytes → DelaysFirst cut bytes
-marked_front [] bytes m = tt
-marked_front (c ∷ cut) [] m = absurd m
-marked_front (c ∷ cut) (b ∷ bytes) m = (m.0, rw m.1 (le_refl b.at), marked_front cut bytes m.3)
-
-pub length-sliced : (size : ℕ → ℕ) (bytes : List LineByte) → length (sliced size 0 0 bytes) ≡ length bytes
-length-sliced size bytes = marked_length (sliced size 0 0 bytes) bytes (only_marked size 0 0 bytes)
-
-first_marked : (size : ℕ → ℕ) (bytes : List LineByte) → Starts (sliced size 0 0 bytes)
-first_marked size [] = tt
-first_marked size (b ∷ bytes) = by_mark b.starts
-  where
-    by_mark : (s : Bool) → Starts (cond (s || 0 == 0) (record { value = b.value; at = b.at; starts = true } ∷ sliced size (0 + 1) (size 0 - 1) bytes) (b ∷ sliced size 0 (0 - 1) bytes))
-    by_mark true = refl
-    by_mark false = refl
-
-in_chunks : (bytes : List LineByte) → Starts bytes → GoesOn 0 bytes → IsInChunks bytes
-in_chunks [] s go = tt
-in_chunks (b ∷ bytes) s go = (s, go.2)
+    one : (s : Bool) → (s ≡ false → b.starts ≡ false) → (cut : List LineByte) → GetsMarks limit b.at bytes cut → GetsMarks limit last (b ∷ bytes) (record { value = b.value; at = b.at; starts = s } ∷ cut)
+    one s only cut rest = record {
+      goes = (go.0, (λ h. go.1 (only h)), rest.goes);
+      same = ap suc rest.same;
+      in_time = λ up. (up.0, rest.in_time up.1);
+      front = (refl, le_refl b.at, rest.front);
+    }
 
 pub sliced_keeps : (limit : ℕ) (size : ℕ → ℕ) (bytes : List LineByte) → IsInChunks bytes → KeepsBytes limit bytes (sliced size 0 0 bytes)
-sliced_keeps limit size bytes go =
-    let cut : List LineByte = sliced size 0 0 bytes in
-    let marked : OnlyMarked cut bytes = only_marked size 0 0 bytes in
-    let n = length-sliced size bytes in
-    record {
-      chunks = in_chunks cut (first_marked size bytes) (marked_goes_on 0 cut bytes marked (chunks_go_on bytes go));
-      short = omega arith;
-      in_time = marked_up_to limit cut bytes marked;
-      delays = λ up. marked_front cut bytes marked;
-    }
+sliced_keeps limit size [] go = same_keeps limit [] go
+sliced_keeps limit size (b ∷ bytes) go =
+    let rest = sliced_marks limit b.at size (0 + 1) (size 0 - 1) bytes go.1 in
+    let n = rest.same in
+    rw go.0 (record {
+      chunks = (refl, rest.goes);
+      later = record { short = omega arith; in_time = λ up. (up.0, rest.in_time up.1); delays = λ up. (refl, le_refl b.at, rest.front) };
+    })
 
 -- ---- settled
 
@@ -85,100 +58,67 @@ leaving at (b ∷ bytes) = cond b.starts at b.at
 
 pub joined_is : (b : LineByte) (bytes : List LineByte) → joined b bytes ≡ at_instant (leaving b.at bytes) b
 joined_is b [] = refl
-joined_is b (x ∷ bytes) = by x.starts
-  where
-    by : (s : Bool) → cond s b (at_instant x.at b) ≡ at_instant (cond s b.at x.at) b
-    by true = refl
-    by false = refl
+joined_is b (x ∷ bytes) = cond_both x.starts b (at_instant x.at b) (λ c. c ≡ at_instant (cond x.starts b.at x.at) b) (λ s. rw s refl) (λ s. rw s refl)
 
-joined_mark : (b : LineByte) (bytes : List LineByte) → (joined b bytes).starts ≡ b.starts
-joined_mark b bytes = ap (λ (x : LineByte). x.starts) (joined_is b bytes)
-
-joined_value : (b : LineByte) (bytes : List LineByte) → (joined b bytes).value ≡ b.value
-joined_value b bytes = ap (λ (x : LineByte). x.value) (joined_is b bytes)
-
--- a byte before settled ones: it is not earlier than it was, and they go on after it
-pub record GoesAfter (b : LineByte) (bytes : List LineByte) : Type 0 where
-  pub later : b.at ≤ (joined b bytes).at
-  pub goes : GoesOn (joined b bytes).at bytes
+-- a byte before settled ones: it is not earlier than it was, they go on after it, and it is not past a limit
+record GoesAfter (limit : ℕ) (b : LineByte) (bytes : List LineByte) : Type 0 where
+  pub later : b.at ≤ leaving b.at bytes
+  pub goes : GoesOn (leaving b.at bytes) bytes
+  pub low : b.at ≤ limit → AreUpTo limit bytes → leaving b.at bytes ≤ limit
 
 -- before a byte c, with which the slice goes on or another one starts
-before_one : (b c : LineByte) (bytes : List LineByte) → b.at ≤ c.at → GoesOn c.at bytes → GoesAfter b (c ∷ bytes)
-before_one b c bytes later goes = by_mark c.starts refl
+before_one : (limit : ℕ) (b c : LineByte) (bytes : List LineByte) → b.at ≤ c.at → GoesOn c.at bytes → GoesAfter limit b (c ∷ bytes)
+before_one limit b c bytes later goes = by c.starts refl
   where
-    by_mark : (t : Bool) → c.starts ≡ t → GoesAfter b (c ∷ bytes)
-    by_mark true e =
-        let same : joined b (c ∷ bytes) ≡ b = ap (λ t. cond t b (at_instant c.at b)) e in
-        record {
-          later = rw same (le_refl b.at);
-          goes = rw same (later, (λ h. absurd (cc (e, h))), goes);
-        }
-    by_mark false e =
-        let moved : joined b (c ∷ bytes) ≡ at_instant c.at b = ap (λ t. cond t b (at_instant c.at b)) e in
-        record {
-          later = rw moved later;
-          goes = rw moved (le_refl c.at, (λ h. refl), goes);
-        }
+    by : (s : Bool) → c.starts ≡ s → GoesAfter limit b (c ∷ bytes)
+    by true s = record { later = rw s (le_refl b.at); goes = rw s (later, (λ h. absurd (cc h)), goes); low = λ h up. rw s h }
+    by false s = record { later = rw s later; goes = rw s (le_refl c.at, (λ h. refl), goes); low = λ h up. rw s up.0 }
 
-settled_goes : (b : LineByte) (bytes : List LineByte) → NeverFalls b.at bytes → GoesAfter b (settled bytes)
-settled_goes b [] never = record { later = le_refl b.at; goes = tt }
-settled_goes b (next ∷ bytes) never =
-    let rest = settled_goes next bytes never.1 in
-    before_one b (joined next (settled bytes)) (settled bytes) (le_trans never.0 rest.later) rest.goes
+-- and what the settled ones are
+record Settles (limit : ℕ) (b : LineByte) (bytes : List LineByte) : Type 0 where
+  pub after : GoesAfter limit b (settled bytes)
+  pub same : length (settled bytes) ≡ length bytes
+  pub in_time : AreUpTo limit bytes → AreUpTo limit (settled bytes)
+  pub front : DelaysFirst (settled bytes) bytes
 
-pub settled_in_chunks : (bytes : List LineByte) → Starts bytes → NeverFalls 0 bytes → IsInChunks (settled bytes)
-settled_in_chunks [] s never = tt
-settled_in_chunks (b ∷ bytes) s never = (joined_mark b (settled bytes) ∙ s, (settled_goes b bytes never.1).goes)
-
-pub length-settled : (bytes : List LineByte) → length (settled bytes) ≡ length bytes
-length-settled [] = refl
-length-settled (b ∷ bytes) = ap suc (length-settled bytes)
-
-settled_later : (last : ℕ) (bytes : List LineByte) → NeverFalls last bytes → DelaysFirst (settled bytes) bytes
-settled_later last [] never = tt
-settled_later last (b ∷ bytes) never = (joined_value b (settled bytes), (settled_goes b bytes never.1).later, settled_later b.at bytes never.1)
-
-pub settled_front : (bytes : List LineByte) → NeverFalls 0 bytes → DelaysFirst (settled bytes) bytes
-settled_front bytes never = settled_later 0 bytes never
-
-joined_up_to : (limit : ℕ) (b : LineByte) (bytes : List LineByte) → b.at ≤ limit → AreUpTo limit bytes → (joined b bytes).at ≤ limit
-joined_up_to limit b [] h up = h
-joined_up_to limit b (next ∷ bytes) h up = by_test next.starts
-  where
-    by_test : (t : Bool) → (cond t b (at_instant next.at b)).at ≤ limit
-    by_test true = h
-    by_test false = up.0
-
-pub settled_up_to : (limit : ℕ) (bytes : List LineByte) → AreUpTo limit bytes → AreUpTo limit (settled bytes)
-settled_up_to limit [] up = tt
-settled_up_to limit (b ∷ bytes) up = let rest = settled_up_to limit bytes up.1 in (joined_up_to limit b (settled bytes) up.0 rest, rest)
-
-moved_keeps : (limit : ℕ) (g : List ℕ → ℕ) → LeavesInTurn limit g → (bytes : List LineByte) → IsInChunks bytes → KeepsBytes limit bytes (moved (λ bs. g (begins bs)) bytes)
-moved_keeps limit g turn bytes go =
-    let n = length-along (λ bs. g (begins bs)) [] bytes in
+settles : (limit : ℕ) (b : LineByte) (bytes : List LineByte) → NeverFalls b.at bytes → Settles limit b bytes
+settles limit b [] never = record { after = record { later = le_refl b.at; goes = tt; low = λ h up. h }; same = refl; in_time = λ up. tt; front = tt }
+settles limit b (next ∷ bytes) never =
+    let rest = settles limit next bytes never.1 in
+    let x : LineByte = at_instant (leaving next.at (settled bytes)) next in
+    let is : settled (next ∷ bytes) ≡ x ∷ settled bytes = ap (λ c. c ∷ settled bytes) (joined_is next (settled bytes)) in
     record {
-      chunks = chunks_move limit g turn bytes go;
-      short = omega arith;
-      in_time = λ up. along_low limit (λ bs. g (begins bs)) (λ bs. turn.low (begins bs)) [] bytes;
-      delays = moved_not_early limit g turn bytes (chunks_go_on bytes go);
+      after = subst (GoesAfter limit b) (sym is) (before_one limit b x (settled bytes) (le_trans never.0 rest.after.later) rest.after.goes);
+      same = ap suc rest.same;
+      in_time = λ up. subst (AreUpTo limit) (sym is) (rest.after.low up.0 (rest.in_time up.1), rest.in_time up.1);
+      front = subst (λ bs. DelaysFirst bs (next ∷ bytes)) (sym is) (refl, rest.after.later, rest.front);
+    }
+
+settled_keeps : (limit : ℕ) (b : LineByte) (bytes : List LineByte) → b.starts ≡ true → NeverFalls b.at bytes → KeepsBytes limit (b ∷ bytes) (settled (b ∷ bytes))
+settled_keeps limit b bytes s never =
+    let rest = settles limit b bytes never in
+    let n = rest.same in
+    subst (λ c. KeepsBytes limit (b ∷ bytes) (c ∷ settled bytes)) (sym (joined_is b (settled bytes))) (record {
+      chunks = (s, rest.after.goes);
+      later = record { short = omega arith; in_time = λ up. (rest.after.low up.0 (rest.in_time up.1), rest.in_time up.1); delays = λ up. (refl, rest.after.later, rest.front) };
+    })
+
+-- ---- the toxics
+
+-- chunks that leave in turn
+chunks_keep : (limit : ℕ) (f : ℕ → ℕ → ℕ → ℕ) → GivesInTurn limit f → (bytes : List LineByte) → IsInChunks bytes → KeepsBytes limit bytes (moved (λ bs. latest (f (length (begins bs))) (begins bs)) bytes)
+chunks_keep limit f gives bytes go =
+    let leaves : List LineByte → ℕ = λ bs. latest (f (length (begins bs))) (begins bs) in
+    let turn : LeavesInTurn limit leaves = by_chunks limit f gives in
+    record {
+      chunks = chunks_move limit leaves turn (λ front b s. ap (λ ats. latest (f (length ats)) ats) (begins_same front b s)) bytes go;
+      later = moved_delays limit leaves turn bytes go;
     }
 
 pub late_keeps : (ticks : ℕ) (random : ℕ → ℕ) (latency jitter : ℕ) (bytes : List LineByte) → IsInChunks bytes → KeepsBytes (horizon ticks) bytes (late_bytes ticks random latency jitter bytes)
 late_keeps ticks random latency jitter bytes go =
     let delay : ℕ → ℕ = drawn_delay ticks random latency jitter in
-    moved_keeps (horizon ticks) (λ ats. latest (λ j at. min (at + delay j) (horizon ticks)) ats) (late_in_turn (horizon ticks) delay) bytes go
-
--- one after the other
-both_keep : (limit : ℕ) (xs ys zs : List LineByte) → KeepsBytes limit xs ys → KeepsBytes limit ys zs → KeepsBytes limit xs zs
-both_keep limit xs ys zs one two =
-    let n = one.short in
-    let m = two.short in
-    record {
-      chunks = two.chunks;
-      short = omega arith;
-      in_time = λ up. two.in_time (one.in_time up);
-      delays = λ up. in_turn zs ys xs (two.delays (one.in_time up)) (one.delays up);
-    }
+    chunks_keep (horizon ticks) (λ n j at. min (at + delay j) (horizon ticks)) (late_gives (horizon ticks) delay) bytes go
 
 pub paced_keeps : (ticks : ℕ) (random : ℕ → ℕ) (average variation delay : ℕ) (bytes : List LineByte) → IsInChunks bytes
     → KeepsBytes (horizon ticks) bytes (paced_bytes ticks random average variation delay bytes)
@@ -187,28 +127,22 @@ paced_keeps ticks random average variation delay bytes go =
     let gap : ℕ = microsecond ticks * delay in
     let slices : List LineByte = sliced (slice_size random average variation) 0 0 bytes in
     let cut : KeepsBytes limit bytes slices = sliced_keeps limit (slice_size random average variation) bytes go in
-    both_keep limit bytes slices (paced_bytes ticks random average variation delay bytes) cut (moved_keeps limit (λ ats. paced limit gap (length ats - 1) ats) (paced_in_turn limit gap) slices cut.chunks)
-
-first_starts : (bytes : List LineByte) → IsInChunks bytes → Starts bytes
-first_starts [] go = tt
-first_starts (b ∷ bytes) go = go.0
+    let kept = chunks_keep limit (λ n j at. min (at + (n - 1 - j) * gap) limit) (paced_gives limit gap) slices cut.chunks in
+    record { chunks = kept.chunks; later = both_delay limit bytes slices (moved (slicer_leaves limit gap) slices) cut.later kept.later }
 
 rate_keeps : (limit ticks rate : ℕ) → 0 < rate → (bytes : List LineByte) → IsInChunks bytes → KeepsBytes limit bytes (settled (moved (bandwidth_leaves limit ticks rate) bytes))
-rate_keeps limit ticks rate some bytes go =
+rate_keeps limit ticks rate some [] go = same_keeps limit [] go
+rate_keeps limit ticks rate some (b ∷ bytes) go =
     let leaves : List LineByte → ℕ = bandwidth_leaves limit ticks rate in
-    let later : List LineByte = moved leaves bytes in
-    let never = rate_never_falls limit ticks rate some bytes in
-    let n : length (settled later) ≡ length bytes = length-settled later ∙ length-along leaves [] bytes in
-    record {
-      chunks = settled_in_chunks later (moved_starts leaves bytes (first_starts bytes go)) never;
-      short = omega arith;
-      in_time = λ up. settled_up_to limit later (along_low limit leaves (rate_low limit ticks rate) [] bytes);
-      delays = λ up. in_turn (settled later) later bytes (settled_front later never) (rated_not_early limit ticks rate bytes up);
-    }
+    let turn : LeavesInTurn limit leaves = by_bytes limit (λ n y at. min (at + ceiling ((n - y) * ticks) rate) limit) (rate_gives limit ticks rate some) in
+    let later : List LineByte = along leaves (b ∷ []) bytes in
+    let kept = settled_keeps limit (at_instant (leaves (b ∷ [])) b) later go.0 (never_falls limit leaves turn (b ∷ []) bytes) in
+    record { chunks = kept.chunks; later = both_delay limit (b ∷ bytes) (moved leaves (b ∷ bytes)) (settled (moved leaves (b ∷ bytes))) (moved_delays limit leaves turn (b ∷ bytes) go) kept.later }
 
 pub rated_keeps : (ticks rate : ℕ) (bytes : List LineByte) → 0 < rate → IsInChunks bytes → KeepsBytes (horizon ticks) bytes (rated_bytes ticks rate bytes)
 rated_keeps ticks rate bytes some go =
     let limit : ℕ = horizon ticks in
     let slices : List LineByte = sliced (rated_size rate) 0 0 bytes in
     let cut : KeepsBytes limit bytes slices = sliced_keeps limit (rated_size rate) bytes go in
-    both_keep limit bytes slices (rated_bytes ticks rate bytes) cut (rate_keeps limit (millisecond ticks) rate some slices cut.chunks)
+    let kept = rate_keeps limit (millisecond ticks) rate some slices cut.chunks in
+    record { chunks = kept.chunks; later = both_delay limit bytes slices (rated_bytes ticks rate bytes) cut.later kept.later }

@@ -1,12 +1,12 @@
 -- Bytes that are the first of others, none earlier than there; and what a toxic keeps of a line's bytes.
-use Rattle.std.proofs.Common.{◌≤◌, ◌<◌, ℕ, zero, suc, List, [], ◌∷◌, length, take, map, get_or, refl, sym, ap, ◌∙◌, subst, arith, nat_lt}
+use Rattle.std.proofs.Common.{◌≤◌, ◌<◌, ℕ, zero, suc, List, [], ◌∷◌, length, take, map, get_or, refl, sym, ap, ◌∙◌, subst, arith}
 use Rattle.std.proofs.Math.Nat.{le_trans, le_refl}
 use Rattle.std.proofs.lemmas.List.{length-take}
 use Rattle.reassembly.specs.RecordedLines.{LineByte}
 use Rattle.reassembly.specs.LineLaws.{IsInChunks}
-use Rattle.pcap_records.proofs.Lists.{all_filter}
+use Rattle.lists.proofs.Lists.{all_take}
 use Rattle.toxic_defs.specs.Laws.{DelaysFirst, AreFrom, values_of, DelayedBytesAreTheFirst, AreUpTo}
-use Rattle.toxic_defs.proofs.FirstBytes.{bytes_before, first_stay, chunks_go_on, before_short, before_in_chunks, taken_all, taken_in_chunks}
+use Rattle.toxic_defs.proofs.FirstBytes.{bytes_before, first_stay, chunks_go_on, taken_in_chunks}
 
 pub itself : (bytes : List LineByte) → DelaysFirst bytes bytes
 itself [] = tt
@@ -25,11 +25,6 @@ taken zero xs ys f = tt
 taken (suc n) [] ys f = tt
 taken (suc n) (x ∷ xs) [] f = absurd f
 taken (suc n) (x ∷ xs) (y ∷ ys) f = (f.0, f.1, taken n xs ys f.2)
-
--- ---- the bytes before an instant are some of the first
-
-pub before_front : (limit : ℕ) (xs ys : List LineByte) → IsInChunks xs → DelaysFirst xs ys → DelaysFirst (bytes_before limit xs) ys
-before_front limit xs ys g f = subst (λ (bs : List LineByte). DelaysFirst bs ys) (sym (first_stay limit 0 xs (chunks_go_on xs g))) (taken (length (bytes_before limit xs)) xs ys f)
 
 -- ---- instants
 
@@ -52,30 +47,35 @@ the_first (b ∷ bytes) (was ∷ recorded) f = ap (λ v. v ∷ values_of bytes) 
 
 -- ---- what a toxic does: chunks, of no more bytes, none past a limit or earlier than it was
 
-pub record KeepsBytes (limit : ℕ) (before after : List LineByte) : Type 0 where
-  pub chunks : IsInChunks after
+pub record DelaysBytes (limit : ℕ) (before after : List LineByte) : Type 0 where
   pub short : length after ≤ length before
   pub in_time : AreUpTo limit before → AreUpTo limit after
   pub delays : AreUpTo limit before → DelaysFirst after before
 
-pub same_keeps : (limit : ℕ) (bytes : List LineByte) → IsInChunks bytes → KeepsBytes limit bytes bytes
-same_keeps limit bytes g = record { chunks = g; short = le_refl (length bytes); in_time = λ h. h; delays = λ h. itself bytes }
+pub record KeepsBytes (limit : ℕ) (before after : List LineByte) : Type 0 where
+  pub chunks : IsInChunks after
+  pub later : DelaysBytes limit before after
 
-pub none_keeps : (limit : ℕ) (bytes : List LineByte) → KeepsBytes limit bytes []
-none_keeps limit bytes = record { chunks = tt; short = omega arith; in_time = λ h. tt; delays = λ h. tt }
+-- one after the other
+pub both_delay : (limit : ℕ) (xs ys zs : List LineByte) → DelaysBytes limit xs ys → DelaysBytes limit ys zs → DelaysBytes limit xs zs
+both_delay limit xs ys zs one two = record {
+  short = le_trans two.short one.short;
+  in_time = λ up. two.in_time (one.in_time up);
+  delays = λ up. in_turn zs ys xs (two.delays (one.in_time up)) (one.delays up);
+}
+
+pub same_keeps : (limit : ℕ) (bytes : List LineByte) → IsInChunks bytes → KeepsBytes limit bytes bytes
+same_keeps limit bytes g = record { chunks = g; later = record { short = le_refl (length bytes); in_time = λ h. h; delays = λ h. itself bytes } }
 
 pub take_keeps : (limit n : ℕ) (bytes : List LineByte) → IsInChunks bytes → KeepsBytes limit bytes (take n bytes)
 take_keeps limit n bytes g = record {
   chunks = taken_in_chunks n bytes g;
-  short = let e = length-take n bytes in omega (arith, e);
-  in_time = taken_all (λ b. b.at ≤ limit) n bytes;
-  delays = λ h. taken n bytes bytes (itself bytes);
+  later = record {
+    short = let e = length-take n bytes in omega (arith, e);
+    in_time = all_take (λ (b : LineByte). b.at ≤ limit) n bytes;
+    delays = λ h. taken n bytes bytes (itself bytes);
+  };
 }
 
 pub before_keeps : (limit at : ℕ) (bytes : List LineByte) → IsInChunks bytes → KeepsBytes limit bytes (bytes_before at bytes)
-before_keeps limit at bytes g = record {
-  chunks = before_in_chunks at bytes g;
-  short = before_short at bytes;
-  in_time = all_filter (λ (b : LineByte). b.at ≤ limit) (λ b. nat_lt b.at at) bytes;
-  delays = λ h. before_front at bytes bytes g (itself bytes);
-}
+before_keeps limit at bytes g = subst (KeepsBytes limit bytes) (sym (first_stay at 0 bytes (chunks_go_on bytes g))) (take_keeps limit (length (bytes_before at bytes)) bytes g)

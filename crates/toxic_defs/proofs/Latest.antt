@@ -1,12 +1,9 @@
 -- The greatest of what some instants give, and its bounds.
-use Rattle.std.proofs.Common.{◌≡◌, ◌≤◌, ◌<◌, ℕ, ◌+◌, max, List, [], ◌∷◌, ◌++◌, length, refl, arith, ◌-◌, ◌*◌, min}
+use Rattle.std.proofs.Common.{◌≡◌, ◌≤◌, ◌<◌, ℕ, ◌+◌, max, List, [], ◌∷◌, ◌++◌, length, refl, sym, ap, ◌∙◌, arith, suc, ◌-◌, ◌*◌, min}
 use Rattle.std.proofs.Math.Nat.{le_refl, mul-le-mul_right, div-mul-le_self}
 use Rattle.std.proofs.lemmas.Nat.{le-div}
-use Rattle.std.proofs.lemmas.List.{length_push, map-append}
-use Rattle.reassembly.specs.RecordedLines.{LineByte}
-use Rattle.toxic_defs.specs.DelayedBytes.{latest_from, latest, instants_of}
-use Rattle.toxic_defs.specs.Slicer.{paced}
-use Rattle.toxic_defs.specs.Bandwidth.{ceiling, bandwidth_leaves}
+use Rattle.toxic_defs.specs.DelayedBytes.{latest_from, latest}
+use Rattle.toxic_defs.specs.Bandwidth.{ceiling}
 
 latest_from-push : (f : ℕ → ℕ → ℕ) (i : ℕ) (ats : List ℕ) (at n : ℕ) → n ≡ i + length ats → latest_from i f (ats ++ at ∷ []) ≡ max (latest_from i f ats) (f n at)
 latest_from-push f i [] at n e = let e' : n ≡ i = omega arith in rw e' (omega arith)
@@ -16,19 +13,43 @@ latest_from-push f i (y ∷ ats) at n e = let rest = latest_from-push f (i + 1) 
 pub latest-push : (f : ℕ → ℕ → ℕ) (ats : List ℕ) (at : ℕ) → latest f (ats ++ at ∷ []) ≡ max (latest f ats) (f (length ats) at)
 latest-push f ats at = latest_from-push f 0 ats at (length ats) (omega arith)
 
--- where h keeps the greater of two, it can be taken of the greatest; of no instant, h of 0 need not be 0
-pub latest-along : (h : ℕ → ℕ) → ((a b : ℕ) → h (max a b) ≡ max (h a) (h b)) → (f g : ℕ → ℕ → ℕ) (i at : ℕ) (ats : List ℕ) (n : ℕ) → i + length (at ∷ ats) ≤ n
-    → ((j x : ℕ) → j < n → g j x ≡ h (f j x)) → latest_from i g (at ∷ ats) ≡ h (latest_from i f (at ∷ ats))
-latest-along h keeps f g i at [] n le same =
-    let e : g i at ≡ h (f i at) = same i at (omega arith) in
-    let m : max (f i at) 0 ≡ f i at = omega arith in
-    let m' : max (g i at) 0 ≡ g i at = omega arith in
-    rw (m, m', e) refl
-latest-along h keeps f g i at (y ∷ ats) n le same =
-    let e : g i at ≡ h (f i at) = same i at (omega arith) in
-    let rest = latest-along h keeps f g (i + 1) y ats n (omega arith) same in
-    let k = keeps (f i at) (latest_from (i + 1) f (y ∷ ats)) in
-    rw (k, e, rest) refl
+-- ---- what is owed
+
+-- a step after what was owed before, or after an instant
+abbrev pub owed : ℕ → ℕ → ℕ → List ℕ → ℕ
+owed rate step busy [] = busy
+owed rate step busy (at ∷ ats) = owed rate step (max busy (rate * at) + step) ats
+
+pub owed-append : (rate step busy : ℕ) (xs ys : List ℕ) → owed rate step busy (xs ++ ys) ≡ owed rate step (owed rate step busy xs) ys
+owed-append rate step busy [] ys = refl
+owed-append rate step busy (x ∷ xs) ys = owed-append rate step (max busy (rate * x) + step) xs ys
+
+module _ (limit rate step : ℕ) (h : ℕ → ℕ) (keeps : (a b : ℕ) → h (max a b) ≡ max (h a) (h b)) (adds : (at m : ℕ) → h (rate * at + m) ≡ at + h m) where
+  both_latest : (a b whole rest total : ℕ) → whole ≡ max a b → max (min whole limit) rest ≡ total → max (min a limit) (max (min b limit) rest) ≡ total
+  both_latest a b whole rest total split is = omega arith
+
+  latest_owed : (i n busy : ℕ) (ats : List ℕ) → i + length ats ≡ n
+      → max (min (h (busy + (n - i) * step)) limit) (latest_from i (λ j x. min (x + h ((n - j) * step)) limit) ats) ≡ min (h (owed rate step busy ats)) limit
+  latest_owed i n busy [] e =
+      let none : n - i ≡ 0 = omega arith in
+      let same : busy + 0 * step ≡ busy = omega arith in
+      rw (none, same) (omega arith)
+  latest_owed i n busy (at ∷ ats) e =
+      let one : n - i ≡ suc (n - (i + 1)) = omega arith in
+      let sum : max busy (rate * at) + step + (n - (i + 1)) * step ≡ max (busy + (n - i) * step) (rate * at + (n - i) * step) = rw one (omega arith) in
+      let split = ap h sum ∙ keeps (busy + (n - i) * step) (rate * at + (n - i) * step) ∙ ap (λ x. max (h (busy + (n - i) * step)) x) (adds at ((n - i) * step)) in
+      both_latest _ _ _ _ _ split (latest_owed (i + 1) n (max busy (rate * at) + step) ats (omega arith))
+
+  -- the greatest of what is owed by each of n instants is what is owed by all
+  pub latest_is_owed : (n at : ℕ) (ats : List ℕ) → length (at ∷ ats) ≡ n → latest (λ j x. min (x + h ((n - j) * step)) limit) (at ∷ ats) ≡ min (h (owed rate step 0 (at ∷ ats))) limit
+  latest_is_owed n at ats e =
+      let most = keeps (rate * at + (n - 0) * step) (0 + (n - 0) * step) in
+      let own = adds at ((n - 0) * step) in
+      let first : max (rate * at + (n - 0) * step) (0 + (n - 0) * step) ≡ rate * at + (n - 0) * step = omega arith in
+      let all = latest_owed 0 n 0 (at ∷ ats) (omega arith) in
+      let split = ap h (sym first) ∙ most in
+      let le : h (0 + (n - 0) * step) ≤ at + h ((n - 0) * step) = omega (arith, split, own) in
+      omega (arith, all, le)
 
 -- ---- bounds
 
@@ -47,75 +68,49 @@ latest_more f g i (at ∷ ats) more =
     let rest = latest_more f g (i + 1) ats more in
     omega arith
 
+-- what each of n instants gives: no less where there is one more, not before the instant itself, and not past the limit
+pub record GivesInTurn (limit : ℕ) (f : ℕ → ℕ → ℕ → ℕ) : Type 0 where
+  pub more : (n j at : ℕ) → f n j at ≤ f (n + 1) j at
+  pub own : (n j at : ℕ) → at ≤ limit → at ≤ f n j at
+  pub low : (n j at : ℕ) → f n j at ≤ limit
+
 -- one instant more
-latest_rises : (f g : ℕ → ℕ → ℕ) (ats : List ℕ) (at : ℕ) → ((j x : ℕ) → f j x ≤ g j x) → latest f ats ≤ latest g (ats ++ at ∷ [])
-latest_rises f g ats at more = let push = latest-push g ats at in let rest = latest_more f g 0 ats more in omega arith
+pub latest_rises : (limit : ℕ) (f : ℕ → ℕ → ℕ → ℕ) → GivesInTurn limit f → (n : ℕ) (ats : List ℕ) (at : ℕ) → latest (f n) ats ≤ latest (f (n + 1)) (ats ++ at ∷ [])
+latest_rises limit f gives n ats at =
+    let push = latest-push (f (n + 1)) ats at in
+    let rest = latest_more (f n) (f (n + 1)) 0 ats (gives.more n) in
+    omega arith
 
-latest_own : (f : ℕ → ℕ → ℕ) (ats : List ℕ) (at least : ℕ) → least ≤ f (length ats) at → least ≤ latest f (ats ++ at ∷ [])
-latest_own f ats at least own = let push = latest-push f ats at in omega arith
+pub latest_own : (limit : ℕ) (f : ℕ → ℕ → ℕ → ℕ) → GivesInTurn limit f → (n : ℕ) (ats : List ℕ) (at : ℕ) → at ≤ limit → at ≤ latest (f n) (ats ++ at ∷ [])
+latest_own limit f gives n ats at h =
+    let push = latest-push (f n) ats at in
+    let own = gives.own n (length ats) at h in
+    omega arith
 
--- ---- when chunks leave
+-- ---- what toxics give
 
--- by the instants at which chunks begin: it never falls, is not before a chunk's own instant, and not past the limit
-pub record LeavesInTurn (limit : ℕ) (g : List ℕ → ℕ) : Type 0 where
-  pub rises : (ats : List ℕ) (at : ℕ) → g ats ≤ g (ats ++ at ∷ [])
-  pub own : (ats : List ℕ) (at : ℕ) → at ≤ limit → at ≤ g (ats ++ at ∷ [])
-  pub low : (ats : List ℕ) → g ats ≤ limit
+pub late_gives : (limit : ℕ) (delay : ℕ → ℕ) → GivesInTurn limit (λ n j at. min (at + delay j) limit)
+late_gives limit delay = record { more = λ n j at. le_refl (min (at + delay j) limit); own = λ n j at h. omega arith; low = λ n j at. omega arith }
 
-pub late_in_turn : (limit : ℕ) (delay : ℕ → ℕ) → LeavesInTurn limit (λ ats. latest (λ j at. min (at + delay j) limit) ats)
-late_in_turn limit delay =
-    let f : ℕ → ℕ → ℕ = λ j at. min (at + delay j) limit in
-    record {
-      rises = λ ats at. latest_rises f f ats at (λ j x. le_refl (f j x));
-      own = λ ats at h. latest_own f ats at at (omega arith);
-      low = λ ats. latest_low limit f 0 ats (λ j x. omega arith);
-    }
-
-pub paced_in_turn : (limit gap : ℕ) → LeavesInTurn limit (λ ats. paced limit gap (length ats - 1) ats)
-paced_in_turn limit gap = record {
-  rises = λ ats at.
-      latest_rises (λ j x. min (x + (length ats - 1 - j) * gap) limit) (λ j x. min (x + (length (ats ++ at ∷ []) - 1 - j) * gap) limit) ats at (λ j x. later ats at j x);
-  own = λ ats at h. latest_own (λ j x. min (x + (length (ats ++ at ∷ []) - 1 - j) * gap) limit) ats at at (omega arith);
-  low = λ ats. latest_low limit (λ j x. min (x + (length ats - 1 - j) * gap) limit) 0 ats (λ j x. omega arith);
-}
+pub paced_gives : (limit gap : ℕ) → GivesInTurn limit (λ n j at. min (at + (n - 1 - j) * gap) limit)
+paced_gives limit gap = record { more = more; own = λ n j at h. omega arith; low = λ n j at. omega arith }
   where
-    later : (ats : List ℕ) (at j x : ℕ) → min (x + (length ats - 1 - j) * gap) limit ≤ min (x + (length (ats ++ at ∷ []) - 1 - j) * gap) limit
-    later ats at j x =
-        let n = length_push ats at in
-        let k : length ats - 1 - j ≤ length (ats ++ at ∷ []) - 1 - j = omega arith in
-        let m : (length ats - 1 - j) * gap ≤ (length (ats ++ at ∷ []) - 1 - j) * gap = mul-le-mul_right gap k in
+    more : (n j at : ℕ) → min (at + (n - 1 - j) * gap) limit ≤ min (at + (n + 1 - 1 - j) * gap) limit
+    more n j at =
+        let k : n - 1 - j ≤ n + 1 - 1 - j = omega arith in
+        let m : (n - 1 - j) * gap ≤ (n + 1 - 1 - j) * gap = mul-le-mul_right gap k in
         omega arith
-
--- ---- when bytes leave at a rate
-
-pub rate_low : (limit ticks rate : ℕ) (bytes : List LineByte) → bandwidth_leaves limit ticks rate bytes ≤ limit
-rate_low limit ticks rate bytes = latest_low limit (λ y at. min (at + ceiling ((length bytes - y) * ticks) rate) limit) 0 (instants_of bytes) (λ y at. omega arith)
 
 pub ceiling-mono : (a b d : ℕ) → 0 < d → a ≤ b → ceiling a d ≤ ceiling b d
 ceiling-mono a b d some le =
     let m = div-mul-le_self (a + (d - 1)) d in
     le-div (ceiling a d) (b + (d - 1)) d some (omega arith)
 
-abbrev rate_of : ℕ → ℕ → ℕ → ℕ → ℕ → ℕ → ℕ
-rate_of limit ticks rate n y at = min (at + ceiling ((n - y) * ticks) rate) limit
-
-pushed_instants : (front : List LineByte) (b : LineByte) → instants_of (front ++ b ∷ []) ≡ instants_of front ++ b.at ∷ []
-pushed_instants front b = map-append (λ x. x.at) front (b ∷ [])
-
--- a byte leaves not before the earlier ones
-pub rate_rises : (limit ticks rate : ℕ) → 0 < rate → (front : List LineByte) (b : LineByte) → bandwidth_leaves limit ticks rate front ≤ bandwidth_leaves limit ticks rate (front ++ b ∷ [])
-rate_rises limit ticks rate some front b =
-    let n = length_push front b in
-    rw (pushed_instants front b) (latest_rises (rate_of limit ticks rate (length front)) (rate_of limit ticks rate (length (front ++ b ∷ []))) (instants_of front) b.at (λ y x. later y x))
+pub rate_gives : (limit ticks rate : ℕ) → 0 < rate → GivesInTurn limit (λ n y at. min (at + ceiling ((n - y) * ticks) rate) limit)
+rate_gives limit ticks rate some = record { more = more; own = λ n y at h. omega arith; low = λ n y at. omega arith }
   where
-    later : (y x : ℕ) → rate_of limit ticks rate (length front) y x ≤ rate_of limit ticks rate (length (front ++ b ∷ [])) y x
-    later y x =
-        let n = length_push front b in
-        let k : length front - y ≤ length (front ++ b ∷ []) - y = omega arith in
-        let m : ceiling ((length front - y) * ticks) rate ≤ ceiling ((length (front ++ b ∷ []) - y) * ticks) rate = ceiling-mono _ _ rate some (mul-le-mul_right ticks k) in
+    more : (n y at : ℕ) → min (at + ceiling ((n - y) * ticks) rate) limit ≤ min (at + ceiling ((n + 1 - y) * ticks) rate) limit
+    more n y at =
+        let k : n - y ≤ n + 1 - y = omega arith in
+        let m : ceiling ((n - y) * ticks) rate ≤ ceiling ((n + 1 - y) * ticks) rate = ceiling-mono _ _ rate some (mul-le-mul_right ticks k) in
         omega arith
-
--- and not before its own instant
-pub rate_own : (limit ticks rate : ℕ) (front : List LineByte) (b : LineByte) → b.at ≤ limit → b.at ≤ bandwidth_leaves limit ticks rate (front ++ b ∷ [])
-rate_own limit ticks rate front b h =
-    rw (pushed_instants front b) (latest_own (rate_of limit ticks rate (length (front ++ b ∷ []))) (instants_of front) b.at b.at (omega arith))

@@ -1,6 +1,6 @@
 -- The bytes of parts, and passes over parts in place.
-use Rattle.std.proofs.Common.{◌≡◌, ◌≤◌, ◌<◌, ℕ, zero, suc, ◌+◌, ◌-◌, Bool, false, List, [], ◌∷◌, ◌++◌, length, take, drop, get_or, set, refl, sym, ap, ◌∙◌, arith, drop-cons}
-use Rattle.std.proofs.Math.Seq.{take-suc, split_at}
+use Rattle.std.proofs.Common.{◌≡◌, ◌≤◌, ◌<◌, ℕ, suc, ◌+◌, ◌-◌, Bool, false, List, [], ◌∷◌, ◌++◌, length, take, drop, get_or, set, refl, sym, ap, ◌∙◌, arith}
+use Rattle.std.proofs.Math.Seq.{split_at}
 use Rattle.std.proofs.lemmas.List.{append-nil, take_more, drop-set-lt, drop-drop, get_or-drop, length-map}
 use Rattle.std.proofs.lemmas.List.Concat.{flat_map-append}
 use Rattle.reassembly.specs.RecordedLines.{LineByte}
@@ -19,13 +19,13 @@ pub length_marked : (at : ℕ) (s : Bool) (bytes : List ℕ) → length (bytes_w
 length_marked at s [] = refl
 length_marked at s (b ∷ bytes) = ap suc (length-map bytes (λ x. let r : LineByte = record { value = x; at = at; starts = false } in r))
 
-pub no_bytes : (at : ℕ) (s : Bool) (bytes : List ℕ) → length bytes ≡ 0 → bytes_with_mark at s bytes ≡ []
+no_bytes : (at : ℕ) (s : Bool) (bytes : List ℕ) → length bytes ≡ 0 → bytes_with_mark at s bytes ≡ []
 no_bytes at s [] h = refl
 no_bytes at s (b ∷ bytes) h = absurd (omega arith)
 
 -- ---- the bytes up to a part, its own, and those after it
 
-pub front_more : (i : ℕ) (parts : List LinePart) (d : LinePart) → i < length parts
+front_more : (i : ℕ) (parts : List LinePart) (d : LinePart) → i < length parts
     → bytes_of_parts (take (i + 1) parts) ≡ bytes_of_parts (take i parts) ++ bytes_of_part (get_or parts i d)
 front_more i parts d lt =
     ap bytes_of_parts (take_more parts i d lt) ∙ flat_map-append bytes_of_part (take i parts) (get_or parts i d ∷ [])
@@ -36,22 +36,9 @@ pub parted : (i : ℕ) (parts : List LinePart) (d : LinePart) → i < length par
 parted i parts d lt = ap bytes_of_parts (split_at parts i d lt) ∙ flat_map-append bytes_of_part (take i parts) (get_or parts i d ∷ drop (suc i) parts)
 
 -- the same of part n - 1, where parts are passed from the end
-pub record PartBefore (n : ℕ) (parts : List LinePart) (p : LinePart) : Type 0 where
-  pub front : bytes_of_parts (take n parts) ≡ bytes_of_parts (take (n - 1) parts) ++ bytes_of_part p
-  pub rest : bytes_of_parts (drop (n - 1) parts) ≡ bytes_of_part p ++ bytes_of_parts (drop n parts)
-  pub whole : bytes_of_parts parts ≡ bytes_of_parts (take (n - 1) parts) ++ (bytes_of_part p ++ bytes_of_parts (drop n parts))
-
-pub one_back : (n : ℕ) (parts : List LinePart) (d : LinePart) → 0 < n → n ≤ length parts → PartBefore n parts (get_or parts (n - 1) d)
-one_back zero parts d some within = absurd (omega arith)
-one_back (suc i) parts d some within =
-    let e : suc i - 1 ≡ i = omega arith in
-    let lt : i < length parts = omega arith in
-    let p : LinePart = get_or parts i d in
-    record {
-      front = rw e (ap bytes_of_parts (take-suc parts i d lt) ∙ flat_map-append bytes_of_part (take i parts) (p ∷ []) ∙ ap (λ bs. bytes_of_parts (take i parts) ++ bs) (append-nil (bytes_of_part p)));
-      rest = rw e (ap bytes_of_parts (drop-cons parts i d lt));
-      whole = rw e (parted i parts d lt);
-    }
+pub front_back : (n : ℕ) (parts : List LinePart) (d : LinePart) → 0 < n → n ≤ length parts
+    → bytes_of_parts (take n parts) ≡ bytes_of_parts (take (n - 1) parts) ++ bytes_of_part (get_or parts (n - 1) d)
+front_back n parts d some within = let e : n - 1 + 1 ≡ n = omega arith in rw e at (front_more (n - 1) parts d (omega arith))
 
 -- ---- the last instant
 
@@ -64,21 +51,20 @@ last_of_part before at s [] h = absurd (omega arith)
 last_of_part before at s (b ∷ []) h = refl
 last_of_part before at s (b ∷ c ∷ bytes) h = last_of_part at at false (c ∷ bytes) (omega arith)
 
--- no bytes come after part n - 1, and it has none or some
-pub none_more : (n : ℕ) (parts : List LinePart) (d : LinePart) → 0 < n → n ≤ length parts → bytes_of_parts (drop n parts) ≡ [] → length (get_or parts (n - 1) d).bytes.now ≡ 0
-    → bytes_of_parts (drop (n - 1) parts) ≡ []
-none_more n parts d some within none empty =
-    let p : LinePart = get_or parts (n - 1) d in
-    (one_back n parts d some within).rest ∙ ap (λ bs. bs ++ bytes_of_parts (drop n parts)) (no_bytes p.at p.starts p.bytes.now empty) ∙ none
-
-pub last_found : (n : ℕ) (parts : List LinePart) (d : LinePart) → 0 < n → n ≤ length parts → bytes_of_parts (drop n parts) ≡ [] → 0 < length (get_or parts (n - 1) d).bytes.now
-    → last_instant 0 (bytes_of_parts parts) ≡ (get_or parts (n - 1) d).at
-last_found n parts d some within none filled =
+-- up to part n - 1, which has no bytes or some
+pub none_more : (n : ℕ) (parts : List LinePart) (d : LinePart) → 0 < n → n ≤ length parts → length (get_or parts (n - 1) d).bytes.now ≡ 0
+    → bytes_of_parts (take n parts) ≡ bytes_of_parts (take (n - 1) parts)
+none_more n parts d some within empty =
     let p : LinePart = get_or parts (n - 1) d in
     let front : List LineByte = bytes_of_parts (take (n - 1) parts) in
-    let whole : bytes_of_parts parts ≡ front ++ bytes_of_part p =
-    (one_back n parts d some within).whole ∙ ap (λ bs. front ++ (bytes_of_part p ++ bs)) none ∙ ap (λ bs. front ++ bs) (append-nil (bytes_of_part p)) in
-    ap (last_instant 0) whole ∙ last-append 0 front (bytes_of_part p) ∙ last_of_part (last_instant 0 front) p.at p.starts p.bytes.now filled
+    front_back n parts d some within ∙ ap (λ bs. front ++ bs) (no_bytes p.at p.starts p.bytes.now empty) ∙ append-nil front
+
+pub last_found : (n : ℕ) (parts : List LinePart) (d : LinePart) → 0 < n → n ≤ length parts → 0 < length (get_or parts (n - 1) d).bytes.now
+    → last_instant 0 (bytes_of_parts (take n parts)) ≡ (get_or parts (n - 1) d).at
+last_found n parts d some within filled =
+    let p : LinePart = get_or parts (n - 1) d in
+    let front : List LineByte = bytes_of_parts (take (n - 1) parts) in
+    ap (last_instant 0) (front_back n parts d some within) ∙ last-append 0 front (bytes_of_part p) ∙ last_of_part (last_instant 0 front) p.at p.starts p.bytes.now filled
 
 -- ---- a pass over parts in place
 

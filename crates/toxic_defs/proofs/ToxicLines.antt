@@ -1,8 +1,9 @@
 -- What toxics make of lines, and what is delivered of a connection.
-use Rattle.std.proofs.Common.{◌≡◌, ◌≤◌, ◌<◌, ℕ, zero, suc, ◌+◌, ◌*◌, ◌^◌, Bool, true, false, cond, List, [], ◌∷◌, ◌++◌, length, take, drop, map, nat_lt, get_or, Some, None, refl, sym, ap, ◌∙◌, subst, arith, Option}
-use Rattle.std.proofs.lemmas.Bool.{ltb-true}
+use Rattle.std.proofs.Common.{◌≡◌, ◌≤◌, ◌<◌, ℕ, zero, suc, ◌+◌, ◌*◌, ◌^◌, Bool, true, false, List, [], ◌∷◌, ◌++◌, length, take, drop, map, nat_lt, get_or, Some, None, refl, sym, ap, ◌∙◌, subst, arith, Option}
+use Rattle.std.proofs.lemmas.Bool.{ltb-true, cond_both}
 use Rattle.std.proofs.lemmas.List.{drop_more, take_more, drop_all, take_all}
 use Rattle.std.proofs.lemmas.Bool.Decides.{nat_tests}
+use Rattle.lists.proofs.Lists.{all_push}
 use Rattle.pcap_records.specs.Instants.{horizon, millisecond}
 use Rattle.reassembly.specs.RecordedLines.{LineByte, Line, End, live, fin, close, reset, RecordedConnection, empty_line}
 use Rattle.reassembly.specs.LineLaws.{IsInChunks, last_instant, IsNotBefore, IsLine, LiesBetween}
@@ -16,7 +17,7 @@ use Rattle.toxic_defs.specs.declared.words.Key.{Key}
 use Rattle.toxic_defs.specs.declared.kinds.Kind.{Kind}
 use Rattle.toxic_defs.specs.declared.kinds.Kind.TheVariants.{Latency, Bandwidth, SlowClose, Timeout, ResetPeer, Slicer, LimitData}
 use Rattle.toxic_defs.specs.DeliveredLines.{connection_by_cut, connection_by_proxy, delivered_connection}
-use Rattle.toxic_defs.proofs.KeptBytes.{in_turn, from_recorded, instant_from, KeepsBytes, same_keeps, none_keeps, take_keeps, before_keeps}
+use Rattle.toxic_defs.proofs.KeptBytes.{in_turn, from_recorded, instant_from, KeepsBytes, same_keeps, take_keeps, before_keeps}
 use Rattle.toxic_defs.proofs.DelayingLaws.{late_keeps, rated_keeps, paced_keeps}
 use Rattle.toxic_defs.proofs.CutLines.{recorded_lines_delay, cut_lines_delay}
 
@@ -45,7 +46,7 @@ effect_keeps : (ticks : ℕ) (random : ℕ → ℕ) (opened ppm : ℕ) (kind : K
 effect_keeps ticks random opened ppm (Latency latency jitter) f r g = late_keeps ticks random latency jitter f.bytes g
 effect_keeps ticks random opened ppm (Bandwidth rate) f r g = rated_keeps ticks rate f.bytes (some_rate rate ppm r) g
 effect_keeps ticks random opened ppm (SlowClose delay) f r g = same_keeps (horizon ticks) f.bytes g
-effect_keeps ticks random opened ppm (Timeout time) f r g = none_keeps (horizon ticks) f.bytes
+effect_keeps ticks random opened ppm (Timeout time) f r g = take_keeps (horizon ticks) 0 f.bytes g
 effect_keeps ticks random opened ppm (ResetPeer time) f r g = before_keeps (horizon ticks) (after ticks opened time) f.bytes g
 effect_keeps ticks random opened ppm (Slicer average variation delay) f r g = paced_keeps ticks random average variation delay f.bytes g
 effect_keeps ticks random opened ppm (LimitData n) f r g = take_keeps (horizon ticks) n f.bytes g
@@ -68,51 +69,36 @@ effect_ends ticks random opened (SlowClose delay) f h from e = slow f.end e
     slow (reset at) g = g
 effect_ends ticks random opened (Timeout zero) f h from e = tt
 effect_ends ticks random opened (Timeout (suc time)) f h from e = after_opened ticks opened (suc time) h
-effect_ends ticks random opened (ResetPeer time) f h from e = by_test (is_before (after ticks opened time) f.end)
-  where
-    by_test : (t : Bool) → IsNotBefore opened (cond t f.end (reset (after ticks opened time)))
-    by_test true = e
-    by_test false = after_opened ticks opened time h
+effect_ends ticks random opened (ResetPeer time) f h from e =
+    cond_both (is_before (after ticks opened time) f.end) f.end (reset (after ticks opened time)) (IsNotBefore opened) (λ _. e) (λ _. after_opened ticks opened time h)
 effect_ends ticks random opened (Slicer average variation delay) f h from e = e
-effect_ends ticks random opened (LimitData n) f h from e = by_test (nat_lt n (length f.bytes)) refl
-  where
-    by_test : (t : Bool) → nat_lt n (length f.bytes) ≡ t → IsNotBefore opened (limited_end (cond t (Some (get_or (map (λ b. b.at) f.bytes) n 0)) None) f.end)
-    by_test true t = instant_from opened n f.bytes (ltb-true n (length f.bytes) t) from
-    by_test false t = e
+effect_ends ticks random opened (LimitData n) f h from e =
+    cond_both (nat_lt n (length f.bytes)) (Some (get_or (map (λ b. b.at) f.bytes) n 0)) None (λ next. IsNotBefore opened (limited_end next f.end))
+    (λ more. instant_from opened n f.bytes (ltb-true n (length f.bytes) more) from) (λ _. e)
 
 pub toxics_keep_lines : ToxicsKeepLines
 unfolding run
-toxics_keep_lines ticks toxic key opened f r h = by_test (applies toxic key)
-  where
-    changed : Line
-    changed = effect ticks (word_of key) opened toxic.kind f
-
-    keeps : KeepsBytes (horizon ticks) f.bytes (effect ticks (word_of key) opened toxic.kind f).bytes
-    keeps = effect_keeps ticks (word_of key) opened toxic.ppm toxic.kind f r h.chunks
-
-    by_test : (t : Bool) → IsLine (cond t (ended (effect ticks (word_of key) opened toxic.kind f)) f)
-    by_test true = let n = keeps.short in let m = h.short in ended_line (effect ticks (word_of key) opened toxic.kind f) keeps.chunks (omega arith)
-    by_test false = h
+toxics_keep_lines ticks toxic key opened f r h =
+    let g : Line = effect ticks (word_of key) opened toxic.kind f in
+    let keeps = effect_keeps ticks (word_of key) opened toxic.ppm toxic.kind f r h.chunks in
+    let n = keeps.later.short in
+    let m = h.short in
+    cond_both (applies toxic key) (ended g) f IsLine (λ _. ended_line g keeps.chunks (omega (arith, n, m))) (λ _. h)
 
 pub toxics_delay : ToxicsDelay
 unfolding run
-toxics_delay ticks toxic key opened recorded f r h from d = by_test (applies toxic key)
-  where
-    keeps : KeepsBytes (horizon ticks) f.bytes (effect ticks (word_of key) opened toxic.kind f).bytes
-    keeps = effect_keeps ticks (word_of key) opened toxic.ppm toxic.kind f r d.line.chunks
-
-    by_test : (t : Bool) → Delays ticks opened recorded (cond t (ended (effect ticks (word_of key) opened toxic.kind f)) f)
-    by_test true =
-        let g : Line = effect ticks (word_of key) opened toxic.kind f in
-        let n = keeps.short in
-        let m = d.line.short in
-        record {
-          line = ended_line g keeps.chunks (omega arith);
-          in_time = keeps.in_time d.in_time;
-          bytes = in_turn g.bytes f.bytes recorded (keeps.delays d.in_time) d.bytes;
-          ends = end_moves_on opened (last_instant 0 g.bytes) g.end (effect_ends ticks (word_of key) opened toxic.kind f h (from_recorded opened f.bytes recorded d.bytes from) d.ends);
-        }
-    by_test false = d
+toxics_delay ticks toxic key opened recorded f r h from d =
+    let g : Line = effect ticks (word_of key) opened toxic.kind f in
+    let keeps = effect_keeps ticks (word_of key) opened toxic.ppm toxic.kind f r d.line.chunks in
+    let n = keeps.later.short in
+    let m = d.line.short in
+    let ends = effect_ends ticks (word_of key) opened toxic.kind f h (from_recorded opened f.bytes recorded d.bytes from) d.ends in
+    cond_both (applies toxic key) (ended g) f (Delays ticks opened recorded) (λ _. record {
+      line = ended_line g keeps.chunks (omega (arith, n, m));
+      in_time = keeps.later.in_time d.in_time;
+      bytes = in_turn g.bytes f.bytes recorded (keeps.later.delays d.in_time) d.bytes;
+      ends = end_moves_on opened (last_instant 0 g.bytes) g.end ends;
+    }) (λ _. d)
 
 -- ---- chains
 
@@ -167,11 +153,7 @@ chain_step ticks opened seed s c d t toxics toxic f g whole lt is step done =
 pub range_step : (t : ℕ) (toxics : List RatedKind) (toxic : RatedKind) → t < length toxics → toxic ≡ get_or toxics t toxic → IsInRange toxic → AreInRange (take t toxics) → AreInRange (take (t + 1) toxics)
 range_step t toxics toxic lt is r rs =
     let more : take (t + 1) toxics ≡ take t toxics ++ toxic ∷ [] = take_more toxics t toxic lt ∙ ap (λ (x : RatedKind). take t toxics ++ x ∷ []) (sym is) in
-    subst AreInRange (sym more) (pushed (take t toxics) rs)
-  where
-    pushed : (ts : List RatedKind) → AreInRange ts → AreInRange (ts ++ toxic ∷ [])
-    pushed [] h = (r, tt)
-    pushed (x ∷ ts) h = (h.0, pushed ts h.1)
+    subst AreInRange (sym more) (all_push IsInRange (take t toxics) toxic rs r)
 
 -- and its end
 pub chain_end : (ticks opened seed s c d t : ℕ) (toxics : List RatedKind) (f whole : Line) → length toxics ≤ t → chain_from ticks opened seed s c d t (drop t toxics) f ≡ whole → f ≡ whole

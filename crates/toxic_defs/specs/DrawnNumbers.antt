@@ -11,7 +11,7 @@ drawn key spread k = word_of key k % (2 * spread + 1)
 
 abbrev pub StandsNext : Option Draws → Key → ℕ → ℕ → Type 0
 StandsNext None key spread k = spread ≡ 0
-StandsNext (Some draws) key spread k = StandsAt draws key k
+StandsNext (Some draws) key spread k = StandsAt draws.words key k
 
 -- the next number is that of word k; without a spread all are 0, and no word is drawn
 pub record GivesNext (s : Spread) (key : Key) (spread k : ℕ) : Type 0 where

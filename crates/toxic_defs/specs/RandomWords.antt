@@ -1,8 +1,8 @@
 -- Random words: the outputs of a generator (PCG XSH RR, of 64 bits of state) that is made from a key.
 use Rattle.std.specs.Prelude.{◌≡◌, ℕ, zero, suc, ◌+◌, ◌*◌, ◌/◌, ◌%◌, ◌^◌, bit_xor}
 use Rattle.std.specs.Int.{w32, rotate_right}
+use Rattle.rand_pcg.specs.Lcg.{Lcg}
 use Rattle.toxic_defs.specs.declared.words.Key.{Key}
-use Rattle.toxic_defs.specs.declared.words.Draws.{Draws}
 
 -- ---- the generator
 
@@ -32,7 +32,7 @@ increment_of_key key = 2 * stream_of key + 1
 unfoldable pub word_of : Key → ℕ → ℕ
 word_of key k = output (state key.seed (increment_of_key key) k)
 
--- draws that give word k of the key next
-pub record StandsAt (draws : Draws) (key : Key) (k : ℕ) : Type 0 where
-  pub state : draws.words.state ≡ state key.seed (increment_of_key key) k
-  pub increment : draws.words.increment ≡ increment_of_key key
+-- a generator that gives word k of the key next
+pub record StandsAt (words : Lcg) (key : Key) (k : ℕ) : Type 0 where
+  pub state : words.state ≡ state key.seed (increment_of_key key) k
+  pub increment : words.increment ≡ increment_of_key key

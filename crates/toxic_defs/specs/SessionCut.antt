@@ -56,6 +56,6 @@ abbrev pub closing_view : Closing → ℕ × End
 closing_view c = (c.at, end_view c.end)
 
 -- the first instant whose bytes are lost: the one after the closing, or the limit
-abbrev pub cut_limit : ℕ → Option (ℕ × End) → ℕ
-cut_limit limit None = limit
-cut_limit limit (Some c) = min (c.0 + 1) limit
+abbrev pub cut_instant : ℕ → Option (ℕ × End) → ℕ
+cut_instant limit None = limit
+cut_instant limit (Some c) = min (c.0 + 1) limit

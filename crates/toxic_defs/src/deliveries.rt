@@ -124,7 +124,6 @@ fn lines_through<'a>(
     Ok(cut_lines(Some(met.number), up, down))
 }
 
-// Two lines, cut.
 fn cut_lines<'a>(proxy: Option<u32>, up: Line<'a>, down: Line<'a>) -> Delivered<'a>
     requires up { IsLine up.line }
     requires down { IsLine down.line }

@@ -40,7 +40,6 @@ impl Spread {
         }
     }
 
-    /// The next number.
     pub(crate) fn next(&mut self) -> u64
         requires { self.old.spread ≤ greatest_attribute }
         ensures number { (key : KeyOf) (spread k : ℕ) → GivesNext self.old key spread k → result ≡ drawn key spread k }

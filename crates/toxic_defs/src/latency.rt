@@ -46,7 +46,6 @@ fn delay_chunks(parts: &mut [LinePart<'_>], unit: Unit, key: Key, latency: u64, 
     }
 }
 
-// Whether a chunk begins with a part.
 fn begins_chunk(part: &LinePart<'_>) -> bool
     ensures { result ≡ (part.now.starts && nat_lt 0 (length part.now.bytes.now)) }
 {

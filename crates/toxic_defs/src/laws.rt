@@ -4,17 +4,20 @@ ghost use Rattle.toxic_defs.specs.Laws.{RecordedLinesDelay, ToxicsDelay, ChainsD
 
 /// What the session cut leaves of a line is a line: a chunk starts with the first byte, instants never fall, the bytes
 /// of a chunk have one instant, an end is not before the last byte, and there are fewer than 2^32 bytes.
+#[tactic(auto, using(crate::proofs::CutLines::cut_lines_are_lines))]
 pub fn cut_lines_are_lines()
     ensures { CutLinesAreLines }
 {}
 
 /// The bytes that the session cut leaves of a line are its first ones, each at its instant: none is delivered before it
 /// was recorded.
+#[tactic(auto, using(crate::proofs::CutLines::first_bytes_stay))]
 pub fn first_bytes_stay()
     ensures { FirstBytesStay }
 {}
 
 /// After the session cut each byte and an end that has an instant are before the horizon.
+#[tactic(auto, using(crate::proofs::CutLines::cut_lines_end_in_time))]
 pub fn cut_lines_end_in_time()
     ensures { CutLinesEndInTime }
 {}
@@ -25,18 +28,21 @@ pub fn cut_ends_are_not_early()
 {}
 
 /// What a toxic makes of a line is a line, and so is what a chain of toxics makes of it.
+#[tactic(auto, using(crate::proofs::ToxicLines::toxics_keep_lines, crate::proofs::ToxicLines::chains_keep_lines))]
 pub fn toxics_keep_lines()
     ensures toxic { ToxicsKeepLines }
     ensures chain { ChainsKeepLines }
 {}
 
 /// A chain of which no toxic applies leaves a line as it is.
+#[tactic(auto, using(crate::proofs::ToxicLines::idle_chains_change_nothing))]
 pub fn idle_chains_change_nothing()
     ensures { IdleChainsChangeNothing }
 {}
 
 /// A recorded line is made of recorded bytes: they are the first ones that were recorded, none is earlier than it was
 /// recorded, and the end is not before the connection's opening.
+#[tactic(auto, using(crate::proofs::CutLines::recorded_lines_delay))]
 pub fn recorded_lines_delay()
     ensures { RecordedLinesDelay }
 {}
@@ -54,6 +60,7 @@ pub fn cut_lines_delay()
 {}
 
 /// The values of such a line are the first ones that were recorded.
+#[tactic(auto, using(crate::proofs::KeptBytes::the_first))]
 pub fn delayed_bytes_are_the_first()
     ensures { DelayedBytesAreTheFirst }
 {}
@@ -61,6 +68,7 @@ pub fn delayed_bytes_are_the_first()
 /// What is delivered of a connection, in either direction and whatever proxy it meets: the first bytes that were
 /// recorded, none before it was recorded, and no end before the opening. The recorded lines are as those of captures
 /// are: no byte is before the opening or past the horizon.
+#[tactic(auto, using(crate::proofs::ToxicLines::delivered_is_recorded))]
 pub fn delivered_is_recorded()
     ensures { DeliveredIsRecorded }
 {}

@@ -3,7 +3,7 @@ ghost use Rattle.std.specs.Prelude.{◌≡◌, ◌&&◌, [], nat_lt, length, tak
 ghost use Rattle.pcap_records.specs.Instants.{horizon, ticks_of};
 ghost use Rattle.reassembly.specs.LineLaws.{IsLine, IsInChunks};
 ghost use Rattle.reassembly.specs.LineView.{bytes_of_parts, end_view};
-ghost use Rattle.toxic_defs.specs.SessionCut.{closing_end, closing_view, cut_limit, cut_line, first_closing, is_after, line_before, line_up_to};
+ghost use Rattle.toxic_defs.specs.SessionCut.{closing_end, closing_view, cut_instant, cut_line, first_closing, is_after, line_before, line_up_to};
 
 use pcap_records::{Moment, Unit};
 use reassembly::{End, Line, LinePart};
@@ -42,7 +42,7 @@ fn cut_at<'a>(closing: &Option<Closing>, line: Line<'a>) -> Line<'a>
     let unit = line.unit();
     let end = line.end();
     let mut parts = line.into_parts();
-    let kept = kept_parts(&parts, cut_limit(closing, unit));
+    let kept = kept_parts(&parts, cut_instant(closing, unit));
     parts.truncate(kept);
     Line::of_parts(
         unit,
@@ -105,8 +105,8 @@ fn end_before_horizon(end: &End, unit: Unit) -> End
 }
 
 // The first instant whose bytes are lost: the one after the closing, or the horizon.
-fn cut_limit(closing: &Option<Closing>, unit: Unit) -> Moment
-    ensures { result ≡ cut_limit (horizon (ticks_of unit)) (option_map closing_view closing.now) }
+fn cut_instant(closing: &Option<Closing>, unit: Unit) -> Moment
+    ensures { result ≡ cut_instant (horizon (ticks_of unit)) (option_map closing_view closing.now) }
 {
     match closing {
         Some(closing) => closing.at.later(1, unit),

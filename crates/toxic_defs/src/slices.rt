@@ -47,7 +47,6 @@ impl Sizes {
         }
     }
 
-    /// The next size.
     pub(crate) fn next(&mut self) -> usize
         requires { AreSized self.old }
         ensures size { (size : ℕ → ℕ) (k : ℕ) → GivesSizes self.old size k → result ≡ size k }
@@ -118,7 +117,6 @@ fn slice_part<'a>(
     Ok(left)
 }
 
-// Adds a part.
 fn add_part<'a>(parts: &mut Vec<LinePart<'a>>, part: &LinePart<'a>) -> Result<(), AllocError>
     ensures added { OnOk result
         (bytes_of_parts parts.new.items ≡ bytes_of_parts parts.old.items ++ bytes_of_part part.now) }

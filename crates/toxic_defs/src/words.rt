@@ -1,6 +1,6 @@
 //! Random words by a key.
 ghost use Rattle.std.specs.Prelude.{◌≡◌, ◌<◌, ℕ, ◌+◌, ◌^◌};
-ghost use Rattle.toxic_defs.specs.RandomWords.{word_of, state, increment_of_key, stream_of, StandsAt};
+ghost use Rattle.toxic_defs.specs.RandomWords.{word_of, stream_of, StandsAt};
 ghost use Rattle.toxic_defs.specs.declared.words.Key.{Key as KeyOf};
 
 use rand_core::utils::NextWord;
@@ -31,8 +31,7 @@ pub fn word(key: Key, k: u32) -> u32
 
 // The generator of a key that gives word `k` next.
 fn generator(key: &Key, k: u64) -> Lcg64Xsh32
-    ensures state { result.state ≡ state key.now.seed (increment_of_key key.now) k }
-    ensures increment { result.increment ≡ increment_of_key key.now }
+    ensures { StandsAt result key.now k }
 {
     let mut words = Lcg64Xsh32::new(key.seed, stream(key));
     words.advance(k);
@@ -56,17 +55,16 @@ pub(crate) struct Draws {
 impl Draws {
     /// Draws of which the first is word 1.
     pub(crate) fn of(key: Key) -> Draws
-        ensures { StandsAt result key 1 }
+        ensures { StandsAt result.words key 1 }
     {
         Draws {
             words: generator(&key, 1),
         }
     }
 
-    /// The next word.
     pub(crate) fn next(&mut self) -> u32
-        ensures word { (key : KeyOf) (k : ℕ) → StandsAt self.old key k → result ≡ word_of key k }
-        ensures next { (key : KeyOf) (k : ℕ) → StandsAt self.old key k → StandsAt self.new key (k + 1) }
+        ensures word { (key : KeyOf) (k : ℕ) → StandsAt self.old.words key k → result ≡ word_of key k }
+        ensures next { (key : KeyOf) (k : ℕ) → StandsAt self.old.words key k → StandsAt self.new.words key (k + 1) }
     {
         self.words.next_word()
     }

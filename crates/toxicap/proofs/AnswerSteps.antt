@@ -4,10 +4,10 @@ use Rattle.std.proofs.lemmas.Bool.{lt-ltb, ltb-false}
 use Rattle.hex.specs.Hex.{is_hex_digit}
 use Rattle.pcap_records.specs.declared.fault.CaptureFault.{CaptureFault}
 use Rattle.pcap_records.specs.declared.fault.CaptureFault.TheVariants as of_capture
-use Rattle.pcap_records.specs.Agreement.{AgreesUnlessMemory}
+use Rattle.lists.specs.Agreement.{AgreesUnlessMemory}
 use Rattle.pcap_records.specs.Reading.{capture_limit, reading}
 use Rattle.conn_table.specs.SeenCapture.{SeenCapture}
-use Rattle.scenarios.specs.Refusals.{after}
+use Rattle.scenarios.specs.Refusals.{and_then}
 use Rattle.scenarios.specs.Populate.{scenario}
 use Rattle.scenarios.specs.declared.error.Refusal.{Refusal}
 use Rattle.scenarios.specs.declared.hosts.KnownHost.{KnownHost}
@@ -24,18 +24,13 @@ use Rattle.run_files.specs.RunFault.{run_fault, run_refusal}
 
 -- ---- what a text calls for is no fault of a reader or a writer
 
-of_after : {A B : Type 0} (first : Result A RunFault) (next : A → Result B RunFault) → IfErr first IsOfText → ((a : A) → IfErr (next a) IsOfText) → IfErr (after first next) IsOfText
+of_after : {A B : Type 0} (first : Result A RunFault) (next : A → Result B RunFault) → IfErr first IsOfText → ((a : A) → IfErr (next a) IsOfText) → IfErr (and_then first next) IsOfText
 of_after (Ok a) next own rest = rest a
 of_after (Err fault) next own rest = own
 
 of_capture_fault : (f : CaptureFault) → IsOfText (run_fault f)
 of_capture_fault of_capture.ShortHeader = tt
-of_capture_fault of_capture.BadMagic = tt
-of_capture_fault of_capture.BadVersion = tt
-of_capture_fault of_capture.BadLink = tt
-of_capture_fault (of_capture.RecordTooLong at) = tt
-of_capture_fault of_capture.CaptureTooLong = tt
-of_capture_fault (of_capture.Memory e) = tt
+of_capture_fault f = tt
 
 of_answer_to : (r : Result SeenCapture CaptureFault) (scenarios : List (List Proxy)) (seed : ℕ) → IfErr (answer_to r scenarios seed) IsOfText
 of_answer_to (Ok c) scenarios seed = tt
@@ -102,7 +97,7 @@ module _ (hosts : List KnownHost) (texts : List (List ℕ)) (seed : ℕ) where
       of_bytes : (bytes : List ℕ) → IfErr (answer_under hosts texts seed bytes) IsOfText
       of_bytes bytes = of_after (scenarios_from hosts [] texts) (λ scenarios. answer bytes scenarios seed) (of_scenarios hosts [] texts) (λ scenarios. of_answer bytes scenarios seed)
 
-      by : (b : Bool) → IfErr (if b then Err CaptureTooLong else after (capture_bytes_of text) (answer_under hosts texts seed)) IsOfText
+      by : (b : Bool) → IfErr (if b then Err CaptureTooLong else and_then (capture_bytes_of text) (answer_under hosts texts seed)) IsOfText
       by true = tt
       by false = of_after (capture_bytes_of text) (answer_under hosts texts seed) (of_capture_bytes text) of_bytes
 
@@ -136,6 +131,6 @@ module _ (hosts : List KnownHost) (texts : List (List ℕ)) (seed : ℕ) where
   within text outputs is = by (nat_lt capture_limit (length text)) refl is
     where
       by : (b : Bool) → nat_lt capture_limit (length text) ≡ b
-          → (if b then Err CaptureTooLong else after (capture_bytes_of text) (answer_under hosts texts seed)) ≡ Ok outputs → length text ≤ capture_limit
+          → (if b then Err CaptureTooLong else and_then (capture_bytes_of text) (answer_under hosts texts seed)) ≡ Ok outputs → length text ≤ capture_limit
       by true test is = cc
       by false test is = omega (arith, ltb-false capture_limit (length text) test)

@@ -24,7 +24,7 @@ use Rattle.conn_workers.specs.DeliveryRows.{connections_of, delivery_of, rows}
 use Rattle.conn_workers.specs.declared.deliveries.Delivery.{Delivery}
 use Rattle.run_files.specs.declared.outputs.Output.{Output}
 use Rattle.toxicap.specs.GatheredOutputs.{segments_in, lines_in, gathered_output}
-use Rattle.toxicap.specs.Rehearsal.{contributions, output}
+use Rattle.toxicap.specs.Rehearsal.{contributions, scenario_output}
 use Rattle.toxicap.proofs.RowSteps.{row_taken, own_number}
 
 module _ (ticks seed : ℕ) (s : ℕ × List Proxy) where
@@ -66,7 +66,7 @@ module _ (ticks seed : ℕ) (s : ℕ × List Proxy) where
 
   -- ---- the row against the contributions
 
-  parts_segments : (cs : List Connection) → all_segments (segments_in (map (delivery_of ticks seed s) cs)) ≡ flat_map (λ (p : Contribution). p.segments) (map (contribution_of ticks seed s) cs)
+  pub parts_segments : (cs : List Connection) → all_segments (segments_in (map (delivery_of ticks seed s) cs)) ≡ flat_map (λ (p : Contribution). p.segments) (map (contribution_of ticks seed s) cs)
   parts_segments [] = refl
   parts_segments (c ∷ cs) = ap (λ rest. (contribution_of ticks seed s c).segments ++ rest) (parts_segments cs)
 
@@ -95,8 +95,8 @@ next_row seed c scenarios number within count left wide is =
 
 pub gathered_is : (c : SeenCapture) (seed : ℕ) (s : ℕ × List Proxy) (number unopened : ℕ) → number ≡ s.0 → unopened ≡ unopened_count (indexed_segments 0 c.packets)
     → let row = map (delivery_of c.ticks seed s) (connections_of c) in
-    gathered_output c number unopened (segments_in row) (lines_in row) ≡ output c seed s
-unfolding output
+    gathered_output c number unopened (segments_in row) (lines_in row) ≡ scenario_output c seed s
+unfolding scenario_output
 gathered_is c seed s number unopened own count =
     let cs : List Connection = connections_of c in
     let captures : capture_of c.ticks (all_segments (segments_in (map (delivery_of c.ticks seed s) cs))) ≡ capture_of c.ticks (flat_map (λ (p : Contribution). p.segments) (contributions c seed s)) =

@@ -3,11 +3,11 @@ use Rattle.std.proofs.Common.{◌≡◌, ℕ, ◌+◌, List, [], length, map, Op
 use Rattle.std.specs.Prelude.{IfSome, IfNone}
 use Rattle.std.specs.Borrow.{Bor}
 use Rattle.std.proofs.lemmas.Option.{IfSome_then}
-use Rattle.scenarios.specs.Refusals.{after}
+use Rattle.scenarios.specs.Refusals.{and_then}
 use Rattle.scenarios.specs.declared.hosts.KnownHost.{KnownHost}
 use Rattle.command_line.specs.declared.asked.Asked.{Asked}
 use Rattle.run_files.specs.declared.error.RunFault.{RunFault}
-use Rattle.run_files.specs.declared.error.RunFault.TheVariants.{CaptureTooLong, Memory, ReadFailed, ShelfFailed, WriteFailed}
+use Rattle.run_files.specs.declared.error.RunFault.TheVariants.{CaptureTooLong, Memory, ReadFailed}
 use Rattle.run_files.specs.declared.outputs.Output.{Output}
 use Rattle.run_files.specs.Paths.{Held, IsOfFile, text_at}
 use Rattle.run_files.specs.RunFault.{run_refusal}
@@ -17,7 +17,7 @@ use Rattle.toxicap.specs.Commands.{Streams}
 use Rattle.toxicap.specs.Inputs.{IsOfFiles, IsOfHost, hosts_asked, texts_or_bare}
 use Rattle.toxicap.specs.NamedFiles.{FilesAreLoadedInOrder, EndsOf, ReadsCapture, RunsOver, outputs_asked, texts_asked, texts_from}
 use Rattle.toxicap.proofs.AnswerSteps.{too_long}
-use Rattle.toxicap.proofs.RunSteps.{IsOfInput, ends_refused}
+use Rattle.toxicap.proofs.RunSteps.{IsOfInput, ends_refused, of_input}
 
 -- ---- files in order
 
@@ -56,21 +56,6 @@ by_held P None holds = tt
 
 -- ---- a refusal before the capture is read
 
-of_host : (fault : RunFault) → IsOfHost fault → IsOfInput fault
-of_host WriteFailed own = absurd own
-of_host (ShelfFailed after) own = absurd own
-of_host fault own = tt
-
-of_files : (n : ℕ) (fault : RunFault) → IsOfFiles n fault → IsOfInput fault
-of_files n WriteFailed own = absurd own
-of_files n (ShelfFailed after) own = absurd own
-of_files n fault own = tt
-
-of_file : (fault : RunFault) → IsOfFile fault → IsOfInput fault
-of_file WriteFailed own = absurd own
-of_file (ShelfFailed after) own = absurd own
-of_file fault own = tt
-
 -- no capture was read yet
 unread : (held : Held) (path : Option (Bor (List ℕ))) (s : Streams) → s.Read [] 0 → (capture : Result (List ℕ) RunFault) × ReadsCapture held path capture s
 unread held None s read = (Ok [], read)
@@ -86,15 +71,15 @@ module _ (told : Option Held) (asked : Asked) (fault : RunFault) (s : Streams) (
   -- a host is refused
   pub host_refused : IsOfHost fault → IfSome (run_refusal fault) (λ refused. hosts_asked asked ≡ Err refused)
       → IfSome told (λ held. RunsOver held asked (Err fault) s)
-  host_refused own is = by_held _ told (λ held at_held. over held (of_host fault own)
+  host_refused own is = by_held _ told (λ held at_held. over held (of_input IsOfHost (λ e. e) (λ after e. e) fault own)
       (λ capture. IfSome_then (run_refusal fault) is (λ refused e. ap (λ (known : Result (List KnownHost) RunFault).
-      after known (λ hosts. after (texts_asked held asked) (λ texts. after capture (called_for hosts texts asked.seed)))) e)))
+      and_then known (λ hosts. and_then (texts_asked held asked) (λ texts. and_then capture (called_for hosts texts asked.seed)))) e)))
 
   -- the hosts are there, and a scenario file is refused
   pub file_refused : (hosts : List KnownHost) → hosts_asked asked ≡ Ok hosts → (n : ℕ) → IsOfFiles n fault
       → IfSome told (λ held. IfSome (run_refusal fault) (λ refused. texts_from held [] (map (λ path. path.now) asked.scenarios.items) ≡ Err refused))
       → IfSome told (λ held. RunsOver held asked (Err fault) s)
-  file_refused hosts known n own is = by_held _ told (λ held at_held. over held (of_files n fault own)
+  file_refused hosts known n own is = by_held _ told (λ held at_held. over held (of_input (IsOfFiles n) (λ e. e) (λ after e. e) fault own)
       (λ capture. IfSome_then (run_refusal fault) (at _ told held at_held is) (λ refused e. rw (known, e) refl)))
 
 -- ---- hosts and scenario files are there
@@ -102,7 +87,7 @@ module _ (told : Option Held) (asked : Asked) (fault : RunFault) (s : Streams) (
 module _ (told : Option Held) (asked : Asked) (hosts : List KnownHost) (files texts : List (List ℕ)) (known : hosts_asked asked ≡ Ok hosts) (are : texts ≡ texts_or_bare files)
     (loaded : IfSome told (λ held. texts_from held [] (map (λ path. path.now) asked.scenarios.items) ≡ Ok files)) (s : Streams) where
   asked_of : (held : Held) → told ≡ Some held → (capture : Result (List ℕ) RunFault)
-      → outputs_asked held asked capture ≡ after capture (called_for hosts texts asked.seed)
+      → outputs_asked held asked capture ≡ and_then capture (called_for hosts texts asked.seed)
   asked_of held at_held capture = let is = at _ told held at_held loaded in rw (known, is, are) refl
 
   -- the text of the capture was read
@@ -130,7 +115,7 @@ module _ (told : Option Held) (asked : Asked) (hosts : List KnownHost) (files te
     where
       over_capture : (held : Held) → told ≡ Some held
           → (capture : Result (List ℕ) RunFault) × ReadsCapture held asked.capture capture s × IsOfInput fault
-          × IfSome (run_refusal fault) (λ refused. after capture (called_for hosts texts asked.seed) ≡ Err refused)
+          × IfSome (run_refusal fault) (λ refused. and_then capture (called_for hosts texts asked.seed) ≡ Err refused)
           → RunsOver held asked (Err fault) s
       over_capture held at_held c = (
         c.0,
@@ -143,7 +128,7 @@ module _ (told : Option Held) (asked : Asked) (hosts : List KnownHost) (files te
           → IfNone path ((text : List ℕ) × Lost text × StopsLoading fault (length text) old new)
           → IfSome path (λ path. IsOfFile fault × IfSome told (λ held. IfSome (run_refusal fault) (λ refused. text_at held path.now ≡ Err refused)))
           → (capture : Result (List ℕ) RunFault) × ReadsCapture held path capture s × IsOfInput fault
-          × IfSome (run_refusal fault) (λ refused. after capture (called_for hosts texts asked.seed) ≡ Err refused)
+          × IfSome (run_refusal fault) (λ refused. and_then capture (called_for hosts texts asked.seed) ≡ Err refused)
       from held at_held ReadFailed None input file = (Err ReadFailed, (input.0, reads input.0 1 input.1 input.2.1), tt, refl)
       from held at_held CaptureTooLong None input file =
           (Ok input.0, reads input.0 0 input.1 (omega (arith, input.2.1)), tt, too_long hosts texts asked.seed input.0 input.2.0)
@@ -152,7 +137,7 @@ module _ (told : Option Held) (asked : Asked) (hosts : List KnownHost) (files te
       from held at_held fault (Some path) input file = (
         text_at held path.now,
         refl,
-        of_file fault file.0,
+        of_input IsOfFile (λ e. e) (λ after e. e) fault file.0,
         IfSome_then (run_refusal fault) (at _ told held at_held file.1) (λ refused e. ap (λ (capture : Result (List ℕ) RunFault).
-            after capture (called_for hosts texts asked.seed)) e),
+            and_then capture (called_for hosts texts asked.seed)) e),
       )

@@ -1,58 +1,83 @@
--- Outputs of scenarios, one of them or some from a number on.
-use Rattle.std.proofs.Common.{◌≡◌, ◌<◌, ◌≤◌, ℕ, ◌-◌, List, length, map, take, drop, get_or, Result, Ok, Err, sym, ap, ◌∙◌, arith}
+-- Outputs that are made of sources, one of them or some from a number on.
+use Rattle.std.proofs.Common.{◌≡◌, ◌<◌, ℕ, ◌+◌, List, [], ◌∷◌, ◌++◌, length, map, take, get_or, sym, ap, ap₂, ◌∙◌, arith, append-nil}
 use Rattle.std.specs.List.{enumerate_from}
-use Rattle.std.specs.Result.{IfOk}
-use Rattle.std.proofs.lemmas.List.{get_or-map, length-map, length-drop, length-append, take-append-drop}
-use Rattle.std.proofs.lemmas.List.FromFn.{length-enumerate_from}
-use Rattle.pcap_records.specs.CaptureView.{CaptureView, contents_of}
+use Rattle.std.proofs.lemmas.List.{get_or-map, get_or_default, length-map, take_more}
+use Rattle.std.proofs.lemmas.List.Concat.{flat_map-append}
+use Rattle.std.proofs.lemmas.List.FromFn.{get_or-enumerate_from, length-enumerate_from}
+use Rattle.pcap_records.specs.CaptureView.{contents_of}
 use Rattle.conn_table.specs.SeenCapture.{SeenCapture, seen_capture}
-use Rattle.conn_workers.specs.declared.deliveries.Delivery.{Delivery}
-use Rattle.conn_workers.specs.CaptureTables.{whole_table}
-use Rattle.conn_workers.specs.DeliveryLaws.{RowsAreContributed}
-use Rattle.conn_workers.specs.DeliveryRows.{connections_of, delivery_of}
-use Rattle.conn_workers.specs.Recordings.{RecordingView, recordings_of, recorded_delivery, recorded_row}
-use Rattle.toxicap.proofs.WholeTables.{as_many_recorded}
+use Rattle.segment_writer.specs.KeyLaws.{HasNoKeyTwice, KeysStandOnce}
+use Rattle.time_merge.specs.MergedCapture.{all_segments, capture_of}
+use Rattle.report.specs.ReportText.{report_text}
 use Rattle.scenarios.specs.declared.proxies.Proxy.{Proxy}
-use Rattle.toxicap.specs.Rehearsal.{output, outputs_of}
-use Rattle.toxicap.specs.CaptureOutputs.{no_output}
-use Rattle.toxicap.proofs.PrintedSteps.{numbered_at}
-
--- ---- one row
-
--- there are as many deliveries as connections of the table
-pub as_wide : (c : CaptureView) (seed : ℕ) (s : ℕ × List Proxy) (rs : List RecordingView) (row : List Delivery) (count : ℕ) → count ≡ length (whole_table c).conns → rs ≡ recordings_of c
-    → row ≡ recorded_row seed s rs → count ≡ length row
-as_wide c seed s rs row count wide are is =
-    wide ∙ sym (as_many_recorded c) ∙ ap length (sym are) ∙ sym (length-map rs (recorded_delivery seed s)) ∙ ap length (sym is)
-
--- and they are what the connections contribute
-pub whole_row : RowsAreContributed → (c : CaptureView) (seed : ℕ) (s : ℕ × List Proxy) (rs : List RecordingView) (row : List Delivery)
-    → rs ≡ recordings_of c → row ≡ recorded_row seed s rs → row ≡ map (delivery_of c.ticks seed s) (connections_of (seen_capture (contents_of c)))
-whole_row contributed c seed s rs row are is = is ∙ ap (recorded_row seed s) are ∙ contributed seed c s
+use Rattle.conn_workers.specs.declared.deliveries.Delivery.{Delivery}
+use Rattle.conn_workers.specs.DeliveryLaws.{LinesAreContributed, RowsAreContributed}
+use Rattle.conn_workers.specs.DeliveryRows.{connections_of, delivery_of}
+use Rattle.conn_workers.specs.Recordings.{recorded_lines, recorded_row}
+use Rattle.run_files.specs.declared.outputs.Output.{Output}
+use Rattle.run_files.specs.WrittenOutputs.{reports_of}
+use Rattle.toxicap.specs.declared.sources.Sources.{Sources}
+use Rattle.toxicap.specs.Rehearsal.{scenario_output, outputs_of}
+use Rattle.toxicap.specs.CaptureOutputs.{no_output, outputs_from, scenario_at}
+use Rattle.toxicap.proofs.WholeTables.{unopened_is}
+use Rattle.toxicap.proofs.GatheredRows.{parts_segments, row_stands_once}
 
 -- ---- outputs
 
--- there is an output for each scenario
-pub length-outputs_of : (c : SeenCapture) (scenarios : List (List Proxy)) (seed : ℕ) → length (outputs_of c scenarios seed) ≡ length scenarios
+-- there is one for each scenario
+pub as_many_outputs : (own : Sources) → length (outputs_from own) ≡ length own.scenarios.now
 unfolding outputs_of
-length-outputs_of c scenarios seed = length-map (enumerate_from 0 scenarios) (output c seed) ∙ length-enumerate_from 0 scenarios
+as_many_outputs own = length-map (enumerate_from 0 own.scenarios.now) _ ∙ length-enumerate_from 0 own.scenarios.now
 
--- the output of the scenario at a place
-pub output_at : (c : SeenCapture) (scenarios : List (List Proxy)) (seed number : ℕ) (own : List Proxy) → number < length scenarios
-    → output c seed (number, get_or scenarios number own) ≡ get_or (outputs_of c scenarios seed) number no_output
+-- that of the scenario of a number
+output_at : (own : Sources) (number : ℕ) → number < length own.scenarios.now
+    → scenario_output (seen_capture (contents_of own.capture.now)) own.seed (scenario_at own number) ≡ get_or (outputs_from own) number no_output
 unfolding outputs_of
-output_at c scenarios seed number own within =
+output_at own number within =
+    let scenarios : List (List Proxy) = own.scenarios.now in
+    let made : ℕ × List Proxy → Output = scenario_output (seen_capture (contents_of own.capture.now)) own.seed in
     let inside : number < length (enumerate_from 0 scenarios) = omega (arith, within, length-enumerate_from 0 scenarios) in
-    ap (output c seed) (sym (numbered_at scenarios number own within)) ∙ sym (get_or-map (output c seed) (enumerate_from 0 scenarios) number (0, own) no_output inside)
+    let zero_on : 0 + number ≡ number = omega arith in
+    let numbered = get_or-enumerate_from 0 scenarios number (0, []) within ∙ ap (λ (n : ℕ). let p : ℕ × List Proxy = (n, get_or scenarios number []) in p) zero_on in
+    ap made (sym numbered) ∙ sym (get_or-map made (enumerate_from 0 scenarios) number (0, []) no_output inside)
 
--- so many of a list from a place on are no more than are left there
-pub taken_are_left : {X : Type 0} (xs ys : List X) (first : ℕ) → ys ≡ take (length ys) (drop first xs) → length ys ≤ length xs - first
-taken_are_left xs ys first are =
-    let all = ap length (take-append-drop (length ys) (drop first xs)) in
-    let both = length-append (take (length ys) (drop first xs)) (drop (length ys) (drop first xs)) in
-    omega (arith, all, both, ap length are, length-drop first xs)
+-- the reports of one output more
+pub one_more : (all : List Output) (i : ℕ) → i < length all → reports_of (take i all) ++ (get_or all i no_output).report ≡ reports_of (take (i + 1) all)
+one_more all i within =
+    ap (λ (more : List ℕ). reports_of (take i all) ++ more) (sym (append-nil (get_or all i no_output).report))
+    ∙ sym (flat_map-append (λ (o : Output). o.report) (take i all) (get_or all i no_output ∷ []))
+    ∙ ap reports_of (sym (take_more all i no_output within))
 
--- what holds of a value by two facts of it
-pub both_ok : {T E : Type 0} (r : Result T E) (P Q R : T → Type 0) → ((x : T) → P x → Q x → R x) → IfOk r P → IfOk r Q → IfOk r R
-both_ok (Ok x) P Q R by p q = by x p q
-both_ok (Err e) P Q R by p q = tt
+-- ---- what is made of sources for a scenario
+
+module _ (own : Sources) (number : ℕ) (within : number < length own.scenarios.now) where
+  -- the scenario, whatever would stand past the last
+  pub scenario_is : (other : List Proxy) → (let s : ℕ × List Proxy = (number, get_or own.scenarios.now number other) in s) ≡ scenario_at own number
+  scenario_is other = ap (λ (proxies : List Proxy). let s : ℕ × List Proxy = (number, proxies) in s) (get_or_default own.scenarios.now number other [] within)
+
+  -- its row is what the connections contribute, in which no key stands twice
+  module _ (contributed : RowsAreContributed) (row : List Delivery) (is : row ≡ recorded_row own.seed (scenario_at own number) own.recordings.now) where
+    row_is : row ≡ map (delivery_of own.capture.now.ticks own.seed (scenario_at own number)) (connections_of (seen_capture (contents_of own.capture.now)))
+    row_is = is ∙ ap (recorded_row own.seed (scenario_at own number)) own.recordings_are ∙ contributed own.seed own.capture.now (scenario_at own number)
+
+    pub stands_once : KeysStandOnce → HasNoKeyTwice (all_segments (map (λ (d : Delivery). d.segments) row))
+    stands_once once = rw row_is (row_stands_once own.capture.now.ticks own.seed (scenario_at own number) once (seen_capture (contents_of own.capture.now)))
+
+    -- and of which its capture is made
+    pub capture_is : capture_of own.capture.now.ticks (all_segments (map (λ (d : Delivery). d.segments) row)) ≡ (get_or (outputs_from own) number no_output).capture
+    unfolding scenario_output
+    capture_is =
+        ap (λ (ds : List Delivery). capture_of own.capture.now.ticks (all_segments (map (λ (d : Delivery). d.segments) ds))) row_is
+        ∙ ap (capture_of own.capture.now.ticks) (parts_segments own.capture.now.ticks own.seed (scenario_at own number) (connections_of (seen_capture (contents_of own.capture.now))))
+        ∙ ap (λ (o : Output). o.capture) (output_at own number within)
+
+  -- its report is that of the lines that are recorded
+  pub report_is : LinesAreContributed
+      → report_text number (seen_capture (contents_of own.capture.now)) own.table.now.unopened (recorded_lines own.seed (scenario_at own number) own.recordings.now)
+      ≡ (get_or (outputs_from own) number no_output).report
+  unfolding scenario_output
+  report_is contributed =
+      let seen : SeenCapture = seen_capture (contents_of own.capture.now) in
+      let s : ℕ × List Proxy = scenario_at own number in
+      ap₂ (report_text number seen) (ap (λ t. t.unopened) own.table_is ∙ unopened_is own.capture.now) (ap (recorded_lines own.seed s) own.recordings_are ∙ contributed own.seed own.capture.now s)
+      ∙ ap (λ (o : Output). o.report) (output_at own number within)

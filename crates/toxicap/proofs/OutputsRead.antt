@@ -13,17 +13,18 @@ use Rattle.segment_writer.specs.declared.framed.Framed.{Framed}
 use Rattle.scenarios.specs.declared.proxies.Proxy.{Proxy}
 use Rattle.conn_table.specs.IndexedSegments.{indexed_segments}
 use Rattle.conn_table.specs.Connections.{Connection, connections}
-use Rattle.segment_writer.specs.WrittenSegments.{sorted_by_key}
+use Rattle.segment_writer.specs.WrittenSegments.{below, sorted_by_key}
 use Rattle.time_merge.specs.MergedCapture.{capture_of}
 use Rattle.reassembly.specs.Positions.{client_of, server_of, vlan_of}
 use Rattle.reassembly.specs.RecordedLines.{recorded_connection}
 use Rattle.toxic_defs.specs.DeliveredLines.{DeliveredConnection, delivered_connection}
 use Rattle.segment_writer.specs.WrittenConnections.{written_connection}
-use Rattle.segment_writer.specs.KeyLaws.{NoneLower, NeverFalls, SortedNeverFalls}
+use Rattle.segment_writer.specs.KeyLaws.{NeverFalls, SortedNeverFalls}
+use Rattle.segment_writer.specs.OrderedLists.{NoneBelow}
 use Rattle.conn_workers.specs.MetProxies.{met_proxy}
 use Rattle.conn_workers.specs.Contributions.{contribution, contribution_of}
 use Rattle.conn_table.specs.SeenCapture.{SeenCapture, seen_packets, seen_capture}
-use Rattle.toxicap.specs.Rehearsal.{output, outputs_of, scenario_limit, answer}
+use Rattle.toxicap.specs.Rehearsal.{scenario_output, outputs_of, scenario_limit, answer}
 use Rattle.toxicap.specs.SoundOutputs.{NeverFall, IsSoundFrame, IsReadWhole, OutputsAreRead}
 use Rattle.toxicap.proofs.EachElement.{each_of_both}
 use Rattle.toxicap.proofs.ReadTicks.{reading_unit}
@@ -58,7 +59,7 @@ module _ (ticks : ℕ) where
   writable [] all = tt
   writable (x ∷ xs) all = (record { stamped = all.0.in_time; limited = all.0.is.limited }, writable xs all.1)
 
-  never_fall : (x : Framed) (xs : List Framed) (all : AllByRecursion (IsWritten ticks) xs) → NoneLower x.key xs → NeverFalls xs → NeverFall x.key.moment (packets_of xs all)
+  never_fall : (x : Framed) (xs : List Framed) (all : AllByRecursion (IsWritten ticks) xs) → NoneBelow below x xs → NeverFalls xs → NeverFall x.key.moment (packets_of xs all)
   unfolding packets_of packet_with
   never_fall x [] all none ordered = tt
   never_fall x (y ∷ ys) all none ordered = (not_earlier y.key.moment x.key.moment _ none.0, never_fall y ys all.1 ordered.0 ordered.1)
@@ -110,8 +111,8 @@ parts_are sound_headers ticks seed (number, proxies) (c ∷ cs) all =
 
 outputs_read : SortedNeverFalls → WrittenIsRead → HeadersAreSound → SegmentsFit → (unit : Unit) (packets : List Packet) (rest : ℕ) → AllByRecursion HasBytes packets → (seed n : ℕ) (scenarios : List (List Proxy))
     → let c : SeenCapture = seen_capture (record { ticks = ticks_of unit; packets = packets; rest = rest }) in
-    AllByRecursion (λ o. length o.capture ≤ capture_limit → IsReadWhole (ticks_of unit) o.capture) (map (output c seed) (enumerate_from n scenarios))
-unfolding output
+    AllByRecursion (λ o. length o.capture ≤ capture_limit → IsReadWhole (ticks_of unit) o.capture) (map (scenario_output c seed) (enumerate_from n scenarios))
+unfolding scenario_output
 outputs_read never_falls written_is_read sound_headers fit unit packets rest have seed n [] = tt
 outputs_read never_falls written_is_read sound_headers fit unit packets rest have seed n (s ∷ scenarios) =
     let all = parts_are sound_headers (ticks_of unit) seed (n, s) (connections (indexed_segments 0 (seen_packets 0 packets))) (connections_are fit packets have) in

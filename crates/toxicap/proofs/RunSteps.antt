@@ -3,13 +3,13 @@ use Rattle.std.proofs.Common.{◌≡◌, ℕ, ◌+◌, ◌<◌, ◌≤◌, List,
 use Rattle.std.specs.Prelude.{IfNone, IfSome, OnSome}
 use Rattle.std.specs.Borrow.{Bor}
 use Rattle.std.proofs.lemmas.List.{length-replicate}
-use Rattle.pcap_records.specs.Agreement.{Agrees, AgreesUnlessMemory}
+use Rattle.lists.specs.Agreement.{Agrees, AgreesUnlessMemory}
 use Rattle.pcap_records.specs.Reading.{capture_limit}
 use Rattle.scenarios.specs.declared.hosts.KnownHost.{KnownHost}
 use Rattle.command_line.specs.declared.asked.Asked.{Asked}
 use Rattle.run_files.specs.declared.outputs.Output.{Output}
 use Rattle.run_files.specs.declared.error.RunFault.{RunFault}
-use Rattle.run_files.specs.declared.error.RunFault.TheVariants.{BadHost, CaptureTooLong, Memory, ReadFailed, ShelfFailed, WriteFailed}
+use Rattle.run_files.specs.declared.error.RunFault.TheVariants.{CaptureTooLong, Memory, ReadFailed, ShelfFailed, WriteFailed}
 use Rattle.run_files.specs.Paths.{IsOfFile}
 use Rattle.run_files.specs.RunFault.{run_refusal}
 use Rattle.run_files.specs.Streams.{StopsLoading}
@@ -20,10 +20,9 @@ use Rattle.toxicap.specs.NamedFiles.{EndsOf}
 use Rattle.toxicap.specs.PrintedReports.{PrintsOf, reports_in}
 use Rattle.toxicap.specs.RunEnds.{PrintsBy, failed_reads, failed_writes}
 use Rattle.toxicap.specs.StoredOutputs.{StoresUnlessMemory}
-use Rattle.toxicap.proofs.AnswerSteps.{never, stopped}
-use Rattle.toxicap.proofs.PrintedSteps.{of_fault}
+use Rattle.toxicap.proofs.AnswerSteps.{answered, never, stopped}
 use Rattle.toxicap.proofs.StoringEnds.{stores_by, none_failed}
-use Rattle.toxicap.proofs.TextsTaken.{agrees_unless_memory}
+use Rattle.toxicap.proofs.TextsTaken.{agrees_unless_memory, of_fault}
 
 -- ---- faults that are no failed write and no failed shelf
 
@@ -32,12 +31,15 @@ IsOfInput WriteFailed = ⊥
 IsOfInput (ShelfFailed after) = ⊥
 IsOfInput _ = Unit {0}
 
+pub of_input : (Own : RunFault → Type 0) → (Own WriteFailed → ⊥) → ((after : ℕ) → Own (ShelfFailed after) → ⊥) → (fault : RunFault) → Own fault → IsOfInput fault
+of_input Own no_write no_shelf WriteFailed own = no_write own
+of_input Own no_write no_shelf (ShelfFailed after) own = no_shelf after own
+of_input Own no_write no_shelf fault own = tt
+
 pub ends_refused : (out : Option (Bor (List ℕ))) (fault : RunFault) (wanted : Result (List Output) RunFault) (Wrote : List ℕ → Type 0) → IsOfInput fault
     → IfSome (run_refusal fault) (λ refused. wanted ≡ Err refused) → EndsOf out (Err fault) wanted Wrote
-ends_refused None Memory wanted Wrote own is = tt
 ends_refused None WriteFailed wanted Wrote own is = absurd own
 ends_refused None fault wanted Wrote own is = is
-ends_refused (Some folder) Memory wanted Wrote own is = tt
 ends_refused (Some folder) (ShelfFailed after) wanted Wrote own is = absurd own
 ends_refused (Some folder) fault wanted Wrote own is = is
 
@@ -67,9 +69,9 @@ module _ (hosts : List KnownHost) (texts : List (List ℕ)) (seed : ℕ) (Wrote 
   -- ---- what a text calls for, printed or stored
 
   input_fault : (fault : RunFault) (text : List ℕ) → AgreesUnlessMemory run_refusal (λ (outputs : List Output). outputs) (Err fault) (called_for hosts texts seed text) → IsOfInput fault
-  input_fault WriteFailed text is = never hosts texts seed text is (λ own. own)
-  input_fault (ShelfFailed after) text is = never hosts texts seed text is (λ own. own)
-  input_fault _ text is = tt
+  input_fault fault text is =
+      of_input (λ f. AgreesUnlessMemory run_refusal (λ (outputs : List Output). outputs) (Err f) (called_for hosts texts seed text))
+      (λ own. never hosts texts seed text own (λ e. e)) (λ after own. never hosts texts seed text own (λ e. e)) fault is
 
   pub refused : (out : Option (Bor (List ℕ))) (fault : RunFault) (text : List ℕ)
       → AgreesUnlessMemory run_refusal (λ (outputs : List Output). outputs) (Err fault) (called_for hosts texts seed text)
@@ -98,12 +100,7 @@ module _ (hosts : List KnownHost) (texts : List (List ℕ)) (seed : ℕ) (Wrote 
       → PrintsOf result (called_for hosts texts seed text) Wrote → PrintsBy result (called_for hosts texts seed text) text AtEnd Wrote
   prints_by (Ok u) text AtEnd within at_end is = (at_end, is)
   prints_by (Err WriteFailed) text AtEnd within at_end is = (at_end, is)
-  prints_by (Err Memory) text AtEnd within at_end is = within
-  prints_by (Err ReadFailed) text AtEnd within at_end is = never hosts texts seed text is (λ own. own)
-  prints_by (Err (ShelfFailed after)) text AtEnd within at_end is = never hosts texts seed text is (λ own. own)
-  prints_by (Err (BadHost at)) text AtEnd within at_end is = never hosts texts seed text is (λ own. own)
-  prints_by (Err CaptureTooLong) text AtEnd within at_end is = is
-  prints_by (Err fault) text AtEnd within at_end is = (at_end, is)
+  prints_by (Err fault) text AtEnd within at_end is = answered hosts texts seed (Err fault) text AtEnd within at_end is
 
   answers_into : (out : Option (Bor (List ℕ))) (result : Result (Unit {0}) RunFault) (text : List ℕ) (AtEnd Unwritten : Type 0) → length text ≤ capture_limit → AtEnd
       → OnSome out Unwritten → EndsOf out result (called_for hosts texts seed text) Wrote
@@ -122,23 +119,19 @@ module _ (hosts : List KnownHost) (texts : List (List ℕ)) (seed : ℕ) (Wrote 
 
   stops_into : (out : Option (Bor (List ℕ))) (fault : RunFault) (text : List ℕ) (old new : ℕ) (AtEnd Unwritten : Type 0) → StopsLoading fault (length text) old new → Unwritten
       → AnswersInto out (Err fault) (called_for hosts texts seed text) text AtEnd Unwritten Wrote
-  stops_into None CaptureTooLong text old new AtEnd Unwritten is unwritten = stopped hosts texts seed CaptureTooLong text old new AtEnd is
-  stops_into None ReadFailed text old new AtEnd Unwritten is unwritten = is.0
-  stops_into None Memory text old new AtEnd Unwritten is unwritten = is.0
-  stops_into None _ text old new AtEnd Unwritten is unwritten = absurd is
-  stops_into (Some folder) CaptureTooLong text old new AtEnd Unwritten is unwritten = (stopped hosts texts seed CaptureTooLong text old new AtEnd is, unwritten)
-  stops_into (Some folder) ReadFailed text old new AtEnd Unwritten is unwritten = (is.0, unwritten)
-  stops_into (Some folder) Memory text old new AtEnd Unwritten is unwritten = (is.0, unwritten)
-  stops_into (Some folder) _ text old new AtEnd Unwritten is unwritten = absurd is
+  stops_into None WriteFailed text old new AtEnd Unwritten is unwritten = absurd is
+  stops_into None fault text old new AtEnd Unwritten is unwritten = stopped hosts texts seed fault text old new AtEnd is
+  stops_into (Some folder) (ShelfFailed after) text old new AtEnd Unwritten is unwritten = absurd is
+  stops_into (Some folder) fault text old new AtEnd Unwritten is unwritten = (stopped hosts texts seed fault text old new AtEnd is, unwritten)
 
 -- ---- from standard input or a file
 
-module _ (asked : Asked) (hosts : List KnownHost) (texts : List (List ℕ)) (takes : TakesInputs asked hosts texts) (result : Result (Unit {0}) RunFault) (s : Streams)
+module _ (asked : Asked) (hosts : List KnownHost) (texts : List (List ℕ)) (takes : TakesInputs asked hosts texts) (s : Streams)
     (Lost : List ℕ → Type 0) (old new : ℕ) (reads : (text : List ℕ) (n : ℕ) → Lost text → new ≡ old + n → s.Read text n) where
-  pub runs_loaded : (text : List ℕ) → length text ≤ capture_limit → OnSome asked.out s.Unwritten
+  pub runs_loaded : (result : Result (Unit {0}) RunFault) (text : List ℕ) → length text ≤ capture_limit → OnSome asked.out s.Unwritten
       → IfNone asked.capture (Lost text × s.AtEnd × (new ≡ old)) → OnSome asked.capture s.Unread
       → EndsOf asked.out result (called_for hosts texts asked.seed text) s.Wrote → RunsBy asked result s
-  runs_loaded text within unwritten input file is = inr (hosts, texts, takes, from asked.capture input file)
+  runs_loaded result text within unwritten input file is = inr (hosts, texts, takes, from asked.capture input file)
     where
       from : (path : Option (Bor (List ℕ))) → IfNone path (Lost text × s.AtEnd × (new ≡ old)) → OnSome path s.Unread
           → AnswersFrom path result (λ text AtEnd. AnswersInto asked.out result (called_for hosts texts asked.seed text) text AtEnd s.Unwritten s.Wrote) s
@@ -147,11 +140,9 @@ module _ (asked : Asked) (hosts : List KnownHost) (texts : List (List ℕ)) (tak
           (text, reads text (failed_reads result) input.0 (omega (arith, input.2, none)), answers_into hosts texts asked.seed s.Wrote asked.out result text s.AtEnd s.Unwritten within input.1 unwritten is)
       from (Some path) input file = (text, file, answers_into hosts texts asked.seed s.Wrote asked.out result text (Unit {0}) s.Unwritten within tt unwritten is)
 
-module _ (asked : Asked) (hosts : List KnownHost) (texts : List (List ℕ)) (takes : TakesInputs asked hosts texts) (fault : RunFault) (s : Streams)
-    (Lost : List ℕ → Type 0) (old new : ℕ) (reads : (text : List ℕ) (n : ℕ) → Lost text → new ≡ old + n → s.Read text n) where
-  pub runs_stopped : s.Unwritten → IfNone asked.capture ((text : List ℕ) × Lost text × StopsLoading fault (length text) old new)
+  pub runs_stopped : (fault : RunFault) → s.Unwritten → IfNone asked.capture ((text : List ℕ) × Lost text × StopsLoading fault (length text) old new)
       → OnSome asked.capture (s.Unread × IsOfFile fault) → RunsBy asked (Err fault) s
-  runs_stopped unwritten input file = inr (hosts, texts, takes, from asked.capture input file)
+  runs_stopped fault unwritten input file = inr (hosts, texts, takes, from asked.capture input file)
     where
       from : (path : Option (Bor (List ℕ))) → IfNone path ((text : List ℕ) × Lost text × StopsLoading fault (length text) old new) → OnSome path (s.Unread × IsOfFile fault)
           → AnswersFrom path (Err fault) (λ text AtEnd. AnswersInto asked.out (Err fault) (called_for hosts texts asked.seed text) text AtEnd s.Unwritten s.Wrote) s

@@ -8,7 +8,7 @@ use Rattle.frame_headers.specs.Frame.{FrameClass, segment, frame_class, segment_
 use Rattle.frame_headers.specs.HeaderLaws.{FieldsFit, SegmentsFit}
 use Rattle.conn_table.specs.IndexedSegments.{TimedSegment, IndexedSegment, is_segment, indexed_segment, indexed_segments}
 use Rattle.conn_table.specs.SeenCapture.{seen_packet, seen_packets}
-use Rattle.conn_table.specs.Connections.{Connection, begins, beginnings, later_members, connection_of, connections}
+use Rattle.conn_table.specs.Connections.{Connection, begins_in, beginnings, later_members, connection_of, connections}
 use Rattle.reassembly.specs.Positions.{server_base, effective_members, is_answer, is_reset, members_of, server_of}
 use Rattle.toxicap.specs.SoundOutputs.{AreBytes}
 use Rattle.toxicap.proofs.EachElement.{each_dropped, each_filtered, each_on_left, each_on_right, each_taken}
@@ -77,7 +77,7 @@ unfolding connections beginnings indexed_segments seen_packets
 connections_are fit packets have =
     let segs : List IndexedSegment = indexed_segments 0 (seen_packets 0 packets) in
     let sound : AllByRecursion HasSoundFields segs = segments_are_sound fit 0 (instants 0 (map (λ p. p.stamp) packets)) packets have in
-    numbered_are segs 0 (beginnings segs) sound (each_filtered HasSoundFields (begins segs) segs sound)
+    numbered_are segs 0 (beginnings segs) sound (each_filtered HasSoundFields (begins_in segs) segs sound)
 
 -- the server's number, or 0
 found_fits : (q : TimedSegment → Bool) (ms : List TimedSegment) → AllByRecursion IsSoundTimed ms → unwrap_or (option_map (λ m. m.fields.seq) (find q ms)) 0 < 2 ^ 32

@@ -1,12 +1,12 @@
 -- How storing ends, by what a text calls for.
 use Rattle.std.proofs.Common.{◌≡◌, ℕ, ◌<◌, ◌≤◌, List, [], length, Option, Some, None, Result, Ok, Err, IfErr, refl, sym, subst, append-nil, arith}
 use Rattle.std.specs.Io.KnownBytes.{Consumes}
-use Rattle.pcap_records.specs.Agreement.{Refuses}
+use Rattle.lists.specs.Agreement.{Refuses}
 use Rattle.pcap_records.specs.Reading.{capture_limit}
 use Rattle.scenarios.specs.declared.hosts.KnownHost.{KnownHost}
 use Rattle.scenarios.specs.declared.proxies.Proxy.{Proxy}
 use Rattle.run_files.specs.declared.error.RunFault.{RunFault}
-use Rattle.run_files.specs.declared.error.RunFault.TheVariants.{CaptureTooLong, Memory, ReadFailed, ShelfFailed, WriteFailed, BadHost}
+use Rattle.run_files.specs.declared.error.RunFault.TheVariants.{Memory, ReadFailed, ShelfFailed}
 use Rattle.run_files.specs.declared.outputs.Output.{Output}
 use Rattle.run_files.specs.RunFault.{run_refusal}
 use Rattle.run_files.specs.Shelves.{StoredFile, Takes}
@@ -15,7 +15,7 @@ use Rattle.toxicap.specs.Answering.{IsOfText, called_for}
 use Rattle.toxicap.specs.Rehearsal.{answer}
 use Rattle.toxicap.specs.RunEnds.{StoresBy, failed_reads}
 use Rattle.toxicap.specs.StoredOutputs.{StoresOf, StoresUnlessMemory, TakenOf}
-use Rattle.toxicap.proofs.AnswerSteps.{never, of_answer}
+use Rattle.toxicap.proofs.AnswerSteps.{answered, never, of_answer}
 
 -- a shelf took no file
 pub nothing_taken : (had : Option (List StoredFile)) → Takes had had []
@@ -52,12 +52,7 @@ module _ (hosts : List KnownHost) (texts : List (List ℕ)) (seed : ℕ) where
           → (outputs : List Output) × (wanted ≡ Ok outputs) × (after < length (files_from 0 outputs))
       of_files (Ok outputs) is = (outputs, refl, is)
       of_files (Err fault) is = absurd (omega arith)
-  stores_by (Err Memory) text AtEnd within at_end is = within
-  stores_by (Err ReadFailed) text AtEnd within at_end is = never hosts texts seed text is (λ own. own)
-  stores_by (Err WriteFailed) text AtEnd within at_end is = never hosts texts seed text is (λ own. own)
-  stores_by (Err (BadHost at)) text AtEnd within at_end is = never hosts texts seed text is (λ own. own)
-  stores_by (Err CaptureTooLong) text AtEnd within at_end is = is
-  stores_by (Err fault) text AtEnd within at_end is = (at_end, is)
+  stores_by (Err fault) text AtEnd within at_end is = answered hosts texts seed (Err fault) text AtEnd within at_end is
 
   -- and no read has failed
   pub none_failed : (result : Result (Unit {0}) RunFault) (text : List ℕ) → StoresUnlessMemory result (called_for hosts texts seed text) → failed_reads result ≡ 0

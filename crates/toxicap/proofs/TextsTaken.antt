@@ -1,8 +1,9 @@
 -- What texts call for, by what is read of them: a refusal, or a rehearsal.
-use Rattle.std.proofs.Common.{◌≡◌, ℕ, ◌≤◌, List, [], length, Option, Some, None, Result, Ok, Err, refl}
+use Rattle.std.proofs.Common.{◌≡◌, ℕ, ◌≤◌, List, [], length, Option, Some, None, Result, Ok, Err, refl, ap}
 use Rattle.std.specs.Prelude.{IfSome}
 use Rattle.std.proofs.lemmas.Bool.{le-ltb}
-use Rattle.pcap_records.specs.Agreement.{Agrees, AgreesUnlessMemory, Refuses}
+use Rattle.std.proofs.lemmas.Option.{IfSome_then}
+use Rattle.lists.specs.Agreement.{Agrees, AgreesUnlessMemory, Refuses}
 use Rattle.pcap_records.specs.Reading.{capture_limit}
 use Rattle.scenarios.specs.declared.hosts.KnownHost.{KnownHost}
 use Rattle.scenarios.specs.declared.proxies.Proxy.{Proxy}
@@ -11,6 +12,7 @@ use Rattle.run_files.specs.declared.error.RunFault.TheVariants.{Memory}
 use Rattle.run_files.specs.declared.outputs.Output.{Output}
 use Rattle.run_files.specs.RunFault.{run_refusal}
 use Rattle.toxicap.specs.Answering.{called_for, capture_bytes_of, scenarios_from}
+use Rattle.toxicap.specs.PrintedReports.{reports_in}
 use Rattle.toxicap.specs.Rehearsal.{answer}
 
 -- who tells want of memory only where nothing is refused, tells it where it may
@@ -51,3 +53,21 @@ module _ (hosts : List KnownHost) (texts : List (List ℕ)) (seed : ℕ) where
       → AgreesUnlessMemory run_refusal (λ (outputs : List Output). outputs) (Err fault) (called_for hosts texts seed text)
   refused_scenarios Memory text bytes within is refused = tt
   refused_scenarios fault text bytes within is refused = called_scenarios fault text bytes within is refused
+
+-- ---- the reports of it
+
+-- where they are a fault, so is what is wanted
+is_fault : (wanted : Result (List Output) RunFault) (fault : RunFault) → reports_in wanted ≡ Err fault → wanted ≡ Err fault
+is_fault (Ok outputs) fault is = absurd cc
+is_fault (Err other) fault is = let same : other ≡ fault = cc in ap Err same
+
+pub of_fault : (fault : RunFault) (wanted : Result (List Output) RunFault)
+    → AgreesUnlessMemory run_refusal (λ (reports : List ℕ). reports) (Err fault) (reports_in wanted)
+    → AgreesUnlessMemory run_refusal (λ (outputs : List Output). outputs) (Err fault) wanted
+of_fault fault wanted is = IfSome_then (run_refusal fault) is (λ f refused. is_fault wanted f refused)
+
+-- and where what is wanted is a fault, so are its reports
+pub of_fault_printed : (fault : RunFault) (wanted : Result (List Output) RunFault)
+    → AgreesUnlessMemory run_refusal (λ (outputs : List Output). outputs) (Err fault) wanted
+    → AgreesUnlessMemory run_refusal (λ (reports : List ℕ). reports) (Err fault) (reports_in wanted)
+of_fault_printed fault wanted is = IfSome_then (run_refusal fault) is (λ f refused. ap reports_in refused)

@@ -1,7 +1,7 @@
 -- From the text of a capture and the texts of scenarios to what each scenario answers.
 use Rattle.std.specs.Prelude.{◌≡◌, ℕ, ◌≤◌, nat_lt, if◌then◌else◌, List, [], ◌∷◌, ◌++◌, length, Result, Ok, Err}
 use Rattle.pcap_records.specs.Reading.{capture_limit}
-use Rattle.scenarios.specs.Refusals.{after}
+use Rattle.scenarios.specs.Refusals.{and_then}
 use Rattle.scenarios.specs.Populate.{scenario}
 use Rattle.scenarios.specs.declared.error.Refusal.{Refusal}
 use Rattle.scenarios.specs.declared.hosts.KnownHost.{KnownHost}
@@ -25,16 +25,16 @@ numbered number (Err refusal) = Err (BadScenario number refusal)
 unfoldable pub scenarios_from : List KnownHost → List (List Proxy) → List (List ℕ) → Result (List (List Proxy)) RunFault
 scenarios_from hosts earlier [] = Ok earlier
 scenarios_from hosts earlier (text ∷ texts) =
-    after (numbered (length earlier) (scenario hosts text)) (λ proxies. scenarios_from hosts (earlier ++ proxies ∷ []) texts)
+    and_then (numbered (length earlier) (scenario hosts text)) (λ proxies. scenarios_from hosts (earlier ++ proxies ∷ []) texts)
 
 -- the answer to a capture's bytes under scenarios that are still texts
 abbrev pub answer_under : List KnownHost → List (List ℕ) → ℕ → List ℕ → Result (List Output) RunFault
-answer_under hosts texts seed bytes = after (scenarios_from hosts [] texts) (λ scenarios. answer bytes scenarios seed)
+answer_under hosts texts seed bytes = and_then (scenarios_from hosts [] texts) (λ scenarios. answer bytes scenarios seed)
 
 -- What a text calls for, or the first refusal: it is too long, its dump is broken, a scenario is refused, or the rehearsal is.
 unfoldable pub called_for : List KnownHost → List (List ℕ) → ℕ → List ℕ → Result (List Output) RunFault
 called_for hosts texts seed text =
-    if nat_lt capture_limit (length text) then Err CaptureTooLong else after (capture_bytes_of text) (answer_under hosts texts seed)
+    if nat_lt capture_limit (length text) then Err CaptureTooLong else and_then (capture_bytes_of text) (answer_under hosts texts seed)
 
 -- a fault of the texts: no call of a reader, a writer or a shelf has failed, and no host is refused
 abbrev pub IsOfText : RunFault → Type 0

@@ -1,5 +1,5 @@
 -- What each scenario answers to a capture that was read.
-use Rattle.std.specs.Prelude.{ℕ, List, []}
+use Rattle.std.specs.Prelude.{ℕ, List, [], get_or}
 use Rattle.pcap_records.specs.CaptureView.{CaptureView, contents_of}
 use Rattle.conn_table.specs.SeenCapture.{seen_capture}
 use Rattle.scenarios.specs.declared.proxies.Proxy.{Proxy}
@@ -14,6 +14,10 @@ outputs_for capture scenarios seed = outputs_of (seen_capture (contents_of captu
 abbrev pub outputs_from : Sources → List Output
 outputs_from sources = outputs_for sources.capture.now sources.scenarios.now sources.seed
 
--- what stands past the last of them
+-- a scenario of them, with its number
+abbrev pub scenario_at : Sources → ℕ → ℕ × List Proxy
+scenario_at sources number = (number, get_or sources.scenarios.now number [])
+
+-- what stands past the last output
 abbrev pub no_output : Output
 no_output = record { capture = []; report = [] }

@@ -3,20 +3,8 @@ use Rattle.std.specs.Prelude.{◌≡◌, ℕ, ◌+◌, List, [], ◌∷◌, map,
 use Rattle.frame_headers.specs.declared.peers.Peer.{Peer}
 use Rattle.conn_table.specs.IndexedSegments.{IndexedSegment}
 use Rattle.conn_table.specs.Connections.{Connection, connections, unopened_count}
+use Rattle.conn_table.specs.RowSegments.{client, second_client, server, row_segment}
 use Rattle.reassembly.specs.Positions.{client_of, server_base}
-use Rattle.toxicap.specs.WrittenRows.{client, server}
-
-abbrev pub second_client : Peer
-second_client = record { addr = 0x0a000003; port = 40001 }
-
-abbrev pub row_segment : ℕ → Peer → Peer → ℕ → ℕ → IndexedSegment
-row_segment index from to flags seq = record {
-  index = index;
-  timed = record {
-    at = 1000000 + index;
-    fields = record { mac_from = []; mac_to = []; vlan = None; from = from; to = to; seq = seq; ack = 0; flags = flags; payload = [] };
-  };
-}
 
 -- what a row looks at: each connection's number, client, first sequence number, number of members and server's number
 pub record ConnectionSummary : Type 0 where

@@ -5,8 +5,8 @@
 -- longer than a capture may be (6); the capture, for the same; and then what its text calls for.
 use Rattle.std.specs.Prelude.{◌≡◌, ℕ, List, [], ◌∷◌, ◌++◌, length, map, Option, Some, None, IfErr, IfSome, Result, Ok, Err}
 use Rattle.std.specs.Borrow.{Bor}
-use Rattle.pcap_records.specs.Agreement.{AgreesUnlessMemory}
-use Rattle.scenarios.specs.Refusals.{after}
+use Rattle.lists.specs.Agreement.{AgreesUnlessMemory}
+use Rattle.scenarios.specs.Refusals.{and_then}
 use Rattle.command_line.specs.declared.asked.Asked.{Asked}
 use Rattle.command_line.specs.declared.error.Stop.{Stop}
 use Rattle.run_files.specs.declared.error.RunFault.{RunFault}
@@ -25,7 +25,7 @@ use Rattle.toxicap.specs.StoredOutputs.{StoresUnlessMemory}
 -- the texts at some paths, after those loaded earlier, or the first refusal
 unfoldable pub texts_from : Held → List (List ℕ) → List (List ℕ) → Result (List (List ℕ)) RunFault
 texts_from held earlier [] = Ok earlier
-texts_from held earlier (path ∷ paths) = after (text_at held path) (λ text. texts_from held (earlier ++ text ∷ []) paths)
+texts_from held earlier (path ∷ paths) = and_then (text_at held path) (λ text. texts_from held (earlier ++ text ∷ []) paths)
 
 -- Where files are loaded, each is the text at its own path, in order; and of files at fault the first is told: that of the path after
 -- those that hold texts.
@@ -36,12 +36,12 @@ FilesAreLoadedInOrder = (held : Held) (paths texts : List (List ℕ)) → map (t
 
 -- the scenarios of a command line, as texts
 abbrev pub texts_asked : Held → Asked → Result (List (List ℕ)) RunFault
-texts_asked held asked = after (texts_from held [] (map (λ path. path.now) asked.scenarios.items)) (λ texts. Ok (texts_or_bare texts))
+texts_asked held asked = and_then (texts_from held [] (map (λ path. path.now) asked.scenarios.items)) (λ texts. Ok (texts_or_bare texts))
 
 -- What a command line calls for, with the capture's text or why there is none.
 abbrev pub outputs_asked : Held → Asked → Result (List ℕ) RunFault → Result (List Output) RunFault
 outputs_asked held asked capture =
-    after (hosts_asked asked) (λ hosts. after (texts_asked held asked) (λ texts. after capture (called_for hosts texts asked.seed)))
+    and_then (hosts_asked asked) (λ hosts. and_then (texts_asked held asked) (λ texts. and_then capture (called_for hosts texts asked.seed)))
 
 -- how a run ends by what is called for, printed on standard output or stored in a folder
 abbrev pub EndsOf : Option (Bor (List ℕ)) → Result (Unit {0}) RunFault → Result (List Output) RunFault → (List ℕ → Type 0) → Type 0

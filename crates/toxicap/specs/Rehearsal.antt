@@ -13,6 +13,7 @@ use Rattle.conn_table.specs.IndexedSegments.{indexed_segments}
 use Rattle.conn_table.specs.Connections.{connections, unopened_count}
 use Rattle.scenarios.specs.declared.proxies.Proxy.{Proxy}
 use Rattle.conn_workers.specs.Contributions.{Contribution, contribution_of}
+pub use Rattle.conn_workers.specs.DeliveryRows.{scenario_limit}
 use Rattle.time_merge.specs.MergedCapture.{capture_of}
 use Rattle.report.specs.ReportText.{report_text}
 
@@ -20,21 +21,17 @@ use Rattle.report.specs.ReportText.{report_text}
 abbrev pub contributions : SeenCapture → ℕ → ℕ × List Proxy → List Contribution
 contributions c seed scenario = map (contribution_of c.ticks seed scenario) (connections (indexed_segments 0 c.packets))
 
-unfoldable pub output : SeenCapture → ℕ → ℕ × List Proxy → Output
-output c seed scenario = record {
+unfoldable pub scenario_output : SeenCapture → ℕ → ℕ × List Proxy → Output
+scenario_output c seed scenario = record {
   capture = capture_of c.ticks (flat_map (λ p. p.segments) (contributions c seed scenario));
   report = report_text scenario.0 c (unopened_count (indexed_segments 0 c.packets)) (map (λ p. p.line) (contributions c seed scenario));
 }
 
 -- an output for each scenario; the order of the bytes of the capture's fields is no part of what is seen
 unfoldable pub outputs_of : SeenCapture → List (List Proxy) → ℕ → List Output
-outputs_of c scenarios seed = map (output c seed) (enumerate_from 0 scenarios)
+outputs_of c scenarios seed = map (scenario_output c seed) (enumerate_from 0 scenarios)
 
 -- ---- the answer to a file
-
--- the most scenarios of a rehearsal
-abbrev pub scenario_limit : ℕ
-scenario_limit = 256
 
 -- what is seen of a file
 abbrev pub seen_file : Result Reading CaptureFault → Result SeenCapture CaptureFault

@@ -1,6 +1,6 @@
 -- Outputs that are stored as they are made: the files of each scenario before the next ones are made.
 use Rattle.std.specs.Prelude.{◌≡◌, ℕ, ◌+◌, ◌<◌, List, [], length, take, Result, Ok, Err, IsOk}
-use Rattle.pcap_records.specs.Agreement.{Refuses}
+use Rattle.lists.specs.Agreement.{Refuses}
 use Rattle.run_files.specs.declared.error.RunFault.{RunFault}
 use Rattle.run_files.specs.declared.error.RunFault.TheVariants.{Memory, ShelfFailed}
 use Rattle.run_files.specs.declared.outputs.Output.{Output}

@@ -1,38 +1,14 @@
 -- Worked rows: what the definitions give, beside values from outside.
-use Rattle.std.specs.Prelude.{◌≡◌, ℕ, List, [], ◌∷◌, map, codes, Option, Some, None, true, false}
-use Rattle.frame_headers.specs.declared.peers.Peer.{Peer}
+use Rattle.std.specs.Prelude.{◌≡◌, ℕ, List, [], ◌∷◌, codes, Option, Some, None, false}
 use Rattle.conn_table.specs.Connections.{Connection}
-use Rattle.reassembly.specs.RecordedLines.{fin, RecordedConnection}
+use Rattle.conn_table.specs.RowSegments.{client, server}
+use Rattle.reassembly.specs.RowLines.{session}
 use Rattle.toxic_defs.specs.DeliveredLines.{delivered_connection, MetProxy}
 use Rattle.segment_writer.specs.WrittenConnections.{written_connection}
 use Rattle.segment_writer.specs.WrittenSegments.{WrittenConnection, written_segments}
-use Rattle.segment_writer.specs.declared.framed.Framed.{Framed}
+use Rattle.segment_writer.specs.SentRows.{keys_of}
 use Rattle.conn_workers.specs.Contributions.{contribution}
 use Rattle.time_merge.specs.MergedCapture.{capture_of}
-
-abbrev pub client : Peer
-client = record { addr = 0x0a000001; port = 40000 }
-
-abbrev pub server : Peer
-server = record { addr = 0x0a000002; port = 80 }
-
--- the lines that the plain session records, written out by hand
-abbrev pub session : RecordedConnection
-session = record {
-  up = record {
-    line = record {
-      bytes = record { value = 104; at = 1001000; starts = true } ∷ record { value = 101; at = 1001000; starts = false } ∷ record { value = 108; at = 1001000; starts = false } ∷ record { value = 108; at = 1001000; starts = false } ∷ record { value = 111; at = 1001000; starts = false } ∷ [];
-      end = fin 1002000;
-    };
-    lost = 0;
-  };
-  down = record { line = record { bytes = []; end = fin 1003000 }; lost = 0 };
-  client_base = 1000;
-  server_base = Some 5000;
-  opened = 1000000;
-  mac_client = 2 ∷ 0 ∷ 0 ∷ 0 ∷ 0 ∷ 1 ∷ [];
-  mac_server = 2 ∷ 0 ∷ 0 ∷ 0 ∷ 0 ∷ 2 ∷ [];
-}
 
 -- the connection that the plain session opens, as it is written under a proxy
 abbrev pub session_connection : ℕ → Connection
@@ -90,10 +66,6 @@ disabled = Some (record { number = 0; enabled = false; up = []; down = [] })
 
 abbrev pub RefusedWritten : Type 0
 RefusedWritten = capture_of 1000000 (written_segments 1000000 (session_under disabled)) ≡ refused_bytes
-
--- when each segment is written, by which connection, and in which turn and place
-abbrev pub keys_of : List Framed → List (ℕ × ℕ × ℕ × ℕ)
-keys_of framed = map (λ x. (x.key.moment, x.key.conn, x.key.turn, x.key.place)) framed
 
 -- a disabled proxy: two segments of the opening, and a line that says so
 abbrev pub RefusedPart : Type 0

@@ -1,14 +1,15 @@
 //! From the text of a capture and the texts of scenarios to what each scenario answers.
 ghost use Rattle.std.specs.Prelude.{◌≡◌, ℕ, ◌+◌, ◌-◌, ◌^◌, ◌<◌, List, map};
 ghost use Rattle.std.specs.Io.KnownBytes.{Consumes, IsAtEnd};
-ghost use Rattle.pcap_records.specs.Agreement.{AgreesUnlessMemory};
+ghost use Rattle.lists.specs.Agreement.{AgreesUnlessMemory};
 ghost use Rattle.toxicap.specs.Answering.{AnswersBy, called_for};
 ghost use Rattle.toxicap.specs.RunEnds.{failed_reads};
 ghost use Rattle.run_files.specs.RunFault.{run_refusal};
 
+use crate::crews::{Crew, Workers};
 use crate::reading::read_inputs;
-use crate::rehearsal::rehearse_file;
-use job_matrix::{Plan, Through};
+use crate::rehearsal::rehearse_by;
+use job_matrix::Plan;
 use run_files::{Counted, Outputs, RunFault, Text, load};
 use scenarios::Hosts;
 use std::alloc::Global;
@@ -52,27 +53,35 @@ pub fn answers<H: Threads + Wait + Sync, R: Read>(
     ensures failed { reader.new.failed ≡ reader.old.failed + failed_reads result }
 {
     let text = load(alloc, reader)?;
-    answer_to_text(rt, alloc, Text::of(text), texts, options)
+    let crew = Workers {
+        rt,
+        plan: options.plan,
+    };
+    answers_by(
+        &crew,
+        alloc,
+        Text::of(text),
+        texts,
+        &options.hosts,
+        options.seed,
+    )
 }
 
-// What a text calls for.
-fn answer_to_text<H: Threads + Wait + Sync>(
-    rt: &H,
+/// The answer to a capture's text and the texts of scenarios, whoever does the work.
+///
+/// # Errors
+/// Those of [`answers`] but [`RunFault::ReadFailed`].
+pub(crate) fn answers_by<C: Crew>(
+    crew: &C,
     alloc: Global,
     text: Text<'_>,
     texts: &[&[u8]],
-    options: &Options,
+    hosts: &Hosts,
+    seed: u64,
 ) -> Result<Outputs, RunFault>
-    ensures { AgreesUnlessMemory run_refusal (λ outputs. outputs) result (called_for options.now.hosts (map (λ t. t.now) texts.now) options.now.seed text.entry) }
+    requires { C.shares crew.now }
+    ensures { AgreesUnlessMemory run_refusal (λ outputs. outputs) result (called_for hosts.now (map (λ t. t.now) texts.now) seed text.entry) }
 {
-    let inputs = read_inputs(alloc, text, texts, &options.hosts)?;
-    rehearse_file(
-        rt,
-        alloc,
-        inputs.capture.bytes(),
-        &inputs.scenarios,
-        options.seed,
-        options.plan,
-        &Through,
-    )
+    let inputs = read_inputs(alloc, text, texts, hosts)?;
+    rehearse_by(crew, alloc, inputs.capture.bytes(), &inputs.scenarios, seed)
 }

@@ -1,6 +1,5 @@
 //! Drafts of outputs, made by workers: those of some scenarios at once, each by one of them.
-ghost use Rattle.std.specs.Prelude.{◌≡◌, ◌+◌, ◌<◌, ◌≤◌, IfOk, OnOk, drop, get_or, length, take};
-ghost use Rattle.std.specs.Vec.Iter.{into_iter_items};
+ghost use Rattle.std.specs.Prelude.{◌≡◌, ◌+◌, ◌<◌, ◌≤◌, IfOk, drop, get_or, length, take};
 ghost use Rattle.toxicap.specs.CaptureOutputs.{no_output, outputs_from};
 
 use crate::crews::{Alone, Workers};
@@ -10,7 +9,6 @@ use run_files::{DraftShelf, DraftedOutput};
 use std::alloc::AllocError;
 use std::marker::Model;
 use std::thread::Threads;
-use std::vec::IntoIter;
 
 // How many scenarios each worker has drafts of at once, where there are as many.
 const SHARE: usize = 2;

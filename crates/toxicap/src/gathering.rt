@@ -6,7 +6,6 @@ ghost use Rattle.conn_table.specs.SeenCapture.{seen_capture};
 ghost use Rattle.segment_writer.specs.KeyLaws.{HasNoKeyTwice};
 ghost use Rattle.segment_writer.specs.WrittenSegments.{sorted_by_key};
 ghost use Rattle.time_merge.specs.MergedCapture.{all_segments};
-ghost use Rattle.report.specs.ReportText.{report_text};
 ghost use Rattle.conn_workers.specs.CaptureTables.{whole_table};
 ghost use Rattle.toxicap.specs.GatheredOutputs.{gathered_output, lines_in, segments_in};
 
@@ -19,22 +18,6 @@ use segment_writer::SegList;
 use std::alloc::{AllocError, Global};
 use std::vec::IntoIter;
 use time_merge::merge;
-
-// The report of the scenario of a number, of its lines.
-pub(crate) fn gathered_report(
-    alloc: Global,
-    capture: &Capture<'_>,
-    table: &Table,
-    number: u32,
-    lines: &[ReportText],
-) -> Result<ReportText, AllocError>
-    requires table { table.now ≡ whole_table capture.now }
-    requires each { length lines.now ≡ length table.now.conns }
-    ensures { IfOk result (λ text. text
-        ≡ report_text number (seen_capture (contents_of capture.now)) table.now.unopened lines.now) }
-{
-    report(alloc, number, capture, table, lines)
-}
 
 // What the scenario of a number answers, of its row.
 #[tactic(auto, unfolding(time_merge::specs::MergedCapture::capture_of))]
@@ -54,7 +37,7 @@ pub(crate) fn gathered_output(
 {
     let DeliveryRow { segments, lines } = row;
     let bytes = merge(alloc, segments)?.capture(alloc, capture.unit())?;
-    let report = gathered_report(alloc, capture, table, number, &lines)?;
+    let report = report(alloc, number, capture, table, &lines)?;
     Ok(Output {
         capture: Values::of(bytes),
         report: Values::of(report.into_vec()),

@@ -1,7 +1,7 @@
 //! Hosts as they are written, each `NAME=ADDR`: words of a command line, or the lines of a text.
 ghost use Rattle.std.specs.Prelude.{◌≡◌, ◌<◌, [], length, map, option_map, IfErr, IfOk};
 ghost use Rattle.std.specs.List.{slice_split};
-ghost use Rattle.pcap_records.specs.Agreement.{AgreesUnlessMemory};
+ghost use Rattle.lists.specs.Agreement.{AgreesUnlessMemory};
 ghost use Rattle.run_files.specs.RunFault.{run_refusal};
 ghost use Rattle.toxicap.specs.HostLines.{host_lines, is_line_feed, without_last_feed};
 ghost use Rattle.toxicap.specs.Inputs.{AddsHost, IsOfHost, cut_at_first, equals_sign, host_written, hosts_from};

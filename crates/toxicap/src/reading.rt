@@ -1,6 +1,6 @@
 //! What a rehearsal takes: the bytes of a capture and scenarios, read of their texts, and the capture that the bytes are.
 ghost use Rattle.std.specs.Prelude.{◌≡◌, ℕ, ◌≤◌, [], IfErr, IfOk, Err, Ok, List, length, map};
-ghost use Rattle.pcap_records.specs.Agreement.{AgreesUnlessMemory, Refuses};
+ghost use Rattle.lists.specs.Agreement.{AgreesUnlessMemory, Refuses};
 ghost use Rattle.pcap_records.specs.CaptureView.{bytes_of};
 ghost use Rattle.run_files.specs.RunFault.{run_refusal};
 ghost use Rattle.run_files.specs.declared.outputs.Output.{Output};

@@ -1,13 +1,15 @@
 //! Rehearsing a capture: its table, what each connection contributes to each scenario, and the outputs, one after another.
-ghost use Rattle.pcap_records.specs.Agreement.{Agrees};
+ghost use Rattle.lists.specs.Agreement.{Agrees};
 ghost use Rattle.pcap_records.specs.CaptureView.{bytes_of};
 ghost use Rattle.toxicap.specs.CaptureOutputs.{outputs_for};
 ghost use Rattle.toxicap.specs.Rehearsal.{answer, scenario_limit};
 ghost use Rattle.run_files.specs.RunFault.{run_refusal};
 ghost use Rattle.std.specs.Prelude.{◌≡◌, ◌≤◌, IfOk, length};
 
+use crate::crews::Crew;
 use crate::gathering::{gathered_output, take_row};
 use crate::reading::read_rehearsed;
+use crate::sources::Sources;
 use conn_table::laws::indexed_connections_agree;
 use conn_workers::deliver;
 use job_matrix::{Gate, Plan};
@@ -37,33 +39,7 @@ pub fn rehearse<R: Threads + Wait + Sync, G: Gate>(
 ) -> Result<Outputs, RunFault>
     ensures { Agrees run_refusal (λ outputs. outputs) result (answer capture.now scenarios.now seed) }
 {
-    rehearse_file(
-        rt,
-        alloc,
-        FileBytes::Whole(capture),
-        scenarios,
-        seed,
-        plan,
-        gate,
-    )
-}
-
-/// The same of a capture wherever its bytes stand.
-///
-/// # Errors
-/// Those of [`rehearse`].
-pub(crate) fn rehearse_file<R: Threads + Wait + Sync, G: Gate>(
-    rt: &R,
-    alloc: Global,
-    capture: FileBytes<'_>,
-    scenarios: &[Scenario],
-    seed: u64,
-    plan: Plan,
-    gate: &G,
-) -> Result<Outputs, RunFault>
-    ensures { Agrees run_refusal (λ outputs. outputs) result (answer (bytes_of capture.entry) scenarios.now seed) }
-{
-    let capture = read_rehearsed(alloc, capture, scenarios)?;
+    let capture = read_rehearsed(alloc, FileBytes::Whole(capture), scenarios)?;
     let outputs = list_outputs(rt, alloc, &capture, scenarios, seed, plan, gate)?;
     Ok(Values::of(outputs))
 }
@@ -100,4 +76,52 @@ fn list_outputs<R: Threads + Sync, G: Gate>(
         outputs.push(output)?;
     }
     Ok(outputs)
+}
+
+/// The same of a capture wherever its bytes stand, by a crew.
+///
+/// # Errors
+/// Those of [`rehearse`].
+pub(crate) fn rehearse_by<C: Crew>(
+    crew: &C,
+    alloc: Global,
+    capture: FileBytes<'_>,
+    scenarios: &[Scenario],
+    seed: u64,
+) -> Result<Outputs, RunFault>
+    requires { C.shares crew.now }
+    ensures { Agrees run_refusal (λ outputs. outputs) result (answer (bytes_of capture.entry) scenarios.now seed) }
+{
+    let capture = read_rehearsed(alloc, capture, scenarios)?;
+    let outputs = outputs_by(crew, alloc, &capture, scenarios, seed)?;
+    Ok(outputs)
+}
+
+// What each scenario answers. The crew makes the table of the capture and what is recorded of each connection; then for one scenario after
+// another what each connection contributes to it, which is written and let go.
+//
+// # Errors
+// A growth was refused.
+fn outputs_by<C: Crew>(
+    crew: &C,
+    alloc: Global,
+    capture: &Capture<'_>,
+    scenarios: &[Scenario],
+    seed: u64,
+) -> Result<Outputs, AllocError>
+    requires crew { C.shares crew.now }
+    requires few { length scenarios.now ≤ scenario_limit }
+    ensures { IfOk result (λ outputs. outputs ≡ outputs_for capture.now scenarios.now seed) }
+{
+    let table = crew.table(alloc, capture)?;
+    let recordings = crew.record(alloc, capture, &table)?;
+    let sources = Sources {
+        alloc,
+        capture,
+        table: &table,
+        recordings: &recordings,
+        scenarios,
+        seed,
+    };
+    sources.outputs(crew)
 }

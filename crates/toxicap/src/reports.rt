@@ -1,6 +1,6 @@
 //! The reports of a rehearsal alone: no segment is written, and no capture made.
 ghost use Rattle.std.specs.Prelude.{◌≡◌, ◌≤◌, IfOk, length};
-ghost use Rattle.pcap_records.specs.Agreement.{Agrees};
+ghost use Rattle.lists.specs.Agreement.{Agrees};
 ghost use Rattle.pcap_records.specs.CaptureView.{bytes_of};
 ghost use Rattle.run_files.specs.RunFault.{run_refusal};
 ghost use Rattle.run_files.specs.WrittenOutputs.{reports_of};
@@ -9,10 +9,8 @@ ghost use Rattle.toxicap.specs.PrintedReports.{reports_in};
 ghost use Rattle.toxicap.specs.Rehearsal.{answer, scenario_limit};
 
 use crate::crews::Crew;
-use crate::gathering::gathered_report;
 use crate::reading::read_rehearsed;
-use conn_table::laws::indexed_connections_agree;
-use conn_workers::laws::lines_are_contributed;
+use crate::sources::Sources;
 use pcap_records::{Capture, FileBytes};
 use report::ReportText;
 use run_files::RunFault;
@@ -35,8 +33,8 @@ pub(crate) fn rehearse_reports<C: Crew>(
     ensures { Agrees run_refusal (λ text. text) result (reports_in (answer (bytes_of capture.entry) scenarios.now seed)) }
 {
     let capture = read_rehearsed(alloc, capture, scenarios)?;
-    let text = join_reports(crew, alloc, &capture, scenarios, seed)?;
-    Ok(ReportText::of(text))
+    let reports = join_reports(crew, alloc, &capture, scenarios, seed)?;
+    Ok(reports)
 }
 
 // The reports of all scenarios, one after another. The crew makes the table of the capture, and what is recorded of each connection; then
@@ -50,22 +48,20 @@ fn join_reports<C: Crew>(
     capture: &Capture<'_>,
     scenarios: &[Scenario],
     seed: u64,
-) -> Result<Vec<u8>, AllocError>
+) -> Result<ReportText, AllocError>
     requires crew { C.shares crew.now }
     requires few { length scenarios.now ≤ scenario_limit }
-    ensures { IfOk result (λ text. text.items
-        ≡ reports_of (outputs_for capture.now scenarios.now seed)) }
+    ensures { IfOk result (λ text. text ≡ reports_of (outputs_for capture.now scenarios.now seed)) }
 {
-    indexed_connections_agree();
-    lines_are_contributed();
     let table = crew.table(alloc, capture)?;
     let recordings = crew.record(alloc, capture, &table)?;
-    let mut text = Vec::new(alloc);
-    for number in 0..scenarios.len() {
-        let scenario = &scenarios[number];
-        let lines = crew.report_lines(alloc, &recordings, number as u32, scenario, seed)?;
-        let report = gathered_report(alloc, capture, &table, number as u32, lines.as_slice())?;
-        text.extend_from_slice(report.as_slice())?;
-    }
-    Ok(text)
+    let sources = Sources {
+        alloc,
+        capture,
+        table: &table,
+        recordings: &recordings,
+        scenarios,
+        seed,
+    };
+    sources.reports(crew)
 }

@@ -1,13 +1,13 @@
 //! A run that a command line asks for: the hosts and files that it names are read, and the answers printed or stored.
 ghost use Rattle.std.specs.Prelude.{◌≡◌, ◌≢◌, ◌+◌, ◌-◌, ◌^◌, ◌<◌, ◌≤◌, map, IfErr, [], length, IfNone, IfOk, IfSome, OnSome};
 ghost use Rattle.std.specs.Io.KnownBytes.{Appends, Consumes, IsAtEnd};
-ghost use Rattle.command_line.specs.Asking.{IsInRange};
+ghost use Rattle.command_line.specs.Asking.{IsPlanInRange};
 ghost use Rattle.run_files.specs.declared.error.RunFault.{RunFault};
 ghost use Rattle.toxicap.specs.Answering.{called_for};
 ghost use Rattle.toxicap.specs.Commands.{RunsBy};
 ghost use Rattle.toxicap.specs.NamedFiles.{EndsOf, LoadsFile, LoadsInput, RunsOver, texts_from};
 ghost use Rattle.toxicap.specs.RunEnds.{failed_writes};
-ghost use Rattle.pcap_records.specs.Agreement.{AgreesUnlessMemory};
+ghost use Rattle.lists.specs.Agreement.{AgreesUnlessMemory};
 ghost use Rattle.pcap_records.specs.Reading.{capture_limit};
 ghost use Rattle.toxicap.specs.Inputs.{IsOfFiles, texts_or_bare};
 ghost use Rattle.run_files.specs.Paths.{IsOfFile, text_at};
@@ -42,7 +42,7 @@ pub(crate) fn run_asked<H: Files + Threads + Wait + Sync, P: Paths, R: Read, W: 
 where
     H::File: FileExt + Send + Sync,
     H::Dir: Send,
-    requires asked { IsInRange asked.now }
+    requires asked { IsPlanInRange asked.now }
     requires reads { reader.old.failed < 2 ^ 64 - 1 }
     requires writes { writer.old.failed < 2 ^ 64 - 1 }
     ensures runs { RunsBy asked.now result (record {

@@ -1,19 +1,21 @@
-//! What the outputs of all scenarios are made of, and one output made of it, in memory or as drafts, by whatever crew.
+//! What the outputs of all scenarios are made of, and what is made of it by whatever crew: an output in memory or as drafts, or its report alone.
 ghost use Rattle.std.specs.Prelude.{◌≡◌, ◌≤◌, length};
 ghost use Rattle.conn_workers.specs.CaptureTables.{whole_table};
 ghost use Rattle.conn_workers.specs.Recordings.{recordings_of};
 ghost use Rattle.toxicap.specs.Rehearsal.{scenario_limit};
 
 use crate::crews::Crew;
-use crate::layouts::{RowParts, drafted_output, parts_of_row, written_output};
+use crate::layouts::{RowParts, parts_of_row, written_draft};
 use conn_table::Table;
 use conn_workers::Recordings;
-use conn_workers::laws::rows_are_contributed;
-use pcap_records::Capture;
-use run_files::{DraftShelf, DraftedOutput, Output};
+use conn_workers::laws::{lines_are_contributed, rows_are_contributed};
+use pcap_records::{Capture, Values};
+use report::{ReportText, report};
+use run_files::{DraftShelf, DraftedOutput, Output, Outputs};
 use scenarios::Scenario;
 use segment_writer::laws::keys_stand_once;
 use std::alloc::{AllocError, Global};
+use time_merge::merged_capture;
 
 /// A capture with its table and what is recorded of each connection, and the scenarios that it is rehearsed under.
 #[derive(Drop)]
@@ -35,33 +37,60 @@ pub(crate) struct Sources<'w, 'v, 'a> {
     ghost few: { length scenarios.now ≤ scenario_limit },
 }
 
+// Each method that returns an error had a growth refused.
 impl<'w, 'v, 'a> Sources<'w, 'v, 'a> {
     ghost use Rattle.std.specs.Prelude.{◌≡◌, ◌^◌, ◌<◌, ◌≤◌, IfOk, get_or, length};
-    ghost use Rattle.pcap_records.specs.CaptureView.{contents_of};
-    ghost use Rattle.conn_table.specs.SeenCapture.{seen_capture};
     ghost use Rattle.segment_writer.specs.KeyLaws.{HasNoKeyTwice};
-    ghost use Rattle.time_merge.specs.MergedCapture.{all_segments};
+    ghost use Rattle.time_merge.specs.MergedCapture.{all_segments, capture_of};
+    ghost use Rattle.conn_workers.specs.Recordings.{recorded_lines};
     ghost use Rattle.run_files.specs.DraftedOutputs.{IsDraftOf};
-    ghost use Rattle.toxicap.specs.CaptureOutputs.{no_output, outputs_from};
-    ghost use Rattle.toxicap.specs.GatheredOutputs.{gathered_output};
+    ghost use Rattle.run_files.specs.WrittenOutputs.{reports_of};
+    ghost use Rattle.toxicap.specs.CaptureOutputs.{no_output, outputs_from, scenario_at};
+
+    /// The outputs of all scenarios, made one after another.
+    pub(crate) fn outputs<C: Crew>(&self, crew: &C) -> Result<Outputs, AllocError>
+        requires { C.shares crew.now }
+        ensures { IfOk result (λ outputs. outputs ≡ outputs_from self.now) }
+    {
+        let mut outputs = Vec::with_capacity(self.alloc, self.scenarios.len())?;
+        for number in 0..self.scenarios.len() {
+            let output = self.output(crew, number)?;
+            outputs.push(output)?;
+        }
+        Ok(Values::of(outputs))
+    }
+
+    /// Their reports, one after another. No segment is written.
+    pub(crate) fn reports<C: Crew>(&self, crew: &C) -> Result<ReportText, AllocError>
+        requires { C.shares crew.now }
+        ensures { IfOk result (λ text. text ≡ reports_of (outputs_from self.now)) }
+    {
+        let mut text = Vec::new(self.alloc);
+        for number in 0..self.scenarios.len() {
+            let report = self.report(crew, number)?;
+            text.extend_from_slice(report.as_slice())?;
+        }
+        Ok(ReportText::of(text))
+    }
 
     // The output of the scenario of a number.
-    //
-    // # Errors
-    // A growth was refused.
-    pub(crate) fn output<C: Crew>(&self, crew: &C, number: usize) -> Result<Output, AllocError>
+    fn output<C: Crew>(&self, crew: &C, number: usize) -> Result<Output, AllocError>
         requires crew { C.shares crew.now }
         requires within { number < length self.now.scenarios.now }
         ensures { IfOk result (λ o. o ≡ get_or (outputs_from self.now) number no_output) }
     {
         let parts = self.parts(crew, number)?;
-        written_output(self.alloc, self.capture, self.table, number as u32, parts)
+        let RowParts { layouts, lines } = parts;
+        let bytes = merged_capture(self.alloc, &layouts, self.capture.unit())?;
+        drop(layouts);
+        let report = self.report_of(number, &lines)?;
+        Ok(Output {
+            capture: Values::of(bytes),
+            report: Values::of(report.into_vec()),
+        })
     }
 
-    // Drafts of the output of the scenario of a number, in a place of their own on the shelf.
-    //
-    // # Errors
-    // A growth was refused.
+    /// The same as drafts of a shelf: the capture in the place that is twice this one, and the report in the next.
     pub(crate) fn drafted<C: Crew, S: DraftShelf>(
         &self,
         crew: &C,
@@ -75,26 +104,51 @@ impl<'w, 'v, 'a> Sources<'w, 'v, 'a> {
         ensures { IfOk result (IsDraftOf S.holds (get_or (outputs_from self.now) number no_output)) }
     {
         let parts = self.parts(crew, number)?;
-        drafted_output(
-            self.alloc,
-            self.capture,
-            self.table,
-            number as u32,
-            parts,
-            shelf,
-            place,
-        )
+        let RowParts { layouts, lines } = parts;
+        let draft = shelf.draft(self.alloc, 2 * place)?;
+        let draft = written_draft::<S>(self.alloc, &layouts, self.capture.unit(), draft)?;
+        drop(layouts);
+        let text = self.report_of(number, &lines)?.into_vec();
+        let mut report = shelf.draft(self.alloc, 2 * place + 1)?;
+        S::append(&mut report, &text);
+        Ok((draft, report))
     }
 
-    // The parts of the output of the scenario of a number: what each connection contributes to it.
+    // Its report alone.
+    fn report<C: Crew>(&self, crew: &C, number: usize) -> Result<ReportText, AllocError>
+        requires crew { C.shares crew.now }
+        requires within { number < length self.now.scenarios.now }
+        ensures { IfOk result (λ text. text ≡ (get_or (outputs_from self.now) number no_output).report) }
+    {
+        let scenario = &self.scenarios[number];
+        let lines = crew.report_lines(
+            self.alloc,
+            self.recordings,
+            number as u32,
+            scenario,
+            self.seed,
+        )?;
+        self.report_of(number, lines.as_slice())
+    }
+
+    // The report of the scenario of a number, of the lines of the connections.
+    fn report_of(&self, number: usize, lines: &[ReportText]) -> Result<ReportText, AllocError>
+        requires within { number < length self.now.scenarios.now }
+        requires lines { lines.now ≡ recorded_lines self.now.seed (scenario_at self.now number) self.now.recordings.now }
+        ensures { IfOk result (λ text. text ≡ (get_or (outputs_from self.now) number no_output).report) }
+    {
+        lines_are_contributed();
+        report(self.alloc, number as u32, self.capture, self.table, lines)
+    }
+
+    // What each connection contributes to the output of the scenario of a number.
     fn parts<C: Crew>(&self, crew: &C, number: usize) -> Result<RowParts<'a>, AllocError>
         requires crew { C.shares crew.now }
         requires within { number < length self.now.scenarios.now }
-        ensures each { IfOk result (λ parts. length parts.lines.items ≡ length self.now.table.now.conns) }
         ensures once { IfOk result (λ parts. HasNoKeyTwice (all_segments parts.layouts.items)) }
-        ensures output { IfOk result (λ parts. gathered_output (seen_capture (contents_of self.now.capture.now)) number self.now.table.now.unopened
-            parts.layouts.items parts.lines.items
-            ≡ get_or (outputs_from self.now) number no_output) }
+        ensures capture { IfOk result (λ parts. capture_of self.now.capture.now.ticks (all_segments parts.layouts.items)
+            ≡ (get_or (outputs_from self.now) number no_output).capture) }
+        ensures lines { IfOk result (λ parts. parts.lines.items ≡ recorded_lines self.now.seed (scenario_at self.now number) self.now.recordings.now) }
     {
         rows_are_contributed();
         keys_stand_once();

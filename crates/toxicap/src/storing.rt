@@ -1,22 +1,20 @@
 //! Outputs that are stored as they are made: drafts of those of a few scenarios are made, stored and let go, and then those of the next.
-ghost use Rattle.std.specs.Prelude.{◌≡◌, ◌+◌, ◌-◌, ◌^◌, ◌<◌, ◌≤◌, IfOk, Ok, OnOk, drop, get_or, length, take};
-ghost use Rattle.std.specs.Vec.Iter.{into_iter_items};
+ghost use Rattle.std.specs.Prelude.{◌-◌, ◌^◌, ◌<◌, ◌≤◌, Ok, length};
 ghost use Rattle.pcap_records.specs.CaptureView.{bytes_of};
 ghost use Rattle.run_files.specs.Shelves.{Takes};
-ghost use Rattle.toxicap.specs.CaptureOutputs.{no_output, outputs_for, outputs_from};
+ghost use Rattle.toxicap.specs.CaptureOutputs.{outputs_for, outputs_from};
 ghost use Rattle.toxicap.specs.Rehearsal.{answer, scenario_limit};
 ghost use Rattle.toxicap.specs.StoredOutputs.{StoresOf, TakenOf};
 
 use crate::crews::{Crew, Workers};
-use crate::drafting::{OutputDraft, drafts_from};
+use crate::drafting::drafts_from;
 use crate::reading::read_rehearsed;
 use crate::sources::Sources;
 use pcap_records::{Capture, FileBytes};
 use run_files::{DraftShelf, RunFault, store_draft};
 use scenarios::Scenario;
-use std::alloc::{AllocError, Global};
+use std::alloc::Global;
 use std::thread::Threads;
-use std::vec::IntoIter;
 
 /// Rehearses a capture under each of the scenarios and puts the files of their outputs on a shelf, in order: those that `store_all`
 /// puts of what `rehearse` answers. Laid out are no more scenarios at once than there are workers, and there are drafts of at most twice
@@ -74,7 +72,7 @@ where
     store_each(crew, &sources, shelf)
 }
 
-// Stores the output of each scenario, of what they are made of.
+// Stores the output of each scenario: drafts of some are made, taken by the shelf, and then those of the next.
 fn store_each<R: Threads + Sync, S: DraftShelf + Sync>(
     crew: &Workers<'_, R>,
     sources: &Sources<'_, '_, '_>,
@@ -87,40 +85,13 @@ where
     ensures taken { TakenOf result (Ok (outputs_from sources.now))
         (Takes (S.files shelf.old) (S.files shelf.new)) (S.failures shelf.old) (S.failures shelf.new) }
 {
-    let mut ready = Vec::new(sources.alloc).into_iter();
-    for number in 0..sources.scenarios.len() {
-        let draft = next_draft(crew, sources, number, shelf, &mut ready)?;
-        store_draft(sources.alloc, number, draft.into_drafts(), shelf)?;
+    let mut number = 0;
+    while number < sources.scenarios.len() {
+        let drafts = drafts_from(crew, sources, number, shelf)?;
+        for draft in drafts {
+            store_draft(sources.alloc, number, draft.into_drafts(), shelf)?;
+            number += 1;
+        }
     }
     Ok(())
-}
-
-// The drafts of the output of the scenario of a number: the first that are ready, or where none are, of the next ones that are made.
-//
-// # Errors
-// A growth was refused.
-fn next_draft<'s, 'w, 'v, 'a, R: Threads + Sync, S: DraftShelf + Sync>(
-    crew: &Workers<'_, R>,
-    sources: &'s Sources<'w, 'v, 'a>,
-    number: usize,
-    shelf: &S,
-    ready: &mut IntoIter<OutputDraft<'s, 'w, 'v, 'a, S>>,
-) -> Result<OutputDraft<'s, 'w, 'v, 'a, S>, AllocError>
-where
-    S::Draft: Send,
-    requires within { number < length sources.now.scenarios.now }
-    requires ready { into_iter_items ready.old ≡ take (length (into_iter_items ready.old)) (drop number
-        (outputs_from sources.now)) }
-    ensures draft { IfOk result (λ d. d ≡ get_or (outputs_from sources.now) number no_output) }
-    ensures left { OnOk result (into_iter_items ready.new ≡ take (length (into_iter_items ready.new)) (drop (number + 1)
-        (outputs_from sources.now))) }
-{
-    if let Some(draft) = ready.next() {
-        return Ok(draft);
-    }
-    *ready = drafts_from(crew, sources, number, shelf)?.into_iter();
-    let Some(draft) = ready.next() else {
-        unreachable!();
-    };
-    Ok(draft)
 }

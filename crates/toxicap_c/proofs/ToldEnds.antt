@@ -7,7 +7,7 @@ use Rattle.toxicap_c.specs.declared.sizes.ToxicapSizes.{ToxicapSizes}
 use Rattle.toxicap_c.specs.declared.statuses.Status.{Status}
 use Rattle.toxicap_c.specs.declared.statuses.Status.TheVariants.{Answered, Refused, LittleRoom, NoMemory}
 use Rattle.toxicap_c.specs.Buffers.{Buffers, put_of_fault}
-use Rattle.toxicap_c.specs.Calls.{Ends, IsTold, Tells, reports_put}
+use Rattle.toxicap_c.specs.Calls.{Ends, IsTold, EndsByFault, reports_put}
 
 -- a refusal of reports is one of what is to be put
 pub reports_told : (fault : RunFault) (asked : Result (List ℕ) RunFault) → IfSome (run_refusal fault) (λ refused. asked ≡ Err refused) → IsTold fault (reports_put asked)
@@ -18,7 +18,7 @@ reports_told fault asked is = by (run_refusal fault) is
     by None is = tt
 
 pub told_ends : (wanted : Result Buffers RunFault) (fault : RunFault) → IsTold fault wanted
-    → (status : Status) (old new : Buffers) (sizes : ToxicapSizes) → Tells fault status old new sizes → Ends wanted status old new sizes
+    → (status : Status) (old new : Buffers) (sizes : ToxicapSizes) → EndsByFault fault status old new sizes → Ends wanted status old new sizes
 told_ends wanted fault told Answered old new sizes is = absurd is
 told_ends wanted fault told Refused old new sizes is = (fault, told, is)
 told_ends wanted fault told LittleRoom old new sizes is = (put_of_fault fault, inr (fault, told, refl), is)

@@ -1,6 +1,6 @@
 -- What the parameters of a call call for, and how a call ends by it.
 use Rattle.std.specs.Prelude.{◌≡◌, ◌⊎◌, ℕ, true, false, List, [], ◌∷◌, take, drop, Result, Ok, Err, IfSome}
-use Rattle.scenarios.specs.Refusals.{after}
+use Rattle.scenarios.specs.Refusals.{and_then}
 use Rattle.run_files.specs.declared.error.RunFault.{RunFault}
 use Rattle.run_files.specs.declared.outputs.Output.{Output}
 use Rattle.run_files.specs.RunFault.{run_refusal}
@@ -21,7 +21,7 @@ texts_in bytes (len ∷ lens) = take len bytes ∷ texts_in (drop len bytes) len
 -- what is called for, or the first refusal: a host, or what the texts call for
 abbrev pub asked_for : List ℕ → List ℕ → List ℕ → List ℕ → ℕ → Result (List Output) RunFault
 asked_for capture scenarios lens hosts seed =
-    after (hosts_from [] (host_lines hosts)) (λ known. called_for known (texts_in scenarios lens) seed capture)
+    and_then (hosts_from [] (host_lines hosts)) (λ known. called_for known (texts_in scenarios lens) seed capture)
 
 -- what is to be put of it, where the whole answer is asked for, and where its reports are
 abbrev pub answer_put : Result (List Output) RunFault → Result Buffers RunFault
@@ -55,8 +55,8 @@ abbrev pub EndsWith : Result Buffers RunFault → ℕ → Buffers → Buffers �
 EndsWith wanted code old new sizes = (status : Status) × (code ≡ code_of status) × Ends wanted status old new sizes
 
 -- how it ends where a refusal is to be told
-abbrev pub Tells : RunFault → Status → Buffers → Buffers → ToxicapSizes → Type 0
-Tells fault Answered old new sizes = ⊥
-Tells fault Refused old new sizes = Puts (put_of_fault fault) true old new sizes
-Tells fault LittleRoom old new sizes = Puts (put_of_fault fault) false old new sizes
-Tells fault NoMemory old new sizes = (new ≡ old) × (sizes ≡ no_sizes)
+abbrev pub EndsByFault : RunFault → Status → Buffers → Buffers → ToxicapSizes → Type 0
+EndsByFault fault Answered old new sizes = ⊥
+EndsByFault fault Refused old new sizes = Puts (put_of_fault fault) true old new sizes
+EndsByFault fault LittleRoom old new sizes = Puts (put_of_fault fault) false old new sizes
+EndsByFault fault NoMemory old new sizes = (new ≡ old) × (sizes ≡ no_sizes)

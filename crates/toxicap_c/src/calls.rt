@@ -2,7 +2,7 @@
 ghost use Rattle.std.specs.Prelude.{[], List, ℕ};
 ghost use Rattle.toxicap.specs.PrintedReports.{reports_in};
 ghost use Rattle.toxicap_c.specs.Buffers.{buffers};
-ghost use Rattle.toxicap_c.specs.Calls.{Ends, EndsWith, Tells, answer_put, asked_for, reports_put};
+ghost use Rattle.toxicap_c.specs.Calls.{Ends, EndsWith, EndsByFault, answer_put, asked_for, reports_put};
 
 use crate::hand_outs::{put_outputs, put_text};
 use crate::parameters::{Parameters, reports_for, sized_outputs_for};
@@ -128,7 +128,7 @@ fn hand_out_reports(
 // Puts the line of a refusal.
 fn tell(alloc: Global, fault: &RunFault, reports: &mut [u8], sizes: &mut ToxicapSizes) -> Status
     ensures { (captures lens : List ℕ)
-        → Tells fault.now result (buffers captures reports.old lens) (buffers captures reports.new lens) sizes.new }
+        → EndsByFault fault.now result (buffers captures reports.old lens) (buffers captures reports.new lens) sizes.new }
 {
     let Ok(line) = fault_line(alloc, fault) else {
         *sizes = no_sizes();

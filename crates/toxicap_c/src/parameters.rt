@@ -1,6 +1,6 @@
 //! What the parameters of a call call for.
 ghost use Rattle.std.specs.Prelude.{◌≡◌, IfOk, map};
-ghost use Rattle.pcap_records.specs.Agreement.{AgreesUnlessMemory};
+ghost use Rattle.lists.specs.Agreement.{AgreesUnlessMemory};
 ghost use Rattle.run_files.specs.RunFault.{run_refusal};
 ghost use Rattle.toxicap.specs.PrintedReports.{reports_in};
 ghost use Rattle.toxicap_c.specs.Buffers.{put_of, sizes_of};

@@ -82,3 +82,11 @@ reversed_all (x ∷ lists) =
 pub turned_once : OnceInAnyOrder → (lists turned : List (List Framed)) → turned ≡ reverse lists → HasNoKeyTwice (all_segments lists) → HasNoKeyTwice (all_segments turned)
 turned_once any_order lists turned is once =
     subst (λ (ls : List (List Framed)). HasNoKeyTwice (all_segments ls)) (sym is) (any_order (all_segments lists) (all_segments (reverse lists)) (reversed_all lists) once)
+
+-- ---- before an empty one
+
+pub once_before_empty : (lists more : List (List Framed)) (none : List Framed) → none ≡ [] → more ≡ lists ++ none ∷ [] → HasNoKeyTwice (all_segments lists) → HasNoKeyTwice (all_segments more)
+once_before_empty lists more none is_none is once =
+    let same : all_segments more ≡ all_segments lists =
+    ap all_segments is ∙ flat_map-append (λ (list : List Framed). list) lists (none ∷ []) ∙ ap (λ (xs : List Framed). all_segments lists ++ (xs ++ [])) is_none ∙ append-nil (all_segments lists) in
+    subst (λ (xs : List Framed). HasNoKeyTwice xs) (sym same) once

@@ -1,4 +1,4 @@
-use Rattle.conn_table.proofs.GrowthSteps.{grown_at-set}
+use Rattle.conn_table.proofs.Growths.{grown_at-set}
 use Rattle.conn_table.proofs.growth.add_member.Goals as goal
 
 pub returns : goal.returns

@@ -1,6 +1,6 @@
 use Rattle.std.proofs.Common.{◌≤◌, length, drop, ◌-◌, ◌*◌, Option}
 use Rattle.pcap_records.specs.declared.fault.CaptureFault.{CaptureFault}
-use Rattle.pcap_records.specs.Agreement.{Refuses}
+use Rattle.lists.specs.Agreement.{Refuses}
 use Rattle.pcap_records.specs.Reading.{records_after}
 use Rattle.pcap_records.specs.CaptureView.{bytes_of, heading_of}
 use Rattle.pcap_records.proofs.reader.fault_after.Given as goal

@@ -2,8 +2,8 @@ use Rattle.std.proofs.Common.{◌≡◌, length, map, drop, ◌+◌, ◌-◌, sy
 use Rattle.std.proofs.lemmas.List.{drop-drop, map_push, length_push}
 use Rattle.std.proofs.lemmas.List.Elements.{All-push, All-nil}
 use Rattle.pcap_records.specs.Instants.{ticks_of}
-use Rattle.pcap_records.specs.Agreement.{Refuses}
-use Rattle.pcap_records.specs.CaptureView.{bytes_of, heading_of, IsWithinFile, packet_of, refusal}
+use Rattle.lists.specs.Agreement.{Refuses}
+use Rattle.pcap_records.specs.CaptureView.{bytes_of, heading_of, IsWithinFile, packet_of, capture_refusal}
 use Rattle.pcap_records.proofs.Passes.{listed_before-none, listed-whole, listed-torn, listed-too_long, refuses-listed}
 use Rattle.pcap_records.proofs.reader.list_records.Goals as goal
 
@@ -53,7 +53,7 @@ returns-in_default-clause-exact c =
     let found = c.in-Whole.ensures in
     let before = c.records.records.items in
     let count : c.len-in-Whole.result + 1 ≡ length before + 1 = omega (arith, c.len-in-Whole.ensures, c.records.records.ok.0) in
-    let o = refusal c.fault_after.result in
+    let o = capture_refusal c.fault_after.result in
     let after = rw (count, ← drop-drop (16 + c.in-Whole.record.len) c.records.at bytes, found.len) at c.fault_after.ensures in
     subst (λ read. Refuses o read) (sym (listed-whole h (map (packet_of bytes) before) (length before) (drop c.records.at bytes) found.is_whole) ∙ c.records.invariant.same)
     (refuses-listed o _ _ after)

@@ -1,5 +1,5 @@
 use Rattle.std.proofs.lemmas.Result.{err_from_is_err_and}
-use Rattle.pcap_records.specs.CaptureView.{bytes_of, heading_of, refusal}
+use Rattle.pcap_records.specs.CaptureView.{bytes_of, heading_of, capture_refusal}
 use Rattle.pcap_records.proofs.Passes.{reading-bad_header, reading-refused, reading-listed}
 use Rattle.pcap_records.proofs.reader.read_file.Goals as goal
 
@@ -14,7 +14,7 @@ pub returns-in_err-list-clause-exact : goal.returns-in_err-list-clause-exact
 returns-in_err-list-clause-exact c =
     let p = err_from_is_err_and c.from_residual-in_err-list.result c.from_residual-in_err-list.ensures.1 in
     let fault = c.in_err-list.field-0.0 in
-    rw (p.1, p.2) (reading-refused (refusal fault) (bytes_of c.args.bytes) (heading_of c.in_ok-heading.heading) c.in_ok-heading.ensures.exact c.in_err-list.ensures.exact)
+    rw (p.1, p.2) (reading-refused (capture_refusal fault) (bytes_of c.args.bytes) (heading_of c.in_ok-heading.heading) c.in_ok-heading.ensures.exact c.in_err-list.ensures.exact)
 
 pub returns-clause-exact : goal.returns-clause-exact
 returns-clause-exact c =

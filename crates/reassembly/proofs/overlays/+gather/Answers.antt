@@ -1,6 +1,6 @@
 use Rattle.std.proofs.Common.{rules, ◌∙◌}
 use Rattle.std.proofs.lemmas.Result.{IfOk-weaker}
-use Rattle.reassembly.proofs.Halves.{near_take, near_drop, gathered_same}
+use Rattle.reassembly.proofs.Merging.{near_take, near_drop, gathered_same}
 use Rattle.reassembly.proofs.overlays.+gather.Goals as goal
 
 pub gather-requires : goal.gather-requires

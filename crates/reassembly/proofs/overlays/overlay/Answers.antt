@@ -1,5 +1,5 @@
 use Rattle.std.proofs.Common.{inl, inr, arith}
-use Rattle.reassembly.proofs.Turns.{upper_end, lower_end, hidden_at, added_at, ended_at, none_left}
+use Rattle.reassembly.proofs.Merging.{upper_end, lower_end, hidden_at, added_at, ended_at, none_left}
 use Rattle.reassembly.proofs.overlays.overlay.Goals as goal
 use Rattle.reassembly.proofs.overlays.overlay.Goals.{then-merge-test+else-j-right, else-merge-test}
 

@@ -4,9 +4,8 @@ use Rattle.conn_table.specs.IndexedConnections.{IndexedConnection, without_indic
 use Rattle.conn_table.specs.Tables.{conn_in}
 use Rattle.reassembly.specs.RecordedLines.{recorded_connection}
 use Rattle.reassembly.specs.RecordedView.{recorded_view, IsConnectionOf}
-use Rattle.reassembly.proofs.LinesMade.{AreLines, are_lines}
-use Rattle.reassembly.proofs.SideMaking.{four_ok}
-use Rattle.reassembly.proofs.ConnectionJoin.{all_in_file, recorded_is}
+use Rattle.reassembly.proofs.Joining.{four_ok}
+use Rattle.reassembly.proofs.ConnectionJoin.{AreLines, all_in_file, recorded_is, are_lines}
 use Rattle.reassembly.proofs.recordings.lines.Goals as goal
 
 pub recorded_by_members-requires-clause-filed : goal.recorded_by_members-requires-clause-filed

@@ -1,7 +1,7 @@
 use Rattle.std.proofs.Common.{refl, ap, arith}
 use Rattle.reassembly.specs.LineView.{bytes_of_parts}
 use Rattle.reassembly.proofs.Walks.{walk_begin, walk_at, walk_ends, part_near, no_rest, gap_next}
-use Rattle.reassembly.proofs.Turns.{none_left}
+use Rattle.reassembly.proofs.Merging.{none_left}
 use Rattle.reassembly.proofs.sides.front_parts.Goals as goal
 use Rattle.reassembly.proofs.sides.front_parts.Goals.{then-walk-test+then-from_at-len+else-len-stop, then-walk-test+else-from_at-len, else-walk-test}
 

@@ -1,4 +1,4 @@
-use Rattle.reassembly.proofs.SideMaking.{both_ok, side_made}
+use Rattle.reassembly.proofs.Joining.{both_ok, side_made}
 use Rattle.reassembly.proofs.sides.recorded_side.Goals as goal
 
 pub returns : goal.returns

@@ -1,5 +1,6 @@
-use Rattle.std.proofs.Common.{◌+◌, length, take}
+use Rattle.std.proofs.Common.{◌+◌, arith, length, take}
 use Rattle.std.proofs.KnownBytes.{Appends-trans}
+use Rattle.std.proofs.lemmas.Grind.{common_steps}
 use Rattle.std.proofs.lemmas.Result.{err_from_is_err_and}
 use Rattle.run_files.specs.WrittenOutputs.{reports_of}
 use Rattle.run_files.proofs.PrintedPart.{printed_part}
@@ -18,3 +19,6 @@ returns-in_err-write_bytes-clause-first_part g c =
     let all = Appends-trans _ _ _ (reports_of (take c.loop-output.output-index items)) (take part.0 report) c.loop-output.invariant.printed appended in
     rw (p.1, ← c.as_slice-output-items.ensures)
     (length (reports_of (take c.loop-output.output-index items)) + part.0, printed.0, (rw printed.1 at all))
+
+pub loop-output-preserved : goal.loop-output-preserved
+loop-output-preserved g c = grind (arith, common_steps)

@@ -12,6 +12,21 @@ returns g c =
       loop.none_failed,
     )
 
+-- the capture was not taken
+pub returns-in_err-put_file : goal.returns-in_err-put_file
+returns-in_err-put_file g c =
+    let fault = err_from_is_err_and c.from_residual.result c.from_residual.ensures.1 in
+    let outputs = c.args.outputs.now in
+    let first : ℕ = c.args.first in
+    let k : ℕ = c.loop-place.place in
+    let n : ℕ = first + k in
+    let o = c.index-outputs-place.result in
+    let loop = c.loop-place.invariant in
+    let next = next_files outputs k n o _ c.loop-place-test.true c.index-outputs-place.is loop.next in
+    let before : 2 * n ≡ 2 * first + 2 * k = omega arith in
+    rw (fault.1, fault.2)
+    (stops_here (2 * first) (2 * n) (files_from first outputs) (2 * k) (capture_file n o) _ _ _ _ _ _ _ _ before next loop.taken loop.none_failed c.in_err-put_file.ensures)
+
 -- the capture was taken, and the report was not
 pub returns-in_err-put_file-2 : goal.returns-in_err-put_file-2
 returns-in_err-put_file-2 g c =

@@ -2,7 +2,7 @@ use Rattle.std.proofs.Common.{◌++◌, ◌∙◌, List, map, refl, sym, ap, sub
 use Rattle.std.specs.List.{AllByRecursion}
 use Rattle.std.proofs.lemmas.Result.{IfOk-weaker}
 use Rattle.reassembly.specs.LineView.{line_of}
-use Rattle.segment_writer.specs.WrittenSegments.{sorted_by_key}
+use Rattle.segment_writer.specs.WrittenSegments.{below, sorted_by_key}
 use Rattle.segment_writer.specs.OrderedLists.{Ordered, sorted_by}
 use Rattle.segment_writer.specs.Senders.{in_turn, peer_in, line_written}
 use Rattle.segment_writer.specs.LaidSegments.{framed_of, framed_in, IsLaid, IsLaidIn}
@@ -10,7 +10,7 @@ use Rattle.segment_writer.specs.declared.framed.Framed.{Framed}
 use Rattle.segment_writer.specs.declared.laid.Laid.{Laid}
 use Rattle.segment_writer.specs.declared.senders.Sender.{Sender}
 use Rattle.segment_writer.proofs.Sorting.{ordered-sorted}
-use Rattle.segment_writer.proofs.InOrder.{below, key_order}
+use Rattle.segment_writer.proofs.InOrder.{key_order}
 use Rattle.segment_writer.proofs.LaidSteps.{laid_below, ordered_laid, turns_sorted, turns_written, turns_laid}
 use Rattle.segment_writer.proofs.TurnOrder.{line_ordered, opening_ordered}
 use Rattle.segment_writer.proofs.connection_segments.laid_segments.Goals as goal

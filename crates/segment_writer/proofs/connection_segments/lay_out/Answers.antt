@@ -8,7 +8,7 @@ use Rattle.segment_writer.specs.WrittenSegments.{WrittenConnection}
 use Rattle.segment_writer.specs.TimelyLines.{IsTimely}
 use Rattle.segment_writer.specs.LaidSegments.{framed_in}
 use Rattle.segment_writer.specs.declared.senders.Sender.{Sender}
-use Rattle.segment_writer.proofs.WholeSegments.{lines_are_timely, connection_as, line_is}
+use Rattle.segment_writer.proofs.WholeSegments.{lines_are_timely, connection_is, line_is}
 use Rattle.segment_writer.proofs.connection_segments.lay_out.Goals as goal
 
 pub laid_segments-requires-clause-client : goal.laid_segments-requires-clause-client
@@ -34,7 +34,7 @@ returns c =
     c.of.ensures
     ∙ (λ i. map (framed_in client (sym c.deref.ensures.value i) (sym c.deref-2.ensures.value i)) c.in_ok-laid.laid.items)
     ∙ c.in_ok-laid.ensures.framed
-    ∙ connection_as client client.unit c.args.recorded.now.up.ticks w (line_of c.deref.result.now c.end-up_end.result) (line_of c.deref-2.result.now c.end-down_end.result) (c.client_in-client.ensures.sender d) c.client_in-client.ensures.ticks up down
+    ∙ connection_is client client.unit c.args.recorded.now.up.ticks w (line_of c.deref.result.now c.end-up_end.result) (line_of c.deref-2.result.now c.end-down_end.result) (c.client_in-client.ensures.sender d) c.client_in-client.ensures.ticks up down
 
 pub laid_segments-requires-clause-turn : goal.laid_segments-requires-clause-turn
 laid_segments-requires-clause-turn c = ap (λ (s : Sender). s.turn) (c.client_in-client.ensures.sender (delivered_view c.args.delivered))

@@ -1,5 +1,6 @@
 use Rattle.std.proofs.Common.{◌+◌, ◌++◌, length}
-use Rattle.segment_writer.specs.OrderedLists.{has_lower_key, sorted_by}
+use Rattle.segment_writer.specs.OrderedLists.{sorted_by}
+use Rattle.segment_writer.specs.WrittenSegments.{has_lower_key}
 use Rattle.segment_writer.proofs.InOrder.{key_order}
 use Rattle.segment_writer.proofs.JoinSteps.{Joining}
 use Rattle.segment_writer.proofs.keyed.merged.Given as goal

@@ -1,6 +1,5 @@
 use Rattle.std.proofs.Common.{◌∙◌}
-use Rattle.segment_writer.specs.OrderedLists.{has_lower_key}
-use Rattle.segment_writer.specs.WrittenSegments.{is_key_below}
+use Rattle.segment_writer.specs.WrittenSegments.{is_key_below, has_lower_key}
 use Rattle.segment_writer.proofs.InOrder.{key_order}
 use Rattle.segment_writer.proofs.JoinSteps.{after_all, filled, nothing, none_left, none_right}
 use Rattle.segment_writer.proofs.keyed.overlap.Goals as goal

@@ -1,5 +1,5 @@
 use Rattle.std.proofs.Common.{◌∙◌, sym}
-use Rattle.segment_writer.specs.OrderedLists.{has_lower_key}
+use Rattle.segment_writer.specs.WrittenSegments.{has_lower_key}
 use Rattle.segment_writer.proofs.InOrder.{key_order}
 use Rattle.segment_writer.proofs.JoinSteps.{left_front, left_highest, right_front, right_highest}
 use Rattle.segment_writer.proofs.keyed.take_last.Goals as goal

@@ -1,4 +1,4 @@
-use Rattle.segment_writer.proofs.KeyTimes.{once_in_any_order}
+use Rattle.segment_writer.proofs.KeyCounts.{once_in_any_order}
 use Rattle.segment_writer.proofs.laws.once_in_any_order.Goals as goal
 
 pub returns : goal.returns

@@ -4,7 +4,7 @@ use Rattle.std.specs.List.{AllByRecursion}
 use Rattle.segment_writer.specs.declared.framed.Framed.{Framed}
 use Rattle.segment_writer.specs.declared.laid.Laid.{Laid}
 use Rattle.segment_writer.specs.LaidSegments.{framed_of, IsLaid}
-use Rattle.segment_writer.proofs.LaidSteps.{all_append}
+use Rattle.lists.proofs.Lists.{all_push}
 use Rattle.segment_writer.proofs.SentClimb.{climbs_live}
 use Rattle.segment_writer.proofs.TurnSteps.{going_starts, step_hears, step_early, going_late, step_fits, step_falls, going_on, going_ends, end_hears, going_ends_late, going_ends_with}
 use Rattle.segment_writer.proofs.turns.line_segments.Goals as goal
@@ -43,7 +43,7 @@ pieces-preserved c =
     record {
       going = going_on _ _ _ _ _ _ _ _ _ _ c.pieces.invariant.going _ _ c.part_at.ensures _ c.piece_len-len.ensures c.piece_laid.result.1 c.hear-heard.result _ _ _ _ _ (c.is_late.ensures.early c.if-is_late.false) c.piece_laid.ensures.cursor c.piece_laid.ensures.left
           c.hear-heard.ensures.heard c.hear-heard.ensures.all c.numbers_at-numbers.ensures.seq c.numbers_at-numbers.ensures.ack c.numbers_at-numbers.ensures.place c.piece_laid.ensures.framed more;
-      laid = subst (AllByRecursion (IsLaid c.args.sender.now c.args.own.now)) (sym c.in_ok-push.ensures.items) (all_append (IsLaid c.args.sender.now c.args.own.now) c.pieces.list.items (laid ∷ []) c.pieces.invariant.laid (c.piece_laid.ensures.laid, tt));
+      laid = subst (AllByRecursion (IsLaid c.args.sender.now c.args.own.now)) (sym c.in_ok-push.ensures.items) (all_push (IsLaid c.args.sender.now c.args.own.now) c.pieces.list.items laid c.pieces.invariant.laid c.piece_laid.ensures.laid);
     }
 
 pub returns-in_default-clause-framed : goal.returns-in_default-clause-framed

@@ -1,4 +1,4 @@
-use Rattle.std.proofs.Common.{◌≡◌, ◌≤◌, ◌<◌, ℕ, ◌+◌, ◌-◌, ◌*◌, min, max, List, ◌++◌, length, take, get_or, arith, length-append, sym, ap, ap₂, ◌∙◌}
+use Rattle.std.proofs.Common.{◌≡◌, ◌<◌, ℕ, ◌+◌, ◌*◌, min, max, List, ◌++◌, length, take, get_or, arith, length-append, sym, ap, ap₂, ◌∙◌}
 use Rattle.std.proofs.Math.Nat.{mul_comm}
 use Rattle.std.proofs.lemmas.List.Elements.{All-set}
 use Rattle.pcap_records.specs.Instants.{horizon, millisecond, ticks_of}
@@ -11,13 +11,6 @@ use Rattle.toxic_defs.proofs.Parts.{length_marked, rest_there, front_there}
 use Rattle.toxic_defs.proofs.ChargedParts.{owed_of, owed_part, fronts, charged_there, milliseconds_small, own_small, leaves_there}
 use Rattle.toxic_defs.proofs.bandwidth.charge_parts.Goals as goal
 
--- what the wire has to do with one part more
-busy_small : (rate at r f m busy n len wire : ℕ) → r ≡ rate → f ≡ at → rate ≤ 1000000 → f < 18446744073709551616 → m ≡ max (r * f) busy → busy ≤ 1000000 * 18446744073709551616 + 1000000 * n
-    → wire ≤ 1000000 * len → m + wire ≤ 1000000 * 18446744073709551616 + 1000000 * (n + len)
-busy_small rate at r f m busy n len wire er ef le lt em small few =
-    let own = own_small r f (rw er le) lt in
-    omega (arith, own)
-
 pub milliseconds-requires : goal.milliseconds-requires
 milliseconds-requires c =
     let there = fronts c.loop-part.parts c.args.parts.now c.loop-part.part-index c.part-item.result (omega arith) c.loop-part.invariant.rest in
@@ -26,25 +19,19 @@ milliseconds-requires c =
 
 pub overflow_add-busy : goal.overflow_add-busy
 overflow_add-busy c =
-    let i : ℕ = c.loop-part.part-index in
-    let p : LinePart = get_or c.loop-part.parts i c.part-item.result in
-    let inv = c.loop-part.invariant in
-    let there = fronts c.loop-part.parts c.args.parts.now i c.part-item.result (omega arith) inv.rest in
-    let short = c.requires.short in
-    let small = busy_small c.args.rate p.at c.from-rate.result c.count.result c.max.result c.loop-part.busy (length (bytes_of_parts (take i c.args.parts.now))) (length p.bytes.now) c.from-in-loop-part.result
-    c.from-rate.ensures c.count.ensures c.requires.rate c.count.type_inv (rw c.from.ensures at c.max.ensures) inv.small (rw (c.from-in-loop-part.ensures, c.milliseconds.ensures) (milliseconds_small c.args.unit (length p.bytes.now))) in
-    omega (arith, small, there, short)
+    let p : LinePart = get_or c.loop-part.parts c.loop-part.part-index c.part-item.result in
+    let there = fronts c.loop-part.parts c.args.parts.now c.loop-part.part-index c.part-item.result (omega arith) c.loop-part.invariant.rest in
+    let own = own_small c.from-rate.result c.from.result (omega arith) (omega arith) in
+    let wire = milliseconds_small c.args.unit (length p.bytes.now) in
+    omega (arith, own, wire, there)
 
 pub done_at-part-requires-clause-fits : goal.done_at-part-requires-clause-fits
 done_at-part-requires-clause-fits c =
-    let i : ℕ = c.loop-part.part-index in
-    let p : LinePart = get_or c.loop-part.parts i c.part-item.result in
-    let inv = c.loop-part.invariant in
-    let there = fronts c.loop-part.parts c.args.parts.now i c.part-item.result (omega arith) inv.rest in
-    let short = c.requires.short in
-    let small = busy_small c.args.rate p.at c.from-rate.result c.count.result c.max.result c.loop-part.busy (length (bytes_of_parts (take i c.args.parts.now))) (length p.bytes.now) c.from-in-loop-part.result
-    c.from-rate.ensures c.count.ensures c.requires.rate c.count.type_inv (rw c.from.ensures at c.max.ensures) inv.small (rw (c.from-in-loop-part.ensures, c.milliseconds.ensures) (milliseconds_small c.args.unit (length p.bytes.now))) in
-    omega (arith, small, there, short)
+    let p : LinePart = get_or c.loop-part.parts c.loop-part.part-index c.part-item.result in
+    let there = fronts c.loop-part.parts c.args.parts.now c.loop-part.part-index c.part-item.result (omega arith) c.loop-part.invariant.rest in
+    let own = own_small c.from-rate.result c.from.result (omega arith) (omega arith) in
+    let wire = milliseconds_small c.args.unit (length p.bytes.now) in
+    omega (arith, own, wire, there)
 
 pub loop-part-preserved : goal.loop-part-preserved
 loop-part-preserved c =
@@ -61,8 +48,8 @@ loop-part-preserved c =
     let filled : 0 < length p.bytes.now = inv.filled i c.part-item.result lt in
     let there : bytes_of_parts (take (i + 1) initial) ≡ front ++ bytes_of_part p = front_there ps initial i c.part-item.result lt' inv.rest in
     let more : length (bytes_of_parts (take (i + 1) initial)) ≡ length front + length p.bytes.now = ap length there ∙ length-append front (bytes_of_part p) ∙ ap (λ n. length front + n) (length_marked p.at p.starts p.bytes.now) in
-    let small = busy_small rate p.at c.from-rate.result c.count.result c.max.result c.loop-part.busy (length front) (length p.bytes.now) c.from-in-loop-part.result
-    c.from-rate.ensures c.count.ensures c.requires.rate c.count.type_inv (rw c.from.ensures at c.max.ensures) inv.small (rw (c.from-in-loop-part.ensures, c.milliseconds.ensures) (milliseconds_small c.args.unit (length p.bytes.now))) in
+    let small = own_small c.from-rate.result c.from.result (omega arith) (omega arith) in
+    let few = milliseconds_small c.args.unit (length p.bytes.now) in
     let milli : ℕ = millisecond (ticks_of c.args.unit) in
     let own : c.max.result ≡ max (rate * p.at) (owed_of rate milli front) =
     c.max.ensures ∙ ap (λ r. max (r * c.from.result) c.loop-part.busy) c.from-rate.ensures ∙ ap (λ f. max (rate * f) c.loop-part.busy) (c.from.ensures ∙ c.count.ensures)
@@ -80,5 +67,5 @@ loop-part-preserved c =
       rest = rest_there ps initial i (part_at c.done_at-part.result p) inv.rest;
       charged = charged_there (bandwidth_leaves limit milli rate) ps initial i c.done_at-part.result c.part-item.result lt lt' inv.rest inv.charged at;
       busy = ap₂ (λ m n. m + n) own wire ∙ sums ∙ sym (owed_part rate milli p.at p.starts front p.bytes.now filled) ∙ ap (owed_of rate milli) (sym there);
-      small = omega (arith, small, more);
+      small = omega (arith, small, few, more);
     }

@@ -1,4 +1,5 @@
-use Rattle.std.proofs.Common.{◌≡◌, ℕ, ◌+◌, ◌-◌, ◌*◌, ◌<◌, min, max, true, false, ◌&&◌, nat_lt, List, ◌++◌, length, take, get_or, arith, subst, sym, ap, ◌∙◌}
+use Rattle.std.proofs.Common.{◌≡◌, ℕ, ◌+◌, ◌-◌, ◌*◌, ◌<◌, min, max, List, ◌++◌, length, take, get_or, arith, subst, sym, ap, ap₂, ◌∙◌}
+use Rattle.std.proofs.lemmas.List.{length_push}
 use Rattle.pcap_records.specs.Instants.{horizon, millisecond, ticks_of}
 use Rattle.reassembly.specs.RecordedLines.{LineByte}
 use Rattle.reassembly.specs.LineView.{bytes_of_part, bytes_of_parts, bytes_with_mark}
@@ -7,9 +8,9 @@ use Rattle.toxic_defs.specs.RandomWords.{word_of}
 use Rattle.toxic_defs.specs.DelayedBytes.{begins, latest}
 use Rattle.toxic_defs.specs.Latency.{latency_leaves, drawn_delay}
 use Rattle.toxic_defs.specs.DrawnNumbers.{GivesNext}
-use Rattle.toxic_defs.specs.declared.drawn_numbers.Spread.{Spread}
 use Rattle.toxic_defs.proofs.Parts.{rest_there, front_there}
-use Rattle.toxic_defs.proofs.MovedParts.{written_there, along_part, leaves_one_more, leaves_no_more, count_one_more, count_no_more}
+use Rattle.toxic_defs.proofs.Latest.{latest-push}
+use Rattle.toxic_defs.proofs.MovedParts.{written_there, along_part, begins_one_more, begins_no_more}
 use Rattle.toxic_defs.proofs.latency.delay_chunks.Goals.{then-begins_chunk, else-begins_chunk}
 use Rattle.toxic_defs.proofs.latency.delay_chunks.Goals as goal
 
@@ -27,32 +28,27 @@ loop-part-preserved c =
     let lt : i < length ps = omega arith in
     let lt' : i < length initial = omega arith in
     let there : bytes_of_parts (take (i + 1) initial) ≡ front ++ bytes_of_part p = front_there ps initial i c.part-item.result lt' inv.rest in
-    let steps : (c.if-begins_chunk.last ≡ leaves (front ++ bytes_of_part p)) × GivesNext c.if-begins_chunk.numbers c.args.key c.args.jitter (1 + length (begins (front ++ bytes_of_part p))) =
+    let ours : List LineByte = front ++ bytes_of_part p in
+    let f : ℕ → ℕ → ℕ = λ j at. min (at + delay j) (horizon (ticks_of c.args.unit)) in
+    let steps : (c.if-begins_chunk.last ≡ leaves ours) × GivesNext c.if-begins_chunk.numbers c.args.key c.args.jitter (1 + length (begins ours)) =
     elim c.if-begins_chunk.branch [
       | then-begins_chunk w ↦
-          let h : (p.starts && nat_lt 0 (length p.bytes.now)) ≡ true = sym c.begins_chunk.ensures ∙ w.if-begins_chunk.true in
+          let more = begins_one_more front p.at p.starts p.bytes.now (sym c.begins_chunk.ensures ∙ w.if-begins_chunk.true) in
           let number = w.next.ensures.number c.args.key c.args.jitter (1 + k) inv.numbers in
           let e : w.milliseconds-delay.result ≡ delay k = w.milliseconds-delay.ensures ∙ ap (λ n. millisecond (ticks_of c.args.unit) * n) (w.saturating_sub.ensures ∙ ap (λ n. c.args.latency + n - c.args.jitter) number) in
-          let count : 1 + k + 1 ≡ 1 + length (begins (front ++ bytes_of_part p)) = omega (arith, count_one_more front p.at p.starts p.bytes.now h) in
-          let next = w.next.ensures.next c.args.key c.args.jitter (1 + k) inv.numbers in (
-            w.last-is ∙ w.greater-last.ensures ∙ ap (λ at. max at w.later.result) inv.last
-                ∙ ap (λ at. max (leaves front) at) (w.later.ensures ∙ ap (λ d. min (p.at + d) (horizon (ticks_of c.args.unit))) e)
-                ∙ sym (leaves_one_more (horizon (ticks_of c.args.unit)) delay front p.at p.starts p.bytes.now h),
-            subst (λ (s : Spread). GivesNext s c.args.key c.args.jitter (1 + length (begins (front ++ bytes_of_part p)))) (sym w.numbers-is)
-                (subst (λ (n : ℕ). GivesNext w.next.new.self c.args.key c.args.jitter n) count next),
+          let count : 1 + (k + 1) ≡ 1 + k + 1 = omega arith in
+          rw (w.last-is, w.numbers-is, more, length_push (begins front) p.at, count) (
+            w.greater-last.ensures ∙ ap₂ (λ a b. max a b) inv.last (w.later.ensures ∙ ap (λ d. min (p.at + d) (horizon (ticks_of c.args.unit))) e) ∙ sym (latest-push f (begins front) p.at),
+            w.next.ensures.next c.args.key c.args.jitter (1 + k) inv.numbers,
           )
       | else-begins_chunk w ↦
-          let h : (p.starts && nat_lt 0 (length p.bytes.now)) ≡ false = sym c.begins_chunk.ensures ∙ w.if-begins_chunk.false in
-          let count : 1 + k ≡ 1 + length (begins (front ++ bytes_of_part p)) = omega (arith, count_no_more front p.at p.starts p.bytes.now h) in (
-            w.last-is ∙ inv.last ∙ sym (leaves_no_more (horizon (ticks_of c.args.unit)) delay front p.at p.starts p.bytes.now h),
-            subst (λ (s : Spread). GivesNext s c.args.key c.args.jitter (1 + length (begins (front ++ bytes_of_part p)))) (sym w.numbers-is)
-                (subst (λ (n : ℕ). GivesNext c.loop-part.numbers c.args.key c.args.jitter n) count inv.numbers),
-          )
+          let same = begins_no_more front p.at p.starts p.bytes.now (sym c.begins_chunk.ensures ∙ w.if-begins_chunk.false) in
+          rw (w.last-is, w.numbers-is, same) (inv.last, inv.numbers)
     ] in
     record {
       rest = rest_there ps initial i (record { at = c.if-begins_chunk.last; starts = p.starts; bytes = p.bytes }) inv.rest;
       bytes = written_there ps initial i c.part-item.result (record { at = c.if-begins_chunk.last; starts = p.starts; bytes = p.bytes }) leaves lt lt' inv.rest inv.bytes
-          (ap (λ at. bytes_with_mark at p.starts p.bytes.now) steps.0 ∙ sym (along_part (latest (λ j at. min (at + delay j) (horizon (ticks_of c.args.unit)))) front p.at p.starts p.bytes.now));
+          (ap (λ at. bytes_with_mark at p.starts p.bytes.now) steps.0 ∙ sym (along_part (latest f) front p.at p.starts p.bytes.now));
       last = steps.0 ∙ ap leaves (sym there);
       numbers = subst (λ (bs : List LineByte). GivesNext c.if-begins_chunk.numbers c.args.key c.args.jitter (1 + length (begins bs))) (sym there) steps.1;
     }

@@ -7,9 +7,6 @@ pub loop-t-init : goal.loop-t-init
 unfolding chain
 loop-t-init c = record { line = c.requires.line; ticks = refl; ranges = tt; done = refl }
 
-pub run-requires : goal.run-requires
-run-requires c = c.loop-t.invariant.line
-
 pub loop-t-preserved : goal.loop-t-preserved
 loop-t-preserved c = record {
   line = c.in_ok-line.ensures.is_line;
@@ -20,9 +17,6 @@ loop-t-preserved c = record {
 
 pub returns-clause-line : goal.returns-clause-line
 returns-clause-line c = chain_end _ _ _ _ _ _ c.loop-t.t c.args.toxics.now _ _ (omega arith) c.loop-t.invariant.done
-
-pub returns-clause-is_line : goal.returns-clause-is_line
-returns-clause-is_line c = c.loop-t.invariant.line
 
 pub returns-clause-ranges : goal.returns-clause-ranges
 returns-clause-ranges c = range_end c.loop-t.t c.args.toxics.now (omega arith) c.loop-t.invariant.ranges

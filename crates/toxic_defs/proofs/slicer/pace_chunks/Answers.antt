@@ -1,4 +1,4 @@
-use Rattle.std.proofs.Common.{◌≡◌, ℕ, ◌+◌, ◌-◌, ◌<◌, min, max, true, false, ◌&&◌, Bool, nat_lt, List, ◌++◌, length, take, get_or, arith, refl, sym, ap, ◌∙◌}
+use Rattle.std.proofs.Common.{◌≡◌, ℕ, ◌+◌, ◌-◌, ◌<◌, min, max, true, false, ◌&&◌, Bool, nat_lt, List, ◌++◌, length, take, get_or, arith, refl, sym, ap, ap₂, ◌∙◌}
 use Rattle.std.proofs.lemmas.Bool.{lt-ltb}
 use Rattle.std.proofs.lemmas.List.Elements.{All-set}
 use Rattle.pcap_records.specs.Instants.{horizon, ticks_of}
@@ -9,7 +9,8 @@ use Rattle.toxic_defs.specs.DelayedBytes.{begins}
 use Rattle.toxic_defs.specs.Slicer.{paced, slicer_leaves}
 use Rattle.toxic_defs.specs.Slices.{IsFilled}
 use Rattle.toxic_defs.proofs.Parts.{rest_there, front_there}
-use Rattle.toxic_defs.proofs.MovedParts.{written_there, along_part, slice_leaves, slice_next, same_leaves, same_next}
+use Rattle.toxic_defs.proofs.Latest.{owed}
+use Rattle.toxic_defs.proofs.MovedParts.{written_there, along_part, begins_one_more, begins_no_more, paced_last, paced_next}
 use Rattle.toxic_defs.proofs.slicer.pace_chunks.Goals.{then-part, else-part}
 use Rattle.toxic_defs.proofs.slicer.pace_chunks.Goals as goal
 
@@ -35,18 +36,19 @@ loop-part-preserved c =
     let mark : (p.starts && nat_lt 0 (length p.bytes.now)) ≡ p.starts = by_mark p.starts p.bytes.now filled in
     let there : bytes_of_parts (take (i + 1) initial) ≡ front ++ bytes_of_part p = front_there ps initial i c.part-item.result lt' inv.rest in
     let q : LinePart = record { at = c.if-part.last; starts = p.starts; bytes = p.bytes } in
-    let steps : (c.if-part.last ≡ leaves (front ++ bytes_of_part p)) × (c.if-part.next ≡ paced limit gap (length (begins (front ++ bytes_of_part p))) (begins (front ++ bytes_of_part p))) =
+    let ours : List LineByte = front ++ bytes_of_part p in
+    let steps : (c.if-part.last ≡ leaves ours) × (c.if-part.next ≡ min (owed 1 gap 0 (begins ours)) limit) =
     elim c.if-part.branch [
       | then-part w ↦
-          let h = mark ∙ w.if-part.true in
+          let more = begins_one_more front p.at p.starts p.bytes.now (mark ∙ w.if-part.true) in
           let own : w.later.result ≡ min p.at limit = w.later.ensures ∙ ap (λ x. min x limit) (omega arith) in
-          let last : c.if-part.last ≡ leaves (front ++ bytes_of_part p) =
-          w.last-is ∙ w.greater-last.ensures ∙ ap (λ x. max x w.later.result) inv.next ∙ ap (λ x. max (paced limit gap (length (begins front)) (begins front)) x) own
-          ∙ sym (slice_leaves limit gap front p.at p.starts p.bytes.now h) in
-          (last, w.next-is ∙ w.later-next.ensures ∙ ap (λ x. min (x + gap) limit) (sym w.last-is ∙ last) ∙ sym (slice_next limit gap front p.at p.starts p.bytes.now h))
+          let last : w.greater-last.result ≡ max (min (owed 1 gap 0 (begins front)) limit) (min p.at limit) = w.greater-last.ensures ∙ ap₂ (λ a b. max a b) inv.next own in (
+            w.last-is ∙ last ∙ sym (ap (λ ats. paced limit gap (length ats - 1) ats) more ∙ paced_last limit gap (begins front) p.at),
+            w.next-is ∙ w.later-next.ensures ∙ ap (λ x. min (x + gap) limit) last ∙ sym (ap (λ ats. min (owed 1 gap 0 ats) limit) more ∙ paced_next limit gap (begins front) p.at),
+          )
       | else-part w ↦
-          let h = mark ∙ w.if-part.false in
-          (w.last-is ∙ inv.last ∙ sym (same_leaves limit gap front p.at p.starts p.bytes.now h), w.next-is ∙ inv.next ∙ sym (same_next limit gap front p.at p.starts p.bytes.now h))
+          let same = begins_no_more front p.at p.starts p.bytes.now (mark ∙ w.if-part.false) in
+          (w.last-is ∙ inv.last ∙ sym (ap (λ ats. paced limit gap (length ats - 1) ats) same), w.next-is ∙ inv.next ∙ sym (ap (λ ats. min (owed 1 gap 0 ats) limit) same))
     ] in
     record {
       filled = All-set IsFilled ps i q filled inv.filled;
@@ -54,5 +56,5 @@ loop-part-preserved c =
       bytes = written_there ps initial i c.part-item.result q leaves lt lt' inv.rest inv.bytes
           (ap (λ at. bytes_with_mark at p.starts p.bytes.now) steps.0 ∙ sym (along_part (λ ats. paced limit gap (length ats - 1) ats) front p.at p.starts p.bytes.now));
       last = steps.0 ∙ ap leaves (sym there);
-      next = steps.1 ∙ ap (λ (bs : List LineByte). paced limit gap (length (begins bs)) (begins bs)) (sym there);
+      next = steps.1 ∙ ap (λ (bs : List LineByte). min (owed 1 gap 0 (begins bs)) limit) (sym there);
     }

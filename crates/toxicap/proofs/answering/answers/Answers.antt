@@ -18,11 +18,11 @@ returns-clause-answer g c =
     let options = c.args.options.now in (
       c.in_ok-text.text.items,
       loaded.lost,
-      answered options.hosts (map (λ t. t.now) c.args.texts.now) options.seed c.answer_to_text.result c.in_ok-text.text.items _ loaded.within loaded.at_end (rw c.of.ensures at c.answer_to_text.ensures),
+      answered options.hosts (map (λ t. t.now) c.args.texts.now) options.seed c.answers_by.result c.in_ok-text.text.items _ loaded.within loaded.at_end (rw c.of.ensures at c.answers_by.ensures),
     )
 
 -- no read has failed
 pub returns-clause-failed : goal.returns-clause-failed
 returns-clause-failed g c =
     let options = c.args.options.now in
-    omega (arith, c.in_ok-text.ensures.none_failed, none_read options.hosts (map (λ t. t.now) c.args.texts.now) options.seed c.answer_to_text.result c.in_ok-text.text.items (rw c.of.ensures at c.answer_to_text.ensures))
+    omega (arith, c.in_ok-text.ensures.none_failed, none_read options.hosts (map (λ t. t.now) c.args.texts.now) options.seed c.answers_by.result c.in_ok-text.text.items (rw c.of.ensures at c.answers_by.ensures))

@@ -1,6 +1,5 @@
-use Rattle.std.proofs.Common.{◌≡◌, ◌++◌, length}
+use Rattle.std.proofs.Common.{◌≡◌, ◌++◌, length, map}
 use Rattle.std.specs.Vec.Iter.{into_iter_items, into_iter_len}
-use Rattle.toxicap.specs.GatheredOutputs.{lines_in, segments_in}
 use Rattle.toxicap.proofs.layouts.parts_of_row.Given as goal
 
 abbrev pub invariant-loop-delivery : goal.invariant-loop-delivery
@@ -8,5 +7,5 @@ invariant-loop-delivery l =
     (goal.iterator-loop-delivery).can_next l.delivery-iterator ×
     (goal.iterator-loop-delivery).is_finite l.delivery-iterator ×
     (into_iter_len l.delivery-iterator ≡ length (into_iter_items l.delivery-iterator)) ×
-    (l.layouts.items ++ segments_in (into_iter_items l.delivery-iterator) ≡ segments_in l.fn.row) ×
-    (l.lines.items ++ lines_in (into_iter_items l.delivery-iterator) ≡ lines_in l.fn.row)
+    (l.layouts.items ++ map (λ d. d.segments) (into_iter_items l.delivery-iterator) ≡ map (λ d. d.segments) l.fn.row) ×
+    (l.lines.items ++ map (λ d. d.line) (into_iter_items l.delivery-iterator) ≡ map (λ d. d.line) l.fn.row)

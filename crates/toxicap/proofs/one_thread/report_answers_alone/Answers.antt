@@ -1,7 +1,6 @@
 use Rattle.std.proofs.lemmas.Result.{err_from_is_err_and}
 use Rattle.run_files.specs.RunFault.{run_refusal}
-use Rattle.toxicap.proofs.PrintedSteps.{of_fault_printed}
-use Rattle.toxicap.proofs.TextsTaken.{agrees_unless_memory}
+use Rattle.toxicap.proofs.TextsTaken.{agrees_unless_memory, of_fault_printed}
 use Rattle.toxicap.proofs.one_thread.report_answers_alone.Goals as goal
 
 pub returns-in_err-inputs : goal.returns-in_err-inputs

@@ -14,7 +14,7 @@ use Rattle.time_merge.specs.MergedCapture.{all_segments}
 use Rattle.scenarios.specs.declared.proxies.Proxy.{Proxy}
 use Rattle.conn_workers.specs.DeliveryRows.{connections_of, delivery_of, deliveries}
 use Rattle.toxicap.specs.GatheredOutputs.{segments_in, lines_in, gathered_output}
-use Rattle.toxicap.specs.Rehearsal.{output, outputs_of}
+use Rattle.toxicap.specs.Rehearsal.{scenario_output, outputs_of}
 use Rattle.toxicap.proofs.WholeTables.{as_many, unopened_is}
 use Rattle.toxicap.proofs.RowSteps.{mapped_more, row_fits, row_left}
 use Rattle.toxicap.proofs.GatheredRows.{next_scenario, next_row, next_number, row_is_sorted, row_stands_once, gathered_is}
@@ -73,7 +73,7 @@ loop-number-preserved g c =
     ∙ ap₂ (gathered_output seen number c.in_ok-table.table.unopened) (c.in_ok-row.ensures.segments ∙ ap segments_in row) (c.in_ok-row.ensures.lines ∙ ap lines_in row)
     ∙ gathered_is seen seed s number c.in_ok-table.table.unopened (sym (next_number scenarios number c.loop-number-test.true)) unopened in
     record {
-      made = c.in_ok-push.ensures.items ∙ ap₂ (λ xs o. xs ++ o ∷ []) c.loop-number.invariant.made gathered ∙ mapped_more (output seen seed) (enumerate_from 0 scenarios) number (0, []) within;
+      made = c.in_ok-push.ensures.items ∙ ap₂ (λ xs o. xs ++ o ∷ []) c.loop-number.invariant.made gathered ∙ mapped_more (scenario_output seen seed) (enumerate_from 0 scenarios) number (0, []) within;
       left = c.in_ok-row.ensures.left ∙ ap₂ drop c.loop-number.invariant.wide c.loop-number.invariant.left
           ∙ row_left (delivery_of seen.ticks seed) (enumerate_from 0 scenarios) (connections_of seen) number (0, []) within;
       fewer = omega (arith, c.loop-number.invariant.fewer, c.in_ok-row.ensures.fewer, ap length c.in_ok-row.ensures.left, length-drop count before);

@@ -1,17 +1,24 @@
-use Rattle.toxicap.proofs.Evaluated.{repeated_grouped, in_turn_grouped, unopened_first_grouped, both_sides_grouped, late_answers_grouped}
+use Rattle.std.proofs.Common.{refl}
+use Rattle.conn_table.specs.Connections.{beginnings, connections, unopened_count}
+use Rattle.reassembly.specs.Positions.{server_base}
 use Rattle.toxicap.proofs.rows.grouping_rows.Goals as goal
 
 pub returns-clause-repeated : goal.returns-clause-repeated
-returns-clause-repeated c = repeated_grouped
+unfolding beginnings connections unopened_count server_base
+returns-clause-repeated c = (refl, refl)
 
 pub returns-clause-in_turn : goal.returns-clause-in_turn
-returns-clause-in_turn c = in_turn_grouped
+unfolding beginnings connections unopened_count server_base
+returns-clause-in_turn c = refl
 
 pub returns-clause-unopened_first : goal.returns-clause-unopened_first
-returns-clause-unopened_first c = unopened_first_grouped
+unfolding beginnings connections unopened_count server_base
+returns-clause-unopened_first c = (refl, refl)
 
 pub returns-clause-both_sides : goal.returns-clause-both_sides
-returns-clause-both_sides c = both_sides_grouped
+unfolding beginnings connections unopened_count server_base
+returns-clause-both_sides c = refl
 
 pub returns-clause-late_answers : goal.returns-clause-late_answers
-returns-clause-late_answers c = late_answers_grouped
+unfolding beginnings connections unopened_count server_base
+returns-clause-late_answers c = (refl, refl, refl)

@@ -44,9 +44,9 @@ returns-in_err-text-clause-runs g c =
     ) in
     let fault = err_from_is_err_and c.from_residual-in_err-text.result c.from_residual-in_err-text.ensures.1 in
     let stop = c.in_err-text.ensures in
-    rw (fault.1, fault.2) (runs_stopped c.args.asked.now hosts texts takes _ _
+    rw (fault.1, fault.2) (runs_stopped c.args.asked.now hosts texts takes _
     (Consumes (g.R.Read.remaining c.args.reader.now.inner) (g.R.Read.remaining c.load_capture.new.reader.inner)) c.args.reader.now.failed c.load_capture.new.reader.failed
-    (λ text n lost count. (lost, count)) refl stop.input (IfSome_then c.args.asked.now.capture stop.file (λ path of. (of.0, of.1))))
+    (λ text n lost count. (lost, count)) _ refl stop.input (IfSome_then c.args.asked.now.capture stop.file (λ path of. (of.0, of.1))))
 
 pub returns-in_err-text-clause-named : goal.returns-in_err-text-clause-named
 returns-in_err-text-clause-named g c =
@@ -72,9 +72,9 @@ returns-clause-runs g c =
       (map (λ f. f.items) files, length-map files (λ f. f.items) ∙ (rw c.deref-2.ensures.value at c.in_ok-files.ensures.one_each), rw c.deref-3.ensures.value at c.in_ok-texts.ensures),
     ) in
     let load = c.in_ok-text.ensures in
-    runs_loaded c.args.asked.now hosts texts takes c.answer_into.result _
+    runs_loaded c.args.asked.now hosts texts takes _
     (Consumes (g.R.Read.remaining c.args.reader.now.inner) (g.R.Read.remaining c.load_capture.new.reader.inner)) c.args.reader.now.failed c.load_capture.new.reader.failed
-    (λ text n lost count. (lost, count)) c.in_ok-text.text load.within c.answer_into.ensures.unwritten load.input
+    (λ text n lost count. (lost, count)) c.answer_into.result c.in_ok-text.text load.within c.answer_into.ensures.unwritten load.input
     (IfSome_then c.args.asked.now.capture load.file (λ path of. of.0)) (rw c.deref-4.ensures.value at c.answer_into.ensures.ends)
 
 pub returns-clause-named : goal.returns-clause-named

@@ -1,7 +1,6 @@
 use Rattle.std.proofs.Common.{refl}
-use Rattle.conn_table.specs.Entries.{all_of}
 use Rattle.conn_table.proofs.Growths.{grown-none}
 use Rattle.conn_table.proofs.growth.Growth.of_none.Goals as goal
 
 pub returns : goal.returns
-returns c = grown-none (all_of c.args.ranges.now) _ c.in_ok-with_capacity.ensures.items refl c.in_ok-with_room.ensures.lasts c.in_ok-with_room.ensures.empty
+returns c = grown-none _ c.in_ok-with_capacity.ensures.items refl c.in_ok-with_room.ensures.lasts c.in_ok-with_room.ensures.empty

@@ -1,9 +1,9 @@
-use Rattle.std.proofs.Common.{◌≡◌, [], map, refl, ap, ◌∙◌, sym, arith}
+use Rattle.std.proofs.Common.{◌≡◌, refl, ap, ◌∙◌, sym, arith}
 use Rattle.std.proofs.lemmas.List.{map-append, length-append}
-use Rattle.conn_table.specs.Partials.{joined}
+use Rattle.conn_table.specs.Partials.{joined_partial}
 use Rattle.conn_table.specs.Entries.{all_of, kept_by}
 use Rattle.conn_table.proofs.CountingSteps.{count_at-sum}
-use Rattle.conn_table.proofs.EntrySteps.{all_of-append, kept_of-behind, marked_behind-append}
+use Rattle.conn_table.proofs.Growths.{all_of-append}
 use Rattle.conn_table.proofs.partial.Partial.join.Goals as goal
 
 pub invariant_of-result : goal.invariant_of-result
@@ -20,19 +20,15 @@ invariant_of-result c =
     }
 
 pub returns-clause-exact : goal.returns-clause-exact
-unfolding joined
+unfolding joined_partial
 returns-clause-exact c =
     let xs = all_of c.left.inside.ranges.items in
     let ys = all_of c.right.inside.ranges.items in
-    let told = c.in_ok-append.ensures.items in
     rw (
       ← c.left.view_is,
       ← c.right.view_is,
       c.plus.ensures,
-      told,
+      c.in_ok-append.ensures.items,
       all_of-append c.left.inside.ranges.items c.right.inside.ranges.items,
       map-append kept_by xs ys,
-      marked_behind-append [] (map kept_by xs) (map kept_by ys),
-      kept_of-behind [] (map kept_by xs),
-      kept_of-behind [] (map kept_by ys),
     ) refl

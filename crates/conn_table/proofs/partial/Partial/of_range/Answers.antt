@@ -1,15 +1,13 @@
-use Rattle.std.proofs.Common.{◌+◌, ℕ, List, [], map, ◌≡◌, ◌≤◌, ◌<◌, ◌^◌, length, sym, ◌∙◌, ap, arith, false}
+use Rattle.std.proofs.Common.{◌+◌, ◌≡◌, ◌≤◌, ◌<◌, ◌^◌, length, refl, sym, ◌∙◌, ap, arith, false, max, ◌∷◌, ◌++◌, [], ap₂}
 use Rattle.std.proofs.lemmas.List.{length_push, map_push}
 use Rattle.frame_headers.specs.Frame.{frame_class, segment}
-use Rattle.frame_headers.specs.Class.{frame_class_of, fields_of_segment}
+use Rattle.frame_headers.specs.Class.{frame_class_of}
 use Rattle.conn_table.specs.IndexedSegments.{is_segment}
-use Rattle.conn_table.specs.ClassCounts.{counts_of}
-use Rattle.conn_table.specs.Partials.{MarkedKept, PartialView, partial_in, marked_in, marked_after, marked_behind, packets_between, segments_between}
-use Rattle.conn_table.specs.declared.class_counts.Counts.{Counts}
-use Rattle.conn_table.specs.Entries.{kept_by, marks_of}
-use Rattle.conn_table.proofs.EntrySteps.{all_of-one}
-use Rattle.conn_table.proofs.MarkSteps.{marked_behind-kept}
-use Rattle.conn_table.proofs.PartialSteps.{IsRecordOf, ends_within, at-none, counts-none, kept-none, at-more, counts-more, counts-few, kept-segment, kept-other, marks_between, is_segment-other}
+use Rattle.conn_table.specs.KeptSegments.{kept_at, segment_read}
+use Rattle.conn_table.specs.Partials.{partial_in, carried}
+use Rattle.conn_table.specs.Entries.{kept_by}
+use Rattle.conn_table.proofs.Growths.{all_of-one}
+use Rattle.conn_table.proofs.PartialSteps.{IsRecordOf, ends_within, at-none, counts-none, kept-none, at-more, counts-more, counts-few, kept-segment, kept-other, is_segment-other}
 use Rattle.conn_table.proofs.partial.Partial.of_range.Goals.{in-Segment+in_ok-push, in_default}
 use Rattle.conn_table.proofs.partial.Partial.of_range.Goals as goal
 
@@ -73,14 +71,12 @@ loop-index-preserved c =
           let is : frame_class bytes ≡ segment = sym c.classify-class.ensures.class ∙ ap frame_class_of w.in-Segment.is in
           let fields = rw w.in-Segment.is at c.classify-class.ensures.segment in
           let payload = rw w.in-Segment.is at c.classify-class.ensures.payload in
+          let same = (rw now at w.of_segment.ensures) ∙ ap₂ (λ n f. kept_at (r.start + n) (segment_read i (max (carried capture from i carry) r.stamp) f)) payload.offset fields in
           record {
             segments = rw (w.entries-is, told) (omega (arith, length_push c.loop-index.entries.items w.of_segment.result, was.segments, ordered));
             at = at;
             counts = counted;
-            kept = rw (w.entries-is, told) (
-                map_push kept_by c.loop-index.entries.items w.of_segment.result
-                ∙ kept-segment capture from i carry r bytes (map kept_by c.loop-index.entries.items) (kept_by w.of_segment.result) (r.start + w.in-Segment.segment.offset) (fields_of_segment w.in-Segment.segment) ordered here is was.kept
-                (ap (λ n. r.start + n) payload.offset) fields (rw now at w.of_segment.ensures));
+            kept = rw (w.entries-is, told) (map_push kept_by c.loop-index.entries.items w.of_segment.result ∙ ap₂ (λ ks k. ks ++ k ∷ []) was.kept same ∙ kept-segment capture from i carry r bytes ordered here is);
           }
       | in_default w ↦
           let other : is_segment (frame_class bytes) ≡ false = ap is_segment (sym c.classify-class.ensures.class) ∙ is_segment-other c.classify-class.result (λ s e. w.in_default.not-Segment s e) in
@@ -108,14 +104,6 @@ invariant_of-result c =
 pub returns-clause-exact : goal.returns-clause-exact
 unfolding partial_in
 returns-clause-exact c =
-    let capture = c.args.capture.now in
     let was = c.loop-index.invariant in
     let over : c.loop-index.index ≡ c.args.to = omega arith in
-    let view : Counts → List MarkedKept → PartialView = λ counts marked. record { from = c.args.from; to = c.args.to; counts = counts; marked = marked } in
-    let of_index : ℕ → PartialView = λ i. view (counts_of (packets_between capture c.args.from i c.args.carry)) (marks_between capture c.args.from i c.args.carry) in
-    let segs = segments_between capture c.args.from c.loop-index.index c.args.carry in
-    let marks : marks_of c.loop-index.entries.items ≡ map (marked_in capture) (marked_after [] segs) = ap (λ ks. marked_behind [] ks) was.kept ∙ marked_behind-kept capture [] segs in
-    let told =
-    ap (λ n. view n (marks_of c.loop-index.entries.items)) was.counts
-    ∙ (ap (λ ms. view (counts_of (packets_between capture c.args.from c.loop-index.index c.args.carry)) ms) marks ∙ ap of_index over) in
-    rw (c.in_ok-vec.ensures.items, all_of-one c.loop-index.entries) told
+    rw (c.in_ok-vec.ensures.items, all_of-one c.loop-index.entries, was.counts, was.kept, over) refl

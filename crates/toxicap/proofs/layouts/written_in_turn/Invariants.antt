@@ -1,9 +1,0 @@
-use Rattle.std.proofs.Common.{◌≡◌, ℕ, List, ◌++◌, take}
-use Rattle.pcap_records.specs.Instants.{ticks_of}
-use Rattle.time_merge.specs.MergedCapture.{capture_in_turn}
-use Rattle.toxicap.proofs.layouts.written_in_turn.Given as goal
-
--- the draft and the batch after it have the header, and the records of the segments until now
-abbrev pub invariant-loop-place : goal.invariant-loop-place
-invariant-loop-place g l =
-    (written : List ℕ) × g.S.DraftShelf.holds l.draft written × (written ++ l.batch.items ≡ capture_in_turn (ticks_of l.fn.unit) (take l.place l.merged))

@@ -1,0 +1,4 @@
+pub mod ToldFiles
+pub mod DraftPaths
+pub mod Histories
+pub mod MemoryDisks

@@ -1,0 +1,156 @@
+//! What is asked of a disk: to open files and read them, and to keep drafts of files until they get their names.
+ghost use Rattle.std.specs.Prelude.{◌≡◌};
+
+use std::alloc::{AllocError, Global};
+use std::io;
+use thiserror::Error;
+
+/// Why a disk did not do what it was asked.
+#[derive(Clone, Copy, Debug, PartialEq, Eq, Error)]
+pub enum DiskFault {
+    /// The disk failed, for whatever cause.
+    #[error("the disk failed")]
+    Failed,
+    /// Memory was refused.
+    #[error("out of memory")]
+    Memory,
+}
+
+impl From<io::Error> for DiskFault {
+    ghost use Rattle.disks.specs.declared.disk.DiskFault.TheVariants.{Failed};
+
+    ghost from_gives = { λ _ r. r ≡ Failed };
+
+    fn from(_refused: io::Error) -> DiskFault {
+        DiskFault::Failed
+    }
+}
+
+impl From<AllocError> for DiskFault {
+    ghost use Rattle.disks.specs.declared.disk.DiskFault.TheVariants.{Memory};
+
+    ghost from_gives = { λ _ r. r ≡ Memory };
+
+    fn from(_refused: AllocError) -> DiskFault {
+        DiskFault::Memory
+    }
+}
+
+/// What sets a file of a disk apart from all its others, whatever its paths: on Linux the device that it is on, and its inode number there.
+#[derive(Clone, Copy, Debug, PartialEq, Eq)]
+pub struct FileId {
+    /// The device.
+    pub device: u64,
+    /// The inode number.
+    pub inode: u64,
+}
+
+/// A file that is open to be read.
+///
+/// Contracts see two things of it. `told` is what is told of its bytes, or `None` where nothing is; `place` is how many of them
+/// [`read`](DiskFile::read) has gone past.
+pub trait DiskFile {
+    ghost use Rattle.std.specs.Prelude.{◌≡◌, ℕ, ◌+◌, ◌≤◌, Option, length, IfOk, IfSome, OnErr};
+    ghost use Rattle.disks.specs.ToldFiles.{Reads, ToldFile, file_len};
+
+    ghost told: { Self → Option ToldFile };
+
+    ghost place: { Self → ℕ };
+
+    /// How many bytes it has; nothing where that is not known, as of a pipe.
+    fn len(&self) -> Option<u64>
+        ensures { IfSome (told self.now) (λ file. IfSome result (λ len. len ≡ file_len file)) };
+
+    /// Reads once from a place on, at most as many bytes as `room` has; 0 of them only at the end.
+    ///
+    /// # Errors
+    /// [`DiskFault::Failed`] where the read fails.
+    fn read_at(&self, room: &mut [u8], at: usize) -> Result<usize, DiskFault>
+        ensures within { IfOk result (λ n. n ≤ length room.new) }
+        ensures len { length room.new ≡ length room.old }
+        ensures told { IfSome (told self.now) (λ file. Reads result file at room.new) };
+
+    /// Reads once from where the last read ended.
+    ///
+    /// # Errors
+    /// [`DiskFault::Failed`] where the read fails. The place is then as it was.
+    fn read(&mut self, room: &mut [u8]) -> Result<usize, DiskFault>
+        ensures within { IfOk result (λ n. n ≤ length room.new) }
+        ensures len { length room.new ≡ length room.old }
+        ensures told { IfSome (told self.old) (λ file. Reads result file (place self.old) room.new) }
+        ensures same { told self.new ≡ told self.old }
+        ensures place { IfSome (told self.old) (λ _. IfOk result (λ n. place self.new ≡ place self.old + n)) }
+        ensures as_before { OnErr result (place self.new ≡ place self.old) };
+}
+
+/// Where files are written: each as a draft, beside the others and by any thread where the disk is `Sync`, which gets its name when it is whole.
+///
+/// Contracts see three things. `history` is what the paths held at first and the files that got names since, or `None` where the disk
+/// does not tell that; `faults` is the number of its failed calls; and a draft `holds` some bytes, unless it has failed. Of paths of
+/// drafts nothing is told, so a draft has no path that a file may get as its name.
+pub trait Disk {
+    ghost use Rattle.std.specs.Prelude.{◌≡◌, ℕ, ◌+◌, ◌-◌, ◌^◌, ◌<◌, [], ◌∷◌, ◌++◌, List, Option, OnErr, OnOk, is_ok, if◌then◌else◌};
+    ghost use Rattle.std.specs.String.{string_bytes};
+    ghost use Rattle.disks.specs.DraftPaths.{IsDraftPath};
+    ghost use Rattle.disks.specs.Histories.{History, Names, named_file};
+
+    /// A file that is written and has no name yet. One that is let go leaves nothing.
+    type Draft: Drop;
+
+    ghost history: { Self → Option History };
+
+    ghost faults: { Self → ℕ };
+
+    ghost holds: { Self.Draft → List ℕ → Type 0 };
+
+    /// Begins a draft without bytes, which may have failed.
+    fn draft(&self, path: String) -> Self::Draft
+        requires { IsDraftPath (string_bytes path) }
+        ensures { holds result [] };
+
+    /// Appends bytes to a draft. A draft that fails stays so, and gets no name.
+    fn append(draft: &mut Self::Draft, bytes: &[u8])
+        ensures { (had : List ℕ) → holds draft.old had → holds draft.new (had ++ bytes.now) };
+
+    /// Looks whether a file may get this name: not where a folder stands, or a file that may not be written, or one of those that are
+    /// spared.
+    ///
+    /// # Errors
+    /// It may not, or the disk failed. Its files are as they were.
+    fn allow_name(&mut self, path: &str, spared: &[FileId]) -> Result<(), DiskFault>
+        requires { faults self.old < 2 ^ 64 - 1 }
+        ensures as_before { history self.new ≡ history self.old }
+        ensures counted { faults self.new ≡ (if is_ok result then faults self.old else faults self.old + 1) };
+
+    /// Gives a draft its name, in place of the file that had it.
+    ///
+    /// # Errors
+    /// The disk or the draft failed. The disk's files are as they were.
+    fn name(&mut self, draft: Self::Draft, path: &str) -> Result<(), DiskFault>
+        requires count { faults self.old < 2 ^ 64 - 1 }
+        requires apart { IsDraftPath path.now → ⊥ }
+        ensures named { (bytes : List ℕ) → holds draft bytes → OnOk result (Names (history self.old) (history self.new) (named_file path.now bytes ∷ [])) }
+        ensures as_before { OnErr result (history self.new ≡ history self.old) }
+        ensures counted { faults self.new ≡ (if is_ok result then faults self.old else faults self.old + 1) };
+
+    /// What sets the file at a path apart from all others; nothing where none is there, or none can be seen.
+    fn file_id(&self, path: &str) -> Option<FileId>;
+}
+
+/// A disk whose files can be read.
+pub trait ReadDisk: Disk {
+    ghost use Rattle.std.specs.Prelude.{◌≡◌, IfOk, IfSome};
+    ghost use Rattle.disks.specs.ToldFiles.{Opens};
+    ghost use Rattle.disks.specs.Histories.{held_now};
+
+    /// A file that is open.
+    type File: DiskFile + Drop;
+
+    /// Opens the file at a path, to be read from its first byte on.
+    ///
+    /// # Errors
+    /// [`DiskFault::Failed`] where no file can be opened there; [`DiskFault::Memory`].
+    fn open(&self, alloc: Global, path: &str) -> Result<Self::File, DiskFault>
+        ensures told { IfSome (Self.history self.now) (λ h. Opens Self.File.told (held_now h path.now) result) }
+        ensures place { IfOk result (λ file. Self.File.place file ≡ 0) };
+}

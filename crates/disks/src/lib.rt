@@ -1,0 +1,12 @@
+//! Disks: where files are read by their paths, and written, whole, under names that they get last. The host's disk tells nothing of what it
+//! holds, since others may change it; a disk in memory tells everything.
+#![tactic(auto)]
+
+mod disk;
+mod host;
+pub mod laws;
+mod memory;
+
+pub use disk::{Disk, DiskFault, DiskFile, FileId, ReadDisk};
+pub use host::{HostDisk, HostDraft, HostFile};
+pub use memory::{MemoryDisk, MemoryDraft, MemoryFile};

@@ -1,0 +1,358 @@
+//! A disk in memory, which tells what its paths hold, and fails where it is told to.
+ghost use Rattle.std.specs.Prelude.{◌≡◌, ◌+◌, ◌-◌, ◌^◌, ◌<◌, is_ok, if◌then◌else◌};
+
+use crate::disk::{Disk, DiskFault, DiskFile, FileId, ReadDisk};
+use std::alloc::{AllocError, Global};
+use std::marker::Model;
+
+/// A file that stood at a path from the beginning, of which some last bytes may be lost.
+#[derive(Drop)]
+struct FirstFile {
+    path: String,
+    bytes: Vec<u8>,
+    lost: u32,
+}
+
+impl Model for FirstFile {
+    ghost use Rattle.std.specs.String.{string_bytes};
+    ghost use Rattle.disks.specs.MemoryDisks.{PlacedFile};
+
+    ghost Value = { PlacedFile };
+
+    ghost view = { λ f. record { path = string_bytes f.path; file = record { bytes = f.bytes.items; lost = f.lost } } };
+}
+
+/// A whole file that got a name.
+#[derive(Drop)]
+struct WholeFile {
+    path: String,
+    bytes: Vec<u8>,
+}
+
+impl Model for WholeFile {
+    ghost use Rattle.std.specs.String.{string_bytes};
+    ghost use Rattle.disks.specs.Histories.{NamedFile, named_file};
+
+    ghost Value = { NamedFile };
+
+    ghost view = { λ f. named_file (string_bytes f.path) f.bytes.items };
+}
+
+/// A disk in memory. Contracts see its history and how many of its calls have failed.
+///
+/// It fails where memory is refused, and where it is told to: at one of its calls, of which [`name`](Disk::name) and
+/// [`allow_name`](Disk::allow_name) count; where bytes of a file are lost; and where a draft would have more bytes than there is room for.
+#[derive(Drop)]
+pub struct MemoryDisk {
+    alloc: Global,
+    first: Vec<FirstFile>,
+    names: Vec<WholeFile>,
+    failed: u64,
+    good_calls: Option<u64>,
+    draft_room: usize,
+    read_len: usize,
+}
+
+impl Model for MemoryDisk {
+    ghost use Rattle.disks.specs.MemoryDisks.{MemoryDiskView};
+
+    ghost Value = { MemoryDiskView };
+
+    ghost view = { λ d. record { first = d.first.items; names = d.names.items; failed = d.failed } };
+}
+
+/// A file of a disk in memory, which is open to be read.
+#[derive(Drop)]
+pub struct MemoryFile {
+    bytes: Vec<u8>,
+    lost: u32,
+    place: usize,
+    read_len: usize,
+}
+
+/// A draft of a disk in memory.
+#[derive(Drop)]
+pub struct MemoryDraft {
+    bytes: Vec<u8>,
+    has_failed: bool,
+    room: usize,
+}
+
+impl MemoryDisk {
+    ghost use Rattle.std.specs.Prelude.{◌≡◌, [], ◌∷◌, ◌++◌, false, OnOk, OnErr, option_map};
+    ghost use Rattle.disks.specs.Histories.{held_now, named_file};
+    ghost use Rattle.disks.specs.MemoryDisks.{history_of, told_of};
+
+    /// A disk without files, of which no call has failed. It takes no memory.
+    pub fn new(alloc: Global) -> MemoryDisk
+        ensures { result ≡ record { first = []; names = []; failed = 0 } }
+    {
+        MemoryDisk {
+            alloc,
+            first: Vec::new(alloc),
+            names: Vec::new(alloc),
+            failed: 0,
+            good_calls: None,
+            draft_room: usize::MAX,
+            read_len: usize::MAX,
+        }
+    }
+
+    /// Puts a file at a path, from the beginning on: these bytes, and after them so many that are lost.
+    ///
+    /// # Errors
+    /// A growth was refused; the disk is as it was.
+    pub fn put_first(&mut self, path: &str, bytes: &[u8], lost: u32) -> Result<(), AllocError>
+        ensures put { OnOk result (self.new ≡ record {
+          first = self.old.first ++ record { path = path.now; file = record { bytes = bytes.now; lost = lost } } ∷ [];
+          names = self.old.names;
+          failed = self.old.failed;
+        }) }
+        ensures as_before { OnErr result (self.new ≡ self.old) }
+    {
+        let path = String::from_str(self.alloc, path)?;
+        let bytes = Vec::from_slice(self.alloc, bytes)?;
+        self.first.push(FirstFile { path, bytes, lost })?;
+        Ok(())
+    }
+
+    /// The disk fails once, after so many calls that go well.
+    pub fn fail_after(&mut self, calls: u64)
+        ensures { self.new ≡ self.old }
+    {
+        self.good_calls = Some(calls);
+    }
+
+    /// A draft fails that is to have more bytes than this.
+    pub fn limit_drafts(&mut self, room: usize)
+        ensures { self.new ≡ self.old }
+    {
+        self.draft_room = room;
+    }
+
+    /// No read gives more bytes than this; one that could give some gives one at least.
+    pub fn limit_reads(&mut self, len: usize)
+        ensures { self.new ≡ self.old }
+    {
+        self.read_len = len;
+    }
+
+    /// How many calls have failed.
+    pub fn failed(&self) -> u64
+        ensures { result ≡ self.now.failed }
+    {
+        self.failed
+    }
+
+    /// The bytes of the file at a path, but for those that are lost; nothing where there is none.
+    pub fn bytes(&self, path: &str) -> Option<&[u8]>
+        ensures { option_map (λ bytes. bytes.now) result ≡ option_map (λ file. file.bytes) (held_now (history_of self.now) path.now) }
+    {
+        match self.find(path) {
+            Some((bytes, _)) => Some(bytes),
+            None => None,
+        }
+    }
+
+    // The file at a path, its bytes and how many of them are lost.
+    fn find(&self, path: &str) -> Option<(&[u8], u32)>
+        ensures { told_of result ≡ held_now (history_of self.now) path.now }
+    {
+        let mut found: Option<(&[u8], u32)> = None;
+        for place in 0..self.first.len() {
+            let file = &self.first[place];
+            if path == file.path.as_str() {
+                found = Some((file.bytes.as_slice(), file.lost));
+            }
+        }
+        for place in 0..self.names.len() {
+            let file = &self.names[place];
+            if path == file.path.as_str() {
+                found = Some((file.bytes.as_slice(), 0));
+            }
+        }
+        found
+    }
+
+    // Whether this call is the one that fails.
+    fn fails_now(&mut self) -> bool
+        ensures { self.new ≡ self.old }
+    {
+        match self.good_calls {
+            None => false,
+            Some(0) => {
+                self.good_calls = None;
+                true
+            }
+            Some(calls) => {
+                self.good_calls = Some(calls - 1);
+                false
+            }
+        }
+    }
+
+    // Keeps a draft under a name.
+    fn keep(&mut self, draft: MemoryDraft, path: &str) -> Result<(), DiskFault>
+        ensures named { OnOk result (self.new ≡ record {
+          first = self.old.first;
+          names = self.old.names ++ named_file path.now draft.bytes.items ∷ [];
+          failed = self.old.failed;
+        }) }
+        ensures whole { OnOk result (draft.has_failed ≡ false) }
+        ensures as_before { OnErr result (self.new ≡ self.old) }
+    {
+        if self.fails_now() || draft.has_failed {
+            return Err(DiskFault::Failed);
+        }
+        let path = String::from_str(self.alloc, path)?;
+        self.names
+            .push(WholeFile {
+                path,
+                bytes: draft.bytes,
+            })
+            .map_err(AllocError::from)?;
+        Ok(())
+    }
+}
+
+// Counts a call that has failed.
+fn count(outcome: &Result<(), DiskFault>, failed: &mut u64)
+    requires { failed.old < 2 ^ 64 - 1 }
+    ensures { failed.new ≡ (if is_ok outcome.now then failed.old else failed.old + 1) }
+{
+    if outcome.is_err() {
+        *failed += 1;
+    }
+}
+
+impl Disk for MemoryDisk {
+    ghost use Rattle.std.specs.Prelude.{◌≡◌, false, Some};
+    ghost use Rattle.disks.specs.MemoryDisks.{history_of};
+
+    type Draft = MemoryDraft;
+
+    ghost history = { λ d. Some (history_of d) };
+
+    ghost faults = { λ d. d.failed };
+
+    ghost holds = { λ d bytes. d.has_failed ≡ false → d.bytes.items ≡ bytes };
+
+    fn draft(&self, path: String) -> MemoryDraft {
+        drop(path);
+        MemoryDraft {
+            bytes: Vec::new(self.alloc),
+            has_failed: false,
+            room: self.draft_room,
+        }
+    }
+
+    fn append(draft: &mut MemoryDraft, bytes: &[u8]) {
+        let fits = bytes.len() <= draft.room.saturating_sub(draft.bytes.len());
+        if !fits || draft.bytes.extend_from_slice(bytes).is_err() {
+            draft.has_failed = true;
+        }
+    }
+
+    fn allow_name(&mut self, path: &str, spared: &[FileId]) -> Result<(), DiskFault> {
+        let allowed = self.look_at_name(path, spared);
+        count(&allowed, &mut self.failed);
+        allowed
+    }
+
+    fn name(&mut self, draft: MemoryDraft, path: &str) -> Result<(), DiskFault> {
+        let named = self.keep(draft, path);
+        count(&named, &mut self.failed);
+        named
+    }
+
+    fn file_id(&self, path: &str) -> Option<FileId> {
+        self.id_of(path)
+    }
+}
+
+impl MemoryDisk {
+    ghost use Rattle.std.specs.Prelude.{◌≡◌};
+
+    // A file is set apart by its place among those that stand at paths, or did.
+    fn id_of(&self, path: &str) -> Option<FileId> {
+        let named = self
+            .names
+            .iter()
+            .rposition(|file| path == file.path.as_str());
+        if let Some(place) = named {
+            return Some(FileId {
+                device: 1,
+                inode: place as u64,
+            });
+        }
+        let first = self
+            .first
+            .iter()
+            .rposition(|file| path == file.path.as_str())?;
+        Some(FileId {
+            device: 0,
+            inode: first as u64,
+        })
+    }
+
+    // Refuses a name that stands for a file that is spared.
+    fn look_at_name(&mut self, path: &str, spared: &[FileId]) -> Result<(), DiskFault>
+        ensures { self.new ≡ self.old }
+    {
+        if self.fails_now() {
+            return Err(DiskFault::Failed);
+        }
+        match self.id_of(path) {
+            Some(id) if spared.contains(&id) => Err(DiskFault::Failed),
+            _ => Ok(()),
+        }
+    }
+}
+
+impl DiskFile for MemoryFile {
+    ghost use Rattle.std.specs.Prelude.{Some};
+
+    ghost told = { λ f. Some (record { bytes = f.bytes.items; lost = f.lost }) };
+
+    ghost place = { λ f. f.place };
+
+    fn len(&self) -> Option<u64> {
+        Some(self.bytes.len() as u64 + u64::from(self.lost))
+    }
+
+    fn read_at(&self, room: &mut [u8], at: usize) -> Result<usize, DiskFault> {
+        let len = self.bytes.len();
+        if at >= len {
+            return if (at - len) < self.lost as usize {
+                Err(DiskFault::Failed)
+            } else {
+                Ok(0)
+            };
+        }
+        let count = room.len().min(len - at).min(self.read_len.max(1));
+        room[..count].copy_from_slice(&self.bytes[at..at + count]);
+        Ok(count)
+    }
+
+    fn read(&mut self, room: &mut [u8]) -> Result<usize, DiskFault> {
+        let count = self.read_at(room, self.place)?;
+        self.place += count;
+        Ok(count)
+    }
+}
+
+impl ReadDisk for MemoryDisk {
+    type File = MemoryFile;
+
+    fn open(&self, alloc: Global, path: &str) -> Result<MemoryFile, DiskFault> {
+        let Some((bytes, lost)) = self.find(path) else {
+            return Err(DiskFault::Failed);
+        };
+        Ok(MemoryFile {
+            bytes: Vec::from_slice(alloc, bytes)?,
+            lost,
+            place: 0,
+            read_len: self.read_len,
+        })
+    }
+}

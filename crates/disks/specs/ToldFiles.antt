@@ -19,9 +19,14 @@ file_len file = length file.bytes + file.lost
 abbrev pub Held : Type 0
 Held = List ℕ → Option ToldFile
 
+-- a path holds a file, and that is what is told of the file that was opened
+abbrev pub IsFileAt : Option ToldFile → Option ToldFile → Type 0
+IsFileAt None told = ⊥
+IsFileAt (Some file) told = told ≡ Some file
+
 -- how opening a file ends, given what is told of the file that was opened, by what its path holds
 abbrev pub Opens : {File : Type 0} → (File → Option ToldFile) → Option ToldFile → Result File DiskFault → Type 0
-Opens told held (Ok file) = told file ≡ held
+Opens told held (Ok file) = IsFileAt held (told file)
 Opens told held (Err fault.Failed) = held ≡ None
 Opens told held (Err fault.Memory) = Unit {0}
 

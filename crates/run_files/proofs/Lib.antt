@@ -1,5 +1,6 @@
 mod DumpTable
 mod DumpLemmas
+mod LoadedFiles
 mod LoadedParts
 mod PrintedPart
 pub mod StoredFiles

@@ -3,6 +3,7 @@
 //! writer or stored on a shelf.
 #![tactic(auto)]
 
+mod block_loading;
 mod drafts;
 mod dumps;
 mod error;
@@ -10,7 +11,6 @@ mod fault_lines;
 pub mod laws;
 mod loading;
 mod outputs;
-mod paths;
 mod shelves;
 mod streams;
 mod texts;
@@ -19,9 +19,8 @@ pub use drafts::{DraftShelf, DraftedOutput, FolderDraft, MemoryDraft, store_draf
 pub use dumps::{capture_bytes, is_dump, undump};
 pub use error::{RunFault, ShelfError, StoreFault};
 pub use fault_lines::fault_line;
-pub use loading::load_by_workers;
+pub use loading::{load_by_workers, load_file};
 pub use outputs::{Output, Outputs, print_reports, store_all, store_from};
-pub use paths::{FileSystem, Paths};
 pub use shelves::{Folder, MemoryFile, MemoryShelf, Shelf};
 pub use streams::{Counted, load, write_bytes};
 pub use texts::Text;

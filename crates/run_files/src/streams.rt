@@ -3,7 +3,6 @@ ghost use Rattle.std.specs.Prelude.{◌≡◌, ◌+◌, ◌-◌, ◌^◌, ◌<�
 ghost use Rattle.std.specs.Io.{ReadsAtMost, WritesAtMost};
 ghost use Rattle.std.specs.Io.KnownBytes.{ReadConsumes, WriteAppends, Consumes, IsAtEnd, Appends};
 ghost use Rattle.pcap_records.specs.Reading.{capture_limit};
-ghost use Rattle.run_files.specs.Paths.{IsOfFile};
 ghost use Rattle.run_files.specs.Streams.{StopsLoading};
 
 use crate::error::RunFault;
@@ -140,14 +139,6 @@ pub fn load<R: Read>(alloc: Global, reader: &mut Counted<R>) -> Result<Vec<u8>, 
         }
         bytes.extend_from_slice(&buffer[..len])?;
     }
-}
-
-// Loads a file that is open, as [`load`] does.
-pub(crate) fn load_file<F: Read + Drop>(alloc: Global, file: F) -> Result<Vec<u8>, RunFault>
-    ensures within { IfOk result (λ bytes. length bytes.items ≤ capture_limit) }
-    ensures of_file { IfErr result IsOfFile }
-{
-    load(alloc, &mut Counted::new(file))
 }
 
 // Room for one read. It stands apart so that no proof meets a list of so many zeros.

@@ -1,0 +1,54 @@
+use Rattle.std.proofs.Common.{◌≡◌, ◌≤◌, length, All, ◌++◌, ◌∷◌, [], List, map, ap, subst, sym, rules, ◌∙◌, arith}
+use Rattle.std.specs.Vec.Iter.{into_iter_items}
+use Rattle.std.proofs.lemmas.List.{map_push, nil_from_length}
+use Rattle.std.proofs.lemmas.Result.{err_from_is_err_and}
+use Rattle.std.proofs.lemmas.List.Elements.{All-append}
+use Rattle.pcap_records.specs.Blocks.{block_len}
+use Rattle.run_files.proofs.LoadedParts.{Gathers, gathers_none, gathers_one, gathers_no_more, gathers_all}
+use Rattle.run_files.specs.RunFault.{run_refusal}
+use Rattle.run_files.specs.LoadedBlocks.{BlockView, blocks_from}
+use Rattle.run_files.proofs.block_loading.parts_of.Goals as goal
+
+pub loop-block-init : goal.loop-block-init
+loop-block-init g c =
+    let told = g.F.DiskFile.told c.args.file.now in
+    let left = into_iter_items c.into_iter-block-iterator.result in
+    let are : left ≡ blocks_from told 0 c.args.count = c.into_iter-block-iterator.ensures.into_iter_gives.0 ∙ c.into_vec-blocks.ensures ∙ c.requires in
+    record {
+      can_next = tt;
+      is_finite = tt;
+      gathers = rw c.in_ok-parts.ensures.items (gathers_none told c.args.count left are);
+      short = rw c.in_ok-parts.ensures.items (search rules);
+    }
+
+pub loop-block-preserved : goal.loop-block-preserved
+loop-block-preserved g c =
+    let was = c.loop-block.invariant in
+    let told = g.F.DiskFile.told c.args.file.now in
+    let left = into_iter_items c.next.new.self in
+    let parts = map (λ part. part.items) c.loop-block.parts.items in
+    let next = c.in-Some.ensures.steps.0 in
+    let pushed : c.push.new.self.items ≡ c.loop-block.parts.items ++ c.in_ok-part.part ∷ [] = search rules in
+    record {
+      can_next = tt;
+      is_finite = tt;
+      gathers = subst (Gathers told c.args.count left) (sym (ap (map (λ part. part.items)) pushed ∙ map_push (λ part. part.items) c.loop-block.parts.items c.in_ok-part.part))
+          (gathers_one told c.args.count c.in-Some.block left parts (subst (λ xs. Gathers told c.args.count xs parts) next was.gathers) c.in_ok-part.part.items c.in_ok-part.ensures.told);
+      short = subst (λ parts. All (λ part. length part.items ≤ block_len) parts) (sym pushed) (All-append (λ part. length part.items ≤ block_len) c.loop-block.parts.items (c.in_ok-part.part ∷ []) was.short (search rules));
+    }
+
+pub returns-in_err-part-clause-told : goal.returns-in_err-part-clause-told
+returns-in_err-part-clause-told g c =
+    let told = g.F.DiskFile.told c.args.file.now in
+    let parts = map (λ part. part.items) c.loop-block.parts.items in
+    let fault = err_from_is_err_and c.from_residual-in_err-part.result c.from_residual-in_err-part.ensures.1 in
+    rw (fault.1, fault.2) (gathers_no_more told c.args.count c.in-Some.block (into_iter_items c.next.new.self) parts
+    (subst (λ xs. Gathers told c.args.count xs parts) c.in-Some.ensures.steps.0 c.loop-block.invariant.gathers) (run_refusal c.in_err-part.field-0.0) c.in_err-part.ensures.told)
+
+pub returns-clause-told : goal.returns-clause-told
+returns-clause-told g c =
+    let told = g.F.DiskFile.told c.args.file.now in
+    let parts = map (λ part. part.items) c.loop-block.parts.items in
+    let none : into_iter_items c.loop-block.block-iterator ≡ [] =
+    nil_from_length (into_iter_items c.loop-block.block-iterator) (omega (arith, c.in-None.ensures.steps.0, c.loop-block.block-iterator.rest.ok.0)) in
+    gathers_all told c.args.count parts (subst (λ xs. Gathers told c.args.count xs parts) none c.loop-block.invariant.gathers)

@@ -1,0 +1,217 @@
+//! Loading a file in blocks, by workers.
+ghost use Rattle.std.specs.Prelude.{◌≡◌, ◌≤◌, ◌<◌, length, map, [], All, IfErr, IfOk, IfSome, Ok, Err, Some};
+ghost use Rattle.std.specs.Option.{ForSome};
+ghost use Rattle.disks.specs.ToldFiles.{file_len};
+ghost use Rattle.lists.specs.Agreement.{AgreesUnlessMemory};
+ghost use Rattle.pcap_records.specs.Blocks.{block_len, block_limit};
+ghost use Rattle.pcap_records.specs.Reading.{capture_limit};
+ghost use Rattle.run_files.specs.LoadedBlocks.{HasBlocks, blocks_from, part_at, parts_from};
+ghost use Rattle.run_files.specs.Paths.{IsOfFile, text_of};
+ghost use Rattle.run_files.specs.RunFault.{run_refusal};
+
+use crate::error::RunFault;
+use crate::streams::room_to_read;
+use crate::texts::Text;
+use disks::DiskFile;
+use job_matrix::{Phase, Plan, Through, Work, work_all};
+use pcap_records::{BLOCK_LEN, Blocks, CAPTURE_LIMIT, SLICE_LIMIT, Values};
+use std::alloc::{AllocError, Global};
+use std::marker::Model;
+use std::thread::Threads;
+
+// The most blocks that a file may have.
+const BLOCK_LIMIT: usize = CAPTURE_LIMIT / BLOCK_LEN;
+
+// The text of a file in blocks, unless it is to be loaded in one piece.
+pub(crate) fn text_in_blocks<R: Threads + Sync, F: DiskFile + Sync>(
+    rt: &R,
+    alloc: Global,
+    file: &F,
+    plan: Plan,
+) -> Result<Option<Text<'static>>, RunFault>
+    ensures text { IfSome (F.told file.now) (λ f. IfOk result (λ text. IfSome text (λ text. text_of (Some f) ≡ Ok text))) }
+    ensures refused { IfSome (F.told file.now) (λ f. IfErr result (λ fault. IfSome (run_refusal fault) (λ refused. text_of (Some f) ≡ Err refused))) }
+    ensures within { IfOk result (λ text. IfSome text (λ text. length text ≤ capture_limit)) }
+    ensures of_file { IfErr result IsOfFile }
+{
+    let count = block_count(file);
+    if plan.workers() < 2 || count < 2 || count > BLOCK_LIMIT {
+        return Ok(None);
+    }
+    let blocks = blocks_by_workers(rt, alloc, file, count, plan)?;
+    Ok(Text::of_blocks(blocks))
+}
+
+// How many blocks a file has; none where that is not known.
+fn block_count<F: DiskFile>(file: &F) -> usize
+    ensures { IfSome (F.told file.now) (λ f. 0 < result → HasBlocks result f) }
+{
+    match file.len() {
+        Some(len) => (len as usize).div_ceil(BLOCK_LEN),
+        None => 0,
+    }
+}
+
+// The blocks of a file, of which each is a job.
+//
+// # Errors
+// That of the first block that could not be loaded.
+fn blocks_by_workers<R: Threads + Sync, F: DiskFile + Sync>(
+    rt: &R,
+    alloc: Global,
+    file: &F,
+    count: usize,
+    plan: Plan,
+) -> Result<Blocks, RunFault>
+    requires some { 0 < count }
+    requires few { count ≤ block_limit }
+    requires counted { IfSome (F.told file.now) (HasBlocks count) }
+    ensures told { IfSome (F.told file.now) (λ f. AgreesUnlessMemory run_refusal (λ blocks. blocks) result (text_of (Some f))) }
+    ensures within { IfOk result (λ blocks. length blocks ≤ capture_limit) }
+    ensures of_file { IfErr result IsOfFile }
+{
+    let jobs = BlockJobs { alloc, file, count };
+    let workers = plan.workers() as u64;
+    let blocks = work_all(
+        rt,
+        alloc,
+        count as u64,
+        workers.min(count as u64),
+        Phase::Ranges,
+        &Through,
+        &jobs,
+    )?;
+    let parts = parts_of(alloc, file, count, blocks)?;
+    let blocks = Blocks::of_parts(alloc, parts)?;
+    Ok(blocks)
+}
+
+// Blocks of a file: job j loads the block of number j.
+#[derive(Drop)]
+struct BlockJobs<'f, F: DiskFile + Sync> {
+    alloc: Global,
+    file: &'f F,
+    count: usize,
+    ghost few: { count ≤ block_limit },
+    ghost counted: { ForSome (F.told file.now) (HasBlocks count) },
+}
+
+impl<'f, F: DiskFile + Sync> Work for BlockJobs<'f, F> {
+    type Out = LoadedBlock<'f, F>;
+
+    ghost use Rattle.std.specs.Prelude.{◌≡◌, ◌<◌, ◌≤◌, IfOk, get_or, length};
+    ghost use Rattle.pcap_records.specs.Blocks.{block_limit};
+    ghost use Rattle.run_files.specs.LoadedBlocks.{blocks_from};
+
+    ghost values = { λ w. blocks_from (F.told w.file.now) 0 w.count };
+
+    fn value(&self, job: u64) -> Result<LoadedBlock<'f, F>, AllocError> {
+        let at = job as usize * BLOCK_LEN;
+        let bytes = load_part(self.alloc, self.file, at);
+        Ok(LoadedBlock {
+            file: self.file,
+            at,
+            bytes,
+        })
+    }
+}
+
+// The bytes that a block has of its own, or why they were not loaded. Contracts see where in its file the block begins, and what is told of
+// that file.
+#[derive(Drop)]
+struct LoadedBlock<'f, F: DiskFile> {
+    file: &'f F,
+    at: usize,
+    bytes: Result<Vec<u8>, RunFault>,
+}
+
+impl<'f, F: DiskFile> Model for LoadedBlock<'f, F> {
+    ghost use Rattle.std.specs.Prelude.{◌≤◌, IfErr, IfOk, IfSome, length};
+    ghost use Rattle.lists.specs.Agreement.{AgreesUnlessMemory};
+    ghost use Rattle.pcap_records.specs.Blocks.{block_len};
+    ghost use Rattle.run_files.specs.LoadedBlocks.{BlockView, block_view, part_at};
+    ghost use Rattle.run_files.specs.Paths.{IsOfFile};
+    ghost use Rattle.run_files.specs.RunFault.{run_refusal};
+
+    ghost Value = { BlockView };
+
+    ghost view = { λ b. block_view (F.told b.file.now) b.at };
+
+    ghost invariant = { λ b. IfOk b.bytes (λ bytes. length bytes.items ≤ block_len) × IfErr b.bytes IsOfFile
+        × IfSome (F.told b.file.now) (λ f. AgreesUnlessMemory run_refusal (λ bytes. bytes.items) b.bytes (part_at f b.at)) };
+}
+
+impl<'f, F: DiskFile> LoadedBlock<'f, F> {
+    ghost use Rattle.std.specs.Prelude.{◌≤◌, IfErr, IfOk, IfSome, length};
+    ghost use Rattle.lists.specs.Agreement.{AgreesUnlessMemory};
+    ghost use Rattle.pcap_records.specs.Blocks.{block_len};
+    ghost use Rattle.run_files.specs.LoadedBlocks.{part_at};
+    ghost use Rattle.run_files.specs.Paths.{IsOfFile};
+    ghost use Rattle.run_files.specs.RunFault.{run_refusal};
+
+    // Its bytes, or why they were not loaded.
+    fn into_bytes(self) -> Result<Vec<u8>, RunFault>
+        ensures told { IfSome self.entry.told (λ f. AgreesUnlessMemory run_refusal (λ bytes. bytes.items) result (part_at f self.entry.at)) }
+        ensures short { IfOk result (λ bytes. length bytes.items ≤ block_len) }
+        ensures of_file { IfErr result IsOfFile }
+    {
+        self.bytes
+    }
+}
+
+// The bytes of the blocks of a file, block by block.
+//
+// # Errors
+// That of the first block that could not be loaded.
+#[tactic(auto, unfolding(crate::specs::LoadedBlocks::parts_from))]
+fn parts_of<F: DiskFile>(
+    alloc: Global,
+    file: &F,
+    count: usize,
+    blocks: Values<LoadedBlock<'_, F>>,
+) -> Result<Vec<Vec<u8>>, RunFault>
+    requires { blocks ≡ blocks_from (F.told file.now) 0 count }
+    ensures told { IfSome (F.told file.now) (λ f.
+        AgreesUnlessMemory run_refusal (λ parts. map (λ part. part.items) parts.items) result (parts_from f [] 0 count)) }
+    ensures short { IfOk result (λ parts. All (λ part. length part.items ≤ block_len) parts.items) }
+    ensures count { IfOk result (λ parts. length parts.items ≡ count) }
+    ensures of_file { IfErr result IsOfFile }
+{
+    let blocks = blocks.into_vec();
+    let mut parts = Vec::with_capacity(alloc, blocks.len())?;
+    for block in blocks {
+        let part = block.into_bytes()?;
+        parts.push(part).map_err(AllocError::from)?;
+    }
+    Ok(parts)
+}
+
+// The bytes of a file from byte `start` on, as many as a block has of its own or up to the end of the file. There is room for those that
+// a block has of the next one.
+//
+// # Errors
+// [`RunFault::ReadFailed`] where a read failed, and [`RunFault::Memory`].
+fn load_part<F: DiskFile>(alloc: Global, file: &F, start: usize) -> Result<Vec<u8>, RunFault>
+    requires start { start ≤ capture_limit }
+    requires within { IfSome (F.told file.now) (λ f. start < file_len f) }
+    ensures told { IfSome (F.told file.now) (λ f. AgreesUnlessMemory run_refusal (λ part. part.items) result (part_at f start)) }
+    ensures short { IfOk result (λ part. length part.items ≤ block_len) }
+    ensures of_file { IfErr result IsOfFile }
+{
+    let mut room = room_to_read(alloc)?;
+    let buffer = room.as_mut_slice();
+    let mut part = Vec::with_capacity(alloc, BLOCK_LEN + SLICE_LIMIT)?;
+    'reads: loop {
+        if part.len() == BLOCK_LEN {
+            return Ok(part);
+        }
+        let Ok(len) = file.read_at(buffer, start + part.len()) else {
+            return Err(RunFault::ReadFailed);
+        };
+        if len == 0 {
+            return Ok(part);
+        }
+        let own = len.min(BLOCK_LEN - part.len());
+        part.extend_from_slice(&buffer[..own])?;
+    }
+}

@@ -1,1 +1,2 @@
+mod FolderPaths
 mod NamedFiles

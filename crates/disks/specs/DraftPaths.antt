@@ -1,13 +1,17 @@
--- Paths of drafts: those whose last name begins with `toxicap.unfinished`, and the empty path, at which no file can be.
-use Rattle.std.specs.Prelude.{◌≡◌, ℕ, Bool, true, false, ◌||◌, List, [], ◌∷◌, length, take, codes, ◌==◌, bytes_eq, if◌then◌else◌}
+-- Paths of drafts: the last name of each begins with `toxicap.unfinished`; or it is the empty path, at which no file can be.
+use Rattle.std.specs.Prelude.{◌≡◌, ◌⊎◌, ℕ, Bool, true, false, List, [], ◌∷◌, ◌++◌, codes, nat_eq, ◌==◌, if◌then◌else◌}
+use Rattle.std.specs.List.{list_any, starts_with}
 
 -- the byte between two names of a path
 abbrev pub slash : ℕ
 slash = 47
 
 abbrev pub has_slash : List ℕ → Bool
-has_slash [] = false
-has_slash (c ∷ path) = (c == slash) || has_slash path
+has_slash path = list_any (λ c. c == slash) path
+
+-- the path of a file in a folder
+abbrev pub path_in : List ℕ → List ℕ → List ℕ
+path_in folder name = folder ++ slash ∷ name
 
 -- the last name of a path: what comes after its last slash
 abbrev pub last_name : List ℕ → List ℕ
@@ -19,8 +23,12 @@ abbrev pub unfinished : List ℕ
 unfinished = codes "toxicap.unfinished"
 
 abbrev pub is_draft_name : List ℕ → Bool
-is_draft_name name = bytes_eq (take (length unfinished) name) unfinished
+is_draft_name name = starts_with nat_eq name unfinished
 
 abbrev pub IsDraftPath : List ℕ → Type 0
-IsDraftPath [] = Unit {0}
-IsDraftPath (c ∷ path) = is_draft_name (last_name (c ∷ path)) ≡ true
+IsDraftPath path = (path ≡ []) ⊎ (is_draft_name (last_name path) ≡ true)
+
+-- the path of a file in a folder is that of a draft only where its name is a draft's
+abbrev pub DraftsAreNamed : Type 0
+DraftsAreNamed = (folder name : List ℕ) → has_slash name ≡ false
+    → (is_draft_name name ≡ true → IsDraftPath (path_in folder name)) × (IsDraftPath (path_in folder name) → is_draft_name name ≡ true)

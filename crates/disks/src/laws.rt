@@ -1,4 +1,5 @@
 //! Theorems about the definitions of this crate. The contract of each function, which does nothing, is the theorem.
+ghost use Rattle.disks.specs.DraftPaths.{DraftsAreNamed};
 ghost use Rattle.disks.specs.Histories.{NamedAgain, NamesLeaveWhole};
 
 /// However early the work of a disk is cut off, each path holds what it held before, or one whole file of those that were to get names.
@@ -9,4 +10,9 @@ pub fn names_leave_whole()
 /// Files that are named by work that is cut off, and then again by the whole work, are as if the whole work were done once.
 pub fn named_again()
     ensures { NamedAgain }
+{}
+
+/// The path of a file in a folder is that of a draft exactly where its name is one of a draft.
+pub fn drafts_are_named()
+    ensures { DraftsAreNamed }
 {}

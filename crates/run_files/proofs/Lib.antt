@@ -1,5 +1,6 @@
 mod DumpTable
 mod DumpLemmas
+mod DraftNames
 mod LoadedFiles
 mod LoadedParts
 mod PrintedPart

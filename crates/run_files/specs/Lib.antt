@@ -6,4 +6,5 @@ pub mod DraftedOutputs
 pub mod Dumps
 pub mod Texts
 pub mod Shelves
+pub mod Folders
 pub mod WrittenOutputs

@@ -1,5 +1,5 @@
--- Files that are put on a shelf, and what contracts see of a folder and of a shelf in memory.
-use Rattle.std.specs.Prelude.{◌≡◌, ⊤, ℕ, List, ◌++◌, codes, Option, Some, None}
+-- Files that are put on a shelf, and what contracts see of a shelf in memory.
+use Rattle.std.specs.Prelude.{◌≡◌, ⊤, ℕ, List, ◌++◌, Option, Some, None}
 
 -- a file as it was put: its name, and all its bytes
 pub record StoredFile : Type 0 where
@@ -16,18 +16,9 @@ Takes None new files = ⊤
 Takes (Some had) None files = ⊥
 Takes (Some had) (Some has) files = has ≡ had ++ files
 
--- ---- what is seen of a folder and of a shelf in memory
-
--- its path, and how many calls have failed
-pub record FolderView : Type 0 where
-  pub folder : List ℕ
-  pub failed : ℕ
+-- ---- what is seen of a shelf in memory
 
 -- the files, the oldest first, and how many calls have failed
 pub record MemoryShelfView : Type 0 where
   pub files : List StoredFile
   pub failed : ℕ
-
--- the path of a file in a folder
-abbrev pub path_in : List ℕ → List ℕ → List ℕ
-path_in folder name = folder ++ codes "/" ++ name

@@ -1,10 +1,10 @@
 //! Why a run is refused, why files were not all stored, and that a shelf did not take a file.
 ghost use Rattle.std.specs.Prelude.{◌≡◌};
 
+use disks::DiskFault;
 use pcap_records::CaptureFault;
 use scenarios::Refusal;
 use std::alloc::AllocError;
-use std::io;
 use thiserror::Error;
 
 /// Why a run is refused. [`fault_line`](crate::fault_line) gives the line that tells a fault to users.
@@ -111,8 +111,8 @@ impl From<StoreFault> for RunFault {
 #[error("the shelf did not take the file")]
 pub struct ShelfError;
 
-impl From<io::Error> for ShelfError {
-    fn from(_refused: io::Error) -> ShelfError {
+impl From<DiskFault> for ShelfError {
+    fn from(_failed: DiskFault) -> ShelfError {
         ShelfError
     }
 }

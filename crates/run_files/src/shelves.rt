@@ -1,16 +1,10 @@
-//! Shelves: where files are put, whole, one after another; in memory, and in a folder.
-ghost use Rattle.std.specs.Prelude.{◌≡◌, ◌+◌, ◌-◌, ◌^◌, ◌<◌, ◌≤◌, length, IfOk, IsOk, OnOk};
-ghost use Rattle.std.specs.String.{string_bytes, string_capacity};
-ghost use Rattle.run_files.specs.Shelves.{path_in};
+//! Shelves: where files are put, whole, one after another; and one in memory.
+ghost use Rattle.std.specs.Prelude.{◌≡◌};
 
 use crate::error::ShelfError;
 use crate::streams::count_failure;
 use std::alloc::{AllocError, Global};
-use std::fs::{self, Metadata, OpenOptions};
-use std::io::{ErrorKind, Write};
 use std::marker::Model;
-use std::os::unix::fs::MetadataExt;
-use std::rt::Files;
 
 /// Where files are put: a folder, an archive, or a list in memory.
 ///
@@ -74,7 +68,7 @@ impl MemoryFile {
 pub struct MemoryShelf {
     alloc: Global,
     files: Vec<MemoryFile>,
-    pub(crate) failed: u64,
+    failed: u64,
 }
 
 impl Model for MemoryShelf {
@@ -131,7 +125,7 @@ impl MemoryShelf {
     }
 
     // Adds a file of some bytes.
-    pub(crate) fn add(&mut self, name: &str, bytes: Vec<u8>) -> Result<(), AllocError>
+    fn add(&mut self, name: &str, bytes: Vec<u8>) -> Result<(), AllocError>
         ensures files { self.new.files ≡ (if is_ok result then self.old.files ++ stored_file name.now bytes.items ∷ [] else self.old.files) }
         ensures failed { self.new.failed ≡ self.old.failed }
     {
@@ -153,179 +147,4 @@ impl Shelf for MemoryShelf {
         count_failure(&kept, &mut self.failed);
         Ok(kept?)
     }
-}
-
-// The longest name that a file may have on Linux, in bytes.
-const NAME_LIMIT: usize = 255;
-
-/// What tells a file of the file system from all others, whatever its paths: the device that it is on, and its inode number there.
-#[derive(Clone, Copy, PartialEq, Eq)]
-pub(crate) struct FileId {
-    device: u64,
-    inode: u64,
-}
-
-impl FileId {
-    // That of the file that has these metadata.
-    fn of(metadata: &Metadata) -> FileId {
-        FileId {
-            device: metadata.dev(),
-            inode: metadata.ino(),
-        }
-    }
-}
-
-// The name of a file of a folder while it is written.
-const UNFINISHED: &str = "toxicap.unfinished";
-
-/// A folder that exists, as a shelf: each file that is put is made in it, or replaced. It tells no files, since others may change
-/// them; contracts see its path and the number of its failures.
-///
-/// A file is written as `toxicap.unfinished`, and takes its name when it is whole: at any time the file of a name is the old one whole
-/// or the new one whole, also where the program is killed or the disk is full. What a killed program leaves of an unfinished file is
-/// replaced by the next file that is put.
-///
-/// A file that cannot be made or written whole is a failure, and so is any file in a folder that is not there, and a name that stands
-/// for a folder or a file that may not be written, or that is [spared](Folder::spare). A name with a slash, or of more than 255 bytes, is a
-/// failure too. No file that is put takes memory.
-#[derive(Drop)]
-pub struct Folder<'a, F: Files> {
-    pub(crate) files: &'a F,
-    pub(crate) folder: &'a str,
-    pub(crate) unfinished: String,
-    pub(crate) path: String,
-    pub(crate) spared: Vec<FileId>,
-    pub(crate) failed: u64,
-}
-
-impl<'a, F: Files> Model for Folder<'a, F> {
-    ghost use Rattle.std.specs.Prelude.{◌≤◌, ◌+◌, length};
-    ghost use Rattle.std.specs.String.{string_capacity};
-    ghost use Rattle.run_files.specs.declared.shelves.TheConstants.{NAME_LIMIT};
-    ghost use Rattle.run_files.specs.Shelves.{FolderView};
-
-    ghost Value = { FolderView };
-
-    ghost view = { λ f. record { folder = f.folder.now; failed = f.failed } };
-
-    ghost invariant = { λ f. length f.folder.now + 1 + NAME_LIMIT ≤ string_capacity f.path };
-}
-
-impl<'a, F: Files> Folder<'a, F> {
-    /// The folder at a path, of which no call has failed yet. Whether it exists shows at the first file.
-    pub fn new(alloc: Global, files: &'a F, folder: &'a str) -> Result<Self, AllocError>
-        ensures { IfOk result (λ f. f ≡ record { folder = folder.now; failed = 0 }) }
-    {
-        let mut unfinished = String::new(alloc);
-        set_path(&mut unfinished, folder, UNFINISHED)?;
-        let path = String::with_capacity(alloc, folder.len() + 1 + NAME_LIMIT)?;
-        Ok(Folder {
-            files,
-            folder,
-            unfinished,
-            path,
-            spared: Vec::new(alloc),
-            failed: 0,
-        })
-    }
-
-    /// The folder will not replace the file that is at a path now, under any of its names: to put one there is a failure. Where no file is
-    /// at the path, or none can be seen there, nothing is spared.
-    ///
-    /// # Errors
-    /// A growth was refused.
-    pub fn spare(&mut self, path: &str) -> Result<(), AllocError>
-        ensures { self.new ≡ self.old }
-    {
-        if let Ok(metadata) = fs::metadata(self.files, path) {
-            self.spared.push(FileId::of(&metadata))?;
-        }
-        Ok(())
-    }
-
-    /// How many calls have failed.
-    pub fn failed(&self) -> u64
-        ensures { result ≡ self.now.failed }
-    {
-        self.failed
-    }
-
-    // Makes the path that of a file of this name, which may be written.
-    pub(crate) fn set_name(&mut self, name: &str) -> Result<(), ShelfError>
-        ensures { self.new ≡ self.old }
-    {
-        // A slash after an empty path would be the root of the file system.
-        if self.folder.is_empty() || name.len() > NAME_LIMIT || name.contains('/') {
-            return Err(ShelfError);
-        }
-        // The path has room for it.
-        set_path(&mut self.path, self.folder, name).unwrap();
-        allow_name(self.files, &self.path, &self.spared)
-    }
-
-    // Makes or replaces a file.
-    fn write_file(&mut self, name: &str, bytes: &[u8]) -> Result<(), ShelfError>
-        ensures { self.new ≡ self.old }
-    {
-        self.set_name(name)?;
-        let (unfinished, path) = (self.unfinished.as_str(), self.path.as_str());
-        let outcome = write_whole(self.files, unfinished, path, bytes);
-        if outcome.is_err() {
-            let _ = fs::remove_file(self.files, unfinished);
-        }
-        outcome
-    }
-}
-
-// Refuses a path that stands for a folder, for a file that may not be written, or for one that is spared.
-fn allow_name<F: Files>(files: &F, path: &str, spared: &[FileId]) -> Result<(), ShelfError> {
-    if let Ok(metadata) = fs::metadata(files, path)
-        && spared.contains(&FileId::of(&metadata))
-    {
-        return Err(ShelfError);
-    }
-    match OpenOptions::new().write(true).open(files, path) {
-        Ok(_) => Ok(()),
-        Err(error) if error.kind() == ErrorKind::NotFound => Ok(()),
-        Err(error) => Err(ShelfError::from(error)),
-    }
-}
-
-// Writes a file under one path, and gives it another when it is whole.
-fn write_whole<F: Files>(
-    files: &F,
-    unfinished: &str,
-    path: &str,
-    bytes: &[u8],
-) -> Result<(), ShelfError> {
-    let mut file = fs::create(files, unfinished)?;
-    file.write_all(bytes)?;
-    fs::rename(files, unfinished, path)?;
-    Ok(())
-}
-
-impl<'a, F: Files> Shelf for Folder<'a, F> {
-    ghost use Rattle.std.specs.Prelude.{None};
-
-    ghost files = { λ _. None };
-
-    ghost failures = { λ f. f.failed };
-
-    fn put(&mut self, name: &str, bytes: &[u8]) -> Result<(), ShelfError> {
-        let written = self.write_file(name, bytes);
-        count_failure(&written, &mut self.failed);
-        written
-    }
-}
-
-// Makes a path that of a file in a folder. Where the path has room for it, it takes no memory.
-fn set_path(path: &mut String, folder: &str, name: &str) -> Result<(), AllocError>
-    ensures is { OnOk result (string_bytes path.new ≡ path_in folder.now name.now) }
-    ensures room { length folder.now + 1 + length name.now ≤ string_capacity path.old → IsOk result }
-    ensures kept { string_capacity path.old ≤ string_capacity path.new }
-{
-    path.clear();
-    path.push_str(folder)?;
-    path.push_str("/")?;
-    path.push_str(name)
 }

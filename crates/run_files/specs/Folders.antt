@@ -1,0 +1,30 @@
+-- Folders of a disk: which names they refuse, and what contracts see of them.
+use Rattle.std.specs.Prelude.{◌≡◌, ℕ, ◌+◌, nat_lt, ◌==◌, Bool, ◌||◌, List, length, map, drop, Option, option_map}
+use Rattle.disks.specs.DraftPaths.{has_slash, is_draft_name, path_in}
+use Rattle.disks.specs.Histories.{History, NamedFile, named_file, Names}
+use Rattle.run_files.specs.Shelves.{StoredFile, stored_file}
+
+-- its path, and how many calls have failed
+pub record FolderView : Type 0 where
+  pub folder : List ℕ
+  pub failed : ℕ
+
+-- the longest name that a file may have, in bytes
+abbrev pub name_limit : ℕ
+name_limit = 255
+
+-- no file of a folder may have a name, in one without a path none at all
+abbrev pub is_refused : List ℕ → List ℕ → Bool
+is_refused folder name = length folder == 0 || nat_lt name_limit (length name) || has_slash name || is_draft_name name
+
+-- a file of a folder, as its disk names it
+abbrev pub in_folder : List ℕ → StoredFile → NamedFile
+in_folder folder file = named_file (path_in folder file.name) file.bytes
+
+-- a folder has taken some files, and its disk named no other, given the disk's history before and after
+abbrev pub TakesIn : List ℕ → Option History → Option History → List StoredFile → Type 0
+TakesIn folder old new files = Names old new (map (in_folder folder) files)
+
+-- the files that got names on a disk, by their names in a folder
+abbrev pub shelved : List ℕ → Option History → Option (List StoredFile)
+shelved folder history = option_map (λ h. map (λ file. stored_file (drop (length folder + 1) file.path) file.bytes) h.names) history

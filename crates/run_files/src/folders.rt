@@ -1,0 +1,275 @@
+//! Folders of a disk: each file that is put in one is written as a draft, and gets its name when it is whole.
+ghost use Rattle.std.specs.Prelude.{◌≡◌, ◌+◌, ◌≤◌, length, IsOk, OnOk};
+ghost use Rattle.std.specs.String.{string_bytes, string_capacity};
+ghost use Rattle.disks.specs.DraftPaths.{path_in};
+
+use crate::error::ShelfError;
+use crate::shelves::Shelf;
+use crate::streams::count_failure;
+use disks::laws::drafts_are_named;
+use disks::{Disk, FileId};
+use std::alloc::{AllocError, Global};
+use std::marker::Model;
+
+// The longest name that a file may have on Linux, in bytes.
+const NAME_LIMIT: usize = 255;
+
+// What names of drafts begin with.
+const UNFINISHED: &str = "toxicap.unfinished";
+
+/// A folder of a disk, which has the files that are put in it. Contracts see its path and the number of its failures; what its files are
+/// follows from the disk's history.
+///
+/// A file is written as a draft beside the others, `toxicap.unfinished-0` where its place is 0, and gets its name when it is whole: at any
+/// time the file of a name is the old one whole or the new one whole, also where the program is killed or the disk is full. What a killed
+/// program leaves of a draft is replaced by the next draft of that place.
+///
+/// A file that cannot be made or written whole is a failure, and so is any file in a folder that is not there, and a name that stands
+/// for a folder or a file that may not be written, or that is [spared](Folder::spare). A name with a slash, of more than 255 bytes, or that
+/// begins as those of drafts do, is a failure too.
+#[derive(Drop)]
+pub struct Folder<'a> {
+    folder: &'a str,
+    path: String,
+    spared: Vec<FileId>,
+    failed: u64,
+}
+
+impl<'a> Model for Folder<'a> {
+    ghost use Rattle.std.specs.Prelude.{◌≤◌, ◌+◌, length};
+    ghost use Rattle.std.specs.String.{string_capacity};
+    ghost use Rattle.run_files.specs.declared.folders.TheConstants.{NAME_LIMIT};
+    ghost use Rattle.run_files.specs.Folders.{FolderView};
+
+    ghost Value = { FolderView };
+
+    ghost view = { λ f. record { folder = f.folder.now; failed = f.failed } };
+
+    ghost invariant = { λ f. length f.folder.now + 1 + NAME_LIMIT ≤ string_capacity f.path };
+}
+
+impl<'a> Folder<'a> {
+    ghost use Rattle.std.specs.Prelude.{◌≡◌, ◌⊎◌, ℕ, List, ◌+◌, ◌-◌, ◌^◌, ◌<◌, ◌≤◌, ◌∷◌, [], true, IfOk, OnErr, OnOk, is_ok, if◌then◌else◌};
+    ghost use Rattle.std.specs.String.{string_bytes};
+    ghost use Rattle.disks.specs.DraftPaths.{IsDraftPath, path_in};
+    ghost use Rattle.disks.specs.Histories.{named_file, Names};
+    ghost use Rattle.run_files.specs.Folders.{is_refused};
+
+    /// The folder at a path, of which no call has failed yet. Whether it exists shows at the first file.
+    pub fn new(alloc: Global, folder: &'a str) -> Result<Self, AllocError>
+        ensures { IfOk result (λ f. f ≡ record { folder = folder.now; failed = 0 }) }
+    {
+        let path = String::with_capacity(alloc, folder.len() + 1 + NAME_LIMIT)?;
+        Ok(Folder {
+            folder,
+            path,
+            spared: Vec::new(alloc),
+            failed: 0,
+        })
+    }
+
+    /// The folder will not replace the file that is at a path now, under any of its names: to put one there is a failure. Where no file is
+    /// at the path, or none can be seen there, nothing is spared.
+    ///
+    /// # Errors
+    /// A growth was refused.
+    pub fn spare<D: Disk>(&mut self, disk: &D, path: &str) -> Result<(), AllocError>
+        ensures { self.new ≡ self.old }
+    {
+        if let Some(id) = disk.file_id(path) {
+            self.spared.push(id)?;
+        }
+        Ok(())
+    }
+
+    /// How many calls have failed.
+    pub fn failed(&self) -> u64
+        ensures { result ≡ self.now.failed }
+    {
+        self.failed
+    }
+
+    /// Begins a draft without bytes. Drafts that are there at once have places of their own.
+    ///
+    /// # Errors
+    /// A growth was refused. Any other failure is the draft's.
+    pub fn draft<D: Disk>(
+        &self,
+        alloc: Global,
+        disk: &D,
+        place: usize,
+    ) -> Result<D::Draft, AllocError>
+        ensures { IfOk result (λ draft. D.holds draft []) }
+    {
+        let path = self.draft_path(alloc, place)?;
+        Ok(disk.draft(path))
+    }
+
+    // The path of a draft; the empty one, at which no file can be, in a folder without a path.
+    fn draft_path(&self, alloc: Global, place: usize) -> Result<String, AllocError>
+        ensures { IfOk result (λ path. IsDraftPath (string_bytes path)) }
+    {
+        drafts_are_named();
+        let mut path = String::new(alloc);
+        if self.folder.is_empty() {
+            return Ok(path);
+        }
+        let name = format!(in alloc; "toxicap.unfinished-{place}")?;
+        set_path(&mut path, self.folder, &name)?;
+        Ok(path)
+    }
+
+    /// Gives a draft its name: it is then a file of the folder.
+    ///
+    /// # Errors
+    /// The folder refuses the name, or the disk or the draft failed. The disk's files are as they were.
+    pub fn take<D: Disk>(
+        &mut self,
+        disk: &mut D,
+        name: &str,
+        draft: D::Draft,
+    ) -> Result<(), ShelfError>
+        requires failures { self.old.failed < 2 ^ 64 - 1 }
+        requires faults { D.faults disk.old < 2 ^ 64 - 1 }
+        ensures folder { self.new.folder ≡ self.old.folder }
+        ensures counted { self.new.failed ≡ (if is_ok result then self.old.failed else self.old.failed + 1) }
+        ensures named { (bytes : List ℕ) → D.holds draft bytes → OnOk result
+            (Names (D.history disk.old) (D.history disk.new) (named_file (path_in self.old.folder name.now) bytes ∷ [])) }
+        ensures none_failed { OnOk result (D.faults disk.new ≡ D.faults disk.old) }
+        ensures one_failed { D.faults disk.new ≤ D.faults disk.old + 1 }
+        ensures as_before { OnErr result (D.history disk.new ≡ D.history disk.old) }
+        ensures refused { OnErr result ((is_refused self.old.folder name.now ≡ true) ⊎ (D.faults disk.new ≡ D.faults disk.old + 1)) }
+    {
+        let taken = self.name_draft(disk, name, draft);
+        count_failure(&taken, &mut self.failed);
+        taken
+    }
+
+    // Counts a call that has failed.
+    fn count_failure(&mut self)
+        requires { self.old.failed < 2 ^ 64 - 1 }
+        ensures folder { self.new.folder ≡ self.old.folder }
+        ensures counted { self.new.failed ≡ self.old.failed + 1 }
+    {
+        self.failed += 1;
+    }
+
+    // Gives a draft its name, where the folder does not refuse that.
+    fn name_draft<D: Disk>(
+        &mut self,
+        disk: &mut D,
+        name: &str,
+        draft: D::Draft,
+    ) -> Result<(), ShelfError>
+        requires { D.faults disk.old < 2 ^ 64 - 1 }
+        ensures same { self.new ≡ self.old }
+        ensures named { (bytes : List ℕ) → D.holds draft bytes → OnOk result
+            (Names (D.history disk.old) (D.history disk.new) (named_file (path_in self.old.folder name.now) bytes ∷ [])) }
+        ensures none_failed { OnOk result (D.faults disk.new ≡ D.faults disk.old) }
+        ensures one_failed { D.faults disk.new ≤ D.faults disk.old + 1 }
+        ensures as_before { OnErr result (D.history disk.new ≡ D.history disk.old) }
+        ensures refused { OnErr result ((is_refused self.old.folder name.now ≡ true) ⊎ (D.faults disk.new ≡ D.faults disk.old + 1)) }
+    {
+        drafts_are_named();
+        if self.refuses(name) {
+            return Err(ShelfError);
+        }
+        // The path has room for it.
+        set_path(&mut self.path, self.folder, name).unwrap();
+        disk.allow_name(&self.path, &self.spared)?;
+        disk.name(draft, &self.path)?;
+        Ok(())
+    }
+
+    // Whether no file of the folder may have this name; in a folder without a path none may.
+    fn refuses(&self, name: &str) -> bool
+        ensures { result ≡ is_refused self.now.folder name.now }
+    {
+        let bytes = name.as_bytes();
+        self.folder.is_empty()
+            || bytes.len() > NAME_LIMIT
+            || bytes.contains(&b'/')
+            || bytes.starts_with(UNFINISHED.as_bytes())
+    }
+}
+
+// Makes a path that of a file in a folder. Where the path has room for it, it takes no memory.
+fn set_path(path: &mut String, folder: &str, name: &str) -> Result<(), AllocError>
+    ensures is { OnOk result (string_bytes path.new ≡ path_in folder.now name.now) }
+    ensures room { length folder.now + 1 + length name.now ≤ string_capacity path.old → IsOk result }
+    ensures kept { string_capacity path.old ≤ string_capacity path.new }
+{
+    path.clear();
+    path.push_str(folder)?;
+    path.push_str("/")?;
+    path.push_str(name)
+}
+
+/// A folder of a disk, as a shelf. Its files are those that got names on the disk, where the disk tells them.
+#[derive(Drop)]
+pub struct FolderShelf<'a, D: Disk + Drop> {
+    alloc: Global,
+    folder: Folder<'a>,
+    disk: D,
+    ghost counted: { D.faults disk ≤ folder.failed },
+}
+
+impl<'a, D: Disk + Drop> FolderShelf<'a, D> {
+    ghost use Rattle.std.specs.Prelude.{◌≡◌, IfOk};
+
+    /// The folder at a path of a disk of which no call has failed. Whether it exists shows at the first file.
+    pub fn new(alloc: Global, disk: D, folder: &'a str) -> Result<Self, AllocError>
+        requires { D.faults disk ≡ 0 }
+        ensures disk { IfOk result (λ s. s.disk ≡ disk) }
+        ensures folder { IfOk result (λ s. s.folder ≡ record { folder = folder.now; failed = 0 }) }
+    {
+        let folder = Folder::new(alloc, folder)?;
+        Ok(FolderShelf {
+            alloc,
+            folder,
+            disk,
+        })
+    }
+
+    /// The folder will not replace the file that is at a path now, as [`Folder::spare`] says.
+    ///
+    /// # Errors
+    /// A growth was refused.
+    pub fn spare(&mut self, path: &str) -> Result<(), AllocError>
+        ensures disk { self.new.disk ≡ self.old.disk }
+        ensures folder { self.new.folder ≡ self.old.folder }
+    {
+        self.folder.spare(&self.disk, path)
+    }
+
+    /// How many calls have failed.
+    pub fn failed(&self) -> u64
+        ensures { result ≡ self.now.folder.failed }
+    {
+        self.folder.failed()
+    }
+
+    /// The disk.
+    pub fn into_disk(self) -> D
+        ensures { result ≡ self.entry.disk }
+    {
+        self.disk
+    }
+}
+
+impl<'a, D: Disk + Drop> Shelf for FolderShelf<'a, D> {
+    ghost use Rattle.run_files.specs.Folders.{shelved};
+
+    ghost files = { λ s. shelved s.folder.folder (D.history s.disk) };
+
+    ghost failures = { λ s. s.folder.failed };
+
+    fn put(&mut self, name: &str, bytes: &[u8]) -> Result<(), ShelfError> {
+        let Ok(mut draft) = self.folder.draft(self.alloc, &self.disk, 0) else {
+            self.folder.count_failure();
+            return Err(ShelfError);
+        };
+        D::append(&mut draft, bytes);
+        self.folder.take(&mut self.disk, name, draft)
+    }
+}

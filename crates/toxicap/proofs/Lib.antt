@@ -1,3 +1,4 @@
+mod DiskSteps
 mod EachElement
 mod WrittenFrames
 mod SoundConnections

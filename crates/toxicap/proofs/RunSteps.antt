@@ -68,7 +68,7 @@ stop_counts _ given old new is = absurd is
 module _ (hosts : List KnownHost) (texts : List (List ℕ)) (seed : ℕ) (Wrote : List ℕ → Type 0) where
   -- ---- what a text calls for, printed or stored
 
-  input_fault : (fault : RunFault) (text : List ℕ) → AgreesUnlessMemory run_refusal (λ (outputs : List Output). outputs) (Err fault) (called_for hosts texts seed text) → IsOfInput fault
+  pub input_fault : (fault : RunFault) (text : List ℕ) → AgreesUnlessMemory run_refusal (λ (outputs : List Output). outputs) (Err fault) (called_for hosts texts seed text) → IsOfInput fault
   input_fault fault text is =
       of_input (λ f. AgreesUnlessMemory run_refusal (λ (outputs : List Output). outputs) (Err f) (called_for hosts texts seed text))
       (λ own. never hosts texts seed text own (λ e. e)) (λ after own. never hosts texts seed text own (λ e. e)) fault is

@@ -1,5 +1,5 @@
 -- How storing ends, by what a text calls for.
-use Rattle.std.proofs.Common.{◌≡◌, ℕ, ◌<◌, ◌≤◌, List, [], length, Option, Some, None, Result, Ok, Err, IfErr, refl, sym, subst, append-nil, arith}
+use Rattle.std.proofs.Common.{◌≡◌, ℕ, ◌<◌, ◌≤◌, List, [], length, Option, Some, None, Result, Ok, Err, IfErr, refl, sym, ap, subst, append-nil, arith}
 use Rattle.std.specs.Io.KnownBytes.{Consumes}
 use Rattle.lists.specs.Agreement.{Refuses}
 use Rattle.pcap_records.specs.Reading.{capture_limit}
@@ -9,7 +9,9 @@ use Rattle.run_files.specs.declared.error.RunFault.{RunFault}
 use Rattle.run_files.specs.declared.error.RunFault.TheVariants.{Memory, ReadFailed, ShelfFailed}
 use Rattle.run_files.specs.declared.outputs.Output.{Output}
 use Rattle.run_files.specs.RunFault.{run_refusal}
-use Rattle.run_files.specs.Shelves.{StoredFile, Takes}
+use Rattle.disks.specs.Histories.{History, NamedFile}
+use Rattle.run_files.specs.Folders.{TakesIn}
+use Rattle.run_files.specs.Shelves.{StoredFile}
 use Rattle.run_files.specs.WrittenOutputs.{files_from}
 use Rattle.toxicap.specs.Answering.{IsOfText, called_for}
 use Rattle.toxicap.specs.Rehearsal.{answer}
@@ -17,10 +19,10 @@ use Rattle.toxicap.specs.RunEnds.{StoresBy, failed_reads}
 use Rattle.toxicap.specs.StoredOutputs.{StoresOf, StoresUnlessMemory, TakenOf}
 use Rattle.toxicap.proofs.AnswerSteps.{answered, never, of_answer}
 
--- a shelf took no file
-pub nothing_taken : (had : Option (List StoredFile)) → Takes had had []
-nothing_taken None = tt
-nothing_taken (Some files) = sym (append-nil files)
+-- a folder took no file
+pub nothing_taken : (folder : List ℕ) (had : Option History) → TakesIn folder had had []
+nothing_taken folder None = tt
+nothing_taken folder (Some h) = ap (λ (names : List NamedFile). Some (record { first = h.first; names = names })) (sym (append-nil h.names))
 
 -- no byte was read
 pub none_consumed : (left : Option (List ℕ)) → Consumes left left []
@@ -34,12 +36,12 @@ stores_unless_memory (Err Memory) wanted is = tt
 stores_unless_memory (Err fault) wanted is = is
 
 -- where a rehearsal is refused nothing is stored
-pub none_stored : (fault : RunFault) (bytes : List ℕ) (scenarios : List (List Proxy)) (seed : ℕ) (had : Option (List StoredFile)) (failures : ℕ)
+pub none_stored : (fault : RunFault) (bytes : List ℕ) (scenarios : List (List Proxy)) (seed : ℕ) (folder : List ℕ) (had : Option History) (failures : ℕ)
     → Refuses (run_refusal fault) (answer bytes scenarios seed)
-    → StoresOf (Err fault) (answer bytes scenarios seed) × TakenOf (Err fault) (answer bytes scenarios seed) (Takes had had) failures failures
-none_stored Memory bytes scenarios seed had failures is = (is, ((0, nothing_taken had), refl))
-none_stored (ShelfFailed after) bytes scenarios seed had failures is = absurd (subst (λ wanted. IfErr wanted IsOfText) is (of_answer bytes scenarios seed))
-none_stored fault bytes scenarios seed had failures is = (is, (nothing_taken had, refl))
+    → StoresOf (Err fault) (answer bytes scenarios seed) × TakenOf (Err fault) (answer bytes scenarios seed) (TakesIn folder had had) failures failures
+none_stored Memory bytes scenarios seed folder had failures is = (is, ((0, nothing_taken folder had), refl))
+none_stored (ShelfFailed after) bytes scenarios seed folder had failures is = absurd (subst (λ wanted. IfErr wanted IsOfText) is (of_answer bytes scenarios seed))
+none_stored fault bytes scenarios seed folder had failures is = (is, (nothing_taken folder had, refl))
 
 module _ (hosts : List KnownHost) (texts : List (List ℕ)) (seed : ℕ) where
   -- how storing ends, by the text that was read

@@ -1,4 +1,4 @@
--- How the program ends by what the files hold that its command line names, where that is told.
+-- How the program ends by what the files hold that its command line names, and what it leaves of the disk, where the disk tells that.
 --
 -- What is called for is a function of the command line, of what paths hold, and of the text on standard input where no capture is
 -- named (`outputs_asked`). The first refusal counts: a host; a scenario file, in order, that cannot be opened or read (61), or is
@@ -12,7 +12,10 @@ use Rattle.command_line.specs.declared.error.Stop.{Stop}
 use Rattle.run_files.specs.declared.error.RunFault.{RunFault}
 use Rattle.run_files.specs.declared.error.RunFault.TheVariants.{ReadFailed}
 use Rattle.run_files.specs.declared.outputs.Output.{Output}
-use Rattle.run_files.specs.Paths.{Held, IsOfFile, text_at}
+use Rattle.disks.specs.ToldFiles.{Held}
+use Rattle.disks.specs.Histories.{History, held_now, LeavesWhole}
+use Rattle.run_files.specs.Folders.{in_folder, TakesIn}
+use Rattle.run_files.specs.Paths.{IsOfFile, text_at}
 use Rattle.run_files.specs.RunFault.{run_refusal}
 use Rattle.run_files.specs.Streams.{StopsLoading}
 use Rattle.toxicap.specs.Answering.{called_for}
@@ -20,7 +23,7 @@ use Rattle.toxicap.specs.Commands.{FaultStream, ProgramEnds, Streams}
 use Rattle.toxicap.specs.Inputs.{hosts_asked, texts_or_bare}
 use Rattle.toxicap.specs.PrintedReports.{PrintsOf}
 use Rattle.toxicap.specs.RunEnds.{Tells, status_of}
-use Rattle.toxicap.specs.StoredOutputs.{StoresUnlessMemory}
+use Rattle.toxicap.specs.StoredOutputs.{FilesOf, StoresUnlessMemory, files_in}
 
 -- the texts at some paths, after those loaded earlier, or the first refusal
 unfoldable pub texts_from : Held → List (List ℕ) → List (List ℕ) → Result (List (List ℕ)) RunFault
@@ -55,22 +58,32 @@ ReadsCapture held None (Ok text) s = s.Read text 0
 ReadsCapture held None (Err ReadFailed) s = (text : List ℕ) × s.Read text 1
 ReadsCapture held None (Err fault) s = ⊥
 
+-- What a run leaves of a disk, given the disk's history before and after. Without a folder the disk is as it was. Into a folder go the files
+-- of the outputs that are called for: all of them where the run ended well, else a first part. And whenever the run was cut off, each path
+-- held what it had held before, or one of these files whole.
+abbrev pub LeavesDisk : Option (Bor (List ℕ)) → Result (Unit {0}) RunFault → Result (List Output) RunFault → History → Option History → Type 0
+LeavesDisk None outcome wanted old new = new ≡ Some old
+LeavesDisk (Some folder) outcome wanted old new =
+    FilesOf outcome wanted (TakesIn folder.now (Some old) new) × LeavesWhole (Some old) new (map (in_folder folder.now) (files_in wanted))
+
 -- How a run ends that a command line asks for: as it calls for, with its capture.
-abbrev pub RunsOver : Held → Asked → Result (Unit {0}) RunFault → Streams → Type 0
-RunsOver held asked outcome s =
-    (capture : Result (List ℕ) RunFault) × ReadsCapture held asked.capture capture s
-    × EndsOf asked.out outcome (outputs_asked held asked capture) s.Wrote
+abbrev pub RunsOver : History → Asked → Result (Unit {0}) RunFault → Streams → Option History → Type 0
+RunsOver h asked outcome s new =
+    (capture : Result (List ℕ) RunFault) × ReadsCapture (held_now h) asked.capture capture s
+    × EndsOf asked.out outcome (outputs_asked (held_now h) asked capture) s.Wrote
+    × LeavesDisk asked.out outcome (outputs_asked (held_now h) asked capture) h new
 
--- how the program ends on a command line that asks for a run: the status and what is told are those of the run's outcome
-abbrev pub EndsOver : Held → Result Asked Stop → ℕ → Streams → FaultStream → Type 0
-EndsOver held (Ok asked) status s t =
-    (outcome : Result (Unit {0}) RunFault) × RunsOver held asked outcome s
+-- how the program ends on a command line that asks for a run: the status and what is told are those of the run's outcome; on any other the
+-- disk is as it was
+abbrev pub EndsOver : History → Result Asked Stop → ℕ → Streams → FaultStream → Option History → Type 0
+EndsOver h (Ok asked) status s t new =
+    (outcome : Result (Unit {0}) RunFault) × RunsOver h asked outcome s new
     × (status ≡ status_of outcome) × Tells outcome t.Untold t.Told t.before t.now
-EndsOver held (Err stop) status s t = Unit {0}
+EndsOver h (Err stop) status s t new = new ≡ Some h
 
--- How the program ends, whatever paths hold; and by what they hold, where that is told.
-abbrev pub ProgramEndsOver : Option Held → Result Asked Stop → ℕ → Streams → FaultStream → Type 0
-ProgramEndsOver told line status s t = ProgramEnds line status s t × IfSome told (λ held. EndsOver held line status s t)
+-- How the program ends, whatever its disk holds; and by the disk's history before and after, where the disk tells it.
+abbrev pub ProgramEndsOver : Option History → Option History → Result Asked Stop → ℕ → Streams → FaultStream → Type 0
+ProgramEndsOver old new line status s t = ProgramEnds line status s t × IfSome old (λ h. EndsOver h line status s t new)
 
 -- ---- how a capture is loaded
 
@@ -81,6 +94,6 @@ LoadsInput view (Err fault) Lost AtEnd old_failed new_failed =
     (given : List ℕ) × Lost given × StopsLoading fault (length given) old_failed new_failed
 
 -- of a file, and standard input is not read
-abbrev pub LoadsFile : {A : Type 0} → (A → List ℕ) → Result A RunFault → Option Held → List ℕ → Type 0 → Type 0
+abbrev pub LoadsFile : {A : Type 0} → (A → List ℕ) → Result A RunFault → Option History → List ℕ → Type 0 → Type 0
 LoadsFile view result told path Unread =
-    Unread × IfErr result IsOfFile × IfSome told (λ held. AgreesUnlessMemory run_refusal view result (text_at held path))
+    Unread × IfErr result IsOfFile × IfSome told (λ h. AgreesUnlessMemory run_refusal view result (text_at (held_now h) path))

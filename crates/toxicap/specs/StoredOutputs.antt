@@ -25,8 +25,15 @@ abbrev pub StoresUnlessMemory : Result (Unit {0}) RunFault → Result (List Outp
 StoresUnlessMemory (Err Memory) wanted = Unit {0}
 StoresUnlessMemory outcome wanted = StoresOf outcome wanted
 
--- What the shelf took then, given what it is that it took some files, by the count of its failures before and after: all of them; or
--- where it failed or memory was wanting, a first part; and none of them where the run was refused.
+-- The files that are stored then, given what it is that some were: all of them; or where the shelf failed or memory was wanting, a first part;
+-- and none of them where the run was refused.
+abbrev pub FilesOf : Result (Unit {0}) RunFault → Result (List Output) RunFault → (List StoredFile → Type 0) → Type 0
+FilesOf (Ok _) wanted Took = Took (files_in wanted)
+FilesOf (Err (ShelfFailed after)) wanted Took = Took (take after (files_in wanted))
+FilesOf (Err Memory) wanted Took = (stored : ℕ) × Took (take stored (files_in wanted))
+FilesOf (Err fault) wanted Took = Took []
+
+-- the same, and by the count of its failures before and after the shelf failed once, or not at all
 abbrev pub TakenOf : Result (Unit {0}) RunFault → Result (List Output) RunFault → (List StoredFile → Type 0) → ℕ → ℕ → Type 0
 TakenOf (Ok _) wanted Took old_failures new_failures = Took (files_in wanted) × (new_failures ≡ old_failures)
 TakenOf (Err (ShelfFailed after)) wanted Took old_failures new_failures =

@@ -11,7 +11,8 @@ ghost use Rattle.toxicap.specs.RunEnds.{no_text, status_of, text_with_line_feed,
 
 use crate::runs::run_asked;
 use command_line::{Stop, read_arguments};
-use run_files::{Counted, FileSystem, Paths, RunFault, fault_line, write_bytes};
+use disks::{HostDisk, ReadDisk};
+use run_files::{Counted, RunFault, fault_line, write_bytes};
 use std::alloc::Global;
 use std::convert::AsStr;
 use std::io::{Error, ErrorKind, Read, Write};
@@ -70,24 +71,27 @@ where
           now = faults.new.failed;
         }) }
 {
-    let paths = FileSystem::new(rt);
-    command_over(rt, &paths, alloc, words, input, output, faults)
+    let mut disk = HostDisk::new(rt);
+    command_over(rt, &mut disk, alloc, words, input, output, faults)
 }
 
-/// [`command`] with its scenario files and its capture loaded from `paths`, which the command line names there.
+/// [`command`] over any disk: its scenario files and its capture are loaded from there, and its outputs stored there.
 ///
-/// Where `paths` tells what they hold, the outcome follows from it: each scenario is the text at its own path, and the capture that at
-/// its path; of several files that are at fault the first is told, in the order of the scenarios, and then the capture.
+/// Where the disk tells its history, the outcome follows from it: each scenario is the text at its own path, and the capture that at
+/// its path; of several files that are at fault the first is told, in the order of the scenarios, and then the capture. On status 0 the
+/// files of the outputs have got their names in the folder, and no others have; where the folder fails or memory is wanting, a first part of
+/// them has; at any other refusal, and without `--out`, the disk is as it was. Whenever the run is cut off, each path holds what it held
+/// before it, or the whole file that it was to get.
 pub fn command_over<
-    H: Files + Threads + Wait + Sync,
-    P: Paths,
+    H: Threads + Wait + Sync,
+    D: ReadDisk + Sync,
     S: AsStr,
     I: Read,
     O: Write,
     E: Write,
 >(
     rt: &H,
-    paths: &P,
+    disk: &mut D,
     alloc: Global,
     words: &[S],
     input: &mut Counted<I>,
@@ -95,8 +99,9 @@ pub fn command_over<
     faults: &mut Counted<E>,
 ) -> u8
 where
-    H::File: FileExt + Send + Sync,
-    H::Dir: Send,
+    D::File: Sync,
+    D::Draft: Send,
+    requires disk_faults { D.faults disk.old < 2 ^ 64 - 1 }
     requires reads { input.old.failed < 2 ^ 64 - 1 }
     requires writes { output.old.failed < 2 ^ 64 - 1 }
     requires tells { faults.old.failed < 2 ^ 64 - 1 }
@@ -104,7 +109,7 @@ where
     ensures quiet { result ≡ 0 → faults.new ≡ faults.old }
     ensures usage { result ≡ 2 → (input.new ≡ input.old) × (output.new ≡ output.old) }
     ensures ends { (line : Result Asked Stop) × ReadsAs (map S.text words.now) line
-        × ProgramEndsOver (P.holds paths.now) line result
+        × ProgramEndsOver (D.history disk.old) (D.history disk.new) line result
         (record {
           Unread = input.new ≡ input.old;
           Read = λ text n. Consumes (I.remaining input.old.inner) (I.remaining input.new.inner) text
@@ -123,7 +128,7 @@ where
 {
     match read_arguments(alloc, words) {
         Ok(asked) => {
-            let outcome = run_asked(rt, paths, alloc, &asked, input, output);
+            let outcome = run_asked(rt, disk, alloc, &asked, input, output);
             report_outcome(alloc, outcome, faults)
         }
         Err(Stop::Shown(text)) => {

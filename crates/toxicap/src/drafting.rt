@@ -4,8 +4,9 @@ ghost use Rattle.toxicap.specs.CaptureOutputs.{no_output, outputs_from};
 
 use crate::crews::{Alone, Workers};
 use crate::sources::Sources;
+use disks::Disk;
 use job_matrix::{Phase, Through, Work, work_all};
-use run_files::{DraftShelf, DraftedOutput};
+use run_files::{DraftedOutput, Folder};
 use std::alloc::AllocError;
 use std::marker::Model;
 use std::thread::Threads;
@@ -15,13 +16,13 @@ const SHARE: usize = 2;
 
 /// The output of one scenario, as drafts. Contracts see the output.
 #[derive(Drop)]
-pub(crate) struct OutputDraft<'s, 'w, 'v, 'a, S: DraftShelf> {
+pub(crate) struct OutputDraft<'s, 'w, 'v, 'a, D: Disk> {
     sources: &'s Sources<'w, 'v, 'a>,
     number: usize,
-    drafted: DraftedOutput<S::Draft>,
+    drafted: DraftedOutput<D::Draft>,
 }
 
-impl<'s, 'w, 'v, 'a, S: DraftShelf> Model for OutputDraft<'s, 'w, 'v, 'a, S> {
+impl<'s, 'w, 'v, 'a, D: Disk> Model for OutputDraft<'s, 'w, 'v, 'a, D> {
     ghost use Rattle.std.specs.Prelude.{get_or};
     ghost use Rattle.run_files.specs.declared.outputs.Output.{Output};
     ghost use Rattle.run_files.specs.DraftedOutputs.{IsDraftOf};
@@ -31,33 +32,34 @@ impl<'s, 'w, 'v, 'a, S: DraftShelf> Model for OutputDraft<'s, 'w, 'v, 'a, S> {
 
     ghost view = { λ d. get_or (outputs_from d.sources.now) d.number no_output };
 
-    ghost invariant = { λ d. IsDraftOf S.holds
+    ghost invariant = { λ d. IsDraftOf D.holds
         (get_or (outputs_from d.sources.now) d.number no_output) d.drafted };
 }
 
-impl<'s, 'w, 'v, 'a, S: DraftShelf> OutputDraft<'s, 'w, 'v, 'a, S> {
+impl<'s, 'w, 'v, 'a, D: Disk> OutputDraft<'s, 'w, 'v, 'a, D> {
     ghost use Rattle.run_files.specs.DraftedOutputs.{IsDraftOf};
 
     /// The drafts of its capture and its report.
-    pub(crate) fn into_drafts(self) -> DraftedOutput<S::Draft>
-        ensures { IsDraftOf S.holds self.entry result }
+    pub(crate) fn into_drafts(self) -> DraftedOutput<D::Draft>
+        ensures { IsDraftOf D.holds self.entry result }
     {
         self.drafted
     }
 }
 
-// Scenarios in a row: job j makes drafts of the output of the one with number first + j, in place j of the shelf.
+// Scenarios in a row: job j makes drafts of the output of the one with number first + j, in place j of the folder.
 #[derive(Drop)]
-struct DraftJobs<'j, 's, 'w, 'v, 'a, S: DraftShelf> {
+struct DraftJobs<'j, 'f, 's, 'w, 'v, 'a, D: Disk> {
     sources: &'s Sources<'w, 'v, 'a>,
     first: usize,
     count: usize,
-    shelf: &'j S,
+    folder: &'j Folder<'f>,
+    disk: &'j D,
     ghost within: { first + count ≤ length sources.now.scenarios.now },
 }
 
-impl<'j, 's, 'w, 'v, 'a, S: DraftShelf + Sync> Work for DraftJobs<'j, 's, 'w, 'v, 'a, S> {
-    type Out = OutputDraft<'s, 'w, 'v, 'a, S>;
+impl<'j, 'f, 's, 'w, 'v, 'a, D: Disk + Sync> Work for DraftJobs<'j, 'f, 's, 'w, 'v, 'a, D> {
+    type Out = OutputDraft<'s, 'w, 'v, 'a, D>;
 
     ghost use Rattle.std.specs.Prelude.{◌≡◌, ◌<◌, IfOk, drop, get_or, length, take};
     ghost use Rattle.toxicap.specs.CaptureOutputs.{outputs_from};
@@ -65,11 +67,12 @@ impl<'j, 's, 'w, 'v, 'a, S: DraftShelf + Sync> Work for DraftJobs<'j, 's, 'w, 'v
     ghost values = { λ w. take w.count (drop w.first
         (outputs_from w.sources.now)) };
 
-    fn value(&self, job: u64) -> Result<OutputDraft<'s, 'w, 'v, 'a, S>, AllocError> {
+    fn value(&self, job: u64) -> Result<OutputDraft<'s, 'w, 'v, 'a, D>, AllocError> {
         let number = self.first + job as usize;
+        let place = job as usize;
         let drafted = self
             .sources
-            .drafted(&Alone, number, self.shelf, job as usize)?;
+            .drafted(&Alone, number, self.folder, self.disk, place)?;
         Ok(OutputDraft {
             sources: self.sources,
             number,
@@ -83,14 +86,15 @@ impl<'j, 's, 'w, 'v, 'a, S: DraftShelf + Sync> Work for DraftJobs<'j, 's, 'w, 'v
 ///
 /// # Errors
 /// A growth was refused.
-pub(crate) fn drafts_from<'s, 'w, 'v, 'a, R: Threads + Sync, S: DraftShelf + Sync>(
+pub(crate) fn drafts_from<'s, 'w, 'v, 'a, R: Threads + Sync, D: Disk + Sync>(
     crew: &Workers<'_, R>,
     sources: &'s Sources<'w, 'v, 'a>,
     number: usize,
-    shelf: &S,
-) -> Result<Vec<OutputDraft<'s, 'w, 'v, 'a, S>>, AllocError>
+    folder: &Folder<'_>,
+    disk: &D,
+) -> Result<Vec<OutputDraft<'s, 'w, 'v, 'a, D>>, AllocError>
 where
-    S::Draft: Send,
+    D::Draft: Send,
     requires { number < length sources.now.scenarios.now }
     ensures some { IfOk result (λ v. 0 < length v.items) }
     ensures next { IfOk result (λ v. v.items ≡ take (length v.items) (drop number
@@ -99,13 +103,14 @@ where
     let left = sources.scenarios.len() - number;
     let workers = crew.plan.workers() as usize;
     if left.min(workers) == 1 {
-        return draft_by_workers(crew, sources, number, shelf);
+        return draft_by_workers(crew, sources, number, folder, disk);
     }
     let jobs = DraftJobs {
         sources,
         first: number,
         count: left.min(SHARE * workers),
-        shelf,
+        folder,
+        disk,
     };
     let count = jobs.count as u64;
     let drafts = work_all(
@@ -121,18 +126,19 @@ where
 }
 
 // Drafts of the output of one scenario, whose connections are spread over the workers.
-fn draft_by_workers<'s, 'w, 'v, 'a, R: Threads + Sync, S: DraftShelf>(
+fn draft_by_workers<'s, 'w, 'v, 'a, R: Threads + Sync, D: Disk>(
     crew: &Workers<'_, R>,
     sources: &'s Sources<'w, 'v, 'a>,
     number: usize,
-    shelf: &S,
-) -> Result<Vec<OutputDraft<'s, 'w, 'v, 'a, S>>, AllocError>
+    folder: &Folder<'_>,
+    disk: &D,
+) -> Result<Vec<OutputDraft<'s, 'w, 'v, 'a, D>>, AllocError>
     requires { number < length sources.now.scenarios.now }
     ensures some { IfOk result (λ v. 0 < length v.items) }
     ensures next { IfOk result (λ v. v.items ≡ take (length v.items) (drop number
         (outputs_from sources.now))) }
 {
-    let drafted = sources.drafted(crew, number, shelf, 0)?;
+    let drafted = sources.drafted(crew, number, folder, disk, 0)?;
     let mut drafts = Vec::with_capacity(sources.alloc, 1)?;
     drafts.push(OutputDraft {
         sources,

@@ -5,9 +5,9 @@ ghost use Rattle.segment_writer.specs.KeyLaws.{HasNoKeyTwice};
 ghost use Rattle.time_merge.specs.MergedCapture.{all_segments, capture_of};
 
 use conn_workers::LaidRow;
+use disks::Disk;
 use pcap_records::{Unit, write_header};
 use report::ReportText;
-use run_files::DraftShelf;
 use segment_writer::Layout;
 use std::alloc::{AllocError, Global};
 use time_merge::merge_layouts;
@@ -49,15 +49,15 @@ const BATCH_LEN: usize = 1 << 18;
 // # Errors
 // A growth was refused.
 #[tactic(auto, unfolding(time_merge::specs::MergedCapture::capture_of))]
-pub(crate) fn written_draft<S: DraftShelf>(
+pub(crate) fn written_draft<D: Disk>(
     alloc: Global,
     layouts: &[Layout<'_>],
     unit: Unit,
-    draft: S::Draft,
-) -> Result<S::Draft, AllocError>
+    draft: D::Draft,
+) -> Result<D::Draft, AllocError>
     requires once { HasNoKeyTwice (all_segments layouts.now) }
-    requires empty { S.holds draft [] }
-    ensures { IfOk result (λ d. S.holds d (capture_of (ticks_of unit) (all_segments layouts.now))) }
+    requires empty { D.holds draft [] }
+    ensures { IfOk result (λ d. D.holds d (capture_of (ticks_of unit) (all_segments layouts.now))) }
 {
     let merged = merge_layouts(alloc, layouts)?;
     let mut draft = draft;
@@ -68,9 +68,9 @@ pub(crate) fn written_draft<S: DraftShelf>(
         if batch.len() < BATCH_LEN {
             continue;
         }
-        S::append(&mut draft, &batch);
+        D::append(&mut draft, &batch);
         batch.clear();
     }
-    S::append(&mut draft, &batch);
+    D::append(&mut draft, &batch);
     Ok(draft)
 }

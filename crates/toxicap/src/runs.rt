@@ -5,12 +5,12 @@ ghost use Rattle.command_line.specs.Asking.{IsPlanInRange};
 ghost use Rattle.run_files.specs.declared.error.RunFault.{RunFault};
 ghost use Rattle.toxicap.specs.Answering.{called_for};
 ghost use Rattle.toxicap.specs.Commands.{RunsBy};
-ghost use Rattle.toxicap.specs.NamedFiles.{EndsOf, LoadsFile, LoadsInput, RunsOver, texts_from};
+ghost use Rattle.disks.specs.Histories.{held_now};
+ghost use Rattle.toxicap.specs.NamedFiles.{EndsOf, LeavesDisk, LoadsFile, LoadsInput, RunsOver, texts_from};
 ghost use Rattle.toxicap.specs.RunEnds.{failed_writes};
 ghost use Rattle.lists.specs.Agreement.{AgreesUnlessMemory};
 ghost use Rattle.pcap_records.specs.Reading.{capture_limit};
 ghost use Rattle.toxicap.specs.Inputs.{IsOfFiles, texts_or_bare};
-ghost use Rattle.run_files.specs.Paths.{IsOfFile, text_at};
 ghost use Rattle.run_files.specs.RunFault.{run_refusal};
 
 use crate::answering::Options;
@@ -20,29 +20,30 @@ use crate::reading::read_inputs;
 use crate::reports::rehearse_reports;
 use crate::storing::store_rehearsal;
 use command_line::Asked;
+use disks::laws::names_leave_whole;
+use disks::{Disk, ReadDisk};
 use job_matrix::Plan;
-use run_files::{Counted, Folder, Paths, RunFault, Text, load, load_by_workers, write_bytes};
+use run_files::{Counted, Folder, RunFault, Text, load, load_by_workers, load_file, write_bytes};
 use std::alloc::{AllocError, Global};
 use std::io::{Read, Write};
-use std::os::unix::fs::FileExt;
-use std::rt::Files;
 use std::sync::Wait;
 use std::thread::Threads;
 
 /// Does what a command line asks for: its hosts are read first, then its scenario files, then the capture, from `reader` where no
 /// file is named. The answers are stored in its folder, or where it names none the reports are printed on `writer`.
-pub(crate) fn run_asked<H: Files + Threads + Wait + Sync, P: Paths, R: Read, W: Write>(
+pub(crate) fn run_asked<H: Threads + Wait + Sync, D: ReadDisk + Sync, R: Read, W: Write>(
     rt: &H,
-    paths: &P,
+    disk: &mut D,
     alloc: Global,
     asked: &Asked<'_>,
     reader: &mut Counted<R>,
     writer: &mut Counted<W>,
 ) -> Result<(), RunFault>
 where
-    H::File: FileExt + Send + Sync,
-    H::Dir: Send,
+    D::File: Sync,
+    D::Draft: Send,
     requires asked { IsPlanInRange asked.now }
+    requires faults { D.faults disk.old < 2 ^ 64 - 1 }
     requires reads { reader.old.failed < 2 ^ 64 - 1 }
     requires writes { writer.old.failed < 2 ^ 64 - 1 }
     ensures runs { RunsBy asked.now result (record {
@@ -54,7 +55,7 @@ where
       Wrote = Appends (W.contents writer.old.inner) (W.contents writer.new.inner);
       WritesFailed = λ n. writer.new.failed ≡ writer.old.failed + n;
     }) }
-    ensures named { IfSome (P.holds paths.now) (λ held. RunsOver held asked.now result (record {
+    ensures named { IfSome (D.history disk.old) (λ h. RunsOver h asked.now result (record {
       Unread = reader.new ≡ reader.old;
       Read = λ text n. Consumes (R.remaining reader.old.inner) (R.remaining reader.new.inner) text
           × (reader.new.failed ≡ reader.old.failed + n);
@@ -62,27 +63,28 @@ where
       Unwritten = writer.new ≡ writer.old;
       Wrote = Appends (W.contents writer.old.inner) (W.contents writer.new.inner);
       WritesFailed = λ n. writer.new.failed ≡ writer.old.failed + n;
-    })) }
+    }) (D.history disk.new)) }
     ensures failed_writes { writer.new.failed ≡ writer.old.failed + failed_writes result }
     ensures untouched { IfErr result (λ fault. fault ≢ RunFault.WriteFailed → writer.new ≡ writer.old) }
 {
+    names_leave_whole();
     let hosts = read_hosts(alloc, &asked.hosts)?;
-    let files = load_files(paths, alloc, &asked.scenarios)?;
+    let files = load_files(alloc, disk, &asked.scenarios)?;
     let texts = texts_of(alloc, &files)?;
     let options = Options {
         hosts,
         seed: asked.seed,
         plan: Plan::new(asked.workers, asked.cut).unwrap(),
     };
-    let text = load_capture(rt, paths, alloc, asked, options.plan, reader)?;
-    answer_into(rt, paths, alloc, text, writer, asked, &texts, &options)
+    let text = load_capture(rt, alloc, disk, asked, options.plan, reader)?;
+    answer_into(rt, disk, alloc, text, writer, asked, &texts, &options)
 }
 
 // The answers to a capture's text, stored in a folder as they are made, or without one their reports printed. Nothing is printed
 // before all reports are whole, so every refusal but a failed write leaves the writer as it was.
-fn answer_into<H: Files + Threads + Wait + Sync, P: Paths, W: Write>(
+fn answer_into<H: Threads + Wait + Sync, D: Disk + Sync, W: Write>(
     rt: &H,
-    paths: &P,
+    disk: &mut D,
     alloc: Global,
     text: Text<'_>,
     writer: &mut Counted<W>,
@@ -91,15 +93,18 @@ fn answer_into<H: Files + Threads + Wait + Sync, P: Paths, W: Write>(
     options: &Options,
 ) -> Result<(), RunFault>
 where
-    H::File: FileExt + Send + Sync,
-    H::Dir: Send,
-    requires { writer.old.failed < 2 ^ 64 - 1 }
+    D::Draft: Send,
+    requires writes { writer.old.failed < 2 ^ 64 - 1 }
+    requires faults { D.faults disk.old < 2 ^ 64 - 1 }
+    ensures disk { IfSome (D.history disk.old) (λ h. LeavesDisk asked.now.out result
+        (called_for options.now.hosts (map (λ t. t.now) texts.now) options.now.seed text.entry) h (D.history disk.new)) }
     ensures ends { EndsOf asked.now.out result (called_for options.now.hosts (map (λ t. t.now) texts.now) options.now.seed text.entry)
         (Appends (W.contents writer.old.inner) (W.contents writer.new.inner)) }
     ensures unwritten { OnSome asked.now.out (writer.new ≡ writer.old) }
     ensures failed_writes { writer.new.failed ≡ writer.old.failed + failed_writes result }
     ensures untouched { IfErr result (λ fault. fault ≢ RunFault.WriteFailed → writer.new ≡ writer.old) }
 {
+    names_leave_whole();
     let inputs = read_inputs(alloc, text, texts, &options.hosts)?;
     let capture = inputs.capture.bytes();
     let crew = Workers {
@@ -110,17 +115,16 @@ where
         let reports = rehearse_reports(&crew, alloc, capture, &inputs.scenarios, options.seed)?;
         return write_bytes(writer, reports.as_slice());
     };
-    let mut shelf = Folder::new(alloc, rt, folder)?;
-    if paths.is_file_system() {
-        spare_inputs(asked, &mut shelf)?;
-    }
+    let mut folder = Folder::new(alloc, folder)?;
+    spare_inputs(asked, disk, &mut folder)?;
     store_rehearsal(
         &crew,
         alloc,
         capture,
         &inputs.scenarios,
         options.seed,
-        &mut shelf,
+        &mut folder,
+        disk,
     )
 }
 
@@ -128,12 +132,16 @@ where
 const STANDARD_INPUT: &str = "/dev/stdin";
 
 // The folder will replace no file that the run has read: neither a scenario's, nor the capture's.
-fn spare_inputs<H: Files>(asked: &Asked<'_>, shelf: &mut Folder<'_, H>) -> Result<(), AllocError>
-    ensures { shelf.new ≡ shelf.old }
+fn spare_inputs<D: Disk>(
+    asked: &Asked<'_>,
+    disk: &D,
+    folder: &mut Folder<'_>,
+) -> Result<(), AllocError>
+    ensures { folder.new ≡ folder.old }
 {
-    shelf.spare(asked.capture.unwrap_or(STANDARD_INPUT))?;
+    folder.spare(disk, asked.capture.unwrap_or(STANDARD_INPUT))?;
     for path in &asked.scenarios {
-        shelf.spare(path)?;
+        folder.spare(disk, path)?;
     }
     Ok(())
 }
@@ -147,68 +155,49 @@ const BARE: &[u8] = b"[]";
 // [`RunFault::ReadFailed`] for the first that cannot be opened or read, [`RunFault::CaptureTooLong`] for one that is longer than
 // a capture may be; [`RunFault::Memory`].
 #[tactic(auto, unfolding(crate::specs::NamedFiles::texts_from))]
-fn load_files<P: Paths>(paths: &P, alloc: Global, named: &[&str]) -> Result<Vec<Vec<u8>>, RunFault>
-    ensures told { IfSome (P.holds paths.now) (λ held. AgreesUnlessMemory run_refusal (λ files. map (λ f. f.items) files.items) result
-        (texts_from held [] (map (λ path. path.now) named.now))) }
+fn load_files<D: ReadDisk>(
+    alloc: Global,
+    disk: &D,
+    named: &[&str],
+) -> Result<Vec<Vec<u8>>, RunFault>
+    ensures told { IfSome (D.history disk.now) (λ h. AgreesUnlessMemory run_refusal (λ files. map (λ f. f.items) files.items) result
+        (texts_from (held_now h) [] (map (λ path. path.now) named.now))) }
     ensures one_each { IfOk result (λ files. length files.items ≡ length named.now) }
     ensures of_file { IfErr result (IsOfFiles (length named.now)) }
 {
     let mut files = Vec::new(alloc);
     for path in named {
-        let file = paths.load(alloc, path)?;
+        let file = load_file(alloc, disk, path)?;
         files.push(file).map_err(AllocError::from)?;
     }
     Ok(files)
 }
 
 // The text of the capture, from the file that a command line names, or without one from a reader.
-fn load_capture<H: Files + Threads + Sync, P: Paths, R: Read>(
+fn load_capture<H: Threads + Sync, D: ReadDisk, R: Read>(
     rt: &H,
-    paths: &P,
     alloc: Global,
+    disk: &D,
     asked: &Asked<'_>,
     plan: Plan,
     reader: &mut Counted<R>,
 ) -> Result<Text<'static>, RunFault>
 where
-    H::File: FileExt + Sync,
+    D::File: Sync,
     requires { reader.old.failed < 2 ^ 64 - 1 }
     ensures within { IfOk result (λ text. length text ≤ capture_limit) }
     ensures input { IfNone asked.now.capture (LoadsInput (λ text. text) result
         (Consumes (R.remaining reader.old.inner) (R.remaining reader.new.inner)) (IsAtEnd (R.remaining reader.new.inner))
         reader.old.failed reader.new.failed) }
-    ensures file { IfSome asked.now.capture (λ path. LoadsFile (λ text. text) result (P.holds paths.now) path.now
+    ensures file { IfSome asked.now.capture (λ path. LoadsFile (λ text. text) result (D.history disk.now) path.now
         (reader.new ≡ reader.old)) }
 {
     match asked.capture {
-        Some(path) => load_file(rt, paths, alloc, path, plan),
+        Some(path) => load_by_workers(rt, alloc, disk, path, plan),
         None => match load(alloc, reader) {
             Ok(bytes) => Ok(Text::of(bytes)),
             Err(fault) => Err(fault),
         },
-    }
-}
-
-// The text of the file at a path, loaded by workers where it is one of the file system.
-fn load_file<H: Files + Threads + Sync, P: Paths>(
-    rt: &H,
-    paths: &P,
-    alloc: Global,
-    path: &str,
-    plan: Plan,
-) -> Result<Text<'static>, RunFault>
-where
-    H::File: FileExt + Sync,
-    ensures told { IfSome (P.holds paths.now) (λ held. AgreesUnlessMemory run_refusal (λ text. text) result (text_at held path.now)) }
-    ensures within { IfOk result (λ text. length text ≤ capture_limit) }
-    ensures of_file { IfErr result IsOfFile }
-{
-    if paths.is_file_system() {
-        return load_by_workers(rt, alloc, path, plan);
-    }
-    match paths.load(alloc, path) {
-        Ok(bytes) => Ok(Text::of(bytes)),
-        Err(fault) => Err(fault),
     }
 }
 

@@ -9,9 +9,10 @@ use crate::layouts::{RowParts, parts_of_row, written_draft};
 use conn_table::Table;
 use conn_workers::Recordings;
 use conn_workers::laws::{lines_are_contributed, rows_are_contributed};
+use disks::Disk;
 use pcap_records::{Capture, Values};
 use report::{ReportText, report};
-use run_files::{DraftShelf, DraftedOutput, Output, Outputs};
+use run_files::{DraftedOutput, Folder, Output, Outputs};
 use scenarios::Scenario;
 use segment_writer::laws::keys_stand_once;
 use std::alloc::{AllocError, Global};
@@ -90,27 +91,28 @@ impl<'w, 'v, 'a> Sources<'w, 'v, 'a> {
         })
     }
 
-    /// The same as drafts of a shelf: the capture in the place that is twice this one, and the report in the next.
-    pub(crate) fn drafted<C: Crew, S: DraftShelf>(
+    /// The same as drafts of a folder: the capture in the place that is twice this one, and the report in the next.
+    pub(crate) fn drafted<C: Crew, D: Disk>(
         &self,
         crew: &C,
         number: usize,
-        shelf: &S,
+        folder: &Folder<'_>,
+        disk: &D,
         place: usize,
-    ) -> Result<DraftedOutput<S::Draft>, AllocError>
+    ) -> Result<DraftedOutput<D::Draft>, AllocError>
         requires crew { C.shares crew.now }
         requires within { number < length self.now.scenarios.now }
         requires place { place ≤ 2 ^ 32 }
-        ensures { IfOk result (IsDraftOf S.holds (get_or (outputs_from self.now) number no_output)) }
+        ensures { IfOk result (IsDraftOf D.holds (get_or (outputs_from self.now) number no_output)) }
     {
         let parts = self.parts(crew, number)?;
         let RowParts { layouts, lines } = parts;
-        let draft = shelf.draft(self.alloc, 2 * place)?;
-        let draft = written_draft::<S>(self.alloc, &layouts, self.capture.unit(), draft)?;
+        let draft = folder.draft(self.alloc, disk, 2 * place)?;
+        let draft = written_draft::<D>(self.alloc, &layouts, self.capture.unit(), draft)?;
         drop(layouts);
         let text = self.report_of(number, &lines)?.into_vec();
-        let mut report = shelf.draft(self.alloc, 2 * place + 1)?;
-        S::append(&mut report, &text);
+        let mut report = folder.draft(self.alloc, disk, 2 * place + 1)?;
+        D::append(&mut report, &text);
         Ok((draft, report))
     }
 

@@ -1,7 +1,7 @@
 //! Outputs that are stored as they are made: drafts of those of a few scenarios are made, stored and let go, and then those of the next.
 ghost use Rattle.std.specs.Prelude.{◌-◌, ◌^◌, ◌<◌, ◌≤◌, Ok, length};
 ghost use Rattle.pcap_records.specs.CaptureView.{bytes_of};
-ghost use Rattle.run_files.specs.Shelves.{Takes};
+ghost use Rattle.run_files.specs.Folders.{TakesIn};
 ghost use Rattle.toxicap.specs.CaptureOutputs.{outputs_for, outputs_from};
 ghost use Rattle.toxicap.specs.Rehearsal.{answer, scenario_limit};
 ghost use Rattle.toxicap.specs.StoredOutputs.{StoresOf, TakenOf};
@@ -10,54 +10,59 @@ use crate::crews::{Crew, Workers};
 use crate::drafting::drafts_from;
 use crate::reading::read_rehearsed;
 use crate::sources::Sources;
+use disks::Disk;
 use pcap_records::{Capture, FileBytes};
-use run_files::{DraftShelf, RunFault, store_draft};
+use run_files::{Folder, RunFault, store_draft};
 use scenarios::Scenario;
 use std::alloc::Global;
 use std::thread::Threads;
 
-/// Rehearses a capture under each of the scenarios and puts the files of their outputs on a shelf, in order: those that `store_all`
+/// Rehearses a capture under each of the scenarios and puts the files of their outputs into a folder, in order: those that `store_all`
 /// puts of what `rehearse` answers. Laid out are no more scenarios at once than there are workers, and there are drafts of at most twice
 /// as many.
 ///
 /// # Errors
-/// Those of `rehearse`, and [`RunFault::ShelfFailed`] at the first file that the shelf does not take. The shelf then has the files
+/// Those of `rehearse`, and [`RunFault::ShelfFailed`] at the first file that the folder does not take. The folder then has the files
 /// before that one; where memory is wanting it has a first part of the files, and at any other refusal none of them.
-pub(crate) fn store_rehearsal<R: Threads + Sync, S: DraftShelf + Sync>(
+pub(crate) fn store_rehearsal<R: Threads + Sync, D: Disk + Sync>(
     crew: &Workers<'_, R>,
     alloc: Global,
     capture: FileBytes<'_>,
     scenarios: &[Scenario],
     seed: u64,
-    shelf: &mut S,
+    folder: &mut Folder<'_>,
+    disk: &mut D,
 ) -> Result<(), RunFault>
 where
-    S::Draft: Send,
-    requires { S.failures shelf.old < 2 ^ 64 - 1 }
+    D::Draft: Send,
+    requires failures { folder.old.failed < 2 ^ 64 - 1 }
+    requires faults { D.faults disk.old < 2 ^ 64 - 1 }
     ensures ends { StoresOf result (answer (bytes_of capture.entry) scenarios.now seed) }
-    ensures taken { TakenOf result (answer (bytes_of capture.entry) scenarios.now seed) (Takes (S.files shelf.old) (S.files shelf.new))
-        (S.failures shelf.old) (S.failures shelf.new) }
+    ensures taken { TakenOf result (answer (bytes_of capture.entry) scenarios.now seed) (TakesIn folder.old.folder (D.history disk.old) (D.history disk.new))
+        folder.old.failed folder.new.failed }
 {
     let capture = read_rehearsed(alloc, capture, scenarios)?;
-    store_outputs(crew, alloc, &capture, scenarios, seed, shelf)
+    store_outputs(crew, alloc, &capture, scenarios, seed, folder, disk)
 }
 
 // Stores what each scenario answers. Workers make the table of the capture, range by range, and what is recorded of each connection.
-fn store_outputs<R: Threads + Sync, S: DraftShelf + Sync>(
+fn store_outputs<R: Threads + Sync, D: Disk + Sync>(
     crew: &Workers<'_, R>,
     alloc: Global,
     capture: &Capture<'_>,
     scenarios: &[Scenario],
     seed: u64,
-    shelf: &mut S,
+    folder: &mut Folder<'_>,
+    disk: &mut D,
 ) -> Result<(), RunFault>
 where
-    S::Draft: Send,
+    D::Draft: Send,
     requires few { length scenarios.now ≤ scenario_limit }
-    requires failures { S.failures shelf.old < 2 ^ 64 - 1 }
+    requires failures { folder.old.failed < 2 ^ 64 - 1 }
+    requires faults { D.faults disk.old < 2 ^ 64 - 1 }
     ensures ends { StoresOf result (Ok (outputs_for capture.now scenarios.now seed)) }
     ensures taken { TakenOf result (Ok (outputs_for capture.now scenarios.now seed))
-        (Takes (S.files shelf.old) (S.files shelf.new)) (S.failures shelf.old) (S.failures shelf.new) }
+        (TakesIn folder.old.folder (D.history disk.old) (D.history disk.new)) folder.old.failed folder.new.failed }
 {
     let table = crew.table(alloc, capture)?;
     let recordings = crew.record(alloc, capture, &table)?;
@@ -69,27 +74,29 @@ where
         scenarios,
         seed,
     };
-    store_each(crew, &sources, shelf)
+    store_each(crew, &sources, folder, disk)
 }
 
-// Stores the output of each scenario: drafts of some are made, taken by the shelf, and then those of the next.
-fn store_each<R: Threads + Sync, S: DraftShelf + Sync>(
+// Stores the output of each scenario: drafts of some are made, given their names, and then those of the next.
+fn store_each<R: Threads + Sync, D: Disk + Sync>(
     crew: &Workers<'_, R>,
     sources: &Sources<'_, '_, '_>,
-    shelf: &mut S,
+    folder: &mut Folder<'_>,
+    disk: &mut D,
 ) -> Result<(), RunFault>
 where
-    S::Draft: Send,
-    requires { S.failures shelf.old < 2 ^ 64 - 1 }
+    D::Draft: Send,
+    requires failures { folder.old.failed < 2 ^ 64 - 1 }
+    requires faults { D.faults disk.old < 2 ^ 64 - 1 }
     ensures ends { StoresOf result (Ok (outputs_from sources.now)) }
     ensures taken { TakenOf result (Ok (outputs_from sources.now))
-        (Takes (S.files shelf.old) (S.files shelf.new)) (S.failures shelf.old) (S.failures shelf.new) }
+        (TakesIn folder.old.folder (D.history disk.old) (D.history disk.new)) folder.old.failed folder.new.failed }
 {
     let mut number = 0;
     while number < sources.scenarios.len() {
-        let drafts = drafts_from(crew, sources, number, shelf)?;
+        let drafts = drafts_from(crew, sources, number, folder, disk)?;
         for draft in drafts {
-            store_draft(sources.alloc, number, draft.into_drafts(), shelf)?;
+            store_draft(sources.alloc, number, draft.into_drafts(), folder, disk)?;
             number += 1;
         }
     }

@@ -7,5 +7,5 @@ use Rattle.toxicap.proofs.layouts.written_draft.Given as goal
 -- the draft and the batch after it have the header, and the records of the segments until now
 abbrev pub invariant-loop-place : goal.invariant-loop-place
 invariant-loop-place g l =
-    (written : List ℕ) × g.S.DraftShelf.holds l.draft written
+    (written : List ℕ) × g.D.Disk.holds l.draft written
     × (written ++ l.batch.items ≡ capture_in_turn (ticks_of l.fn.unit) (take l.place (sorted_by_key (all_segments l.layouts))))

@@ -1,8 +1,9 @@
-use Rattle.std.proofs.Common.{◌≤◌, ◌*◌, List, length, refl, ap, ◌∙◌, arith}
+use Rattle.std.proofs.Common.{◌≤◌, ◌*◌, ℕ, List, [], ◌∷◌, Err, subst, length, refl, ap, ◌∙◌, arith}
 use Rattle.std.proofs.lemmas.List.{take_all}
 use Rattle.std.proofs.lemmas.Result.{err_from_is_err_and}
 use Rattle.run_files.specs.declared.outputs.Output.{Output}
-use Rattle.run_files.specs.WrittenOutputs.{files_from}
+use Rattle.run_files.specs.Folders.{TakesIn}
+use Rattle.run_files.specs.WrittenOutputs.{files_from, StoresAfter}
 use Rattle.toxicap.specs.CaptureOutputs.{outputs_from}
 use Rattle.toxicap.proofs.OutputSteps.{as_many_outputs}
 use Rattle.toxicap.proofs.ReadyDrafts.{takes_first}
@@ -11,7 +12,7 @@ use Rattle.toxicap.proofs.StoredSteps.{length-files_from, taken_more, stops_at}
 use Rattle.toxicap.proofs.storing.store_each.Goals as goal
 
 pub loop-number-init : goal.loop-number-init
-loop-number-init g c = record { taken = nothing_taken _; none_failed = refl }
+loop-number-init g c = record { taken = nothing_taken c.args.folder.now.folder _; folder = refl; no_fault = refl; none_failed = refl }
 
 -- there was no memory for the next drafts
 pub returns-in_err-drafts-clause-taken : goal.returns-in_err-drafts-clause-taken
@@ -32,30 +33,36 @@ overflow_add-number g c =
 -- the shelf did not take the next one
 pub returns-in_err-store_draft-clause-ends : goal.returns-in_err-store_draft-clause-ends
 returns-in_err-store_draft-clause-ends g c =
+    let number : ℕ = c.loop-draft.number in
     let all : List Output = outputs_from c.args.sources.now in
     let loop = c.loop-draft.invariant in
     let first = takes_first all _ _ c.loop-draft.number c.in-Some.draft loop.left c.in-Some.ensures.steps.0 in
     let fault = err_from_is_err_and c.from_residual-in_err-store_draft.result c.from_residual-in_err-store_draft.ensures.1 in
-    rw (fault.1, fault.2) (stops_at all c.loop-draft.number c.in-Some.draft first.below first.is _ _ _ loop.taken _ _ _ _ loop.none_failed (c.in_err-store_draft.ensures.stores c.in-Some.draft c.into_drafts.ensures)).0
+    rw (fault.1, fault.2) (stops_at c.args.folder.now.folder all c.loop-draft.number c.in-Some.draft first.below first.is _ _ _ loop.taken _ _ _ _ loop.none_failed (subst (λ f. StoresAfter (2 * number) (files_from number (c.in-Some.draft ∷ [])) (TakesIn f (g.D.Disk.history c.loop-draft.disk) (g.D.Disk.history c.store_draft.new.disk))
+    c.loop-draft.folder.failed c.store_draft.new.folder.failed (Err c.in_err-store_draft.field-0.0)) loop.folder (c.in_err-store_draft.ensures.stores c.in-Some.draft c.into_drafts.ensures))).0
 
 pub returns-in_err-store_draft-clause-taken : goal.returns-in_err-store_draft-clause-taken
 returns-in_err-store_draft-clause-taken g c =
+    let number : ℕ = c.loop-draft.number in
     let all : List Output = outputs_from c.args.sources.now in
     let loop = c.loop-draft.invariant in
     let first = takes_first all _ _ c.loop-draft.number c.in-Some.draft loop.left c.in-Some.ensures.steps.0 in
     let fault = err_from_is_err_and c.from_residual-in_err-store_draft.result c.from_residual-in_err-store_draft.ensures.1 in
-    rw (fault.1, fault.2) (stops_at all c.loop-draft.number c.in-Some.draft first.below first.is _ _ _ loop.taken _ _ _ _ loop.none_failed (c.in_err-store_draft.ensures.stores c.in-Some.draft c.into_drafts.ensures)).1
+    rw (fault.1, fault.2) (stops_at c.args.folder.now.folder all c.loop-draft.number c.in-Some.draft first.below first.is _ _ _ loop.taken _ _ _ _ loop.none_failed (subst (λ f. StoresAfter (2 * number) (files_from number (c.in-Some.draft ∷ [])) (TakesIn f (g.D.Disk.history c.loop-draft.disk) (g.D.Disk.history c.store_draft.new.disk))
+    c.loop-draft.folder.failed c.store_draft.new.folder.failed (Err c.in_err-store_draft.field-0.0)) loop.folder (c.in_err-store_draft.ensures.stores c.in-Some.draft c.into_drafts.ensures))).1
 
 pub loop-draft-preserved : goal.loop-draft-preserved
 loop-draft-preserved g c =
     let all : List Output = outputs_from c.args.sources.now in
     let loop = c.loop-draft.invariant in
     let first = takes_first all _ _ c.loop-draft.number c.in-Some.draft loop.left c.in-Some.ensures.steps.0 in
-    let stored = c.in_ok-store_draft.ensures.stores c.in-Some.draft c.into_drafts.ensures in
+    let stored = rw loop.folder at (c.in_ok-store_draft.ensures.stores c.in-Some.draft c.into_drafts.ensures) in
     record {
       can_next = tt;
       is_finite = tt;
-      taken = taken_more all c.loop-draft.number c.in-Some.draft first.below first.is _ _ _ loop.taken stored.0;
+      taken = taken_more c.args.folder.now.folder all c.loop-draft.number c.in-Some.draft first.below first.is _ _ _ loop.taken stored.0;
+      folder = c.in_ok-store_draft.ensures.folder ∙ loop.folder;
+      no_fault = c.in_ok-store_draft.ensures.no_fault ∙ loop.no_fault;
       none_failed = stored.1 ∙ loop.none_failed;
       left = first.left;
       rises = omega (arith, loop.rises, ap length c.in-Some.ensures.steps.0);

@@ -1,15 +1,17 @@
 use Rattle.std.proofs.Common.{◌≡◌, ◌<◌, ◌+◌, ◌-◌, ◌*◌, length, take, drop}
 use Rattle.std.specs.Vec.Iter.{into_iter_items}
-use Rattle.run_files.specs.Shelves.{Takes}
+use Rattle.run_files.specs.Folders.{TakesIn}
 use Rattle.run_files.specs.WrittenOutputs.{files_from}
 use Rattle.toxicap.specs.CaptureOutputs.{outputs_from}
 use Rattle.toxicap.proofs.storing.store_each.Given as goal
 
--- the shelf took the files of the outputs before this number, and no call has failed
+-- the folder took the files of the outputs before this number, and no call has failed
 abbrev pub invariant-loop-number : goal.invariant-loop-number
 invariant-loop-number g l = record {
-  taken : Takes (g.S.Shelf.files l.fn.shelf) (g.S.Shelf.files l.shelf) (take (2 * l.number) (files_from 0 (outputs_from l.sources)));
-  none_failed : g.S.Shelf.failures l.shelf ≡ g.S.Shelf.failures l.fn.shelf;
+  taken : TakesIn l.fn.folder.folder (g.D.Disk.history l.fn.disk) (g.D.Disk.history l.disk) (take (2 * l.number) (files_from 0 (outputs_from l.sources)));
+  folder : l.folder.folder ≡ l.fn.folder.folder;
+  no_fault : g.D.Disk.faults l.disk ≡ g.D.Disk.faults l.fn.disk;
+  none_failed : l.folder.failed ≡ l.fn.folder.failed;
 }
 
 abbrev pub decreases-loop-number : goal.decreases-loop-number
@@ -20,8 +22,10 @@ abbrev pub invariant-loop-draft : goal.invariant-loop-draft
 invariant-loop-draft g l = record {
   can_next : (goal.iterator-loop-draft g).can_next l.draft-iterator;
   is_finite : (goal.iterator-loop-draft g).is_finite l.draft-iterator;
-  taken : Takes (g.S.Shelf.files l.fn.shelf) (g.S.Shelf.files l.shelf) (take (2 * l.number) (files_from 0 (outputs_from l.sources)));
-  none_failed : g.S.Shelf.failures l.shelf ≡ g.S.Shelf.failures l.fn.shelf;
+  taken : TakesIn l.fn.folder.folder (g.D.Disk.history l.fn.disk) (g.D.Disk.history l.disk) (take (2 * l.number) (files_from 0 (outputs_from l.sources)));
+  folder : l.folder.folder ≡ l.fn.folder.folder;
+  no_fault : g.D.Disk.faults l.disk ≡ g.D.Disk.faults l.fn.disk;
+  none_failed : l.folder.failed ≡ l.fn.folder.failed;
   left : into_iter_items l.draft-iterator ≡ take (length (into_iter_items l.draft-iterator)) (drop l.number (outputs_from l.sources));
   rises : l.initial.number < l.number + length (into_iter_items l.draft-iterator);
 }

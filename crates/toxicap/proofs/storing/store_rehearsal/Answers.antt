@@ -7,9 +7,9 @@ pub returns-in_err-capture-clause-ends : goal.returns-in_err-capture-clause-ends
 returns-in_err-capture-clause-ends g c =
     let fault = err_from_is_err_and c.from_residual.result c.from_residual.ensures.1 in
     rw (fault.1, fault.2)
-    (none_stored _ (bytes_of c.args.capture) c.args.scenarios.now c.args.seed (g.S.Shelf.files c.args.shelf.now) 0 (c.in_err-capture.ensures.refused c.args.seed)).0
+    (none_stored _ (bytes_of c.args.capture) c.args.scenarios.now c.args.seed c.args.folder.now.folder (g.D.Disk.history c.args.disk.now) 0 (c.in_err-capture.ensures.refused c.args.seed)).0
 
 pub returns-in_err-capture-clause-taken : goal.returns-in_err-capture-clause-taken
 returns-in_err-capture-clause-taken g c =
     let fault = err_from_is_err_and c.from_residual.result c.from_residual.ensures.1 in
-    rw (fault.1, fault.2) (none_stored _ (bytes_of c.args.capture) c.args.scenarios.now c.args.seed _ _ (c.in_err-capture.ensures.refused c.args.seed)).1
+    rw (fault.1, fault.2) (none_stored _ (bytes_of c.args.capture) c.args.scenarios.now c.args.seed c.args.folder.now.folder _ _ (c.in_err-capture.ensures.refused c.args.seed)).1

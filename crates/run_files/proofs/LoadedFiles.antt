@@ -11,7 +11,7 @@ use Rattle.run_files.specs.LoadedBlocks.{part_at}
 
 -- some first bytes of a file from a start on, and those that one read gives after them
 module _ (file : List ℕ) (start : ℕ) (part room more : List ℕ) (n : ℕ) (first : part ≡ take (length part) (drop start file)) (within : length part ≤ length file - start)
-  (gives : take n room ≡ take n (drop (start + length part) file)) (fits : n ≤ length file - (start + length part)) (all : more ≡ part ++ take n room) where
+    (gives : take n room ≡ take n (drop (start + length part) file)) (fits : n ≤ length file - (start + length part)) (all : more ≡ part ++ take n room) where
   after : take n room ≡ take n (drop (length part) (drop start file))
   after = gives ∙ ap (take n) (sym (drop-drop (length part) start file))
 

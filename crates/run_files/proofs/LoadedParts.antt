@@ -178,6 +178,7 @@ text_of_blocks f count has few = by (nat_lt 0 f.lost) refl
   where
     fits : nat_lt capture_limit (length f.bytes) ≡ false
     fits = le-ltb capture_limit (length f.bytes) (omega (arith, has.1, few))
+
     by : (b : Bool) → nat_lt 0 f.lost ≡ b → text_of (Some f) ≡ and_then (parts_from f [] 0 count) (λ parts. Ok (bytes_until_short parts))
     by true lost =
         let parts : parts_from f [] 0 count ≡ Err ReadFailed = lost_part f [] 0 count lost (omega (arith, has.1)) (omega (arith, ltb-true 0 f.lost lost)) in

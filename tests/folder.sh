@@ -39,7 +39,7 @@ for ((place = 0; place < 64; place++)); do printf 'unfinished of a killed run, a
 run "$capture" "${forty[@]}" --workers 16 --out "$work/folder"
 verdict "64 drafts of a killed run are replaced" "$(well; folder_difference "$work/forty" "$work/folder")"
 
-# An empty path is no folder: neither the one where the program runs, nor the root of the file system, in which nothing is even opened.
+# An empty path is no folder: neither the one where the program runs, nor the root of the file system. No draft is made there, and so none is removed.
 folder
 (cd / && printf '%s\n' .* *) > "$work/root"
 pushd "$work/folder" > /dev/null
@@ -49,7 +49,7 @@ popd > /dev/null
 verdict "an empty path" "$(
     refusal "refused 60 ShelfFailed after 0"
     holds "$work/folder"
-    [ ! -e "$work/calls" ] || [ "$(count open)" = 0 ] || echo "  files that were opened: $(count open)"
+    [ ! -e "$work/calls" ] || [ "$(count remove)" = 0 ] || echo "  files that were removed: $(count remove)"
     difference "$work/root" "$work/root-after"
 )"
 

@@ -27,6 +27,6 @@ abbrev pub history_of : MemoryDiskView → History
 history_of disk = record { first = first_held disk.first; names = disk.names }
 
 -- what a file is that was found: bytes, and how many are lost
-abbrev pub told_of : Option (Bor (List ℕ) × ℕ) → Option ToldFile
-told_of None = None
-told_of (Some found) = Some (record { bytes = found.0.now; lost = found.1 })
+abbrev pub told_file : Option (Bor (List ℕ) × ℕ) → Option ToldFile
+told_file None = None
+told_file (Some found) = Some (record { bytes = found.0.now; lost = found.1 })

@@ -86,8 +86,8 @@ pub trait DiskFile {
 /// Where files are written: each as a draft, beside the others and by any thread where the disk is `Sync`, which gets its name when it is whole.
 ///
 /// Contracts see three things. `history` is what the paths held at first and the files that got names since, or `None` where the disk
-/// does not tell that; `faults` is the number of its failed calls; and a draft `holds` some bytes, unless it has failed. Of paths of
-/// drafts nothing is told, so a draft has no path that a file may get as its name.
+/// does not tell that; `faults` is the number of its failed calls; and a draft `holds` some bytes, unless it has failed. A draft is no
+/// part of the history, so it has no path that a file may get as its name.
 pub trait Disk {
     ghost use Rattle.std.specs.Prelude.{◌≡◌, ℕ, ◌+◌, ◌-◌, ◌^◌, ◌<◌, [], ◌∷◌, ◌++◌, List, Option, OnErr, OnOk, is_ok, if◌then◌else◌};
     ghost use Rattle.std.specs.String.{string_bytes};

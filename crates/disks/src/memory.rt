@@ -81,7 +81,7 @@ pub struct MemoryDraft {
 impl MemoryDisk {
     ghost use Rattle.std.specs.Prelude.{◌≡◌, [], ◌∷◌, ◌++◌, false, OnOk, OnErr, option_map};
     ghost use Rattle.disks.specs.Histories.{held_now, named_file};
-    ghost use Rattle.disks.specs.MemoryDisks.{history_of, told_of};
+    ghost use Rattle.disks.specs.MemoryDisks.{history_of, told_file};
 
     /// A disk without files, of which no call has failed. It takes no memory.
     pub fn new(alloc: Global) -> MemoryDisk
@@ -116,21 +116,21 @@ impl MemoryDisk {
         Ok(())
     }
 
-    /// The disk fails once, after so many calls that go well.
+    /// Of its calls of [`name`](Disk::name) and [`allow_name`](Disk::allow_name) the one after so many others fails, and none later.
     pub fn fail_after(&mut self, calls: u64)
         ensures { self.new ≡ self.old }
     {
         self.good_calls = Some(calls);
     }
 
-    /// A draft fails that is to have more bytes than this.
+    /// A draft that is begun from now on fails where it is to have more bytes than this.
     pub fn limit_drafts(&mut self, room: usize)
         ensures { self.new ≡ self.old }
     {
         self.draft_room = room;
     }
 
-    /// No read gives more bytes than this; one that could give some gives one at least.
+    /// No read of a file that is opened from now on gives more bytes than this; one that could give some gives one at least.
     pub fn limit_reads(&mut self, len: usize)
         ensures { self.new ≡ self.old }
     {
@@ -156,7 +156,7 @@ impl MemoryDisk {
 
     // The file at a path, its bytes and how many of them are lost.
     fn find(&self, path: &str) -> Option<(&[u8], u32)>
-        ensures { told_of result ≡ held_now (history_of self.now) path.now }
+        ensures { told_file result ≡ held_now (history_of self.now) path.now }
     {
         let mut found: Option<(&[u8], u32)> = None;
         for place in 0..self.first.len() {

@@ -1,4 +1,4 @@
--- Named files: the text that is loaded of a path, and the blocks in which workers load it.
+-- Named files: the text that is loaded of a path.
 use Rattle.std.specs.Prelude.{ℕ, nat_lt, if◌then◌else◌, List, length, Option, Some, None, Result, Ok, Err}
 use Rattle.disks.specs.ToldFiles.{Held, ToldFile}
 use Rattle.pcap_records.specs.Reading.{capture_limit}

@@ -9,7 +9,7 @@ use std::marker::Model;
 /// Where files are put: a folder, an archive, or a list in memory.
 ///
 /// Contracts see two things of a shelf. `files` are the files that it took whole, the oldest first, or `None` where it does not
-/// tell them, as a folder, whose files others may change. `failures` is the number of its failed calls, which each shelf counts
+/// tell them, as a folder of a disk that does not. `failures` is the number of its failed calls, which each shelf counts
 /// for itself.
 pub trait Shelf {
     ghost use Rattle.std.specs.Prelude.{◌≡◌, ℕ, ◌+◌, ◌-◌, ◌^◌, ◌<◌, [], ◌∷◌, List, Option, OnOk, OnErr, is_ok, if◌then◌else◌};
@@ -120,16 +120,8 @@ impl MemoryShelf {
         ensures files { self.new.files ≡ (if is_ok result then self.old.files ++ stored_file name.now bytes.now ∷ [] else self.old.files) }
         ensures failed { self.new.failed ≡ self.old.failed }
     {
-        let copy = Vec::from_slice(self.alloc, bytes)?;
-        self.add(name, copy)
-    }
-
-    // Adds a file of some bytes.
-    fn add(&mut self, name: &str, bytes: Vec<u8>) -> Result<(), AllocError>
-        ensures files { self.new.files ≡ (if is_ok result then self.old.files ++ stored_file name.now bytes.items ∷ [] else self.old.files) }
-        ensures failed { self.new.failed ≡ self.old.failed }
-    {
         let name = String::from_str(self.alloc, name)?;
+        let bytes = Vec::from_slice(self.alloc, bytes)?;
         self.files.push(MemoryFile { name, bytes })?;
         Ok(())
     }

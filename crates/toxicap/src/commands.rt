@@ -78,8 +78,8 @@ where
 /// [`command`] over any disk: its scenario files and its capture are loaded from there, and its outputs stored there.
 ///
 /// Where the disk tells its history, the outcome follows from it: each scenario is the text at its own path, and the capture that at
-/// its path; of several files that are at fault the first is told, in the order of the scenarios, and then the capture. On status 0 the
-/// files of the outputs have got their names in the folder, and no others have; where the folder fails or memory is wanting, a first part of
+/// its path; of several files that are at fault the first is told, in the order of the scenarios, and then the capture. After a run of
+/// status 0 the files of the outputs have got their names in the folder, and no others have; where the folder fails or memory is wanting, a first part of
 /// them has; at any other refusal, and without `--out`, the disk is as it was. Whenever the run is cut off, each path holds what it held
 /// before it, or the whole file that it was to get.
 pub fn command_over<

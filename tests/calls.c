@@ -1,15 +1,17 @@
 /* Loaded before the C library: counts the program's calls of each kind, lets some of them fail, and has reads and writes move few bytes.
    The environment says how:
-     CALLS=FILE   where the counts stand, 8 bytes for each kind in the order below, also while the program runs; FILE.failed is made once
-                  a call has failed
+     CALLS=FILE   where the counts stand, 8 bytes for each kind in the order below, also while the program runs, and after them how many
+                  threads were made in each phase: one begins where a thread is made while there is none but the first. FILE.failed is
+                  made once a call has failed
      FAIL=KIND:N  the call of this kind with this number fails, from 1 on; with N+ it and all later ones
-     CAUSE=N      the error number that it fails with; 0 has a write take nothing
+     CAUSE=N      the error number that it fails with; 0 has a write take nothing, and `kill` ends the process in place of the call
      MOST=N       a read or a write moves at most so many bytes */
 #define _GNU_SOURCE
 #include <dlfcn.h>
 #include <errno.h>
 #include <fcntl.h>
 #include <pthread.h>
+#include <signal.h>
 #include <stdarg.h>
 #include <stdatomic.h>
 #include <stddef.h>
@@ -20,19 +22,23 @@
 #include <sys/syscall.h>
 #include <unistd.h>
 
-enum kind { GROWTH, THREAD, READ, WRITE, OPEN, RENAME, KINDS };
-static const char *const names[KINDS] = {"growth", "thread", "read", "write", "open", "rename"};
+enum kind { GROWTH, THREAD, READ, WRITE, OPEN, RENAME, REMOVE, KINDS };
+enum { PHASES = 64, PLACES = KINDS + PHASES };
+static const char *const names[KINDS] = {"growth", "thread", "read", "write", "open", "rename", "remove"};
 
 extern void *__libc_malloc(size_t);
 extern void *__libc_calloc(size_t, size_t);
 extern void *__libc_realloc(void *, size_t);
 typedef int create_thread(pthread_t *, const pthread_attr_t *, void *(*)(void *), void *);
+typedef int join_thread(pthread_t, void **);
 
-static atomic_long own_counts[KINDS], *counts = own_counts;
+static atomic_long own_counts[PLACES], *counts = own_counts, there;
+static atomic_int phase = -1;
 static long failing[KINDS], most = 1L << 30;
 static char failed_file[4096];
-static int cause = EIO, and_later, is_ready;
+static int cause = EIO, is_killed, and_later, is_ready;
 static create_thread *next_create;
+static join_thread *next_join;
 
 __attribute__((constructor)) static void begin(void)
 {
@@ -54,11 +60,14 @@ __attribute__((constructor)) static void begin(void)
             and_later = strchr(fail, '+') != NULL;
         }
     }
-    if ((number = getenv("CAUSE")) != NULL)
+    if ((number = getenv("CAUSE")) != NULL) {
         cause = atoi(number);
+        is_killed = strcmp(number, "kill") == 0;
+    }
     if ((number = getenv("MOST")) != NULL)
         most = atol(number);
     next_create = (create_thread *)dlsym(RTLD_NEXT, "pthread_create");
+    next_join = (join_thread *)dlsym(RTLD_NEXT, "pthread_join");
     is_ready = 1;
 }
 
@@ -70,6 +79,8 @@ static int fails(enum kind kind)
     if (failing[kind] == 0 || number < failing[kind] || (number > failing[kind] && !and_later))
         return 0;
     close(syscall(SYS_openat, AT_FDCWD, failed_file, O_WRONLY | O_CREAT, 0600));
+    if (is_killed)
+        kill(getpid(), SIGKILL);
     return 1;
 }
 
@@ -96,7 +107,23 @@ void *realloc(void *old, size_t size)
 
 int pthread_create(pthread_t *thread, const pthread_attr_t *attributes, void *(*run)(void *), void *argument)
 {
-    return fails(THREAD) ? EAGAIN : next_create(thread, attributes, run, argument);
+    if (fails(THREAD))
+        return EAGAIN;
+    if (atomic_fetch_add(&there, 1) == 0)
+        atomic_fetch_add(&phase, 1);
+    if (phase < PHASES)
+        atomic_fetch_add(&counts[KINDS + phase], 1);
+    int error = next_create(thread, attributes, run, argument);
+    if (error != 0)
+        atomic_fetch_sub(&there, 1);
+    return error;
+}
+
+int pthread_join(pthread_t thread, void **value)
+{
+    int error = next_join(thread, value);
+    atomic_fetch_sub(&there, 1);
+    return error;
 }
 
 ssize_t read(int fd, void *bytes, size_t len)
@@ -128,4 +155,9 @@ int open(const char *path, int flags, ...)
 int rename(const char *from, const char *to)
 {
     return fails(RENAME) ? told(cause) : (int)syscall(SYS_rename, from, to);
+}
+
+int unlink(const char *path)
+{
+    return fails(REMOVE) ? told(cause) : (int)syscall(SYS_unlink, path);
 }

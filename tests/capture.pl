@@ -1,21 +1,78 @@
-# Writes a capture of one connection whose client sends so many segments of 1,250 bytes, each segment with bytes of its own and in a second of
-# its own: perl tests/capture.pl SEGMENTS. A record has 1,320 bytes.
+# Writes a large capture to standard output, or with a second word what is to come of it, worked out by docs/RULES.md apart from the program:
+#     perl tests/capture.pl SEGMENTS           one connection, whose client sends so many segments of 1,250 bytes, each with bytes of its own
+#                                              and in a second of its own; a record has 1,320 bytes
+#     perl tests/capture.pl CONNECTIONSxROUNDS so many connections, each of a client of its own: all openings, in a second round all answers to
+#                                              them, and in a third a byte of each client, the last one's first; records have 70, 70 and 71 bytes
+#     perl tests/capture.pl WHICH delivered    the capture that is stored of it without a scenario
+#     perl tests/capture.pl WHICH report       its report
 use strict;
 use warnings;
 
-my ($client, $server) = ("\x0a\x4d\x00\x01", "\x0a\x4d\x00\x02");
-my $ethernet = "\x02\0\0\0\0\x02" . "\x02\0\0\0\0\x01" . "\x08\0";
+my ($which, $what) = (@ARGV, 'recorded');
+my ($count, $rounds) = $which =~ /^(\d+)(?:x([123]))?$/ or die "no such capture: $which\n";
+my $is_delivered = $what eq 'delivered';
+my ($syn, $ack, $push) = (2, 16, 8);
+my $server = "\x0a\x4d\x00\x02";
 binmode STDOUT;
 
-sub segment {
-    my ($second, $peers, $ports, $seq, $ack, $flags, $payload) = @_;
-    my $len = length($payload) + 54;
-    print pack('VVVV', $second, 0, $len, $len), $ethernet, pack('CCnNCCn', 0x45, 0, $len - 14, 0x4000, 64, 6, 0), $peers;
-    print $ports, pack('NNCCnnn', $seq, $ack, 0x50, $flags, 0xffff, 0, 0), $payload;
+# sum: the checksum of some bytes.
+sub sum {
+    my $sum = unpack '%32n*', length($_[0]) % 2 ? "$_[0]\0" : $_[0];
+    return 65535 - ($sum ? ($sum - 1) % 65535 + 1 : 0);
 }
 
-my ($up, $down) = (pack('nn', 49152, 80), pack('nn', 80, 49152));
+# segment: a record of a segment between a client and the server. What is delivered has its checksums, and addresses that are swapped on the way back.
+sub segment {
+    my ($second, $tick, $client, $is_back, $seq, $acked, $flags, $payload) = @_;
+    my ($port, $len) = (49152, length($payload) + 54);
+    my $ethernet = $is_delivered && $is_back ? "\x02\0\0\0\0\x01\x02\0\0\0\0\x02\x08\0" : "\x02\0\0\0\0\x02\x02\0\0\0\0\x01\x08\0";
+    my $peers = $is_back ? $server . $client : $client . $server;
+    my $ip = pack('CCnNCCn', 0x45, 0, $len - 14, 0x4000, 64, 6, 0) . $peers;
+    my $tcp = pack('nnNNCCnnn', $is_back ? (80, $port) : ($port, 80), $seq, $acked, 0x50, $flags, 0xffff, 0, 0);
+    if ($is_delivered) {
+        substr($ip, 10, 2) = pack 'n', sum($ip);
+        substr($tcp, 16, 2) = pack 'n', sum($peers . pack('nn', 6, $len - 34) . $tcp . $payload);
+    }
+    print pack('VVVV', $second, $tick, $len, $len), $ethernet, $ip, $tcp, $payload;
+}
+
+# opening: a client's, and what answers it.
+sub opening { segment(@_, 0, 0, 0, $syn, '') }
+sub answer { segment(@_, 1, 0, 1, $syn | $ack, '') }
+
+# client: the address of a connection's client.
+sub client { my $number = shift; return $rounds ? pack('CCn', 10, 128 + ($number >> 16), $number & 0xffff) : "\x0a\x4d\x00\x01" }
+
+# report: of so many records and connections, whose clients send so many bytes.
+sub report {
+    my ($records, $conns, $bytes) = @_;
+    print "scenario 0 records $records rest 0 segment $records short 0 notipv4 0 badipv4 0 fragment 0 nottcp 0 cut 0 badtcp 0 sameends 0\n";
+    print "connections $conns unopened 0\n";
+    for my $number (0 .. $conns - 1) {
+        my $address = join '.', unpack 'C4', client($number);
+        print "$number $address:49152 > 10.77.0.2:80 proxy - up $bytes/$bytes/0 open max 0 down 0/0/0 open max 0\n";
+    }
+}
+
+if ($what eq 'report') {
+    if ($rounds) { report($rounds * $count, $count, $rounds == 3 ? 1 : 0) } else { report($count + 2, 1, 1250 * $count) }
+    exit;
+}
 print pack('VvvVVVV', 0xa1b2c3d4, 2, 4, 0, 0, 65535, 1);
-segment(0, $client . $server, $up, 0, 0, 0x02, '');
-segment(0, $server . $client, $down, 0, 1, 0x12, '');
-segment($_ + 1, $client . $server, $up, 1 + 1250 * $_, 1, 0x18, pack('N', $_) x 312 . 'ab') for 0 .. $ARGV[0] - 1;
+if ($rounds) {
+    for my $number (0 .. $count - 1) {
+        my $client = client($number);
+        opening(0, $number, $client);
+        next if !$is_delivered;
+        answer(0, $number, $client);
+        segment(0, $number, $client, 0, 1, 1, $ack, '');
+    }
+    if ($rounds > 1 && !$is_delivered) { answer(1, $_, client($_)) for 0 .. $count - 1 }
+    if ($rounds > 2) { segment(2, $count - 1 - $_, client($_), 0, 1, 1, $push | $ack, 'x') for reverse 0 .. $count - 1 }
+} else {
+    my $client = client(0);
+    opening(0, 0, $client);
+    answer(0, 0, $client);
+    segment(0, 0, $client, 0, 1, 1, $ack, '') if $is_delivered;
+    segment($_ + 1, 0, $client, 0, 1 + 1250 * $_, 1, $push | $ack, pack('N', $_) x 312 . 'ab') for 0 .. $count - 1;
+}

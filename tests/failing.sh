@@ -126,6 +126,7 @@ each "a file cannot be opened" open "CAUSE=$device" unopened stored /dev/null --
 # Threads that cannot be made leave fewer workers. The words of a plan are handed on: each of so many workers but one has a thread of its own
 # in each phase, and each range of records takes memory of its own.
 each "a thread cannot be made" thread "" whole whole "$capture" "${both[@]}" --workers 4
+each "a thread cannot be made, stored" thread "" stored stored "$capture" "${both[@]}" --workers 4 --out "$folder"
 run_with FAIL=thread:1+ "$capture" "${both[@]}" --workers 16
 verdict "no thread can be made" "$(whole)"
 
@@ -143,7 +144,6 @@ rise() {
     shift
     verdict "$what" "$(printf '%s\n' "$@" | sort -c -u -n 2>&1 || true)"
 }
-rise "threads of 1, 2, 4 and 16 workers" "$(taken thread)" "$(taken thread --workers 2)" "$(taken thread --workers 4)" "$(taken thread --workers 16)"
-rise "growths of one range, of ranges of 4 and of 1" "$(taken growth)" "$(taken growth --cut 4)" "$(taken growth --cut 1)"
+rise "growths of one range, and of ranges of 6 to 1" "$(taken growth)" "$(for cut in 6 4 3 2 1; do taken growth --cut $cut; done)"
 echo "$failures calls failed"
 close

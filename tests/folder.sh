@@ -1,9 +1,10 @@
 #!/usr/bin/env bash
 # Files that the built program stores in a folder: each is the old one whole or the new one whole, whether the run ends well, is killed,
-# or finds no room; and what stands in the way is refused.
+# at whatever instant and before each of its calls in turn, or finds no room; and what stands in the way is refused.
 set -euo pipefail
 cd "$(dirname "$0")/.."
 . tests/lib.sh
+. tests/calls.sh
 capture=samples/http-get.pcap
 late=(--scenario examples/latency.json)
 
@@ -26,6 +27,31 @@ echo old > "$work/folder/0000.pcap"
 printf 'unfinished of a killed run, and longer than a report.%.0s' {1..100} | tee "$work/folder/toxicap.unfinished-0" > "$work/folder/toxicap.unfinished-1"
 run "$capture" "${late[@]}" --out "$work/folder"
 verdict "what a killed run left is replaced" "$(well; folder_difference "$work/new" "$work/folder")"
+
+# 64 drafts are what 16 workers have at once, and what they leave where they are killed: the next run by as many has its outputs there and no more.
+forty=()
+for ((scenario = 0; scenario < 40; scenario++)); do forty+=("${late[@]}"); done
+folder
+run "$capture" "${forty[@]}" --out "$work/folder"
+mv "$work/folder" "$work/forty"
+folder
+for ((place = 0; place < 64; place++)); do printf 'unfinished of a killed run, and longer than a report.%.0s' {1..100} > "$work/folder/toxicap.unfinished-$place"; done
+run "$capture" "${forty[@]}" --workers 16 --out "$work/folder"
+verdict "64 drafts of a killed run are replaced" "$(well; folder_difference "$work/forty" "$work/folder")"
+
+# An empty path is no folder: neither the one where the program runs, nor the root of the file system. No draft is made there, and so none is removed.
+folder
+(cd / && printf '%s\n' .* *) > "$work/root"
+pushd "$work/folder" > /dev/null
+run_with "" "$work/new/0000.pcap" --out ""
+popd > /dev/null
+(cd / && printf '%s\n' .* *) > "$work/root-after"
+verdict "an empty path" "$(
+    refusal "refused 60 ShelfFailed after 0"
+    holds "$work/folder"
+    [ ! -e "$work/calls" ] || [ "$(count remove)" = 0 ] || echo "  files that were removed: $(count remove)"
+    difference "$work/root" "$work/root-after"
+)"
 
 # A file may have 8,192 bytes, and the capture has more. The signal that tells it is passed over, so that the write fails.
 folder
@@ -86,21 +112,33 @@ cp "$capture" "$work/folder/0001.pcap"
 run "$work/folder/0001.pcap" "${late[@]}" --out "$work/folder"
 verdict "a file of another number stays by itself" "$(well; holds "$work/folder" 0000.pcap 0000.txt 0001.pcap; byte_difference "$capture" "$work/folder/0001.pcap")"
 
-# A file that may not be written, by root as nobody.
+# Files that may not be written, by root as nobody: an output's, of which the old one stays; and the inputs, which are read all the same.
 folder
 echo old > "$work/folder/0000.txt"
-chmod a-w "$work/folder/0000.txt"
-nobody=(setpriv --reuid=65534 --regid=65534 --clear-groups)
-if [ "$(id -u)" != 0 ]; then
-    run "$capture" "${late[@]}" --out "$work/folder"
-    verdict "a file that may not be written" "$(refusal "refused 60 ShelfFailed after 1"; echo old | byte_difference - "$work/folder/0000.txt")"
-elif chmod 711 "$work" && chown -R 65534:65534 "$work/folder" && cp "$program" "$work/copy" && "${nobody[@]}" "$work/copy" -V > /dev/null 2>&1; then
-    cp "${late[1]}" "$work/late.json"
+cp "$capture" "$work/read-only"
+cp "${late[1]}" "$work/read-only.json"
+chmod a-w "$work"/folder/0000.txt "$work"/read-only*
+bound=("$program")
+if [ "$(id -u)" = 0 ]; then
+    cp "$program" "$work/copy"
+    chmod 711 "$work"
+    chown -R 65534:65534 "$work/folder"
+    bound=(setpriv --reuid=65534 --regid=65534 --clear-groups "$work/copy")
+fi
+
+# run_bound: runs the program over these inputs as one who may not write them.
+run_bound() {
     status=0
-    "${nobody[@]}" "$work/copy" --scenario "$work/late.json" --out "$work/folder" < "$capture" > "$work/output" 2> "$work/faults" || status=$?
+    "${bound[@]}" --capture "$work/read-only" --scenario "$work/read-only.json" --out "$work/folder" > "$work/output" 2> "$work/faults" || status=$?
+}
+if "${bound[@]}" -V > /dev/null 2>&1; then
+    run_bound
     verdict "a file that may not be written" "$(refusal "refused 60 ShelfFailed after 1"; echo old | byte_difference - "$work/folder/0000.txt")"
+    rm -f "$work"/folder/*
+    run_bound
+    verdict "inputs that may not be written" "$(well; folder_difference "$work/new" "$work/folder")"
 else
-    skip "a file that may not be written" "root may write each, and cannot run as nobody"
+    skip "files that may not be written" "root may write each, and cannot run as nobody"
 fi
 
 # A full disk: of 64 KiB, all but some 8 are taken. A file that finds no room leaves the old one, and those before it are whole.
@@ -148,4 +186,52 @@ for ((instant = 1; instant <= 40; instant++)); do
     [ -z "$torn" ] || bad+="  killed after $instant ms, torn:"$'\n'"$torn"$'\n'
 done
 verdict "killed at 40 instants" "$bad"
+
+# Killed right before each of its calls in turn that opens, writes, renames or removes a file: each output is the old file or the new one, whole,
+# the new ones first, and beside them are drafts alone; the next run has its outputs there and no more.
+both=("${late[@]}" --scenario examples/limit_data.json)
+names=(0000.pcap 0000.txt 0001.pcap 0001.txt)
+folder
+run "$capture" "${both[@]}" --out "$work/folder"
+mv "$work/folder" "$work/both"
+
+# survived: what is at fault with the folder after the last run, which was killed.
+survived() {
+    local name is_old=no
+    fault 137
+    for name in "${names[@]}"; do
+        if ! cmp -s "$work/both/$name" "$work/folder/$name"; then
+            is_old=yes
+            echo old | byte_difference - "$work/folder/$name"
+        elif [ $is_old = yes ]; then
+            echo "  $name is new, and one before it is not"
+        fi
+    done
+    find "$work/folder" -mindepth 1 ! -name '0*' ! -name 'toxicap.unfinished-[0-9]' -printf '  another file: %f\n'
+}
+
+# killed WORKERS KIND: the verdict on runs by so many workers, which are killed before each call of a kind.
+killed() {
+    local number=0 name bad=""
+    while [ -z "$bad" ]; do
+        number=$((number + 1))
+        folder
+        for name in "${names[@]}"; do echo old > "$work/folder/$name"; done
+        run_with "FAIL=$2:$number CAUSE=kill MOST=512" "$capture" "${both[@]}" --workers "$1" --out "$work/folder" 2> /dev/null
+        has_failed || break
+        bad=$(survived)
+        run "$capture" "${both[@]}" --workers "$1" --out "$work/folder"
+        bad+=$(well; folder_difference "$work/both" "$work/folder")
+    done
+    [ -n "$bad" ] || bad=$(well; folder_difference "$work/both" "$work/folder"; [ "$2" = remove ] || [ $number != 1 ] || echo "  there is no call")
+    verdict "killed before each $2, by $1 workers" "${bad:+  $2 $number$'\n'}$bad"
+    kills=$((kills + number - 1))
+}
+kills=0
+if can_count "kills before each call"; then
+    for workers in 1 4; do
+        for kind in open write rename remove; do killed $workers $kind; done
+    done
+    echo "killed before $kills calls"
+fi
 close

@@ -12,9 +12,9 @@ mkdir "$folder"
 
 # starved NUMBER INPUT [ARGUMENT..]: runs the program on a file, this growth refused; whether there was such a growth.
 starved() {
-    local number=$1
+    local number=$1 left=("$folder"/*)
     shift
-    [ ! -e "$folder/0000.pcap" ] || rm "$folder"/*
+    [ ! -e "${left[0]}" ] || rm "${left[@]}"
     run_with "FAIL=growth:$number" "$@"
     has_failed
 }
@@ -25,18 +25,17 @@ is_whole() {
     [ ! -e "$work/files/0000.pcap" ] || diff -rq "$work/files" "$folder" > /dev/null
 }
 
-# wanting: what the last run has that is not want of memory. Where there is no memory for the line either, nothing is told.
+# wanting: what the last run has that is not want of memory, with a first part of the files and no other file. Where there is no memory for the
+# line either, nothing is told.
 wanting() {
-    local file some=no
+    local file names=()
     if [ -s "$work/faults" ]; then refusal "refused 40 Memory"; else fault 1; silent output; fi
-    for file in $(find "$work/files" -type f -printf '%f\n' | sort -r); do
-        if [ -e "$folder/$file" ]; then
-            byte_difference "$work/files/$file" "$folder/$file"
-            some=yes
-        elif [ $some = yes ]; then
-            echo "  $file is missing before others"
-        fi
+    for file in "$work"/files/*; do
+        [ -e "$folder/${file##*/}" ] || break
+        names+=("${file##*/}")
+        byte_difference "$file" "$folder/${file##*/}"
     done
+    holds "$folder" "${names[@]}"
 }
 
 # each WHAT INPUT [ARGUMENT..]: refuses each growth of a run in turn.

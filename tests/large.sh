@@ -1,9 +1,11 @@
 #!/usr/bin/env bash
 # The built program at its limits and past the sizes of other tests, where a body could give up with want of memory and be right by every
-# clause: each answer is compared with that of a plainer run, or with the refusal that is due.
+# clause: each answer is compared with that of a plainer run, with what tests/capture.pl works out, or with the refusal that is due. And what two
+# large runs may take: of time, of memory, and of writes.
 set -euo pipefail
 cd "$(dirname "$0")/.."
 . tests/lib.sh
+. tests/calls.sh
 capture=samples/http-get.pcap
 
 # same WHAT INPUT [ARGUMENT..]: a run over a file ends well and prints what stands in `wanted`.
@@ -31,12 +33,12 @@ toxics() {
     printf '%s' "$all"
 }
 
-# proxies COUNT: so many proxies, of which the last stands before the server of the capture.
+# proxies COUNT [END]: so many proxies, of which the last stands before the server of the capture, and what their names end with.
 proxies() {
     local proxy
     printf '['
-    for ((proxy = 0; proxy < $1 - 1; proxy++)); do printf '{"name":"p%s","upstream":"10.9.9.9:%s"},' $proxy $((proxy + 1)); done
-    printf '{"name":"last","upstream":"10.77.0.2:80"}]'
+    for ((proxy = 0; proxy < $1 - 1; proxy++)); do printf '{"name":"p%s%s","upstream":"10.9.9.9:%s"},' $proxy "${2-}" $((proxy + 1)); done
+    printf '{"name":"last%s","upstream":"10.77.0.2:80"}]' "${2-}"
 }
 
 # eight latencies of 5 ms are one of 40 ms
@@ -54,6 +56,12 @@ run "$capture" --scenario "$work/first.json"
 sed 's/ proxy 0 / proxy 63 /' "$work/output" > "$work/wanted"
 same "64 proxies" "$capture" --scenario "$work/last.json"
 refused "70 proxies" "refused 20 TooMany scenario 0 proxy 64" "$capture" --scenario "$work/many.json"
+
+# so it is in a file of 2 MB, whose end counts too
+proxies 64 "$(printf '%032000d' 0)" > "$work/wide.json"
+same "a scenario of 2 MB" "$capture" --scenario "$work/wide.json"
+echo ']' >> "$work/wide.json"
+refused "a fault at the end of 2 MB" "refused 10 NotJson scenario 0" "$capture" --scenario "$work/wide.json"
 
 # the last of 60 hosts is known as the address is, on a command line of over a hundred words
 hosts=()
@@ -79,7 +87,30 @@ refused "a long scenario file before one that is not there" "refused 6 CaptureTo
 refused "a long scenario file after one that is not there" "refused 61 ReadFailed" /dev/null --scenario "$work/none" --scenario "$work/long"
 refused "a long scenario file before a capture that is not there" "refused 6 CaptureTooLong" /dev/null --scenario "$work/long" --capture "$work/none"
 refused "a long capture after a scenario file that is not there" "refused 61 ReadFailed" /dev/null --capture "$work/long" --scenario "$work/none"
-refused "a long capture" "refused 6 CaptureTooLong" /dev/null --capture "$work/long"
+rm "$work/long"
+
+# A capture of 2^30 bytes is taken, and with a byte more it is too long: from standard input and by its name, by one worker, and by two and five, who
+# load its blocks. It has packets of 262,144 zeros, which are no IPv4, and for a rest a header and fewer zeros.
+perl -e '
+    open my $file, ">", $ARGV[0] or die;
+    print $file pack("VvvVVVV", 0xa1b2c3d4, 2, 4, 0, 0, 65535, 1);
+    for my $record (0 .. 4095) {
+        seek $file, 24 + 262160 * $record, 0;
+        print $file pack("VVVV", $record, 0, 262144, 262144);
+    }
+    truncate $file, 2 ** 30' "$work/longest"
+cat > "$work/wanted" << 'END'
+scenario 0 records 4095 rest 196600 segment 0 short 0 notipv4 4095 badipv4 0 fragment 0 nottcp 0 cut 0 badtcp 0 sameends 0
+connections 0 unopened 0
+END
+same "2^30 bytes" "$work/longest"
+for workers in 1 2 5; do same "2^30 bytes by $workers workers" /dev/null --capture "$work/longest" --workers $workers; done
+truncate -s +1 "$work/longest"
+refused "2^30 + 1 bytes" "refused 6 CaptureTooLong" "$work/longest"
+for workers in 1 2 5; do
+    refused "2^30 + 1 bytes by $workers workers" "refused 6 CaptureTooLong" /dev/null --capture "$work/longest" --workers $workers
+done
+rm "$work/longest"
 
 # outputs of scenarios by any number of workers are those of one, stored and printed
 four=(--scenario "$work/eight.json" --scenario examples/slicer.json --scenario "$work/last.json" --scenario examples/bandwidth.json)
@@ -117,12 +148,6 @@ cp "$work/output" "$work/wanted"
 same "a scenario after 70,000 blanks" "$capture" --scenario "$work/wide.json"
 printf '[]%70000s]' '' > "$work/wide.json"
 refused "a fault after 70,000 blanks" "refused 10 NotJson scenario 0" "$capture" --scenario "$work/wide.json"
-
-# A file of 2^30 bytes and one more is too long, which is told before a later file that is not there.
-truncate -s 1073741825 "$work/long"
-refused "a scenario that is too long" "refused 6 CaptureTooLong" "$capture" --scenario "$work/long" --scenario "$work/nowhere"
-refused "a capture that is too long" "refused 6 CaptureTooLong" /dev/null --capture "$work/long"
-rm "$work/long"
 
 # 150,000 bytes upstream in 120 segments, as a dump; a slicer cuts them byte by byte, each at an instant of its own: a file header, three
 # segments of the handshake, and as many of one byte
@@ -178,4 +203,39 @@ for name in three.pcap two.pcap more.pcap two.dump; do
     done
 done
 refused "a folder as capture, by workers" "refused 61 ReadFailed" /dev/null --capture "$work" --workers 4
+
+# 100,000 connections, each of a pair of its own, in three rounds: a report of 9 MB, and 400,000 written segments.
+for what in recorded report delivered; do perl tests/capture.pl 100000x3 $what > "$work/pairs.$what" & done
+perl tests/capture.pl 400000x1 > "$work/openings"
+wait
+run "$work/pairs.recorded"
+verdict "100,000 pairs" "$(well; byte_difference "$work/pairs.report" "$work/output")"
+for workers in 1 4; do
+    rm -rf "$work/stored"
+    mkdir "$work/stored"
+    run /dev/null --capture "$work/pairs.recorded" --workers $workers --out "$work/stored"
+    verdict "100,000 pairs, stored by $workers workers" "$(
+        well
+        byte_difference "$work/pairs.report" "$work/stored/0000.txt"
+        byte_difference "$work/pairs.delivered" "$work/stored/0000.pcap"
+    )"
+done
+
+# 400,000 openings take less than a second of a processor, and have three. A list of their pairs would take 96 seconds, and 16 lists would take six.
+status=0
+(ulimit -t 3; exec "$program" --capture "$work/openings" > "$work/output" 2> "$work/faults") || status=$?
+verdict "400,000 pairs within three seconds" "$(well; sed -n 2p "$work/output" | grep -vx 'connections 400000 unopened 0')"
+
+# A capture of 45 MB, loaded in six blocks and stored, takes 77 MB of addresses, and half of what it would take with the capture or its output in memory
+# once more is granted. What is written goes out in batches of 256 KiB, of which there are 172, and a report.
+perl tests/capture.pl 34100 > "$work/six.pcap"
+rm "$work"/stored/*
+limit=$(ulimit -S -v)
+ulimit -S -v 95000
+run_with "" /dev/null --capture "$work/six.pcap" --workers 2 --out "$work/stored"
+ulimit -S -v "$limit"
+verdict "45 MB stored in little memory" "$(well; perl tests/capture.pl 34100 delivered | byte_difference - "$work/stored/0000.pcap")"
+if can_count "45 MB stored by few writes"; then
+    verdict "45 MB stored by few writes" "$([ "$(count write)" -le 200 ] || echo "  writes: $(count write)")"
+fi
 close

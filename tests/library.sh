@@ -44,6 +44,9 @@ differs() {
 # same ARGUMENT..: the library answers as the program does.
 same() { verdict "the library: ${*//$work\//}" "$(differs "$@")"; }
 
+# answered WHAT ARGUMENT..: so it does, and neither is refused.
+answered() { verdict "the library: $1" "$(differs "${@:2}"; fault 0)"; }
+
 # refused NAME ARGUMENT..: and both are refused, for what has this number and name.
 refused() {
     verdict "the library: $1" "$(
@@ -68,6 +71,23 @@ for scenario in latency bandwidth slow_close timeout reset_peer slicer limit_dat
 done
 same "${shop[@]}"
 caller=$work/dynamic same "${shop[@]}"
+
+# captures of 1, 5 and 20 MB, one in nanoseconds, and one of 2,500 connections; 10 and 256 scenarios, and 256 hosts
+for size in 1 5 20; do
+    perl tests/capture.pl $((size * 760)) > "$work/large.pcap"
+    answered "$size MB" --capture "$work/large.pcap" --scenario examples/latency.json
+done
+{ printf '\x4d\x3c\xb2\xa1'; tail -c +5 samples/shop.pcap; } > "$work/nanoseconds.pcap"
+answered "nanoseconds" --capture "$work/nanoseconds.pcap" --scenario examples/mobile-line.json --scenario examples/slicer.json
+perl tests/capture.pl 2500x3 > "$work/connections.pcap"
+answered "2,500 connections" --capture "$work/connections.pcap" --scenario examples/latency.json
+answered "10 scenarios" "${shop[@]}" --scenario examples/cut-after-1kb.json
+many=() kinds=(latency bandwidth slow_close timeout slicer limit_data mobile-line)
+for ((scenario = 0; scenario < 256; scenario++)); do many+=(--scenario "examples/${kinds[scenario % 7]}.json"); done
+answered "256 scenarios" --capture samples/http-get.pcap "${many[@]}"
+hosts=()
+for ((host = 0; host < 255; host++)); do hosts+=(--host "h$host=10.9.9.$host"); done
+answered "256 hosts" --capture samples/shop.pcap --scenario examples/slow-database.json "${hosts[@]}" --host redis=10.77.0.3
 
 # each kind of refusal
 # changed NAME PLACE BYTES: a sample with other bytes, as \x00, from a place on.
@@ -103,9 +123,18 @@ toxic "18 DuplicateToxic" '"type":"latency"},{"type":"latency"'
 toxic "19 AttributeRange" '"type":"bandwidth"'
 faulty "20 TooMany" "$(for ((proxy = 1; proxy < 70; proxy++)); do printf '{"name":"%s","upstream":"10.0.0.2:%s"},' $proxy $proxy; done)0"
 toxic "21 BadToxicity" '"type":"latency","toxicity":0.5'
-many=()
-for ((scenario = 0; scenario < 257; scenario++)); do many+=(--scenario examples/latency.json); done
-refused "22 TooManyScenarios" --capture samples/http-get.pcap "${many[@]}"
+refused "22 TooManyScenarios" --capture samples/http-get.pcap "${many[@]}" --scenario examples/latency.json
+# the longest line of fewer than a thousand scenarios: of the last of 64 proxies, after eight toxics of each direction
+{
+    printf '['
+    for ((proxy = 0; proxy < 63; proxy++)); do printf '{"name":"%s","upstream":"10.0.0.2:80"},' $proxy; done
+    printf '{"name":"a","upstream":"10.0.0.2:80","toxics":['
+    for ((toxic = 0; toxic < 16; toxic++)); do
+        printf '{"name":"%s","type":"timeout","stream":"%s"},' $toxic "$([ $toxic -lt 8 ] && echo upstream || echo downstream)"
+    done
+    printf '{"name":"7","type":"timeout"}]}]'
+} > "$work/longest.json"
+refused "18 DuplicateToxic scenario 255 proxy 63 toxic 16" --capture samples/http-get.pcap "${many[@]:0:510}" --scenario "$work/longest.json"
 for host in web =10.0.0.1 web=10.0.0 web=10.0.0.01 'a=10.0.0.1 ' ''; do
     refused "23 BadHost host 1" --capture samples/http-get.pcap --host a=10.0.0.1 --host "$host"
 done

@@ -178,6 +178,19 @@ unread "refused 61 ReadFailed" .
 refused "refused 60 ShelfFailed after 0" --out "$work/nothing"
 refused "refused 60 ShelfFailed after 0" --out ""
 
+# paths that end in a blank are others than those without it
+mkdir "$work/there" "$work/there "
+cp $session "$work/capture "
+cp "$stored" "$work/capture"
+cp "$work/slow.json" "$work/scenario "
+cp "$work/bare.json" "$work/scenario"
+said "${slow/scenario 1/scenario 0}" /dev/null --capture "$work/capture " --scenario "$work/scenario " --host web=10.0.0.2
+run /dev/null --capture "$work/capture " --out "$work/there "
+verdict "a folder whose name ends in a blank" "$(well; silent output; holds "$work/there"; holds "$work/there " 0000.pcap 0000.txt)"
+refused "refused 61 ReadFailed" --capture "$stored "
+refused "refused 61 ReadFailed" --scenario "$work/bare.json "
+refused "refused 60 ShelfFailed after 0" --out "$work/full "
+
 # files of over 300 KB by their paths, whose ends count
 printf '[%400000s]' '' > "$work/wide.json"
 printf '[%400000s' '' > "$work/open.json"

@@ -1,5 +1,5 @@
 -- How the bytes of a file come, read after read.
-use Rattle.std.proofs.Common.{◌≡◌, ◌<◌, ◌≤◌, ℕ, ◌+◌, ◌-◌, Bool, true, false, ◌&&◌, nat_lt, List, [], ◌∷◌, ◌++◌, length, take, drop, Option, Some, None, Ok, Result, IfSome, refl, sym, ap, ap₂, subst, ◌∙◌, arith, length-append, length-drop, take-add}
+use Rattle.std.proofs.Common.{◌≡◌, ◌<◌, ◌≤◌, ℕ, ◌+◌, ◌-◌, Bool, true, false, ◌&&◌, nat_lt, List, ◌++◌, length, take, drop, Option, Some, None, Ok, Result, IfSome, refl, sym, ap, ap₂, subst, ◌∙◌, arith, length-append, length-drop, take-add}
 use Rattle.std.proofs.lemmas.Bool.{le-ltb}
 use Rattle.std.proofs.lemmas.List.{drop-drop, length-take-le, take-take, take_all}
 use Rattle.disks.specs.ToldFiles.{ToldFile, Gives, IsFileAt, file_len}

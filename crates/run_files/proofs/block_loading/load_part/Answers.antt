@@ -1,4 +1,4 @@
-use Rattle.std.proofs.Common.{◌≡◌, ◌<◌, ◌≤◌, ◌+◌, ◌-◌, length, ap, take, sym, subst, IfSome, arith, length-append}
+use Rattle.std.proofs.Common.{◌≡◌, ◌<◌, ◌≤◌, ◌+◌, length, ap, take, subst, IfSome, arith, length-append}
 use Rattle.std.proofs.lemmas.List.{length-take-le}
 use Rattle.disks.specs.ToldFiles.{Gives}
 use Rattle.run_files.proofs.LoadedFiles.{full_part, last_part, part_step}

@@ -1,0 +1,129 @@
+#!/usr/bin/env bash
+# Workers of the built program: how many threads are made in each phase of a run, by 1 to 16 workers; and that no byte depends on how many they are, in
+# what is printed and in what is stored. 40 scenarios are stored as each of them is alone, and a capture of 45 MB, whose blocks are loaded by threads,
+# gives what it gives as standard input.
+set -euo pipefail
+cd "$(dirname "$0")/.."
+. tests/lib.sh
+. tests/calls.sh
+capture=samples/shop.pcap
+folder=$work/folder
+
+# anew FOLDER: the folder without files.
+anew() {
+    rm -rf "$1"
+    mkdir "$1"
+}
+
+# least ONE OTHER: the lesser of two numbers.
+least() { echo $(($1 < $2 ? $1 : $2)); }
+
+# wanted BLOCKS SCENARIOS printed|stored WORKERS: how many threads each phase is to make, by docs/RULES.md (jobs) and docs/ARCHITECTURE.md (the
+# way of a rehearsal). One of the workers is the thread that is there. The phases: a named file of several blocks is loaded, by no more workers
+# than blocks; the table is made; then what is recorded. Of each printed report a phase makes the lines. Where files are stored, drafts are made
+# of as many scenarios as twice the workers, or as are left, each by one worker, so by no more workers than scenarios; of a last one by all.
+wanted() {
+    local blocks=$1 left=$2 where=$3 workers=$4 all=() share
+    [ "$workers" != 1 ] || return 0
+    [ "$blocks" -lt 2 ] || all+=($(($(least "$blocks" "$workers") - 1)))
+    all+=($((workers - 1)) $((workers - 1)))
+    while [ "$left" -gt 0 ]; do
+        share=1
+        [ "$where" = printed ] || share=$(least "$left" $((2 * workers)))
+        if [ "$share" = 1 ]; then all+=($((workers - 1))); else all+=($(($(least "$share" "$workers") - 1))); fi
+        left=$((left - share))
+    done
+    printf '%s' "${all[*]}"
+}
+
+run_with "" /dev/null -V
+is_counted=yes
+can_count "threads" || is_counted=no
+
+# threads BLOCKS SCENARIOS printed|stored WORKERS: what is at fault with the threads of the last run.
+threads() {
+    local due made
+    [ $is_counted = yes ] || return 0
+    due=$(wanted "$@")
+    made=$(phases)
+    [ "$due" = "$made" ] || printf '  threads of each phase, wanted: %s\n  threads of each phase, made:   %s\n' "${due:-none}" "${made:-none}"
+}
+
+# scenario NUMBER: one of many, of which each has other delays and slices; both are drawn at random.
+scenario() {
+    printf '[{"name":"web","upstream":"10.77.0.2:80","toxics":[{"type":"latency","attributes":{"latency":%s,"jitter":9}}]},' $((10 + $1))
+    printf '{"name":"redis","upstream":"10.77.0.3:6379","toxics":['
+    printf '{"type":"slicer","stream":"upstream","attributes":{"average_size":%s,"size_variation":5,"delay":%s}}]}]' $((20 + $1)) $((1 + $1))
+}
+many=() bare=()
+echo '[]' > "$work/bare.json"
+for ((number = 0; number < 40; number++)); do
+    scenario $number > "$work/$number.json"
+    many+=(--scenario "$work/$number.json")
+    bare+=(--scenario "$work/bare.json")
+done
+
+# by 1 to 16 workers: three reports printed; one scenario stored, and seven
+anew "$work/one"
+anew "$work/seven"
+run "$capture" "${many[@]:0:6}"
+cp "$work/output" "$work/three"
+run "$capture" "${many[@]:0:2}" --out "$work/one"
+run "$capture" "${many[@]:0:14}" --out "$work/seven"
+for ((workers = 1; workers <= 16; workers++)); do
+    run_with "" "$capture" "${many[@]:0:6}" --workers $workers
+    verdict "three reports by $workers workers" "$(well; threads 0 3 printed $workers; difference "$work/three" "$work/output")"
+    anew "$folder"
+    run_with "" "$capture" "${many[@]:0:2}" --workers $workers --out "$folder"
+    verdict "one scenario stored by $workers workers" "$(well; threads 0 1 stored $workers; folder_difference "$work/one" "$folder")"
+    anew "$folder"
+    run_with "" "$capture" "${many[@]:0:14}" --workers $workers --out "$folder"
+    verdict "seven scenarios stored by $workers workers" "$(well; threads 0 7 stored $workers; folder_difference "$work/seven" "$folder")"
+done
+
+# Each of 40 scenarios alone, after so many without proxies that it has its number, by one worker; and all of them by 16, the first eight by 4.
+anew "$work/forty"
+for ((number = 0; number < 40; number++)); do
+    anew "$folder"
+    run "$capture" "${bare[@]:0:2*number}" "${many[@]:2*number:2}" --out "$folder"
+    mv "$folder/$(printf '%04d' $number)".* "$work/forty"
+done
+verdict "40 scenarios that differ" "$([ "$(sha256sum "$work"/forty/*.pcap | cut -d ' ' -f 1 | sort -u | wc -l)" = 40 ] || echo '  two have the same capture')"
+anew "$folder"
+run_with "" "$capture" "${many[@]}" --workers 16 --out "$folder"
+verdict "40 scenarios by 16 workers" "$(well; threads 0 40 stored 16; folder_difference "$work/forty" "$folder")"
+anew "$folder"
+run_with "" "$capture" "${many[@]:0:16}" --workers 4 --out "$folder"
+rm "$work"/forty/000[89].* "$work"/forty/00[123]*
+verdict "8 scenarios by 4 workers" "$(well; threads 0 8 stored 4; folder_difference "$work/forty" "$folder")"
+
+# A capture of 45 MB, which is six blocks, from standard input and by its name: the report and the stored capture are those of tests/capture.pl.
+perl tests/capture.pl 34100 > "$work/six.pcap"
+perl tests/capture.pl 34100 report > "$work/report"
+perl tests/capture.pl 34100 delivered > "$work/delivered"
+
+# six BLOCKS WORKERS INPUT [WORD..]: the verdicts on the capture, printed and stored, of which so many blocks are loaded by workers.
+six() {
+    local blocks=$1 workers=$2 input=$3 name="45 MB by $2 workers${4:+, named}"
+    shift 3
+    run_with "" "$input" --workers "$workers" "$@"
+    verdict "$name" "$(well; threads "$blocks" 1 printed "$workers"; difference "$work/report" "$work/output")"
+    anew "$folder"
+    run_with "" "$input" --workers "$workers" "$@" --out "$folder"
+    verdict "$name, stored" "$(
+        well
+        threads "$blocks" 1 stored "$workers"
+        holds "$folder" 0000.pcap 0000.txt
+        difference "$work/report" "$folder/0000.txt"
+        byte_difference "$work/delivered" "$folder/0000.pcap"
+    )"
+}
+for workers in 1 2 5; do
+    six 0 $workers "$work/six.pcap"
+    six 6 $workers /dev/null --capture "$work/six.pcap"
+done
+for workers in 9 16; do
+    run_with "" /dev/null --capture "$work/six.pcap" --workers $workers
+    verdict "45 MB by $workers workers, named" "$(well; threads 6 1 printed $workers; difference "$work/report" "$work/output")"
+done
+close

@@ -1,5 +1,5 @@
 -- The last name of the path of a file in a folder.
-use Rattle.std.proofs.Common.{◌≡◌, ◌⊎◌, inl, inr, ℕ, Bool, true, false, ◌||◌, List, [], ◌∷◌, ◌++◌, ◌==◌, length, length-append, refl, sym, ap, subst, ◌∙◌, arith}
+use Rattle.std.proofs.Common.{◌≡◌, inl, inr, ℕ, Bool, true, false, ◌||◌, List, [], ◌∷◌, ◌==◌, length, length-append, refl, sym, ap, subst, ◌∙◌, arith}
 use Rattle.std.proofs.lemmas.List.Folds.{list_any-append}
 use Rattle.disks.specs.DraftPaths.{slash, has_slash, path_in, last_name, is_draft_name, IsDraftPath, DraftsAreNamed}
 
@@ -16,9 +16,9 @@ last_is (c ∷ folder) name none = rw (folder_has folder name) (last_is folder n
 
 pub drafts_are_named : DraftsAreNamed
 drafts_are_named folder name none = (
-    λ is. inr (subst (λ n. is_draft_name n ≡ true) (sym (last_is folder name none)) is),
-    λ path. by path,
-  )
+  λ is. inr (subst (λ n. is_draft_name n ≡ true) (sym (last_is folder name none)) is),
+  λ path. by path,
+)
   where
     by : IsDraftPath (path_in folder name) → is_draft_name name ≡ true
     by (inl is) = absurd (omega (arith, ap length is, length-append folder (slash ∷ name)))

@@ -9,4 +9,4 @@ mod memory;
 
 pub use disk::{Disk, DiskFault, DiskFile, FileId, ReadDisk};
 pub use host::{HostDisk, HostDraft, HostFile};
-pub use memory::{MemoryDisk, MemoryDraft, MemoryFile};
+pub use memory::{MemoryDisk, MemoryDiskFile, MemoryDraft};

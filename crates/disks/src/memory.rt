@@ -63,7 +63,7 @@ impl Model for MemoryDisk {
 
 /// A file of a disk in memory, which is open to be read.
 #[derive(Drop)]
-pub struct MemoryFile {
+pub struct MemoryDiskFile {
     bytes: Vec<u8>,
     lost: u32,
     place: usize,
@@ -216,7 +216,7 @@ impl MemoryDisk {
 }
 
 // Counts a call that has failed.
-fn count(outcome: &Result<(), DiskFault>, failed: &mut u64)
+fn count_failure(outcome: &Result<(), DiskFault>, failed: &mut u64)
     requires { failed.old < 2 ^ 64 - 1 }
     ensures { failed.new ≡ (if is_ok outcome.now then failed.old else failed.old + 1) }
 {
@@ -255,13 +255,13 @@ impl Disk for MemoryDisk {
 
     fn allow_name(&mut self, path: &str, spared: &[FileId]) -> Result<(), DiskFault> {
         let allowed = self.look_at_name(path, spared);
-        count(&allowed, &mut self.failed);
+        count_failure(&allowed, &mut self.failed);
         allowed
     }
 
     fn name(&mut self, draft: MemoryDraft, path: &str) -> Result<(), DiskFault> {
         let named = self.keep(draft, path);
-        count(&named, &mut self.failed);
+        count_failure(&named, &mut self.failed);
         named
     }
 
@@ -309,7 +309,7 @@ impl MemoryDisk {
     }
 }
 
-impl DiskFile for MemoryFile {
+impl DiskFile for MemoryDiskFile {
     ghost use Rattle.std.specs.Prelude.{Some};
 
     ghost told = { λ f. Some (record { bytes = f.bytes.items; lost = f.lost }) };
@@ -342,13 +342,13 @@ impl DiskFile for MemoryFile {
 }
 
 impl ReadDisk for MemoryDisk {
-    type File = MemoryFile;
+    type File = MemoryDiskFile;
 
-    fn open(&self, alloc: Global, path: &str) -> Result<MemoryFile, DiskFault> {
+    fn open(&self, alloc: Global, path: &str) -> Result<MemoryDiskFile, DiskFault> {
         let Some((bytes, lost)) = self.find(path) else {
             return Err(DiskFault::Failed);
         };
-        Ok(MemoryFile {
+        Ok(MemoryDiskFile {
             bytes: Vec::from_slice(alloc, bytes)?,
             lost,
             place: 0,

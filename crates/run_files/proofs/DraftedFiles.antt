@@ -3,7 +3,7 @@ use Rattle.std.proofs.Common.{◌≡◌, ℕ, ◌+◌, List, [], ◌∷◌, ◌+
 use Rattle.std.proofs.Math.Seq.{drop-append-add}
 use Rattle.std.proofs.lemmas.List.{map-append}
 use Rattle.disks.specs.DraftPaths.{path_in}
-use Rattle.disks.specs.Histories.{History, NamedFile, named_file, Names, with_names}
+use Rattle.disks.specs.Histories.{History, NamedFile, named_file, Names}
 use Rattle.run_files.specs.declared.error.StoreFault.{StoreFault}
 use Rattle.run_files.specs.Folders.{TakesIn, shelved}
 use Rattle.run_files.specs.Shelves.{StoredFile, stored_file, Takes}

@@ -1,5 +1,5 @@
 -- How the bytes of a file come, read after read.
-use Rattle.std.proofs.Common.{◌≡◌, ◌<◌, ◌≤◌, ℕ, ◌+◌, ◌-◌, Bool, true, false, ◌&&◌, nat_lt, List, [], ◌∷◌, ◌++◌, length, take, drop, Option, Some, None, Ok, Result, IfSome, refl, sym, ap, ap₂, subst, ◌∙◌, arith, length-append, length-drop, take-add}
+use Rattle.std.proofs.Common.{◌≡◌, ◌<◌, ◌≤◌, ℕ, ◌+◌, ◌-◌, Bool, true, false, ◌&&◌, nat_lt, List, ◌++◌, length, take, drop, Option, Some, None, Ok, Result, IfSome, refl, sym, ap, ap₂, subst, ◌∙◌, arith, length-append, length-drop, take-add}
 use Rattle.std.proofs.lemmas.Bool.{le-ltb}
 use Rattle.std.proofs.lemmas.List.{drop-drop, length-take-le, take-take, take_all}
 use Rattle.disks.specs.ToldFiles.{ToldFile, Gives, IsFileAt, file_len}
@@ -11,7 +11,7 @@ use Rattle.run_files.specs.LoadedBlocks.{part_at}
 
 -- some first bytes of a file from a start on, and those that one read gives after them
 module _ (file : List ℕ) (start : ℕ) (part room more : List ℕ) (n : ℕ) (first : part ≡ take (length part) (drop start file)) (within : length part ≤ length file - start)
-  (gives : take n room ≡ take n (drop (start + length part) file)) (fits : n ≤ length file - (start + length part)) (all : more ≡ part ++ take n room) where
+    (gives : take n room ≡ take n (drop (start + length part) file)) (fits : n ≤ length file - (start + length part)) (all : more ≡ part ++ take n room) where
   after : take n room ≡ take n (drop (length part) (drop start file))
   after = gives ∙ ap (take n) (sym (drop-drop (length part) start file))
 

@@ -1,5 +1,5 @@
 -- How the blocks of a file are gathered, and that they are its bytes.
-use Rattle.std.proofs.Common.{◌≡◌, ◌<◌, ◌≤◌, ◌⊎◌, inl, inr, ◌+◌, ◌-◌, ◌*◌, ◌++◌, ℕ, zero, suc, Bool, true, false, cond, ◌&&◌, nat_lt, List, [], ◌∷◌, length, length-append, length-drop, map, take, drop, get_or, All, Option, Some, None, Result, Ok, Err, IfSome, refl, sym, ap, subst, ◌∙◌, arith, append-nil, append_assoc}
+use Rattle.std.proofs.Common.{◌≡◌, ◌<◌, ◌≤◌, ◌+◌, ◌*◌, ◌++◌, ℕ, zero, suc, Bool, true, false, cond, ◌&&◌, nat_lt, List, [], ◌∷◌, length, length-append, map, take, drop, get_or, All, Option, Some, None, Ok, Err, IfSome, refl, sym, ap, subst, ◌∙◌, arith, append-nil, append_assoc}
 use Rattle.std.specs.Option.{ForSome}
 use Rattle.std.proofs.lemmas.Bool.{le-ltb, ltb-false, ltb-true}
 use Rattle.std.proofs.lemmas.List.{drop-drop, drop_all, length-take, take_all, take-append-drop}
@@ -12,7 +12,6 @@ use Rattle.run_files.specs.declared.error.RunFault.{RunFault}
 use Rattle.run_files.specs.declared.error.RunFault.TheVariants.{ReadFailed}
 use Rattle.run_files.specs.LoadedBlocks.{BlockView, block_view, blocks_from, part_at, parts_from, HasBlocks}
 use Rattle.run_files.specs.Paths.{text_of}
-use Rattle.run_files.specs.RunFault.{run_refusal}
 
 module _ {A : Type 0} (bytes_of : A → List ℕ) where
   pub parts_fit : (parts : List A) → All (λ part. length (bytes_of part) ≤ block_len) parts → length (bytes_until_short (map bytes_of parts)) ≤ length parts * block_len
@@ -178,6 +177,7 @@ text_of_blocks f count has few = by (nat_lt 0 f.lost) refl
   where
     fits : nat_lt capture_limit (length f.bytes) ≡ false
     fits = le-ltb capture_limit (length f.bytes) (omega (arith, has.1, few))
+
     by : (b : Bool) → nat_lt 0 f.lost ≡ b → text_of (Some f) ≡ and_then (parts_from f [] 0 count) (λ parts. Ok (bytes_until_short parts))
     by true lost =
         let parts : parts_from f [] 0 count ≡ Err ReadFailed = lost_part f [] 0 count lost (omega (arith, has.1)) (omega (arith, ltb-true 0 f.lost lost)) in

@@ -1,5 +1,5 @@
 -- Folders of a disk: which names they refuse, and what contracts see of them.
-use Rattle.std.specs.Prelude.{◌≡◌, ℕ, ◌+◌, nat_lt, ◌==◌, Bool, ◌||◌, List, length, map, drop, Option, option_map}
+use Rattle.std.specs.Prelude.{ℕ, ◌+◌, nat_lt, ◌==◌, Bool, ◌||◌, List, length, map, drop, Option, option_map}
 use Rattle.disks.specs.DraftPaths.{has_slash, is_draft_name, path_in}
 use Rattle.disks.specs.Histories.{History, NamedFile, named_file, Names}
 use Rattle.run_files.specs.Shelves.{StoredFile, stored_file}

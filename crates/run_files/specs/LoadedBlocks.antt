@@ -1,7 +1,6 @@
 -- The blocks of a file, which are loaded one by one.
 use Rattle.std.specs.Prelude.{ℕ, zero, suc, ◌+◌, ◌-◌, ◌*◌, ◌<◌, ◌≤◌, nat_lt, ◌&&◌, if◌then◌else◌, List, [], ◌∷◌, ◌++◌, length, take, drop, Option, Result, Ok, Err}
 use Rattle.disks.specs.ToldFiles.{ToldFile, file_len}
-use Rattle.lists.specs.Agreement.{AgreesUnlessMemory}
 use Rattle.pcap_records.specs.Blocks.{block_len}
 use Rattle.scenarios.specs.Refusals.{and_then}
 use Rattle.run_files.specs.declared.error.RunFault.{RunFault}

@@ -1,7 +1,6 @@
 -- Named files: the text that is loaded of a path, and the blocks in which workers load it.
-use Rattle.std.specs.Prelude.{ℕ, zero, suc, ◌+◌, ◌*◌, nat_lt, ◌&&◌, if◌then◌else◌, List, [], ◌∷◌, ◌++◌, length, take, drop, Option, Some, None, Result, Ok, Err}
+use Rattle.std.specs.Prelude.{ℕ, nat_lt, if◌then◌else◌, List, length, Option, Some, None, Result, Ok, Err}
 use Rattle.disks.specs.ToldFiles.{Held, ToldFile}
-use Rattle.pcap_records.specs.Blocks.{block_len}
 use Rattle.pcap_records.specs.Reading.{capture_limit}
 use Rattle.run_files.specs.declared.error.RunFault.{RunFault}
 use Rattle.run_files.specs.declared.error.RunFault.TheVariants.{CaptureTooLong, Memory, ReadFailed}

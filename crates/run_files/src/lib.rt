@@ -1,6 +1,6 @@
 //! The files of a run, where they come from and where they go: readers and writers that count their failed calls, loading a
-//! capture, dumps in hexadecimal, why a run is refused and the line that tells it, and what a rehearsal answers, printed on a
-//! writer or stored on a shelf.
+//! file of a disk, dumps in hexadecimal, why a run is refused and the line that tells it, and what a rehearsal answers, printed on a
+//! writer, stored on a shelf, or drafted in a folder of a disk.
 #![tactic(auto)]
 
 mod block_loading;

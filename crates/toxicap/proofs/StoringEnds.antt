@@ -11,7 +11,6 @@ use Rattle.run_files.specs.declared.outputs.Output.{Output}
 use Rattle.run_files.specs.RunFault.{run_refusal}
 use Rattle.disks.specs.Histories.{History, NamedFile}
 use Rattle.run_files.specs.Folders.{TakesIn}
-use Rattle.run_files.specs.Shelves.{StoredFile}
 use Rattle.run_files.specs.WrittenOutputs.{files_from}
 use Rattle.toxicap.specs.Answering.{IsOfText, called_for}
 use Rattle.toxicap.specs.Rehearsal.{answer}

@@ -3,7 +3,9 @@
 ghost use Rattle.toxicap.specs.SoundOutputs.{OutputsAreRead};
 ghost use Rattle.toxicap.specs.NamedFiles.{FilesAreLoadedInOrder};
 ghost use Rattle.toxicap.specs.Rehearsal.{ByteOrderDoesNotMatter};
+ghost use Rattle.toxicap.specs.StoredOutputs.{KilledRunsAreMended};
 
+use disks::laws::named_again;
 use frame_headers::laws::{headers_are_sound, segments_fit};
 use pcap_records::laws::{readings_split, written_is_read};
 pub use run_files::laws::dumps_read_back;
@@ -32,3 +34,11 @@ pub fn outputs_are_read()
 pub fn files_are_loaded_in_order()
     ensures { FilesAreLoadedInOrder }
 {}
+
+/// A run that is killed while it stores its files, and run again to its end over the same inputs, leaves each path with what it would hold if
+/// the run had not been killed.
+pub fn killed_runs_are_mended()
+    ensures { KilledRunsAreMended }
+{
+    named_again();
+}

@@ -2,8 +2,8 @@
 //!
 //! `rehearse` is the call that the crate exists for; its contract names the definition in `specs/Rehearsal.antt`. Around it
 //! stand `answers`, which reads the capture and the scenarios first, and `command`, the whole program; `rehearse_alone` and
-//! `answers_alone` are the calls of one thread, which take no runtime. The readers, writers, dumps, shelves and faults that they
-//! use are those of the crate `run_files`.
+//! `answers_alone` are the calls of one thread, which take no runtime. The readers, writers, dumps, shelves, folders and faults that
+//! they use are those of the crate `run_files`, and the disks those of `disks`.
 #![tactic(auto)]
 
 mod answering;

@@ -1,4 +1,4 @@
-use Rattle.std.proofs.Common.{length, ap, map, ◌∙◌, arith}
+use Rattle.std.proofs.Common.{length, ap, map, arith}
 use Rattle.std.proofs.lemmas.Result.{err_from_is_err_and}
 use Rattle.run_files.specs.RunFault.{run_refusal}
 use Rattle.run_files.proofs.LoadedParts.{blocks_loaded, blocks_refused, length-blocks, parts_fit}

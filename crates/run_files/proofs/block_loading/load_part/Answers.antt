@@ -1,4 +1,4 @@
-use Rattle.std.proofs.Common.{◌≡◌, ◌<◌, ◌≤◌, ◌+◌, ◌-◌, length, ap, take, sym, subst, IfSome, arith, length-append}
+use Rattle.std.proofs.Common.{◌≡◌, ◌<◌, ◌≤◌, ◌+◌, length, ap, take, subst, IfSome, arith, length-append}
 use Rattle.std.proofs.lemmas.List.{length-take-le}
 use Rattle.disks.specs.ToldFiles.{Gives}
 use Rattle.run_files.proofs.LoadedFiles.{full_part, last_part, part_step}
@@ -13,8 +13,16 @@ reads-preserved g c =
       next = part_step (g.F.DiskFile.told c.args.file.now) c.args.start c.reads.part.items c.read_at.new.room c.extend_from_slice.new.self.items c.in-Ok.len own
           fewer c.reads.invariant.next
           (subst (λ n. IfSome (g.F.DiskFile.told c.args.file.now) (λ f. Gives f (c.args.start + n) c.read_at.new.room c.in-Ok.len)) here c.in-Ok.ensures.told) all;
-      within = omega (arith, ap length all, length-append c.reads.part.items (take own c.read_at.new.room),
-          length-take-le own c.read_at.new.room (omega (arith, fewer, c.in-Ok.ensures.within)), c.min-own.ensures, c.len-in-reads-2.ensures, c.reads.part.ok.0, c.reads.invariant.within);
+      within = omega (
+        arith,
+        ap length all,
+        length-append c.reads.part.items (take own c.read_at.new.room),
+        length-take-le own c.read_at.new.room (omega (arith, fewer, c.in-Ok.ensures.within)),
+        c.min-own.ensures,
+        c.len-in-reads-2.ensures,
+        c.reads.part.ok.0,
+        c.reads.invariant.within,
+      );
     }
 
 pub returns-then-len-eq-BLOCK_LEN-clause-told : goal.returns-then-len-eq-BLOCK_LEN-clause-told

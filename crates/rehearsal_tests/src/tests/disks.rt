@@ -1,5 +1,5 @@
 //! Whole runs of the program over a disk in memory: what is stored there, and what stays.
-ghost use Rattle.std.specs.Prelude.{◌≡◌, ◌≤◌, IfOk};
+ghost use Rattle.std.specs.Prelude.{◌≡◌, IfOk};
 
 use super::captures::PLAIN_REPORT;
 use super::named_files::{check_over, ended_over};

@@ -1,5 +1,5 @@
 //! Drafts of outputs: on a disk in memory, which fails or has little room, and in folders of the host's.
-ghost use Rattle.std.specs.Prelude.{◌-◌, ◌<◌, ◌^◌};
+ghost use Rattle.std.specs.Prelude.{◌≡◌, ◌-◌, ◌<◌, ◌^◌};
 
 use super::shelves::{check_files, files_in};
 use std::alloc::{AllocError, AllocGlobal, Global};
@@ -79,15 +79,16 @@ fn has_first(alloc: Global, disk: &MemoryDisk, many: usize) -> Result<bool, Allo
 
 // Whether two drafts on a disk put so many files in its folder, and the next one is refused and not tried again.
 fn are_stored(rt: &(impl Abort + AllocGlobal), mut disk: MemoryDisk, many: u64) -> bool
-    requires failures { disk.failed < 2 ^ 64 - 1 }
-    requires many { many < 5 }
+    requires { disk.failed ≡ 0 }
 {
     let mut folder = Folder::new(rt.alloc(), "drafts").expect(rt, "memory");
     let drafts = two_drafts(rt.alloc(), &folder, &disk).expect(rt, "memory");
     let stored = store_both(rt.alloc(), drafts, &mut folder, &mut disk);
     let wanted = match many {
         4 => Ok(()),
-        _ => Err(StoreFault::ShelfFailed { after: 14 + many }),
+        _ => Err(StoreFault::ShelfFailed {
+            after: many.saturating_add(14),
+        }),
     };
     let failed = u64::from(wanted.is_err());
     stored == wanted
@@ -97,9 +98,7 @@ fn are_stored(rt: &(impl Abort + AllocGlobal), mut disk: MemoryDisk, many: u64) 
 }
 
 // The disk fails once, after so many calls: for each file it is asked whether it allows the name, and then to give it.
-fn check_failing(rt: &(impl Abort + AllocGlobal), calls: u64)
-    requires { calls < 9 }
-{
+fn check_failing(rt: &(impl Abort + AllocGlobal), calls: u64) {
     let mut disk = MemoryDisk::new(rt.alloc());
     disk.fail_after(calls);
     let good = are_stored(rt, disk, calls / 2);
@@ -120,9 +119,7 @@ fn a_disk_that_fails_once(rt: HostRuntime) {
 }
 
 // No draft of the disk may have more bytes than this.
-fn check_room(rt: &(impl Abort + AllocGlobal), room: usize, many: u64)
-    requires { many < 5 }
-{
+fn check_room(rt: &(impl Abort + AllocGlobal), room: usize, many: u64) {
     let mut disk = MemoryDisk::new(rt.alloc());
     disk.limit_drafts(room);
     let good = are_stored(rt, disk, many);

@@ -118,7 +118,8 @@ fn each_file_at_its_path(rt: HostRuntime) {
     check_listed(&rt, &["--capture=session", "--scenario=session"], no_json);
 }
 
-/// A disk on which one file is too long, one cannot be opened, and all others hold `[]`. It tells nothing of them, and keeps no draft.
+/// A disk on which one file is too long, for one memory is wanting, one cannot be opened, and all others hold `[]`. It tells nothing of
+/// them, and keeps no draft.
 #[derive(Drop)]
 struct Faulty;
 
@@ -156,6 +157,7 @@ impl ReadDisk for Faulty {
     fn open(&self, _alloc: Global, path: &str) -> Result<FaultyFile, DiskFault> {
         match path {
             "long" => Ok(FaultyFile::Zeros(CAPTURE_LIMIT + 1)),
+            "wanting" => Err(DiskFault::Memory),
             "unread" => Err(DiskFault::Failed),
             _ => Ok(FaultyFile::Bytes(b"[]")),
         }
@@ -209,16 +211,24 @@ fn check_faulty(
 // Hosts come first, then scenario files in their order, then the capture, and then what the files hold.
 #[test]
 fn the_first_file_at_fault(rt: HostRuntime) {
-    let long = "refused 6 CaptureTooLong\n";
+    let memory = "refused 40 Memory\n";
     let unread = "refused 61 ReadFailed\n";
-    let host = ["--capture=unread", "--scenario=long", "--host=x"];
+    let host = ["--capture=unread", "--scenario=wanting", "--host=x"];
     check_faulty(&rt, &host, "refused 23 BadHost host 0\n");
-    let [short, first, second] = ["--scenario=bare", "--scenario=long", "--scenario=unread"];
-    check_faulty(&rt, &[short, first, second], long);
-    check_faulty(&rt, &[short, second, first], unread);
-    check_faulty(&rt, &["--capture=unread", short, first], long);
-    check_faulty(&rt, &["--capture=long", short, second], unread);
-    check_faulty(&rt, &["--capture=long", short], long);
-    check_faulty(&rt, &["--capture=unread", short], unread);
-    check_faulty(&rt, &["--capture=bare", short], "refused 1 ShortHeader\n");
+    let [bare, first, second] = ["--scenario=bare", "--scenario=wanting", "--scenario=unread"];
+    check_faulty(&rt, &[bare, first, second], memory);
+    check_faulty(&rt, &[bare, second, first], unread);
+    check_faulty(&rt, &["--capture=unread", bare, first], memory);
+    check_faulty(&rt, &["--capture=wanting", bare, second], unread);
+    check_faulty(&rt, &["--capture=wanting", bare], memory);
+    check_faulty(&rt, &["--capture=unread", bare], unread);
+    check_faulty(&rt, &["--capture=bare", bare], "refused 1 ShortHeader\n");
+}
+
+#[test]
+fn a_file_that_is_too_long(rt: HostRuntime) {
+    let long = "refused 6 CaptureTooLong\n";
+    let [scenario, second] = ["--scenario=long", "--scenario=unread"];
+    check_faulty(&rt, &["--capture=unread", scenario, second], long);
+    check_faulty(&rt, &["--capture=long", "--scenario=bare"], long);
 }

@@ -1,5 +1,5 @@
 //! The files of a rehearsal on shelves: one that fails, one in memory, and folders.
-ghost use Rattle.std.specs.Prelude.{◌≤◌};
+ghost use Rattle.std.specs.Prelude.{◌≡◌, ◌≤◌};
 
 use std::alloc::{AllocError, AllocGlobal, Global};
 use std::fs;
@@ -7,8 +7,8 @@ use std::os::unix::fs::symlink;
 use std::process::Abort;
 use std::rt::Files;
 use toxicap::{
-    FolderShelf, HostDisk, MemoryDisk, MemoryFile, MemoryShelf, Output, Outputs, RunFault, Shelf,
-    ShelfError, StoreFault, Values, store_all,
+    Disk, FolderShelf, HostDisk, MemoryDisk, MemoryFile, MemoryShelf, Output, Outputs, RunFault,
+    Shelf, ShelfError, StoreFault, Values, store_all,
 };
 
 // The files of two outputs, in the order in which they are stored.
@@ -144,17 +144,20 @@ fn a_shelf_in_memory(rt: HostRuntime) {
     assert!(rt; first && second && good && shelf.failed() == 0);
 }
 
-// A folder with this path takes two outputs, or fails at once and counts that.
-fn check_store(
-    rt: &(impl Abort + AllocGlobal + Files),
-    path: &str,
+// The folder `files` of a disk takes two outputs, or fails at once and counts that.
+fn check_store<R: Abort + AllocGlobal, D: Disk + Drop>(
+    rt: &R,
+    disk: D,
     wanted: Result<(), StoreFault>,
-) {
+) -> D
+    requires { D.faults disk ≡ 0 }
+{
     let outputs = two_outputs(rt.alloc()).expect(rt, "memory");
-    let mut folder = FolderShelf::new(rt.alloc(), HostDisk::new(rt), path).expect(rt, "memory");
+    let mut folder = FolderShelf::new(rt.alloc(), disk, "files").expect(rt, "memory");
     let stored = store_all(rt.alloc(), &outputs, &mut folder);
     let good = stored == wanted && folder.failed() == u64::from(wanted.is_err());
-    assert!(rt; good, "{path}");
+    assert!(rt; good, "{wanted:?}");
+    folder.into_disk()
 }
 
 // Whether a folder has a file of this name with these bytes.
@@ -197,9 +200,10 @@ fn make_folder(rt: &(impl Abort + AllocGlobal + Files), path: &str) {
 // While the folder is not there, no file can be made; an older file is replaced.
 #[test]
 fn a_folder(rt: HostRuntime) {
-    check_store(&rt, "files", Err(StoreFault::ShelfFailed { after: 0 }));
+    let refused = Err(StoreFault::ShelfFailed { after: 0 });
+    check_store(&rt, HostDisk::new(&rt), refused);
     make_folder(&rt, "files");
-    check_store(&rt, "files", Ok(()));
+    check_store(&rt, HostDisk::new(&rt), Ok(()));
     check_files(&rt, "files", FILES);
     fs::remove_dir_all(&rt, "files").expect(&rt, "removed");
 }
@@ -214,16 +218,11 @@ fn has_bytes(alloc: Global, disk: &MemoryDisk, (name, bytes): (&str, &[u8])) -> 
 
 #[test]
 fn a_folder_in_memory(rt: HostRuntime) {
-    let outputs = two_outputs(rt.alloc()).expect(&rt, "memory");
-    let disk = MemoryDisk::new(rt.alloc());
-    let mut folder = FolderShelf::new(rt.alloc(), disk, "files").expect(&rt, "memory");
-    let stored = store_all(rt.alloc(), &outputs, &mut folder) == Ok(());
-    let failed = folder.failed();
-    let disk = folder.into_disk();
+    let disk = check_store(&rt, MemoryDisk::new(rt.alloc()), Ok(()));
     let [a, b, c, d] = FILES;
     let captures = has_bytes(rt.alloc(), &disk, a) && has_bytes(rt.alloc(), &disk, c);
     let reports = has_bytes(rt.alloc(), &disk, b) && has_bytes(rt.alloc(), &disk, d);
-    assert!(rt; stored && captures && reports && failed == 0 && disk.failed() == 0);
+    assert!(rt; captures && reports && disk.failed() == 0);
 }
 
 // No file in the folder of this path can have this name.

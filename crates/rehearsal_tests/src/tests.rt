@@ -2,6 +2,7 @@
 mod again;
 mod answering;
 mod captures;
+mod disks;
 mod drafts;
 mod dumps;
 mod limits;

@@ -1,13 +1,14 @@
-//! The program over paths that are no files of the file system: each is loaded at its own, and the first at fault is told.
+//! The program over the named files of a disk: each is loaded at its own path, and the first at fault is told.
+ghost use Rattle.std.specs.Prelude.{◌≡◌, ◌-◌, ◌^◌, ◌<◌, IfOk};
+
 use super::captures::PLAIN_REPORT;
 use pcap_records::CAPTURE_LIMIT;
 use std::alloc::{AllocError, AllocGlobal, Global};
-use std::os::unix::fs::FileExt;
+use std::io::Read;
 use std::process::Abort;
-use std::rt::Files;
 use std::sync::Wait;
 use std::thread::Threads;
-use toxicap::{Counted, Paths, RunFault, command_over};
+use toxicap::{Counted, Disk, DiskFault, DiskFile, FileId, MemoryDisk, ReadDisk, command_over};
 use worked_sessions::sessions::PLAIN_SESSION;
 
 // A proxy for the host `web` that holds the client's bytes for 100 ms.
@@ -18,95 +19,49 @@ const SLOW: &str =
 const BOTH_REPORTS: &str =
     "scenario 0 records 7 rest 0 segment 7 short 0 notipv4 0 badipv4 0 fragment 0 nottcp 0 cut 0 badtcp 0 sameends 0\nconnections 1 unopened 0\n0 10.0.0.1:40000 > 10.0.0.2:80 proxy - up 5/5/0 fin+2000 max 0 down 0/0/0 fin+3000 max 0\nscenario 1 records 7 rest 0 segment 7 short 0 notipv4 0 badipv4 0 fragment 0 nottcp 0 cut 0 badtcp 0 sameends 0\nconnections 1 unopened 0\n0 10.0.0.1:40000 > 10.0.0.2:80 proxy 0 up 5/5/0 fin+101000 max 100000 down 0/0/0 fin+3000 max 0\n";
 
-/// Files in memory by their paths, without bytes where a file cannot be read. They do not tell what the paths hold.
-#[derive(Drop)]
-struct Listed<'a> {
-    files: &'a [(&'a str, Option<&'a [u8]>)],
-}
-
-impl Paths for Listed<'_> {
-    ghost use Rattle.std.specs.Prelude.{None};
-
-    ghost holds = { λ _. None };
-
-    fn load(&self, alloc: Global, path: &str) -> Result<Vec<u8>, RunFault> {
-        let Some((_, Some(bytes))) = self.files.iter().find(|file| file.0 == path) else {
-            return Err(RunFault::ReadFailed);
-        };
-        if bytes.len() > CAPTURE_LIMIT {
-            return Err(RunFault::CaptureTooLong);
-        }
-        Ok(Vec::from_slice(alloc, bytes)?)
-    }
-}
-
-/// A file in memory at a path of its own, and none at any other. It tells so.
-#[derive(Drop)]
-struct OneFile<'a> {
-    path: &'a str,
-    bytes: &'a [u8],
-}
-
-impl Paths for OneFile<'_> {
-    ghost use Rattle.std.specs.Prelude.{None, Some, bytes_eq, if◌then◌else◌};
-
-    ghost holds = { λ s. Some (λ path. if bytes_eq path s.path.now then Some s.bytes.now else None) };
-
-    fn load(&self, alloc: Global, path: &str) -> Result<Vec<u8>, RunFault> {
-        if path != self.path {
-            return Err(RunFault::ReadFailed);
-        }
-        if self.bytes.len() > CAPTURE_LIMIT {
-            return Err(RunFault::CaptureTooLong);
-        }
-        Ok(Vec::from_slice(alloc, self.bytes)?)
-    }
-}
-
-/// Paths of which one is too long, one cannot be read, and all others hold `[]`. They do not tell it.
-#[derive(Drop)]
-struct Faulty;
-
-impl Paths for Faulty {
-    ghost use Rattle.std.specs.Prelude.{None};
-
-    ghost holds = { λ _. None };
-
-    fn load(&self, alloc: Global, path: &str) -> Result<Vec<u8>, RunFault> {
-        match path {
-            "long" => Err(RunFault::CaptureTooLong),
-            "unread" => Err(RunFault::ReadFailed),
-            _ => Ok(Vec::from_slice(alloc, b"[]")?),
-        }
-    }
-}
-
-// The program over some paths ends with this status, and has written and told these texts, of words and no standard input.
-fn check_over<H: Abort + AllocGlobal + Files + Threads + Wait + Sync, P: Paths>(
+// The program over a disk, of words and no standard input: its status, and what it has written and told.
+pub fn ended_over<H: AllocGlobal + Threads + Wait + Sync, D: ReadDisk + Sync>(
     rt: &H,
-    paths: &P,
+    disk: &mut D,
     words: &[&str],
-    (status, written, told): (u8, &str, &str),
-)
+) -> (u8, Vec<u8>, Vec<u8>)
 where
-    H::File: FileExt + Send + Sync,
-    H::Dir: Send,
+    D::File: Sync,
+    D::Draft: Send,
+    requires { D.faults disk.old < 2 ^ 64 - 1 }
 {
     let mut input = Counted::new(b"".as_slice());
     let mut output = Counted::new(Vec::new(rt.alloc()));
     let mut faults = Counted::new(Vec::new(rt.alloc()));
-    let ended = command_over(
+    let status = command_over(
         rt,
-        paths,
+        disk,
         rt.alloc(),
         words,
         &mut input,
         &mut output,
         &mut faults,
     );
-    let good = ended == status
-        && output.into_inner().as_slice() == written.as_bytes()
-        && faults.into_inner().as_slice() == told.as_bytes();
+    (status, output.into_inner(), faults.into_inner())
+}
+
+// It ends with this status, and has written and told these texts.
+pub fn check_over<H: Abort + AllocGlobal + Threads + Wait + Sync, D: ReadDisk + Sync>(
+    rt: &H,
+    disk: &mut D,
+    words: &[&str],
+    ends: (u8, &str, &str),
+)
+where
+    D::File: Sync,
+    D::Draft: Send,
+    requires { D.faults disk.old < 2 ^ 64 - 1 }
+{
+    let (status, written, told) = ends;
+    let ended = ended_over(rt, disk, words);
+    let good = ended.0 == status
+        && ended.1.as_slice() == written.as_bytes()
+        && ended.2.as_slice() == told.as_bytes();
     assert!(rt; good, "{words:?}");
 }
 
@@ -118,16 +73,30 @@ fn wide(alloc: Global, begin: &str, end: &str) -> Result<Vec<u8>, AllocError> {
     Ok(text)
 }
 
+// A disk in memory with four files, of which one cannot be read to its end.
+fn listed(alloc: Global) -> Result<MemoryDisk, AllocError>
+    ensures { IfOk result (λ disk. disk.failed ≡ 0) }
+{
+    let mut disk = MemoryDisk::new(alloc);
+    disk.put_first("bare", b"[]", 0)?;
+    disk.put_first("unread", b"[]", 1)?;
+    disk.put_first("slow", &wide(alloc, "", SLOW)?, 0)?;
+    disk.put_first("session", &PLAIN_SESSION, 0)?;
+    Ok(disk)
+}
+
+// The program over that disk.
+fn check_listed(
+    rt: &(impl Abort + AllocGlobal + Threads + Wait + Sync),
+    words: &[&str],
+    wanted: (u8, &str, &str),
+) {
+    let mut disk = listed(rt.alloc()).expect(rt, "memory");
+    check_over(rt, &mut disk, words, wanted);
+}
+
 #[test]
 fn each_file_at_its_path(rt: HostRuntime) {
-    let slow = wide(rt.alloc(), "", SLOW).expect(&rt, "memory");
-    let files = [
-        ("bare", Some(b"[]".as_slice())),
-        ("unread", None),
-        ("slow", Some(slow.as_slice())),
-        ("session", Some(PLAIN_SESSION.as_slice())),
-    ];
-    let paths = Listed { files: &files };
     let host = "--host=web=10.0.0.2";
     let both = [
         "--scenario=bare",
@@ -135,50 +104,131 @@ fn each_file_at_its_path(rt: HostRuntime) {
         "--scenario=slow",
         "--capture=session",
     ];
-    check_over(&rt, &paths, &both, (0, BOTH_REPORTS, ""));
-    check_over(&rt, &paths, &["--capture=session"], (0, PLAIN_REPORT, ""));
+    check_listed(&rt, &both, (0, BOTH_REPORTS, ""));
+    check_listed(&rt, &["--capture=session"], (0, PLAIN_REPORT, ""));
     let unread = (1, "", "refused 61 ReadFailed\n");
-    check_over(&rt, &paths, &["--capture=unread"], unread);
-    check_over(&rt, &paths, &["--capture=nothing"], unread);
+    check_listed(&rt, &["--capture=unread"], unread);
+    check_listed(&rt, &["--capture=nothing"], unread);
     let scenario = ["--capture=bare", "--scenario=slow", "--scenario=unread"];
-    check_over(&rt, &paths, &scenario, unread);
+    check_listed(&rt, &scenario, unread);
     let slow_first = ["--capture=session", "--scenario=slow", "--scenario=bare"];
     let unknown = (1, "", "refused 15 UnknownHost scenario 0 proxy 0\n");
-    check_over(&rt, &paths, &slow_first, unknown);
+    check_listed(&rt, &slow_first, unknown);
+    let no_json = (1, "", "refused 10 NotJson scenario 0\n");
+    check_listed(&rt, &["--capture=session", "--scenario=session"], no_json);
 }
 
-#[test]
-fn paths_that_tell(rt: HostRuntime) {
-    let paths = OneFile {
-        path: "session",
-        bytes: PLAIN_SESSION.as_slice(),
-    };
-    check_over(&rt, &paths, &["--capture=session"], (0, PLAIN_REPORT, ""));
-    let unread = (1, "", "refused 61 ReadFailed\n");
-    check_over(&rt, &paths, &["--capture=nothing"], unread);
-    let scenario = ["--capture=session", "--scenario=session"];
-    check_over(
-        &rt,
-        &paths,
-        &scenario,
-        (1, "", "refused 10 NotJson scenario 0\n"),
-    );
+/// A disk on which one file is too long, for one memory is wanting, one cannot be opened, and all others hold `[]`. It tells nothing of
+/// them, and keeps no draft.
+#[derive(Drop)]
+struct Faulty;
+
+impl Disk for Faulty {
+    ghost use Rattle.std.specs.Prelude.{None};
+
+    type Draft = ();
+
+    ghost history = { λ _. None };
+
+    ghost faults = { λ _. 0 };
+
+    ghost holds = { λ _ _. Unit {0} };
+
+    fn draft(&self, _path: String) {}
+
+    fn append(_draft: &mut (), _bytes: &[u8]) {}
+
+    fn allow_name(&mut self, _path: &str, _spared: &[FileId]) -> Result<(), DiskFault> {
+        Ok(())
+    }
+
+    fn name(&mut self, _draft: (), _path: &str) -> Result<(), DiskFault> {
+        Ok(())
+    }
+
+    fn file_id(&self, _path: &str) -> Option<FileId> {
+        None
+    }
+}
+
+impl ReadDisk for Faulty {
+    type File = FaultyFile;
+
+    fn open(&self, _alloc: Global, path: &str) -> Result<FaultyFile, DiskFault> {
+        match path {
+            "long" => Ok(FaultyFile::Zeros(CAPTURE_LIMIT + 1)),
+            "wanting" => Err(DiskFault::Memory),
+            "unread" => Err(DiskFault::Failed),
+            _ => Ok(FaultyFile::Bytes(b"[]")),
+        }
+    }
+}
+
+/// What is left of a file: these bytes, or so many zeros.
+#[derive(Drop)]
+enum FaultyFile {
+    Bytes(&'static [u8]),
+    Zeros(usize),
+}
+
+impl DiskFile for FaultyFile {
+    ghost use Rattle.std.specs.Prelude.{None};
+
+    ghost told = { λ _. None };
+
+    ghost place = { λ _. 0 };
+
+    fn len(&self) -> Option<u64> {
+        None
+    }
+
+    fn read_at(&self, _room: &mut [u8], _at: usize) -> Result<usize, DiskFault> {
+        Err(DiskFault::Failed)
+    }
+
+    // What it is handed to read into is zeros already.
+    fn read(&mut self, room: &mut [u8]) -> Result<usize, DiskFault> {
+        match self {
+            FaultyFile::Bytes(rest) => Ok(rest.read(room)?),
+            FaultyFile::Zeros(left) => {
+                let len = room.len().min(*left);
+                *left -= len;
+                Ok(len)
+            }
+        }
+    }
+}
+
+// The program over that disk.
+fn check_faulty(
+    rt: &(impl Abort + AllocGlobal + Threads + Wait + Sync),
+    words: &[&str],
+    told: &str,
+) {
+    check_over(rt, &mut Faulty, words, (1, "", told));
 }
 
 // Hosts come first, then scenario files in their order, then the capture, and then what the files hold.
 #[test]
 fn the_first_file_at_fault(rt: HostRuntime) {
-    let long = (1, "", "refused 6 CaptureTooLong\n");
-    let unread = (1, "", "refused 61 ReadFailed\n");
-    let host = ["--capture=unread", "--scenario=long", "--host=x"];
-    check_over(&rt, &Faulty, &host, (1, "", "refused 23 BadHost host 0\n"));
-    let [short, first, second] = ["--scenario=bare", "--scenario=long", "--scenario=unread"];
-    check_over(&rt, &Faulty, &[short, first, second], long);
-    check_over(&rt, &Faulty, &[short, second, first], unread);
-    check_over(&rt, &Faulty, &["--capture=unread", short, first], long);
-    check_over(&rt, &Faulty, &["--capture=long", short, second], unread);
-    check_over(&rt, &Faulty, &["--capture=long", short], long);
-    check_over(&rt, &Faulty, &["--capture=unread", short], unread);
-    let header = (1, "", "refused 1 ShortHeader\n");
-    check_over(&rt, &Faulty, &["--capture=bare", short], header);
+    let memory = "refused 40 Memory\n";
+    let unread = "refused 61 ReadFailed\n";
+    let host = ["--capture=unread", "--scenario=wanting", "--host=x"];
+    check_faulty(&rt, &host, "refused 23 BadHost host 0\n");
+    let [bare, first, second] = ["--scenario=bare", "--scenario=wanting", "--scenario=unread"];
+    check_faulty(&rt, &[bare, first, second], memory);
+    check_faulty(&rt, &[bare, second, first], unread);
+    check_faulty(&rt, &["--capture=unread", bare, first], memory);
+    check_faulty(&rt, &["--capture=wanting", bare, second], unread);
+    check_faulty(&rt, &["--capture=wanting", bare], memory);
+    check_faulty(&rt, &["--capture=unread", bare], unread);
+    check_faulty(&rt, &["--capture=bare", bare], "refused 1 ShortHeader\n");
+}
+
+#[test]
+fn a_file_that_is_too_long(rt: HostRuntime) {
+    let long = "refused 6 CaptureTooLong\n";
+    let [scenario, second] = ["--scenario=long", "--scenario=unread"];
+    check_faulty(&rt, &["--capture=unread", scenario, second], long);
+    check_faulty(&rt, &["--capture=long", "--scenario=bare"], long);
 }

@@ -7,8 +7,8 @@ use std::os::unix::fs::symlink;
 use std::process::Abort;
 use std::rt::Files;
 use toxicap::{
-    Folder, MemoryFile, MemoryShelf, Output, Outputs, RunFault, Shelf, ShelfError, StoreFault,
-    Values, store_all,
+    Disk, FolderShelf, HostDisk, MemoryDisk, MemoryFile, MemoryShelf, Output, Outputs, RunFault,
+    Shelf, ShelfError, StoreFault, Values, store_all,
 };
 
 // The files of two outputs, in the order in which they are stored.
@@ -32,7 +32,7 @@ fn two_outputs(alloc: Global) -> Result<Outputs, AllocError> {
 }
 
 // Whether a shelf's files have these names and bytes.
-pub(super) fn are_files(files: &[MemoryFile], wanted: &[(&str, &[u8])]) -> bool {
+fn are_files(files: &[MemoryFile], wanted: &[(&str, &[u8])]) -> bool {
     for (file, (name, bytes)) in files.iter().zip(wanted) {
         if file.name() != *name || file.bytes() != *bytes {
             return false;
@@ -43,23 +43,11 @@ pub(super) fn are_files(files: &[MemoryFile], wanted: &[(&str, &[u8])]) -> bool 
 
 /// Keeps files in memory, but for the one that comes after so many calls: whoever tries again gets rid of it.
 #[derive(Drop)]
-pub(super) struct FailsOnce {
-    pub(super) kept: MemoryShelf,
-    pub(super) calls_before: u64,
-    pub(super) failed: u64,
+struct FailsOnce {
+    kept: MemoryShelf,
+    calls_before: u64,
+    failed: u64,
     ghost counted: { kept.failed ≤ failed },
-}
-
-impl FailsOnce {
-    pub(super) fn new(alloc: Global, calls_before: u64) -> FailsOnce
-        ensures { result.failed ≡ 0 }
-    {
-        FailsOnce {
-            kept: MemoryShelf::new(alloc),
-            calls_before,
-            failed: 0,
-        }
-    }
 }
 
 impl Shelf for FailsOnce {
@@ -87,7 +75,11 @@ impl Shelf for FailsOnce {
 // Two outputs to a shelf that fails at its put after so many put the first files on it, and none after the failed one.
 fn check_failing(rt: &(impl Abort + AllocGlobal), after: u64, first: &[(&str, &[u8])]) {
     let outputs = two_outputs(rt.alloc()).expect(rt, "memory");
-    let mut shelf = FailsOnce::new(rt.alloc(), after);
+    let mut shelf = FailsOnce {
+        kept: MemoryShelf::new(rt.alloc()),
+        calls_before: after,
+        failed: 0,
+    };
     let stored = store_all(rt.alloc(), &outputs, &mut shelf);
     let refused = stored == Err(StoreFault::ShelfFailed { after })
         && shelf.failed == 1
@@ -152,17 +144,20 @@ fn a_shelf_in_memory(rt: HostRuntime) {
     assert!(rt; first && second && good && shelf.failed() == 0);
 }
 
-// A folder with this path takes two outputs, or fails at once and counts that.
-fn check_store(
-    rt: &(impl Abort + AllocGlobal + Files),
-    path: &str,
+// The folder `files` of a disk takes two outputs, or fails at once and counts that.
+fn check_store<R: Abort + AllocGlobal, D: Disk + Drop>(
+    rt: &R,
+    disk: D,
     wanted: Result<(), StoreFault>,
-) {
+) -> D
+    requires { D.faults disk ≡ 0 }
+{
     let outputs = two_outputs(rt.alloc()).expect(rt, "memory");
-    let mut folder = Folder::new(rt.alloc(), rt, path).expect(rt, "memory");
+    let mut folder = FolderShelf::new(rt.alloc(), disk, "files").expect(rt, "memory");
     let stored = store_all(rt.alloc(), &outputs, &mut folder);
     let good = stored == wanted && folder.failed() == u64::from(wanted.is_err());
-    assert!(rt; good, "{path}");
+    assert!(rt; good, "{wanted:?}");
+    folder.into_disk()
 }
 
 // Whether a folder has a file of this name with these bytes.
@@ -205,16 +200,34 @@ fn make_folder(rt: &(impl Abort + AllocGlobal + Files), path: &str) {
 // While the folder is not there, no file can be made; an older file is replaced.
 #[test]
 fn a_folder(rt: HostRuntime) {
-    check_store(&rt, "files", Err(StoreFault::ShelfFailed { after: 0 }));
+    let refused = Err(StoreFault::ShelfFailed { after: 0 });
+    check_store(&rt, HostDisk::new(&rt), refused);
     make_folder(&rt, "files");
-    check_store(&rt, "files", Ok(()));
+    check_store(&rt, HostDisk::new(&rt), Ok(()));
     check_files(&rt, "files", FILES);
     fs::remove_dir_all(&rt, "files").expect(&rt, "removed");
 }
 
+// Whether a disk has this file of the folder `files`.
+fn has_bytes(alloc: Global, disk: &MemoryDisk, (name, bytes): (&str, &[u8])) -> bool {
+    match format!(in alloc; "files/{name}") {
+        Ok(path) => disk.bytes(&path) == Some(bytes),
+        Err(_) => false,
+    }
+}
+
+#[test]
+fn a_folder_in_memory(rt: HostRuntime) {
+    let disk = check_store(&rt, MemoryDisk::new(rt.alloc()), Ok(()));
+    let [a, b, c, d] = FILES;
+    let captures = has_bytes(rt.alloc(), &disk, a) && has_bytes(rt.alloc(), &disk, c);
+    let reports = has_bytes(rt.alloc(), &disk, b) && has_bytes(rt.alloc(), &disk, d);
+    assert!(rt; captures && reports && disk.failed() == 0);
+}
+
 // No file in the folder of this path can have this name.
 fn check_no_name(rt: &(impl Abort + AllocGlobal + Files), path: &str, name: &str) {
-    let mut folder = Folder::new(rt.alloc(), rt, path).expect(rt, "memory");
+    let mut folder = FolderShelf::new(rt.alloc(), HostDisk::new(rt), path).expect(rt, "memory");
     let refused = folder.put(name, b"") == Err(ShelfError);
     assert!(rt; refused && folder.failed() == 1, "{name:?}");
 }
@@ -229,6 +242,8 @@ fn names_that_a_folder_refuses(rt: HostRuntime) {
     check_no_name(&rt, ".", "../toxicap-name");
     check_no_name(&rt, ".", "toxicap\0name");
     check_no_name(&rt, ".", long);
+    check_no_name(&rt, ".", "toxicap.unfinished");
+    check_no_name(&rt, ".", "toxicap.unfinished-name");
     check_no_name(&rt, "", "toxicap-name");
 }
 
@@ -238,7 +253,9 @@ fn a_folder_spares_a_file(rt: HostRuntime) {
     fs::create_dir(&rt, "spared").expect(&rt, "a folder");
     fs::write(&rt, "spared/input", "as recorded").expect(&rt, "a file");
     symlink(&rt, "input", "spared/link").expect(&rt, "a link");
-    let mut folder = Folder::new(rt.alloc(), &rt, "spared").expect(&rt, "memory");
+    let mut folder = FolderShelf::new(rt.alloc(), HostDisk::new(&rt), "spared").expect(
+        &rt, "memory",
+    );
     folder.spare("spared/nowhere").expect(&rt, "memory");
     folder.spare("./spared/link").expect(&rt, "memory");
     let refused = folder.put("input", b"1") == Err(ShelfError);

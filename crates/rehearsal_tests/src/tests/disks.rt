@@ -1,0 +1,227 @@
+//! Whole runs of the program over a disk in memory: what is stored there, and what stays.
+ghost use Rattle.std.specs.Prelude.{◌≡◌, IfOk};
+
+use super::captures::PLAIN_REPORT;
+use super::named_files::{check_over, ended_over};
+use scenarios::Hosts;
+use std::alloc::{AllocError, AllocGlobal, Global};
+use std::process::Abort;
+use std::sync::Wait;
+use std::thread::Threads;
+use toxicap::{
+    Counted, MemoryDisk, MemoryFile, MemoryShelf, Options, Plan, RunFault, answers, store_all,
+};
+use worked_sessions::sessions::{PLAIN_SESSION, header, put_field};
+
+// A proxy for the host `web` that holds the client's bytes for a time that is drawn.
+const HELD: &str =
+    "[{\"name\":\"web\",\"upstream\":\"web:80\",\"toxics\":[{\"type\":\"latency\",\"stream\":\"upstream\",\"attributes\":{\"latency\":100,\"jitter\":50}}]}]";
+
+// An older file of the last name that a run gives.
+const OLDER: &[u8] = b"an older file";
+
+// A disk with a capture, two scenarios, the older file, and a capture that cannot be read to its end.
+fn disk_before(alloc: Global) -> Result<MemoryDisk, AllocError>
+    ensures { IfOk result (λ disk. disk.failed ≡ 0) }
+{
+    let mut disk = MemoryDisk::new(alloc);
+    disk.put_first("session", &PLAIN_SESSION, 0)?;
+    disk.put_first("unread", &PLAIN_SESSION, 1)?;
+    disk.put_first("bare", b"[]", 0)?;
+    disk.put_first("held", HELD.as_bytes(), 0)?;
+    disk.put_first("out/0001.txt", OLDER, 0)?;
+    Ok(disk)
+}
+
+// The words of a run by one worker that stores the files of both scenarios in the folder `out`, and of one by two.
+const BY_ONE: [&str; 7] = [
+    "--capture=session",
+    "--scenario=bare",
+    "--scenario=held",
+    "--host=web=10.0.0.2",
+    "--seed=42",
+    "--out=out",
+    "--workers=1",
+];
+
+const BY_TWO: [&str; 7] = [
+    "--workers=2",
+    "--out=out",
+    "--seed=42",
+    "--host=web=10.0.0.2",
+    "--scenario=bare",
+    "--scenario=held",
+    "--capture=session",
+];
+
+// The four files of that run, from the calls that take its texts.
+fn files_of(rt: &(impl AllocGlobal + Threads + Wait + Sync)) -> Result<Vec<MemoryFile>, RunFault> {
+    let mut hosts = Hosts::new(rt.alloc());
+    if hosts.add("web", "10.0.0.2").is_err() {
+        return Err(RunFault::Memory);
+    }
+    let plan = Plan::new(1, 4096).ok_or(RunFault::Memory)?;
+    let (seed, texts) = (42, [b"[]".as_slice(), HELD.as_bytes()]);
+    let options = Options { hosts, seed, plan };
+    let mut reader = Counted::new(PLAIN_SESSION.as_slice());
+    let outputs = answers(rt, rt.alloc(), &mut reader, &texts, &options)?;
+    let mut shelf = MemoryShelf::new(rt.alloc());
+    store_all(rt.alloc(), &outputs, &mut shelf)?;
+    Ok(shelf.into_files())
+}
+
+// Whether the folder has so many of four files, and in place of those after them what was there before.
+fn has_first(
+    alloc: Global,
+    disk: &MemoryDisk,
+    files: &[MemoryFile],
+    many: usize,
+) -> Result<bool, AllocError> {
+    for (place, file) in files.iter().enumerate() {
+        let name = file.name();
+        let path = format!(in alloc; "out/{name}")?;
+        let wanted = match name {
+            _ if place < many => Some(file.bytes()),
+            "0001.txt" => Some(OLDER),
+            _ => None,
+        };
+        if disk.bytes(&path) != wanted {
+            return Ok(false);
+        }
+    }
+    Ok(files.len() == 4)
+}
+
+// A run of these words stores all files.
+fn check_whole(rt: &(impl Abort + AllocGlobal + Threads + Wait + Sync), words: &[&str]) {
+    let files = files_of(rt).expect(rt, "memory");
+    let mut disk = disk_before(rt.alloc()).expect(rt, "memory");
+    check_over(rt, &mut disk, words, (0, "", ""));
+    let good = disk.failed() == 0 && has_first(rt.alloc(), &disk, &files, 4) == Ok(true);
+    assert!(rt; good, "{words:?}");
+}
+
+#[test]
+fn a_whole_run(rt: HostRuntime) {
+    check_whole(&rt, &BY_ONE);
+    check_whole(&rt, &BY_TWO);
+}
+
+// Over a disk that fails once, after so many calls, a run stores the files before that, for each of which it made two; another run of the
+// same words then stores all.
+fn check_failing(
+    rt: &(impl Abort + AllocGlobal + Threads + Wait + Sync),
+    files: &[MemoryFile],
+    words: &[&str],
+    calls: u64,
+) {
+    let mut disk = disk_before(rt.alloc()).expect(rt, "memory");
+    disk.fail_after(calls);
+    let many = calls / 2;
+    let told = format!(in rt.alloc(); "refused 60 ShelfFailed after {many}\n");
+    check_over(rt, &mut disk, words, (1, "", &told.expect(rt, "memory")));
+    let part = has_first(rt.alloc(), &disk, files, many as usize) == Ok(true);
+    assert!(rt; part && disk.failed() == 1, "{words:?} after {calls}");
+    check_over(rt, &mut disk, words, (0, "", ""));
+    let whole = has_first(rt.alloc(), &disk, files, 4) == Ok(true);
+    assert!(rt;
+        whole && disk.failed() == 1,
+        "{words:?} again after {calls}"
+    );
+}
+
+fn check_each(rt: &(impl Abort + AllocGlobal + Threads + Wait + Sync), words: &[&str]) {
+    let files = files_of(rt).expect(rt, "memory");
+    check_failing(rt, &files, words, 0);
+    check_failing(rt, &files, words, 1);
+    check_failing(rt, &files, words, 2);
+    check_failing(rt, &files, words, 3);
+    check_failing(rt, &files, words, 4);
+    check_failing(rt, &files, words, 5);
+    check_failing(rt, &files, words, 6);
+    check_failing(rt, &files, words, 7);
+}
+
+#[test]
+fn a_run_that_a_disk_cuts_short(rt: HostRuntime) {
+    check_each(&rt, &BY_ONE);
+    check_each(&rt, &BY_TWO);
+}
+
+// A run of these words ends so, and leaves the folder as it was.
+fn check_untouched(
+    rt: &(impl Abort + AllocGlobal + Threads + Wait + Sync),
+    words: &[&str],
+    ends: (u8, &str, &str),
+) {
+    let files = files_of(rt).expect(rt, "memory");
+    let mut disk = disk_before(rt.alloc()).expect(rt, "memory");
+    check_over(rt, &mut disk, words, ends);
+    let good = disk.failed() == 0 && has_first(rt.alloc(), &disk, &files, 0) == Ok(true);
+    assert!(rt; good, "{words:?}");
+}
+
+#[test]
+fn runs_that_store_nothing(rt: HostRuntime) {
+    let out = "--out=out";
+    let unread = (1, "", "refused 61 ReadFailed\n");
+    check_untouched(&rt, &["--capture=unread", out], unread);
+    check_untouched(&rt, &["--capture=unread", out, "--workers=2"], unread);
+    let short = (1, "", "refused 1 ShortHeader\n");
+    check_untouched(&rt, &["--capture=bare", out], short);
+    check_untouched(&rt, &["--capture=session"], (0, PLAIN_REPORT, ""));
+    let version = (0, "toxicap 1.0.0\n", "");
+    check_untouched(&rt, &["--capture=session", out, "-V"], version);
+}
+
+#[test]
+fn help_beside_a_folder(rt: HostRuntime) {
+    let files = files_of(&rt).expect(&rt, "memory");
+    let mut disk = disk_before(rt.alloc()).expect(&rt, "memory");
+    let words = ["--capture=session", "--out=out", "--help"];
+    let (status, written, told) = ended_over(&rt, &mut disk, &words);
+    let good = disk.failed() == 0 && has_first(rt.alloc(), &disk, &files, 0) == Ok(true);
+    assert!(rt; good && status == 0 && !written.is_empty() && told.is_empty());
+}
+
+// A scenario that lies in the folder, under the name of a file of its run, stays there.
+#[test]
+fn an_input_in_the_folder(rt: HostRuntime) {
+    let mut disk = disk_before(rt.alloc()).expect(&rt, "memory");
+    disk.put_first("out/0000.txt", b"[]", 0)
+        .expect(&rt, "memory");
+    let words = ["--capture=session", "--scenario=out/0000.txt", "--out=out"];
+    let refused = (1, "", "refused 60 ShelfFailed after 1\n");
+    check_over(&rt, &mut disk, &words, refused);
+    let stays = disk.bytes("out/0000.txt") == Some(b"[]".as_slice());
+    assert!(rt; stays && disk.bytes("out/0000.pcap").is_some() && disk.failed() == 1);
+}
+
+// The report of a capture of three blocks.
+const LARGE_REPORT: &str =
+    "scenario 0 records 177 rest 0 segment 7 short 0 notipv4 170 badipv4 0 fragment 0 nottcp 0 cut 0 badtcp 0 sameends 0\nconnections 1 unopened 0\n0 10.0.0.1:40000 > 10.0.0.2:80 proxy - up 5/5/0 fin+2000 max 0 down 0/0/0 fin+3000 max 0\n";
+
+// That capture: 170 records of 100,003 zeros each, and those of the plain session.
+fn large_capture(alloc: Global) -> Result<Vec<u8>, AllocError> {
+    let mut bytes = header(alloc, true)?;
+    let zeros = vec![in alloc; 0u8; 100_003]?;
+    for _ in 0..170 {
+        for number in [0, 0, 100_003, 100_003] {
+            put_field(&mut bytes, true, number)?;
+        }
+        bytes.extend_from_slice(&zeros)?;
+    }
+    bytes.extend_from_slice(&PLAIN_SESSION[24..])?;
+    Ok(bytes)
+}
+
+// Two workers load it, by reads that give no more than 65,537 bytes each.
+#[test]
+fn a_capture_of_three_blocks(rt: HostRuntime) {
+    let capture = large_capture(rt.alloc()).expect(&rt, "memory");
+    let mut disk = MemoryDisk::new(rt.alloc());
+    disk.limit_reads(65_537);
+    disk.put_first("large", &capture, 0).expect(&rt, "memory");
+    let words = ["--capture=large", "--workers=2"];
+    check_over(&rt, &mut disk, &words, (0, LARGE_REPORT, ""));
+}

@@ -92,13 +92,14 @@ fn has_first(
     Ok(files.len() == 4)
 }
 
-// A run of these words stores all files.
+// A run of these words stores all files, the report of the plain session among them.
 fn check_whole(rt: &(impl Abort + AllocGlobal + Threads + Wait + Sync), words: &[&str]) {
     let files = files_of(rt).expect(rt, "memory");
     let mut disk = disk_before(rt.alloc()).expect(rt, "memory");
     check_over(rt, &mut disk, words, (0, "", ""));
     let good = disk.failed() == 0 && has_first(rt.alloc(), &disk, &files, 4) == Ok(true);
-    assert!(rt; good, "{words:?}");
+    let report = disk.bytes("out/0000.txt") == Some(PLAIN_REPORT.as_bytes());
+    assert!(rt; good && report, "{words:?}");
 }
 
 #[test]
@@ -107,8 +108,8 @@ fn a_whole_run(rt: HostRuntime) {
     check_whole(&rt, &BY_TWO);
 }
 
-// Over a disk that fails once, after so many calls, a run stores the files before that, for each of which it made two; another run of the
-// same words then stores all.
+// A run over a disk that fails once, after so many calls, stores the files for which both calls went well; another run of the same words
+// then stores all.
 fn check_failing(
     rt: &(impl Abort + AllocGlobal + Threads + Wait + Sync),
     files: &[MemoryFile],

@@ -2,7 +2,6 @@
 mod again;
 mod answering;
 mod captures;
-mod disks;
 mod drafts;
 mod dumps;
 mod limits;
@@ -14,4 +13,5 @@ mod rehearsed;
 mod running;
 mod shelves;
 mod usage;
+mod whole_runs;
 mod writers;

@@ -20,7 +20,7 @@ class Player:
     the client that is tested: a shorter request is answered after the limit, and after longer ones an answer may come early. A client that reads late
     may miss bytes before a reset."""
 
-    def __init__(self, output, untouched, connection=0, factor=1, pauses=True, limit=10):
+    def __init__(self, output: bytes, untouched: bytes, connection: int = 0, factor: float = 1, pauses: bool = True, limit: float = 10):
         self.steps, self.factor, self.pauses, self.limit = steps(output, untouched, connection), factor, pauses, limit
         self.late = None
         self.heard, self.closed, self.over = [], None, False  # (instant, bytes from the client); when it closed; whether nothing more can come
@@ -30,12 +30,12 @@ class Player:
         if not self.refuses: self.listener.listen(1)
         self.port = self.listener.getsockname()[1]
 
-    def __enter__(self):
+    def __enter__(self) -> 'Player':
         self.thread = threading.Thread(target=self.serve, daemon=True)
         self.thread.start()
         return self
 
-    def __exit__(self, failed, *_):
+    def __exit__(self, failed: object, *_: object) -> None:
         """Ends the connection, wherever it is. A TimeoutError where the client had not done at the limit what it was to do."""
         self.waker.close()
         self.thread.join()

@@ -10,6 +10,7 @@ import pathlib
 import re
 import sys
 import threading
+import time
 from typing import Any, List, NamedTuple, Sequence, Tuple
 
 ANSWERED, REFUSED, NO_ROOM, NO_MEMORY = range(4)
@@ -66,13 +67,21 @@ caller = os.getpid()  # the process that may call
 is_alone = False  # whether it had one thread when it forked last
 
 
+def thread_count() -> int:
+    """How many threads this process has, those of C code too."""
+    try:
+        return len(os.listdir("/proc/self/task"))
+    except OSError:
+        return threading.active_count()
+
+
 def before_fork() -> None:
     global is_alone
-    try:
-        threads = len(os.listdir("/proc/self/task"))
-    except OSError:
-        threads = threading.active_count()
-    is_alone = threads == 1 and caller == os.getpid()
+    for _ in range(20):  # a thread that was joined takes a moment to end
+        if thread_count() == 1 or threading.active_count() > 1:
+            break
+        time.sleep(0.001)
+    is_alone = thread_count() == 1 and caller == os.getpid()
 
 
 def after_fork() -> None:

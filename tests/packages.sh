@@ -93,8 +93,8 @@ if can "the wheel" python3; then
     done
     passes "calls of the package" "$python" -I -B - "$away" < tests/packages/calls.py
     verdict "calls of the package, compared" "$(grep -vx '8 outputs' "$work/told" || true)"
-    block release/python/README.md python 1 > "$away/example.py"
-    block release/python/README.md text 1 > "$work/wanted"
+    block docs/PYTHON.md python 1 > "$away/example.py"
+    block docs/PYTHON.md text 1 > "$work/wanted"
     (cd "$away" && out_of_reach "$python" -B example.py > "$work/output" 2>&1) || true
     verdict "the package's example" "$(difference "$work/wanted" "$work/output")"
     (cd "$away" && out_of_reach "$python" -m toxicap --capture shop.pcap --scenario redis-down.json > "$work/output" 2>&1) || echo "$?" >> "$work/output"
@@ -104,7 +104,7 @@ if can "the wheel" python3; then
     if ! "$python" -c 'import pytest' 2> /dev/null; then
         skip "the plugin of pytest" "pytest is not here"
     else
-        block release/python/README.md python 2 > "$away/test_cut_off.py"
+        block docs/PYTHON.md python 2 > "$away/test_cut_off.py"
         # tested STATUS LINE OPTION..: pytest ends so, and prints a line with this text.
         tested() {
             local ended=0

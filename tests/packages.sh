@@ -101,6 +101,10 @@ if can "the wheel" python3; then
     printf '%s\n' 'refused 15 UnknownHost scenario 0 proxy 1' 1 > "$work/wanted"
     verdict "python -m toxicap" "$(difference "$work/wanted" "$work/output")"
 
+    if can "the types of the package" mypy && "$python" -c 'import pytest' 2> /dev/null; then
+        cp tests/packages/typed.py "$away"
+        passes "the types of the package" mypy --strict --no-error-summary --cache-dir "$work/mypy" --python-executable "$python" "$away/typed.py"
+    fi
     if ! "$python" -c 'import pytest' 2> /dev/null; then
         skip "the plugin of pytest" "pytest is not here"
     else
@@ -192,6 +196,9 @@ if can "the image" tar gzip python3; then
     tar -C "$work/oci" -xf "$made/toxicap-$version-oci.tar"
     verdict "the image's layout" "$(python3 -B tests/packages/layout.py "$work/oci" "$work/root" 2>&1)"
     verdict "the image below 3 MB" "$(size_of=$(du -sb "$work/root" | cut -f 1); [ "$size_of" -lt 3000000 ] || echo "  $size_of bytes")"
+    if can "the image, read by skopeo" skopeo; then
+        verdict "the image, read by skopeo" "$(skopeo inspect "oci-archive:$made/toxicap-$version-oci.tar" > "$work/told" 2>&1 && grep -q '"Os": "linux"' "$work/told" || cat "$work/told")"
+    fi
     # the lines of the Dockerfile, done by hand: the layer has the same files
     unpacked "toxicap-$version-image.tar.gz"
     mkdir "$work/built" "$work/built/licences" "$work/built/work"

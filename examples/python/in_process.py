@@ -5,6 +5,7 @@ HOSTS of the environment has the addresses of names, in lines NAME=ADDR. The lib
 beside this file, else the system's."""
 import argparse
 import ctypes
+import functools
 import os
 import pathlib
 import re
@@ -49,8 +50,9 @@ class Sizes(ctypes.Structure):
     _fields_ = [("captures", ctypes.c_size_t), ("reports", ctypes.c_size_t), ("lens", ctypes.c_size_t)]
 
 
-def load() -> ctypes.CDLL:
-    """The library, with the types of its two calls."""
+@functools.lru_cache(maxsize=None)
+def library() -> ctypes.CDLL:
+    """The library, with the types of its two calls. It is loaded by the first call."""
     beside = pathlib.Path(__file__).resolve().with_name("libtoxicap.so.1")
     loaded = ctypes.CDLL(os.environ.get("TOXICAP_LIBRARY") or (str(beside) if beside.exists() else beside.name))
     text = [ctypes.c_char_p, ctypes.c_size_t]
@@ -62,7 +64,6 @@ def load() -> ctypes.CDLL:
     return loaded
 
 
-library = load()
 caller = os.getpid()  # the process that may call
 is_alone = False  # whether it had one thread when it forked last
 
@@ -77,7 +78,7 @@ def thread_count() -> int:
 
 def before_fork() -> None:
     global is_alone
-    for _ in range(20):  # a thread that was joined takes a moment to end
+    for _ in range(10):  # a thread that was joined takes a moment to end
         if thread_count() == 1 or threading.active_count() > 1:
             break
         time.sleep(0.001)
@@ -133,7 +134,7 @@ def rehearse(capture: bytes, scenarios: Sequence[bytes], hosts: bytes = b"", see
     status, sizes = NO_ROOM, Sizes(2 * count * inputs[1], 1024 * count, 2 * count)
     while status == NO_ROOM:
         captures, reports, lens = room_for(sizes.captures), room_for(sizes.reports), (ctypes.c_size_t * sizes.lens)()
-        status = library.toxicap_rehearse(*inputs, captures, len(captures), reports, len(reports), lens, len(lens), sizes)
+        status = library().toxicap_rehearse(*inputs, captures, len(captures), reports, len(reports), lens, len(lens), sizes)
     raise_refusal(status, reports, sizes)
     outputs, capture_at, report_at = [], ctypes.addressof(captures), ctypes.addressof(reports)
     for capture_len, report_len in zip(lens[::2], lens[1::2]):
@@ -148,7 +149,7 @@ def reports(capture: bytes, scenarios: Sequence[bytes], hosts: bytes = b"", seed
     status, sizes = NO_ROOM, Sizes(0, 1024 * len(scenarios), 0)
     while status == NO_ROOM:
         texts = room_for(sizes.reports)
-        status = library.toxicap_reports(*inputs, texts, len(texts), sizes)
+        status = library().toxicap_reports(*inputs, texts, len(texts), sizes)
     raise_refusal(status, texts, sizes)
     return re.split(rb"^(?=scenario )", ctypes.string_at(texts, sizes.reports), flags=re.MULTILINE)[1:]
 

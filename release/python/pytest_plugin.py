@@ -4,6 +4,8 @@
         output = rehearse("shop.pcap", "slow.json", hosts=b"redis=10.77.0.3", golden="slow")
 
 rehearses a capture under a scenario and compares what comes with slow.pcap and slow.txt. `pytest --toxicap-update` writes them."""
+from __future__ import annotations
+
 import difflib
 import json
 import os
@@ -27,11 +29,11 @@ class Rehearsals:
 
     def __call__(
         self,
-        capture: Union[bytes, str, "os.PathLike[str]"],
-        scenario: Union[bytes, str, "os.PathLike[str]", List[Any]],
+        capture: Union[bytes, str, os.PathLike[str]],
+        scenario: Union[bytes, str, os.PathLike[str], List[Any]],
         hosts: bytes = b"",
         seed: int = 0,
-        golden: Union[None, str, "os.PathLike[str]"] = None,
+        golden: Union[None, str, os.PathLike[str]] = None,
     ) -> Output:
         """The output of a capture under one scenario. Both are a path or bytes, and the scenario may be a list of proxies too. Hosts and seed are
         those of toxicap.rehearse, and so are the errors. With `golden`, a path without ending, the test fails where the capture is not the file
@@ -45,7 +47,7 @@ class Rehearsals:
                 pytest.fail("\n".join([*faults, "`pytest --toxicap-update` writes golden files"]), pytrace=False)
         return output
 
-    def _bytes_of(self, source: Union[bytes, str, "os.PathLike[str]"]) -> bytes:
+    def _bytes_of(self, source: Union[bytes, str, os.PathLike[str]]) -> bytes:
         return (self.folder / source).read_bytes() if isinstance(source, (str, os.PathLike)) else source
 
     def _fault(self, path: pathlib.Path, found: bytes) -> Iterator[str]:
@@ -61,8 +63,8 @@ class Rehearsals:
         elif wanted is None:
             yield f"there is no golden file {path}"
         elif path.suffix == ".txt":
-            lines = (text.decode("utf-8", "replace").splitlines() for text in (wanted, found))
-            yield "\n".join(difflib.unified_diff(*lines, str(path), "what came", lineterm=""))
+            before, after = (text.decode("utf-8", "replace").splitlines() for text in (wanted, found))
+            yield "\n".join(difflib.unified_diff(before, after, str(path), "what came", lineterm=""))
         else:
             place = next((place for place, (one, other) in enumerate(zip(wanted, found)) if one != other), min(len(wanted), len(found)))
             yield f"the golden file {path} differs from byte {place} on: it has {len(wanted)} bytes, and {len(found)} came"

@@ -110,11 +110,16 @@ def room_for(size: int) -> "ctypes.Array[ctypes.c_char]":
     return ctypes.create_string_buffer(size)
 
 
+def part(room: "ctypes.Array[ctypes.c_char]", place: int, size: int) -> bytes:
+    """So many bytes of a buffer, from a place on."""
+    return memoryview(room)[place : place + size].tobytes()
+
+
 def raise_refusal(status: int, reports: "ctypes.Array[ctypes.c_char]", sizes: Sizes) -> None:
     """Raises the refusal of a call, if it was refused."""
     if status == ANSWERED:
         return
-    line = "refused 40 Memory" if status == NO_MEMORY else ctypes.string_at(reports, sizes.reports).decode()
+    line = "refused 40 Memory" if status == NO_MEMORY else part(reports, 0, sizes.reports).decode()
     raise (WantOfMemory if line == "refused 40 Memory" else Refusal)(line)
 
 
@@ -136,9 +141,9 @@ def rehearse(capture: bytes, scenarios: Sequence[bytes], hosts: bytes = b"", see
         captures, reports, lens = room_for(sizes.captures), room_for(sizes.reports), (ctypes.c_size_t * sizes.lens)()
         status = library().toxicap_rehearse(*inputs, captures, len(captures), reports, len(reports), lens, len(lens), sizes)
     raise_refusal(status, reports, sizes)
-    outputs, capture_at, report_at = [], ctypes.addressof(captures), ctypes.addressof(reports)
+    outputs, capture_at, report_at = [], 0, 0
     for capture_len, report_len in zip(lens[::2], lens[1::2]):
-        outputs.append(Output(ctypes.string_at(capture_at, capture_len), ctypes.string_at(report_at, report_len)))
+        outputs.append(Output(part(captures, capture_at, capture_len), part(reports, report_at, report_len)))
         capture_at, report_at = capture_at + capture_len, report_at + report_len
     return outputs
 
@@ -151,7 +156,7 @@ def reports(capture: bytes, scenarios: Sequence[bytes], hosts: bytes = b"", seed
         texts = room_for(sizes.reports)
         status = library().toxicap_reports(*inputs, texts, len(texts), sizes)
     raise_refusal(status, texts, sizes)
-    return re.split(rb"^(?=scenario )", ctypes.string_at(texts, sizes.reports), flags=re.MULTILINE)[1:]
+    return re.split(rb"^(?=scenario )", part(texts, 0, sizes.reports), flags=re.MULTILINE)[1:]
 
 
 if __name__ == "__main__":

@@ -55,8 +55,8 @@ def library() -> ctypes.CDLL:
     """The library, with the types of its two calls. It is loaded by the first call."""
     beside = pathlib.Path(__file__).resolve().with_name("libtoxicap.so.1")
     loaded = ctypes.CDLL(os.environ.get("TOXICAP_LIBRARY") or (str(beside) if beside.exists() else beside.name))
-    text = [ctypes.c_char_p, ctypes.c_size_t]
-    entries = [ctypes.POINTER(ctypes.c_size_t), ctypes.c_size_t]
+    text: List[Any] = [ctypes.c_char_p, ctypes.c_size_t]
+    entries: List[Any] = [ctypes.POINTER(ctypes.c_size_t), ctypes.c_size_t]
     inputs = [*text, *text, *entries, *text, ctypes.c_uint64]
     loaded.toxicap_rehearse.argtypes = [*inputs, *text, *text, *entries, ctypes.POINTER(Sizes)]
     loaded.toxicap_reports.argtypes = [*inputs, *text, ctypes.POINTER(Sizes)]

@@ -267,6 +267,15 @@ in_copy() {
         exec chroot "$root/root" sh -c "cd \"\$0\" && exec \"\$@\"" "$folder" "$@"
     ' "$work/copy" "$@"
 }
+# runs_containers TOOL: whether it can run a container at all: one with no file in it ends with 127 for a program that is not there.
+runs_containers() {
+    local image ended=0
+    tar -cf "$work/nothing.tar" -T /dev/null
+    image=$(timeout 60 "$1" import -q "$work/nothing.tar" 2> /dev/null || timeout 60 "$1" import "$work/nothing.tar" 2> /dev/null) || return 1
+    timeout 60 "$1" run --rm "$image" /nothing > /dev/null 2>&1 || ended=$?
+    "$1" rmi -f "$image" > /dev/null 2>&1 || true
+    [ $ended = 127 ]
+}
 mkdir "$work/copy"
 number=0
 while IFS='|' read -r _ what type check prints _; do
@@ -280,7 +289,9 @@ while IFS='|' read -r _ what type check prints _; do
     for tool in tar gzip pkg-config gcc go cargo docker podman; do [[ " $type $check " != *" $tool "* ]] || tools+=("$tool"); done
     [[ $what != Go ]] || tools+=(gcc)
     can "$row" "${tools[@]}" || continue
-    [[ $type != *docker* ]] || docker info > /dev/null 2>&1 || { skip "$row" "no daemon of docker answers"; continue; }
+    for tool in docker podman; do
+        [[ $type != *"$tool"* ]] || runs_containers $tool || { skip "$row" "no container can be run"; continue 2; }
+    done
     file=$(grep -oE "toxicap[_-]${version}[^ /]*\.(gz|deb|whl|tar)" <<< "$type" || echo SHA256SUMS)
     [ -e "$made/$file" ] || { skip "$row" "$file is not made here"; continue; }
     [[ $what != Python ]] || python3 -c 'import ensurepip' 2> /dev/null || { skip "$row" "ensurepip is not here"; continue; }
@@ -300,6 +311,7 @@ while IFS='|' read -r _ what type check prints _; do
         last=$(tail -n 1 "$work/output" | tr -s '[:blank:]' ' ')
         [[ $last = "$prints"* ]] || { echo "  it prints: $last, wanted: $prints"; cat "$work/output"; }
     )"
+    for tool in docker podman; do [[ $type != *"$tool"* ]] || "$tool" rmi -f "toxicap:latest" "localhost/toxicap:$version" > /dev/null 2>&1 || true; done
 done < docs/INSTALL.md
 verdict "rows of docs/INSTALL.md" "$([ $number -ge 10 ] || echo "  $number")"
 verdict "docs/INSTALL.md tells of $version" "$(grep -ohE '[-_@]v?[0-9]+\.[0-9]+\.[0-9]+' docs/INSTALL.md | tr -d '@v_-' | sort -u | grep -vx "$version" || true)"

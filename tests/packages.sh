@@ -66,6 +66,8 @@ if can "the wheel" python3; then
     the_same "the wheel, the same twice" release/wheel "$parts"
     wheel=$(echo "$made"/toxicap-*.whl)
     verdict "the wheel below 1.5 MB" "$(size "$wheel" 1500000)"
+    newest=$(readelf --dyn-syms -W "$parts/lib/libtoxicap.so.1" | grep -oE 'GLIBC_[0-9.]+' | cat - <(echo GLIBC_2.17) | sort -Vu | tail -n 1)
+    verdict "the C library that the wheel asks for" "$([ "$newest" = GLIBC_2.17 ] || echo "  $newest, and manylinux2014 has GLIBC_2.17")"
     verdict "what the wheel has" "$("$host" -B tests/packages/record.py "$wheel" 2>&1)"
     python=$work/venv/bin/python
     if ! "$host" -m venv --system-site-packages "$work/venv" > "$work/told" 2>&1; then

@@ -76,7 +76,7 @@ if can "the wheel" python3; then
         "$host" -m venv --system-site-packages --without-pip "$work/venv"
         "$host" -B tests/packages/record.py "$wheel" "$("$python" -c 'import sysconfig; print(sysconfig.get_path("purelib"))')"
     else
-        passes "the wheel, installed by pip" "$python" -m pip install --no-index --quiet --disable-pip-version-check --root-user-action=ignore "$wheel"
+        passes "the wheel, installed by pip" "$python" -m pip install --no-index --quiet --disable-pip-version-check "$wheel"
         passes "the command toxicap" "$work/venv/bin/toxicap" -V
         verdict "what the command says" "$(grep -qx "toxicap $version" "$work/told" || cat "$work/told")"
     fi

@@ -128,15 +128,15 @@ def rehearse(capture: bytes, scenarios: Sequence[bytes], hosts: bytes = b"", see
 
     capture    a classic pcap of Ethernet frames, in microseconds or nanoseconds, or a dump of one in hexadecimal; at most 2^30 bytes
     scenarios  the texts of scenarios: JSON in Toxiproxy's populate form, with the member `toxics`; at most 256. `[]` leaves all as recorded
-    hosts      the addresses of the names that scenarios use: lines NAME=ADDR, each ended by a line feed
+    hosts      the addresses of the names that scenarios use: lines NAME=ADDR, each ended by a line feed, which the last one may do without
     seed       a number from 0 to 2^64 - 1, which all drawing depends on
 
     Equal arguments give equal bytes. Any thread may call, and other threads run meanwhile; a thread wants 256 KB of stack. A refusal is raised as
     Refusal, want of memory as WantOfMemory or MemoryError, another seed as ValueError. In a process that was forked from one with threads no call
     is made, and RuntimeError is raised."""
     inputs = inputs_of(capture, scenarios, hosts, seed)
-    count = len(scenarios)
-    status, sizes = NO_ROOM, Sizes(2 * count * inputs[1], 1024 * count, 2 * count)
+    capture_len, count = inputs[1], inputs[5]
+    status, sizes = NO_ROOM, Sizes(2 * count * capture_len, 1024 * count, 2 * count)
     while status == NO_ROOM:
         captures, reports, lens = room_for(sizes.captures), room_for(sizes.reports), (ctypes.c_size_t * sizes.lens)()
         status = library().toxicap_rehearse(*inputs, captures, len(captures), reports, len(reports), lens, len(lens), sizes)
@@ -151,7 +151,7 @@ def rehearse(capture: bytes, scenarios: Sequence[bytes], hosts: bytes = b"", see
 def reports(capture: bytes, scenarios: Sequence[bytes], hosts: bytes = b"", seed: int = 0) -> List[bytes]:
     """The reports alone, the same bytes as of `rehearse`, in less time and memory. Arguments and errors are those of `rehearse`."""
     inputs = inputs_of(capture, scenarios, hosts, seed)
-    status, sizes = NO_ROOM, Sizes(0, 1024 * len(scenarios), 0)
+    status, sizes = NO_ROOM, Sizes(0, 1024 * inputs[5], 0)
     while status == NO_ROOM:
         texts = room_for(sizes.reports)
         status = library().toxicap_reports(*inputs, texts, len(texts), sizes)

@@ -51,6 +51,21 @@ can() {
     done
 }
 
+repository=$PWD
+# out_of_reach COMMAND..: runs a command where this repository is an empty folder.
+out_of_reach() {
+    # shellcheck disable=SC2016
+    unshare --mount sh -c 'mount -t tmpfs none "$0" && exec "$@"' "$repository" "$@"
+}
+
+# try_out_of_reach: where no mount of its own can be had, that is skipped, and out_of_reach runs commands as they are.
+try_out_of_reach() {
+    ! out_of_reach true 2> /dev/null || return 0
+    skip "the repository out of reach" "no mount of its own can be had"
+    # shellcheck disable=SC2317
+    out_of_reach() { "$@"; }
+}
+
 # run INPUT ARGUMENT..: runs the program on a file; `status`, and the files `output` and `faults` of the folder `work`, are what came.
 run() {
     local input=$1

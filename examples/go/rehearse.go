@@ -8,11 +8,37 @@ import "C"
 
 import (
 	"bytes"
-	"errors"
+	"strconv"
+	"strings"
 )
 
-// Output is what one scenario gives.
+// An Output is what one scenario gives.
 type Output struct{ Capture, Report []byte }
+
+// A Refusal is what toxicap refuses: its number (the guide has a table of them), its name, and where it stands, as "scenario 0 proxy 1", or "" where
+// there is no place; numbers there count from 0. Want of memory is the number 40. In a chain of errors it is found by errors.As, as a *Refusal.
+type Refusal struct {
+	Number      int
+	Name, Place string
+}
+
+// Error gives the program's line, as "refused 15 UnknownHost scenario 0 proxy 1".
+func (r *Refusal) Error() string {
+	return strings.TrimSuffix("refused "+strconv.Itoa(r.Number)+" "+r.Name+" "+r.Place, " ")
+}
+
+// errorOf gives the error of a call, nil where it was answered.
+func errorOf(status C.uint8_t, line []byte) error {
+	switch status {
+	case C.TOXICAP_ANSWERED:
+		return nil
+	case C.TOXICAP_REFUSED:
+		words := append(strings.SplitN(string(line), " ", 4), "")
+		number, _ := strconv.Atoi(words[1])
+		return &Refusal{number, words[2], words[3]}
+	}
+	return &Refusal{Number: 40, Name: "Memory"}
+}
 
 // ptr gives the address of the first value, or nil where there is none.
 func ptr[T any](values []T) *T {
@@ -22,15 +48,23 @@ func ptr[T any](values []T) *T {
 	return &values[0]
 }
 
-// Rehearse gives the output of each scenario, made in this process; hosts are lines NAME=ADDR. A refusal is an error with its line.
-func Rehearse(capture []byte, scenarios [][]byte, hosts []byte, seed uint64) ([]Output, error) {
-	text, count := bytes.Join(scenarios, nil), len(scenarios)
-	scenarioLens := make([]C.size_t, count)
+// texts gives scenarios one after another, and the length of each.
+func texts(scenarios [][]byte) ([]byte, []C.size_t) {
+	lens := make([]C.size_t, len(scenarios))
 	for i, scenario := range scenarios {
-		scenarioLens[i] = C.size_t(len(scenario))
+		lens[i] = C.size_t(len(scenario))
 	}
+	return bytes.Join(scenarios, nil), lens
+}
+
+// Rehearse gives the output of each scenario, made in this process: the bytes that `toxicap --out` stores. The capture is a classic pcap or a dump of
+// one in hexadecimal, scenarios are JSON in Toxiproxy's populate form, hosts are lines NAME=ADDR, and all drawing depends on the seed. Any goroutine
+// may call. A refusal is an error of the type *Refusal.
+func Rehearse(capture []byte, scenarios [][]byte, hosts []byte, seed uint64) ([]Output, error) {
+	text, scenarioLens := texts(scenarios)
 	var captures, reports []byte
 	var lens []C.size_t
+	count := len(scenarios)
 	sizes := C.ToxicapSizes{captures: C.size_t(2 * count * len(capture)), reports: C.size_t(1024 * count), lens: C.size_t(2 * count)}
 	status := C.uint8_t(C.TOXICAP_NO_ROOM)
 	for status == C.TOXICAP_NO_ROOM {
@@ -41,11 +75,8 @@ func Rehearse(capture []byte, scenarios [][]byte, hosts []byte, seed uint64) ([]
 			(*C.uint8_t)(ptr(captures)), C.size_t(len(captures)), (*C.uint8_t)(ptr(reports)), C.size_t(len(reports)),
 			ptr(lens), C.size_t(len(lens)), &sizes)
 	}
-	if status == C.TOXICAP_NO_MEMORY {
-		return nil, errors.New("refused 40 Memory")
-	}
-	if status == C.TOXICAP_REFUSED {
-		return nil, errors.New(string(reports[:sizes.reports]))
+	if err := errorOf(status, reports[:sizes.reports]); err != nil {
+		return nil, err
 	}
 	outputs := make([]Output, count)
 	for i := range outputs {
@@ -53,4 +84,23 @@ func Rehearse(capture []byte, scenarios [][]byte, hosts []byte, seed uint64) ([]
 		captures, reports = captures[lens[2*i]:], reports[lens[2*i+1]:]
 	}
 	return outputs, nil
+}
+
+// Reports gives the reports alone, one after another, the same bytes as of Rehearse, in less time and memory.
+func Reports(capture []byte, scenarios [][]byte, hosts []byte, seed uint64) ([]byte, error) {
+	text, scenarioLens := texts(scenarios)
+	var reports []byte
+	sizes := C.ToxicapSizes{reports: C.size_t(1024 * len(scenarios))}
+	status := C.uint8_t(C.TOXICAP_NO_ROOM)
+	for status == C.TOXICAP_NO_ROOM {
+		reports = make([]byte, sizes.reports)
+		status = C.toxicap_reports(
+			(*C.uint8_t)(ptr(capture)), C.size_t(len(capture)), (*C.uint8_t)(ptr(text)), C.size_t(len(text)),
+			ptr(scenarioLens), C.size_t(len(scenarios)), (*C.uint8_t)(ptr(hosts)), C.size_t(len(hosts)), C.uint64_t(seed),
+			(*C.uint8_t)(ptr(reports)), C.size_t(len(reports)), &sizes)
+	}
+	if err := errorOf(status, reports[:sizes.reports]); err != nil {
+		return nil, err
+	}
+	return reports[:sizes.reports], nil
 }

@@ -1,11 +1,16 @@
 """Searches over rehearsals in this process: the least seed, the smallest scenario and the first prefix for which a test fails."""
 import copy
 import json
+from typing import Callable, Iterable, List, Optional, Sequence, Tuple, TypeVar, Union
 
-from in_process import rehearse
+from in_process import Output, rehearse
+
+Predicate = Callable[[List[Output]], object]  # of the outputs of rehearse
+Message = TypeVar("Message")
+Parser = Callable[[], Callable[[bytes], List[Message]]]  # makes a new parser: it takes bytes, and gives the messages that are whole with them
 
 
-def least_seed(capture, scenarios, hosts, predicate, below):
+def least_seed(capture: bytes, scenarios: Sequence[bytes], hosts: bytes, predicate: Predicate, below: int) -> Optional[int]:
     """The least seed below a number from 1 to 2^64 under which predicate(outputs) is true, or None; the outputs are those of rehearse: of each
     scenario the capture and the report. A refusal is raised with its line."""
     if not 1 <= below <= 2**64:
@@ -13,7 +18,7 @@ def least_seed(capture, scenarios, hosts, predicate, below):
     return next((seed for seed in range(below) if predicate(rehearse(capture, scenarios, hosts, seed))), None)
 
 
-def shrink(capture, scenario, fails, hosts=b"", below=1):
+def shrink(capture: bytes, scenario: bytes, fails: Predicate, hosts: bytes = b"", below: int = 1) -> Tuple[bytes, int]:
     """A scenario that fails with fewer toxics and smaller numbers, as text, and its seed. A scenario fails where fails(outputs) is true under a seed
     below a number, the least of which is its seed; the outputs are those of rehearse. No proxy and no toxic of it can be left out, no attribute
     be one less and no toxicity be 1 so that it fails still. One that does not fail is an error; a refusal is raised with its line."""
@@ -75,14 +80,14 @@ def apply_always(toxic, still_fails):
                 toxic[name] = toxicity
 
 
-def feed(parser, payloads):
+def feed(parser: "Parser[Message]", payloads: Iterable[bytes]) -> List[Message]:
     """The messages that a new parser gives, fed these payloads one after another: parser() makes a function that takes bytes, and gives the list of
     the messages that are whole with them."""
     take = parser()
     return [message for payload in payloads for message in take(payload)]
 
 
-def feed_prefixes(parser, stream):
+def feed_prefixes(parser: "Parser[Message]", stream: bytes) -> Optional[Tuple[int, Union[List[Message], Exception]]]:
     """Feeds new parsers (as of feed) each prefix of a stream, from its first byte on, and then the rest. The first prefix after which one raises an
     error, or gives other messages than for the stream at once: its length in bytes, and that error or those messages. None where there is none.
     What a parser raises for the stream at once is raised. It takes the time to parse the stream once for each of its bytes."""

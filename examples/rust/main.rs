@@ -19,9 +19,9 @@ fn main() -> io::Result<()> {
             process::exit(1)
         }
         Ok(outputs) => {
-            for (number, (capture, report)) in outputs.iter().enumerate() {
-                fs::write(format!("{number:04}.pcap"), capture)?;
-                fs::write(format!("{number:04}.txt"), report)?;
+            for (number, output) in outputs.iter().enumerate() {
+                fs::write(format!("{number:04}.pcap"), &output.capture)?;
+                fs::write(format!("{number:04}.txt"), &output.report)?;
             }
             Ok(())
         }

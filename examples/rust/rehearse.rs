@@ -1,4 +1,49 @@
 //! Rehearses recorded sessions in this process.
+#![allow(dead_code)] // a program may do without some of it
+use std::fmt;
+
+/// What one scenario gives.
+#[derive(Clone, Debug, PartialEq, Eq)]
+pub struct Output {
+    /// A classic pcap of what each side received.
+    pub capture: Vec<u8>,
+    /// UTF-8 text: a line of counts, a line of connections, and a line for each connection.
+    pub report: Vec<u8>,
+}
+
+/// What toxicap refuses. As text it is the program's line, as `refused 15 UnknownHost scenario 0 proxy 1`; the numbers there count from 0.
+#[derive(Clone, Debug, PartialEq, Eq)]
+pub struct Refusal {
+    /// What it is: the guide has a table of all numbers. Want of memory is 40.
+    pub number: u32,
+    /// The same as a word, as `UnknownHost`.
+    pub name: String,
+    /// Where it stands, as `scenario 0 proxy 1`; empty where there is no place.
+    pub place: String,
+}
+
+impl fmt::Display for Refusal {
+    fn fmt(&self, to: &mut fmt::Formatter) -> fmt::Result {
+        let line = format!("refused {} {} {}", self.number, self.name, self.place);
+        to.write_str(line.trim_end())
+    }
+}
+
+impl std::error::Error for Refusal {}
+
+impl Refusal {
+    /// The refusal that a line tells.
+    fn of(line: &[u8]) -> Refusal {
+        let line = String::from_utf8_lossy(line);
+        let mut words = line.splitn(4, ' ').skip(1).map(str::to_string);
+        let number = words.next().and_then(|word| word.parse().ok());
+        Refusal {
+            number: number.unwrap_or_default(),
+            name: words.next().unwrap_or_default(),
+            place: words.next().unwrap_or_default(),
+        }
+    }
+}
 
 #[repr(C)]
 struct Sizes {
@@ -16,13 +61,33 @@ extern "C" {
         captures: *mut u8, captures_room: usize, reports: *mut u8, reports_room: usize,
         lens: *mut usize, lens_room: usize, sizes: *mut Sizes,
     ) -> u8;
+    fn toxicap_reports(
+        capture: *const u8, capture_len: usize, scenarios: *const u8, scenarios_len: usize,
+        scenario_lens: *const usize, scenario_count: usize, hosts: *const u8, hosts_len: usize, seed: u64,
+        reports: *mut u8, reports_room: usize, sizes: *mut Sizes,
+    ) -> u8;
 }
 
-/// The capture and the report of each scenario; hosts are lines NAME=ADDR. An error is a refusal's line.
+/// Scenarios one after another, and the length of each.
+fn texts(scenarios: &[impl AsRef<[u8]>]) -> (Vec<u8>, Vec<usize>) {
+    let texts: Vec<&[u8]> = scenarios.iter().map(AsRef::as_ref).collect();
+    (
+        texts.concat(),
+        texts.iter().map(|text| text.len()).collect(),
+    )
+}
+
+/// The capture and the report of each scenario, in their order: the bytes that `toxicap --out` stores.
+///
+/// The capture is a classic pcap of Ethernet frames, or a dump of one in hexadecimal; scenarios are JSON in Toxiproxy's populate form, with the member
+/// `toxics`; hosts are lines NAME=ADDR. All drawing depends on the seed, and equal arguments give equal bytes. Any thread may call.
+///
+/// # Errors
+///
+/// What is refused, and want of memory, as a [`Refusal`].
 #[rustfmt::skip]
-pub fn rehearse(capture: &[u8], scenarios: &[Vec<u8>], hosts: &str, seed: u64) -> Result<Vec<(Vec<u8>, Vec<u8>)>, String> {
-    let (text, count) = (scenarios.concat(), scenarios.len());
-    let scenario_lens: Vec<usize> = scenarios.iter().map(Vec::len).collect();
+pub fn rehearse(capture: &[u8], scenarios: &[impl AsRef<[u8]>], hosts: &str, seed: u64) -> Result<Vec<Output>, Refusal> {
+    let ((text, scenario_lens), count) = (texts(scenarios), scenarios.len());
     let mut sizes = Sizes { captures: 2 * count * capture.len(), reports: 1024 * count, lens: 2 * count };
     loop {
         let (mut captures, mut reports) = (vec![0; sizes.captures], vec![0; sizes.reports]);
@@ -37,10 +102,38 @@ pub fn rehearse(capture: &[u8], scenarios: &[Vec<u8>], hosts: &str, seed: u64) -
         };
         let (mut captures, mut reports) = (&captures[..], &reports[..]);
         match status {
-            0 => return Ok(lens.chunks(2).map(|two| (first(&mut captures, two[0]), first(&mut reports, two[1]))).collect()),
-            1 => return Err(String::from_utf8_lossy(&reports[..sizes.reports]).into_owned()),
+            0 => return Ok(lens.chunks(2).map(|two| Output { capture: first(&mut captures, two[0]), report: first(&mut reports, two[1]) }).collect()),
+            1 => return Err(Refusal::of(&reports[..sizes.reports])),
             2 => continue,
-            _ => return Err("refused 40 Memory".to_string()),
+            _ => return Err(Refusal::of(b"refused 40 Memory")),
+        }
+    }
+}
+
+/// The reports alone, one after another: the same bytes as of [`rehearse`], in less time and memory.
+///
+/// # Errors
+///
+/// Those of [`rehearse`].
+#[rustfmt::skip]
+pub fn reports(capture: &[u8], scenarios: &[impl AsRef<[u8]>], hosts: &str, seed: u64) -> Result<Vec<u8>, Refusal> {
+    let (text, scenario_lens) = texts(scenarios);
+    let mut sizes = Sizes { captures: 0, reports: 1024 * scenarios.len(), lens: 0 };
+    loop {
+        let mut reports = vec![0; sizes.reports];
+        // SAFETY: as above.
+        let status = unsafe {
+            toxicap_reports(
+                capture.as_ptr(), capture.len(), text.as_ptr(), text.len(), scenario_lens.as_ptr(), scenarios.len(),
+                hosts.as_ptr(), hosts.len(), seed, reports.as_mut_ptr(), reports.len(), &mut sizes,
+            )
+        };
+        if status == 2 { continue }
+        reports.truncate(sizes.reports);
+        match status {
+            0 => return Ok(reports),
+            1 => return Err(Refusal::of(&reports)),
+            _ => return Err(Refusal::of(b"refused 40 Memory")),
         }
     }
 }

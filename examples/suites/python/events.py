@@ -4,13 +4,15 @@ An output capture has its segments in order, without repeats and gaps, so nothin
 pcapng, an output that was cut or put in another order) is refused: a ValueError tells why, and the number of the
 record, from 0. Checksums are not looked at."""
 import struct
-from typing import NamedTuple
+from typing import List, NamedTuple, Optional, Tuple, Union
 
 TICKS = {b'\xd4\xc3\xb2\xa1': 1000, b'\x4d\x3c\xb2\xa1': 1}  # magic number: nanoseconds of a tick
 HEADER = bytes.fromhex('020004000000000000000000ffff000001000000')  # what follows it in each output capture
 HEADERS = struct.Struct('>5H2x4s4s2s2s2I2BH2xH')  # IPv4 and TCP, checksums passed over
 FIN, SYN, RST, PSH, ACK = 1, 2, 4, 8, 16
 SPACE = 1 << 32  # how many sequence numbers there are
+
+Event = Tuple[int, str, Union[bytes, str]]  # nanoseconds since the opening; 'up' or 'down'; a chunk of bytes, or how the direction ends
 
 
 class Record(NamedTuple):
@@ -70,7 +72,7 @@ def records(capture):
     return found
 
 
-def refuse(number, why):
+def refuse(number: int, why: str):
     raise ValueError(f'no output capture of toxicap: record {number}: {why}')
 
 
@@ -90,7 +92,7 @@ def opening(found, number):
     return Connection(time, [first, second]), 3
 
 
-def events(capture):
+def events(capture: bytes) -> List[List[Event]]:
     """The events of each connection of an output capture (its bytes): a list for each connection, in the order of the report's lines.
 
     An event is (time, direction, what); events stand in order of time. The time is a whole number of nanoseconds since the opening, also where the
@@ -115,11 +117,11 @@ def events(capture):
 
 class Line(NamedTuple):
     """What one direction of a connection delivered: its chunks (time, bytes), and its end (time, 'fin', 'reset' or 'refused'), None without one."""
-    chunks: list
-    end: tuple
+    chunks: List[Tuple[int, bytes]]
+    end: Optional[Tuple[int, str]]
 
 
-def delivered(capture):
+def delivered(capture: bytes) -> List[Tuple[Line, Line]]:
     """The same as two lines for each connection, (up, down); times are those of `events`."""
     return [tuple(Line([(time, what) for time, way, what in found if way == direction and isinstance(what, bytes)],
                        next(((time, what) for time, way, what in found if way == direction and isinstance(what, str)), None))

@@ -6,6 +6,7 @@ FIN, by a reset, or not at all. In a test:
 or as a command, which prints the port and serves one client: player.py OUTPUT UNTOUCHED; its status is 1 where the limit ran out. Both are output captures of one recording, the second under
 the scenario without toxics, `[]`: it tells what the client had sent before each answer, and when the server answered."""
 import argparse, select, socket, struct, sys, threading, time
+from typing import Optional
 from steps import steps
 
 
@@ -20,22 +21,22 @@ class Player:
     the client that is tested: a shorter request is answered after the limit, and after longer ones an answer may come early. A client that reads late
     may miss bytes before a reset."""
 
-    def __init__(self, output, untouched, connection=0, factor=1, pauses=True, limit=10):
+    def __init__(self, output: bytes, untouched: bytes, connection: int = 0, factor: float = 1, pauses: bool = True, limit: float = 10):
         self.steps, self.factor, self.pauses, self.limit = steps(output, untouched, connection), factor, pauses, limit
-        self.late = None
+        self.late: Optional[str] = None
         self.heard, self.closed, self.over = [], None, False  # (instant, bytes from the client); when it closed; whether nothing more can come
         self.listener, (self.waker, self.woken) = socket.socket(), socket.socketpair()
         self.listener.bind(('127.0.0.1', 0))
         self.refuses = [step.what for step in self.steps] == ['refused']
         if not self.refuses: self.listener.listen(1)
-        self.port = self.listener.getsockname()[1]
+        self.port: int = self.listener.getsockname()[1]
 
-    def __enter__(self):
+    def __enter__(self) -> 'Player':
         self.thread = threading.Thread(target=self.serve, daemon=True)
         self.thread.start()
         return self
 
-    def __exit__(self, failed, *_):
+    def __exit__(self, failed: object, *_: object) -> None:
         """Ends the connection, wherever it is. A TimeoutError where the client had not done at the limit what it was to do."""
         self.waker.close()
         self.thread.join()

@@ -1,6 +1,6 @@
 """What a player does: the steps of the server's side of one connection, each with what it waits for."""
 import bisect, itertools
-from typing import NamedTuple
+from typing import List, NamedTuple, Union
 from events import delivered
 
 
@@ -13,7 +13,7 @@ class Step(NamedTuple):
     closed: bool  # whether that client had closed before it
     pause: int  # nanoseconds from the last of these to the recorded server's answer
     delay: int  # nanoseconds that the toxics added
-    what: object  # a chunk of bytes, 'fin', 'reset' or 'refused'
+    what: Union[bytes, str]  # a chunk of bytes, 'fin', 'reset' or 'refused'
 
 
 def in_order(line, recorded):
@@ -31,7 +31,7 @@ def in_order(line, recorded):
     return True
 
 
-def steps(output, untouched, connection=0):
+def steps(output: bytes, untouched: bytes, connection: int = 0) -> List[Step]:
     """What a player does, in order. A chunk stands for the recorded one that has its last byte, an end for the first byte that no longer comes or for
     the recorded end. An end that a toxic made earlier than that stands for what was recorded last before it, of either side."""
     here, there = delivered(output), delivered(untouched)

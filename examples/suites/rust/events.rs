@@ -5,34 +5,45 @@
 //! Checksums are not looked at.
 use std::collections::HashMap;
 
-/// What comes: a chunk of bytes, or how the direction ends. `Fin` is a FIN or a close in the report; `Refused` stands in both directions.
+/// What comes: a chunk of bytes, or how the direction ends. `Refused` stands in both directions.
 #[derive(Clone, Debug, PartialEq)]
 pub enum What {
+    /// Bytes that come at once.
     Chunk(Vec<u8>),
+    /// A FIN, or a close in the report.
     Fin,
+    /// A reset.
     Reset,
+    /// No connection, since the proxy is disabled.
     Refused,
 }
 
-/// `Up` is what the client sent, `Down` what the server sent.
+/// Which way bytes go.
 #[derive(Clone, Copy, Debug, PartialEq)]
 pub enum Direction {
+    /// What the client sent.
     Up,
+    /// What the server sent.
     Down,
 }
 
-/// What comes at an instant: nanoseconds since the opening, also where the capture counts microseconds.
+/// What comes at an instant.
 #[derive(Clone, Debug, PartialEq)]
 pub struct Event {
+    /// Nanoseconds since the opening, also where the capture counts microseconds.
     pub time: u64,
+    /// Which way it goes.
     pub direction: Direction,
+    /// What comes.
     pub what: What,
 }
 
-/// What one direction of a connection delivered: its chunks, each with its time, and its end, if it has one.
+/// What one direction of a connection delivered.
 #[derive(Clone, Debug, Default, PartialEq)]
 pub struct Line {
+    /// Its chunks, each with its time.
     pub chunks: Vec<(u64, Vec<u8>)>,
+    /// Its end, if it has one, with its time.
     pub end: Option<(u64, What)>,
 }
 
@@ -74,6 +85,10 @@ struct Connection {
 }
 
 /// The events of each connection of an output capture, in order of time, connections in the order of the report's lines.
+///
+/// # Errors
+///
+/// Why toxicap did not write this capture, with the number of the record, from 0.
 pub fn events(capture: &[u8]) -> Result<Vec<Vec<Event>>, String> {
     let found = records(capture)?;
     let (mut connections, mut of_pair, mut number) = (Vec::new(), HashMap::new(), 0);
@@ -103,6 +118,10 @@ pub fn events(capture: &[u8]) -> Result<Vec<Vec<Event>>, String> {
 }
 
 /// The same as two lines for each connection, up and down.
+///
+/// # Errors
+///
+/// Those of [`events`].
 pub fn delivered(capture: &[u8]) -> Result<Vec<[Line; 2]>, String> {
     let lines_of = |found: Vec<Event>| {
         let mut lines = [Line::default(), Line::default()];

@@ -1,0 +1,65 @@
+package toxicap_test
+
+import (
+	"errors"
+	"fmt"
+	"os"
+	"strings"
+	"testing"
+
+	"example.org/toxicap"
+)
+
+const limit = `[{"name": "web", "upstream": "10.77.0.2:80", "toxics": [{"type": "limit_data", "attributes": {"bytes": 200}}]}]`
+
+// An answer that is cut after 200 bytes, and a scenario whose host nobody names.
+func Example() {
+	capture, err := os.ReadFile("testdata/http-get.pcap")
+	if err != nil {
+		panic(err)
+	}
+	outputs, err := toxicap.Rehearse(capture, [][]byte{[]byte(limit)}, nil, 7)
+	if err != nil {
+		panic(err)
+	}
+	connections, err := toxicap.Delivered(outputs[0].Capture)
+	if err != nil {
+		panic(err)
+	}
+	down, count := connections[0][1], 0
+	for _, chunk := range down.Chunks {
+		count += len(chunk.Bytes)
+	}
+	fmt.Println(count, "bytes of the answer came, then", down.End.End)
+	_, err = toxicap.Reports(capture, [][]byte{[]byte(strings.Replace(limit, "10.77.0.2", "redis", 1))}, nil, 7)
+	var refusal *toxicap.Refusal
+	if errors.As(err, &refusal) {
+		fmt.Println(refusal.Number, refusal.Name, refusal.Place)
+	}
+	// Output:
+	// 200 bytes of the answer came, then fin
+	// 15 UnknownHost scenario 0 proxy 0
+}
+
+// The reports alone are those of the outputs, and each refusal is its line.
+func TestReports(t *testing.T) {
+	capture, err := os.ReadFile("testdata/http-get.pcap")
+	if err != nil {
+		t.Fatal(err)
+	}
+	scenarios := [][]byte{[]byte("[]"), []byte(limit)}
+	outputs, err := toxicap.Rehearse(capture, scenarios, nil, 0)
+	if err != nil {
+		t.Fatal(err)
+	}
+	reports, err := toxicap.Reports(capture, scenarios, nil, 0)
+	if err != nil || string(reports) != string(outputs[0].Report)+string(outputs[1].Report) {
+		t.Errorf("%v, %s", err, reports)
+	}
+	if _, err := toxicap.Rehearse(nil, scenarios, nil, 0); err == nil || err.Error() != "refused 1 ShortHeader" {
+		t.Error(err)
+	}
+	if outputs, err := toxicap.Rehearse(capture, nil, nil, 0); err != nil || len(outputs) != 0 {
+		t.Errorf("%v, %v", outputs, err)
+	}
+}

@@ -1,0 +1,320 @@
+#!/usr/bin/env bash
+# The packages of a release, for those who put toxicap into their suites: the wheel for Python, the library by pkg-config and CMake, the modules for Go
+# and Rust, the image. Each is made twice, the same bytes, put into a fresh place from where this repository can't be seen, and its own example is
+# run there; each row of docs/INSTALL.md likewise. What a machine has no language or tool for is skipped. TOXICAP is a program with its object file
+# beside it, LIBRARY the crate's static library and KIT the kit, as for release/parts.
+set -euo pipefail
+cd "$(dirname "$0")/.."
+. tests/lib.sh
+unset MINISIGN_KEY TOXICAP_LIBRARY PYTHONPATH PKG_CONFIG_PATH CGO_CFLAGS CGO_LDFLAGS
+export TOXICAP=$program SOURCE_DATE_EPOCH=${SOURCE_DATE_EPOCH:-1700000000} MAINTAINER="A maintainer <maintainer@example.org>"
+GOCACHE=$(go env GOCACHE 2> /dev/null) || GOCACHE=$work/go-cache
+export GOPROXY=off GO111MODULE=on GOFLAGS='' GOCACHE
+parts=$work/parts made=$work/made away=$work/away
+version=$("$program" -V | cut -d ' ' -f 2)
+mkdir "$away"
+cp samples/*.pcap "$away"
+cp examples/{latency,bandwidth,redis-down,slow-database}.json "$away"
+
+try_out_of_reach
+
+# quiet COMMAND..: what a command says that should say nothing, and its status where it is not 0.
+quiet() {
+    "$@" 2>&1 || echo "  status $?"
+}
+
+# passes WHAT COMMAND..: a command ends well, out of reach of this repository; else what it says is told.
+passes() { verdict "$1" "$(out_of_reach "${@:2}" > "$work/told" 2>&1 || { echo "  status $?"; cat "$work/told"; })"; }
+
+# the_same WHAT COMMAND..: a command, whose last word will be a folder, makes there the bytes that release/packages made.
+the_same() {
+    verdict "$1" "$(
+        umask 077
+        "${@:2}" "$work/again" > "$work/told" 2>&1 || { echo "  status $?"; cat "$work/told"; }
+        (cd "$work/again" && find . -type f ! -name SHA256SUMS) | while read -r file; do byte_difference "$made/$file" "$work/again/$file"; done
+    )"
+    rm -rf "$work/again"
+}
+
+# block FILE KIND NUMBER: the text of a Markdown file's block of this kind, the first of which has the number 1.
+block() { awk -v fence="\`\`\`$2" -v number="$3" '$0 == "```" { inside = 0 } inside { print } $0 == fence && ++count == number { inside = 1 }' "$1"; }
+
+# size FILE MOST: what is wrong with a file that is to have fewer bytes.
+size() { [ "$(stat -c %s "$1")" -lt "$2" ] || echo "  $1 has $(stat -c %s "$1") bytes, and not fewer than $2"; }
+
+if [ ! -f "$program.o" ]; then
+    skip "packages" "there is no object file at $program.o"
+    close
+    exit
+fi
+release/parts "$parts" > "$work/told" 2>&1 || { echo "$0: there are no parts" >&2; cat "$work/told" >&2; exit 2; }
+if can "all packages" python3 dpkg-deb tar gzip; then
+    verdict "release/packages" "$(release/packages "$version" "$made" > "$work/told" 2>&1 || cat "$work/told")"
+    verdict "release/packages into a folder with files" "$(! release/packages "$version" "$made" > "$work/told" 2>&1 || echo '  they are taken')"
+else
+    scripts=(module crate image)
+    ! type -P python3 > /dev/null || scripts+=(wheel sbom)
+    for each in "${scripts[@]}"; do "release/$each" "$parts" "$made" > "$work/told"; done
+    release/sums "$made" > "$work/told"
+fi
+verdict "the sums of all" "$(cd "$made"; sha256sum --quiet -c SHA256SUMS 2>&1 || true; [ "$(wc -l < SHA256SUMS)" = "$(find . -type f ! -name SHA256SUMS | wc -l)" ] || cat SHA256SUMS)"
+
+# Python
+if can "the wheel" python3; then
+    host=python3
+    for each in python3 /usr/bin/python3; do ! "$each" -c 'import pytest' 2> /dev/null || { host=$each; break; }; done
+    the_same "the wheel, the same twice" release/wheel "$parts"
+    wheel=$(echo "$made"/toxicap-*.whl)
+    verdict "the wheel below 1.5 MB" "$(size "$wheel" 1500000)"
+    newest=$(readelf --dyn-syms -W "$parts/lib/libtoxicap.so.1" | grep -oE 'GLIBC_[0-9.]+' | cat - <(echo GLIBC_2.17) | sort -Vu | tail -n 1)
+    verdict "the C library that the wheel asks for" "$([ "$newest" = GLIBC_2.17 ] || echo "  $newest, and manylinux2014 has GLIBC_2.17")"
+    verdict "what the wheel has" "$("$host" -B tests/packages/record.py "$wheel" 2>&1)"
+    python=$work/venv/bin/python
+    if ! "$host" -m venv --system-site-packages "$work/venv" > "$work/told" 2>&1; then
+        skip "the wheel, installed by pip" "ensurepip is not here"
+        rm -rf "$work/venv"
+        "$host" -m venv --system-site-packages --without-pip "$work/venv"
+        "$host" -B tests/packages/record.py "$wheel" "$("$python" -c 'import sysconfig; print(sysconfig.get_path("purelib"))')"
+    else
+        passes "the wheel, installed by pip" "$python" -m pip install --no-index --quiet --disable-pip-version-check "$wheel"
+        passes "the command toxicap" "$work/venv/bin/toxicap" -V
+        verdict "what the command says" "$(grep -qx "toxicap $version" "$work/told" || cat "$work/told")"
+    fi
+    for sample in http-get shop; do
+        for scenario in latency bandwidth redis-down slow-database; do
+            folder=$away/$sample.pcap-$scenario.json
+            mkdir "$folder"
+            run /dev/null --capture "$away/$sample.pcap" --scenario "$away/$scenario.json" --host redis=10.77.0.3 --seed 7 --out "$folder"
+        done
+    done
+    passes "calls of the package" "$python" -I -B - "$away" < tests/packages/calls.py
+    verdict "calls of the package, compared" "$(grep -vx '8 outputs' "$work/told" || true)"
+    block docs/PYTHON.md python 1 > "$away/example.py"
+    block docs/PYTHON.md text 1 > "$work/wanted"
+    (cd "$away" && out_of_reach "$python" -B example.py > "$work/output" 2>&1) || true
+    verdict "the package's example" "$(difference "$work/wanted" "$work/output")"
+    (cd "$away" && out_of_reach "$python" -m toxicap --capture shop.pcap --scenario redis-down.json > "$work/output" 2>&1) || echo "$?" >> "$work/output"
+    printf '%s\n' 'refused 15 UnknownHost scenario 0 proxy 1' 1 > "$work/wanted"
+    verdict "python -m toxicap" "$(difference "$work/wanted" "$work/output")"
+
+    if can "the types of the package" mypy && "$python" -c 'import pytest' 2> /dev/null; then
+        cp tests/packages/typed.py "$away"
+        passes "the types of the package" mypy --strict --no-error-summary --cache-dir "$work/mypy" --python-executable "$python" "$away/typed.py"
+    fi
+    if ! "$python" -c 'import pytest' 2> /dev/null; then
+        skip "the plugin of pytest" "pytest is not here"
+    else
+        block docs/PYTHON.md python 2 > "$away/test_cut_off.py"
+        # tested STATUS LINE OPTION..: pytest ends so, and prints a line with this text.
+        tested() {
+            local ended=0
+            (cd "$away" && out_of_reach "$python" -B -m pytest -q -p no:cacheprovider test_cut_off.py "${@:3}") > "$work/told" 2>&1 || ended=$?
+            { [ $ended = "$1" ] && grep -qF -- "$2" "$work/told"; } || { echo "  status $ended"; cat "$work/told"; }
+        }
+        verdict "pytest without golden files" "$(tested 1 'there is no golden file'; [ ! -e "$away/golden" ] || echo '  there is one now')"
+        verdict "pytest --toxicap-update" "$(tested 0 '1 passed' --toxicap-update; holds "$away/golden" cut-off.pcap cut-off.txt)"
+        verdict "pytest with golden files" "$(tested 0 '1 passed')"
+        sed -i 's:200/216:201/216:' "$away/golden/cut-off.txt"
+        verdict "pytest with another report" "$(tested 1 '-0 10.77.0.1:59690 > 10.77.0.2:80 proxy 0 up 82/82/0 close+3653 max 0 down 201/216/0')"
+        printf x >> "$away/golden/cut-off.pcap"
+        verdict "pytest with another capture" "$(tested 1 'cut-off.pcap differs from byte')"
+        verdict "pytest --toxicap-update, again" "$(tested 0 '1 passed' --toxicap-update; tested 0 '1 passed')"
+    fi
+fi
+
+# C
+cp examples/c/rehearse.{c,h} "$away"
+cp -r "$parts"/{include,lib} "$away"
+mkdir "$work/wanted-files"
+run /dev/null --capture samples/shop.pcap --scenario examples/bandwidth.json --scenario examples/latency.json --out "$work/wanted-files"
+# stored WHAT COMMAND..: the example in C, linked so, stores what the program does.
+stored() {
+    rm -rf "$work/files"
+    mkdir "$work/files"
+    verdict "$1" "$(cd "$work/files"; quiet out_of_reach "${@:2}" "$away/shop.pcap" "$away/bandwidth.json" "$away/latency.json"; folder_difference "$work/wanted-files" "$work/files")"
+}
+if can "the library by pkg-config" gcc pkg-config; then
+    # shellcheck disable=SC2016
+    passes "the library by pkg-config" env PKG_CONFIG_PATH="$away/lib/pkgconfig" bash -c \
+        'cd "$0" && gcc -Wall -Wextra -Werror -o by-pkg-config rehearse.c $(pkg-config --cflags --libs toxicap) "-Wl,-rpath,$(pkg-config --variable=libdir toxicap)"' "$away"
+    stored "the library by pkg-config, run" "$away/by-pkg-config"
+    told_version=$(PKG_CONFIG_PATH=$away/lib/pkgconfig pkg-config --modversion toxicap 2>&1 || true)
+    verdict "the version that pkg-config tells" "$([ "$told_version" = "$version" ] || echo "  $told_version")"
+fi
+if can "the library by CMake" gcc cmake pkg-config; then
+    mkdir "$away/cmake"
+    cp tests/packages/CMakeLists.txt "$away/rehearse.h" "$away/rehearse.c" "$away/cmake"
+    # shellcheck disable=SC2016
+    passes "the library by CMake" env PKG_CONFIG_PATH="$away/lib/pkgconfig" bash -c 'cd "$0" && cmake -B build . && cmake --build build' "$away/cmake"
+    stored "the library by CMake, run" "$away/cmake/build/rehearse"
+fi
+
+# unpacked FILE: unpacks one of the packages into the fresh place.
+unpacked() { tar -C "$away" -xzf "$made/$1"; }
+
+# Go
+the_same "the module, the same twice" release/module "$parts"
+if can "the module for Go" go gcc; then
+    unpacked "toxicap-$version-go.tar.gz"
+    # in_module COMMAND..: runs a command in the module, without a network.
+    in_module() { (cd "$away/toxicap-$version-go" && out_of_reach "$@"); }
+    verdict "the module, as gofmt lays it out" "$(in_module gofmt -l . 2>&1)"
+    verdict "the module, go vet" "$(quiet in_module go vet ./...)"
+    verdict "the module's example" "$(in_module go test -count=1 ./... > "$work/told" 2>&1 || cat "$work/told")"
+    verdict "the module, vendored" "$(
+        mkdir "$away/suite"
+        cd "$away/suite"
+        printf 'module suite\n\ngo 1.18\n\nrequire example.org/toxicap v1.0.0\n\nreplace example.org/toxicap => ../toxicap-%s-go\n' "$version" > go.mod
+        printf 'package suite\n\nimport _ "example.org/toxicap"\n' > suite.go
+        { out_of_reach go mod vendor && rm -r "../toxicap-$version-go" && out_of_reach go build ./...; } 2>&1 || echo "  status $?"
+    )"
+fi
+
+# Rust
+the_same "the crate, the same twice" release/crate "$parts"
+if can "the crate for Rust" cargo rustc cc; then
+    unpacked "toxicap-$version-rust.tar.gz"
+    # in_crate COMMAND..: runs a command in the crate, without a network.
+    in_crate() { (cd "$away/toxicap-$version-rust" && CARGO_TARGET_DIR=$work/target CARGO_NET_OFFLINE=true RUSTFLAGS='-D warnings' RUSTDOCFLAGS='-D warnings' out_of_reach "$@"); }
+    in_crate cargo package --no-verify --offline --list --allow-dirty > "$work/output" 2> "$work/faults" || cat "$work/faults" >> "$work/output"
+    sed -i '/^Cargo\.lock$/d' "$work/output"
+    printf '%s\n' Cargo.toml Cargo.toml.orig LICENCES.md build.rs native/libtoxicap.a samples/http-get.pcap src/events.rs src/lib.rs src/rehearse.rs > "$work/wanted"
+    verdict "what the crate has" "$(difference "$work/wanted" "$work/output")"
+    verdict "the crate's example" "$(in_crate cargo test -q --offline > "$work/told" 2>&1 || cat "$work/told"; grep -q '^test result: ok. 1 passed' "$work/told" || cat "$work/told")"
+    verdict "the crate's documentation" "$(quiet in_crate cargo doc -q --offline --no-deps)"
+fi
+
+# the image
+the_same "the image, the same twice" release/image "$parts"
+if can "the image" tar gzip python3; then
+    mkdir "$work/oci" "$work/root"
+    tar -C "$work/oci" -xf "$made/toxicap-$version-oci.tar"
+    verdict "the image's layout" "$(python3 -B tests/packages/layout.py "$work/oci" "$work/root" 2>&1)"
+    verdict "the image below 3 MB" "$(size_of=$(du -sb "$work/root" | cut -f 1); [ "$size_of" -lt 3000000 ] || echo "  $size_of bytes")"
+    if can "the image, read by skopeo" skopeo; then
+        skopeo inspect "oci-archive:$made/toxicap-$version-oci.tar" > "$work/told" 2>&1 || true
+        verdict "the image, read by skopeo" "$(grep -q '"Os": "linux"' "$work/told" || cat "$work/told")"
+    fi
+    # the lines of the Dockerfile, done by hand: the layer has the same files
+    unpacked "toxicap-$version-image.tar.gz"
+    mkdir "$work/built" "$work/built/licences" "$work/built/work"
+    (cd "$away/toxicap-$version-image" && cp toxicap "$work/built" && cp LICENCES.md LGPL-2.1 toxicap.o "$work/built/licences")
+    verdict "the image's root is what the Dockerfile says" "$(
+        folder_difference "$work/built" "$work/root"
+        sed '/^#/d' "$away/toxicap-$version-image/Dockerfile" > "$work/output"
+        printf '%s\n' 'FROM scratch' 'COPY toxicap /' 'COPY LICENCES.md LGPL-2.1 toxicap.o /licences/' 'WORKDIR /work' 'ENTRYPOINT ["/toxicap"]' > "$work/wanted"
+        difference "$work/wanted" "$work/output"
+    )"
+    if [ "$(id -u)" = 0 ]; then
+        cp "$away"/{shop.pcap,bandwidth.json,latency.json} "$work/root/work"
+        mkdir "$work/root/work/out"
+        verdict "the image, run" "$(
+            quiet chroot "$work/root" /toxicap --capture work/shop.pcap --scenario work/bandwidth.json --scenario work/latency.json --out work/out
+            folder_difference "$work/wanted-files" "$work/root/work/out"
+        )"
+    else
+        skip "the image, run" "it wants root"
+    fi
+fi
+
+# trust: the bill of materials, the sums, and a signature by a key that is thrown away
+if can "the bill of materials" python3; then
+    the_same "the bill of materials, the same twice" release/sbom "$parts"
+    verdict "what the bill has" "$(python3 -B tests/packages/bill.py "$made/toxicap-$version.spdx.json" "$parts" 2>&1)"
+fi
+cp -r "$made" "$work/signed"
+if can "a signature" minisign; then
+    minisign -G -W -p "$work/key.pub" -s "$work/key" > "$work/told" 2>&1
+    # checked STATUS: the signature and the sums are right, or (1) are not.
+    checked() {
+        local ended=0
+        (cd "$work/signed" && minisign -q -V -m SHA256SUMS -p "$work/key.pub" && sha256sum --quiet -c SHA256SUMS) > "$work/told" 2>&1 || ended=1
+        [ $ended = "$1" ] || { echo "  status $ended"; cat "$work/told"; }
+    }
+    verdict "a signature" "$(MINISIGN_KEY=$work/key quiet release/sums "$work/signed" > "$work/told"; checked 0; difference "$made/SHA256SUMS" "$work/signed/SHA256SUMS")"
+    for file in SHA256SUMS "toxicap_${version}_amd64.deb" "toxicap-$version-go.tar.gz"; do
+        [ -e "$work/signed/$file" ] || continue
+        cp "$work/signed/$file" "$work/kept"
+        printf x >> "$work/signed/$file"
+        verdict "a signature, $file changed" "$(checked 1)"
+        cp "$work/kept" "$work/signed/$file"
+    done
+    verdict "a signature is removed without a key" "$(env -u MINISIGN_KEY release/sums "$work/signed" > "$work/told"; [ ! -e "$work/signed/SHA256SUMS.minisig" ] || echo '  it is there')"
+fi
+
+# docs/INSTALL.md, row by row
+export DEBIAN_FRONTEND=noninteractive
+# prepared ROW: what a suite has already, in the folder of the row.
+prepared() {
+    case $1 in
+        Go) go mod init suite ;;
+        Rust) cargo init -q --lib --vcs none --name suite . ;;
+    esac
+}
+# in_copy FOLDER COMMAND..: runs a command, in a folder, where what it changes of the system is thrown away.
+in_copy() {
+    # shellcheck disable=SC2016
+    HIDDEN=$repository unshare --mount sh -euc '
+        mount -t tmpfs none "$0"
+        mkdir "$0/up" "$0/work" "$0/root"
+        mount -t overlay overlay -o "lowerdir=/,upperdir=$0/up,workdir=$0/work" "$0/root"
+        mount --bind /proc "$0/root/proc"
+        mount --bind /dev "$0/root/dev"
+        [ ! -d "$0/root$HIDDEN" ] || mount -t tmpfs none "$0/root$HIDDEN"
+        mkdir -p "$0/root/$1"
+        cp -r "$1"/. "$0/root/$1"
+        folder=$1
+        shift
+        root=$0
+        exec chroot "$root/root" sh -c "cd \"\$0\" && exec \"\$@\"" "$folder" "$@"
+    ' "$work/copy" "$@"
+}
+# runs_containers TOOL: whether it can run a container at all: one with no file in it ends with 127 for a program that is not there.
+runs_containers() {
+    local image ended=0
+    tar -cf "$work/nothing.tar" -T /dev/null
+    image=$(timeout 60 "$1" import -q "$work/nothing.tar" 2> /dev/null || timeout 60 "$1" import "$work/nothing.tar" 2> /dev/null) || return 1
+    timeout 60 "$1" run --rm "$image" /nothing > /dev/null 2>&1 || ended=$?
+    "$1" rmi -f "$image" > /dev/null 2>&1 || true
+    [ $ended = 127 ]
+}
+mkdir "$work/copy"
+number=0
+while IFS='|' read -r _ what type check prints _; do
+    [[ $type = *'`'* && $check = *'`'* && $prints = *'`'* ]] || continue
+    number=$((number + 1))
+    what=$(sed 's/^ *//; s/ *$//' <<< "$what")
+    # shellcheck disable=SC2016
+    for cell in type check prints; do declare "$cell=$(sed 's/^ *`//; s/` *$//' <<< "${!cell}")"; done
+    row="docs/INSTALL.md, $what"
+    tools=()
+    for tool in tar gzip pkg-config gcc go cargo docker podman; do [[ " $type $check " != *" $tool "* ]] || tools+=("$tool"); done
+    [[ $what != Go ]] || tools+=(gcc)
+    can "$row" "${tools[@]}" || continue
+    for tool in docker podman; do
+        [[ $type != *"$tool"* ]] || runs_containers $tool || { skip "$row" "no container can be run"; continue 2; }
+    done
+    file=$(grep -oE "toxicap[_-]${version}[^ /]*\.(gz|deb|whl|tar)" <<< "$type" || echo SHA256SUMS)
+    [ -e "$made/$file" ] || { skip "$row" "$file is not made here"; continue; }
+    [[ $what != Python ]] || python3 -c 'import ensurepip' 2> /dev/null || { skip "$row" "ensurepip is not here"; continue; }
+    place=(out_of_reach)
+    if [[ $type = *apt-get* ]]; then
+        can "$row" apt-get || continue
+        in_copy "$away" true 2> /dev/null || { skip "$row" "no copy of the system can be had"; continue; }
+        place=(in_copy "$work/row")
+    fi
+    rm -rf "$work/row"
+    cp -r "$made" "$work/row"
+    # shellcheck disable=SC2016
+    verdict "$row" "$(
+        cd "$work/row"
+        prepared "$what" > "$work/told" 2>&1 || cat "$work/told"
+        "${place[@]}" bash -euc 'eval "$1" > told 2>&1 || { echo "  status $?"; cat told; exit; }; eval "$2" 2>&1 || echo "  status $?"' row "$type" "$check" > "$work/output" 2>&1 || echo "  status $?"
+        last=$(tail -n 1 "$work/output" | tr -s '[:blank:]' ' ')
+        [[ $last = "$prints"* ]] || { echo "  it prints: $last, wanted: $prints"; cat "$work/output"; }
+    )"
+    for tool in docker podman; do [[ $type != *"$tool"* ]] || "$tool" rmi -f "toxicap:latest" "localhost/toxicap:$version" > /dev/null 2>&1 || true; done
+done < docs/INSTALL.md
+verdict "rows of docs/INSTALL.md" "$([ $number -ge 10 ] || echo "  $number")"
+verdict "docs/INSTALL.md tells of $version" "$(grep -ohE '[-_@]v?[0-9]+\.[0-9]+\.[0-9]+' docs/INSTALL.md | tr -d '@v_-' | sort -u | grep -vx "$version" || true)"
+close

@@ -12,7 +12,7 @@ pub(crate) const FORMS: &str = "\
 captures:  classic pcap 2.4 in microseconds or nanoseconds, Ethernet,
            IPv4, TCP; or a dump of one as hexadecimal digits
 scenarios: JSON in the form of Toxiproxy's populate call, with each proxy's
-           toxics as its member \"toxics\"";
+           toxics in its field \"toxics\"";
 
 pub(crate) const CAPTURE: &str = "\
 The capture: a classic pcap file, or its bytes as
@@ -42,8 +42,8 @@ once, 1 to 1048576; no output depends
 on it";
 
 pub(crate) const OUT: &str = "\
-A folder, which exists, for the outputs: 0000.pcap
-and 0000.txt of the first scenario, then 0001.pcap;
+An existing folder for the outputs: 0000.pcap and
+0000.txt of the first scenario, then 0001.pcap;
 files of these names are replaced, but none that
 was read
 [default: the reports alone, on standard output]";
@@ -56,7 +56,7 @@ Exit status:
   0  every output was written
   1  refused; a line on standard error says why, such as
      refused 15 UnknownHost scenario 0 proxy 0
-  2  the command line has a fault, and standard error tells it
+  2  usage error; see standard error
 
 Examples:
   What was recorded, as a report:
@@ -73,7 +73,7 @@ pub(crate) const AFTER: &str = before_ending!();
 pub(crate) const LONG_AFTER: &str = before_ending!(
     "\
 Scenarios:
-  A whole file: an array of proxies, each before a server of the capture.
+  A whole file: an array of proxies, each for a server of the capture.
 
     [
       {
@@ -96,8 +96,9 @@ Scenarios:
 
   upstream is the server as the capture has it: an address, or a name that
   --host gives one. listen is not used, and may be left out. A connection
-  meets the first proxy before its server; with none it stays as recorded.
-  \"enabled\": false in a proxy refuses its connections.
+  goes through the first proxy whose upstream is its server; with none it
+  stays as recorded. \"enabled\": false in a proxy refuses its connections.
+  Unknown fields are ignored.
 
 ",
     "\
@@ -107,10 +108,9 @@ Toxics:
     {\"type\": \"latency\", \"stream\": \"upstream\", \"toxicity_ppm\": 500000,
      \"attributes\": {\"latency\": 100, \"jitter\": 20}}
 
-  The stream is upstream or downstream; downstream where it is not told.
-  A toxic works on toxicity_ppm of a million connections, and on all where
-  it is not told; \"toxicity\", 0 or 1, may stand in its place. Attributes
-  are whole numbers:
+  The stream is upstream or downstream, by default downstream. A toxic works
+  on toxicity_ppm of a million connections, by default on all; \"toxicity\",
+  0 or 1, may stand in its place. Attributes are whole numbers:
 
   Type        Attribute       Range            Default  What it is
   latency     latency         0 to 10^9 ms     0        bytes are late
@@ -124,8 +124,8 @@ Toxics:
               delay           0 to 10^9 us     0        between two slices
   limit_data  bytes           0 to 10^12       0        a close after them
 
-  ms is milliseconds, us microseconds, KB 1000 bytes; - stands for what is
-  wanted. size_variation is below average_size. The type timeout with 0
+  ms is milliseconds, us microseconds, KB 1000 bytes; - is for a required
+  attribute. size_variation is below average_size. The type timeout with 0
   never closes.
 
 ",
@@ -138,9 +138,10 @@ Reports:
     down 100/216/0 close+3610 max 0
 
   but all on one line: its number, client and server, and the number of the
-  proxy that it meets, - for none. up is what the client sent, down what the
-  server sent: bytes delivered/recorded/lost after a gap of the capture; its
-  end, so long after the opening; and the longest that a byte was held back.
+  proxy that it goes through, - for none. up is what the client sent, down
+  what the server sent: bytes delivered/recorded/lost after a gap of the
+  capture; its end, so long after the opening SYN; and the longest that a
+  byte was held back.
 
   The end is fin+N where the peer closes, close+N where a toxic does, reset+N
   for a reset, open for none, refused where the proxy is disabled. Times are
@@ -149,10 +150,10 @@ Reports:
 ",
     "\
 Refusals:
-  A line on standard error tells the number and the name, and where it is:
-  records, hosts, scenarios, a scenario's proxies, a proxy's toxics and the
-  bytes of a dump count from 0. On a terminal a second line tells which file
-  and which field it is, and what to do.
+  A line on standard error has the number, the name and the place: records,
+  hosts, scenarios, a scenario's proxies, a proxy's toxics and the bytes of a
+  dump count from 0. On a terminal a second line names the file and the
+  field, and says what to do.
 
    1 ShortHeader       the capture has fewer than 24 bytes
    2 BadMagic          it is no classic pcap: pcapng, or gzipped
@@ -162,7 +163,7 @@ Refusals:
    6 CaptureTooLong    a capture, dump or scenario has more than 2^30 bytes
   10 NotJson           a scenario is no JSON
   11 NotArray          it is no array
-  12 BadMember         a member is missing or of the wrong kind
+  12 BadMember         a field is missing or of the wrong kind
   13 DuplicateProxy    an earlier proxy has the name
   14 BadUpstream       an upstream is not HOST:PORT
   15 UnknownHost       its host is no address, and no --host names it

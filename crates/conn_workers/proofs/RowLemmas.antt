@@ -52,7 +52,7 @@ module _ {R C V : Type 0} (f : R → C → V) where
       ∙ ap Some (cell rs cs s c (f r x) r x row_within column_within
       ∙ ap₂ f (get_or_from_slice_get rs s r r row) (get_or_from_slice_get cs c x x column))
 
--- two layouts of lists that are mapped from one list
+-- two outlines of lists that are mapped from one list
 module _ {R C D E V : Type 0} (f : R → C → V) (g : R → D → V) (a : E → C) (b : E → D) (alike : (r : R) (x : E) → f r (a x) ≡ g r (b x)) where
   pub row_alike : (r : R) (xs : List E) → map (f r) (map a xs) ≡ map (g r) (map b xs)
   row_alike r [] = refl

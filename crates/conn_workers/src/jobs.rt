@@ -1,93 +1,17 @@
-//! The two works of a delivery: what is recorded of each connection, and what each connection contributes to each
-//! scenario.
-ghost use Rattle.std.specs.Prelude.{◌≡◌, ◌≤◌, ◌*◌, IfOk, IfSome, length, option_map};
-ghost use Rattle.toxic_defs.specs.DeliveredLines.{met_view};
-ghost use Rattle.toxic_defs.specs.Limits.{most_toxics};
-ghost use Rattle.conn_workers.specs.CaptureTables.{whole_table};
+//! The works of workers on recordings: what each connection contributes to all scenarios or to one, and its line of the report.
+ghost use Rattle.std.specs.Prelude.{◌≡◌, ◌≤◌, ◌*◌, length};
 ghost use Rattle.conn_workers.specs.DeliveryRows.{scenario_limit};
-ghost use Rattle.conn_workers.specs.MetProxies.{met_of, met_proxy};
-ghost use Rattle.conn_workers.specs.Recordings.{recordings_of, recorded_deliveries};
+ghost use Rattle.conn_workers.specs.Recordings.{recorded_deliveries};
 
 use crate::deliveries::Delivery;
-use crate::laid_deliveries::laid_delivery;
-use conn_table::{Conn, Table};
-use frame_headers::Peer;
+use crate::met_proxies::met_proxy;
+use crate::outlined_deliveries::{OutlinedDelivery, outlined_delivery};
+use crate::recordings::{Recording, Recordings};
 use job_matrix::Work;
-use pcap_records::Capture;
-use reassembly::laws::{connections_are_of_capture, conns_are_of_capture};
-use reassembly::{Recorded, lines};
-use scenarios::{Proxy, Scenario};
+use report::{ReportText, line};
+use scenarios::Scenario;
 use std::alloc::{AllocError, Global};
-use std::marker::Model;
-use toxic_defs::MetProxy;
-
-/// A connection of a table, with what is recorded of it.
-#[derive(Drop)]
-pub struct Recording<'w, 'a> {
-    /// What the table shows of the connection.
-    pub(crate) conn: &'w Conn,
-    /// What its two sides sent.
-    pub(crate) recorded: Recorded<'a>,
-}
-
-impl<'w, 'a> Model for Recording<'w, 'a> {
-    ghost use Rattle.reassembly.specs.RecordedView.{recorded_view};
-    ghost use Rattle.conn_workers.specs.Recordings.{RecordingView, HasLines};
-
-    ghost Value = { RecordingView };
-
-    ghost view = { λ r. record {
-      ticks = r.recorded.up.ticks;
-      conn = r.conn.now;
-      recorded = recorded_view r.recorded;
-    } };
-
-    ghost invariant = { λ r. HasLines r.recorded };
-}
-
-/// The connections of a capture's table: job c makes the recorded lines of connection c.
-#[derive(Drop)]
-pub(crate) struct LineJobs<'w, 'a> {
-    /// Where lines are kept.
-    pub(crate) alloc: Global,
-    /// The capture.
-    pub(crate) capture: &'w Capture<'a>,
-    /// The connections of its table.
-    pub(crate) conns: &'w [Conn],
-    ghost shown: { conns.now ≡ (whole_table capture.now).conns },
-    ghost each: { length conns.now ≡ length (recordings_of capture.now) },
-}
-
-impl<'w, 'a> LineJobs<'w, 'a> {
-    /// Those of a capture and its table.
-    pub(crate) fn of(alloc: Global, capture: &'w Capture<'a>, table: &'w Table) -> Self
-        requires { table.now ≡ whole_table capture.now }
-        ensures { result.capture.now ≡ capture.now }
-    {
-        LineJobs {
-            alloc,
-            capture,
-            conns: table.conns(),
-        }
-    }
-}
-
-impl<'w, 'a> Work for LineJobs<'w, 'a> {
-    type Out = Recording<'w, 'a>;
-
-    ghost use Rattle.std.specs.Prelude.{◌≡◌, ◌<◌, length, get_or, IfOk};
-    ghost use Rattle.conn_workers.specs.Recordings.{recordings_of};
-
-    ghost values = { λ w. recordings_of w.capture.now };
-
-    fn value(&self, job: u64) -> Result<Recording<'w, 'a>, AllocError> {
-        connections_are_of_capture();
-        conns_are_of_capture();
-        let conn = &self.conns[job as usize];
-        let recorded = lines(self.alloc, conn, self.capture)?;
-        Ok(Recording { conn, recorded })
-    }
-}
+use toxic_defs::delivered_by;
 
 /// Recordings of connections, and scenarios: of C connections, job s * C + c makes what connection c contributes to
 /// scenario s.
@@ -119,31 +43,96 @@ impl<'w, 'v, 'a> Work for ContributionJobs<'w, 'v, 'a> {
         let number = job / count;
         let recording = &self.recordings[(job % count) as usize];
         let scenario = &self.scenarios[number as usize];
-        let laid = laid_delivery(self.alloc, recording, number as u32, scenario, self.seed)?;
-        laid.written(self.alloc)
+        let outline = outlined_delivery(self.alloc, recording, number as u32, scenario, self.seed)?;
+        outline.written(self.alloc)
     }
 }
 
-// What a connection meets of a proxy with its number.
-fn met_of(number: u32, proxy: &Proxy) -> MetProxy<'_>
-    ensures met { met_view result ≡ met_of (number, proxy.now) }
-    ensures up { result.up.now ≡ proxy.now.up }
-    ensures down { result.down.now ≡ proxy.now.down }
-{
-    MetProxy {
-        number,
-        enabled: proxy.enabled,
-        up: proxy.up.as_slice(),
-        down: proxy.down.as_slice(),
+/// Recordings of connections, and a scenario with its number.
+#[derive(Drop)]
+pub(crate) struct UnderScenario<'w, 'v, 'a> {
+    // Where what is made is kept.
+    alloc: Global,
+    /// The connections with what is recorded of them.
+    pub(crate) recordings: &'w [Recording<'v, 'a>],
+    number: u32,
+    scenario: &'w Scenario,
+    // That of the random words.
+    seed: u64,
+}
+
+impl<'w, 'v, 'a> UnderScenario<'w, 'v, 'a> {
+    /// All of these together.
+    pub(crate) fn of(
+        alloc: Global,
+        recordings: &'w Recordings<'v, 'a>,
+        number: u32,
+        scenario: &'w Scenario,
+        seed: u64,
+    ) -> Self
+        ensures recordings { result.recordings.now ≡ recordings.now }
+        ensures number { result.number ≡ number }
+        ensures scenario { result.scenario.now ≡ scenario.now }
+        ensures seed { result.seed ≡ seed }
+    {
+        UnderScenario {
+            alloc,
+            recordings: recordings.as_slice(),
+            number,
+            scenario,
+            seed,
+        }
     }
 }
 
-// The proxy of a scenario that a connection to a server meets: the first that stands before it.
-pub(crate) fn met_proxy(scenario: &Scenario, server: Peer) -> Option<MetProxy<'_>>
-    ensures met { option_map met_view result ≡ met_proxy server scenario.now }
-    ensures few_up { IfSome result (λ m. length m.up.now ≤ most_toxics) }
-    ensures few_down { IfSome result (λ m. length m.down.now ≤ most_toxics) }
-{
-    let number = scenario.proxy_of(server)?;
-    Some(met_of(number, &scenario.proxies()[number as usize]))
+/// Job c makes what connection c contributes to the scenario.
+#[derive(Drop)]
+pub(crate) struct RowJobs<'w, 'v, 'a>(pub(crate) UnderScenario<'w, 'v, 'a>);
+
+impl<'w, 'v, 'a> Work for RowJobs<'w, 'v, 'a> {
+    type Out = OutlinedDelivery<'a>;
+
+    ghost use Rattle.std.specs.Prelude.{◌≡◌, ◌<◌, length, get_or, IfOk};
+    ghost use Rattle.conn_workers.specs.Recordings.{recorded_row};
+
+    ghost values = { λ w. recorded_row w.0.seed (w.0.number, w.0.scenario.now) w.0.recordings.now };
+
+    fn value(&self, job: u64) -> Result<OutlinedDelivery<'a>, AllocError> {
+        let under = &self.0;
+        let recordings = under.recordings;
+        let recording = &recordings[job as usize];
+        let number = under.number;
+        outlined_delivery(under.alloc, recording, number, under.scenario, under.seed)
+    }
+}
+
+/// Job c makes the line of connection c in the scenario's report.
+#[derive(Drop)]
+pub(crate) struct ReportLineJobs<'w, 'v, 'a>(pub(crate) UnderScenario<'w, 'v, 'a>);
+
+impl<'w, 'v, 'a> Work for ReportLineJobs<'w, 'v, 'a> {
+    type Out = ReportText;
+
+    ghost use Rattle.std.specs.Prelude.{◌≡◌, ◌<◌, length, get_or, IfOk};
+    ghost use Rattle.conn_workers.specs.Recordings.{recorded_lines};
+
+    ghost values = { λ w. recorded_lines w.0.seed (w.0.number, w.0.scenario.now) w.0.recordings.now };
+
+    fn value(&self, job: u64) -> Result<ReportText, AllocError> {
+        let under = &self.0;
+        let recordings = under.recordings;
+        let recording = &recordings[job as usize];
+        let conn = recording.conn;
+        let recorded = &recording.recorded;
+        let met = met_proxy(under.scenario, conn.server);
+        let delivered = delivered_by(
+            under.alloc,
+            recorded,
+            met,
+            under.seed,
+            under.number,
+            conn.number,
+        )?;
+        line(under.alloc, conn, recorded, &delivered)
+    }
 }

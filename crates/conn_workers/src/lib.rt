@@ -9,13 +9,12 @@
 mod deliveries;
 mod delivery_rows;
 mod jobs;
-mod laid_deliveries;
 pub mod laws;
+mod met_proxies;
+mod outlined_deliveries;
 mod recordings;
-mod scenario_jobs;
 
 pub use deliveries::{Deliveries, Delivery, deliver};
-pub use delivery_rows::{LaidRow, deliver_row, deliver_row_alone};
-pub use jobs::Recording;
-pub use laid_deliveries::LaidDelivery;
-pub use recordings::{Recordings, record, record_alone, report_lines, report_lines_alone};
+pub use delivery_rows::{OutlineRow, deliver_row, deliver_row_alone, report_lines, report_lines_alone};
+pub use outlined_deliveries::OutlinedDelivery;
+pub use recordings::{Recording, Recordings, record, record_alone};

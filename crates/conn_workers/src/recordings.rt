@@ -1,17 +1,84 @@
-//! What is recorded of each connection of a capture, and the lines that reports tell of it.
-ghost use Rattle.std.specs.Prelude.{◌≡◌, IfOk};
+//! What is recorded of each connection of a capture, made by workers.
+ghost use Rattle.std.specs.Prelude.{◌≡◌, IfOk, length};
 ghost use Rattle.conn_workers.specs.CaptureTables.{whole_table};
-ghost use Rattle.conn_workers.specs.Recordings.{recordings_of, recorded_lines};
+ghost use Rattle.conn_workers.specs.Recordings.{recordings_of};
 
-use crate::jobs::{LineJobs, Recording};
-use crate::scenario_jobs::{ReportLineJobs, UnderScenario};
-use conn_table::Table;
-use job_matrix::{Gate, Phase, Plan, Through, Values, work_all, work_alone};
+use conn_table::{Conn, Table};
+use job_matrix::{Gate, Phase, Plan, Through, Values, Work, work_all, work_alone};
 use pcap_records::Capture;
-use report::ReportText;
-use scenarios::Scenario;
+use reassembly::laws::{connections_are_of_capture, conns_are_of_capture};
+use reassembly::{Recorded, lines};
 use std::alloc::{AllocError, Global};
+use std::marker::Model;
 use std::thread::Threads;
+
+/// A connection of a table, with what is recorded of it.
+#[derive(Drop)]
+pub struct Recording<'w, 'a> {
+    /// What the table shows of the connection.
+    pub(crate) conn: &'w Conn,
+    /// What its two sides sent.
+    pub(crate) recorded: Recorded<'a>,
+}
+
+impl<'w, 'a> Model for Recording<'w, 'a> {
+    ghost use Rattle.reassembly.specs.RecordedView.{recorded_view};
+    ghost use Rattle.conn_workers.specs.Recordings.{RecordingView, HasLines};
+
+    ghost Value = { RecordingView };
+
+    ghost view = { λ r. record {
+      ticks = r.recorded.up.ticks;
+      conn = r.conn.now;
+      recorded = recorded_view r.recorded;
+    } };
+
+    ghost invariant = { λ r. HasLines r.recorded };
+}
+
+/// The connections of a capture's table: job c makes the recorded lines of connection c.
+#[derive(Drop)]
+pub(crate) struct LineJobs<'w, 'a> {
+    /// Where lines are kept.
+    pub(crate) alloc: Global,
+    /// The capture.
+    pub(crate) capture: &'w Capture<'a>,
+    /// The connections of its table.
+    pub(crate) conns: &'w [Conn],
+    ghost shown: { conns.now ≡ (whole_table capture.now).conns },
+    ghost each: { length conns.now ≡ length (recordings_of capture.now) },
+}
+
+impl<'w, 'a> LineJobs<'w, 'a> {
+    /// Those of a capture and its table.
+    pub(crate) fn of(alloc: Global, capture: &'w Capture<'a>, table: &'w Table) -> Self
+        requires { table.now ≡ whole_table capture.now }
+        ensures { result.capture.now ≡ capture.now }
+    {
+        LineJobs {
+            alloc,
+            capture,
+            conns: table.conns(),
+        }
+    }
+}
+
+impl<'w, 'a> Work for LineJobs<'w, 'a> {
+    type Out = Recording<'w, 'a>;
+
+    ghost use Rattle.std.specs.Prelude.{◌≡◌, ◌<◌, length, get_or, IfOk};
+    ghost use Rattle.conn_workers.specs.Recordings.{recordings_of};
+
+    ghost values = { λ w. recordings_of w.capture.now };
+
+    fn value(&self, job: u64) -> Result<Recording<'w, 'a>, AllocError> {
+        connections_are_of_capture();
+        conns_are_of_capture();
+        let conn = &self.conns[job as usize];
+        let recorded = lines(self.alloc, conn, self.capture)?;
+        Ok(Recording { conn, recorded })
+    }
+}
 
 /// The connections of a capture's table, in order of number, each with what is recorded of it.
 pub type Recordings<'w, 'a> = Values<Recording<'w, 'a>>;
@@ -55,46 +122,4 @@ pub fn record_alone<'w, 'a>(
     let jobs = LineJobs::of(alloc, capture, table);
     let count = jobs.conns.len() as u64;
     work_alone(alloc, count, Phase::Lines, &Through, &jobs)
-}
-
-/// The line of each connection in the report of a scenario with its number, in order of the connections' numbers. Workers make
-/// them in phase `Jobs`, with one job for each connection. The answer is the same whatever the plan and the gate.
-///
-/// # Errors
-/// A growth was refused.
-pub fn report_lines<R: Threads + Sync, G: Gate>(
-    rt: &R,
-    alloc: Global,
-    recordings: &Recordings<'_, '_>,
-    number: u32,
-    scenario: &Scenario,
-    seed: u64,
-    plan: Plan,
-    gate: &G,
-) -> Result<Values<ReportText>, AllocError>
-    ensures { IfOk result (λ v. v ≡ recorded_lines seed (number, scenario.now) recordings.now) }
-{
-    let jobs = ReportLineJobs(UnderScenario::of(alloc, recordings, number, scenario, seed));
-    let count = jobs.0.recordings.len() as u64;
-    let workers = plan.workers() as u64;
-    work_all(rt, alloc, count, workers, Phase::Jobs, gate, &jobs)
-}
-
-/// The line of each connection in the report of a scenario with its number, as [`report_lines`] gives them, made by this thread
-/// alone.
-///
-/// # Errors
-/// A growth was refused.
-pub fn report_lines_alone(
-    alloc: Global,
-    recordings: &Recordings<'_, '_>,
-    number: u32,
-    scenario: &Scenario,
-    seed: u64,
-) -> Result<Values<ReportText>, AllocError>
-    ensures { IfOk result (λ v. v ≡ recorded_lines seed (number, scenario.now) recordings.now) }
-{
-    let jobs = ReportLineJobs(UnderScenario::of(alloc, recordings, number, scenario, seed));
-    let count = jobs.0.recordings.len() as u64;
-    work_alone(alloc, count, Phase::Jobs, &Through, &jobs)
 }

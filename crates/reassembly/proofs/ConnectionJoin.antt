@@ -26,19 +26,19 @@ use Rattle.lists.proofs.Lists.{all_weaker, all_map, all_filter, all_take_while}
 use Rattle.reassembly.proofs.MappedLists.{take_while-map, filter-map, found_same, map_same, filter_same, and_both}
 use Rattle.reassembly.proofs.Chunks.{recorded_sides_are_lines}
 use Rattle.reassembly.proofs.Joining.{sides_agree}
-use Rattle.reassembly.proofs.RecordedSegments.{IsHeard, heard}
+use Rattle.reassembly.proofs.RecordedSegments.{IsOfPeers, of_peers}
 
 abbrev timed : IndexedSegment → TimedSegment
 timed s = s.timed
 
 -- ---- each segment
 
-pub all_heard : (ticks : ℕ) (c : CaptureView) (x : IndexedConnection) → IsSoundCapture ticks c.bytes c.records → PayloadsAreInPlace → IsConnectionOf c x
-    → AllByRecursion (IsHeard c x.opening.timed.fields.from x.opening.timed.fields.to) (x.opening ∷ x.later)
-all_heard ticks c x sound law of =
+pub all_of_peers : (ticks : ℕ) (c : CaptureView) (x : IndexedConnection) → IsSoundCapture ticks c.bytes c.records → PayloadsAreInPlace → IsConnectionOf c x
+    → AllByRecursion (IsOfPeers c x.opening.timed.fields.from x.opening.timed.fields.to) (x.opening ∷ x.later)
+all_of_peers ticks c x sound law of =
     let rec = of.recorded in
     let b : IndexedSegment = x.opening in
-    and_both (IsRecorded c) (λ s. of_one_pair b s ≡ true) (IsHeard c b.timed.fields.from b.timed.fields.to) (λ s r p. heard ticks c b s sound law rec.0 r p) (b ∷ x.later) rec (one_pair-itself b, of.paired)
+    and_both (IsRecorded c) (λ s. of_one_pair b s ≡ true) (IsOfPeers c b.timed.fields.from b.timed.fields.to) (λ s r p. of_peers ticks c b s sound law rec.0 r p) (b ∷ x.later) rec (one_pair-itself b, of.paired)
 
 pub all_in_file : (ticks : ℕ) (c : CaptureView) (x : IndexedConnection) (file : List ℕ) (conn : Conn) (members : List Member) → IsSoundCapture ticks c.bytes c.records → PayloadsAreInPlace → IsConnectionOf c x
     → file ≡ c.bytes → members ≡ conn.members → conn ≡ conn_in c x → All (IsInFile file) members
@@ -47,7 +47,7 @@ all_in_file ticks c x file conn members sound law of is are shown =
     let server : Peer = x.opening.timed.fields.to in
     let there : AllByRecursion (IsInFile c.bytes) (map (member_in c client) (x.opening ∷ x.later)) =
     all_map (IsInFile c.bytes) (member_in c client) (x.opening ∷ x.later)
-    (all_weaker (IsHeard c client server) (λ s. IsInFile c.bytes (member_in c client s)) (λ s h. h.in_file) (x.opening ∷ x.later) (all_heard ticks c x sound law of)) in
+    (all_weaker (IsOfPeers c client server) (λ s. IsInFile c.bytes (member_in c client s)) (λ s h. h.in_file) (x.opening ∷ x.later) (all_of_peers ticks c x sound law of)) in
     let here : All (IsInFile c.bytes) (map (member_in c client) (x.opening ∷ x.later)) = All-from_recursion (IsInFile c.bytes) (map (member_in c client) (x.opening ∷ x.later)) there in
     let all : members ≡ map (member_in c client) (x.opening ∷ x.later) = are ∙ ap (λ k. k.members) shown in
     let P : List ℕ → Type 0 = λ f. All (IsInFile f) members in
@@ -69,10 +69,10 @@ module _ (c : CaptureView) (client server : Peer) where
   effective_are : (segs : List IndexedSegment) → effective_members (map timed segs) ≡ map timed (counted segs)
   effective_are segs = take_while-map (λ m. not (is_reset m)) timed segs
 
-  reset_same : (segs : List IndexedSegment) → AllByRecursion (IsHeard c client server) segs → other_end (map shown segs) ≡ reset_or_live (find is_reset (map timed segs))
+  reset_same : (segs : List IndexedSegment) → AllByRecursion (IsOfPeers c client server) segs → other_end (map shown segs) ≡ reset_or_live (find is_reset (map timed segs))
   reset_same segs all =
       ap reset_end
-      (found_same (λ (m : Member). m.at) is_reset_member shown (λ (m : TimedSegment). m.at) is_reset timed segs (all_weaker (IsHeard c client server) _ (λ s h. (refl, refl)) segs all))
+      (found_same (λ (m : Member). m.at) is_reset_member shown (λ (m : TimedSegment). m.at) is_reset timed segs (all_weaker (IsOfPeers c client server) _ (λ s h. (refl, refl)) segs all))
       ∙ by (find is_reset (map timed segs))
     where
       by : (o : Option TimedSegment) → reset_end (option_map (λ (m : TimedSegment). m.at) o) ≡ reset_or_live o
@@ -87,35 +87,35 @@ module _ (c : CaptureView) (client server : Peer) where
   abbrev sent : Bool → List IndexedSegment → List IndexedSegment
   sent up segs = filter (λ s. same_peer s.timed.fields.from (sender up)) segs
 
-  side_same : (up : Bool) (s : IndexedSegment) → IsHeard c client server s → is_of up (shown s) ≡ same_peer s.timed.fields.from (sender up)
+  side_same : (up : Bool) (s : IndexedSegment) → IsOfPeers c client server s → is_of up (shown s) ≡ same_peer s.timed.fields.from (sender up)
   side_same true s h = refl
   side_same false s h = sym h.server_sent
 
-  own_are : (up : Bool) (segs : List IndexedSegment) → AllByRecursion (IsHeard c client server) segs → own_members up (map shown segs) ≡ map shown (sent up segs)
+  own_are : (up : Bool) (segs : List IndexedSegment) → AllByRecursion (IsOfPeers c client server) segs → own_members up (map shown segs) ≡ map shown (sent up segs)
   own_are up segs all =
       filter-map (is_of up) shown segs
-      ∙ ap (map shown) (filter_same (λ s. is_of up (shown s)) (λ s. same_peer s.timed.fields.from (sender up)) segs (all_weaker (IsHeard c client server) (λ s. is_of up (shown s) ≡ same_peer s.timed.fields.from (sender up)) (side_same up) segs all))
+      ∙ ap (map shown) (filter_same (λ s. is_of up (shown s)) (λ s. same_peer s.timed.fields.from (sender up)) segs (all_weaker (IsOfPeers c client server) (λ s. is_of up (shown s) ≡ same_peer s.timed.fields.from (sender up)) (side_same up) segs all))
 
   sent_are : (up : Bool) (segs : List IndexedSegment) → sent_by (sender up) (map timed segs) ≡ map timed (sent up segs)
   sent_are up segs = filter-map (λ m. same_peer m.fields.from (sender up)) timed segs
 
-  spans_same : (base : ℕ) (segs : List IndexedSegment) → AllByRecursion (IsHeard c client server) segs → map (segment_span base) (map timed segs) ≡ member_spans base c.bytes (map shown segs)
+  spans_same : (base : ℕ) (segs : List IndexedSegment) → AllByRecursion (IsOfPeers c client server) segs → map (segment_span base) (map timed segs) ≡ member_spans base c.bytes (map shown segs)
   spans_same base segs all =
       map-map (segment_span base) timed segs
-      ∙ map_same (λ s. segment_span base s.timed) (λ s. member_span base c.bytes (shown s)) segs (all_weaker (IsHeard c client server) (λ s. segment_span base s.timed ≡ member_span base c.bytes (shown s)) (λ s h. ap (λ p. span_at (shifted_start base s.timed) s.timed.at p) (sym h.payload)) segs all)
+      ∙ map_same (λ s. segment_span base s.timed) (λ s. member_span base c.bytes (shown s)) segs (all_weaker (IsOfPeers c client server) (λ s. segment_span base s.timed ≡ member_span base c.bytes (shown s)) (λ s h. ap (λ p. span_at (shifted_start base s.timed) s.timed.at p) (sym h.payload)) segs all)
       ∙ sym (map-map (member_span base c.bytes) shown segs)
 
-  fin_same : (base : ℕ) (segs : List IndexedSegment) → AllByRecursion (IsHeard c client server) segs → fin_of_members base (map shown segs) ≡ counted_fin base (map timed segs)
-  fin_same base segs all = found_same (fin_of base) (is_fin_member base) shown (segment_fin base) (is_counted_fin base) timed segs (all_weaker (IsHeard c client server) _ (λ s h. (refl, refl)) segs all)
+  fin_same : (base : ℕ) (segs : List IndexedSegment) → AllByRecursion (IsOfPeers c client server) segs → fin_of_members base (map shown segs) ≡ counted_fin base (map timed segs)
+  fin_same base segs all = found_same (fin_of base) (is_fin_member base) shown (segment_fin base) (is_counted_fin base) timed segs (all_weaker (IsOfPeers c client server) _ (λ s h. (refl, refl)) segs all)
 
-  side_is_recorded : (base : Option ℕ) (up : Bool) (segs : List IndexedSegment) (s : RecordedSide) → AllByRecursion (IsHeard c client server) segs
+  side_is_recorded : (base : Option ℕ) (up : Bool) (segs : List IndexedSegment) (s : RecordedSide) → AllByRecursion (IsOfPeers c client server) segs
       → IsSideOf base up c.bytes (members_before_reset (map shown segs)) (other_end (map shown segs)) s → s ≡ recorded_side (map timed segs) (sender up) base
   unfolding recorded_side
   side_is_recorded None up segs s all is = is ∙ ap without_bytes (reset_same segs all)
   side_is_recorded (Some base) up segs s all is =
       let E : List IndexedSegment = counted segs in
-      let all_E = all_take_while (IsHeard c client server) (λ s. not (is_reset s.timed)) segs all in
-      let all_F = all_filter (IsHeard c client server) (λ s. same_peer s.timed.fields.from (sender up)) E all_E in
+      let all_E = all_take_while (IsOfPeers c client server) (λ s. not (is_reset s.timed)) segs all in
+      let all_F = all_filter (IsOfPeers c client server) (λ s. same_peer s.timed.fields.from (sender up)) E all_E in
       let own : own_members up (members_before_reset (map shown segs)) ≡ map shown (sent up E) = ap (own_members up) (members_are segs) ∙ own_are up E all_E in
       let ours : sent_by (sender up) (effective_members (map timed segs)) ≡ map timed (sent up E) = ap (sent_by (sender up)) (effective_are segs) ∙ sent_are up E in
       let spans_are : map (segment_span base) (map timed (sent up E)) ≡ member_spans base c.bytes (map shown (sent up E)) = spans_same base (sent up E) all_F in
@@ -124,16 +124,16 @@ module _ (c : CaptureView) (client server : Peer) where
       (rw (own, ← spans_are, fin_is, ends) at is) ∙ sides_agree base (map timed (sent up E)) (reset_or_live (find is_reset (map timed segs)))
       ∙ ap (λ l. side_of base l (reset_or_live (find is_reset (map timed segs)))) (sym ours)
 
-  answer_same : (segs : List IndexedSegment) → AllByRecursion (IsHeard c client server) segs
+  answer_same : (segs : List IndexedSegment) → AllByRecursion (IsOfPeers c client server) segs
       → option_map (λ (m : Member). m.seq) (find is_server_answer (members_before_reset (map shown segs))) ≡ option_map (λ (m : TimedSegment). m.fields.seq) (find (is_answer server) (effective_members (map timed segs)))
   answer_same segs all =
       rw (members_are segs, effective_are segs)
       (found_same (λ (m : Member). m.seq) is_server_answer shown (λ (m : TimedSegment). m.fields.seq) (is_answer server) timed (counted segs)
-      (all_weaker (IsHeard c client server) _ (λ s h. (ap (λ b. b && has_flag s.timed.fields.flags syn_flag && has_flag s.timed.fields.flags ack_flag) (sym h.server_sent), refl)) (counted segs) (all_take_while (IsHeard c client server) (λ s. not (is_reset s.timed)) segs all)))
+      (all_weaker (IsOfPeers c client server) _ (λ s h. (ap (λ b. b && has_flag s.timed.fields.flags syn_flag && has_flag s.timed.fields.flags ack_flag) (sym h.server_sent), refl)) (counted segs) (all_take_while (IsOfPeers c client server) (λ s. not (is_reset s.timed)) segs all)))
 
 -- ---- the whole connection
 
-server_base_is : (c : CaptureView) (x : IndexedConnection) → AllByRecursion (IsHeard c x.opening.timed.fields.from x.opening.timed.fields.to) (x.opening ∷ x.later)
+server_base_is : (c : CaptureView) (x : IndexedConnection) → AllByRecursion (IsOfPeers c x.opening.timed.fields.from x.opening.timed.fields.to) (x.opening ∷ x.later)
     → option_map (λ (m : Member). m.seq) (find is_server_answer (members_before_reset (map (member_in c x.opening.timed.fields.from) (x.opening ∷ x.later)))) ≡ server_base (without_indices x)
 unfolding server_base
 server_base_is c x all = answer_same c x.opening.timed.fields.from x.opening.timed.fields.to (x.opening ∷ x.later) all
@@ -147,7 +147,7 @@ recorded_is ticks c x file conn members r sound law of is are shown sides opened
     let client : Peer = b.timed.fields.from in
     let server : Peer = b.timed.fields.to in
     let segs : List IndexedSegment = x.opening ∷ x.later in
-    let all = all_heard ticks c x sound law of in
+    let all = all_of_peers ticks c x sound law of in
     let whole : members ≡ map (member_in c client) segs = are ∙ ap (λ k. k.members) shown in
     let P : List ℕ → Type 0 = λ f. IsOfMembers f members r in
     let Q : List Member → Type 0 = λ ms. IsOfMembers c.bytes ms r in
@@ -177,9 +177,9 @@ pub record AreLines (r : RecordedConnection) : Type 0 where
 pub shorts : (ticks : ℕ) (c : CaptureView) (x : IndexedConnection) → IsSoundCapture ticks c.bytes c.records → PayloadsAreInPlace → IsConnectionOf c x → AllByRecursion HasShortPayload (members_of (without_indices x))
 shorts ticks c x sound law of =
     all_map HasShortPayload (λ s. s.timed) (x.opening ∷ x.later)
-    (all_weaker (IsHeard c x.opening.timed.fields.from x.opening.timed.fields.to) (λ s. HasShortPayload s.timed) short (x.opening ∷ x.later) (all_heard ticks c x sound law of))
+    (all_weaker (IsOfPeers c x.opening.timed.fields.from x.opening.timed.fields.to) (λ s. HasShortPayload s.timed) short (x.opening ∷ x.later) (all_of_peers ticks c x sound law of))
   where
-    short : (s : IndexedSegment) → IsHeard c x.opening.timed.fields.from x.opening.timed.fields.to s → HasShortPayload s.timed
+    short : (s : IndexedSegment) → IsOfPeers c x.opening.timed.fields.from x.opening.timed.fields.to s → HasShortPayload s.timed
     short s h = let a = h.in_file in let b = sound.limited in omega (arith, a, b)
 
 pub are_lines : (ticks : ℕ) (c : CaptureView) (x : IndexedConnection) (r : RecordedConnection) → IsSoundCapture ticks c.bytes c.records → PayloadsAreInPlace → IsConnectionOf c x

@@ -27,7 +27,7 @@ start_is c i r e = ap (λ o. option_map_or (λ (r : Record). r.start) o 0) e
 -- ---- a segment of a connection
 
 -- what is known of a segment of a connection between two peers
-pub record IsHeard (c : CaptureView) (client server : Peer) (s : IndexedSegment) : Type 0 where
+pub record IsOfPeers (c : CaptureView) (client server : Peer) (s : IndexedSegment) : Type 0 where
   pub in_file : payload_start c s.index + length s.timed.fields.payload ≤ length c.bytes
   pub payload : slice_range c.bytes (payload_start c s.index) (payload_start c s.index + length s.timed.fields.payload) ≡ s.timed.fields.payload
   pub server_sent : same_peer s.timed.fields.from server ≡ not (same_peer s.timed.fields.from client)
@@ -58,9 +58,9 @@ placed ticks c s sound law rec =
           (ap (λ k. slice_range c.bytes (k + off) (k + off + n)) start ∙ placed_part c.bytes r.start r.len off n fits within_file.ends ∙ ap (λ f. slice_range f off (off + n)) (sym is) ∙ place.bytes);
     }
 
-pub heard : (ticks : ℕ) (c : CaptureView) (b s : IndexedSegment) → IsSoundCapture ticks c.bytes c.records → PayloadsAreInPlace → IsRecorded c b → IsRecorded c s → of_one_pair b s ≡ true
-    → IsHeard c b.timed.fields.from b.timed.fields.to s
-heard ticks c b s sound law rec_b rec paired =
+pub of_peers : (ticks : ℕ) (c : CaptureView) (b s : IndexedSegment) → IsSoundCapture ticks c.bytes c.records → PayloadsAreInPlace → IsRecorded c b → IsRecorded c s → of_one_pair b s ≡ true
+    → IsOfPeers c b.timed.fields.from b.timed.fields.to s
+of_peers ticks c b s sound law rec_b rec paired =
     let p = placed ticks c s sound law rec in
     record {
       in_file = p.within;

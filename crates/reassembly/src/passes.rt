@@ -14,7 +14,7 @@ use std::alloc::{AllocError, Global};
 
 /// From `since` to `high`, the end of all patches so far, no position is missing.
 #[derive(Clone, Copy)]
-struct Run {
+struct Covered {
     since: usize,
     high: usize,
 }
@@ -23,59 +23,59 @@ struct Run {
 pub(crate) fn side_patches<'a>(
     alloc: Global,
     base: u32,
-    client: bool,
+    from_client: bool,
     members: &[Member],
     file: FileBytes<'a>,
 ) -> Result<Vec<Patch<'a>>, AllocError>
     requires { All (IsInFile (bytes_of file)) members.now }
-    ensures same { IfOk result (λ patches. (x : ℕ) → first_byte (spans patches.items) x ≡ first_byte (member_spans base (bytes_of file.entry) (own_members client members.now)) x) }
+    ensures same { IfOk result (λ patches. (x : ℕ) → first_byte (spans patches.items) x ≡ first_byte (member_spans base (bytes_of file.entry) (own_members from_client members.now)) x) }
     ensures ordered { IfOk result (λ patches. AreOrdered 0 (spans patches.items) limit) }
 {
     let mut whole = Vec::new(alloc);
     let mut late = Vec::new(alloc);
-    let mut run = Run { since: 0, high: 0 };
+    let mut covered = Covered { since: 0, high: 0 };
     'pass: for member in members {
-        if member.from_client == client {
+        if member.from_client == from_client {
             let patch = patch_of(base, member, file);
-            run = take(&mut whole, &mut late, run, &patch)?;
+            covered = take(&mut whole, &mut late, covered, &patch)?;
         }
     }
-    settle(alloc, whole, &late, run)
+    settle(alloc, whole, &late, covered)
 }
 
 // Takes a patch in: after the others where it goes on or leaves a gap, among the late ones as far as it may fill one.
 fn take<'a>(
     whole: &mut Vec<Patch<'a>>,
     late: &mut Vec<Patch<'a>>,
-    run: Run,
+    covered: Covered,
     patch: &Patch<'a>,
-) -> Result<Run, AllocError>
+) -> Result<Covered, AllocError>
     requires near { end_of (span_of patch.now) ≤ limit }
-    requires state { Taken (spans whole.old.items) (spans late.old.items) run.since run.high }
-    ensures state { IfOk result (λ run. Taken (spans whole.new.items) (spans late.new.items) run.since run.high) }
-    ensures same { IfOk result (λ run. (x : ℕ) → layered_byte (spans whole.new.items) (spans late.new.items) x ≡ option_or (layered_byte (spans whole.old.items) (spans late.old.items) x) (byte_in (span_of patch.now) x)) }
+    requires state { Taken (spans whole.old.items) (spans late.old.items) covered.since covered.high }
+    ensures state { IfOk result (λ covered. Taken (spans whole.new.items) (spans late.new.items) covered.since covered.high) }
+    ensures same { IfOk result (λ covered. (x : ℕ) → layered_byte (spans whole.new.items) (spans late.new.items) x ≡ option_or (layered_byte (spans whole.old.items) (spans late.old.items) x) (byte_in (span_of patch.now) x)) }
 {
     if patch.bytes.is_empty() {
-        return Ok(run);
+        return Ok(covered);
     }
-    if patch.from < run.since {
-        let aside = front(patch, run.high);
+    if patch.from < covered.since {
+        let aside = front(patch, covered.high);
         keep(late, &aside)?;
     }
-    let rest = back(patch, run.high);
+    let rest = back(patch, covered.high);
     keep(whole, &rest)?;
-    let since = run_since(patch.from, run);
-    Ok(Run {
+    let since = covered_since(patch.from, covered);
+    Ok(Covered {
         since,
-        high: run.high.max(end(patch)),
+        high: covered.high.max(end(patch)),
     })
 }
 
-// The beginning of the run after a patch that begins at a position.
-fn run_since(from: usize, run: Run) -> usize
-    ensures { result ≡ (if nat_lt run.high from then from else run.since) }
+// From where on no position is missing after a patch that begins at a position.
+fn covered_since(from: usize, covered: Covered) -> usize
+    ensures { result ≡ (if nat_lt covered.high from then from else covered.since) }
 {
-    if from > run.high { from } else { run.since }
+    if from > covered.high { from } else { covered.since }
 }
 
 // The ordered patches with the late ones under them.
@@ -84,9 +84,9 @@ fn settle<'a>(
     alloc: Global,
     whole: Vec<Patch<'a>>,
     late: &[Patch<'a>],
-    run: Run,
+    covered: Covered,
 ) -> Result<Vec<Patch<'a>>, AllocError>
-    requires { Taken (spans whole.items) (spans late.now) run.since run.high }
+    requires { Taken (spans whole.items) (spans late.now) covered.since covered.high }
     ensures same { IfOk result (λ patches. (x : ℕ) → first_byte (spans patches.items) x ≡ layered_byte (spans whole.entry.items) (spans late.now) x) }
     ensures ordered { IfOk result (λ patches. AreOrdered 0 (spans patches.items) limit) }
 {

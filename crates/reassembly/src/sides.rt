@@ -19,19 +19,19 @@ use std::alloc::{AllocError, Global};
 pub(crate) fn recorded_side<'a>(
     alloc: Global,
     base: Option<u32>,
-    client: bool,
+    from_client: bool,
     members: &[Member],
     file: FileBytes<'a>,
     other: End,
 ) -> Result<SideLine<'a>, AllocError>
     requires { All (IsInFile (bytes_of file)) members.now }
-    ensures { IfOk result (λ side. IsSideOf base client (bytes_of file.entry) members.now (end_view other) (side_view side)) }
+    ensures { IfOk result (λ side. IsSideOf base from_client (bytes_of file.entry) members.now (end_view other) (side_view side)) }
 {
     let Some(base) = base else {
         return Ok(without_base(alloc, other));
     };
-    let patches = side_patches(alloc, base, client, members, file)?;
-    let fin = first_fin(base, client, members);
+    let patches = side_patches(alloc, base, from_client, members, file)?;
+    let fin = first_fin(base, from_client, members);
     side_line(alloc, &patches, fin, other)
 }
 
@@ -55,12 +55,12 @@ pub(crate) struct CountedFin {
 }
 
 // The first FIN of one side in the file that stands at position 0 or later.
-fn first_fin(base: u32, client: bool, members: &[Member]) -> Option<CountedFin>
-    ensures { result ≡ fin_of_members base (own_members client members.now) }
+fn first_fin(base: u32, from_client: bool, members: &[Member]) -> Option<CountedFin>
+    ensures { result ≡ fin_of_members base (own_members from_client members.now) }
 {
     members
         .iter()
-        .filter(|m| m.from_client == client)
+        .filter(|m| m.from_client == from_client)
         .find(|m| m.flags.has(Flags::FIN) && shifted_end(base, m) >= ORIGIN)
         .map(|m| CountedFin {
             position: shifted_end(base, m).saturating_sub(ORIGIN),

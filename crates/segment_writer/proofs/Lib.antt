@@ -1,7 +1,7 @@
 pub mod PartBytes
 pub mod PieceCuts
 pub mod PieceSteps
-pub mod Listening
+pub mod Acknowledging
 pub mod RecordSteps
 pub mod SentClimb
 pub mod TurnSteps
@@ -13,4 +13,4 @@ pub mod WholeSegments
 pub mod OneOrderLaw
 pub mod KeyCounts
 pub mod KeysApart
-pub mod LaidSteps
+pub mod OutlineSteps

@@ -15,9 +15,9 @@ use Rattle.reassembly.specs.declared.line_parts.LinePart.{LinePart}
 use Rattle.segment_writer.specs.WrittenSegments.{is_chunk_border}
 use Rattle.segment_writer.specs.FirstPieces.{chunk_rest, piece_size, values, first_instant, first_of}
 use Rattle.segment_writer.specs.LineCursors.{left_at, IsCursor}
-use Rattle.segment_writer.specs.Senders.{header_with, frame_with, framed_by, piece_segment}
-use Rattle.segment_writer.specs.LaidSegments.{framed_of}
-use Rattle.segment_writer.specs.declared.laid.Laid.{Laid}
+use Rattle.segment_writer.specs.Senders.{header_with, frame_with, framed_by, piece_segment, turn_number}
+use Rattle.segment_writer.specs.SegmentOutlines.{framed_of}
+use Rattle.segment_writer.specs.declared.segment_outline.SegmentOutline.{SegmentOutline}
 use Rattle.segment_writer.specs.declared.pieces.Cursor.{Cursor}
 use Rattle.segment_writer.specs.declared.senders.Sender.{Sender}
 use Rattle.segment_writer.proofs.PartBytes.{mark, inside_is, left_is, first_instant-marked}
@@ -110,11 +110,11 @@ first_instant-cursor parts c p ps e place =
 -- ---- segments
 
 -- the segment of a piece, by its key, length and flags
-pub piece_is : (s : Sender) (own : List LinePart) (l : Laid) (at place : ℕ) → l.key ≡ record { moment = at; conn = s.conn; turn = s.turn; place = place } → at ≡ first_instant (left_at own l.from)
+pub piece_is : (s : Sender) (own : List LinePart) (l : SegmentOutline) (at place : ℕ) → l.key ≡ record { moment = at; conn = s.conn; turn = turn_number s.turn; place = place } → at ≡ first_instant (left_at own l.from)
     → l.len ≡ piece_size payload_limit (left_at own l.from) → l.flags ≡ (if is_chunk_border (drop l.len (left_at own l.from)) then psh_flag + ack_flag else ack_flag)
     → framed_of s own l ≡ framed_by s (place, piece_segment l.seq l.ack (first_of payload_limit (left_at own l.from)))
 piece_is s own l at place key_is at_is len_is flags_are =
     let ahead : List LineByte = left_at own l.from in
-    let key : l.key ≡ record { moment = first_instant ahead; conn = s.conn; turn = s.turn; place = place } = key_is ∙ (λ i. record { moment = at_is i; conn = s.conn; turn = s.turn; place = place }) in
+    let key : l.key ≡ record { moment = first_instant ahead; conn = s.conn; turn = turn_number s.turn; place = place } = key_is ∙ (λ i. record { moment = at_is i; conn = s.conn; turn = turn_number s.turn; place = place }) in
     let flags = flags_are ∙ ap (λ n. if is_chunk_border (drop n ahead) then psh_flag + ack_flag else ack_flag) len_is in
     λ i. record { key = key i; bytes = record_bytes (ticks_of s.unit) (key i).moment (frame_with (header_with s l.seq l.ack (flags i)) (values (take (len_is i) ahead))) }

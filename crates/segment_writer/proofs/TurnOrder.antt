@@ -1,5 +1,5 @@
 -- The segments of a turn are in order of key as they stand.
-use Rattle.std.proofs.Common.{◌≡◌, ◌≤◌, ℕ, ◌+◌, Bool, true, false, ◌&&◌, ◌==◌, nat_lt, List, [], ◌∷◌, filter, map, cond, refl, sym, arith}
+use Rattle.std.proofs.Common.{◌≡◌, ◌≤◌, ℕ, ◌+◌, Bool, true, false, ◌&&◌, ◌==◌, nat_lt, List, [], ◌∷◌, filter, map, cond, refl, sym, ap, arith}
 use Rattle.std.specs.List.{enumerate_from}
 use Rattle.std.proofs.lemmas.Bool.{le-ltb}
 use Rattle.lists.proofs.Lists.{all_filter}
@@ -9,11 +9,12 @@ use Rattle.reassembly.specs.RecordedLines.{Line}
 use Rattle.segment_writer.specs.WrittenSegments.{SentSegment, is_key_below, below, segments_sent_by}
 use Rattle.segment_writer.specs.OrderedLists.{NoneBelow, Ordered}
 use Rattle.segment_writer.specs.TimelyLines.{IsTimely}
-use Rattle.segment_writer.specs.Senders.{framed_by, own_side, peer_side, peer_in, line_written, opening_by, opening_written}
+use Rattle.segment_writer.specs.Senders.{framed_by, own_side, peer_side, peer_in, line_written, opening_by, opening_written, turn_number}
 use Rattle.segment_writer.specs.declared.framed.SegKey.{SegKey}
 use Rattle.segment_writer.specs.declared.framed.Framed.{Framed}
 use Rattle.segment_writer.specs.declared.senders.Sender.{Sender}
 use Rattle.segment_writer.proofs.SentClimb.{SentClimbs, line_climbs}
+use Rattle.segment_writer.specs.declared.senders.Turn.TheVariants.{Opening}
 
 -- ---- keys
 
@@ -42,7 +43,7 @@ ordered-filter p (y ∷ ys) ordered = by (p y) (ordered-filter p ys ordered.1)
 -- ---- a line
 
 -- what is sent from an instant and a place on has no key below one of the turn before both
-none_below-sent : (s : Sender) (x : Framed) (place : ℕ) (sent : List SentSegment) → x.key.conn ≡ s.conn → x.key.turn ≡ s.turn → x.key.place ≤ place → SentClimbs x.key.moment sent
+none_below-sent : (s : Sender) (x : Framed) (place : ℕ) (sent : List SentSegment) → x.key.conn ≡ s.conn → x.key.turn ≡ turn_number s.turn → x.key.place ≤ place → SentClimbs x.key.moment sent
     → NoneBelow below x (map (framed_by s) (enumerate_from place sent))
 none_below-sent s x place [] conn turn up climb = tt
 none_below-sent s x place (y ∷ sent) conn turn up climb =
@@ -68,12 +69,18 @@ line_ordered s own peer timely =
 abbrev key_of_turn : Sender → ℕ → ℕ → ℕ → SegKey
 key_of_turn client at turn place = record { moment = at; conn = client.conn; turn = turn; place = place }
 
-pub opening_ordered : (refused : Bool) (client : Sender) (at : ℕ) → client.turn ≡ 0 → Ordered below (opening_written refused client (peer_in client 0) at)
-opening_ordered refused client at first = ordered-filter (λ x. nat_lt x.key.moment (horizon (ticks_of client.unit))) (opening_by refused client (peer_in client 0) at) (by refused)
+pub opening_ordered : (refused : Bool) (client : Sender) (at : ℕ) → client.turn ≡ Opening → Ordered below (opening_written refused client (peer_in client Opening) at)
+opening_ordered refused client at opening = ordered-filter (λ x. nat_lt x.key.moment (horizon (ticks_of client.unit))) (opening_by refused client (peer_in client Opening) at) (by refused)
   where
-    by : (b : Bool) → Ordered below (opening_by b client (peer_in client 0) at)
-    by true = ((key_after (key_of_turn client at 0 1) (key_of_turn client at client.turn 0) (omega arith) refl first (omega arith), tt), (tt, tt))
+    own : ℕ
+    own = turn_number client.turn
+
+    first : own ≡ 0
+    first = ap turn_number opening
+
+    by : (b : Bool) → Ordered below (opening_by b client (peer_in client Opening) at)
+    by true = ((key_after (key_of_turn client at 0 1) (key_of_turn client at own 0) (omega arith) refl first (omega arith), tt), (tt, tt))
     by false = (
-      (key_after (key_of_turn client at 0 1) (key_of_turn client at client.turn 0) (omega arith) refl first (omega arith), (key_after (key_of_turn client at client.turn 2) (key_of_turn client at client.turn 0) (omega arith) refl refl (omega arith), tt)),
-      ((key_after (key_of_turn client at client.turn 2) (key_of_turn client at 0 1) (omega arith) refl (sym first) (omega arith), tt), (tt, tt)),
+      (key_after (key_of_turn client at 0 1) (key_of_turn client at own 0) (omega arith) refl first (omega arith), (key_after (key_of_turn client at own 2) (key_of_turn client at own 0) (omega arith) refl refl (omega arith), tt)),
+      ((key_after (key_of_turn client at own 2) (key_of_turn client at 0 1) (omega arith) refl (sym first) (omega arith), tt), (tt, tt)),
     )

@@ -11,17 +11,17 @@ use Rattle.reassembly.specs.Positions.{sequence_space}
 use Rattle.segment_writer.specs.WrittenSegments.{WrittenSide, SentSegment, Piece, opening_segment, pieces, segments_sent_from, end_segments, sequence_number, acknowledgment_number, end_numbers_before}
 use Rattle.segment_writer.specs.TimelyLines.{Climbs, IsTimely}
 use Rattle.segment_writer.specs.FirstPieces.{piece_size, values, first_instant, first_of}
-use Rattle.segment_writer.specs.LineCursors.{left_at, IsCursor, bytes_before, IsHeard}
+use Rattle.segment_writer.specs.LineCursors.{left_at, IsCursor, bytes_before, IsAcknowledged}
 use Rattle.segment_writer.specs.Senders.{own_side, peer_side, framed_by, piece_segment, ending_segments, line_written}
 use Rattle.segment_writer.specs.declared.framed.Framed.{Framed}
 use Rattle.segment_writer.specs.declared.pieces.Cursor.{Cursor}
-use Rattle.segment_writer.specs.declared.turns.Heard.{Heard}
+use Rattle.segment_writer.specs.declared.turns.Acknowledged.{Acknowledged}
 use Rattle.segment_writer.specs.declared.senders.Sender.{Sender}
 use Rattle.segment_writer.specs.declared.turns.Ending.{Ending}
 use Rattle.segment_writer.proofs.PieceCuts.{first_piece}
 use Rattle.segment_writer.proofs.RecordSteps.{piece_within, length-piece, first_instant-cursor}
 use Rattle.segment_writer.proofs.PartBytes.{inside_is, length-left}
-use Rattle.segment_writer.proofs.Listening.{climbs_behind, heard_later}
+use Rattle.segment_writer.proofs.Acknowledging.{climbs_behind, acknowledged_later}
 use Rattle.segment_writer.proofs.SentClimb.{climbs_from, line_climbs, end_climbs, SentClimbs, written_from, written_next, written_late}
 
 -- what is written of these bytes and the end, after n bytes
@@ -78,10 +78,10 @@ climbs_drop size low bytes end climbs =
 -- ---- a turn
 
 module _ (s : Sender) (own : List LinePart) (own_end : code.End) (peer : List LinePart) (peer_end : code.End) where
-  pub record Going (list : List Framed) (from : Cursor) (heard : Heard) (sent place : ℕ) : Type 0 where
+  pub record Going (list : List Framed) (from : Cursor) (acknowledged : Acknowledged) (sent place : ℕ) : Type 0 where
     pub last : ℕ
     pub from_is : IsCursor own from
-    pub heard_is : IsHeard peer heard last
+    pub acknowledged_is : IsAcknowledged peer acknowledged last
     pub climbs : Climbs last (left_at own from) (end_view own_end)
     pub bytes : sent + length (left_at own from) ≡ length (bytes_of_parts own)
     pub few : place ≤ sent
@@ -92,7 +92,7 @@ module _ (s : Sender) (own : List LinePart) (own_end : code.End) (peer : List Li
   going_starts list part none place left timely = record {
     last = 0;
     from_is = place;
-    heard_is = record { within = omega arith; count = refl; before = tt };
+    acknowledged_is = record { within = omega arith; count = refl; before = tt };
     climbs = subst (λ (xs : List LineByte). Climbs 0 xs (end_view own_end)) (sym left) timely.climbs;
     bytes = omega (arith, ap length left);
     few = omega arith;
@@ -100,7 +100,7 @@ module _ (s : Sender) (own : List LinePart) (own_end : code.End) (peer : List Li
         ∙ ap (left_written s (line_of own own_end) (line_of peer peer_end) 0 0) left ∙ whole_is s (line_of own own_end) (line_of peer peer_end);
   }
 
-  module _ (list : List Framed) (from : Cursor) (heard : Heard) (sent place : ℕ) (going : Going list from heard sent place) where
+  module _ (list : List Framed) (from : Cursor) (acknowledged : Acknowledged) (sent place : ℕ) (going : Going list from acknowledged sent place) where
     -- ---- at a part
 
     module _ (p : LinePart) (ps : List LinePart) (e : drop from.part own ≡ p ∷ ps) where
@@ -115,8 +115,8 @@ module _ (s : Sender) (own : List LinePart) (own_end : code.End) (peer : List Li
       climbs_here : (going.last ≤ first_instant (left_at own from)) × Climbs (first_instant (left_at own from)) (left_at own from) (end_view own_end)
       climbs_here = climbs_first going.last (left_at own from) (end_view own_end) some_left going.climbs
 
-      pub step_hears : IsHeard peer heard p.at
-      step_hears = heard_later peer heard going.last p.at going.heard_is (omega (arith, at_is, climbs_here.0))
+      pub step_acknowledges : IsAcknowledged peer acknowledged p.at
+      step_acknowledges = acknowledged_later peer acknowledged going.last p.at going.acknowledged_is (omega (arith, at_is, climbs_here.0))
 
       pub step_early : p.at < horizon (ticks_of s.unit) → first_instant (left_at own from) < horizon (ticks_of s.unit)
       step_early early = omega (arith, at_is)
@@ -138,14 +138,14 @@ module _ (s : Sender) (own : List LinePart) (own_end : code.End) (peer : List Li
             let more : 0 < piece_size payload_limit (left_at own from) = some_piece payload_limit (left_at own from) (omega arith) some in
             omega (arith, ap length is, length-drop size (left_at own from))
 
-        pub going_on : (after : Cursor) (h : Heard) (seq ack at_place : ℕ) (framed : Framed) (more : List Framed) → p.at < horizon (ticks_of s.unit)
+        pub going_on : (after : Cursor) (h : Acknowledged) (seq ack at_place : ℕ) (framed : Framed) (more : List Framed) → p.at < horizon (ticks_of s.unit)
             → IsCursor own after → left_at own after ≡ drop size (left_at own from)
-            → IsHeard peer h p.at → h.bytes ≡ bytes_before p.at (bytes_of_parts peer)
+            → IsAcknowledged peer h p.at → h.bytes ≡ bytes_before p.at (bytes_of_parts peer)
             → seq ≡ (s.base + 1 + sent) % sequence_space → ack ≡ (s.peer_base + 1 + h.bytes + end_numbers_before p.at (end_view peer_end)) % sequence_space → at_place ≡ place
             → framed ≡ framed_by s (at_place, piece_segment seq ack (first_of payload_limit (left_at own from)))
             → more ≡ list ++ framed ∷ []
             → Going more after h (sent + size) (place + 1)
-        going_on after h seq ack at_place framed more early is_cursor left hears count seq_is ack_is place_is framed_is more_is =
+        going_on after h seq ack at_place framed more early is_cursor left acknowledges count seq_is ack_is place_is framed_is more_is =
             let own_line : Line = line_of own own_end in
             let peer_line : Line = line_of peer peer_end in
             let some : 0 < length (left_at own from) = some_left in
@@ -160,7 +160,7 @@ module _ (s : Sender) (own : List LinePart) (own_end : code.End) (peer : List Li
             record {
               last = p.at;
               from_is = is_cursor;
-              heard_is = hears;
+              acknowledged_is = acknowledges;
               climbs = subst (λ (xs : List LineByte). Climbs p.at xs (end_view own_end)) (sym left)
                   (climbs_from p.at (first_instant (left_at own from)) (drop size (left_at own from)) (end_view own_end) (omega (arith, at_is))
                   (climbs_drop size (first_instant (left_at own from)) (left_at own from) (end_view own_end) climbs_here.1));
@@ -193,18 +193,18 @@ module _ (s : Sender) (own : List LinePart) (own_end : code.End) (peer : List Li
       going_ends is = ended None is refl
 
       module _ (o : Ending) (is : (a b : WrittenSide) (n : ℕ) → end_segments a b n (end_view own_end) ≡ ending_segments a b n (Some o)) where
-        pub end_hears : IsHeard peer heard o.at
-        end_hears =
+        pub end_acknowledges : IsAcknowledged peer acknowledged o.at
+        end_acknowledges =
             let not_before = subst (λ (xs : List LineByte). Climbs going.last xs (end_view own_end)) nothing_left going.climbs in
             let a : WrittenSide = own_side s (line_of own own_end) in
             let b : WrittenSide = peer_side s (line_of peer peer_end) in
             let climb = subst (λ (xs : List SentSegment). SentClimbs going.last xs) (is a b sent) (end_climbs going.last a b sent (end_view own_end) not_before) in
-            heard_later peer heard going.last o.at going.heard_is climb.0
+            acknowledged_later peer acknowledged going.last o.at going.acknowledged_is climb.0
 
         pub going_ends_late : horizon (ticks_of s.unit) ≤ o.at → list ≡ line_written s (line_of own own_end) (line_of peer peer_end)
         going_ends_late late = ended (Some o) is (written_late s place o.at (ending_segments (own_side s (line_of own own_end)) (peer_side s (line_of peer peer_end)) sent (Some o)) late ((let same : o.at ≤ o.at = omega arith in same), tt))
 
-        pub going_ends_with : (h : Heard) (seq ack at_place : ℕ) (framed : Framed) (more : List Framed) → o.at < horizon (ticks_of s.unit) → h.bytes ≡ bytes_before o.at (bytes_of_parts peer)
+        pub going_ends_with : (h : Acknowledged) (seq ack at_place : ℕ) (framed : Framed) (more : List Framed) → o.at < horizon (ticks_of s.unit) → h.bytes ≡ bytes_before o.at (bytes_of_parts peer)
             → seq ≡ (s.base + 1 + sent) % sequence_space → ack ≡ (s.peer_base + 1 + h.bytes + end_numbers_before o.at (end_view peer_end)) % sequence_space → at_place ≡ place
             → framed ≡ framed_by s (at_place, opening_segment o.at seq ack o.flags) → more ≡ list ++ framed ∷ []
             → more ≡ line_written s (line_of own own_end) (line_of peer peer_end)

@@ -13,6 +13,7 @@ use Rattle.segment_writer.specs.TimelyLines.{Climbs, LinesAreTimely}
 use Rattle.segment_writer.specs.Senders.{client_in, peer_in, line_written, opening_by, opening_written, connection_written}
 use Rattle.segment_writer.specs.declared.framed.Framed.{Framed}
 use Rattle.segment_writer.specs.declared.senders.Sender.{Sender}
+use Rattle.segment_writer.specs.declared.senders.Turn.TheVariants.{Opening, ClientLine, ServerLine}
 
 -- ---- lines of the rule are timely
 
@@ -29,22 +30,22 @@ lines_are_timely l is = record { climbs = by l.bytes is.chunks is.ends; short = 
 
 -- ---- the opening
 
-opening_is : (unit : Unit) (refused : Bool) (c : WrittenConnection) → opening_by refused (client_in unit c 0) (peer_in (client_in unit c 0) 0) c.opened ≡ opening_turn refused (ticks_of unit) c
+opening_is : (unit : Unit) (refused : Bool) (c : WrittenConnection) → opening_by refused (client_in unit c Opening) (peer_in (client_in unit c Opening) Opening) c.opened ≡ opening_turn refused (ticks_of unit) c
 unfolding frame_bytes
 opening_is unit true c = refl
 opening_is unit false c = refl
 
 -- ---- the three turns, by a client of a unit of so many ticks
 
-pub connection_is : (client : Sender) (unit : Unit) (ticks : ℕ) (c : WrittenConnection) (up down : Line) → client ≡ client_in unit c 0 → ticks_of unit ≡ ticks → up ≡ c.client.line → down ≡ c.server.line
+pub connection_is : (client : Sender) (unit : Unit) (ticks : ℕ) (c : WrittenConnection) (up down : Line) → client ≡ client_in unit c Opening → ticks_of unit ≡ ticks → up ≡ c.client.line → down ≡ c.server.line
     → connection_written c.refused client c.opened up down ≡ written_segments ticks c
 unfolding line_written frame_bytes written_segments
 connection_is client unit ticks c up down client_is same up_is down_is =
     let in_time : Framed → Bool = λ x. nat_lt x.key.moment (horizon ticks) in
-    let opening : opening_written c.refused (client_in unit c 0) (peer_in (client_in unit c 0) 0) c.opened ≡ segments_before_horizon ticks (opening_turn c.refused ticks c) =
+    let opening : opening_written c.refused (client_in unit c Opening) (peer_in (client_in unit c Opening) Opening) c.opened ≡ segments_before_horizon ticks (opening_turn c.refused ticks c) =
     ap (segments_before_horizon (ticks_of unit)) (opening_is unit c.refused c) ∙ ap (λ n. segments_before_horizon n (opening_turn c.refused n c)) same in
-    let ups : line_written (client_in unit c 1) c.client.line c.server.line ≡ segments_before_horizon ticks (up_turn ticks c) = ap (λ n. segments_before_horizon n (up_turn n c)) same in
-    let downs : line_written (peer_in (client_in unit c 0) 2) c.server.line c.client.line ≡ segments_before_horizon ticks (down_turn ticks c) = ap (λ n. segments_before_horizon n (down_turn n c)) same in
+    let ups : line_written (client_in unit c ClientLine) c.client.line c.server.line ≡ segments_before_horizon ticks (up_turn ticks c) = ap (λ n. segments_before_horizon n (up_turn n c)) same in
+    let downs : line_written (peer_in (client_in unit c Opening) ServerLine) c.server.line c.client.line ≡ segments_before_horizon ticks (down_turn ticks c) = ap (λ n. segments_before_horizon n (down_turn n c)) same in
     (λ i. connection_written c.refused (client_is i) c.opened (up_is i) (down_is i))
     ∙ ap sorted_by_key
     (ap₂ (λ xs ys. xs ++ ys) (ap₂ (λ xs ys. xs ++ ys) opening ups ∙ sym (filter-append in_time (opening_turn c.refused ticks c) (up_turn ticks c))) downs

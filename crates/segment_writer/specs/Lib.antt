@@ -5,7 +5,7 @@ pub mod TimelyLines
 pub mod FirstPieces
 pub mod LineCursors
 pub mod Senders
-pub mod LaidSegments
+pub mod SegmentOutlines
 pub mod OrderedLists
 pub mod KeyLaws
 pub mod SentRows

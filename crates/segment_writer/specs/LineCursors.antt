@@ -1,4 +1,4 @@
--- How far a pass over the parts of a line is, and what was heard of the peer's line before an instant.
+-- How far a pass over the parts of a line is, and what was acknowledged of the peer's line before an instant.
 use Rattle.std.specs.Prelude.{◌≡◌, ◌≤◌, ◌<◌, ℕ, ◌||◌, not, Bool, true, false, List, [], ◌∷◌, length, filter, drop, take, nat_lt}
 use Rattle.std.specs.List.{AllByRecursion}
 use Rattle.reassembly.specs.RecordedLines.{LineByte}
@@ -6,7 +6,7 @@ use Rattle.reassembly.specs.LineView.{bytes_of_parts}
 use Rattle.reassembly.specs.declared.line_parts.LinePart.{LinePart}
 use Rattle.segment_writer.specs.FirstPieces.{values}
 use Rattle.segment_writer.specs.declared.pieces.Cursor.{Cursor}
-use Rattle.segment_writer.specs.declared.turns.Heard.{Heard}
+use Rattle.segment_writer.specs.declared.turns.Acknowledged.{Acknowledged}
 
 -- ---- in the line that is written
 
@@ -37,13 +37,13 @@ has_none (x ∷ xs) = false
 abbrev pub goes_on : LinePart → Bool
 goes_on p = not p.starts || has_none p.bytes.now
 
--- ---- in the line that is heard
+-- ---- in the line that is acknowledged
 
 abbrev pub bytes_before : ℕ → List LineByte → ℕ
 bytes_before at bytes = length (filter (λ b. nat_lt b.at at) bytes)
 
 -- so many parts, with so many bytes, each before the instant
-pub record IsHeard (parts : List LinePart) (h : Heard) (at : ℕ) : Type 0 where
+pub record IsAcknowledged (parts : List LinePart) (h : Acknowledged) (at : ℕ) : Type 0 where
   pub within : h.part ≤ length parts
   pub count : h.bytes ≡ length (bytes_of_parts (take h.part parts))
   pub before : AllByRecursion (λ b. b.at < at) (bytes_of_parts (take h.part parts))

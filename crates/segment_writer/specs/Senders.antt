@@ -12,12 +12,20 @@ use Rattle.reassembly.specs.Positions.{sequence_space}
 use Rattle.segment_writer.specs.WrittenSegments.{WrittenSide, WrittenConnection, Piece, SentSegment, segments_sent_by, segments_before_horizon, sequence_number, acknowledgment_number, opening_segment, sorted_by_key}
 use Rattle.segment_writer.specs.declared.framed.Framed.{Framed}
 use Rattle.segment_writer.specs.declared.senders.Sender.{Sender}
+use Rattle.segment_writer.specs.declared.senders.Turn.{Turn}
+use Rattle.segment_writer.specs.declared.senders.Turn.TheVariants.{Opening, ClientLine, ServerLine}
 use Rattle.segment_writer.specs.declared.turns.Ending.{Ending}
 
 -- ---- who sends
 
+-- the number of a turn in the keys of its segments
+abbrev pub turn_number : Turn → ℕ
+turn_number Opening = 0
+turn_number ClientLine = 1
+turn_number ServerLine = 2
+
 -- the client of a connection in a turn, where instants count in a unit
-abbrev pub client_in : Unit → WrittenConnection → ℕ → Sender
+abbrev pub client_in : Unit → WrittenConnection → Turn → Sender
 client_in unit c turn = record {
   unit = unit;
   conn = c.number;
@@ -33,7 +41,7 @@ client_in unit c turn = record {
 }
 
 -- who answers a sender, in a turn
-abbrev pub peer_in : Sender → ℕ → Sender
+abbrev pub peer_in : Sender → Turn → Sender
 peer_in s turn = record {
   unit = s.unit;
   conn = s.conn;
@@ -49,7 +57,7 @@ peer_in s turn = record {
 }
 
 -- the same sender in another turn
-abbrev pub in_turn : Sender → ℕ → Sender
+abbrev pub in_turn : Sender → Turn → Sender
 in_turn s turn = record {
   unit = s.unit;
   conn = s.conn;
@@ -91,7 +99,7 @@ frame_with h payload = headers h payload ++ payload
 -- a segment that it sends, in its place
 abbrev pub framed_by : Sender → ℕ × SentSegment → Framed
 framed_by s (place, sent) = record {
-  key = record { moment = sent.at; conn = s.conn; turn = s.turn; place = place };
+  key = record { moment = sent.at; conn = s.conn; turn = turn_number s.turn; place = place };
   bytes = record_bytes (ticks_of s.unit) sent.at (frame_with (header_with s sent.seq sent.ack sent.flags) sent.payload);
 }
 
@@ -137,5 +145,5 @@ opening_written refused client server at = segments_before_horizon (ticks_of cli
 -- all segments of a connection, in order of key: the opening by its client, of that instant, and both lines
 abbrev pub connection_written : Bool → Sender → ℕ → Line → Line → List Framed
 connection_written refused client at up down =
-    sorted_by_key ((opening_written refused client (peer_in client 0) at ++ line_written (in_turn client 1) up down)
-    ++ line_written (peer_in client 2) down up)
+    sorted_by_key ((opening_written refused client (peer_in client Opening) at ++ line_written (in_turn client ClientLine) up down)
+    ++ line_written (peer_in client ServerLine) down up)

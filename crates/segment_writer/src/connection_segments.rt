@@ -9,15 +9,16 @@ ghost use Rattle.toxic_defs.specs.DeliveredLines.{delivered_view};
 ghost use Rattle.segment_writer.specs.WrittenConnections.{written_connection};
 ghost use Rattle.segment_writer.specs.WrittenSegments.{written_segments};
 ghost use Rattle.segment_writer.specs.Senders.{peer_in, connection_written, opening_written};
-ghost use Rattle.segment_writer.specs.LaidSegments.{framed_in, IsLaidIn};
+ghost use Rattle.segment_writer.specs.declared.senders.Turn.TheVariants.{Opening};
+ghost use Rattle.segment_writer.specs.SegmentOutlines.{framed_in, IsOutlineIn};
 ghost use Rattle.segment_writer.specs.TimelyLines.{IsTimely};
 
 use crate::framed::SegList;
 use crate::keyed::merged;
-use crate::laid::Laid;
-use crate::layout::Layout;
-use crate::records::bare_laid;
-use crate::senders::{Numbers, Sender, client_in, in_turn, peer_in};
+use crate::segment_outline::SegmentOutline;
+use crate::connection_outline::ConnectionOutline;
+use crate::records::bare_outline;
+use crate::senders::{Numbers, Sender, Turn, client_in, in_turn, peer_in};
 use crate::turns::line_segments;
 use conn_table::Conn;
 use frame_headers::Flags;
@@ -52,26 +53,26 @@ pub fn segments(
         up,
         down,
     };
-    lay_out(alloc, conn, recorded, copy)?.written(alloc)
+    outlined(alloc, conn, recorded, copy)?.written(alloc)
 }
 
-/// The segments of a connection, as [`segments`] gives them, laid out: their records are written later.
+/// The segments of a connection, as [`segments`] gives them, in outline: their records are written later.
 ///
 /// # Errors
 /// Where a growth is refused; what was delivered is then dropped.
-pub fn lay_out<'a>(
+pub fn outlined<'a>(
     alloc: Global,
     conn: &Conn,
     recorded: &Recorded<'_>,
     delivered: Delivered<'a>,
-) -> Result<Layout<'a>, AllocError>
+) -> Result<ConnectionOutline<'a>, AllocError>
     requires up { IsLine delivered.up.line }
     requires down { IsLine delivered.down.line }
-    ensures { IfOk result (λ layout. layout ≡ written_segments recorded.now.up.ticks
+    ensures { IfOk result (λ outline. outline ≡ written_segments recorded.now.up.ticks
         (written_connection conn.now.number conn.now.vlan conn.now.client conn.now.server (recorded_view recorded.now)
         (delivered_view delivered.entry))) }
 {
-    let client = client_in(conn, recorded, 0);
+    let client = client_in(conn, recorded, Turn::Opening);
     let Delivered {
         proxy: _,
         refused,
@@ -82,7 +83,7 @@ pub fn lay_out<'a>(
     let down_end = down.end();
     let ups = up.into_parts();
     let downs = down.into_parts();
-    let laid = laid_segments(
+    let segments = outlined_segments(
         alloc,
         &client,
         recorded.opened,
@@ -92,11 +93,11 @@ pub fn lay_out<'a>(
         &downs,
         &down_end,
     )?;
-    Ok(Layout::of(client, ups, downs, laid))
+    Ok(ConnectionOutline::of(client, ups, downs, segments))
 }
 
-// The segments of a connection, of its client in turn 0 and the parts and ends of what is delivered, laid out in order of key.
-fn laid_segments(
+// The segments of a connection, of its client in the opening and the parts and ends of what is delivered, in outline and in order of key.
+fn outlined_segments(
     alloc: Global,
     client: &Sender,
     at: Moment,
@@ -105,19 +106,19 @@ fn laid_segments(
     up_end: &End,
     down: &[LinePart<'_>],
     down_end: &End,
-) -> Result<Vec<Laid>, AllocError>
+) -> Result<Vec<SegmentOutline>, AllocError>
     requires client { client.now.is_server ≡ false }
-    requires turn { client.now.turn ≡ 0 }
+    requires turn { client.now.turn ≡ Opening }
     requires up { IsTimely (line_of up.now up_end.now) }
     requires down { IsTimely (line_of down.now down_end.now) }
     ensures framed { IfOk result (λ list. map (framed_in client.now up.now down.now) list.items
         ≡ connection_written refused client.now at (line_of up.now up_end.now) (line_of down.now down_end.now)) }
-    ensures laid { IfOk result (λ list. AllByRecursion (IsLaidIn client.now up.now down.now) list.items) }
+    ensures outline { IfOk result (λ list. AllByRecursion (IsOutlineIn client.now up.now down.now) list.items) }
 {
-    let upward = in_turn(client, 1);
+    let upward = in_turn(client, Turn::ClientLine);
     let ups = line_segments(alloc, &upward, up, up_end, down, down_end)?;
     let opening = opening_segments(alloc, client, at, refused, ups.len())?;
-    let downward = peer_in(client, 2);
+    let downward = peer_in(client, Turn::ServerLine);
     let downs = line_segments(alloc, &downward, down, down_end, up, up_end)?;
     let list = merged(alloc, opening, ups)?;
     merged(alloc, list, downs)
@@ -131,33 +132,33 @@ fn opening_segments(
     at: Moment,
     refused: bool,
     more: usize,
-) -> Result<Vec<Laid>, AllocError>
+) -> Result<Vec<SegmentOutline>, AllocError>
     requires { client.now.is_server ≡ false }
     ensures framed { (up down : List LinePart) → IfOk result (λ list. map (framed_in client.now up down) list.items
-        ≡ opening_written refused client.now (peer_in client.now 0) at) }
-    ensures laid { (up down : List LinePart) → IfOk result (λ list. AllByRecursion (IsLaidIn client.now up down) list.items) }
+        ≡ opening_written refused client.now (peer_in client.now Opening) at) }
+    ensures outline { (up down : List LinePart) → IfOk result (λ list. AllByRecursion (IsOutlineIn client.now up down) list.items) }
 {
-    let server = peer_in(client, 0);
+    let server = peer_in(client, Turn::Opening);
     let mut list = Vec::with_capacity(alloc, more.saturating_add(3))?;
     if !at.is_before_horizon(client.unit) {
         return Ok(list);
     }
     let syn = numbers(client.base, 0, 0);
-    list.push(bare_laid(client, at, syn, Flags::SYN))?;
+    list.push(bare_outline(client, at, syn, Flags::SYN))?;
     let client_next = client.base.wrapping_add(1);
     if refused {
         let refusal = numbers(0, client_next, 1);
-        list.push(bare_laid(&server, at, refusal, Flags::RST.with(Flags::ACK)))?;
+        list.push(bare_outline(&server, at, refusal, Flags::RST.with(Flags::ACK)))?;
         return Ok(list);
     }
     let answer = numbers(server.base, client_next, 1);
-    list.push(bare_laid(&server, at, answer, Flags::SYN.with(Flags::ACK)))?;
+    list.push(bare_outline(&server, at, answer, Flags::SYN.with(Flags::ACK)))?;
     let third = numbers(client_next, server.base.wrapping_add(1), 2);
-    list.push(bare_laid(client, at, third, Flags::ACK))?;
+    list.push(bare_outline(client, at, third, Flags::ACK))?;
     Ok(list)
 }
 
-// The numbers of a segment in the first turn.
+// The numbers of a segment of the opening.
 fn numbers(seq: u32, ack: u32, place: u32) -> Numbers
     ensures { result ≡ record { seq = seq; ack = ack; place = place } }
 {

@@ -45,7 +45,7 @@ impl Keyed for Framed {
 pub trait Keys: Drop {
     ghost use Rattle.std.specs.Prelude.{◌≡◌, ◌<◌, ◌++◌, List, length, slice_index_or, OnOk, OnErr};
     ghost use Rattle.segment_writer.specs.declared.framed.Framed.{Framed};
-    ghost use Rattle.segment_writer.specs.LaidSegments.{no_segment};
+    ghost use Rattle.segment_writer.specs.SegmentOutlines.{no_segment};
 
     ghost segments: { Self → List Framed };
 

@@ -4,14 +4,14 @@
 mod connection_segments;
 mod framed;
 mod keyed;
-mod laid;
+mod segment_outline;
 pub mod laws;
-mod layout;
+mod connection_outline;
 mod pieces;
 mod records;
 mod senders;
 mod turns;
 
-pub use connection_segments::{lay_out, segments};
+pub use connection_segments::{outlined, segments};
 pub use framed::{Framed, Keys, RecordBytes, SegKey, SegList};
-pub use layout::Layout;
+pub use connection_outline::ConnectionOutline;

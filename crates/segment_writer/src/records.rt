@@ -1,4 +1,4 @@
-//! The records of segments that are laid out, and how they are laid out.
+//! Outlines of single segments, and the records that are written of them.
 ghost use Rattle.std.specs.Prelude.{◌≡◌, ◌≤◌, ◌<◌, ◌+◌, ◌++◌, List, length, drop, take, replicate, min, vec_len, vec_capacity, IfOk, IsOk, OnOk, OnErr, if◌then◌else◌};
 ghost use Rattle.pcap_records.specs.Instants.{horizon, ticks_of};
 ghost use Rattle.pcap_records.specs.Reading.{record_header_len};
@@ -11,9 +11,9 @@ ghost use Rattle.segment_writer.specs.WrittenSegments.{opening_segment};
 ghost use Rattle.segment_writer.specs.FirstPieces.{first_instant, first_of, piece_size};
 ghost use Rattle.segment_writer.specs.LineCursors.{left_at, IsCursor};
 ghost use Rattle.segment_writer.specs.Senders.{frame_with, framed_by, piece_segment};
-ghost use Rattle.segment_writer.specs.LaidSegments.{framed_of, laid_payload, IsLaid};
+ghost use Rattle.segment_writer.specs.SegmentOutlines.{framed_of, outlined_payload, IsOutline};
 
-use crate::laid::Laid;
+use crate::segment_outline::SegmentOutline;
 use crate::pieces::{Cursor, copy_piece, is_border, part_at, skip_piece};
 use crate::senders::{Numbers, Sender, header_with, key_at};
 use frame_headers::{Flags, Header, LEAST_HEADERS_LEN, MOST_HEADERS_LEN, headers_len, put_headers};
@@ -60,13 +60,13 @@ fn piece_flags(ends: bool) -> Flags
 }
 
 /// A segment without payload.
-pub(crate) fn bare_laid(sender: &Sender, at: Moment, numbers: Numbers, flags: Flags) -> Laid
+pub(crate) fn bare_outline(sender: &Sender, at: Moment, numbers: Numbers, flags: Flags) -> SegmentOutline
     requires { at < horizon (ticks_of sender.now.unit) }
     ensures framed { (own : List LinePart) → framed_of sender.now own result
         ≡ framed_by sender.now (numbers.place, opening_segment at numbers.seq numbers.ack flags) }
-    ensures laid { (own : List LinePart) → IsLaid sender.now own result }
+    ensures outline { (own : List LinePart) → IsOutline sender.now own result }
 {
-    Laid {
+    SegmentOutline {
         key: key_at(sender, at, numbers.place),
         is_server: sender.is_server,
         flags,
@@ -78,13 +78,13 @@ pub(crate) fn bare_laid(sender: &Sender, at: Moment, numbers: Numbers, flags: Fl
 }
 
 /// The segment of the piece of `len` bytes that begins at a cursor, and the cursor after it.
-pub(crate) fn piece_laid(
+pub(crate) fn piece_outline(
     sender: &Sender,
     own: &[LinePart<'_>],
     from: Cursor,
     len: usize,
     numbers: Numbers,
-) -> (Laid, Cursor)
+) -> (SegmentOutline, Cursor)
     requires cursor { IsCursor own.now from }
     requires before { from.part < length own.now }
     requires len { len ≡ piece_size payload_limit (left_at own.now from) }
@@ -92,13 +92,13 @@ pub(crate) fn piece_laid(
     ensures framed { framed_of sender.now own.now result.0
         ≡ framed_by sender.now
         (numbers.place, piece_segment numbers.seq numbers.ack (first_of payload_limit (left_at own.now from))) }
-    ensures laid { IsLaid sender.now own.now result.0 }
+    ensures outline { IsOutline sender.now own.now result.0 }
     ensures cursor { IsCursor own.now result.1 }
     ensures left { left_at own.now result.1 ≡ drop len (left_at own.now from) }
 {
     let at = part_at(own, from.part).at;
     let after = skip_piece(own, from, len);
-    let laid = Laid {
+    let outline = SegmentOutline {
         key: key_at(sender, at, numbers.place),
         is_server: sender.is_server,
         flags: piece_flags(is_border(own, after)),
@@ -107,14 +107,14 @@ pub(crate) fn piece_laid(
         from,
         len,
     };
-    (laid, after)
+    (outline, after)
 }
 
 /// The length of the record of a segment.
-pub(crate) fn record_len(sender: &Sender, laid: &Laid) -> usize
-    ensures { result ≡ min (record_header_len + headers_len sender.now.vlan + laid.now.len) usize.MAX }
+pub(crate) fn record_len(sender: &Sender, outline: &SegmentOutline) -> usize
+    ensures { result ≡ min (record_header_len + headers_len sender.now.vlan + outline.now.len) usize.MAX }
 {
-    (RECORD_HEADER_LEN + headers_len(sender.vlan)).saturating_add(laid.len)
+    (RECORD_HEADER_LEN + headers_len(sender.vlan)).saturating_add(outline.len)
 }
 
 // Appends the payload of a segment.
@@ -122,16 +122,16 @@ fn put_payload(
     out: &mut Vec<u8>,
     sender: &Sender,
     own: &[LinePart<'_>],
-    laid: &Laid,
+    outline: &SegmentOutline,
 ) -> Result<(), AllocError>
-    requires { IsLaid sender.now own.now laid.now }
-    ensures bytes { OnOk result (out.new.items ≡ out.old.items ++ laid_payload own.now laid.now) }
-    ensures succeeds { vec_len out.old + laid.now.len ≤ vec_capacity out.old → IsOk result }
+    requires { IsOutline sender.now own.now outline.now }
+    ensures bytes { OnOk result (out.new.items ≡ out.old.items ++ outlined_payload own.now outline.now) }
+    ensures succeeds { vec_len out.old + outline.now.len ≤ vec_capacity out.old → IsOk result }
 {
-    if laid.len == 0 {
+    if outline.len == 0 {
         return Ok(());
     }
-    copy_piece(out, own, laid.from, laid.len)
+    copy_piece(out, own, outline.from, outline.len)
 }
 
 /// Appends the record of a segment. Room for all of it is made first, so that a growth that is refused leaves `out` as it was.
@@ -139,16 +139,16 @@ pub(crate) fn put_record(
     out: &mut Vec<u8>,
     sender: &Sender,
     own: &[LinePart<'_>],
-    laid: &Laid,
+    outline: &SegmentOutline,
 ) -> Result<(), AllocError>
-    requires { IsLaid sender.now own.now laid.now }
-    ensures ok { OnOk result (out.new.items ≡ out.old.items ++ (framed_of sender.now own.now laid.now).bytes) }
+    requires { IsOutline sender.now own.now outline.now }
+    ensures ok { OnOk result (out.new.items ≡ out.old.items ++ (framed_of sender.now own.now outline.now).bytes) }
     ensures err { OnErr result (out.new.items ≡ out.old.items) }
 {
-    out.reserve(record_len(sender, laid))?;
-    let header = header_with(sender, laid.seq, laid.ack, laid.flags);
-    let frame = open_record(out, laid.key.moment, header.vlan, laid.len, sender.unit)?;
-    put_payload(out, sender, own, laid)?;
+    out.reserve(record_len(sender, outline))?;
+    let header = header_with(sender, outline.seq, outline.ack, outline.flags);
+    let frame = open_record(out, outline.key.moment, header.vlan, outline.len, sender.unit)?;
+    put_payload(out, sender, own, outline)?;
     put_headers(&mut out[frame..], &header);
     Ok(())
 }

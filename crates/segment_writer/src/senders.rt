@@ -4,7 +4,7 @@ ghost use Rattle.pcap_records.specs.Instants.{ticks_of};
 ghost use Rattle.reassembly.specs.RecordedView.{recorded_view};
 ghost use Rattle.toxic_defs.specs.DeliveredLines.{DeliveredConnection};
 ghost use Rattle.segment_writer.specs.WrittenConnections.{written_connection};
-ghost use Rattle.segment_writer.specs.Senders.{client_in, peer_in, in_turn, header_with};
+ghost use Rattle.segment_writer.specs.Senders.{client_in, peer_in, in_turn, header_with, turn_number};
 
 use crate::framed::SegKey;
 use conn_table::Conn;
@@ -12,12 +12,39 @@ use frame_headers::{Flags, Header, Peer};
 use pcap_records::{Moment, Unit};
 use reassembly::Recorded;
 
+/// Whose turn it is to write. At one instant a connection's turns write in this order.
+#[derive(Clone, Copy, Debug)]
+pub(crate) enum Turn {
+    /// The opening, which both sides write.
+    Opening,
+    /// The client's line.
+    ClientLine,
+    /// The server's line.
+    ServerLine,
+}
+
+impl Turn {
+    ghost use Rattle.std.specs.Prelude.{◌≡◌};
+    ghost use Rattle.segment_writer.specs.Senders.{turn_number};
+
+    /// Its number in the keys of its segments.
+    fn number(self) -> u8
+        ensures { result ≡ turn_number self }
+    {
+        match self {
+            Turn::Opening => 0,
+            Turn::ClientLine => 1,
+            Turn::ServerLine => 2,
+        }
+    }
+}
+
 /// Who sends the segments of a turn, and in which unit instants count.
 #[derive(Clone, Copy, Debug)]
 pub(crate) struct Sender {
     pub unit: Unit,
     pub conn: u32,
-    pub turn: u8,
+    pub turn: Turn,
     pub is_server: bool,
     pub mac_from: [u8; 6],
     pub mac_to: [u8; 6],
@@ -37,7 +64,7 @@ pub(crate) struct Numbers {
 }
 
 /// The client of a connection, in a turn.
-pub(crate) fn client_in(conn: &Conn, recorded: &Recorded<'_>, turn: u8) -> Sender
+pub(crate) fn client_in(conn: &Conn, recorded: &Recorded<'_>, turn: Turn) -> Sender
     ensures ticks { ticks_of result.unit ≡ recorded.now.up.ticks }
     ensures sender { (d : DeliveredConnection) → result ≡ client_in result.unit
         (written_connection conn.now.number conn.now.vlan conn.now.client conn.now.server (recorded_view recorded.now) d) turn }
@@ -60,7 +87,7 @@ pub(crate) fn client_in(conn: &Conn, recorded: &Recorded<'_>, turn: u8) -> Sende
 }
 
 /// Who answers a sender, in a turn.
-pub(crate) fn peer_in(sender: &Sender, turn: u8) -> Sender
+pub(crate) fn peer_in(sender: &Sender, turn: Turn) -> Sender
     ensures { result ≡ peer_in sender.now turn }
 {
     let mac_from = sender.mac_to;
@@ -81,7 +108,7 @@ pub(crate) fn peer_in(sender: &Sender, turn: u8) -> Sender
 }
 
 /// The same sender in another turn.
-pub(crate) fn in_turn(sender: &Sender, turn: u8) -> Sender
+pub(crate) fn in_turn(sender: &Sender, turn: Turn) -> Sender
     ensures { result ≡ in_turn sender.now turn }
 {
     Sender { turn, ..*sender }
@@ -107,12 +134,12 @@ pub(crate) fn header_with(sender: &Sender, seq: u32, ack: u32, flags: Flags) -> 
 
 /// The key of a segment at a place of a sender's turn.
 pub(crate) fn key_at(sender: &Sender, moment: Moment, place: u32) -> SegKey
-    ensures { result ≡ record { moment = moment; conn = sender.now.conn; turn = sender.now.turn; place = place } }
+    ensures { result ≡ record { moment = moment; conn = sender.now.conn; turn = turn_number sender.now.turn; place = place } }
 {
     SegKey {
         moment,
         conn: sender.conn,
-        turn: sender.turn,
+        turn: sender.turn.number(),
         place,
     }
 }

@@ -8,13 +8,13 @@ ghost use Rattle.reassembly.specs.RecordedLines.{live};
 ghost use Rattle.reassembly.specs.Positions.{sequence_space};
 ghost use Rattle.segment_writer.specs.WrittenSegments.{WrittenSide, end_numbers_before, end_segments};
 ghost use Rattle.segment_writer.specs.TimelyLines.{Climbs, IsTimely};
-ghost use Rattle.segment_writer.specs.LineCursors.{has_none, bytes_before, IsHeard};
+ghost use Rattle.segment_writer.specs.LineCursors.{has_none, bytes_before, IsAcknowledged};
 ghost use Rattle.segment_writer.specs.Senders.{ending_segments, line_written};
-ghost use Rattle.segment_writer.specs.LaidSegments.{framed_of, IsLaid};
+ghost use Rattle.segment_writer.specs.SegmentOutlines.{framed_of, IsOutline};
 
-use crate::laid::Laid;
+use crate::segment_outline::SegmentOutline;
 use crate::pieces::{Cursor, next_filled, part_at, piece_len};
-use crate::records::{bare_laid, piece_laid};
+use crate::records::{bare_outline, piece_outline};
 use crate::senders::{Numbers, Sender};
 use frame_headers::Flags;
 use pcap_records::{Moment, Unit};
@@ -29,19 +29,19 @@ pub(crate) fn line_segments(
     own_end: &End,
     peer: &[LinePart<'_>],
     peer_end: &End,
-) -> Result<Vec<Laid>, AllocError>
+) -> Result<Vec<SegmentOutline>, AllocError>
     requires own { IsTimely (line_of own.now own_end.now) }
     requires peer { IsTimely (line_of peer.now peer_end.now) }
     ensures framed { IfOk result (λ list. map (framed_of sender.now own.now) list.items
         ≡ line_written sender.now (line_of own.now own_end.now) (line_of peer.now peer_end.now)) }
-    ensures laid { IfOk result (λ list. AllByRecursion (IsLaid sender.now own.now) list.items) }
+    ensures outline { IfOk result (λ list. AllByRecursion (IsOutline sender.now own.now) list.items) }
 {
     let mut list = Vec::with_capacity(alloc, own.len().saturating_add(1))?;
     let mut from = Cursor {
         part: next_filled(own, 0),
         offset: 0,
     };
-    let mut heard = Heard { part: 0, bytes: 0 };
+    let mut acknowledged = Acknowledged { part: 0, bytes: 0 };
     let mut sent = 0u32;
     let mut place = 0u32;
     'pieces: while from.part < own.len() {
@@ -49,11 +49,11 @@ pub(crate) fn line_segments(
         if is_late(at, sender.unit) {
             return Ok(list);
         }
-        heard = hear(peer, heard, at);
-        let numbers = numbers_at(sender, sent, heard, peer_end, at, place);
+        acknowledged = acknowledge(peer, acknowledged, at);
+        let numbers = numbers_at(sender, sent, acknowledged, peer_end, at, place);
         let len = piece_len(own, from);
-        let (laid, after) = piece_laid(sender, own, from, len, numbers);
-        list.push(laid)?;
+        let (outline, after) = piece_outline(sender, own, from, len, numbers);
+        list.push(outline)?;
         from = after;
         sent += len as u32;
         place += 1;
@@ -64,9 +64,9 @@ pub(crate) fn line_segments(
     if is_late(ending.at, sender.unit) {
         return Ok(list);
     }
-    let all = hear(peer, heard, ending.at);
+    let all = acknowledge(peer, acknowledged, ending.at);
     let numbers = numbers_at(sender, sent, all, peer_end, ending.at, place);
-    list.push(bare_laid(sender, ending.at, numbers, ending.flags))?;
+    list.push(bare_outline(sender, ending.at, numbers, ending.flags))?;
     Ok(list)
 }
 
@@ -78,49 +78,49 @@ fn is_late(at: Moment, unit: Unit) -> bool
     !at.is_before_horizon(unit)
 }
 
-// The numbers of a segment after so many bytes, when so much of the peer's line was heard.
+// The numbers of a segment after so many bytes, when so much of the peer's line was acknowledged.
 fn numbers_at(
     sender: &Sender,
     sent: u32,
-    heard: Heard,
+    acknowledged: Acknowledged,
     peer_end: &End,
     at: Moment,
     place: u32,
 ) -> Numbers
     ensures seq { result.seq ≡ (sender.now.base + 1 + sent) % sequence_space }
     ensures ack { result.ack
-        ≡ (sender.now.peer_base + 1 + heard.bytes + end_numbers_before at (end_view peer_end.now)) % sequence_space }
+        ≡ (sender.now.peer_base + 1 + acknowledged.bytes + end_numbers_before at (end_view peer_end.now)) % sequence_space }
     ensures place { result.place ≡ place }
 {
     Numbers {
         seq: sequence_number(sender.base, sent),
-        ack: acknowledgment(sender.peer_base, heard.bytes, peer_end, at),
+        ack: acknowledgment(sender.peer_base, acknowledged.bytes, peer_end, at),
         place,
     }
 }
 
-// The parts of a line that were heard, and how many bytes they have.
+// The parts of a line that were acknowledged, and how many bytes they have.
 #[derive(Clone, Copy)]
-struct Heard {
+struct Acknowledged {
     part: usize,
     bytes: u32,
 }
 
-// What is heard of a line before `at`, of which so much was heard before.
-fn hear(parts: &[LinePart<'_>], heard: Heard, at: Moment) -> Heard
+// What is acknowledged of a line before `at`, of which so much was acknowledged before.
+fn acknowledge(parts: &[LinePart<'_>], acknowledged: Acknowledged, at: Moment) -> Acknowledged
     requires short { length (bytes_of_parts parts.now) < sequence_space }
     requires climbs { Climbs 0 (bytes_of_parts parts.now) live }
-    requires heard { IsHeard parts.now heard at }
-    ensures heard { IsHeard parts.now result at }
+    requires acknowledged { IsAcknowledged parts.now acknowledged at }
+    ensures acknowledged { IsAcknowledged parts.now result at }
     ensures all { result.bytes ≡ bytes_before at (bytes_of_parts parts.now) }
 {
-    let mut part = heard.part;
-    let mut bytes = heard.bytes;
+    let mut part = acknowledged.part;
+    let mut bytes = acknowledged.bytes;
     while part < parts.len() && is_before(&part_at(parts, part), at) {
         bytes += part_at(parts, part).bytes.len() as u32;
         part += 1;
     }
-    Heard { part, bytes }
+    Acknowledged { part, bytes }
 }
 
 // Whether each byte of a part is before an instant.

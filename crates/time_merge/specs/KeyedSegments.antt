@@ -5,7 +5,7 @@ use Rattle.std.specs.Ordering.{then_cmp, on, nat_cmp}
 use Rattle.std.specs.declared.cmp.Ordering.{Ordering}
 use Rattle.segment_writer.specs.declared.framed.SegKey.{SegKey}
 use Rattle.segment_writer.specs.declared.framed.Framed.{Framed}
-use Rattle.segment_writer.specs.LaidSegments.{no_segment}
+use Rattle.segment_writer.specs.SegmentOutlines.{no_segment}
 use Rattle.time_merge.specs.declared.key_order.KeyedSegment.{KeyedSegment}
 use Rattle.time_merge.specs.declared.key_order.KeyedSegments.{KeyedSegments}
 

@@ -3,5 +3,7 @@
 
 mod key_order;
 mod merging;
+mod sinks;
 
-pub use merging::{Merged, MergedLayouts, merge, merge_layouts, merged_capture};
+pub use merging::{Merged, merge, merged_capture, write_outlines};
+pub use sinks::CaptureSink;

@@ -1,14 +1,16 @@
-//! Merging lists of segments, in memory or laid out, and the capture of what was merged, each record written in its place.
-ghost use Rattle.std.specs.Prelude.{◌≡◌, ◌++◌, All, IfOk, OnErr, OnOk, map};
+//! Merging lists of segments, in memory or in outline, and the capture of what was merged, each record written in its place.
+ghost use Rattle.std.specs.Prelude.{◌≡◌, ◌++◌, [], All, IfOk, OnErr, OnOk, map};
 ghost use Rattle.pcap_records.specs.Instants.{ticks_of};
 ghost use Rattle.segment_writer.specs.KeyLaws.{HasNoKeyTwice};
 ghost use Rattle.segment_writer.specs.WrittenSegments.{sorted_by_key};
 ghost use Rattle.time_merge.specs.KeyedSegments.{IsKeyed, segment_of};
 ghost use Rattle.time_merge.specs.MergedCapture.{all_segments, capture_in_turn, capture_of};
+ghost use Rattle.time_merge.specs.Sinks.{IsWritten};
 
 use crate::key_order::{KeyedSegment, in_order, merged_keys, sorted_keys};
+use crate::sinks::{CaptureSink, InMemory};
 use pcap_records::{FILE_HEADER_LEN, Unit, write_header};
-use segment_writer::{Keys, Layout, SegList};
+use segment_writer::{Keys, ConnectionOutline, SegList};
 use std::alloc::{AllocError, Global};
 use std::marker::Model;
 
@@ -59,84 +61,48 @@ impl Merged {
     }
 }
 
-/// The segments of all layouts, in order of key, whose records are written one at a time. Over all layouts no key stands twice.
+/// Writes the capture of the segments of all outlines, whose instants count in `unit`, to a sink: what [`merge`] and [`Merged::capture`]
+/// give of them, but that each record is written in its place. What the sink has taken then, and after it the bytes that are answered, are
+/// the capture. Over all outlines no key stands twice.
 ///
 /// # Errors
-/// Where a growth is refused.
-pub fn merge_layouts<'l, 'a>(
+/// Where a growth is refused; the sink has then taken a first part of the capture.
+#[tactic(auto, unfolding(crate::specs::MergedCapture::capture_of))]
+pub fn write_outlines<S: CaptureSink>(
     alloc: Global,
-    layouts: &'l [Layout<'a>],
-) -> Result<MergedLayouts<'l, 'a>, AllocError>
-    requires { HasNoKeyTwice (all_segments layouts.now) }
-    ensures { IfOk result (λ merged. merged ≡ sorted_by_key (all_segments layouts.now)) }
+    outlines: &[ConnectionOutline<'_>],
+    unit: Unit,
+    sink: &mut S,
+) -> Result<Vec<u8>, AllocError>
+    requires once { HasNoKeyTwice (all_segments outlines.now) }
+    requires empty { S.took sink.old [] }
+    ensures written { IfOk result (λ rest. IsWritten (S.took sink.new) rest.items (capture_of (ticks_of unit) (all_segments outlines.now))) }
+    ensures same { S.place sink.new ≡ S.place sink.old }
 {
-    let keys = sorted_keys(alloc, layouts)?;
-    let order = in_order(layouts, keys);
-    Ok(MergedLayouts { layouts, order })
+    let keys = sorted_keys(alloc, outlines)?;
+    let order = in_order(outlines, keys);
+    written(Vec::new(alloc), outlines, &order, unit, sink)
 }
 
-/// The segments of some layouts, in one order. Contracts see them as they are written.
-#[derive(Debug, Drop)]
-pub struct MergedLayouts<'l, 'a> {
-    layouts: &'l [Layout<'a>],
-    order: Vec<KeyedSegment>,
-}
-
-impl<'l, 'a> Model for MergedLayouts<'l, 'a> {
-    ghost use Rattle.std.specs.Prelude.{List, All, map};
-    ghost use Rattle.segment_writer.specs.declared.framed.Framed.{Framed};
-    ghost use Rattle.time_merge.specs.KeyedSegments.{IsKeyed, segment_of};
-
-    ghost Value = { List Framed };
-
-    ghost view = { λ m. map (segment_of (λ l. l) m.layouts.now) m.order.items };
-
-    ghost invariant = { λ m. All (IsKeyed (λ l. l) m.layouts.now) m.order.items };
-}
-
-impl<'l, 'a> MergedLayouts<'l, 'a> {
-    ghost use Rattle.std.specs.Prelude.{◌≡◌, ◌<◌, ◌++◌, OnOk, OnErr, length, slice_index_or};
-    ghost use Rattle.segment_writer.specs.LaidSegments.{no_segment};
-
-    /// How many segments there are.
-    pub fn count(&self) -> usize
-        ensures { result ≡ length self.now }
-    {
-        self.order.len()
-    }
-
-    /// Appends the record of the segment at a place in the order.
-    ///
-    /// # Errors
-    /// Where a growth is refused; `out` is then unchanged.
-    pub fn put(&self, place: usize, out: &mut Vec<u8>) -> Result<(), AllocError>
-        requires { place < length self.now }
-        ensures ok { OnOk result (out.new.items ≡ out.old.items ++ (slice_index_or self.now place no_segment).bytes) }
-        ensures err { OnErr result (out.new.items ≡ out.old.items) }
-    {
-        put_keyed(self.layouts, &self.order[place], out)
-    }
-}
-
-/// The capture of the segments of all layouts, whose instants count in `unit`: what [`merge`] and [`Merged::capture`] give of them,
-/// but that each record is written in its place.
+/// The capture of the segments of all outlines, whose instants count in `unit`, in memory. Its length is known before the first byte is
+/// written, so that memory is asked for once.
 ///
 /// # Errors
 /// Where a growth is refused.
 #[tactic(auto, unfolding(crate::specs::MergedCapture::capture_of))]
 pub fn merged_capture(
     alloc: Global,
-    layouts: &[Layout<'_>],
+    outlines: &[ConnectionOutline<'_>],
     unit: Unit,
 ) -> Result<Vec<u8>, AllocError>
-    requires { HasNoKeyTwice (all_segments layouts.now) }
-    ensures { IfOk result (λ bytes. bytes.items ≡ capture_of (ticks_of unit) (all_segments layouts.now)) }
+    requires { HasNoKeyTwice (all_segments outlines.now) }
+    ensures { IfOk result (λ bytes. bytes.items ≡ capture_of (ticks_of unit) (all_segments outlines.now)) }
 {
-    let keys = sorted_keys(alloc, layouts)?;
-    captured(alloc, layouts, &in_order(layouts, keys), unit)
+    let keys = sorted_keys(alloc, outlines)?;
+    captured(alloc, outlines, &in_order(outlines, keys), unit)
 }
 
-// The header of a file, and the records of some keyed segments in turn.
+// The capture of some keyed segments in turn, in memory.
 fn captured<L: Keys>(
     alloc: Global,
     lists: &[L],
@@ -146,12 +112,32 @@ fn captured<L: Keys>(
     requires { All (IsKeyed L.segments lists.now) order.now }
     ensures { IfOk result (λ bytes. bytes.items ≡ capture_in_turn (ticks_of unit) (map (segment_of L.segments lists.now) order.now)) }
 {
-    let mut bytes = Vec::with_capacity(alloc, capture_len(lists))?;
-    write_header(&mut bytes, unit)?;
+    let room = Vec::with_capacity(alloc, capture_len(lists))?;
+    written(room, lists, order, unit, &mut InMemory)
+}
+
+// Writes the header of a file, and the records of some keyed segments in turn: after each the sink is offered what it has not taken yet.
+fn written<L: Keys, S: CaptureSink>(
+    batch: Vec<u8>,
+    lists: &[L],
+    order: &[KeyedSegment],
+    unit: Unit,
+    sink: &mut S,
+) -> Result<Vec<u8>, AllocError>
+    requires keyed { All (IsKeyed L.segments lists.now) order.now }
+    requires batch { batch.items ≡ [] }
+    requires empty { S.took sink.old [] }
+    ensures written { IfOk result (λ rest. IsWritten (S.took sink.new) rest.items
+        (capture_in_turn (ticks_of unit) (map (segment_of L.segments lists.now) order.now))) }
+    ensures same { S.place sink.new ≡ S.place sink.old }
+{
+    let mut batch = batch;
+    write_header(&mut batch, unit)?;
     for keyed in order {
-        put_keyed(lists, keyed, &mut bytes)?;
+        put_keyed(lists, keyed, &mut batch)?;
+        sink.offer(&mut batch);
     }
-    Ok(bytes)
+    Ok(batch)
 }
 
 // The length of the capture of some lists, or the greatest number where it is past that.

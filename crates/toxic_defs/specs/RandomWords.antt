@@ -2,6 +2,8 @@
 use Rattle.std.specs.Prelude.{◌≡◌, ℕ, zero, suc, ◌+◌, ◌*◌, ◌/◌, ◌%◌, ◌^◌, bit_xor}
 use Rattle.std.specs.Int.{w32, rotate_right}
 use Rattle.rand_pcg.specs.Lcg.{Lcg}
+use Rattle.toxic_defs.specs.declared.words.Direction.{Direction}
+use Rattle.toxic_defs.specs.declared.words.Direction.TheVariants.{Up, Down}
 use Rattle.toxic_defs.specs.declared.words.Key.{Key}
 
 -- ---- the generator
@@ -19,6 +21,11 @@ abbrev pub output : ℕ → ℕ
 output x = rotate_right w32 (bit_xor (x / 2 ^ 18) x / 2 ^ 27 % 2 ^ 32) (x / 2 ^ 59)
 
 -- ---- words by a key
+
+-- the number of a direction in a key
+abbrev pub direction_number : Direction → ℕ
+direction_number Up = 0
+direction_number Down = 1
 
 -- a scenario, a connection, a direction and a toxic have a stream of their own
 abbrev pub stream_of : Key → ℕ

@@ -10,6 +10,7 @@ use crate::laws::cut_lines_are_lines;
 use crate::running::chain;
 use crate::session_cut::cut_both;
 use crate::toxic::Toxic;
+use crate::words::Direction;
 use pcap_records::Unit;
 use reassembly::{End, Line, Recorded};
 use std::alloc::{AllocError, Global};
@@ -42,8 +43,8 @@ pub struct MetProxy<'p> {
 
 /// What is delivered of a connection by the proxy that it meets: each recorded line through the toxics of its
 /// direction, and then both under the session cut; the recorded lines, cut, where none is met. A disabled proxy refuses
-/// the connection, and both lines are empty. Random words are drawn by the seed and the numbers `s` of the scenario and
-/// `c` of the connection. The parts' bytes are slices of those that were recorded.
+/// the connection, and both lines are empty. Random words are drawn by the seed and the numbers of the scenario and the
+/// connection. The parts' bytes are slices of those that were recorded.
 ///
 /// # Errors
 /// A growth was refused.
@@ -53,8 +54,8 @@ pub fn delivered_by<'a>(
     recorded: &Recorded<'a>,
     met: Option<MetProxy<'_>>,
     seed: u64,
-    s: u32,
-    c: u32,
+    scenario: u32,
+    connection: u32,
 ) -> Result<Delivered<'a>, AllocError>
     requires up { IsLine recorded.now.up.line }
     requires down { IsLine recorded.now.down.line }
@@ -62,7 +63,7 @@ pub fn delivered_by<'a>(
     requires few_up { IfSome met (λ m. length m.up.now ≤ most_toxics) }
     requires few_down { IfSome met (λ m. length m.down.now ≤ most_toxics) }
     ensures value { IfOk result (λ d. delivered_view d
-        ≡ delivered_connection recorded.now.up.ticks seed s c (option_map met_view met.entry) (recorded_view recorded.now)) }
+        ≡ delivered_connection recorded.now.up.ticks seed scenario connection (option_map met_view met.entry) (recorded_view recorded.now)) }
     ensures up { IfOk result (λ d. IsLine d.up.line) }
     ensures down { IfOk result (λ d. IsLine d.down.line) }
     ensures up_ticks { IfOk result (λ d. d.up.ticks ≡ recorded.now.up.ticks) }
@@ -75,7 +76,7 @@ pub fn delivered_by<'a>(
             Ok(cut_lines(None, up, down))
         }
         Some(met) if !met.enabled => Ok(refused(alloc, recorded.up.unit(), met.number)),
-        Some(met) => lines_through(alloc, recorded, &met, seed, s, c),
+        Some(met) => lines_through(alloc, recorded, &met, seed, scenario, connection),
     }
 }
 
@@ -101,8 +102,8 @@ fn lines_through<'a>(
     recorded: &Recorded<'a>,
     met: &MetProxy<'_>,
     seed: u64,
-    s: u32,
-    c: u32,
+    scenario: u32,
+    connection: u32,
 ) -> Result<Delivered<'a>, AllocError>
     requires up { IsLine recorded.now.up.line }
     requires down { IsLine recorded.now.down.line }
@@ -110,7 +111,7 @@ fn lines_through<'a>(
     requires few_up { length met.now.up.now ≤ most_toxics }
     requires few_down { length met.now.down.now ≤ most_toxics }
     ensures value { IfOk result (λ d. delivered_view d
-        ≡ connection_through recorded.now.up.ticks seed s c (met_view met.now) (recorded_view recorded.now)) }
+        ≡ connection_through recorded.now.up.ticks seed scenario connection (met_view met.now) (recorded_view recorded.now)) }
     ensures up { IfOk result (λ d. IsLine d.up.line) }
     ensures down { IfOk result (λ d. IsLine d.down.line) }
     ensures up_ticks { IfOk result (λ d. d.up.ticks ≡ recorded.now.up.ticks) }
@@ -119,8 +120,9 @@ fn lines_through<'a>(
     let opened = recorded.opened;
     let up = recorded.up.copy(alloc)?;
     let down = recorded.down.copy(alloc)?;
-    let up = chain(alloc, met.up, up, opened, seed, s, c, 0)?;
-    let down = chain(alloc, met.down, down, opened, seed, s, c, 1)?;
+    let (up_number, down_number) = (Direction::Up.number(), Direction::Down.number());
+    let up = chain(alloc, met.up, up, opened, seed, scenario, connection, up_number)?;
+    let down = chain(alloc, met.down, down, opened, seed, scenario, connection, down_number)?;
     Ok(cut_lines(Some(met.number), up, down))
 }
 

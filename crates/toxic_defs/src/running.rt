@@ -31,21 +31,27 @@ pub fn chain<'a>(
     line: Line<'a>,
     opened: Moment,
     seed: u64,
-    s: u32,
-    c: u32,
-    d: u8,
+    scenario: u32,
+    connection: u32,
+    direction: u8,
 ) -> Result<Line<'a>, AllocError>
     requires few { length toxics.now ≤ most_toxics }
     requires line { IsLine line.line }
-    ensures line { IfOk result (λ l. l.line ≡ chain line.entry.ticks toxics.now opened seed s c d line.entry.line) }
+    ensures line { IfOk result (λ l. l.line ≡ chain line.entry.ticks toxics.now opened seed scenario connection direction line.entry.line) }
     ensures is_line { IfOk result (λ l. IsLine l.line) }
     ensures ticks { IfOk result (λ l. l.ticks ≡ line.entry.ticks) }
     ensures ranges { IfOk result (λ l. AreInRange toxics.now) }
 {
     let mut line = line;
     for (t, toxic) in toxics.iter().enumerate() {
-        let t = t as u8;
-        line = run(alloc, toxic, line, opened, Key { seed, s, c, d, t })?;
+        let key = Key {
+            seed,
+            s: scenario,
+            c: connection,
+            d: direction,
+            t: t as u8,
+        };
+        line = run(alloc, toxic, line, opened, key)?;
     }
     Ok(line)
 }

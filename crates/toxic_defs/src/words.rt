@@ -21,6 +21,30 @@ pub struct Key {
     pub t: u8,
 }
 
+/// The direction of a line.
+#[derive(Clone, Copy)]
+pub(crate) enum Direction {
+    /// From the client to the server.
+    Up,
+    /// From the server to the client.
+    Down,
+}
+
+impl Direction {
+    ghost use Rattle.std.specs.Prelude.{◌≡◌};
+    ghost use Rattle.toxic_defs.specs.RandomWords.{direction_number};
+
+    /// Its number in a key.
+    pub(crate) fn number(self) -> u8
+        ensures { result ≡ direction_number self }
+    {
+        match self {
+            Direction::Up => 0,
+            Direction::Down => 1,
+        }
+    }
+}
+
 /// Word `k` of a key, counted from 0: the same whatever else is drawn, and in whatever order.
 pub fn word(key: Key, k: u32) -> u32
     ensures { result ≡ word_of key k }

@@ -1,7 +1,7 @@
 //! Who does the work of a rehearsal: workers in threads, or one thread alone.
 use conn_table::Table;
 use conn_workers::{
-    LaidRow, Recordings, deliver_row, deliver_row_alone, record, record_alone, report_lines,
+    OutlineRow, Recordings, deliver_row, deliver_row_alone, record, record_alone, report_lines,
     report_lines_alone,
 };
 use job_matrix::{Plan, Through};
@@ -70,7 +70,7 @@ pub(crate) trait Crew {
         number: u32,
         scenario: &Scenario,
         seed: u64,
-    ) -> Result<LaidRow<'a>, AllocError>
+    ) -> Result<OutlineRow<'a>, AllocError>
         requires { shares self.now }
         ensures { IfOk result (λ v. v ≡ recorded_row seed (number, scenario.now) recordings.now) };
 }
@@ -113,7 +113,7 @@ impl Crew for Alone {
         number: u32,
         scenario: &Scenario,
         seed: u64,
-    ) -> Result<LaidRow<'a>, AllocError> {
+    ) -> Result<OutlineRow<'a>, AllocError> {
         deliver_row_alone(alloc, recordings, number, scenario, seed)
     }
 }
@@ -165,7 +165,7 @@ impl<'r, R: Threads + Sync> Crew for Workers<'r, R> {
         number: u32,
         scenario: &Scenario,
         seed: u64,
-    ) -> Result<LaidRow<'a>, AllocError> {
+    ) -> Result<OutlineRow<'a>, AllocError> {
         deliver_row(
             self.rt, alloc, recordings, number, scenario, seed, self.plan, &Through,
         )

@@ -13,7 +13,7 @@ mod drafting;
 mod gathering;
 mod host_lines;
 pub mod laws;
-mod layouts;
+mod row_captures;
 mod one_thread;
 mod reading;
 mod rehearsal;

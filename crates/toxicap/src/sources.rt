@@ -5,7 +5,7 @@ ghost use Rattle.conn_workers.specs.Recordings.{recordings_of};
 ghost use Rattle.toxicap.specs.Rehearsal.{scenario_limit};
 
 use crate::crews::Crew;
-use crate::layouts::{RowParts, parts_of_row, written_draft};
+use crate::row_captures::{RowParts, parts_of_row, written_draft};
 use conn_table::Table;
 use conn_workers::Recordings;
 use conn_workers::laws::{lines_are_contributed, rows_are_contributed};
@@ -81,9 +81,9 @@ impl<'w, 'v, 'a> Sources<'w, 'v, 'a> {
         ensures { IfOk result (λ o. o ≡ get_or (outputs_from self.now) number no_output) }
     {
         let parts = self.parts(crew, number)?;
-        let RowParts { layouts, lines } = parts;
-        let bytes = merged_capture(self.alloc, &layouts, self.capture.unit())?;
-        drop(layouts);
+        let RowParts { outlines, lines } = parts;
+        let bytes = merged_capture(self.alloc, &outlines, self.capture.unit())?;
+        drop(outlines);
         let report = self.report_of(number, &lines)?;
         Ok(Output {
             capture: Values::of(bytes),
@@ -106,10 +106,10 @@ impl<'w, 'v, 'a> Sources<'w, 'v, 'a> {
         ensures { IfOk result (IsDraftOf D.holds (get_or (outputs_from self.now) number no_output)) }
     {
         let parts = self.parts(crew, number)?;
-        let RowParts { layouts, lines } = parts;
+        let RowParts { outlines, lines } = parts;
         let draft = folder.draft(self.alloc, disk, 2 * place)?;
-        let draft = written_draft::<D>(self.alloc, &layouts, self.capture.unit(), draft)?;
-        drop(layouts);
+        let draft = written_draft::<D>(self.alloc, &outlines, self.capture.unit(), draft)?;
+        drop(outlines);
         let text = self.report_of(number, &lines)?.into_vec();
         let mut report = folder.draft(self.alloc, disk, 2 * place + 1)?;
         D::append(&mut report, &text);
@@ -147,8 +147,8 @@ impl<'w, 'v, 'a> Sources<'w, 'v, 'a> {
     fn parts<C: Crew>(&self, crew: &C, number: usize) -> Result<RowParts<'a>, AllocError>
         requires crew { C.shares crew.now }
         requires within { number < length self.now.scenarios.now }
-        ensures once { IfOk result (λ parts. HasNoKeyTwice (all_segments parts.layouts.items)) }
-        ensures capture { IfOk result (λ parts. capture_of self.now.capture.now.ticks (all_segments parts.layouts.items)
+        ensures once { IfOk result (λ parts. HasNoKeyTwice (all_segments parts.outlines.items)) }
+        ensures capture { IfOk result (λ parts. capture_of self.now.capture.now.ticks (all_segments parts.outlines.items)
             ≡ (get_or (outputs_from self.now) number no_output).capture) }
         ensures lines { IfOk result (λ parts. parts.lines.items ≡ recorded_lines self.now.seed (scenario_at self.now number) self.now.recordings.now) }
     {

@@ -45,8 +45,8 @@ pub const PSH: u8 = 8;
 /// The flag ACK.
 pub const ACK: u8 = 16;
 
-/// A recorded segment: seconds and microseconds, who sends it to whom, its flags, sequence and acknowledgment number, its
-/// payload, of which at most 1,500 bytes are put, and its tags, of which at most 2 are put.
+/// A recorded segment: seconds and microseconds, who sends it to whom, its flags, sequence and acknowledgment number, and its
+/// payload, of which at most 1,500 bytes are put.
 #[derive(Clone, Copy)]
 pub struct RecordedSegment<'a> {
     stamp: (u32, u32),
@@ -55,17 +55,9 @@ pub struct RecordedSegment<'a> {
     flags: u8,
     numbers: (u32, u32),
     payload: &'a [u8],
-    tags: &'a [u16],
 }
 
-impl<'a> RecordedSegment<'a> {
-    /// The same segment with tags after its Ethernet addresses: of each the 16 bits, the lower 12 a VLAN's number.
-    pub fn tagged(self, tags: &'a [u16]) -> Self {
-        RecordedSegment { tags, ..self }
-    }
-}
-
-/// A recorded segment without a tag.
+/// A recorded segment.
 pub fn segment<'a>(
     stamp: (u32, u32),
     from: Host,
@@ -81,7 +73,6 @@ pub fn segment<'a>(
         flags,
         numbers,
         payload,
-        tags: &[],
     }
 }
 
@@ -114,17 +105,12 @@ pub fn put(
 ) -> Result<(), AllocError> {
     let payload = &segment.payload[..segment.payload.len().min(1500)];
     let len = payload.len() as u16;
-    let tags = &segment.tags[..segment.tags.len().min(2)];
-    let captured = 54 + 4 * tags.len() as u32 + u32::from(len);
+    let captured = 54 + u32::from(len);
     for number in [segment.stamp.0, segment.stamp.1, captured, captured] {
         put_field(file, little, number)?;
     }
     let (from, to) = (segment.from, segment.to);
     file.extend_from_slice(&[2, 0, 0, 0, 0, to.mac, 2, 0, 0, 0, 0, from.mac])?;
-    for tag in tags {
-        file.extend_from_slice(&[0x81, 0])?;
-        file.extend_from_slice(&tag.to_be_bytes())?;
-    }
     file.extend_from_slice(&[8, 0, 0x45, 0])?;
     file.extend_from_slice(&(40 + len).to_be_bytes())?;
     file.extend_from_slice(&[0, 0, 0x40, 0, 0x40, 6, 0, 0])?;

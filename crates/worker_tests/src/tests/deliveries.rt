@@ -6,7 +6,7 @@ use super::checks::check;
 use conn_table::laws::tables_agree;
 use conn_table::{Partial, Table, finish};
 use conn_workers::{
-    Delivery, LaidRow, Recordings, deliver, deliver_row, deliver_row_alone, record,
+    Delivery, OutlineRow, Recordings, deliver, deliver_row, deliver_row_alone, record,
 };
 use job_matrix::{Gate, Phase, Plan, Through};
 use pcap_records::{Capture, Moment, read_capture};
@@ -130,7 +130,7 @@ fn a_row_for_each_scenario(rt: HostRuntime) {
 }
 
 // Whether a row, with the records of its segments, is that of the second scenario.
-fn is_second_row(rt: &impl Abort, alloc: Global, row: LaidRow<'_>) -> bool {
+fn is_second_row(rt: &impl Abort, alloc: Global, row: OutlineRow<'_>) -> bool {
     let mut deliveries = Vec::new(alloc);
     for delivery in row.into_vec() {
         let written = delivery.written(alloc).expect(rt, "memory");

@@ -7,6 +7,6 @@ use Rattle.reassembly.proofs.passes.side_patches.Given as goal
 
 abbrev pub invariant-pass : goal.invariant-pass
 invariant-pass l = record {
-  state : Taken (spans l.whole.items) (spans l.late.items) l.run.since l.run.high;
-  same : (x : ℕ) → option_or (layered_byte (spans l.whole.items) (spans l.late.items) x) (first_byte (member_spans l.base (bytes_of l.file) (own_members l.client (drop l.member-index l.members))) x) ≡ first_byte (member_spans l.base (bytes_of l.file) (own_members l.client l.members)) x;
+  state : Taken (spans l.whole.items) (spans l.late.items) l.covered.since l.covered.high;
+  same : (x : ℕ) → option_or (layered_byte (spans l.whole.items) (spans l.late.items) x) (first_byte (member_spans l.base (bytes_of l.file) (own_members l.from_client (drop l.member-index l.members))) x) ≡ first_byte (member_spans l.base (bytes_of l.file) (own_members l.from_client l.members)) x;
 }

@@ -8,5 +8,5 @@ invariant-loop-t l = record {
   line : IsLine l.line.line;
   ticks : l.line.ticks ≡ l.fn.line.ticks;
   ranges : AreInRange (take l.t l.toxics);
-  done : chain_from l.fn.line.ticks l.opened l.seed l.s l.c l.d l.t (drop l.t l.toxics) l.line.line ≡ chain l.fn.line.ticks l.toxics l.opened l.seed l.s l.c l.d l.fn.line.line;
+  done : chain_from l.fn.line.ticks l.opened l.seed l.scenario l.connection l.direction l.t (drop l.t l.toxics) l.line.line ≡ chain l.fn.line.ticks l.toxics l.opened l.seed l.scenario l.connection l.direction l.fn.line.line;
 }

@@ -15,14 +15,14 @@ returns-clause-once g c =
     let own = c.args.self.now in
     let row = c.in_ok-row.ensures ∙ ap (λ s. recorded_row own.seed s own.recordings.now) (scenario_is own c.args.number c.requires.within _) in
     let once = stands_once own c.args.number c.requires.within c.rows_are_contributed.ensures c.in_ok-row.row row c.keys_stand_once.ensures in
-    IfOk-weaker c.parts_of_row.result _ _ (λ parts is. subst (λ (xs : List Framed). HasNoKeyTwice xs) (sym (ap all_segments is)) once) c.parts_of_row.ensures.layouts
+    IfOk-weaker c.parts_of_row.result _ _ (λ parts is. subst (λ (xs : List Framed). HasNoKeyTwice xs) (sym (ap all_segments is)) once) c.parts_of_row.ensures.outlines
 
 pub returns-clause-capture : goal.returns-clause-capture
 returns-clause-capture g c =
     let own = c.args.self.now in
     let row = c.in_ok-row.ensures ∙ ap (λ s. recorded_row own.seed s own.recordings.now) (scenario_is own c.args.number c.requires.within _) in
     let capture = capture_is own c.args.number c.requires.within c.rows_are_contributed.ensures c.in_ok-row.row row in
-    IfOk-weaker c.parts_of_row.result _ _ (λ parts is. ap (λ (lists : List (List Framed)). capture_of own.capture.now.ticks (all_segments lists)) is ∙ capture) c.parts_of_row.ensures.layouts
+    IfOk-weaker c.parts_of_row.result _ _ (λ parts is. ap (λ (lists : List (List Framed)). capture_of own.capture.now.ticks (all_segments lists)) is ∙ capture) c.parts_of_row.ensures.outlines
 
 pub returns-clause-lines : goal.returns-clause-lines
 returns-clause-lines g c =

@@ -1,9 +1,0 @@
-use Rattle.std.proofs.Common.{length, ◌-◌}
-use Rattle.segment_writer.specs.LineCursors.{IsHeard}
-use Rattle.segment_writer.proofs.turns.hear.Given as goal
-
-abbrev pub invariant-loop-part : goal.invariant-loop-part
-invariant-loop-part l = IsHeard l.parts (record { part = l.part; bytes = l.bytes }) l.at
-
-abbrev pub decreases-loop-part : goal.decreases-loop-part
-decreases-loop-part l = length l.parts - l.part

@@ -1,0 +1,32 @@
+//! Where a capture is written.
+ghost use Rattle.std.specs.Prelude.{◌≡◌};
+
+/// Where a capture is written. It is offered the bytes that it has not taken yet, again and again, until all are written.
+///
+/// Contracts see two things of it: the bytes that it `took`, all told, and the `place` where it keeps them, which stays.
+pub trait CaptureSink {
+    ghost use Rattle.std.specs.Prelude.{◌≡◌, ℕ, List};
+    ghost use Rattle.time_merge.specs.Sinks.{IsOffered};
+
+    ghost took: { Self → List ℕ → Type 0 };
+
+    ghost place: { Self → List ℕ };
+
+    /// Takes all bytes of a batch, which has none then, or none of them.
+    fn offer(&mut self, batch: &mut Vec<u8>)
+        ensures taken { (had : List ℕ) → took self.old had → IsOffered (took self.new) had batch.old.items batch.new.items }
+        ensures same { place self.new ≡ place self.old };
+}
+
+/// Takes nothing: what is written stays in the memory of the batch.
+pub(crate) struct InMemory;
+
+impl CaptureSink for InMemory {
+    ghost use Rattle.std.specs.Prelude.{◌≡◌, []};
+
+    ghost took = { λ _ had. had ≡ [] };
+
+    ghost place = { λ _. [] };
+
+    fn offer(&mut self, _batch: &mut Vec<u8>) {}
+}

@@ -19,6 +19,7 @@ pub trait CaptureSink {
 }
 
 /// Takes nothing: what is written stays in the memory of the batch.
+#[derive(Drop)]
 pub(crate) struct InMemory;
 
 impl CaptureSink for InMemory {

@@ -3,7 +3,8 @@
 docs/refusals.tsv (numbers, names, places, meanings, remedies).
 
 Compared with them are the code of the crates, the text of `--help`, what the program prints on a terminal, the tables of docs/GUIDE.md and
-docs/RULES.md, the schema of scenario files, and the tools that hold a list of attributes. In the two pages a row of a table is found by the name in
+docs/RULES.md, the schema of scenario files, and the tools that hold a list of attributes; and whether the names that the
+pages for developers tell are there. In the two pages a row of a table is found by the name in
 backquotes in its first cell; a number may be written as 10^9, 1000000000 or 1,000,000,000. `facts.py FOLDER` looks at another copy of the repository.
 The last line is `N passed, M failed`."""
 import ast, json, pathlib, re, sys
@@ -339,6 +340,31 @@ def of_texts(help_source):
     fact('job_matrix: a plan has the limits of the options', (plans['WORKER_LIMIT'], plans['CUT_LIMIT']) == (options['MOST_WORKERS'], options['MOST_CUT']))
 
 
+# ---- names that the pages for developers tell
+
+PAGES = ('ARCHITECTURE', 'PROVED', 'EVIDENCE', 'CONTRIBUTING', 'TREE')
+PLACEHOLDERS = {'name', 'Name', 'NAME', 'WRONG', 'MODULE', 'FUNCTION', 'run_name', 'NewCause', 'CRATE'}
+NO_EDITS = {'one_thread_does_all', 'always_out_of_memory', 'board_under_a_lock'}  # wrong bodies that cannot be an edit
+
+
+def of_names():
+    """Each name in backquotes: a path is there, and every other word stands in a file of the tree that is no page."""
+    paths = {str(path.relative_to(TREE)) for path in TREE.rglob('*') if not any(part in ('.git', 'out', '__pycache__') for part in path.relative_to(TREE).parts)}
+    code = [path for path in sorted(paths) if re.match(r'crates|tests|examples|release|\.ci', path) and (TREE / path).is_file() and path not in ('tests/facts.py', 'tests/made.py')]
+    known = set(re.split(r'[^\w]+', ' '.join(paths)))
+    for path in code: known |= set(re.findall(r'\w+', (TREE / path).read_text(encoding='utf-8', errors='ignore')))
+    for page in PAGES:
+        text = re.sub(r'```.*?```', '', text_of(f'docs/{page}.md'), flags=re.S)
+        missing = set()
+        for told_name in re.findall(r'`([^`\n]+)`', text):
+            words = set(re.findall(r'\b[A-Za-z_]\w*', told_name)) - NO_EDITS
+            if words & PLACEHOLDERS or ' ' in told_name: continue
+            place = re.fullmatch(r'[\w./-]+/[\w.-]+\.\w+', told_name)
+            if place and not any(path == told_name or path.endswith('/' + told_name) for path in paths): missing.add(told_name)
+            missing |= {word for word in words if word not in known and not (word[-1] == '_' and any(each.startswith(word) for each in known))}
+        fact(f'docs/{page}.md: names that are nowhere in the tree', not missing, ', '.join(sorted(missing)))
+
+
 def main():
     rows, refusals = table('docs/toxics.tsv'), table('docs/refusals.tsv')
     toxics, any_toxic = {}, [each for each in rows if each['toxic'] == 'any']
@@ -360,6 +386,7 @@ def main():
     for page in ('docs/GUIDE.md', 'docs/RULES.md'): of_refusal_page(page, refusals)
     of_schema_limits(schema, refusals)
     of_texts(source)
+    of_names()
     print(f'{sum(told)} passed, {len(told) - sum(told)} failed')
     sys.exit(0 if all(told) else 1)
 

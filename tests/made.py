@@ -88,20 +88,37 @@ def made_files():
         yield '\n'
 
 
+def above(lines, number, mark):
+    """The comment that stands right above a line."""
+    first = number
+    while re.match(rf' *{mark}', lines[first - 1]): first -= 1
+    return ' '.join(re.sub(rf'^ *{mark}/?[ /]?', '', each) for each in lines[first:number]).rstrip('.')
+
+
 def made_limits():
-    """Each constant that is a number: its value, the file where it stands, and the comment above it."""
-    yield '| Constant | Value | File | Meaning |\n|---|---|---|---|\n'
+    """Each constant that is a number: its value, the files where it stands, and the comment above it; and limits of definitions alone."""
+    yield '| Name | Value | Crate | Files | Meaning |\n|---|---|---|---|---|\n'
     for crate in crates():
         if crate in TESTS: continue
+        specs, told = {}, set()
+        for path in files(crate, 'specs', '.antt'):
+            lines = read(path).splitlines()
+            for number, line in enumerate(lines):
+                found = re.match(r'(\w+) = (.*)$', line)
+                if found and number: specs[found[1]] = (path.stem, found[2], above(lines, number - 1, '--'))
         for path in files(crate, 'src', '.rt'):
             lines = read(path).splitlines()
             for number, line in enumerate(lines):
                 found = re.match(r' *(?:pub(?:\(crate\))? )?const (\w+): (?:u\d+|usize) = (.*);$', line)
                 if not found: continue
-                above = number
-                while re.match(r' *//', lines[above - 1]): above -= 1
-                meaning = ' '.join(re.sub(r'^ *///? ?', '', each) for each in lines[above:number])
-                yield f'| `{found[1]}` | `{found[2]}` | `{crate}`, `{path.stem}.rt` | {meaning.rstrip(".")} |\n'
+                name = found[1].lower()
+                told.add(name)
+                where = f'`{path.stem}`' + (f', `{specs[name][0]}`' if name in specs else '')
+                meaning = above(lines, number, '//') or specs.get(name, ('', '', ''))[2]
+                yield f'| `{found[1]}` | `{found[2]}` | `{crate}` | {where} | {meaning[:1].upper() + meaning[1:]} |\n'
+        for name, (file, value, meaning) in specs.items():
+            if re.search(r'_limit$|^most_', name) and name not in told and re.fullmatch(r'[\d ^]+', value):
+                yield f'| `{name}` | `{value}` | `{crate}` | `{file}` | {meaning[:1].upper() + meaning[1:]} |\n'
 
 
 def function_at(text, place):

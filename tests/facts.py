@@ -351,7 +351,7 @@ def of_names():
     """Each name in backquotes: a path is there, and every other word stands in a file of the tree that is no page."""
     paths = {str(path.relative_to(TREE)) for path in TREE.rglob('*') if not any(part in ('.git', 'out', '__pycache__') for part in path.relative_to(TREE).parts)}
     code = [path for path in sorted(paths) if re.match(r'crates|tests|examples|release|\.ci', path) and (TREE / path).is_file() and path not in ('tests/facts.py', 'tests/made.py')]
-    known = set(re.split(r'[^\w]+', ' '.join(paths)))
+    parts, known = {path.split('/')[-1] for path in paths}, set(re.split(r'[^\w]+', ' '.join(paths)))
     for path in code: known |= set(re.findall(r'\w+', (TREE / path).read_text(encoding='utf-8', errors='ignore')))
     for page in PAGES:
         text = re.sub(r'```.*?```', '', text_of(f'docs/{page}.md'), flags=re.S)
@@ -361,6 +361,8 @@ def of_names():
             if words & PLACEHOLDERS or ' ' in told_name: continue
             place = re.fullmatch(r'[\w./-]+/[\w.-]+\.\w+', told_name)
             if place and not any(path == told_name or path.endswith('/' + told_name) for path in paths): missing.add(told_name)
+            row = re.fullmatch(r'[a-z0-9]+(?:-[a-z0-9]+)+(\.\.)?', told_name)
+            if row and not any(part == told_name or row[1] and part.startswith(told_name[:-2]) for part in parts): missing.add(told_name)
             missing |= {word for word in words if word not in known and not (word[-1] == '_' and any(each.startswith(word) for each in known))}
         fact(f'docs/{page}.md: names that are nowhere in the tree', not missing, ', '.join(sorted(missing)))
 

@@ -233,7 +233,8 @@ def of_fault_lines(refusals):
     causes = re.findall(r'Cause::(\w+) => \((\d+), "(\w+)"\)', code)
     faults = re.findall(r'RunFault::(\w+)(?: \{ \w+ \})? => \((\d+), "(\w+)", (\w+)', code)
     fact('fault_lines.rt: the numbers', sorted(int(each[1]) for each in causes + faults) == [int(each['number']) for each in refusals])
-    found = {name: (number, place) for _, number, name, place in faults} | {name: (number, 'scenario') for _, number, name in causes}
+    found = {name: (number, place) for _, number, name, place in faults}
+    found.update({name: (number, 'scenario') for _, number, name in causes})
     for variant, _, name, *_ in causes + faults: fact(f'fault_lines.rt: the name of {variant}', variant == name, name)
     in_specs = {name: number for number, name in re.findall(r'= \((\d+), codes "(\w+)"\)', specs) + re.findall(r'= entry (\d+) \(codes "(\w+)"\)', specs)}
     fact('RunFault.antt: the names', set(in_specs) == {each['name'] for each in refusals}, in_specs)

@@ -1,239 +1,275 @@
 #!/usr/bin/env python3
 """Makes what pages tell of the tree itself: the crates and what they stand on, their files, the limits, the wrong bodies, the public calls.
 
-A page of docs/ has such a part between two lines, `<!-- made: NAME -->` with a word more where there are several of a name, and `<!-- end -->`. Without
-an argument each part is written anew. With `--check` nothing is written: a part that is not what would be written fails, as does a crate that no page
-shows; the last line is `N passed, M failed`. FOLDER as the last argument is another copy of the repository."""
+A page of docs/ has such a part between two lines, `<!-- made: NAME -->`, with a crate's name after it where there is one for each crate, and
+`<!-- end -->`. Without an argument each part is written anew. With `--check` nothing is written: a part that is not what would be written fails, and
+so does one that no page has; the last line is `N passed, M failed`. A further argument is the folder of another copy of the repository."""
 import pathlib, re, sys
 
-WORDS = [word for word in sys.argv[1:] if word != '--check']
-TREE = pathlib.Path(WORDS[0] if WORDS else pathlib.Path(__file__).resolve().parent.parent)
+FOLDERS = [word for word in sys.argv[1:] if word != '--check']
+TREE = pathlib.Path(FOLDERS[0] if FOLDERS else pathlib.Path(__file__).resolve().parent.parent)
 MADE = re.compile(r'(<!-- made: ([\w ]+) -->\n)(.*?)(<!-- end -->\n)', re.S)
 TESTS = ('part_tests', 'worker_tests', 'rehearsal_tests', 'worked_sessions', 'library_example')
-WIDTH = 80  # of the text about a file
+FILE_WIDTH, CRATE_WIDTH, LINE_WIDTH = 80, 106, 150  # the longest text about a file, about a crate; the longest line
 
+
+# ---- the tree
 
 def read(path):
     return path.read_text(encoding='utf-8')
 
 
-def crates():
+def uses():
     """The crates in the order of crates.txt, each with the libraries that it uses."""
     lines = [line.split(':') for line in read(TREE / 'crates.txt').splitlines() if line and line[0] != '#']
-    return {head.split()[0]: uses.split() for head, uses in lines}
+    return {head.split()[0]: used.split() for head, used in lines}
 
+
+def product():
+    return [crate for crate in uses() if crate not in TESTS]
+
+
+def files(crate, folder, suffix):
+    """The files of a folder of a crate, but for those that only list the others."""
+    found = (TREE / 'crates' / crate / folder).rglob('*' + suffix)
+    return sorted(path for path in found if path.stem not in ('lib', 'Lib'))
+
+
+def edits(crate):
+    return sorted((TREE / 'crates' / crate / 'must-fail').glob('*.edit'))
+
+
+# ---- texts about files
 
 def sentence(path):
     """The first sentence of the comment that a file begins with."""
     mark, lines = ('//!', []) if path.suffix == '.rt' else ('--', [])
     for line in read(path).splitlines():
-        if not line.startswith(mark): break
+        if not line.startswith(mark) or line == mark: break
         lines.append(line[len(mark):].strip())
-        if not lines[-1]: break
-    found = re.match(r'(.*?)\.(?: |$)', ' '.join(lines))
-    return found[1] if found else ' '.join(lines).strip()
+    text = ' '.join(lines)
+    found = re.match(r'(.*?)\.(?: |$)', text)
+    return found[1] if found else text
 
 
-def short(text, width=WIDTH):
-    """A sentence, cut where it is long: after its last clause that ends before a width."""
+def short(text, width):
+    """A sentence without its sources, cut where it is long: after the last clause that ends before a width, or else the last word."""
     text = re.sub(r' \((?:RFC|IEEE|pcap|PCG)[^)]*\)', '', text)
     if len(text) <= width: return text
-    for marks in (('; ', ': ', ', and ', ', of which ', ', which ', ', each '), (', ',), (' ',)):
+    for marks in (['; ', ': ', ', and ', ', of which ', ', which ', ', each '], [', '], [' ']):
         at = max(text.rfind(mark, 0, width) for mark in marks)
-        if at > 24: return text[:at] + ' ..'
-    return text
+        if at > 24: break
+    return text[:at] + ' ..'
 
 
 def bare(text, name):
-    """A sentence about a file without its first words, where these are the file's name and a colon."""
+    """A sentence without its first words, where these are the file's own name and a colon."""
     head, colon, rest = text.partition(': ')
-    letters = re.sub(r'(^(?:The|A|An) )|[^a-zA-Z]', '', head).lower()
-    return rest[0].upper() + rest[1:] if colon and letters in (name.lower(), name.lower() + 's') else text
+    head = re.sub(r'^(?:The|A|An) |[^a-zA-Z]', '', head).lower()
+    return rest[0].upper() + rest[1:] if colon and head in (name.lower(), name.lower() + 's') else text
 
 
-def files(crate, folder, suffix):
-    found = sorted((TREE / 'crates' / crate / folder).rglob('*' + suffix))
-    return [path for path in found if path.stem not in ('lib', 'Lib') and '/out/' not in str(path)]
+def snake(name):
+    return re.sub(r'(?<!^)(?=[A-Z])', '_', name).lower()
 
 
-# ---- the parts
+def comment_above(lines, number, mark):
+    """The comment that stands right above a line."""
+    first = number
+    while re.match(rf' *{mark}', lines[first - 1]): first -= 1
+    text = ' '.join(re.sub(rf'^ *{mark}/? ?', '', line) for line in lines[first:number]).rstrip('.')
+    return text[:1].upper() + text[1:]
+
+
+# ---- crates and files
 
 def made_crates():
-    """Each crate: what it is, and the crates of the repository below it that no other one of its own stands on, with the kit's libraries."""
-    uses = crates()
+    """Each crate: what it is, and what it stands on, but for what it has from a crate below it."""
+    used = uses()
 
-    def below(crate): return {each for used in uses.get(crate, []) for each in {used} | below(used)}
+    def below(crate):
+        return {each for name in used.get(crate, []) for each in {name} | below(name)}
     yield '| Crate | What it is | Stands on |\n|---|---|---|\n'
-    for crate, used in uses.items():
-        path = TREE / 'crates' / crate / 'src'
-        own = [each for each in used if not any(each in below(other) for other in used if other != each)]
-        names = ', '.join(f'`{each}`' for each in own) or '-'
-        yield f'| `{crate}` | {short(sentence(path / ("lib.rt" if (path / "lib.rt").exists() else "main.rt")), 106)} | {names} |\n'
+    for crate, names in used.items():
+        own = [name for name in names if not any(name in below(other) for other in names)]
+        src = TREE / 'crates' / crate / 'src'
+        first = src / 'lib.rt' if (src / 'lib.rt').exists() else src / 'main.rt'
+        yield f'| `{crate}` | {short(sentence(first), CRATE_WIDTH)} | {", ".join(f"`{name}`" for name in own) or "-"} |\n'
 
 
 def made_files():
     """Each file of specs/ and of src/, one line each; a file of src/ that has the name of one of specs/ goes with it."""
-    for crate in crates():
-        if crate in TESTS: continue
+    for crate in product():
         specs = {path.stem: path for path in files(crate, 'specs', '.antt')}
         src = {path.stem: path for path in files(crate, 'src', '.rt')}
-        proofs, edits = len(files(crate, 'proofs', '.antt')), len(list((TREE / 'crates' / crate / 'must-fail').glob('*.edit')))
-        yield f'### {crate}\n\nspecs {len(specs)}, src {len(src)}, proofs {proofs}, edits {edits}\n\n'
+        proofs = files(crate, 'proofs', '.antt')
+        yield f'### {crate}\n\nspecs {len(specs)}, src {len(src)}, proofs {len(proofs)}, edits {len(edits(crate))}\n\n'
         for name, path in specs.items():
             if name.endswith(('Rows', 'Before')) or name.startswith('Row'): continue
-            twin = re.sub(r'(?<!^)(?=[A-Z])', '_', name).lower()
-            yield f'- `{name}`' + (f', `{twin}`' if src.pop(twin, None) else '') + f': {short(bare(sentence(path), name))}\n'
+            twin = f', `{snake(name)}`' if src.pop(snake(name), None) else ''
+            yield f'- `{name}`{twin}: {short(bare(sentence(path), name), FILE_WIDTH)}\n'
         for name, path in src.items():
-            if name not in ('laws', 'rows'): yield f'- `{name}`: {short(sentence(path))}\n'
+            if name not in ('laws', 'rows'): yield f'- `{name}`: {short(sentence(path), FILE_WIDTH)}\n'
         yield '\n'
 
 
-def above(lines, number, mark):
-    """The comment that stands right above a line."""
-    first = number
-    while re.match(rf' *{mark}', lines[first - 1]): first -= 1
-    return ' '.join(re.sub(rf'^ *{mark}/?[ /]?', '', each) for each in lines[first:number]).rstrip('.')
+# ---- limits
+
+def definitions(crate):
+    """The definitions of a crate that are given by one line: of each its file, what it is, and the comment above it."""
+    found = {}
+    for path in files(crate, 'specs', '.antt'):
+        lines = read(path).splitlines()
+        for number, line in enumerate(lines):
+            given = re.match(r'(\w+) = (.*)$', line)
+            if given: found[given[1]] = (path.stem, given[2], comment_above(lines, number - 1, '--'))
+    return found
 
 
 def made_limits():
     """Each constant that is a number: its value, the files where it stands, and the comment above it; and limits of definitions alone."""
     yield '| Name | Value | Crate | Files | Meaning |\n|---|---|---|---|---|\n'
-    for crate in crates():
-        if crate in TESTS: continue
-        specs, told = {}, set()
-        for path in files(crate, 'specs', '.antt'):
-            lines = read(path).splitlines()
-            for number, line in enumerate(lines):
-                found = re.match(r'(\w+) = (.*)$', line)
-                if found and number: specs[found[1]] = (path.stem, found[2], above(lines, number - 1, '--'))
+    for crate in product():
+        specs, told = definitions(crate), set()
         for path in files(crate, 'src', '.rt'):
             lines = read(path).splitlines()
             for number, line in enumerate(lines):
-                found = re.match(r' *(?:pub(?:\(crate\))? )?const (\w+): (?:u\d+|usize) = (.*);$', line)
-                if not found: continue
-                name = found[1].lower()
+                constant = re.match(r' *(?:pub(?:\(crate\))? )?const (\w+): (?:u\d+|usize) = (.*);$', line)
+                if not constant: continue
+                name = constant[1].lower()
                 told.add(name)
-                where = f'`{path.stem}`' + (f', `{specs[name][0]}`' if name in specs else '')
-                meaning = above(lines, number, '//') or specs.get(name, ('', '', ''))[2]
-                yield f'| `{found[1]}` | `{found[2]}` | `{crate}` | {where} | {meaning[:1].upper() + meaning[1:]} |\n'
+                file, _, meaning = specs.get(name, ('', '', ''))
+                where = f'`{path.stem}`' + (f', `{file}`' if file else '')
+                yield f'| `{constant[1]}` | `{constant[2]}` | `{crate}` | {where} | {comment_above(lines, number, "//") or meaning} |\n'
         for name, (file, value, meaning) in specs.items():
             if re.search(r'_limit$|^most_', name) and name not in told and re.fullmatch(r'[\d ^]+', value):
-                yield f'| `{name}` | `{value}` | `{crate}` | `{file}` | {meaning[:1].upper() + meaning[1:]} |\n'
+                yield f'| `{name}` | `{value}` | `{crate}` | `{file}` | {meaning} |\n'
 
 
-def function_at(text, place):
-    """The function that a place of a file of code stands in, or the first one after it."""
-    for head in reversed(list(re.finditer(r'^( *)(?:pub(?:\(crate\))? )?(?:unsafe )?(?:extern "C" )?fn (\w+)', text[:text.find('\n', place)], re.M))):
-        end = re.compile(rf'^{head[1]}(?:\}}|\{{\}})', re.M).search(text, head.end())
-        if end and end.end() >= place: return head[2]
-    after = re.compile(r'\bfn (\w+)').search(text, place)
-    return after[1] if after else '-'
+# ---- wrong bodies
+
+FUNCTION = re.compile(r'^( *)(pub(?:\(crate\))? )?(?:unsafe )?(?:extern "C" )?fn (\w+)', re.M)
+
+
+def function_at(code, place):
+    """The function that a place of a file stands in; where it stands between two, the next one."""
+    for head in reversed(list(FUNCTION.finditer(code, 0, code.find('\n', place)))):
+        end = re.compile(rf'^{head[1]}(?:\}}|\{{\}})', re.M).search(code, head.end())
+        if end and end.end() >= place: return head[3]
+    after = FUNCTION.search(code, place)
+    return after[3] if after else '-'
 
 
 def made_edits():
     """Each wrong body that has an edit: the functions that it changes, in their file."""
-    for crate in crates():
+    for crate in uses():
         found = {}
-        for path in sorted((TREE / 'crates' / crate / 'must-fail').glob('*.edit')):
+        for path in edits(crate):
             edit = read(path)
             file = re.search(r'^file: src/(.*)\.rt$', edit, re.M)[1]
             code = read(TREE / 'crates' / crate / 'src' / f'{file}.rt')
-            changed = []
-            for old in re.findall(r'^old: *(.*)$', edit, re.M):
-                place = code.find(old)
-                changed.append(function_at(code, place) if place >= 0 else 'nothing')
-            found.setdefault(file, {}).setdefault(', '.join(f'`{name}`' for name in dict.fromkeys(changed)), []).append(path.stem)
-        if not found: continue
-        yield f'- `{crate}`, {sum(len(names) for each in found.values() for names in each.values())}.\n'
-        for file, functions in found.items():
-            yield f'  - `{file}`: ' + '; '.join(f'{changed} by {", ".join(names)}' for changed, names in functions.items()) + '\n'
+            changed = [function_at(code, code.index(old)) for old in re.findall(r'^old: *(.*)$', edit, re.M)]
+            names = ', '.join(f'`{name}`' for name in dict.fromkeys(changed))
+            found.setdefault(file, {}).setdefault(names, []).append(path.stem)
+        if found: yield f'- `{crate}`, {len(edits(crate))}.\n'
+        for file, bodies in found.items():
+            yield f'  - `{file}`: ' + '; '.join(f'{names} by {", ".join(wrong)}' for names, wrong in bodies.items()) + '\n'
 
 
-def clauses(lines, number):
-    """The names of the clauses that a function promises, None for one without; `lines[number]` is its first line."""
-    indent = len(lines[number]) - len(lines[number].lstrip())
-    found = []
-    for line in lines[number:]:
-        own = re.match(r' *ensures (?:(\w+) )?\{', line)
-        if own: found.append(own[1])
-        if re.match(rf' {{{indent}}}(?:\{{|\}})', line) or line.rstrip().endswith(';') or re.search(r'(?<!ensures) \{$', line) and 'ensures' not in line: break
-    return found
+# ---- calls
 
-
-def exported(crate):
+def handed_on(crate):
     """The names that a crate's lib.rt hands on from its modules, each with its module."""
     found = {}
     for module, one, several in re.findall(r'^pub use (\w+)::(?:(\w+)|\{([^}]*)\});', read(TREE / 'crates' / crate / 'src' / 'lib.rt'), re.M):
-        for name in (one or several).replace('\n', ' ').split(','):
-            if name.strip(): found[name.strip()] = module
+        found.update({name: module for name in re.findall(r'\w+', one or several)})
+    return found
+
+
+def clauses(lines, number):
+    """The names of the clauses that a function promises, None for one without; its head begins at a line, and its body ends the head."""
+    indent = re.match(r' *', lines[number])[0]
+    found = []
+    for line in lines[number:]:
+        clause = re.match(r' *ensures (?:(\w+) )?\{', line)
+        if clause: found.append(clause[1])
+        elif line.startswith((indent + '{', indent + '}')) or line.endswith(' {'): break
+        if line.endswith(';'): break
     return found
 
 
 def made_calls(crate):
-    """The public calls of a crate: of each type, each trait and each module, with the names of their clauses."""
-    names, rows = exported(crate), {}
+    """The public calls of a crate, by their type, trait or module, with the names of their clauses."""
+    names, rows = handed_on(crate), {}
     for path in files(crate, 'src', '.rt'):
         lines, owner = read(path).splitlines(), None
         for number, line in enumerate(lines):
-            block = re.match(r'(?:unsafe )?impl(?:<.*?>)? (?:(.*) for )?(\w+)', line) or re.match(r'(pub )?trait (\w+)', line) or re.match(r'pub trait()() (\w+)', line)
-            if re.match(r'pub trait (\w+)', line): owner = (re.match(r'pub trait (\w+)', line)[1], 'trait')
-            elif block and line.startswith(('impl', 'unsafe impl')): owner = (block[2], 'foreign' if block[1] else 'type')
-            elif line.startswith('}'): owner = None
-            call = re.match(r'( *)(pub )?(?:unsafe )?(?:extern "C" )?fn (\w+)', line)
+            trait, own = re.match(r'pub trait (\w+)', line), re.match(r'impl(?:<.*?>)? (\w+)(?!.* for )', line)
+            if trait or own: owner = (trait or own)[1]
+            elif not line.startswith(' ') and line not in ('', '{') and not line.startswith(('where', '//', '#')): owner, is_trait = None, False
+            if trait or own: is_trait = bool(trait)
+            call = FUNCTION.match(line)
             if not call: continue
-            if owner and call[1]:
-                if owner[1] == 'foreign' or owner[0] not in names or owner[1] == 'type' and not call[2]: continue
-                of = owner[0]
-            elif not owner and call[2] and not call[1] and (names.get(call[3]) == path.stem or path.stem == 'laws' or crate == 'toxicap_c' and 'extern' in line):
+            is_public = call[2] == 'pub '
+            if call[1]:
+                if owner not in names or not (is_trait or is_public): continue
+                of = owner
+            else:
+                if not is_public or names.get(call[3]) != path.stem and path.stem != 'laws' and 'extern "C"' not in line: continue
                 of = path.stem
-            else: continue
-            own = clauses(lines, number)
-            named = ', '.join(filter(None, own)) if own else '-'
-            rows.setdefault(of, []).append(f'`{call[3]}`' + (f' ({named})' if named else ''))
+            promised = clauses(lines, number)
+            told = ', '.join(filter(None, promised)) if promised else '-'
+            rows.setdefault(of, []).append(f'`{call[3]}`' + (f' ({told})' if told else ''))
     yield '| Of | Calls |\n|---|---|\n'
     for of, calls in rows.items(): yield f'| `{of}` | {", ".join(calls)} |\n'
 
 
+# ---- pages
+
+PARTS = {'crates': made_crates, 'files': made_files, 'limits': made_limits, 'edits': made_edits, 'calls': made_calls}
+
+
 def folded(text):
-    """A part, its long lines of lists broken at spaces; a row of a table stays a line."""
+    """A part, its long lines broken at spaces; a row of a table stays a line."""
     lines = []
     for line in text.split('\n'):
-        indent = '  ' + re.match(r' *', line)[0] if line.lstrip().startswith('- ') else ''
-        while len(line) > 150 and not line.startswith('|'):
-            at = line.rfind(' ', 0, 150)
+        indent = re.match(r' *(?:- )?', line)[0]
+        while len(line) > LINE_WIDTH and not line.startswith('|'):
+            at = line.rfind(' ', 0, LINE_WIDTH)
             lines.append(line[:at])
-            line = indent + line[at + 1:]
+            line = ' ' * len(indent) + line[at + 1:]
         lines.append(line)
     return '\n'.join(lines)
 
 
 def part(words):
     name, *more = words.split()
-    return folded(''.join({'crates': made_crates, 'files': made_files, 'limits': made_limits, 'edits': made_edits, 'calls': made_calls}[name](*more)))
+    return '\n' + folded(''.join(PARTS[name](*more))).strip('\n') + '\n\n'
+
+
+def difference(now, wanted):
+    """The first lines that a part has and was not to have, and that it was to have."""
+    now, wanted = now.split('\n'), wanted.split('\n')
+    gone, new = [line for line in now if line not in wanted][:3], [line for line in wanted if line not in now][:3]
+    return ''.join(f'\n  found:  {line}' for line in gone) + ''.join(f'\n  wanted: {line}' for line in new)
 
 
 def main():
-    shown, faults, count = set(), [], 0
+    faults, shown = [], set()
     for path in sorted((TREE / 'docs').glob('*.md')):
         text = read(path)
-        wanted = MADE.sub(lambda found: found[1] + '\n' + part(found[2]).strip('\n') + '\n\n' + found[4], text)
-        for now, then in zip(MADE.finditer(text), MADE.finditer(wanted)):
-            count += 1
-            shown.add(now[2])
-            if now[3] != then[3]:
-                gone, new = set(now[3].split('\n')) - set(then[3].split('\n')), set(then[3].split('\n')) - set(now[3].split('\n'))
-                faults.append(f'{path.name}: made: {now[2]}' + ''.join(f'\n  it has: {line}' for line in sorted(gone)[:3]) + ''.join(f'\n  wanted: {line}' for line in sorted(new)[:3]))
+        for made in MADE.finditer(text):
+            shown.add(made[2])
+            wanted = part(made[2])
+            if made[3] != wanted: faults.append(f'docs/{path.name}, {made[2]}' + difference(made[3], wanted))
+        wanted = MADE.sub(lambda made: made[1] + part(made[2]) + made[4], text)
         if '--check' not in sys.argv and wanted != text: path.write_text(wanted, encoding='utf-8')
-    for crate in crates():
-        if crate in TESTS + ('toxicap_program',): continue
-        count += 1
-        if f'calls {crate}' not in shown: faults.append(f'no page shows the calls of {crate}')
-    for name in ('crates', 'files', 'limits', 'edits'):
-        count += 1
-        if name not in shown: faults.append(f'no page shows: {name}')
     if '--check' not in sys.argv: return
+    libraries = [crate for crate in product() if crate != 'toxicap_program']
+    missing = ({'crates', 'files', 'limits', 'edits'} | {f'calls {crate}' for crate in libraries}) - shown
+    faults += [f'no page has the part: {name}' for name in sorted(missing)]
     for fault in faults: print('failed:', fault)
-    print(f'{count - len(faults)} passed, {len(faults)} failed')
+    print(f'{len(shown | missing) - len(faults)} passed, {len(faults)} failed')
     sys.exit(1 if faults else 0)
 
 

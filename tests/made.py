@@ -152,28 +152,45 @@ FUNCTION = re.compile(r'^( *)(pub(?:\(crate\))? )?(?:unsafe )?(?:extern "C" )?fn
 
 
 def function_at(code, place):
-    """The function that a place of a file stands in; where it stands between two, the next one."""
+    """The head of the function that a place of a file stands in; where it stands between two, that of the next one."""
     for head in reversed(list(FUNCTION.finditer(code, 0, code.find('\n', place)))):
         end = re.compile(rf'^{head[1]}(?:\}}|\{{\}})', re.M).search(code, head.end())
-        if end and end.end() >= place: return head[3]
-    after = FUNCTION.search(code, place)
-    return after[3] if after else '-'
+        if end and end.end() >= place: return head
+    return FUNCTION.search(code, place)
+
+
+def clauses(code, head):
+    """The names of the clauses that a function promises, None for one without. Its body ends its head."""
+    found = []
+    for line in code[head.start():].split('\n'):
+        clause = re.match(r' *ensures (?:(\w+) )?\{', line)
+        if clause: found.append(clause[1])
+        elif line.startswith((head[1] + '{', head[1] + '}')) or line.endswith(' {'): break
+        if line.endswith(';'): break
+    return found
+
+
+def with_clauses(code, head, none=''):
+    """A function as it is told: its name, and in brackets the names of its clauses, or a word where there are none."""
+    promised = clauses(code, head)
+    names = ', '.join(filter(None, promised)) if promised else none
+    return f'`{head[3]}`' + (f' ({names})' if names else '')
 
 
 def made_edits():
-    """Each wrong body that has an edit: the functions that it changes, in their file."""
+    """Each wrong body that has an edit: the functions that it changes, in their file, with the names of their clauses."""
     for crate in uses():
         found = {}
         for path in edits(crate):
             edit = read(path)
             file = re.search(r'^file: src/(.*)\.rt$', edit, re.M)[1]
             code = read(TREE / 'crates' / crate / 'src' / f'{file}.rt')
-            changed = [function_at(code, code.index(old)) for old in re.findall(r'^old: *(.*)$', edit, re.M)]
-            names = ', '.join(f'`{name}`' for name in dict.fromkeys(changed))
-            found.setdefault(file, {}).setdefault(names, []).append(path.stem)
+            heads = [function_at(code, code.index(old)) for old in re.findall(r'^old: *(.*)$', edit, re.M)]
+            functions = ', '.join(dict.fromkeys(with_clauses(code, head) for head in heads))
+            found.setdefault(file, {}).setdefault(functions, []).append(path.stem)
         if found: yield f'- `{crate}`, {len(edits(crate))}.\n'
         for file, bodies in found.items():
-            yield f'  - `{file}`: ' + '; '.join(f'{names} by {", ".join(wrong)}' for names, wrong in bodies.items()) + '\n'
+            yield f'  - `{file}`: ' + '; '.join(f'{functions} by {", ".join(wrong)}' for functions, wrong in bodies.items()) + '\n'
 
 
 # ---- calls
@@ -186,40 +203,19 @@ def handed_on(crate):
     return found
 
 
-def clauses(lines, number):
-    """The names of the clauses that a function promises, None for one without; its head begins at a line, and its body ends the head."""
-    indent = re.match(r' *', lines[number])[0]
-    found = []
-    for line in lines[number:]:
-        clause = re.match(r' *ensures (?:(\w+) )?\{', line)
-        if clause: found.append(clause[1])
-        elif line.startswith((indent + '{', indent + '}')) or line.endswith(' {'): break
-        if line.endswith(';'): break
-    return found
-
-
 def made_calls(crate):
     """The public calls of a crate, by their type, trait or module, with the names of their clauses."""
     names, rows = handed_on(crate), {}
     for path in files(crate, 'src', '.rt'):
-        lines, owner = read(path).splitlines(), None
-        for number, line in enumerate(lines):
-            trait, own = re.match(r'pub trait (\w+)', line), re.match(r'impl(?:<.*?>)? (\w+)(?!.* for )', line)
-            if trait or own: owner = (trait or own)[1]
-            elif not line.startswith(' ') and line not in ('', '{') and not line.startswith(('where', '//', '#')): owner, is_trait = None, False
-            if trait or own: is_trait = bool(trait)
-            call = FUNCTION.match(line)
-            if not call: continue
-            is_public = call[2] == 'pub '
-            if call[1]:
-                if owner not in names or not (is_trait or is_public): continue
-                of = owner
-            else:
-                if not is_public or names.get(call[3]) != path.stem and path.stem != 'laws' and 'extern "C"' not in line: continue
-                of = path.stem
-            promised = clauses(lines, number)
-            told = ', '.join(filter(None, promised)) if promised else '-'
-            rows.setdefault(of, []).append(f'`{call[3]}`' + (f' ({told})' if told else ''))
+        code = read(path)
+        for block in re.finditer(r'^(pub trait|impl)(?:<.*?>)? (\w+)(?![^\n]* for ).*?^\}', code, re.M | re.S):
+            if block[2] not in names: continue
+            for head in FUNCTION.finditer(code, block.start(), block.end()):
+                if head[2] == 'pub ' or block[1] == 'pub trait': rows.setdefault(block[2], []).append(with_clauses(code, head, '-'))
+        for head in FUNCTION.finditer(code):
+            if head[1] or head[2] != 'pub ': continue
+            if names.get(head[3]) == path.stem or path.stem == 'laws' or 'extern "C"' in head[0]:
+                rows.setdefault(path.stem, []).append(with_clauses(code, head, '-'))
     yield '| Of | Calls |\n|---|---|\n'
     for of, calls in rows.items(): yield f'| `{of}` | {", ".join(calls)} |\n'
 

@@ -357,7 +357,7 @@ def of_options(source):
 # ---- names that the pages for developers tell
 
 PAGES = ('ARCHITECTURE', 'PROVED', 'EVIDENCE', 'CONTRIBUTING', 'TREE')
-STANDING_FOR_OTHERS = {'name', 'Name', 'NAME', 'WRONG', 'MODULE', 'FUNCTION', 'run_name', 'NewCause', 'CRATE'}
+STANDING_FOR_OTHERS = {'file', 'test', 'name', 'Name', 'NAME', 'WRONG', 'MODULE', 'FUNCTION', 'run_name', 'NewCause', 'CRATE'}
 WITHOUT_EDIT = {'one_thread_does_all', 'always_out_of_memory', 'board_under_a_lock'}  # wrong bodies that cannot be an edit
 
 
@@ -371,9 +371,11 @@ def of_names():
     """Whether each name in backquotes is there: a path, a row of tests, and each word somewhere in the code, the tests or the tools."""
     there = paths()
     code = [path for path in there if re.match(r'crates|tests|examples|release|\.ci', path) and (TREE / path).is_file()]
-    words, names = set(re.findall(r'\w+', ' '.join(there))), {path.split('/')[-1] for path in there}
+    words, names, functions = set(re.findall(r'\w+', ' '.join(there))), {path.split('/')[-1] for path in there}, set()
     for path in set(code) - {'tests/facts.py', 'tests/made.py'}:
-        words |= set(re.findall(r'\w+', (TREE / path).read_text(encoding='utf-8', errors='ignore')))
+        text = (TREE / path).read_text(encoding='utf-8', errors='ignore')
+        words |= set(re.findall(r'\w+', text))
+        functions |= {(path.split('/')[-1], function) for function in re.findall(r'\bfn (\w+)', text)}
 
     def is_known(word):
         return word in words or word[-1] == '_' and any(each.startswith(word) for each in words)
@@ -386,6 +388,8 @@ def of_names():
             missing |= {word for word in own if not is_known(word)}
             if re.fullmatch(r'[\w./-]+/[\w.-]+\.\w+', name) and not any(f'/{path}'.endswith(f'/{name}') for path in there): missing.add(name)
             if re.fullmatch(r'[a-z0-9]+(-[a-z0-9]+)+', name) and name not in names: missing.add(name)
+            place = re.fullmatch(r'([a-z]\w*)::(\w+)', name)
+            if place and (f'{place[1]}.rt', place[2]) not in functions: missing.add(name)
         fact(f'docs/{page}.md: names that are nowhere in the tree', not missing, ', '.join(sorted(missing)))
 
 

@@ -165,7 +165,8 @@ def clauses(code, head):
     for line in code[head.start():].split('\n'):
         clause = re.match(r' *ensures (?:(\w+) )?\{', line)
         if clause: found.append(clause[1])
-        elif line.startswith((head[1] + '{', head[1] + '}')) or line.endswith(' {'): break
+        elif line.startswith((head[1] + '{', head[1] + '}')): break
+        elif line.endswith(' {') and line.startswith((head[0], head[1] + ')')): break
         if line.endswith(';'): break
     return found
 

@@ -160,14 +160,15 @@ def function_at(code, place):
 
 
 def clauses(code, head):
-    """The names of the clauses that a function promises, None for one without. Its body ends its head."""
-    found = []
+    """The names of the clauses that a function promises, None for one without. Its body ends its head, or a semicolon outside of braces."""
+    found, depth = [], 0
     for line in code[head.start():].split('\n'):
         clause = re.match(r' *ensures (?:(\w+) )?\{', line)
         if clause: found.append(clause[1])
         elif line.startswith((head[1] + '{', head[1] + '}')): break
         elif line.endswith(' {') and line.startswith((head[0], head[1] + ')')): break
-        if line.endswith(';'): break
+        depth += line.count('{') - line.count('}')
+        if line.endswith(';') and depth == 0: break
     return found
 
 

@@ -112,7 +112,7 @@ def of_kind(name, attribute, arm, limits, absent):
     fact(f'{what}: the greatest', most == most_of(attribute, 'average_size'), most)
     least = '1' if re.search(rf'0 < {field}\b', arm) or re.search(rf'< {field}\b', arm) else '0'
     fact(f'{what}: the least', attribute['least'] == least, least)
-    fact(f'{what}: the default', attribute['default'] == (absent if least == '0' else '-'), absent)
+    fact(f'{what}: the default', attribute['default'] == (absent if least == '0' else 'required'), absent)
 
 
 def of_terminal(toxics):
@@ -147,7 +147,7 @@ def of_help(toxics, help_text):
         row, what = found.get((attribute['toxic'], attribute['attribute'])), f'--help: {attribute["toxic"]}, {attribute["attribute"]}'
         if not row: continue
         fact(f'{what}: range', numbers(f'{row[3]} {row[4]}') == [int(attribute['least']), most_of(attribute, 10**9)], row[0])
-        fact(f'{what}: default', row[6] == attribute['default'], row[6])
+        fact(f'{what}: default', row[6].replace('-', 'required') == attribute['default'], row[6])
         fact(f'{what}: unit', UNITS[(row[5] or 'bytes').split('/')[0]] == unit_of(attribute), row[5])
     fact('--help: size_variation is below average_size', 'size_variation is below average_size' in help_text)
 
@@ -163,7 +163,7 @@ def of_schema(toxics, any_toxic):
     for name, attributes in toxics.items():
         own = parts.get(name, {}).get('properties', {})
         fact(f'{SCHEMA}: the attributes of {name}', list(own) == [each['attribute'] for each in attributes], list(own))
-        required = [each['attribute'] for each in attributes if each['default'] == '-']
+        required = [each['attribute'] for each in attributes if each['default'] == 'required']
         fact(f'{SCHEMA}: what {name} requires', parts.get(name, {}).get('required', []) == required, required)
         for attribute in attributes: of_field(f'{SCHEMA}: {name}, {attribute["attribute"]}', own.get(attribute['attribute'], {}), attribute)
 
@@ -172,7 +172,8 @@ def of_field(what, field, attribute):
     """Whether a field of the schema has the range of an attribute, also in words."""
     least, most = int(attribute['least']), most_of(attribute, 10**9 - 1)
     fact(f'{what}: range', (field.get('minimum'), field.get('maximum')) == (least, most), field)
-    fact(f'{what}: default', str(field.get('default', '-')) == attribute['default'], field)
+    default = int(attribute['default']) if attribute['default'].isdigit() else None
+    fact(f'{what}: default', field.get('default') == default, field)
     text = re.sub(r'\(not \w+\)', '', field.get('description', ''))
     fact(f'{what}: its range in words', {least, most} <= set(numbers(text)), text)
     fact(f'{what}: no other limit in words', not [number for number in numbers(text) if number > 1000 and number != most], text)
@@ -284,8 +285,8 @@ def of_errors(refusals):
 
 def of_numbers(what, refusal, text):
     """Whether a text about a refusal has no other numbers than its meaning has. Names, commands and links do not count."""
-    text = re.sub(r'`[^`]*`|\]\([^)]*\)|UTF-8|\bfrom 0\b|\bseven\b', ' ', text)
-    wrong = [number for number in numbers(text) if number not in numbers(refusal['means'])]
+    text, means = (re.sub(r'`[^`]*`|\]\([^)]*\)|UTF-8|\bfrom 0\b|\bseven\b', ' ', each) for each in (text, refusal['means']))
+    wrong = [number for number in numbers(text) if number not in numbers(means)]
     fact(f'{what}: no other number', not wrong, wrong)
 
 

@@ -1,0 +1,426 @@
+#!/usr/bin/env python3
+"""The facts that several files tell, against the two tables that hold them: docs/toxics.tsv (the attributes of toxics, with units and ranges) and
+docs/refusals.tsv (numbers, names, places, meanings, and what the program prints on a terminal after them, parts of it with a semicolon between).
+
+Compared with them are the code of the crates, the text of `--help`, what the program prints on a terminal, the tables of docs/GUIDE.md and
+docs/RULES.md, the schema of scenario files, and the tools that hold a list of attributes; and whether the names that the pages for developers tell
+are there. In the two pages a row of a table is found by the name in backquotes in its first cell; a number may be written as 10^9, 1000000000 or
+1,000,000,000. An argument is the folder of another copy of the repository. The last line is `N passed, M failed`."""
+import ast, json, pathlib, re, sys
+
+TREE = pathlib.Path(sys.argv[1] if sys.argv[1:] else pathlib.Path(__file__).resolve().parent.parent)
+told = []
+
+
+# ---- what is looked at, and how
+
+def fact(what, holds, found=''):
+    """Counts a comparison; where it does not hold, it is printed with what was found."""
+    told.append(bool(holds))
+    if not holds: print('failed:', what, f'({found})' if found != '' else '')
+
+
+def text_of(path):
+    return (TREE / path).read_text(encoding='utf-8')
+
+
+def table(path):
+    """The rows of a table of docs/, each as a dictionary."""
+    head, *rows = [line.split('\t') for line in text_of(path).splitlines()]
+    for row in rows: fact(f'{path}: {len(head)} cells in each row', len(row) == len(head), row)
+    return [dict(zip(head, row)) for row in rows]
+
+
+def between(text, start, end):
+    at = text.find(start)
+    return text[at + len(start):text.find(end, at + len(start))] if at >= 0 else ''
+
+
+def constant(path, name):
+    """A constant of a file of the crates that is one number."""
+    found = re.search(rf'const {name}: (?:u\d+|usize) = ([\d_]+)(?: << (\d+))?;', text_of(f'crates/{path}'))
+    return int(found[1].replace('_', '')) << int(found[2] or 0) if found else None
+
+
+NUMBER = re.compile(r'10\^(\d+)|2\^(\d+)|(?<![\w.])(\d{1,3}(?:,\d{3})+|\d+(?:\.\d+)?)(?![\w^]|\.\d)')
+NUMBER_WORDS = {'eight': 8, 'million': 10**6, 'seven': 7}
+
+
+def numbers(text):
+    """The numbers of a text, whichever way they are written."""
+    found = [10**int(ten) if ten else 2**int(two) if two else float(plain.replace(',', '')) for ten, two, plain in NUMBER.findall(text)]
+    return found + [number for word, number in NUMBER_WORDS.items() if re.search(rf'\b{word}\b', text)]
+
+
+UNITS = {'milliseconds': 'milliseconds', 'ms': 'milliseconds', 'microseconds': 'microseconds', 'us': 'microseconds', 'µs': 'microseconds'}
+UNITS.update({'KB': 'KB', 'bytes': 'bytes'})
+
+
+def units(text):
+    return [UNITS[word] for word in re.findall(r'[A-Za-zµ]+', text) if word in UNITS]
+
+
+def rows_of(page):
+    """The rows of all Markdown tables of a page, each as its cells; a row whose first cell is empty goes on with the row before."""
+    rows = []
+    for line in text_of(page).splitlines():
+        if not line.startswith('|') or set(line) <= set('|-: '): continue
+        row = [cell.strip() for cell in re.split(r'(?<!\\)\|', line.strip())[1:-1]]
+        if not row[0] and rows: rows[-1] += row[1:]
+        else: rows.append(row)
+    return rows
+
+
+# ---- toxics
+
+BELOW = 'below average_size'
+
+
+def most_of(attribute, where_below):
+    """The greatest number of an attribute; where it is only below another attribute, the one that is told there."""
+    return where_below if attribute['greatest'] == BELOW else int(attribute['greatest'])
+
+
+def unit_of(attribute):
+    return attribute['unit'].split()[0]
+
+
+def of_code(toxics, ppm):
+    names = ('GREATEST_ATTRIBUTE', 'GREATEST_RATE', 'GREATEST_LIMIT', 'MILLION')
+    limits = {name: constant('toxic_defs/src/limits.rt', name) for name in names}
+    specs = text_of('crates/toxic_defs/specs/Limits.antt')
+    for name, value in limits.items(): fact(f'{name} in specs/Limits.antt', f'\n{name.lower()} = {value}\n' in specs, value)
+    fact('the parts of a toxicity', limits['MILLION'] == constant('scenarios/src/toxic_types.rt', 'MILLION') == int(ppm))
+    kinds, types = text_of('crates/toxic_defs/src/kinds.rt'), text_of('crates/scenarios/src/toxic_types.rt')
+    variants = dict(re.findall(r'"(\w+)" => Some\(ToxicType::(\w+)\)', types))
+    fact('toxic_types.rt: the types', list(variants) == list(toxics), list(variants))
+    fits, absent = between(kinds, 'pub fn fits', '\n    }\n'), re.search(r'None => Some\((\d+)\)', between(types, 'fn attribute', '\n}\n'))[1]
+    for name, attributes in toxics.items():
+        variant = variants.get(name)
+        fields = re.findall(r'(\w+): u64', between(kinds, f'    {variant} {{', '}'))
+        fact(f'kinds.rt: the fields of {name}', fields == [each['attribute'] for each in attributes], fields)
+        arm = re.search(rf'Kind::{variant} \{{[^}}]*\}}[^=]*=>(.*?)(?=\n            Kind::|\n        \}})', fits, re.S)
+        for attribute in attributes: of_kind(name, attribute, arm[1] if arm else '', limits, absent)
+        for field in fields: fact(f'toxic_types.rt reads {field}', f'attribute(toxic, "{field}")' in types)
+
+
+def of_kind(name, attribute, arm, limits, absent):
+    """Whether an attribute is in its range where the code says that its kind fits."""
+    field, what = attribute['attribute'], f'kinds.rt: {name}, {attribute["attribute"]}'
+    most = re.search(rf'\b{field} <=?\s+(\w+)', re.sub(r'\s+', ' ', arm))
+    most = limits.get(most[1], most[1]) if most else None
+    fact(f'{what}: the greatest', most == most_of(attribute, 'average_size'), most)
+    least = '1' if re.search(rf'0 < {field}\b', arm) or re.search(rf'< {field}\b', arm) else '0'
+    fact(f'{what}: the least', attribute['least'] == least, least)
+    fact(f'{what}: the default', attribute['default'] == (absent if least == '0' else 'required'), absent)
+
+
+def of_terminal(toxics):
+    """The attributes as the program prints them after a refusal."""
+    path = 'toxicap_program/src/scenario_fields.rt'
+    code, greatest = text_of(f'crates/{path}'), constant(path, 'GREATEST')
+    arms = re.findall(r'\n        (?:"(\w+)"|_) =>(.*?)(?=\n        "|\n        _|\n    \})', between(code, 'pub fn wrong_attribute', '\n}\n'), re.S)
+    arms, ms = dict(arms), re.search(r'const MS: &str = "(\w+)"', code)[1]
+    for name, attributes in toxics.items():
+        arm = arms.get(name, arms.get('', ''))
+        found = re.findall(r'Attribute::of\("(\w+)", (?:"([^"]+)"|MS)\)(?:\.within\((\d+), ([\d_]+|GREATEST)\))?', arm)
+        fact(f'{path}: the attributes of {name}', [each[0] for each in found] == [each['attribute'] for each in attributes], found)
+        for attribute, (field, unit, least, most) in zip(attributes, found):
+            most = greatest if most in ('', 'GREATEST') else int(most.replace('_', ''))
+            wanted = (int(attribute['least']), most_of(attribute, greatest))
+            fact(f'{path}: {name}, {field}: range', (int(least or 0), most) == wanted, (least, most))
+            fact(f'{path}: {name}, {field}: unit', (unit or ms).split()[0] == unit_of(attribute), unit)
+    fact(f'{path}: size_variation is below average_size', 'less than \\"average_size\\" is wanted' in code)
+
+
+def of_help(toxics, help_text):
+    found, name = {}, ''
+    for line in between(help_text, 'What it is\n', '\n\n').splitlines():
+        row = re.match(r'  (\w+)? +(\w+) +(\d+) to ([\d^]+)(?: (ms|KB/s|bytes|us))? +(\d+|-) +\S', line)
+        fact(f'--help: a row of the table of toxics: {line}', row)
+        if not row: continue
+        name = row[1] or name
+        found[name, row[2]] = row
+    wanted = [(name, attribute['attribute']) for name, attributes in toxics.items() for attribute in attributes]
+    fact('--help: the attributes', list(found) == wanted, list(found))
+    for attribute in sum(toxics.values(), []):
+        row, what = found.get((attribute['toxic'], attribute['attribute'])), f'--help: {attribute["toxic"]}, {attribute["attribute"]}'
+        if not row: continue
+        fact(f'{what}: range', numbers(f'{row[3]} {row[4]}') == [int(attribute['least']), most_of(attribute, 10**9)], row[0])
+        fact(f'{what}: default', row[6].replace('-', 'required') == attribute['default'], row[6])
+        fact(f'{what}: unit', UNITS[(row[5] or 'bytes').split('/')[0]] == unit_of(attribute), row[5])
+    fact('--help: size_variation is below average_size', 'size_variation is below average_size' in help_text)
+
+
+SCHEMA = 'examples/scenario.schema.json'
+
+
+def of_schema(toxics, any_toxic):
+    parts = json.loads(text_of(SCHEMA))['$defs']
+    fields = parts['toxic']['properties']
+    fact(f'{SCHEMA}: the types', fields['type']['enum'] == list(toxics), fields['type']['enum'])
+    for attribute in any_toxic: of_field(f'{SCHEMA}: {attribute["attribute"]}', fields[attribute['attribute']], attribute)
+    for name, attributes in toxics.items():
+        own = parts.get(name, {}).get('properties', {})
+        fact(f'{SCHEMA}: the attributes of {name}', list(own) == [each['attribute'] for each in attributes], list(own))
+        required = [each['attribute'] for each in attributes if each['default'] == 'required']
+        fact(f'{SCHEMA}: what {name} requires', parts.get(name, {}).get('required', []) == required, required)
+        for attribute in attributes: of_field(f'{SCHEMA}: {name}, {attribute["attribute"]}', own.get(attribute['attribute'], {}), attribute)
+
+
+def of_field(what, field, attribute):
+    """Whether a field of the schema has the range of an attribute, also in words."""
+    least, most = int(attribute['least']), most_of(attribute, 10**9 - 1)
+    fact(f'{what}: range', (field.get('minimum'), field.get('maximum')) == (least, most), field)
+    default = int(attribute['default']) if attribute['default'].isdigit() else None
+    fact(f'{what}: default', field.get('default') == default, field)
+    text = re.sub(r'\(not \w+\)', '', field.get('description', ''))
+    fact(f'{what}: its range in words', {least, most} <= set(numbers(text)), text)
+    fact(f'{what}: no other limit in words', not [number for number in numbers(text) if number > 1000 and number != most], text)
+    unit = unit_of(attribute)
+    if unit in ('milliseconds', 'microseconds'): fact(f'{what}: its unit in words', set(units(text.lower())) == {unit}, text)
+
+
+def of_tools(toxics):
+    """The tools that hold a list of attributes."""
+    wanted = {name: [each['attribute'] for each in attributes] for name, attributes in toxics.items()}
+    for path in ('examples/explain', 'tests/changed.py'):
+        found = re.search(r'^ATTRIBUTES = (\{.*?\})$', text_of(path), re.S | re.M)
+        fact(f'{path}: the attributes of toxics', found and ast.literal_eval(found[1]) == wanted)
+    fact('examples/explain: a million', '\nMILLION = 1000000\n' in text_of('examples/explain'))
+
+
+def attribute_texts(row, names):
+    """What a row says after each attribute in backquotes, up to the next one or a semicolon; one without a range shares that of the next."""
+    text = ' | '.join(row)
+    places = sorted((text.find(f'`{name}`'), name) for name in names if f'`{name}`' in text)
+    ends = [place for place, _ in places[1:]] + [len(text)]
+    found, shared = {}, ''
+    for (place, name), end in reversed(list(zip(places, ends))):
+        own = text[place + len(name) + 2:end].split(';')[0]
+        if not numbers(own) and 'below' not in own: own += shared
+        found[name] = shared = own
+    return found
+
+
+def of_page(page, toxics):
+    rows = rows_of(page)
+    for name, attributes in toxics.items():
+        names = [each['attribute'] for each in attributes]
+        found = [attribute_texts(row[1:], names) for row in rows if f'`{name}`' in row[0]]
+        found = [texts for texts in found if any(numbers(text) for text in texts.values())]
+        fact(f'{page}: one row with the ranges of {name}', len(found) == 1, len(found))
+        for attribute in attributes if found else []:
+            of_range(f'{page}: {name}, {attribute["attribute"]}', attribute, found[0].get(attribute['attribute'], ''))
+
+
+def of_range(what, attribute, text):
+    """Whether a text of a page has the range and the unit of an attribute, and no others."""
+    found, least = numbers(re.sub(r'`[^`]*`', '', text)), int(attribute['least'])
+    own = {least, 1000, most_of(attribute, least)}
+    if attribute['greatest'] == BELOW: fact(f'{what}: below average_size', 'below' in text, text)
+    else:
+        fact(f'{what}: the greatest', int(attribute['greatest']) in found, text)
+        fact(f'{what}: the least', least in found or least == 0 and re.search(r'\bup to\b|\bat most\b', text), text)
+    fact(f'{what}: no other limit', not [number for number in found if number >= 1000 and number not in own], text)
+    fact(f'{what}: no other unit', not set(units(text)) - {unit_of(attribute), 'bytes'}, text)
+    fact(f'{what}: its unit', unit_of(attribute) in units(text) + ['bytes'], text)
+
+
+# ---- refusals
+
+LIMITS = {  # the constants that a refusal is about
+    'ShortHeader': ['pcap_records/src/heading.rt FILE_HEADER_LEN', 'toxicap_program/src/looks.rt HEADER_LEN'],
+    'RecordTooLong': ['pcap_records/src/reader.rt PACKET_LIMIT'],
+    'CaptureTooLong': ['pcap_records/src/heading.rt CAPTURE_LIMIT', 'toxicap_program/src/capture_remedies.rt LIMIT',
+                       'toxicap_program/src/looks.rt TEXT_LIMIT'],
+    'TooMany': ['scenarios/src/proxies.rt PROXY_LIMIT', 'scenarios/src/toxics.rt TOXIC_LIMIT'],
+    'TooManyScenarios': ['toxicap/src/reading.rt SCENARIO_LIMIT'],
+    'BadToxicity': ['toxic_defs/src/limits.rt MILLION']}
+PLACES = {'Nowhere': '-', 'At': 'at', 'Host': 'host', 'After': 'after'}
+SCENARIO_FILES = {'scenario': 'scenario', 'proxies': 'scenario proxy', 'upstreams': 'scenario proxy', 'toxics': 'scenario proxy toxic'}
+
+
+def of_scenario(refusal):
+    return refusal['place'].startswith('scenario')
+
+
+def of_fault_lines(refusals):
+    """Numbers, names and places in the code and in the definition."""
+    code, specs = text_of('crates/run_files/src/fault_lines.rt'), text_of('crates/run_files/specs/RunFault.antt')
+    causes = re.findall(r'Cause::(\w+) => \((\d+), "(\w+)"\)', code)
+    faults = re.findall(r'RunFault::(\w+)(?: \{ \w+ \})? => \((\d+), "(\w+)", (\w+)', code)
+    for variant, _, name, *_ in causes + faults: fact(f'fault_lines.rt: the name of {variant}', variant == name, name)
+    in_code = sorted((int(number), name) for _, number, name, *_ in causes + faults)
+    in_specs = sorted((int(number), name) for number, name in re.findall(r'= (?:\(|entry )(\d+),? \(?codes "(\w+)"\)', specs))
+    wanted = [(int(each['number']), each['name']) for each in refusals]
+    fact('fault_lines.rt: numbers and names', in_code == wanted, set(in_code) ^ set(wanted))
+    fact('RunFault.antt: numbers and names', in_specs == wanted, set(in_specs) ^ set(wanted))
+    places = {name: PLACES.get(place) for _, _, name, place in faults}
+    where = {}
+    for file, place in SCENARIO_FILES.items():
+        for cause in re.findall(r'Cause::(\w+)', text_of(f'crates/scenarios/src/{file}.rt')): where.setdefault(cause, set()).add(place)
+    for each in refusals:
+        place = each['place']
+        if of_scenario(each): found, wanted = where.get(each['name']), {place.replace(' [toxic]', ''), place.replace('[toxic]', 'toxic')}
+        else: found, wanted = places.get(each['name']), place.split()[0]
+        fact(f'the place of {each["name"]}', found == wanted, found)
+
+
+def of_errors(refusals):
+    """The enums of faults: their variants, and the limits that their comments and texts tell."""
+    scenario, run = text_of('crates/scenarios/src/error.rt'), text_of('crates/run_files/src/error.rt')
+    causes = re.findall(r'^    (\w+),$', between(scenario, 'pub enum Cause {', '\n}\n'), re.M)
+    faults = re.findall(r'^    (\w+)(?: \{[^}]*\})?,$', between(run, 'pub enum RunFault {', '\n}\n'), re.M)
+    fact('scenarios/src/error.rt: its causes, in order', causes == [each['name'] for each in refusals if of_scenario(each)], causes)
+    fact('run_files/src/error.rt: its faults', set(faults) == {each['name'] for each in refusals if not of_scenario(each)} | {'BadScenario'}, faults)
+    for each in refusals:
+        for limit in LIMITS.get(each['name'], []):
+            value = constant(*limit.split())
+            fact(f'{limit} is in the meaning of {each["name"]}', value in numbers(each['means']), value)
+        said = re.search(r'((?:    ///.*\n)+)    #\[error\("([^"]*)"\)\]\n    ' + each['name'] + r'\b', scenario + run)
+        fact(f'error.rt: {each["name"]}', said)
+        if said: of_numbers(f'error.rt: {each["name"]}', each, said[1].replace('///', '') + re.sub(r'\{\w+\}', '', said[2]))
+
+
+def of_numbers(what, refusal, text):
+    """Whether a text about a refusal has no other numbers than its meaning has. Names, commands and links do not count."""
+    text, means = (re.sub(r'`[^`]*`|\]\([^)]*\)|UTF-8|\bfrom 0\b|\bseven\b', ' ', each) for each in (text, refusal['means']))
+    wrong = [number for number in numbers(text) if number not in numbers(means)]
+    fact(f'{what}: no other number', not wrong, wrong)
+
+
+def of_help_refusals(refusals, help_text):
+    lines = re.findall(r'^ *(\d+) (\w+) +(.*)$', between(help_text, 'Refusals:\n', 'Documents:'), re.M)
+    fact('--help: the refusals', [line[:2] for line in lines] == [(each['number'], each['name']) for each in refusals])
+    for each, (_, _, text) in zip(refusals, lines):
+        of_numbers(f'--help: {each["name"]}', each, text)
+        fact(f'--help: the limit of {each["name"]}', each['name'] not in LIMITS or numbers(text), text)
+
+
+def of_remedies(refusals):
+    """What the program prints after a refusal: for each one something, and what the table has of it."""
+    names = ['remedies', 'capture_remedies', 'scenario_remedies', 'folder_remedies', 'scenario_fields']
+    code = {name: text_of(f'crates/toxicap_program/src/{name}.rt') for name in names}
+    texts = ' '.join(re.findall(r'"((?:[^"\\]|\\.)*)"', ' '.join(code.values()))).replace('\\"', '"')
+    handled = {55}  # by the last arm
+    for name in ('remedies', 'capture_remedies'):
+        arms = between(code[name], 'match refusal.number {', '\n    }\n')
+        for first, last in re.findall(r'^        (\d+)(?:\.\.=(\d+))? =>', arms, re.M): handled |= set(range(int(first), int(last or first) + 1))
+    wanted = {int(each['number']) for each in refusals}
+    fact('remedies: one for each refusal', wanted == handled, wanted ^ handled)
+    for each in refusals:
+        for part in each['remedy'].split('; '): fact(f'remedies: {each["name"]}', part in texts, part)
+    proxies, toxics = (constant(*limit.split()) for limit in LIMITS['TooMany'])
+    fact('remedies: how many scenarios', f'a run takes {constant(*LIMITS["TooManyScenarios"][0].split())}:' in texts)
+    fact('remedies: how many proxies', f'it is the {proxies + 1}th: a scenario has at most {proxies} proxies' in texts)
+    fact('remedies: how many toxics', f'a stream has at most {toxics} toxics' in texts)
+
+
+def of_refusal_page(page, refusals):
+    """The rows of a page that name a refusal: in the first cell, or in the last one as `refused NUMBER NAME ..`."""
+    names, found = {each['name'] for each in refusals}, {}
+    for row in rows_of(page):
+        first, last = re.search(r'`(?:refused )?(?:(\d+) )?(\w+)[^`]*`', row[0]), re.search(r'`refused (\d+) (\w+)[^`]*`', row[-1])
+        for cell, rest in ((first, row[1:]), (last, row[:-1])):
+            if cell and cell[2] in names: found.setdefault(cell[2], []).append((cell[1], rest))
+    for each in refusals:
+        rows = found.get(each['name'], [])
+        fact(f'{page}: one row for {each["name"]}', len(rows) == 1, len(rows))
+        for number, rest in rows[:1]:
+            alone = [cell.strip('`') for cell in rest if re.fullmatch(r'`?\d+`?', cell)]
+            fact(f'{page}: the number of {each["name"]}', each['number'] in [number] + alone, [number] + alone)
+            of_numbers(f'{page}: {each["name"]}', each, next((cell for cell in rest if cell.strip('`') not in alone), ''))
+
+
+# ---- other limits
+
+def of_schema_limits():
+    schema = json.loads(text_of(SCHEMA))
+    proxies, toxics = (constant(*limit.split()) for limit in LIMITS['TooMany'])
+    fact(f'{SCHEMA}: how many proxies', schema['maxItems'] == proxies and numbers(schema['description']) == [proxies], schema['maxItems'])
+    field = schema['$defs']['proxy']['properties']['toxics']
+    fact(f'{SCHEMA}: how many toxics', [each['maxContains'] for each in field['allOf']] == [toxics] * 2, field['allOf'])
+    fact(f'{SCHEMA}: how many toxics, in words', set(numbers(field['description'])) == {toxics}, field['description'])
+
+
+def of_options(source):
+    """The limits that `--help` tells of options, and those of a plan."""
+    workers, cut = (constant('command_line/src/options.rt', name) for name in ('MOST_WORKERS', 'MOST_CUT'))
+    scenarios, bytes_ = constant(*LIMITS['TooManyScenarios'][0].split()), constant(*LIMITS['CaptureTooLong'][0].split())
+    for name, wanted in (('WORKERS', [1, workers]), ('CUT', [1, cut]), ('SCENARIO', [scenarios]), ('CAPTURE', [bytes_])):
+        found = numbers(between(source, f'const {name}: &str = "', '";'))
+        fact(f'--help: the limits of {name}', found == wanted, found)
+    plan = [constant('job_matrix/src/plans.rt', name) for name in ('WORKER_LIMIT', 'CUT_LIMIT')]
+    fact('job_matrix: a plan has the limits of the options', plan == [workers, cut], plan)
+
+
+# ---- names that the pages for developers tell
+
+PAGES = ('ARCHITECTURE', 'PROVED', 'EVIDENCE', 'CONTRIBUTING', 'TREE')
+STANDING_FOR_OTHERS = {'file', 'test', 'name', 'Name', 'NAME', 'WRONG', 'MODULE', 'FUNCTION', 'run_name', 'NewCause', 'CRATE'}
+WITHOUT_EDIT = {'one_thread_does_all', 'always_out_of_memory', 'board_under_a_lock'}  # wrong bodies that cannot be an edit
+
+
+def paths():
+    """The files and folders of the tree, but for what is built."""
+    found = (path.relative_to(TREE) for path in TREE.rglob('*'))
+    return {str(path) for path in found if not {'.git', 'out', '__pycache__'} & set(path.parts)}
+
+
+def of_names():
+    """Whether each name in backquotes is there: a path, a row of tests, and each word somewhere in the code, the tests or the tools."""
+    there = paths()
+    code = [path for path in there if re.match(r'crates|tests|examples|release|\.ci', path) and (TREE / path).is_file()]
+    words, names, functions = set(re.findall(r'\w+', ' '.join(there))), {path.split('/')[-1] for path in there}, set()
+    for path in set(code) - {'tests/facts.py', 'tests/made.py'}:
+        text = (TREE / path).read_text(encoding='utf-8', errors='ignore')
+        words |= set(re.findall(r'\w+', text))
+        functions |= {(path.split('/')[-1], function) for function in re.findall(r'\bfn (\w+)', text)}
+
+    def is_known(word):
+        return word in words or word[-1] == '_' and any(each.startswith(word) for each in words)
+    for page in PAGES:
+        text = re.sub(r'```.*?```', '', text_of(f'docs/{page}.md'), flags=re.S)
+        missing = set()
+        for name in set(re.findall(r'`([^`\s]+)`', text)):
+            own = set(re.findall(r'\b[A-Za-z_]\w*', name)) - WITHOUT_EDIT
+            if own & STANDING_FOR_OTHERS: continue
+            missing |= {word for word in own if not is_known(word)}
+            if re.fullmatch(r'[\w./-]+/[\w.-]+\.\w+', name) and not any(f'/{path}'.endswith(f'/{name}') for path in there): missing.add(name)
+            if re.fullmatch(r'[a-z0-9]+(-[a-z0-9]+)+', name) and name not in names: missing.add(name)
+            place = re.fullmatch(r'([a-z]\w*)::(\w+)', name)
+            if place and (f'{place[1]}.rt', place[2]) not in functions: missing.add(name)
+        fact(f'docs/{page}.md: names that are nowhere in the tree', not missing, ', '.join(sorted(missing)))
+
+
+def main():
+    rows, refusals = table('docs/toxics.tsv'), table('docs/refusals.tsv')
+    any_toxic, toxics = [each for each in rows if each['toxic'] == 'any'], {}
+    for each in rows:
+        if each['toxic'] != 'any': toxics.setdefault(each['toxic'], []).append(each)
+    for name, attributes in toxics.items():
+        does = [bool(each['does']) for each in attributes]
+        fact(f'docs/toxics.tsv: what {name} does stands once', does == [True] + [False] * (len(attributes) - 1))
+    source = text_of('crates/command_line/src/texts.rt')
+    help_text = source.replace('\\\n', '').replace('\\"', '"').replace('\\\\', '\\')
+    of_code(toxics, any_toxic[1]['greatest'])
+    of_terminal(toxics)
+    of_help(toxics, help_text)
+    of_schema(toxics, any_toxic)
+    of_tools(toxics)
+    of_fault_lines(refusals)
+    of_errors(refusals)
+    of_help_refusals(refusals, help_text)
+    of_remedies(refusals)
+    for page in ('docs/GUIDE.md', 'docs/RULES.md'):
+        of_page(page, toxics)
+        of_refusal_page(page, refusals)
+    of_schema_limits()
+    of_options(source)
+    of_names()
+    print(f'{sum(told)} passed, {len(told) - sum(told)} failed')
+    sys.exit(0 if all(told) else 1)
+
+
+main()

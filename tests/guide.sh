@@ -15,7 +15,7 @@ top=${1:-$PWD} release=${1:-}
 [ -z "$release" ] || program=$release/toxicap
 unset TOXICAP
 tools=(go rustc cc tshark editcap tcprewrite jq git xxd gzip parallel gcc python3 jsonschema tcpdump dumpcap ethtool curl)
-pages=(README.md docs/{TUTORIAL,GUIDE,SECRETS,OTHER-CAPTURES,SUITES,IN-PROCESS,SCALE,TRUST}.md examples/README.md)
+pages=({,examples/}README.md docs/{TUTORIAL,GUIDE,FROM-TOXIPROXY,OTHER-CAPTURES,SUITES,IN-PROCESS,SCALE,TRUST,SECRETS}.md)
 client=toxicap-client-$$ server=toxicap-server-$$ network=no webs=()
 
 clean_up() {

@@ -1,13 +1,13 @@
 #!/usr/bin/env bash
-# The commands that docs/GUIDE.md, docs/SECRETS.md, README.md and examples/README.md show:
+# The commands that the pages for users show:
 #     tests/guide.sh [RELEASE]
-# Each block ```sh is run as one script, in a folder with samples/ and examples/, and has to print what stands in the block ```text right after
-# it. A command that fails ends its block, which has failed then, also within a pipe; but a block that shows a status ($?) is run by plain bash,
-# and goes on. Blocks ```sh live record: they are run in a private network of two hosts, as root with ip netns, each is ended as by Ctrl-C after a
-# session, and no later block may change a recording; of what they print only standard output is compared. A block is skipped where a tool that
-# it names is missing, and one over the library for C where that is not built. In examples/README.md a command on examples/ that is the last cell
-# of a table's row is run too. RELEASE is the whole path of a release that is unpacked: its pages, its files and its program are taken, and its
-# blocks ```sh live are left out.
+# Each page has a folder of its own, with samples/ and examples/. Each block ```sh of it is run there as one script, and has to print what stands in
+# the block ```text right after it. A command that fails ends its block, which has failed then, also within a pipe; but a block that shows a status
+# ($?) is run by plain bash, and goes on. Blocks ```sh live record: they are run in a private network of two hosts, as root with ip netns, each is
+# ended as by Ctrl-C after a session, and no later block may change a recording; of what they print only standard output is compared. A block is
+# skipped where a tool that it names is missing, and one over the library for C where that is not built. In examples/README.md a command on examples/
+# that is the last cell of a table's row is run too. RELEASE is the whole path of a release that is unpacked: its pages, its files and its program are
+# taken, and its blocks ```sh live are left out.
 set -uo pipefail
 cd "$(dirname "$0")/.." || exit 2
 . tests/lib.sh
@@ -15,6 +15,7 @@ top=${1:-$PWD} release=${1:-}
 [ -z "$release" ] || program=$release/toxicap
 unset TOXICAP
 tools=(go rustc cc tshark editcap tcprewrite jq git xxd gzip parallel gcc python3 jsonschema tcpdump dumpcap ethtool curl)
+pages=({,examples/}README.md docs/{TUTORIAL,GUIDE,FROM-TOXIPROXY,OTHER-CAPTURES,SUITES,IN-PROCESS,SCALE,TRUST,SECRETS}.md)
 client=toxicap-client-$$ server=toxicap-server-$$ network=no webs=()
 
 clean_up() {
@@ -34,7 +35,7 @@ open_network() {
     for host in $client $server; do
         ip -n "$host" link set lo up
         ip -n "$host" link set eth0 up
-        ip netns exec "$host" python3 -m http.server 80 --directory "$work/guide/samples" > /dev/null 2>&1 &
+        ip netns exec "$host" python3 -m http.server 80 --directory "$top/samples" > /dev/null 2>&1 &
         webs+=($!)
     done
     for host in 127.0.0.1 10.79.0.2; do session $host --retry 20 --retry-connrefused --retry-delay 1; done
@@ -91,7 +92,7 @@ run_block() {
     elif [ $network = yes ]; then
         touch "$work/begun"
         live "$3" || status=$?
-        find . -name '*.pcap' -newer "$work/begun" -exec sha256sum {} + >> "$work/recorded"
+        find "$PWD" -name '*.pcap' -newer "$work/begun" -exec sha256sum {} + >> "$work/recorded"
     else
         skip "$1" "a private network takes root and ip netns"
         return
@@ -100,9 +101,15 @@ run_block() {
     verdict "$1" "$(fault 0)"
 }
 
-# run_file FILE: runs its blocks.
-run_file() {
+# run_page PAGE: runs its blocks, in a folder of its own.
+run_page() {
     local line number=0 begun=0 inside=no kind='' text='' last=''
+    missed=''
+    mkdir -p "$work/pages/$1"
+    cd "$work/pages/$1" || exit 2
+    cp -r "$top/samples" "$top/examples" .
+    [ ! -d "$work/library" ] || cp -a "$work/library/include" "$work/library/lib" .
+    ! type -P git > /dev/null || git init -q .
     while IFS= read -r line; do
         number=$((number + 1))
         if [[ $1 = examples/* && $line =~ ^'|'.*'| `'([^\`]*examples/[^\`]*)'` |'$ ]]; then
@@ -125,22 +132,34 @@ run_file() {
     done < "$top/$1"
 }
 
-mkdir -p "$work/guide" "$work/bin"
-cp -r "$top/samples" "$top/examples" "$work/guide"
+mkdir "$work/bin" "$work/pages"
 ln -s "$program" "$work/bin/toxicap"
 if [ -n "$release" ]; then
-    cp -a "$release/include" "$release/lib" "$work/guide"
-elif [ -n "${LIBRARY:-}" ] || [ -f crates/toxicap_c/out/libtoxicap_c.a ]; then release/library "$work/guide" > /dev/null
+    mkdir "$work/library"
+    cp -a "$release/include" "$release/lib" "$work/library"
+elif [ -n "${LIBRARY:-}" ] || [ -f crates/toxicap_c/out/libtoxicap_c.a ]; then release/library "$work/library" > /dev/null
 fi
 if type -P go > /dev/null; then
     GOCACHE=$(go env GOCACHE)
     export GOCACHE GOFLAGS=-mod=mod GOPROXY=off
 fi
 export RUSTUP_HOME=${RUSTUP_HOME:-$HOME/.rustup} HOME=$work PATH=$work/bin:$PATH LC_ALL=C.UTF-8
-cd "$work/guide" || exit 2
-! type -P git > /dev/null || { git init -q . && git config user.name tester && git config user.email tester@example.org; }
+if type -P git > /dev/null; then
+    git config --global init.defaultBranch main
+    git config --global user.name tester
+    git config --global user.email tester@example.org
+fi
 [ -n "$release" ] || open_network
 touch "$work/recorded"
-for file in docs/GUIDE.md docs/SECRETS.md examples/README.md README.md; do run_file $file; done
+for page in "${pages[@]}"; do run_page "$page"; done
+if [ -z "$release" ]; then
+    cd "$top" || exit 2
+    # shellcheck disable=SC2016
+    sed -n '/^```rust$/,/^```$/p' docs/LIBRARY.md | sed '1d; $d' > "$work/shown"
+    grep -v '^//!' crates/library_example/src/main.rt > "$work/source"
+    verdict "the program of docs/LIBRARY.md" "$(difference "$work/source" "$work/shown")"
+    # shellcheck disable=SC2016
+    verdict "its line in crates.txt" "$(grep -qxF "$(grep -oE 'library_example may_wait[^`]*' docs/LIBRARY.md)" crates.txt || echo '  it is another')"
+fi
 [ ! -s "$work/recorded" ] || verdict "the recordings are as they were" "$(sha256sum -c --quiet "$work/recorded" 2>&1)"
 close

@@ -1,5 +1,5 @@
-"""What is wrong with an OCI layout: layout.py LAYOUT ROOT. Each blob has the sum and the length that the list of it tells, and the layers are unpacked
-into the folder ROOT."""
+"""What is wrong with an OCI layout: layout.py LAYOUT ROOT. Each blob has the sum and the length that the list of it says, and the layers are
+unpacked into the folder ROOT."""
 import gzip
 import hashlib
 import io

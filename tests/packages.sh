@@ -118,7 +118,8 @@ if can "the wheel" python3; then
     # the signals that the program would ignore: those that Python ignores are not among them
     cat > "$work/signals.py" << 'END'
 import os, toxicap.__main__
-os.execv = lambda path, words: os.execlp("cat", "cat", "/proc/self/status")
+replace = os.execv
+os.execv = lambda path, words: replace("/bin/cat", ["cat", "/proc/self/status"])
 toxicap.__main__.main()
 END
     mask=$("$python" -I -B "$work/signals.py" | sed -n 's/^SigIgn:[[:blank:]]*//p') || mask=''
@@ -141,6 +142,8 @@ END
         verdict "pytest without golden files" "$(tested 1 'there is no golden file'; [ ! -e "$away/golden" ] || echo '  there is one now')"
         verdict "pytest --toxicap-update" "$(tested 0 '1 passed' --toxicap-update; holds "$away/golden" cut-off.pcap cut-off.txt)"
         verdict "pytest with golden files" "$(tested 0 '1 passed')"
+        mkdir -p "$away/golden"
+        touch "$away/golden"/cut-off.{txt,pcap}
         sed -i 's:200/216:201/216:' "$away/golden/cut-off.txt"
         verdict "pytest with another report" "$(tested 1 '-0 10.77.0.1:59690 > 10.77.0.2:80 proxy 0 up 82/82/0 close+3653 max 0 down 201/216/0')"
         printf x >> "$away/golden/cut-off.pcap"
@@ -366,10 +369,10 @@ END
     if can "the action, a signature" minisign; then
         MINISIGN_KEY=$work/key release/sums "$work/signed" > "$work/told"
         key=$(tail -n 1 "$work/key.pub")
-        minisign -G -W -p "$work/other.pub" -s "$work/other" > "$work/told" 2>&1
+        minisign -G -W -p "$work/stranger.pub" -s "$work/stranger" > "$work/told" 2>&1
         verdict "the action, a signature" "$(acts 0 "toxicap $version in " ARCHIVE="$work/signed/$archive" KEY="$key")"
         verdict "the action, another's signature" "$(
-            acts 1 'is not signed by this key' ARCHIVE="$work/signed/$archive" KEY="$(tail -n 1 "$work/other.pub")")"
+            acts 1 'is not signed by this key' ARCHIVE="$work/signed/$archive" KEY="$(tail -n 1 "$work/stranger.pub")")"
         verdict "the action, no signature" "$(acts 1 'could not be read' ARCHIVE="$archive" KEY="$key")"
         sed -i '1s/^./x/' "$work/signed/SHA256SUMS"
         verdict "the action, signed sums changed" "$(acts 1 'is not signed by this key' ARCHIVE="$work/signed/$archive" KEY="$key")"

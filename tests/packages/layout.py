@@ -26,7 +26,7 @@ config = json.loads(blob(manifest["config"]))
 layers = [gzip.decompress(blob(layer)) for layer in manifest["layers"]]
 if config["rootfs"]["diff_ids"] != ["sha256:" + hashlib.sha256(layer).hexdigest() for layer in layers]:
     print("  the sums of the layers, unpacked:", config["rootfs"])
-if config["config"] != {"Entrypoint": ["/toxicap"], "WorkingDir": "/work"} or (config["os"], config["architecture"]) != ("linux", "amd64"):
+if config["config"] != {"Entrypoint": ["/usr/bin/toxicap"], "WorkingDir": "/work"} or (config["os"], config["architecture"]) != ("linux", "amd64"):
     print("  what it runs:", config)
 if json.loads((layout / "oci-layout").read_text()) != {"imageLayoutVersion": "1.0.0"}:
     print("  the version of the layout")

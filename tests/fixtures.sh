@@ -364,18 +364,26 @@ if can "the hook" git; then
     verdict "the hook: what it leaves" "$(holds "$work/project" .git captures fixtures fixtures.json scenarios tools)"
 fi
 
-# the workflow: its steps, as they stand, with an archive that has the program
-# step NUMBER: the script of a step.
-step() { python3 -c 'import sys, yaml; print(yaml.safe_load(open(sys.argv[1]))["jobs"]["verify"]["steps"][int(sys.argv[2])]["run"])' \
-    "$examples/workflows/fixtures.yml" "$1"; }
-if ! can "the workflow" curl tar sha256sum; then :
+# the workflow: the step of its action (examples/action, which tests/packages.sh tries) with what the workflow hands it, and its last step, with an
+# archive that has the program
+# step NUMBER WORD..: what a step of the workflow has, by the words that lead to it.
+step() {
+    python3 - "$examples/workflows/fixtures.yml" "$@" << 'END'
+import functools, sys, yaml
+print(functools.reduce(lambda value, word: value[word], sys.argv[3:], yaml.safe_load(open(sys.argv[1]))["jobs"]["verify"]["steps"][int(sys.argv[2])]))
+END
+}
+if ! can "the workflow" tar sha256sum; then :
 elif ! python3 -c 'import yaml' 2> /dev/null; then skip "the workflow" "Python's library yaml is not here"
 else
     project
-    mkdir "$work/project/tools" "$work/runner" "$work/toxicap-1"
+    mkdir -p "$work/project/tools" "$work/project/.github/actions" "$work/toxicap-1/bin"
     cp examples/fixtures "$work/project/tools"
-    cp "$program" "$work/toxicap-1/toxicap-static"
+    cp -r examples/action "$work/project/.github/actions/toxicap"
+    cp "$program" "$work/toxicap-1/bin/toxicap"
     tar -C "$work" -czf "$work/toxicap-1.tar.gz" toxicap-1
+    sums=$(step 1 with sums)
+    action=$(step 1 uses)
     # steps: the steps after the checkout, each by a shell of its own, as on a runner.
     steps() {
         status=0
@@ -383,18 +391,18 @@ else
         mkdir "$work/runner"
         (
             cd "$work/project"
-            export RUNNER_TEMP=$work/runner GITHUB_ENV=$work/runner/env ARCHIVE=file://$work/toxicap-1.tar.gz SHA256
-            bash -e -c "$(step 1)" > "$work/got" &&
-                TOXICAP=$(sed -n 's/^TOXICAP=//p' "$GITHUB_ENV") bash -e -c "$(step 2)"
+            export RUNNER_TEMP=$work/runner GITHUB_PATH=$work/runner/path
+            ARCHIVE=$work/toxicap-1.tar.gz SUMS=$sums "$action/install" > "$work/got" &&
+                PATH=$(cat "$GITHUB_PATH"):$PATH bash -e -c "$(step 2 run)"
         ) > "$work/output" 2> "$work/faults" || status=$?
     }
-    SHA256=$(sum "$work/toxicap-1.tar.gz")
+    (cd "$work" && sha256sum toxicap-1.tar.gz) > "$work/project/$sums"
     steps
     verdict "the workflow: what is sealed" "$(listed 0)"
     rm "$work/project/fixtures/redis-down.txt"
     steps
     verdict "the workflow: an output is gone" "$(listed 1 "gone output redis-down.txt")"
-    SHA256=$(sum "$program")
+    sed -i 's/^./x/' "$work/project/$sums"
     steps
     verdict "the workflow: another archive" "$(fault 1; silent output)"
 fi

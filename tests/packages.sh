@@ -1,8 +1,8 @@
 #!/usr/bin/env bash
-# The packages of a release, for those who put toxicap into their suites: the wheel for Python, the library by pkg-config and CMake, the modules for Go
-# and Rust, the image. Each is made twice, the same bytes, put into a fresh place from where this repository can't be seen, and its own example is
-# run there; each row of docs/INSTALL.md likewise. What a machine has no language or tool for is skipped. TOXICAP is a program with its object file
-# beside it, LIBRARY the crate's static library and KIT the kit, as for release/parts.
+# The packages of a release, for those who put toxicap into their suites: the wheel for Python, the library by pkg-config and CMake, the modules for
+# Go and Rust, the image, the action for GitHub. Each is made twice, the same bytes, put into a fresh place from where this repository can't be seen,
+# and its own example is run there; each row of docs/INSTALL.md likewise. What a machine has no language or tool for is skipped. TOXICAP is a program
+# with its object file beside it, LIBRARY the crate's static library and KIT the kit, as for release/parts.
 set -euo pipefail
 cd "$(dirname "$0")/.."
 . tests/lib.sh
@@ -31,7 +31,11 @@ the_same() {
     verdict "$1" "$(
         umask 077
         "${@:2}" "$work/again" > "$work/told" 2>&1 || { echo "  status $?"; cat "$work/told"; }
-        (cd "$work/again" && find . -type f ! -name SHA256SUMS) | while read -r file; do byte_difference "$made/$file" "$work/again/$file"; done
+        [ -n "$(ls -A "$work/again" 2> /dev/null)" ] || echo '  nothing is made'
+        find "$work/again" -type f -printf '%f\n' | while read -r file; do
+            byte_difference "$made/$file" "$work/again/$file"
+            [ "$(stat -c %a "$made/$file")" = 644 ] || echo "  the mode of $file is $(stat -c %a "$made/$file")"
+        done
     )"
     rm -rf "$work/again"
 }
@@ -41,6 +45,9 @@ block() { awk -v fence="\`\`\`$2" -v number="$3" '$0 == "```" { inside = 0 } ins
 
 # size FILE MOST: what is wrong with a file that is to have fewer bytes.
 size() { [ "$(stat -c %s "$1")" -lt "$2" ] || echo "  $1 has $(stat -c %s "$1") bytes, and not fewer than $2"; }
+
+# shared WHAT FOLDER: a package has share/toxicap there, whole.
+shared() { verdict "share/toxicap of $1" "$(folder_difference "$work/share" "$2")"; }
 
 if [ ! -f "$program.o" ]; then
     skip "packages" "there is no object file at $program.o"
@@ -57,7 +64,12 @@ else
     for each in "${scripts[@]}"; do "release/$each" "$parts" "$made" > "$work/told"; done
     release/sums "$made" > "$work/told"
 fi
-verdict "the sums of all" "$(cd "$made"; sha256sum --quiet -c SHA256SUMS 2>&1 || true; [ "$(wc -l < SHA256SUMS)" = "$(find . -type f ! -name SHA256SUMS | wc -l)" ] || cat SHA256SUMS)"
+release/share "$work/share"
+verdict "the sums of all" "$(
+    cd "$made"
+    sha256sum --quiet --strict -c SHA256SUMS 2>&1 || true
+    [ "$(wc -l < SHA256SUMS)" = "$(find . -type f ! -name SHA256SUMS | wc -l)" ] || cat SHA256SUMS
+)"
 
 # Python
 if can "the wheel" python3; then
@@ -78,7 +90,12 @@ if can "the wheel" python3; then
     else
         passes "the wheel, installed by pip" "$python" -m pip install --no-index --quiet --disable-pip-version-check "$wheel"
         passes "the command toxicap" "$work/venv/bin/toxicap" -V
-        verdict "what the command says" "$(grep -qx "toxicap $version" "$work/told" || cat "$work/told")"
+        verdict "what the command prints" "$(grep -qx "toxicap $version" "$work/told" || cat "$work/told")"
+        find "$work/venv/share/toxicap" -name __pycache__ -prune -exec rm -r {} +
+        shared "the wheel" "$work/venv/share/toxicap"
+        passes "a tool of the wheel" env -u TOXICAP "PATH=/usr/bin:/bin" \
+            "$work/venv/bin/toxicap-explain" --capture "$work/share/samples/http-get.pcap" --scenario "$work/share/examples/limit_data.json"
+        verdict "what the tool prints" "$(grep -q ': effect on 1 of 1 connection$' "$work/told" || cat "$work/told")"
     fi
     for sample in http-get shop; do
         for scenario in latency bandwidth redis-down slow-database; do
@@ -93,9 +110,20 @@ if can "the wheel" python3; then
     block docs/PYTHON.md text 1 > "$work/wanted"
     (cd "$away" && out_of_reach "$python" -B example.py > "$work/output" 2>&1) || true
     verdict "the package's example" "$(difference "$work/wanted" "$work/output")"
-    (cd "$away" && out_of_reach "$python" -m toxicap --capture shop.pcap --scenario redis-down.json > "$work/output" 2>&1) || echo "$?" >> "$work/output"
+    ended=0
+    (cd "$away" && out_of_reach "$python" -m toxicap --capture shop.pcap --scenario redis-down.json > "$work/output" 2>&1) || ended=$?
+    echo $ended >> "$work/output"
     printf '%s\n' 'refused 15 UnknownHost scenario 0 proxy 1' 1 > "$work/wanted"
     verdict "python -m toxicap" "$(difference "$work/wanted" "$work/output")"
+    # the signals that the program would ignore: those that Python ignores are not among them
+    cat > "$work/signals.py" << 'END'
+import os, toxicap.__main__
+replace = os.execv
+os.execv = lambda path, words: replace("/bin/cat", ["cat", "/proc/self/status"])
+toxicap.__main__.main()
+END
+    mask=$("$python" -I -B "$work/signals.py" | sed -n 's/^SigIgn:[[:blank:]]*//p') || mask=''
+    verdict "python -m toxicap ends with a pipe" "$([ -n "$mask" ] && ((!(16#$mask & 16#1001000))) || echo "  ignored: $mask")"
 
     if can "the types of the package" mypy && "$python" -c 'import pytest' 2> /dev/null; then
         cp tests/packages/typed.py "$away"
@@ -114,6 +142,8 @@ if can "the wheel" python3; then
         verdict "pytest without golden files" "$(tested 1 'there is no golden file'; [ ! -e "$away/golden" ] || echo '  there is one now')"
         verdict "pytest --toxicap-update" "$(tested 0 '1 passed' --toxicap-update; holds "$away/golden" cut-off.pcap cut-off.txt)"
         verdict "pytest with golden files" "$(tested 0 '1 passed')"
+        mkdir -p "$away/golden"
+        touch "$away/golden"/cut-off.{txt,pcap}
         sed -i 's:200/216:201/216:' "$away/golden/cut-off.txt"
         verdict "pytest with another report" "$(tested 1 '-0 10.77.0.1:59690 > 10.77.0.2:80 proxy 0 up 82/82/0 close+3653 max 0 down 201/216/0')"
         printf x >> "$away/golden/cut-off.pcap"
@@ -131,12 +161,16 @@ run /dev/null --capture samples/shop.pcap --scenario examples/bandwidth.json --s
 stored() {
     rm -rf "$work/files"
     mkdir "$work/files"
-    verdict "$1" "$(cd "$work/files"; quiet out_of_reach "${@:2}" "$away/shop.pcap" "$away/bandwidth.json" "$away/latency.json"; folder_difference "$work/wanted-files" "$work/files")"
+    verdict "$1" "$(
+        cd "$work/files"
+        quiet out_of_reach "${@:2}" "$away/shop.pcap" "$away/bandwidth.json" "$away/latency.json"
+        folder_difference "$work/wanted-files" "$work/files"
+    )"
 }
 if can "the library by pkg-config" gcc pkg-config; then
     # shellcheck disable=SC2016
-    passes "the library by pkg-config" env PKG_CONFIG_PATH="$away/lib/pkgconfig" bash -c \
-        'cd "$0" && gcc -Wall -Wextra -Werror -o by-pkg-config rehearse.c $(pkg-config --cflags --libs toxicap) "-Wl,-rpath,$(pkg-config --variable=libdir toxicap)"' "$away"
+    passes "the library by pkg-config" env PKG_CONFIG_PATH="$away/lib/pkgconfig" bash -c 'cd "$0" && gcc -Wall -Wextra -Werror -o by-pkg-config \
+        rehearse.c $(pkg-config --cflags --libs toxicap) "-Wl,-rpath,$(pkg-config --variable=libdir toxicap)"' "$away"
     stored "the library by pkg-config, run" "$away/by-pkg-config"
     told_version=$(PKG_CONFIG_PATH=$away/lib/pkgconfig pkg-config --modversion toxicap 2>&1 || true)
     verdict "the version that pkg-config tells" "$([ "$told_version" = "$version" ] || echo "  $told_version")"
@@ -149,6 +183,20 @@ if can "the library by CMake" gcc cmake pkg-config; then
     stored "the library by CMake, run" "$away/cmake/build/rehearse"
 fi
 
+# the header's list of what the library calls is compared with the library: another list is refused
+mkdir -p "$work/other/crates/toxicap_c" "$work/other/crates/command_line/src"
+cp -r release "$work/other"
+cp -r crates/toxicap_c/include "$work/other/crates/toxicap_c"
+cp crates/command_line/src/texts.rt "$work/other/crates/command_line/src"
+# shellcheck disable=SC2016
+sed -i '/It calls/s/`memmove`, //' "$work/other/crates/toxicap_c/include/toxicap.h"
+verdict "a header with another list of calls" "$(
+    ended=0
+    LIBRARY=${LIBRARY:-$PWD/crates/toxicap_c/out/libtoxicap_c.a} "$work/other/release/library" "$work/none" > "$work/told" 2>&1 || ended=$?
+    grep -q 'libtoxicap.a calls others than the header says: .* memmove ' "$work/told" || ended=0
+    { [ $ended = 2 ] && [ ! -e "$work/none" ]; } || cat "$work/told"
+)"
+
 # unpacked FILE: unpacks one of the packages into the fresh place.
 unpacked() { tar -C "$away" -xzf "$made/$1"; }
 
@@ -158,13 +206,15 @@ if can "the module for Go" go gcc; then
     unpacked "toxicap-$version-go.tar.gz"
     # in_module COMMAND..: runs a command in the module, without a network.
     in_module() { (cd "$away/toxicap-$version-go" && out_of_reach "$@"); }
+    shared "the module" "$away/toxicap-$version-go/share/toxicap"
     verdict "the module, as gofmt lays it out" "$(in_module gofmt -l . 2>&1)"
     verdict "the module, go vet" "$(quiet in_module go vet ./...)"
     verdict "the module's example" "$(in_module go test -count=1 ./... > "$work/told" 2>&1 || cat "$work/told")"
     verdict "the module, vendored" "$(
         mkdir "$away/suite"
         cd "$away/suite"
-        printf 'module suite\n\ngo 1.18\n\nrequire example.org/toxicap v1.0.0\n\nreplace example.org/toxicap => ../toxicap-%s-go\n' "$version" > go.mod
+        go mod init suite > "$work/told" 2>&1
+        go mod edit -go=1.18 -require=example.org/toxicap@v1.0.0 "-replace=example.org/toxicap=../toxicap-$version-go"
         printf 'package suite\n\nimport _ "example.org/toxicap"\n' > suite.go
         { out_of_reach go mod vendor && rm -r "../toxicap-$version-go" && out_of_reach go build ./...; } 2>&1 || echo "  status $?"
     )"
@@ -175,12 +225,26 @@ the_same "the crate, the same twice" release/crate "$parts"
 if can "the crate for Rust" cargo rustc cc; then
     unpacked "toxicap-$version-rust.tar.gz"
     # in_crate COMMAND..: runs a command in the crate, without a network.
-    in_crate() { (cd "$away/toxicap-$version-rust" && CARGO_TARGET_DIR=$work/target CARGO_NET_OFFLINE=true RUSTFLAGS='-D warnings' RUSTDOCFLAGS='-D warnings' out_of_reach "$@"); }
+    in_crate() {
+        (
+            cd "$away/toxicap-$version-rust"
+            export CARGO_TARGET_DIR=$work/target CARGO_NET_OFFLINE=true RUSTFLAGS='-D warnings' RUSTDOCFLAGS='-D warnings'
+            out_of_reach "$@"
+        )
+    }
     in_crate cargo package --no-verify --offline --list --allow-dirty > "$work/output" 2> "$work/faults" || cat "$work/faults" >> "$work/output"
     sed -i '/^Cargo\.lock$/d' "$work/output"
-    printf '%s\n' Cargo.toml Cargo.toml.orig LICENCES.md build.rs native/libtoxicap.a samples/http-get.pcap src/events.rs src/lib.rs src/rehearse.rs > "$work/wanted"
+    {
+        printf '%s\n' Cargo.toml Cargo.toml.orig LICENCES.md build.rs native/libtoxicap.a src/events.rs src/lib.rs src/rehearse.rs
+        (cd "$work" && find share -type f -printf 'share/toxicap/%P\n')
+    } | LC_ALL=C sort > "$work/wanted"
+    LC_ALL=C sort -o "$work/output" "$work/output"
+    shared "the crate" "$away/toxicap-$version-rust/share/toxicap"
     verdict "what the crate has" "$(difference "$work/wanted" "$work/output")"
-    verdict "the crate's example" "$(in_crate cargo test -q --offline > "$work/told" 2>&1 || cat "$work/told"; grep -q '^test result: ok. 1 passed' "$work/told" || cat "$work/told")"
+    verdict "the crate's example" "$(
+        in_crate cargo test -q --offline > "$work/told" 2>&1 || cat "$work/told"
+        grep -q '^test result: ok. 1 passed' "$work/told" || cat "$work/told"
+    )"
     verdict "the crate's documentation" "$(quiet in_crate cargo doc -q --offline --no-deps)"
 fi
 
@@ -197,19 +261,26 @@ if can "the image" tar gzip python3; then
     fi
     # the lines of the Dockerfile, done by hand: the layer has the same files
     unpacked "toxicap-$version-image.tar.gz"
-    mkdir "$work/built" "$work/built/licences" "$work/built/work"
-    (cd "$away/toxicap-$version-image" && cp toxicap "$work/built" && cp LICENCES.md LGPL-2.1 toxicap.o "$work/built/licences")
+    mkdir -p "$work/built"/{usr/bin,usr/share/toxicap,usr/share/doc/toxicap,work}
+    (
+        cd "$away/toxicap-$version-image"
+        cp toxicap "$work/built/usr/bin"
+        cp -r share/. "$work/built/usr/share/toxicap"
+        cp LICENCES.md LGPL-2.1 toxicap.o "$work/built/usr/share/doc/toxicap"
+    )
     verdict "the image's root is what the Dockerfile says" "$(
         folder_difference "$work/built" "$work/root"
         sed '/^#/d' "$away/toxicap-$version-image/Dockerfile" > "$work/output"
-        printf '%s\n' 'FROM scratch' 'COPY toxicap /' 'COPY LICENCES.md LGPL-2.1 toxicap.o /licences/' 'WORKDIR /work' 'ENTRYPOINT ["/toxicap"]' > "$work/wanted"
+        printf '%s\n' 'FROM scratch' 'COPY toxicap /usr/bin/' 'COPY share /usr/share/toxicap/' \
+            'COPY LICENCES.md LGPL-2.1 toxicap.o /usr/share/doc/toxicap/' 'WORKDIR /work' 'ENTRYPOINT ["/usr/bin/toxicap"]' > "$work/wanted"
         difference "$work/wanted" "$work/output"
     )"
     if [ "$(id -u)" = 0 ]; then
-        cp "$away"/{shop.pcap,bandwidth.json,latency.json} "$work/root/work"
         mkdir "$work/root/work/out"
         verdict "the image, run" "$(
-            quiet chroot "$work/root" /toxicap --capture work/shop.pcap --scenario work/bandwidth.json --scenario work/latency.json --out work/out
+            share=usr/share/toxicap
+            quiet chroot "$work/root" /usr/bin/toxicap --capture $share/samples/shop.pcap --scenario $share/examples/bandwidth.json \
+                --scenario $share/examples/latency.json --out work/out
             folder_difference "$work/wanted-files" "$work/root/work/out"
         )"
     else
@@ -231,7 +302,12 @@ if can "a signature" minisign; then
         (cd "$work/signed" && minisign -q -V -m SHA256SUMS -p "$work/key.pub" && sha256sum --quiet -c SHA256SUMS) > "$work/told" 2>&1 || ended=1
         [ $ended = "$1" ] || { echo "  status $ended"; cat "$work/told"; }
     }
-    verdict "a signature" "$(MINISIGN_KEY=$work/key quiet release/sums "$work/signed" > "$work/told"; checked 0; difference "$made/SHA256SUMS" "$work/signed/SHA256SUMS")"
+    verdict "a signature" "$(
+        cd "$work"
+        MINISIGN_KEY=key quiet "$repository/release/sums" signed > "$work/told"
+        checked 0
+        difference "$made/SHA256SUMS" "$work/signed/SHA256SUMS"
+    )"
     for file in SHA256SUMS "toxicap_${version}_amd64.deb" "toxicap-$version-go.tar.gz"; do
         [ -e "$work/signed/$file" ] || continue
         cp "$work/signed/$file" "$work/kept"
@@ -239,8 +315,91 @@ if can "a signature" minisign; then
         verdict "a signature, $file changed" "$(checked 1)"
         cp "$work/kept" "$work/signed/$file"
     done
-    verdict "a signature is removed without a key" "$(env -u MINISIGN_KEY release/sums "$work/signed" > "$work/told"; [ ! -e "$work/signed/SHA256SUMS.minisig" ] || echo '  it is there')"
+    verdict "a signature is removed without a key" "$(
+        quiet release/sums "$work/signed" > "$work/told"
+        [ ! -e "$work/signed/SHA256SUMS.minisig" ] || echo '  it is there'
+    )"
 fi
+
+# the action for GitHub: its step, as it stands, with the variables that a runner has. A file's URL stands for one of the web
+if can "the action" python3 tar sha256sum curl && [ -e "$made/toxicap-$version-x86_64-linux.tar.gz" ]; then
+    archive=toxicap-$version-x86_64-linux.tar.gz
+    # step: the inputs of action.yml, and what its step runs.
+    cat > "$work/step.py" << 'END'
+import re, sys
+text = open(sys.argv[1]).read()
+inputs = re.findall(r"^  (\w+):$", text.split("\ninputs:\n")[1].split("\noutputs:\n")[0], re.MULTILINE)
+handed = re.findall(r"^        (\w+): \$\{\{ inputs\.(\w+) \}\}$", text, re.MULTILINE)
+print(*inputs, *(f"{name}={value}" for name, value in handed))
+print(re.search(r"^      run: '(.*)'$", text, re.MULTILINE)[1])
+END
+    python3 -B "$work/step.py" "$work/share/examples/action/action.yml" > "$work/step" 2>&1 || true
+    # shellcheck disable=SC2016
+    printf '%s\n' 'archive sums key ARCHIVE=archive SUMS=sums KEY=key' '"$GITHUB_ACTION_PATH/install"' > "$work/wanted"
+    verdict "the action's inputs and its step" "$(difference "$work/wanted" "$work/step")"
+    # acts STATUS TEXT VARIABLE..: the step ends so, and prints a line with this text; where it fails, it leaves nothing.
+    acts() {
+        local ended=0
+        rm -rf "$work/runner"
+        mkdir -p "$work/runner/temp"
+        touch "$work/runner/path" "$work/runner/output"
+        (cd "$made" && out_of_reach env RUNNER_TEMP="$work/runner/temp" GITHUB_PATH="$work/runner/path" GITHUB_OUTPUT="$work/runner/output" \
+            GITHUB_ACTION_PATH="$work/share/examples/action" SUMS='' KEY='' "${@:3}" \
+            bash -e -c "$(tail -n 1 "$work/step")") > "$work/told" 2>&1 || ended=$?
+        { [ $ended = "$1" ] && grep -qF -- "$2" "$work/told"; } || { echo "  status $ended"; cat "$work/told"; }
+        [ "$1" = 0 ] || [ -z "$(ls -A "$work/runner/temp")$(cat "$work/runner/path" "$work/runner/output")" ] || echo '  it leaves something'
+    }
+    verdict "the action" "$(
+        acts 0 "toxicap $version in " ARCHIVE="$archive"
+        printf '%s\n' "folder=$(dirname "$(cat "$work/runner/path")")" "version=toxicap $version" > "$work/wanted"
+        difference "$work/wanted" "$work/runner/output"
+        [ "$("$(cat "$work/runner/path")/toxicap" -V)" = "toxicap $version" ] || echo '  it does not run'
+        folder_difference "$work/share" "$(sed -n 's/^folder=//p' "$work/runner/output")/share/toxicap"
+    )"
+    verdict "the action, by a URL" "$(acts 0 "toxicap $version in " ARCHIVE="file://$made/$archive")"
+    verdict "the action, by another URL" "$(acts 1 'is neither a path nor a URL with https' ARCHIVE="http://127.0.0.1/$archive")"
+    sed '/x86_64-linux/s/^./x/' "$made/SHA256SUMS" > "$work/none-right"
+    sed '/x86_64-linux/d' "$made/SHA256SUMS" > "$work/no-line"
+    cp "$made/$archive" "$work/$archive"
+    printf x >> "$work/$archive"
+    verdict "the action, no sum" "$(acts 1 'is not what SHA256SUMS says' ARCHIVE="$archive" SUMS="$work/none-right")"
+    verdict "the action, no line" "$(acts 1 'is not what SHA256SUMS says' ARCHIVE="$archive" SUMS="$work/no-line")"
+    verdict "the action, another archive" "$(acts 1 'is not what SHA256SUMS says' ARCHIVE="$work/$archive" SUMS="$made/SHA256SUMS")"
+    verdict "the action, no archive" "$(acts 1 'could not be read' ARCHIVE=none.tar.gz)"
+    if can "the action, a signature" minisign; then
+        MINISIGN_KEY=$work/key release/sums "$work/signed" > "$work/told"
+        key=$(tail -n 1 "$work/key.pub")
+        minisign -G -W -p "$work/stranger.pub" -s "$work/stranger" > "$work/told" 2>&1
+        verdict "the action, a signature" "$(acts 0 "toxicap $version in " ARCHIVE="$work/signed/$archive" KEY="$key")"
+        verdict "the action, another's signature" "$(
+            acts 1 'is not signed by this key' ARCHIVE="$work/signed/$archive" KEY="$(tail -n 1 "$work/stranger.pub")")"
+        verdict "the action, no signature" "$(acts 1 'could not be read' ARCHIVE="$archive" KEY="$key")"
+        sed -i '1s/^./x/' "$work/signed/SHA256SUMS"
+        verdict "the action, signed sums changed" "$(acts 1 'is not signed by this key' ARCHIVE="$work/signed/$archive" KEY="$key")"
+    fi
+fi
+
+# what was built in two clones: it is the same, and where it is not, that shows
+library=${LIBRARY:-$PWD/crates/toxicap_c/out/libtoxicap_c.a}
+for each in one two; do
+    mkdir -p "$work/$each/crates"/{toxicap_program,toxicap_c}/out
+    cp "$program" "$work/$each/crates/toxicap_program/out/toxicap_program"
+    cp "$program.o" "$work/$each/crates/toxicap_program/out/toxicap_program.o"
+    cp "$library" "$work/$each/crates/toxicap_c/out/libtoxicap_c.a"
+done
+verdict "release/same of equal clones" "$(
+    quiet release/same "$work/one" "$work/two" > "$work/told"
+    [ "$(tail -n 1 "$work/told")" = '8 passed, 0 failed' ] || cat "$work/told"
+)"
+sed -i 's/Toxiproxy/toxiproxy/' "$work/two/crates/toxicap_program/out/toxicap_program"
+rm "$work/two/crates/toxicap_c/out/libtoxicap_c.a"
+verdict "release/same of others" "$(
+    release/same "$work/one" "$work/two" > "$work/told" 2>&1 && echo '  it finds nothing'
+    for line in 'crates/toxicap_program/out/toxicap_program: differs, ' '  sections: .rodata$' 'crates/toxicap_c/out/libtoxicap_c.a: there is no ' \
+        'crates/toxicap_program/out/toxicap_program.o: the same, '; do
+        grep -q "^$line" "$work/told" || { echo "  no line: $line"; cat "$work/told"; }
+    done
+)"
 
 # docs/INSTALL.md, row by row
 export DEBIAN_FRONTEND=noninteractive
@@ -298,6 +457,9 @@ while IFS='|' read -r _ what type check prints _; do
     [ -e "$made/$file" ] || { skip "$row" "$file is not made here"; continue; }
     [[ $what != Python ]] || python3 -c 'import ensurepip' 2> /dev/null || { skip "$row" "ensurepip is not here"; continue; }
     place=(out_of_reach)
+    # shellcheck disable=SC2088
+    [[ $type != *'~/'* ]] || place+=(env "HOME=$work/row/home")
+    [[ $what != GitHub ]] || place+=(env "RUNNER_TEMP=$work/row")
     if [[ $type = *apt-get* ]]; then
         can "$row" apt-get || continue
         in_copy "$away" true 2> /dev/null || { skip "$row" "no copy of the system can be had"; continue; }
@@ -309,12 +471,17 @@ while IFS='|' read -r _ what type check prints _; do
     verdict "$row" "$(
         cd "$work/row"
         prepared "$what" > "$work/told" 2>&1 || cat "$work/told"
-        "${place[@]}" bash -euc 'eval "$1" > told 2>&1 || { echo "  status $?"; cat told; exit; }; eval "$2" 2>&1 || echo "  status $?"' row "$type" "$check" > "$work/output" 2>&1 || echo "  status $?"
+        "${place[@]}" bash -euc 'eval "$1" > told 2>&1 || { echo "  status $?"; cat told; exit; }; eval "$2" 2>&1 || echo "  status $?"' \
+            row "$type" "$check" > "$work/output" 2>&1 || echo "  status $?"
         last=$(tail -n 1 "$work/output" | tr -s '[:blank:]' ' ')
         [[ $last = "$prints"* ]] || { echo "  it prints: $last, wanted: $prints"; cat "$work/output"; }
     )"
-    for tool in docker podman; do [[ $type != *"$tool"* ]] || "$tool" rmi -f "toxicap:latest" "localhost/toxicap:$version" > /dev/null 2>&1 || true; done
+    for tool in docker podman; do
+        [[ $type != *"$tool"* ]] || "$tool" rmi -f "toxicap:latest" "localhost/toxicap:$version" > /dev/null 2>&1 || true
+    done
 done < docs/INSTALL.md
 verdict "rows of docs/INSTALL.md" "$([ $number -ge 10 ] || echo "  $number")"
-verdict "docs/INSTALL.md tells of $version" "$(grep -ohE '[-_@]v?[0-9]+\.[0-9]+\.[0-9]+' docs/INSTALL.md | tr -d '@v_-' | sort -u | grep -vx "$version" || true)"
+verdict "docs/INSTALL.md is about $version" "$(
+    grep -ohE '[-_@]v?[0-9]+\.[0-9]+\.[0-9]+' docs/INSTALL.md | tr -d '@v_-' | sort -u | grep -vx "$version" || true
+)"
 close

@@ -80,8 +80,10 @@ func Rehearse(capture []byte, scenarios [][]byte, hosts []byte, seed uint64) ([]
 	}
 	outputs := make([]Output, count)
 	for i := range outputs {
-		outputs[i] = Output{captures[:lens[2*i]], reports[:lens[2*i+1]]}
-		captures, reports = captures[lens[2*i]:], reports[lens[2*i+1]:]
+		capture, report := lens[2*i], lens[2*i+1]
+		// without room at their ends, so that what is appended to one does not go over the next
+		outputs[i] = Output{captures[:capture:capture], reports[:report:report]}
+		captures, reports = captures[capture:], reports[report:]
 	}
 	return outputs, nil
 }

@@ -84,7 +84,8 @@ fn texts(scenarios: &[impl AsRef<[u8]>]) -> (Vec<u8>, Vec<usize>) {
 ///
 /// # Errors
 ///
-/// What is refused, and want of memory, as a [`Refusal`].
+/// What is refused, and want of memory in the library, as a [`Refusal`]. Where there is no room for the outputs themselves, the process ends as it
+/// does by any `Vec`.
 #[rustfmt::skip]
 pub fn rehearse(capture: &[u8], scenarios: &[impl AsRef<[u8]>], hosts: &str, seed: u64) -> Result<Vec<Output>, Refusal> {
     let ((text, scenario_lens), count) = (texts(scenarios), scenarios.len());
@@ -121,7 +122,7 @@ pub fn reports(capture: &[u8], scenarios: &[impl AsRef<[u8]>], hosts: &str, seed
     let mut sizes = Sizes { captures: 0, reports: 1024 * scenarios.len(), lens: 0 };
     loop {
         let mut reports = vec![0; sizes.reports];
-        // SAFETY: as above.
+        // SAFETY: each pointer goes with its own slice's length, and the outputs are apart from all else.
         let status = unsafe {
             toxicap_reports(
                 capture.as_ptr(), capture.len(), text.as_ptr(), text.len(), scenario_lens.as_ptr(), scenarios.len(),

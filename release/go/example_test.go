@@ -14,7 +14,7 @@ const limit = `[{"name": "web", "upstream": "10.77.0.2:80", "toxics": [{"type": 
 
 // An answer that is cut after 200 bytes, and a scenario whose host nobody names.
 func Example() {
-	capture, err := os.ReadFile("testdata/http-get.pcap")
+	capture, err := os.ReadFile("share/toxicap/samples/http-get.pcap")
 	if err != nil {
 		panic(err)
 	}
@@ -43,7 +43,7 @@ func Example() {
 
 // The reports alone are those of the outputs, and each refusal is its line.
 func TestReports(t *testing.T) {
-	capture, err := os.ReadFile("testdata/http-get.pcap")
+	capture, err := os.ReadFile("share/toxicap/samples/http-get.pcap")
 	if err != nil {
 		t.Fatal(err)
 	}

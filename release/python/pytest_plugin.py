@@ -18,7 +18,8 @@ from . import Output, rehearse as rehearse_all
 
 
 def pytest_addoption(parser: pytest.Parser) -> None:
-    parser.getgroup("toxicap").addoption("--toxicap-update", action="store_true", help="write golden files of the fixture `rehearse` that are missing or differ")
+    about = "write golden files of the fixture `rehearse` that are missing or differ"
+    parser.getgroup("toxicap").addoption("--toxicap-update", action="store_true", help=about)
 
 
 class Rehearsals:
@@ -42,7 +43,8 @@ class Rehearsals:
         [output] = rehearse_all(self._bytes_of(capture), [text], hosts, seed)
         if golden is not None:
             path = self.folder / golden
-            faults = [*self._fault(path.with_name(path.name + ".txt"), output.report), *self._fault(path.with_name(path.name + ".pcap"), output.capture)]
+            files = {".txt": output.report, ".pcap": output.capture}
+            faults = [fault for ending, found in files.items() for fault in self._fault(path.with_name(path.name + ending), found)]
             if faults:
                 pytest.fail("\n".join([*faults, "`pytest --toxicap-update` writes golden files"]), pytrace=False)
         return output

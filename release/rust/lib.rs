@@ -5,7 +5,7 @@
 //! ```
 //! use toxicap::{delivered, rehearse, reports, What};
 //!
-//! let capture = include_bytes!("../samples/http-get.pcap");
+//! let capture = include_bytes!("../share/toxicap/samples/http-get.pcap");
 //! let limit = r#"[{"name": "web", "upstream": "10.77.0.2:80", "toxics": [{"type": "limit_data", "attributes": {"bytes": 200}}]}]"#;
 //! let outputs = rehearse(capture, &[limit], "", 7)?;
 //! let [_, down] = &delivered(&outputs[0].capture)?[0];
@@ -24,5 +24,5 @@
 mod events;
 mod rehearse;
 
-pub use events::{delivered, events, Direction, Event, Line, What};
+pub use events::{delivered, events, Direction, Event, Line, NotOutput, What};
 pub use rehearse::{rehearse, reports, Output, Refusal};

@@ -2,7 +2,7 @@
 #[path = "../../examples/suites/rust/events.rs"]
 mod events;
 
-use events::{delivered, events, Direction, What};
+use events::{delivered, events, Direction, NotOutput, What};
 
 fn text(what: &What) -> String {
     match what {
@@ -11,7 +11,7 @@ fn text(what: &What) -> String {
     }
 }
 
-fn dump(capture: &[u8]) -> Result<(), String> {
+fn dump(capture: &[u8]) -> Result<(), NotOutput> {
     for (number, found) in events(capture)?.iter().enumerate() {
         for event in found {
             let way = if event.direction == Direction::Up {

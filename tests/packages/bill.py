@@ -1,5 +1,5 @@
-"""What is wrong with a bill of materials: bill.py BILL PARTS. It has what SPDX 2.3 asks for, each library of the kit that crates.txt names, and the sums
-of the parts."""
+"""What is wrong with a bill of materials: bill.py BILL PARTS. It has what SPDX 2.3 asks for, each library of the kit that crates.txt names, and the
+sums of the parts."""
 import hashlib
 import json
 import pathlib

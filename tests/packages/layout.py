@@ -1,5 +1,5 @@
-"""What is wrong with an OCI layout: layout.py LAYOUT ROOT. Each blob has the sum and the length that the list of it tells, and the layers are unpacked
-into the folder ROOT."""
+"""What is wrong with an OCI layout: layout.py LAYOUT ROOT. Each blob has the sum and the length that the list of it says, and the layers are
+unpacked into the folder ROOT."""
 import gzip
 import hashlib
 import io
@@ -26,7 +26,7 @@ config = json.loads(blob(manifest["config"]))
 layers = [gzip.decompress(blob(layer)) for layer in manifest["layers"]]
 if config["rootfs"]["diff_ids"] != ["sha256:" + hashlib.sha256(layer).hexdigest() for layer in layers]:
     print("  the sums of the layers, unpacked:", config["rootfs"])
-if config["config"] != {"Entrypoint": ["/toxicap"], "WorkingDir": "/work"} or (config["os"], config["architecture"]) != ("linux", "amd64"):
+if config["config"] != {"Entrypoint": ["/usr/bin/toxicap"], "WorkingDir": "/work"} or (config["os"], config["architecture"]) != ("linux", "amd64"):
     print("  what it runs:", config)
 if json.loads((layout / "oci-layout").read_text()) != {"imageLayoutVersion": "1.0.0"}:
     print("  the version of the layout")

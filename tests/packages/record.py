@@ -1,5 +1,5 @@
-"""What is wrong with a wheel: record.py WHEEL [FOLDER]. Its list has each file, with its sum and length, and its modules can be compiled. Into a folder
-it is unpacked as pip does it, for a Python without pip."""
+"""What is wrong with a wheel: record.py WHEEL [FOLDER]. Its list has each file, with its sum and length, and its modules can be compiled. Into a
+folder the package is unpacked, for a Python without pip."""
 import base64
 import csv
 import hashlib

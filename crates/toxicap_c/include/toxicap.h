@@ -2,8 +2,11 @@
  * toxicap in your own process: what recorded TCP sessions would have been under network faults, as bytes, without files and processes.
  *
  * Two calls. Both fill buffers of the caller's; nothing is handed out that has to be freed, and nothing is kept from one call to the next.
- * Equal inputs give equal bytes, those that the program `toxicap` gives. The library reads and writes no file, starts no thread, prints
- * nothing, and needs `malloc`, `realloc` and `free` of the C library. The processor has to be x86-64-v2.
+ * Equal inputs give equal bytes, those that the program `toxicap` gives. The library reads and writes no file, starts no thread and prints
+ * nothing. The processor has to be x86-64-v2.
+ *
+ * It calls: `free`, `malloc`, `memcpy`, `memmove`, `memset` and `realloc` of the C library, and linked statically also `__udivti3` of the
+ * compiler's own library, which gcc, clang and rustc link by themselves.
  *
  * In use: call with the room that you have (none will do), and where the status is TOXICAP_NO_ROOM make the room that `sizes` tells, and
  * call again:

@@ -4,6 +4,7 @@
 //! recording, pcapng, an output that was cut or put in another order) is refused: the error tells why, and the number of the record, from 0.
 //! Checksums are not looked at.
 use std::collections::HashMap;
+use std::fmt;
 
 /// What comes: a chunk of bytes, or how the direction ends. `Refused` stands in both directions.
 #[derive(Clone, Debug, PartialEq)]
@@ -47,6 +48,27 @@ pub struct Line {
     pub end: Option<(u64, What)>,
 }
 
+/// Why toxicap did not write a capture.
+#[derive(Clone, Debug, PartialEq, Eq)]
+pub struct NotOutput {
+    /// The number of the record that is at fault, from 0; `None` where it is the file's header.
+    pub record: Option<usize>,
+    /// What is at fault.
+    pub why: String,
+}
+
+impl fmt::Display for NotOutput {
+    fn fmt(&self, to: &mut fmt::Formatter) -> fmt::Result {
+        to.write_str("no output capture of toxicap: ")?;
+        match self.record {
+            Some(number) => write!(to, "record {number}: {}", self.why),
+            None => to.write_str(&self.why),
+        }
+    }
+}
+
+impl std::error::Error for NotOutput {}
+
 const SYN: u8 = 2;
 const ACK: u8 = 16;
 const PSH_ACK: u8 = 24;
@@ -88,8 +110,8 @@ struct Connection {
 ///
 /// # Errors
 ///
-/// Why toxicap did not write this capture, with the number of the record, from 0.
-pub fn events(capture: &[u8]) -> Result<Vec<Vec<Event>>, String> {
+/// Why toxicap did not write this capture.
+pub fn events(capture: &[u8]) -> Result<Vec<Vec<Event>>, NotOutput> {
     let found = records(capture)?;
     let (mut connections, mut of_pair, mut number) = (Vec::new(), HashMap::new(), 0);
     while number < found.len() {
@@ -122,7 +144,7 @@ pub fn events(capture: &[u8]) -> Result<Vec<Vec<Event>>, String> {
 /// # Errors
 ///
 /// Those of [`events`].
-pub fn delivered(capture: &[u8]) -> Result<Vec<[Line; 2]>, String> {
+pub fn delivered(capture: &[u8]) -> Result<Vec<[Line; 2]>, NotOutput> {
     let lines_of = |found: Vec<Event>| {
         let mut lines = [Line::default(), Line::default()];
         for event in found {
@@ -137,8 +159,11 @@ pub fn delivered(capture: &[u8]) -> Result<Vec<[Line; 2]>, String> {
     Ok(events(capture)?.into_iter().map(lines_of).collect())
 }
 
-fn refusal(number: usize, why: &str) -> String {
-    format!("no output capture of toxicap: record {number}: {why}")
+fn refusal(number: usize, why: &str) -> NotOutput {
+    NotOutput {
+        record: Some(number),
+        why: why.to_string(),
+    }
 }
 
 /// The number at a place, its lowest byte first.
@@ -154,14 +179,17 @@ fn big(bytes: &[u8], place: usize) -> u32 {
 }
 
 /// The records of an output capture, each checked alone.
-fn records(capture: &[u8]) -> Result<Vec<Record<'_>>, String> {
+fn records(capture: &[u8]) -> Result<Vec<Record<'_>>, NotOutput> {
     let tick = match capture.get(..4) {
         Some([0xd4, 0xc3, 0xb2, 0xa1]) => 1000,
         Some([0x4d, 0x3c, 0xb2, 0xa1]) => 1,
         _ => 0,
     };
     if tick == 0 || capture.get(4..24) != Some(&FILE_HEADER[..]) {
-        return Err("no output capture of toxicap: it has another file header".to_string());
+        return Err(NotOutput {
+            record: None,
+            why: "it has another file header".to_string(),
+        });
     }
     let (mut found, mut place) = (Vec::<Record>::new(), 24);
     while place < capture.len() {

@@ -57,7 +57,8 @@ pub(crate) fn written_draft<D: Disk>(
 ) -> Result<D::Draft, AllocError>
     requires once { HasNoKeyTwice (all_segments layouts.now) }
     requires empty { D.holds draft [] }
-    ensures { IfOk result (λ d. D.holds d (capture_of (ticks_of unit) (all_segments layouts.now))) }
+    ensures holds { IfOk result (λ d. D.holds d (capture_of (ticks_of unit) (all_segments layouts.now))) }
+    ensures path { IfOk result (λ d. D.path_of d ≡ D.path_of draft) }
 {
     let merged = merge_layouts(alloc, layouts)?;
     let mut draft = draft;

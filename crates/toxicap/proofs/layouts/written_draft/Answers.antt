@@ -21,17 +21,20 @@ grown ticks place merged segments written batch after same within so_far put =
 
 pub loop-place-preserved-then-len-lt-BATCH_LEN : goal.loop-place-preserved-then-len-lt-BATCH_LEN
 loop-place-preserved-then-len-lt-BATCH_LEN g c =
-    let was = c.loop-place.invariant in
+    let was = c.loop-place.invariant.so_far in
     let within : c.loop-place.place < length c.in_ok-merged.merged = search rules in
-    (was.0, was.1, grown (ticks_of c.args.unit) c.loop-place.place c.in_ok-merged.merged _ was.0 _ _ c.in_ok-merged.ensures within was.2 c.in_ok-put.ensures.ok)
+    record {
+      so_far = (was.0, was.1, grown (ticks_of c.args.unit) c.loop-place.place c.in_ok-merged.merged _ was.0 _ _ c.in_ok-merged.ensures within was.2 c.in_ok-put.ensures.ok);
+      path = c.loop-place.invariant.path;
+    }
 
 pub loop-place-preserved : goal.loop-place-preserved
 loop-place-preserved g c =
-    let was = c.loop-place.invariant in
+    let was = c.loop-place.invariant.so_far in
     let within : c.loop-place.place < length c.in_ok-merged.merged = search rules in
     let more = grown (ticks_of c.args.unit) c.loop-place.place c.in_ok-merged.merged _ was.0 _ _ c.in_ok-merged.ensures within was.2 c.in_ok-put.ensures.ok in
-    let written : List ℕ = was.0 ++ c.deref.result.now in (
-      written,
-      c.append.ensures was.0 was.1,
-      ap (λ (bs : List ℕ). written ++ bs) c.clear.ensures.items ∙ append-nil written ∙ ap (λ (bs : List ℕ). was.0 ++ bs) c.deref.ensures.value ∙ more,
-    )
+    let written : List ℕ = was.0 ++ c.deref.result.now in
+    let all = ap (λ (bs : List ℕ). written ++ bs) c.clear.ensures.items ∙ append-nil written ∙ ap (λ (bs : List ℕ). was.0 ++ bs) c.deref.ensures.value ∙ more in record {
+      so_far = (written, c.append.ensures.appended was.0 was.1, all);
+      path = c.append.ensures.path ∙ c.loop-place.invariant.path;
+    }

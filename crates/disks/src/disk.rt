@@ -85,9 +85,10 @@ pub trait DiskFile {
 
 /// Where files are written: each as a draft, beside the others and by any thread where the disk is `Sync`, which gets its name when it is whole.
 ///
-/// Contracts see three things. `history` is what the paths held at first and the files that got names since, or `None` where the disk
-/// does not tell that; `faults` is the number of its failed calls; and a draft `holds` some bytes, unless it has failed. A draft is no
-/// part of the history, so it has no path that a file may get as its name.
+/// Contracts see four things. `history` is what the paths held at first and the files that got names since, or `None` where the disk
+/// does not tell that; `faults` is the number of its failed calls; a draft `holds` some bytes, unless it has failed; and `path_of` is the
+/// path that it was begun at. A draft is no part of the history, so it has no path that a file may get as its name. Two drafts at one path
+/// are not refused: whoever begins drafts side by side gives each a path of its own.
 pub trait Disk {
     ghost use Rattle.std.specs.Prelude.{◌≡◌, ℕ, ◌+◌, ◌-◌, ◌^◌, ◌<◌, [], ◌∷◌, ◌++◌, List, Option, OnErr, OnOk, is_ok, if◌then◌else◌};
     ghost use Rattle.std.specs.String.{string_bytes};
@@ -103,14 +104,18 @@ pub trait Disk {
 
     ghost holds: { Self.Draft → List ℕ → Type 0 };
 
-    /// Begins a draft without bytes, which may have failed.
+    ghost path_of: { Self.Draft → List ℕ };
+
+    /// Begins a draft without bytes at a path. It may have failed.
     fn draft(&self, path: String) -> Self::Draft
         requires { IsDraftPath (string_bytes path) }
-        ensures { holds result [] };
+        ensures empty { holds result [] }
+        ensures path { path_of result ≡ string_bytes path };
 
     /// Appends bytes to a draft. A draft that fails stays so, and gets no name.
     fn append(draft: &mut Self::Draft, bytes: &[u8])
-        ensures { (had : List ℕ) → holds draft.old had → holds draft.new (had ++ bytes.now) };
+        ensures appended { (had : List ℕ) → holds draft.old had → holds draft.new (had ++ bytes.now) }
+        ensures path { path_of draft.new ≡ path_of draft.old };
 
     /// Looks whether a file may get this name: not where a folder stands, or a file that may not be written, or one of those that are
     /// spared.

@@ -59,8 +59,12 @@ pub struct HostDraft<'a, F: Files> {
 }
 
 impl<'a, F: Files> HostDraft<'a, F> {
+    ghost use Rattle.std.specs.Prelude.{◌≡◌};
+
     // A draft without bytes at a path.
-    fn begun(files: &'a F, path: String) -> HostDraft<'a, F> {
+    fn begun(files: &'a F, path: String) -> HostDraft<'a, F>
+        ensures { result.path ≡ path }
+    {
         match fs::create(files, &path) {
             Ok(file) => HostDraft {
                 files,
@@ -103,6 +107,8 @@ impl<F: Files> Drop for HostDraft<'_, F> {
 }
 
 impl<'a, F: Files> Disk for HostDisk<'a, F> {
+    ghost use Rattle.std.specs.String.{string_bytes};
+
     type Draft = HostDraft<'a, F>;
 
     ghost history = { λ _. None };
@@ -110,6 +116,8 @@ impl<'a, F: Files> Disk for HostDisk<'a, F> {
     ghost faults = { λ d. d.failed };
 
     ghost holds = { λ _ _. Unit {0} };
+
+    ghost path_of = { λ d. string_bytes d.path };
 
     fn draft(&self, path: String) -> HostDraft<'a, F> {
         HostDraft::begun(self.files, path)

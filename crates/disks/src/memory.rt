@@ -73,6 +73,7 @@ pub struct MemoryDiskFile {
 /// A draft of a disk in memory.
 #[derive(Drop)]
 pub struct MemoryDraft {
+    path: String,
     bytes: Vec<u8>,
     has_failed: bool,
     room: usize,
@@ -227,6 +228,7 @@ fn count_failure(outcome: &Result<(), DiskFault>, failed: &mut u64)
 
 impl Disk for MemoryDisk {
     ghost use Rattle.std.specs.Prelude.{◌≡◌, false, Some};
+    ghost use Rattle.std.specs.String.{string_bytes};
     ghost use Rattle.disks.specs.MemoryDisks.{history_of};
 
     type Draft = MemoryDraft;
@@ -237,9 +239,11 @@ impl Disk for MemoryDisk {
 
     ghost holds = { λ d bytes. d.has_failed ≡ false → d.bytes.items ≡ bytes };
 
+    ghost path_of = { λ d. string_bytes d.path };
+
     fn draft(&self, path: String) -> MemoryDraft {
-        drop(path);
         MemoryDraft {
+            path,
             bytes: Vec::new(self.alloc),
             has_failed: false,
             room: self.draft_room,

@@ -1,6 +1,7 @@
--- Folders of a disk: which names they refuse, and what contracts see of them.
-use Rattle.std.specs.Prelude.{ℕ, ◌+◌, nat_lt, ◌==◌, Bool, ◌||◌, List, length, map, drop, Option, option_map}
-use Rattle.disks.specs.DraftPaths.{has_slash, is_draft_name, path_in}
+-- Folders of a disk: which names they refuse, where their drafts are, and what contracts see of them.
+use Rattle.std.specs.Prelude.{◌≡◌, ◌<◌, ◌^◌, ℕ, ◌+◌, nat_lt, ◌==◌, Bool, ◌||◌, if◌then◌else◌, List, [], ◌++◌, codes, length, map, drop, Option, option_map}
+use Rattle.std.specs.Fmt.{decimal}
+use Rattle.disks.specs.DraftPaths.{has_slash, is_draft_name, path_in, unfinished}
 use Rattle.disks.specs.Histories.{History, NamedFile, named_file, Names}
 use Rattle.run_files.specs.Shelves.{StoredFile, stored_file}
 
@@ -16,6 +17,19 @@ name_limit = 255
 -- no file of a folder may have a name, in one without a path none at all
 abbrev pub is_refused : List ℕ → List ℕ → Bool
 is_refused folder name = length folder == 0 || nat_lt name_limit (length name) || has_slash name || is_draft_name name
+
+-- the name of a draft at a place
+abbrev pub draft_name : ℕ → List ℕ
+draft_name place = unfinished ++ codes "-" ++ decimal place
+
+-- and its path; the empty one, at which no file can be, in a folder without a path
+abbrev pub draft_path : List ℕ → ℕ → List ℕ
+draft_path folder place = if length folder == 0 then [] else path_in folder (draft_name place)
+
+-- drafts at different places of a folder have different paths, where the folder has a path
+abbrev pub DraftPathsDiffer : Type 0
+DraftPathsDiffer = (folder : List ℕ) (one other : ℕ) → 0 < length folder → one < 2 ^ 64 → other < 2 ^ 64
+    → draft_path folder one ≡ draft_path folder other → one ≡ other
 
 -- a file of a folder, as its disk names it
 abbrev pub in_folder : List ℕ → StoredFile → NamedFile

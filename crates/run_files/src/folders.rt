@@ -53,7 +53,7 @@ impl<'a> Folder<'a> {
     ghost use Rattle.std.specs.String.{string_bytes};
     ghost use Rattle.disks.specs.DraftPaths.{IsDraftPath, path_in};
     ghost use Rattle.disks.specs.Histories.{named_file, Names};
-    ghost use Rattle.run_files.specs.Folders.{is_refused};
+    ghost use Rattle.run_files.specs.Folders.{draft_path, is_refused};
 
     /// The folder at a path, of which no call has failed yet. Whether it exists shows at the first file.
     pub fn new(alloc: Global, folder: &'a str) -> Result<Self, AllocError>
@@ -89,7 +89,8 @@ impl<'a> Folder<'a> {
         self.failed
     }
 
-    /// Begins a draft without bytes. Drafts that are there at once have places of their own.
+    /// Begins a draft without bytes, at the path of its place. Drafts that are there at once have places of their own, and so paths of their
+    /// own: [`draft_paths_differ`](crate::laws::draft_paths_differ).
     ///
     /// # Errors
     /// A growth was refused. Any other failure is the draft's.
@@ -99,7 +100,8 @@ impl<'a> Folder<'a> {
         disk: &D,
         place: usize,
     ) -> Result<D::Draft, AllocError>
-        ensures { IfOk result (λ draft. D.holds draft []) }
+        ensures empty { IfOk result (λ draft. D.holds draft []) }
+        ensures path { IfOk result (λ draft. D.path_of draft ≡ draft_path self.now.folder place) }
     {
         let path = self.draft_path(alloc, place)?;
         Ok(disk.draft(path))
@@ -107,14 +109,15 @@ impl<'a> Folder<'a> {
 
     // The path of a draft; the empty one, at which no file can be, in a folder without a path.
     fn draft_path(&self, alloc: Global, place: usize) -> Result<String, AllocError>
-        ensures { IfOk result (λ path. IsDraftPath (string_bytes path)) }
+        ensures is { IfOk result (λ path. string_bytes path ≡ draft_path self.now.folder place) }
+        ensures unfinished { IfOk result (λ path. IsDraftPath (string_bytes path)) }
     {
         drafts_are_named();
         let mut path = String::new(alloc);
         if self.folder.is_empty() {
             return Ok(path);
         }
-        let name = format!(in alloc; "toxicap.unfinished-{place}")?;
+        let name = format!(in alloc; "{UNFINISHED}-{place}")?;
         set_path(&mut path, self.folder, &name)?;
         Ok(path)
     }
@@ -140,9 +143,19 @@ impl<'a> Folder<'a> {
         ensures as_before { OnErr result (D.history disk.new ≡ D.history disk.old) }
         ensures refused { OnErr result ((is_refused self.old.folder name.now ≡ true) ⊎ (D.faults disk.new ≡ D.faults disk.old + 1)) }
     {
-        let taken = self.name_draft(disk, name, draft);
-        count_failure(&taken, &mut self.failed);
-        taken
+        drafts_are_named();
+        if self.refuses(name) {
+            self.count_failure();
+            return Err(ShelfError);
+        }
+        // The path has room for it.
+        set_path(&mut self.path, self.folder, name).unwrap();
+        let named = match disk.allow_name(&self.path, &self.spared) {
+            Ok(()) => disk.name(draft, &self.path),
+            refused => refused,
+        };
+        count_failure(&named, &mut self.failed);
+        Ok(named?)
     }
 
     // Counts a call that has failed.
@@ -152,33 +165,6 @@ impl<'a> Folder<'a> {
         ensures counted { self.new.failed ≡ self.old.failed + 1 }
     {
         self.failed += 1;
-    }
-
-    // Gives a draft its name, where the folder does not refuse that.
-    fn name_draft<D: Disk>(
-        &mut self,
-        disk: &mut D,
-        name: &str,
-        draft: D::Draft,
-    ) -> Result<(), ShelfError>
-        requires { D.faults disk.old < 2 ^ 64 - 1 }
-        ensures same { self.new ≡ self.old }
-        ensures named { (bytes : List ℕ) → D.holds draft bytes → OnOk result
-            (Names (D.history disk.old) (D.history disk.new) (named_file (path_in self.old.folder name.now) bytes ∷ [])) }
-        ensures none_failed { OnOk result (D.faults disk.new ≡ D.faults disk.old) }
-        ensures one_failed { D.faults disk.new ≤ D.faults disk.old + 1 }
-        ensures as_before { OnErr result (D.history disk.new ≡ D.history disk.old) }
-        ensures refused { OnErr result ((is_refused self.old.folder name.now ≡ true) ⊎ (D.faults disk.new ≡ D.faults disk.old + 1)) }
-    {
-        drafts_are_named();
-        if self.refuses(name) {
-            return Err(ShelfError);
-        }
-        // The path has room for it.
-        set_path(&mut self.path, self.folder, name).unwrap();
-        disk.allow_name(&self.path, &self.spared)?;
-        disk.name(draft, &self.path)?;
-        Ok(())
     }
 
     // Whether no file of the folder may have this name; in a folder without a path none may.

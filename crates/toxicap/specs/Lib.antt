@@ -1,6 +1,7 @@
 pub mod Rehearsal
 pub mod GatheredOutputs
 pub mod CaptureOutputs
+pub mod DraftPlaces
 pub mod SoundOutputs
 pub mod Answering
 pub mod PrintedReports

@@ -1,11 +1,14 @@
 //! Drafts of outputs, made by workers: those of some scenarios at once, each by one of them.
-ghost use Rattle.std.specs.Prelude.{◌≡◌, ◌+◌, ◌<◌, ◌≤◌, IfOk, drop, get_or, length, take};
+ghost use Rattle.std.specs.Prelude.{◌≡◌, ◌≢◌, ◌+◌, ◌<◌, ◌≤◌, IfOk, drop, get_or, length, take};
+ghost use Rattle.std.specs.List.{AllPairs};
 ghost use Rattle.toxicap.specs.CaptureOutputs.{no_output, outputs_from};
+ghost use Rattle.toxicap.specs.DraftPlaces.{paths_in, placed_from};
 
 use crate::crews::{Alone, Workers};
 use crate::sources::Sources;
 use disks::Disk;
 use job_matrix::{Phase, Through, Work, work_all};
+use run_files::laws::draft_paths_differ;
 use run_files::{DraftedOutput, Folder};
 use std::alloc::AllocError;
 use std::marker::Model;
@@ -14,7 +17,7 @@ use std::thread::Threads;
 // How many scenarios each worker has drafts of at once, where there are as many.
 const SHARE: usize = 2;
 
-/// The output of one scenario, as drafts. Contracts see the output.
+/// The output of one scenario, as drafts. Contracts see the output, and the paths of its drafts.
 #[derive(Drop)]
 pub(crate) struct OutputDraft<'s, 'w, 'v, 'a, D: Disk> {
     sources: &'s Sources<'w, 'v, 'a>,
@@ -24,24 +27,31 @@ pub(crate) struct OutputDraft<'s, 'w, 'v, 'a, D: Disk> {
 
 impl<'s, 'w, 'v, 'a, D: Disk> Model for OutputDraft<'s, 'w, 'v, 'a, D> {
     ghost use Rattle.std.specs.Prelude.{get_or};
-    ghost use Rattle.run_files.specs.declared.outputs.Output.{Output};
     ghost use Rattle.run_files.specs.DraftedOutputs.{IsDraftOf};
     ghost use Rattle.toxicap.specs.CaptureOutputs.{no_output, outputs_from};
+    ghost use Rattle.toxicap.specs.DraftPlaces.{PlacedOutput};
 
-    ghost Value = { Output };
+    ghost Value = { PlacedOutput };
 
-    ghost view = { λ d. get_or (outputs_from d.sources.now) d.number no_output };
+    ghost view = { λ d. record {
+      output = get_or (outputs_from d.sources.now) d.number no_output;
+      capture_path = D.path_of d.drafted.0;
+      report_path = D.path_of d.drafted.1;
+    } };
 
     ghost invariant = { λ d. IsDraftOf D.holds
         (get_or (outputs_from d.sources.now) d.number no_output) d.drafted };
 }
 
 impl<'s, 'w, 'v, 'a, D: Disk> OutputDraft<'s, 'w, 'v, 'a, D> {
+    ghost use Rattle.std.specs.Prelude.{◌≡◌};
     ghost use Rattle.run_files.specs.DraftedOutputs.{IsDraftOf};
 
     /// The drafts of its capture and its report.
     pub(crate) fn into_drafts(self) -> DraftedOutput<D::Draft>
-        ensures { IsDraftOf D.holds self.entry result }
+        ensures drafts { IsDraftOf D.holds self.entry.output result }
+        ensures capture_path { D.path_of result.0 ≡ self.entry.capture_path }
+        ensures report_path { D.path_of result.1 ≡ self.entry.report_path }
     {
         self.drafted
     }
@@ -63,9 +73,10 @@ impl<'j, 'f, 's, 'w, 'v, 'a, D: Disk + Sync> Work for DraftJobs<'j, 'f, 's, 'w, 
 
     ghost use Rattle.std.specs.Prelude.{◌≡◌, ◌<◌, IfOk, drop, get_or, length, take};
     ghost use Rattle.toxicap.specs.CaptureOutputs.{outputs_from};
+    ghost use Rattle.toxicap.specs.DraftPlaces.{placed_from};
 
-    ghost values = { λ w. take w.count (drop w.first
-        (outputs_from w.sources.now)) };
+    ghost values = { λ w. placed_from w.folder.now.folder 0 (take w.count (drop w.first
+        (outputs_from w.sources.now))) };
 
     fn value(&self, job: u64) -> Result<OutputDraft<'s, 'w, 'v, 'a, D>, AllocError> {
         let number = self.first + job as usize;
@@ -82,7 +93,8 @@ impl<'j, 'f, 's, 'w, 'v, 'a, D: Disk + Sync> Work for DraftJobs<'j, 'f, 's, 'w, 
 }
 
 /// Drafts of the outputs of some scenarios from a number on, one at least: each is made by one of the workers; or, where one scenario is
-/// left or one worker is asked for, its connections are spread over the workers.
+/// left or one worker is asked for, its connections are spread over the workers. In a folder that has a path no two of the drafts have the
+/// same one.
 ///
 /// # Errors
 /// A growth was refused.
@@ -97,9 +109,11 @@ where
     D::Draft: Send,
     requires { number < length sources.now.scenarios.now }
     ensures some { IfOk result (λ v. 0 < length v.items) }
-    ensures next { IfOk result (λ v. v.items ≡ take (length v.items) (drop number
-        (outputs_from sources.now))) }
+    ensures next { IfOk result (λ v. v.items ≡ placed_from folder.now.folder 0 (take (length v.items) (drop number
+        (outputs_from sources.now)))) }
+    ensures apart { IfOk result (λ v. 0 < length folder.now.folder → AllPairs (λ one other. one ≢ other) (paths_in v.items)) }
 {
+    draft_paths_differ();
     let left = sources.scenarios.len() - number;
     let workers = crew.plan.workers() as usize;
     if left.min(workers) == 1 {
@@ -135,8 +149,8 @@ fn draft_by_workers<'s, 'w, 'v, 'a, R: Threads + Sync, D: Disk>(
 ) -> Result<Vec<OutputDraft<'s, 'w, 'v, 'a, D>>, AllocError>
     requires { number < length sources.now.scenarios.now }
     ensures some { IfOk result (λ v. 0 < length v.items) }
-    ensures next { IfOk result (λ v. v.items ≡ take (length v.items) (drop number
-        (outputs_from sources.now))) }
+    ensures next { IfOk result (λ v. v.items ≡ placed_from folder.now.folder 0 (take (length v.items) (drop number
+        (outputs_from sources.now)))) }
 {
     let drafted = sources.drafted(crew, number, folder, disk, 0)?;
     let mut drafts = Vec::with_capacity(sources.alloc, 1)?;

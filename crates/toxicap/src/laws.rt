@@ -8,7 +8,7 @@ ghost use Rattle.toxicap.specs.StoredOutputs.{KilledRunsAreMended};
 use disks::laws::named_again;
 use frame_headers::laws::{headers_are_sound, segments_fit};
 use pcap_records::laws::{readings_split, written_is_read};
-pub use run_files::laws::dumps_read_back;
+pub use run_files::laws::{draft_paths_differ, dumps_read_back};
 use segment_writer::laws::sorted_never_falls;
 
 /// Two captures with the same records and rest are rehearsed alike, whichever order the bytes of their fields have.

@@ -49,11 +49,9 @@ struct DraftSink<D: Disk> {
 }
 
 impl<D: Disk> CaptureSink for DraftSink<D> {
-    ghost use Rattle.std.specs.Prelude.{[]};
-
     ghost took = { λ s bytes. D.holds s.draft bytes };
 
-    ghost place = { λ _. [] };
+    ghost place = { λ s. D.path_of s.draft };
 
     fn offer(&mut self, batch: &mut Vec<u8>) {
         if batch.len() >= BATCH_LEN {
@@ -75,7 +73,8 @@ pub(crate) fn written_draft<D: Disk>(
 ) -> Result<D::Draft, AllocError>
     requires once { HasNoKeyTwice (all_segments outlines.now) }
     requires empty { D.holds draft [] }
-    ensures { IfOk result (λ d. D.holds d (capture_of (ticks_of unit) (all_segments outlines.now))) }
+    ensures holds { IfOk result (λ d. D.holds d (capture_of (ticks_of unit) (all_segments outlines.now))) }
+    ensures path { IfOk result (λ d. D.path_of d ≡ D.path_of draft) }
 {
     let mut sink = DraftSink::<D> { draft };
     let rest = write_outlines(alloc, outlines, unit, &mut sink)?;

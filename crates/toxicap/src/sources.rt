@@ -47,6 +47,7 @@ impl<'w, 'v, 'a> Sources<'w, 'v, 'a> {
     ghost use Rattle.run_files.specs.DraftedOutputs.{IsDraftOf};
     ghost use Rattle.run_files.specs.WrittenOutputs.{reports_of};
     ghost use Rattle.toxicap.specs.CaptureOutputs.{no_output, outputs_from, scenario_at};
+    ghost use Rattle.toxicap.specs.DraftPlaces.{AreAtPlace};
 
     /// The outputs of all scenarios, made one after another.
     pub(crate) fn outputs<C: Crew>(&self, crew: &C) -> Result<Outputs, AllocError>
@@ -103,7 +104,8 @@ impl<'w, 'v, 'a> Sources<'w, 'v, 'a> {
         requires crew { C.shares crew.now }
         requires within { number < length self.now.scenarios.now }
         requires place { place ≤ 2 ^ 32 }
-        ensures { IfOk result (IsDraftOf D.holds (get_or (outputs_from self.now) number no_output)) }
+        ensures drafts { IfOk result (IsDraftOf D.holds (get_or (outputs_from self.now) number no_output)) }
+        ensures places { IfOk result (AreAtPlace D.path_of folder.now.folder place) }
     {
         let parts = self.parts(crew, number)?;
         let RowParts { outlines, lines } = parts;

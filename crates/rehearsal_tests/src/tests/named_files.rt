@@ -119,14 +119,15 @@ fn each_file_at_its_path(rt: HostRuntime) {
 }
 
 /// A disk on which one file is too long, for one memory is wanting, one cannot be opened, and all others hold `[]`. It tells nothing of
-/// them, and keeps no draft.
+/// them, and of a draft it keeps the path alone.
 #[derive(Drop)]
 struct Faulty;
 
 impl Disk for Faulty {
     ghost use Rattle.std.specs.Prelude.{None};
+    ghost use Rattle.std.specs.String.{string_bytes};
 
-    type Draft = ();
+    type Draft = String;
 
     ghost history = { λ _. None };
 
@@ -134,15 +135,19 @@ impl Disk for Faulty {
 
     ghost holds = { λ _ _. Unit {0} };
 
-    fn draft(&self, _path: String) {}
+    ghost path_of = { λ path. string_bytes path };
 
-    fn append(_draft: &mut (), _bytes: &[u8]) {}
+    fn draft(&self, path: String) -> String {
+        path
+    }
+
+    fn append(_draft: &mut String, _bytes: &[u8]) {}
 
     fn allow_name(&mut self, _path: &str, _spared: &[FileId]) -> Result<(), DiskFault> {
         Ok(())
     }
 
-    fn name(&mut self, _draft: (), _path: &str) -> Result<(), DiskFault> {
+    fn name(&mut self, _draft: String, _path: &str) -> Result<(), DiskFault> {
         Ok(())
     }
 

@@ -3,6 +3,7 @@ use Rattle.std.specs.Vec.Iter.{into_iter_items}
 use Rattle.run_files.specs.Folders.{TakesIn}
 use Rattle.run_files.specs.WrittenOutputs.{files_from}
 use Rattle.toxicap.specs.CaptureOutputs.{outputs_from}
+use Rattle.toxicap.specs.DraftPlaces.{outputs_in}
 use Rattle.toxicap.proofs.storing.store_each.Given as goal
 
 -- the folder took the files of the outputs before this number, and no call has failed
@@ -26,6 +27,6 @@ invariant-loop-draft g l = record {
   folder : l.folder.folder ≡ l.fn.folder.folder;
   no_fault : g.D.Disk.faults l.disk ≡ g.D.Disk.faults l.fn.disk;
   none_failed : l.folder.failed ≡ l.fn.folder.failed;
-  left : into_iter_items l.draft-iterator ≡ take (length (into_iter_items l.draft-iterator)) (drop l.number (outputs_from l.sources));
+  left : outputs_in (into_iter_items l.draft-iterator) ≡ take (length (outputs_in (into_iter_items l.draft-iterator))) (drop l.number (outputs_from l.sources));
   rises : l.initial.number < l.number + length (into_iter_items l.draft-iterator);
 }

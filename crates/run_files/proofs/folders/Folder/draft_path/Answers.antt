@@ -1,10 +1,17 @@
-use Rattle.std.proofs.Common.{◌∙◌, ap, subst, sym}
+use Rattle.std.proofs.Common.{◌≡◌, ◌∙◌, ◌==◌, false, List, ℕ, length, ap, subst, sym, rules}
 use Rattle.disks.specs.DraftPaths.{path_in, IsDraftPath}
 use Rattle.run_files.proofs.DraftNames.{draft_path_in}
 use Rattle.run_files.proofs.folders.Folder.draft_path.Goals as goal
 
-pub returns : goal.returns
-returns c =
-    let folder = c.self.inside.folder.now in
+pub returns-clause-is : goal.returns-clause-is
+returns-clause-is c =
+    let folder : List ℕ = c.self.inside.folder.now in
+    let is = c.in_ok-set_path.ensures.is ∙ ap (path_in folder) (c.deref.ensures ∙ c.in_ok-name.ensures.ok) in
+    let some : (length folder == 0) ≡ false = search rules in
+    rw (← c.self.view_is, some) is
+
+pub returns-clause-unfinished : goal.returns-clause-unfinished
+returns-clause-unfinished c =
+    let folder : List ℕ = c.self.inside.folder.now in
     subst IsDraftPath (sym (c.in_ok-set_path.ensures.is ∙ ap (path_in folder) (c.deref.ensures ∙ c.in_ok-name.ensures.ok)))
     (draft_path_in c.drafts_are_named.ensures folder c.args.place c.ranges.place.fits)

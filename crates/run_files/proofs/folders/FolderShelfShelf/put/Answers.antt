@@ -6,7 +6,7 @@ use Rattle.run_files.proofs.folders.FolderShelfShelf.put.Goals as goal
 pub returns-clause-taken : goal.returns-clause-taken
 returns-clause-taken g c =
     let folder : List ℕ = c.args.self.now.folder.folder in
-    let held = c.append.ensures [] c.in-Ok.ensures in
+    let held = c.append.ensures.appended [] c.in-Ok.ensures.empty in
     let had = g.D.Disk.history c.args.self.now.disk in
     let has = g.D.Disk.history c.take.new.disk in
     rw c.take.ensures.folder

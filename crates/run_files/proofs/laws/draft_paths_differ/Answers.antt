@@ -1,0 +1,5 @@
+use Rattle.run_files.proofs.DraftNames.{paths_differ}
+use Rattle.run_files.proofs.laws.draft_paths_differ.Goals as goal
+
+pub returns : goal.returns
+returns c = paths_differ

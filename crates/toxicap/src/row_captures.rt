@@ -44,6 +44,7 @@ pub(crate) fn parts_of_row<'a>(alloc: Global, row: OutlineRow<'a>) -> Result<Row
 const BATCH_LEN: usize = 1 << 18;
 
 // A draft that takes a capture, in batches that have enough bytes.
+#[derive(Drop)]
 struct DraftSink<D: Disk> {
     draft: D::Draft,
 }

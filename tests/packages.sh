@@ -243,7 +243,7 @@ if can "the crate for Rust" cargo rustc cc; then
     verdict "what the crate has" "$(difference "$work/wanted" "$work/output")"
     verdict "the crate's example" "$(
         in_crate cargo test -q --offline > "$work/told" 2>&1 || cat "$work/told"
-        grep -q '^test result: ok. 1 passed' "$work/told" || cat "$work/told"
+        grep -q '^test result: ok. 2 passed' "$work/told" || cat "$work/told"
     )"
     verdict "the crate's documentation" "$(quiet in_crate cargo doc -q --offline --no-deps)"
 fi

@@ -1,8 +1,8 @@
 #!/usr/bin/env bash
-# The events that the helpers of examples/suites read from output captures: put together they are what tshark follows of each connection, with each
-# byte's instant, and what the reports count, over the samples and two real captures under all scenarios of examples/, in microseconds and in nanoseconds with a VLAN tag;
-# of the captures of tests/rows they are what the reports count. The helpers of Python, Go and Rust give the same events, and refuse captures that
-# toxicap did not write, each for its fault. It wants python3.
+# The events that the helpers of examples/suites and examples/c read from output captures: put together they are what tshark follows of each
+# connection, with each byte's instant, and what the reports count, over the samples and two real captures under all scenarios of examples/, in
+# microseconds and in nanoseconds with a VLAN tag; of the captures of tests/rows they are what the reports count. The helpers of Python, Go, Rust and C
+# give the same events, and refuse captures that toxicap did not write, each for its fault. It wants python3.
 set -euo pipefail
 cd "$(dirname "$0")/.."
 . tests/lib.sh
@@ -89,5 +89,9 @@ fi
 if can "Rust" rustc cc; then
     verdict "Rust, compiled" "$(rustc --edition 2021 -O -o "$work/dump-rust" tests/events/dump.rs 2>&1)"
     read_by Rust rust "$work/dump-rust"
+fi
+if can "C" gcc; then
+    verdict "C, compiled" "$(gcc -std=gnu99 -Wall -Wextra -Werror -O1 -o "$work/dump-c" tests/events/dump.c 2>&1)"
+    read_by C c "$work/dump-c"
 fi
 close

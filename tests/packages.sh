@@ -243,7 +243,7 @@ if can "the crate for Rust" cargo rustc cc; then
     verdict "what the crate has" "$(difference "$work/wanted" "$work/output")"
     verdict "the crate's example" "$(
         in_crate cargo test -q --offline > "$work/told" 2>&1 || cat "$work/told"
-        grep -q '^test result: ok. 1 passed' "$work/told" || cat "$work/told"
+        grep -q '^test result: ok. 2 passed' "$work/told" || cat "$work/told"
     )"
     verdict "the crate's documentation" "$(quiet in_crate cargo doc -q --offline --no-deps)"
 fi
@@ -275,6 +275,17 @@ if can "the image" tar gzip python3; then
             'COPY LICENCES.md LGPL-2.1 toxicap.o /usr/share/doc/toxicap/' 'WORKDIR /work' 'ENTRYPOINT ["/usr/bin/toxicap"]' > "$work/wanted"
         difference "$work/wanted" "$work/output"
     )"
+    # and by buildah, whose images lie in a folder that is thrown away
+    images=(buildah --storage-driver vfs --root "$work/images" --runroot "$work/run")
+    if ! can "the Dockerfile, built" buildah; then :
+    elif ! "${images[@]}" from scratch > "$work/told" 2>&1; then skip "the Dockerfile, built" "buildah has no place for images"
+    else
+        verdict "the Dockerfile, built" "$(
+            quiet timeout 60 "${images[@]}" build --isolation chroot -q -t toxicap "$away/toxicap-$version-image" > "$work/told"
+            container=$("${images[@]}" from --pull-never toxicap 2>&1) || cat "$work/told"
+            folder_difference "$work/root" "$("${images[@]}" mount "$container" 2>&1)"
+        )"
+    fi
     if [ "$(id -u)" = 0 ]; then
         mkdir "$work/root/work/out"
         verdict "the image, run" "$(

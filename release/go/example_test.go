@@ -1,8 +1,11 @@
 package toxicap_test
 
 import (
+	"bufio"
 	"errors"
 	"fmt"
+	"io"
+	"net/http"
 	"os"
 	"strings"
 	"testing"
@@ -39,6 +42,53 @@ func Example() {
 	// Output:
 	// 200 bytes of the answer came, then fin
 	// 15 UnknownHost scenario 0 proxy 0
+}
+
+// chunks gives one chunk for each read, as a socket may do.
+type chunks struct {
+	next []toxicap.Event
+	rest []byte
+}
+
+func (c *chunks) Read(to []byte) (int, error) {
+	if len(c.rest) == 0 {
+		if len(c.next) == 0 {
+			return 0, io.EOF
+		}
+		c.rest, c.next = c.next[0].Bytes, c.next[1:]
+	}
+	size := copy(to, c.rest)
+	c.rest = c.rest[size:]
+	return size, nil
+}
+
+// What a client reads where the answer comes in slices: a client that takes one read for the whole answer goes wrong, and net/http does not.
+func ExampleDelivered() {
+	capture, err := os.ReadFile("share/toxicap/samples/http-get.pcap")
+	if err != nil {
+		panic(err)
+	}
+	slicer := `[{"name": "web", "upstream": "10.77.0.2:80", "toxics": [{"type": "slicer", "attributes": {"average_size": 50, "delay": 1000}}]}]`
+	outputs, err := toxicap.Rehearse(capture, [][]byte{[]byte(slicer)}, nil, 0)
+	if err != nil {
+		panic(err)
+	}
+	connections, err := toxicap.Delivered(outputs[0].Capture)
+	if err != nil {
+		panic(err)
+	}
+	answer := connections[0][1].Chunks
+	size, _ := (&chunks{next: answer}).Read(make([]byte, 65536))
+	fmt.Println("one read:", size, "bytes")
+	response, err := http.ReadResponse(bufio.NewReader(&chunks{next: answer}), nil)
+	if err != nil {
+		panic(err)
+	}
+	body, err := io.ReadAll(response.Body)
+	fmt.Printf("net/http: %q, %v\n", body, err)
+	// Output:
+	// one read: 50 bytes
+	// net/http: "Hello from the sample server.\n", <nil>
 }
 
 // The reports alone are those of the outputs, and each refusal is its line.

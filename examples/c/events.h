@@ -1,0 +1,271 @@
+/* What each side of a connection received, and when, read from an output capture of toxicap; to be copied.
+ *
+ *     Events events;
+ *     if (!events_of(capture, capture_len, &events))
+ *         .. events.fault says why toxicap did not write this capture ..
+ *     for (size_t i = 0; i < events.count; i++)
+ *         .. events.all[i] ..
+ *     events_free(&events);
+ *
+ * An output capture has its segments in order, without repeats and gaps, so nothing is reassembled. A capture that toxicap did not write (a
+ * recording, pcapng, an output that was cut or put in another order) is refused. Checksums are not looked at. The time that it takes grows
+ * with the records times the connections. */
+#ifndef EVENTS_H
+#define EVENTS_H
+
+#include <stdint.h>
+#include <stdio.h>
+#include <stdlib.h>
+#include <string.h>
+
+/* What comes: a chunk of bytes, or how the direction ends: by a FIN (also a close in the report), by a reset, or since the proxy is disabled,
+   which stands in both directions. */
+typedef enum { EVENT_CHUNK, EVENT_FIN, EVENT_RESET, EVENT_REFUSED } EventKind;
+
+/* What comes at an instant in one direction of a connection. */
+typedef struct {
+    size_t connection; /* its number in the report */
+    uint64_t time;     /* nanoseconds since the opening, also where the capture counts microseconds */
+    int is_down;       /* 0 for what the client sent, 1 for what the server sent */
+    EventKind kind;
+    uint8_t *bytes; /* of a chunk */
+    size_t len;
+} Event;
+
+/* The events of a capture, in order of its segments: those of one connection in order of time. */
+typedef struct {
+    Event *all;
+    size_t count;
+    size_t connections; /* how many connections the capture has, also those without an event */
+    char fault[128]; /* why there are none, with the number of the record at fault, from 0 */
+} Events;
+
+typedef struct {
+    uint64_t time;
+    uint8_t tag[5], peers[2][6]; /* the VLAN's tag after a 1, or zeros; sender and receiver */
+    uint32_t seq, ack;
+    uint8_t flags;
+    const uint8_t *payload;
+    size_t len;
+} EventRecord;
+
+/* A connection while it is read; arrays have the client's before the server's. */
+typedef struct {
+    uint64_t opened;
+    uint8_t tag[5], peers[2][6];
+    uint32_t next[2], sent[2];
+    int is_ended[2];
+    uint8_t *begun[2];
+    size_t begun_len[2];
+} EventConnection;
+
+static uint32_t events_little(const uint8_t *at) { return at[0] | (uint32_t)at[1] << 8 | (uint32_t)at[2] << 16 | (uint32_t)at[3] << 24; }
+static uint32_t events_big(const uint8_t *at) { return (uint32_t)at[0] << 24 | (uint32_t)at[1] << 16 | (uint32_t)at[2] << 8 | at[3]; }
+
+/* A fault of a record. Gives 0. */
+static int events_fault(Events *events, size_t record, const char *why)
+{
+    snprintf(events->fault, sizeof events->fault, "no output capture of toxicap: record %zu: %s", record, why);
+    return 0;
+}
+
+/* Reads the frame of a record; why there is none that toxicap wrote, or null. */
+static const char *events_frame(const uint8_t *frame, size_t len, EventRecord *record)
+{
+    size_t link = len >= 14 && frame[12] == 0x81 && frame[13] == 0 ? 18 : 14;
+    if (len < link + 40)
+        return "it is cut, or no TCP segment";
+    const uint8_t *ip = frame + link, *tcp = ip + 20;
+    if (memcmp(ip - 2, "\x08\x00\x45\x00", 4) != 0 || (size_t)ip[2] * 256 + ip[3] != len - link || memcmp(ip + 4, "\0\0\x40\0\x40\x06", 6) != 0 ||
+        tcp[12] != 0x50 || memcmp(tcp + 14, "\xff\xff", 2) != 0 || memcmp(tcp + 18, "\0\0", 2) != 0)
+        return "its headers are another's";
+    memset(record->tag, 0, 5);
+    if (link == 18) {
+        record->tag[0] = 1;
+        memcpy(record->tag + 1, frame + 12, 4);
+    }
+    for (int i = 0; i < 2; i++) {
+        memcpy(record->peers[i], ip + 12 + 4 * i, 4);
+        memcpy(record->peers[i] + 4, tcp + 2 * i, 2);
+    }
+    record->seq = events_big(tcp + 4);
+    record->ack = events_big(tcp + 8);
+    record->flags = tcp[13];
+    record->payload = tcp + 20;
+    record->len = len - link - 40;
+    return NULL;
+}
+
+/* Whether a record is that of an opening: this way or the other, with these numbers and without bytes. */
+static int events_is(const EventRecord *record, const EventRecord *syn, int is_back, uint32_t seq, uint32_t ack, uint8_t flags)
+{
+    return record->time == syn->time && memcmp(record->tag, syn->tag, 5) == 0 && memcmp(record->peers[0], syn->peers[is_back], 6) == 0 &&
+           memcmp(record->peers[1], syn->peers[!is_back], 6) == 0 && record->seq == seq && record->ack == ack && record->flags == flags &&
+           record->len == 0;
+}
+
+/* The next event of a list that has room for it. */
+static void events_add(Events *events, const EventConnection *of, size_t number, uint64_t time, int side, EventKind kind)
+{
+    events->all[events->count++] = (Event){.connection = number, .time = time - of->opened, .is_down = side, .kind = kind};
+}
+
+/* The connection that a SYN begins, and how many of the records left are its opening, or 0 where toxicap writes none such. */
+static size_t events_open(const EventRecord *syn, size_t left, EventConnection *begun)
+{
+    *begun = (EventConnection){.opened = syn->time};
+    memcpy(begun->tag, syn->tag, 5);
+    memcpy(begun->peers, syn->peers, 12);
+    if (left >= 2 && events_is(syn + 1, syn, 1, 0, syn->seq + 1, 20)) {
+        begun->is_ended[0] = begun->is_ended[1] = 1;
+        return 2;
+    }
+    if (left < 3 || !events_is(syn + 1, syn, 1, syn[1].seq, syn->seq + 1, 18) || !events_is(syn + 2, syn, 0, syn->seq + 1, syn[1].seq + 1, 16))
+        return 0;
+    begun->next[0] = syn->seq + 1;
+    begun->next[1] = syn[1].seq + 1;
+    return 3;
+}
+
+/* Takes a record of a connection; why toxicap writes no such segment, or null. The pieces of a chunk are joined up to its PSH. */
+static const char *events_take(Events *events, EventConnection *of, size_t number, int side, const EventRecord *record)
+{
+    uint32_t len = (uint32_t)record->len;
+    if ((record->flags == 17 || record->flags == 20) && len == 0 && of->begun_len[side] == 0) {
+        of->is_ended[side] = 1;
+        len = 1;
+        events_add(events, of, number, record->time, side, record->flags == 17 ? EVENT_FIN : EVENT_RESET);
+    } else if ((record->flags == 24 && 0 < len && len <= 1460) || (record->flags == 16 && len == 1460)) {
+        uint8_t *bytes = realloc(of->begun[side], of->begun_len[side] + len);
+        if (bytes == NULL)
+            return "want of memory";
+        memcpy(bytes + of->begun_len[side], record->payload, len);
+        of->begun[side] = bytes;
+        of->begun_len[side] += len;
+        if (record->flags == 24) {
+            events_add(events, of, number, record->time, side, EVENT_CHUNK);
+            events->all[events->count - 1].bytes = bytes;
+            events->all[events->count - 1].len = of->begun_len[side];
+            of->begun[side] = NULL;
+            of->begun_len[side] = 0;
+        }
+    } else {
+        return "toxicap writes no such segment";
+    }
+    of->next[side] += len;
+    of->sent[side] += len;
+    return NULL;
+}
+
+/* Finds the connections that a record may go on with: its bytes are the next ones, and it acknowledges what was sent. How many there are; `number` and
+   `side` are those of the last one. */
+static size_t events_find(const EventConnection *connections, size_t count, const EventRecord *record, size_t *number, int *side)
+{
+    size_t able = 0;
+    for (size_t i = 0; i < 2 * count; i++) {
+        const EventConnection *of = &connections[i / 2];
+        int way = i % 2;
+        if (memcmp(of->tag, record->tag, 5) == 0 && memcmp(of->peers[way], record->peers[0], 6) == 0 &&
+            memcmp(of->peers[!way], record->peers[1], 6) == 0 && of->next[!way] - record->ack <= of->sent[!way] &&
+            record->seq == of->next[way] && !of->is_ended[way]) {
+            able++;
+            *number = i / 2;
+            *side = way;
+        }
+    }
+    return able;
+}
+
+/* Puts the events of records into a list that has room for them; 0 where toxicap did not write them. */
+static int events_add_all(Events *events, const EventRecord *records, size_t count, EventConnection *connections, size_t *open)
+{
+    size_t number = 0, len;
+    int side = 0;
+    for (size_t at = 0; at < count; at += len) {
+        const EventRecord *record = &records[at];
+        len = 1;
+        if (record->flags == 2 && record->len == 0) {
+            EventConnection *begun = &connections[*open];
+            if ((len = events_open(record, count - at, begun)) == 0)
+                return events_fault(events, at, "no opening follows its SYN");
+            for (side = 0; len == 2 && side < 2; side++)
+                events_add(events, begun, *open, record->time, side, EVENT_REFUSED);
+            ++*open;
+            continue;
+        }
+        size_t able = events_find(connections, *open, record, &number, &side);
+        const char *why = NULL;
+        char text[48];
+        if (able == 1)
+            why = events_take(events, &connections[number], number, side, record);
+        else {
+            snprintf(text, sizeof text, "%zu connections go on with it", able);
+            why = text;
+        }
+        if (why != NULL)
+            return events_fault(events, at, why);
+    }
+    for (size_t i = 0; i < *open; i++)
+        if (connections[i].begun_len[0] + connections[i].begun_len[1] > 0)
+            return events_fault(events, count, "the end is missing");
+    return 1;
+}
+
+/* Gives back what `events_of` made. */
+static void events_free(Events *events)
+{
+    for (size_t i = 0; i < events->count; i++)
+        free(events->all[i].bytes);
+    free(events->all);
+    events->all = NULL;
+    events->count = 0;
+}
+
+/* The events of an output capture, to be given back by events_free. Gives 1, or 0 where toxicap did not write this capture, or memory is wanting: then
+   there are no events, and `fault` says why. */
+static int events_of(const uint8_t *capture, size_t capture_len, Events *events)
+{
+    static const char header[] = "\2\0\4\0\0\0\0\0\0\0\0\0\xff\xff\0\0\1\0\0\0";
+    uint64_t tick = 0;
+    size_t count = 0, room = capture_len / 70 + 1, open = 0; /* a record has 70 bytes at least */
+    *events = (Events){0};
+    if (capture_len >= 24)
+        tick = memcmp(capture, "\xd4\xc3\xb2\xa1", 4) == 0 ? 1000 : memcmp(capture, "\x4d\x3c\xb2\xa1", 4) == 0 ? 1 : 0;
+    if (tick == 0 || memcmp(capture + 4, header, 20) != 0) {
+        snprintf(events->fault, sizeof events->fault, "no output capture of toxicap: it has another file header");
+        return 0;
+    }
+    EventRecord *records = malloc(room * sizeof *records);
+    EventConnection *connections = malloc(room * sizeof *connections);
+    events->all = malloc(room * sizeof *events->all);
+    int is_right = records != NULL && connections != NULL && events->all != NULL;
+    if (!is_right)
+        events_fault(events, 0, "want of memory");
+    for (size_t place = 24, held; is_right && place < capture_len; place += 16 + held, count++) {
+        const uint8_t *head = capture + place;
+        held = 0;
+        if (capture_len - place >= 16 && memcmp(head + 8, head + 12, 4) == 0 && events_little(head + 8) <= capture_len - place - 16)
+            held = events_little(head + 8);
+        const char *why = events_frame(held > 0 ? head + 16 : head, held, &records[count]);
+        if (why == NULL) {
+            uint64_t ticks = events_little(head + 4) * tick;
+            records[count].time = events_little(head) * UINT64_C(1000000000) + ticks;
+            if (ticks >= 1000000000 || (count > 0 && records[count].time < records[count - 1].time))
+                why = "its time is none, or falls back";
+        }
+        is_right = why == NULL || events_fault(events, count, why);
+    }
+    is_right = is_right && events_add_all(events, records, count, connections, &open);
+    events->connections = is_right ? open : 0;
+    for (size_t i = 0; i < open; i++) {
+        free(connections[i].begun[0]);
+        free(connections[i].begun[1]);
+    }
+    free(records);
+    free(connections);
+    if (!is_right)
+        events_free(events);
+    return is_right;
+}
+
+#endif

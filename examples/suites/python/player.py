@@ -3,8 +3,9 @@ FIN, by a reset, or not at all. In a test:
 
     with Player(output, untouched) as player: fetch('127.0.0.1', player.port)
 
-or as a command, which prints the port and serves one client: player.py OUTPUT UNTOUCHED; its status is 1 where the limit ran out. Both are output captures of one recording, the second under
-the scenario without toxics, `[]`: it tells what the client had sent before each answer, and when the server answered."""
+or as a command, which prints the port and serves one client: player.py OUTPUT UNTOUCHED; its status is 1 where the limit ran out. Both are output
+captures of one recording, the second under the scenario without toxics, `[]`: it says what the client had sent before each answer, and when the
+server answered."""
 import argparse, select, socket, struct, sys, threading, time
 from typing import Callable, List, Optional, Tuple
 from steps import Step, steps
@@ -77,7 +78,8 @@ class Player:
         def ready() -> bool: return self.heard[-1][1] >= step.need and (self.closed is not None or not step.closed)
         if not self._pump(client, self.limit, lambda: ready() or self.over) or not ready():
             count, now = self.heard[-1][1], time.monotonic()
-            self._tell(f'the client sent {count} of {step.need} bytes' + (' and closed' if self.over else ' and did not close' if step.closed else ''), not self.over)
+            closing = ' and closed' if self.over else ' and did not close' if step.closed else ''
+            self._tell(f'the client sent {count} of {step.need} bytes{closing}', not self.over)
             self.heard.append((now, max(count, step.need)))
             if step.closed and self.closed is None: self.closed = now
         since = next(at for at, count in self.heard if count >= step.need)

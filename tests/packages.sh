@@ -127,7 +127,9 @@ END
 
     if can "the types of the package" mypy && "$python" -c 'import pytest' 2> /dev/null; then
         cp tests/packages/typed.py "$away"
-        passes "the types of the package" mypy --strict --no-error-summary --cache-dir "$work/mypy" --python-executable "$python" "$away/typed.py"
+        mypy=(mypy --strict --no-error-summary --cache-dir "$work/mypy" --python-executable "$python")
+        passes "the types of the package" "${mypy[@]}" "$away/typed.py"
+        passes "the types in the package" "${mypy[@]}" -p toxicap
     fi
     if ! "$python" -c 'import pytest' 2> /dev/null; then
         skip "the plugin of pytest" "pytest is not here"

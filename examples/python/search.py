@@ -1,7 +1,7 @@
 """Searches over rehearsals in this process: the least seed, the smallest scenario and the first prefix for which a test fails."""
 import copy
 import json
-from typing import Callable, Iterable, List, Optional, Sequence, Tuple, TypeVar, Union
+from typing import Any, Callable, Dict, Iterable, List, Optional, Sequence, Tuple, TypeVar, Union
 
 from in_process import Output, rehearse
 
@@ -24,12 +24,13 @@ def shrink(capture: bytes, scenario: bytes, fails: Predicate, hosts: bytes = b""
     be one less and no toxicity be 1 so that it fails still. One that does not fail is an error; a refusal is raised with its line."""
     if least_seed(capture, [scenario], hosts, fails, below) is None:
         raise ValueError("the scenario does not fail under these seeds: there is nothing to shrink")
-    proxies, before = json.loads(scenario), None
+    proxies: Any = json.loads(scenario)
+    before: Any = None
 
-    def failing_seed():
+    def failing_seed() -> Optional[int]:
         return least_seed(capture, [json.dumps(proxies).encode()], hosts, fails, below)
 
-    def still_fails():
+    def still_fails() -> bool:
         try:
             return failing_seed() is not None
         except ValueError as refusal:
@@ -47,10 +48,13 @@ def shrink(capture: bytes, scenario: bytes, fails: Predicate, hosts: bytes = b""
             make_smaller(toxic.get("attributes") or {}, still_fails)
         for toxic in toxics:
             apply_always(toxic, still_fails)
-    return json.dumps(proxies).encode(), failing_seed()
+    seed = failing_seed()
+    if seed is None:
+        raise ValueError("the scenario fails and does not fail under one seed")
+    return json.dumps(proxies).encode(), seed
 
 
-def leave_out(items, still_fails):
+def leave_out(items: List[Any], still_fails: Callable[[], bool]) -> None:
     """Takes out each item without which it fails still, the last one first: so the toxics before it keep their numbers, and what they draw."""
     for place in reversed(range(len(items))):
         item = items.pop(place)
@@ -58,7 +62,7 @@ def leave_out(items, still_fails):
             items.insert(place, item)
 
 
-def make_smaller(attributes, still_fails):
+def make_smaller(attributes: Dict[str, Any], still_fails: Callable[[], bool]) -> None:
     """Makes each attribute smaller while it fails still: tries 0, 1, 3, 7 and on, and then halves what is left."""
     for name in sorted(name for name, number in attributes.items() if type(number) is int):
         passes, failing = -1, attributes[name]
@@ -71,7 +75,7 @@ def make_smaller(attributes, still_fails):
         attributes[name] = failing
 
 
-def apply_always(toxic, still_fails):
+def apply_always(toxic: Dict[str, Any], still_fails: Callable[[], bool]) -> None:
     """Takes out a toxicity where it fails still, so that the toxic applies to all connections."""
     for name in "toxicity_ppm", "toxicity":
         if name in toxic:

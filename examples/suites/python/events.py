@@ -4,7 +4,7 @@ An output capture has its segments in order, without repeats and gaps, so nothin
 pcapng, an output that was cut or put in another order) is refused: a ValueError tells why, and the number of the
 record, from 0. Checksums are not looked at."""
 import struct
-from typing import List, NamedTuple, Optional, Tuple, Union
+from typing import Dict, List, NamedTuple, NoReturn, Optional, Tuple, Union
 
 TICKS = {b'\xd4\xc3\xb2\xa1': 1000, b'\x4d\x3c\xb2\xa1': 1}  # magic number: nanoseconds of a tick
 HEADER = bytes.fromhex('020004000000000000000000ffff000001000000')  # what follows it in each output capture
@@ -29,17 +29,20 @@ class Record(NamedTuple):
 class Connection:
     """A connection while it is read. Lists of two have the client's before the server's."""
 
-    def __init__(self, opened, seqs):
-        self.opened, self.next, self.sent, self.ended, self.begun, self.events = opened, seqs, [0, 0], [False, False], [[], []], []
+    def __init__(self, opened: int, seqs: List[int]) -> None:
+        self.opened, self.next, self.sent, self.ended = opened, seqs, [0, 0], [False, False]
+        self.begun: List[List[bytes]] = [[], []]
+        self.events: List[Event] = []
 
-    def goes_on(self, side, record):
+    def goes_on(self, side: int, record: Record) -> bool:
         """Whether a record may be of this connection: its bytes are the next ones, and it acknowledges what was sent."""
         heard = (self.next[1 - side] - record.ack) % SPACE <= self.sent[1 - side]
         return heard and record.seq == self.next[side] and not self.ended[side]
 
-    def take(self, side, record):
+    def take(self, side: int, record: Record) -> bool:
         """Takes a record of this connection; False where toxicap writes none such. The pieces of a chunk are joined up to its PSH."""
-        length, what = len(record.payload), {FIN | ACK: 'fin', RST | ACK: 'reset'}.get(record.flags)
+        length = len(record.payload)
+        what: Union[None, bytes, str] = {FIN | ACK: 'fin', RST | ACK: 'reset'}.get(record.flags)
         if what and not length and not self.begun[side]:
             self.ended[side], length = True, 1
         elif record.flags == PSH | ACK and 0 < length <= 1460 or record.flags == ACK and length == 1460:
@@ -51,9 +54,10 @@ class Connection:
         return True
 
 
-def records(capture):
+def records(capture: bytes) -> List[Record]:
     """The records of an output capture, each checked alone."""
-    tick, place, found = TICKS.get(capture[:4]), 24, []
+    tick, place = TICKS.get(capture[:4]), 24
+    found: List[Record] = []
     if not tick or capture[4:24] != HEADER: raise ValueError('no output capture of toxicap: it has another file header')
     while place < len(capture):
         number, frame = len(found), b''
@@ -72,11 +76,11 @@ def records(capture):
     return found
 
 
-def refuse(number: int, why: str):
+def refuse(number: int, why: str) -> NoReturn:
     raise ValueError(f'no output capture of toxicap: record {number}: {why}')
 
 
-def opening(found, number):
+def opening(found: List[Record], number: int) -> Tuple[Connection, int]:
     """The connection that the record of this number begins, by a SYN, and how many records its opening has."""
     time, vlan, client, server, seq, *_ = found[number]
     first = (seq + 1) % SPACE
@@ -98,7 +102,9 @@ def events(capture: bytes) -> List[List[Event]]:
     An event is (time, direction, what); events stand in order of time. The time is a whole number of nanoseconds since the opening, also where the
     capture counts microseconds. The direction is 'up' for what the client sent, 'down' for what the server sent. What comes is a chunk of bytes;
     'fin', which ends its direction (a FIN or a close in the report); 'reset'; or 'refused', in both directions, where the proxy is disabled."""
-    found, number, connections, of_pair = records(capture), 0, [], {}
+    found, number = records(capture), 0
+    connections: List[Connection] = []
+    of_pair: Dict[Tuple[bytes, bytes, bytes], List[Connection]] = {}
     while number < len(found):
         record, length = found[number], 1
         if record.flags == SYN and not record.payload:
@@ -123,6 +129,9 @@ class Line(NamedTuple):
 
 def delivered(capture: bytes) -> List[Tuple[Line, Line]]:
     """The same as two lines for each connection, (up, down); times are those of `events`."""
-    return [tuple(Line([(time, what) for time, way, what in found if way == direction and isinstance(what, bytes)],
-                       next(((time, what) for time, way, what in found if way == direction and isinstance(what, str)), None))
-                  for direction in ('up', 'down')) for found in events(capture)]
+    def line(found: List[Event], direction: str) -> Line:
+        came = [(time, what) for time, way, what in found if way == direction]
+        return Line([(time, what) for time, what in came if isinstance(what, bytes)],
+                    next(((time, what) for time, what in came if isinstance(what, str)), None))
+
+    return [(line(found, 'up'), line(found, 'down')) for found in events(capture)]

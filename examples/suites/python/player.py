@@ -3,11 +3,12 @@ FIN, by a reset, or not at all. In a test:
 
     with Player(output, untouched) as player: fetch('127.0.0.1', player.port)
 
-or as a command, which prints the port and serves one client: player.py OUTPUT UNTOUCHED; its status is 1 where the limit ran out. Both are output captures of one recording, the second under
-the scenario without toxics, `[]`: it tells what the client had sent before each answer, and when the server answered."""
+or as a command, which prints the port and serves one client: player.py OUTPUT UNTOUCHED; its status is 1 where the limit ran out. Both are output
+captures of one recording, the second under the scenario without toxics, `[]`: it says what the client had sent before each answer, and when the
+server answered."""
 import argparse, select, socket, struct, sys, threading, time
-from typing import Optional
-from steps import steps
+from typing import Callable, List, Optional, Tuple
+from steps import Step, steps
 
 
 class Player:
@@ -24,7 +25,9 @@ class Player:
     def __init__(self, output: bytes, untouched: bytes, connection: int = 0, factor: float = 1, pauses: bool = True, limit: float = 10):
         self.steps, self.factor, self.pauses, self.limit = steps(output, untouched, connection), factor, pauses, limit
         self.late: Optional[str] = None
-        self.heard, self.closed, self.over = [], None, False  # (instant, bytes from the client); when it closed; whether nothing more can come
+        self.heard: List[Tuple[float, int]] = []  # instants, and bytes from the client until then
+        self.closed: Optional[float] = None  # when it closed
+        self.over = False  # whether nothing more can come
         self.listener, (self.waker, self.woken) = socket.socket(), socket.socketpair()
         self.listener.bind(('127.0.0.1', 0))
         self.refuses = [step.what for step in self.steps] == ['refused']
@@ -42,7 +45,7 @@ class Player:
         self.thread.join()
         if self.late and not failed: raise TimeoutError(self.late)
 
-    def serve(self):
+    def serve(self) -> None:
         """Serves one client, to its end."""
         with self.listener, self.waker, self.woken:
             ready = select.select([self.woken] + [self.listener] * (not self.refuses), [], [], self.limit)[0]
@@ -54,30 +57,35 @@ class Player:
                 try: self._play(client)
                 except (OSError, EOFError): pass  # the client has gone, or the player is to end
 
-    def _play(self, client):
+    def _play(self, client: socket.socket) -> None:
         self.heard = [(time.monotonic(), 0)]
         for step in self.steps:
             due = self._since(client, step) + (step.delay + step.pause * self.pauses) * self.factor / 10**9
             self._pump(client, due - time.monotonic())
-            if step.what == 'fin': client.shutdown(socket.SHUT_WR)
-            elif step.what == 'reset': return client.setsockopt(socket.SOL_SOCKET, socket.SO_LINGER, struct.pack('ii', 1, 0))
-            else:
+            if isinstance(step.what, bytes):
                 left = bytearray(step.what)
-                if not self._pump(client, self.limit, lambda: not left, left): return self._tell(f'the client left {len(left)} bytes')
+                if not self._pump(client, self.limit, lambda: not left, left):
+                    self._tell(f'the client left {len(left)} bytes')
+                    return
+            elif step.what == 'fin': client.shutdown(socket.SHUT_WR)
+            else:
+                client.setsockopt(socket.SOL_SOCKET, socket.SO_LINGER, struct.pack('ii', 1, 0))
+                return
         if not self._pump(client, self.limit, lambda: self.over): self._tell('the client did not close')
 
-    def _since(self, client, step):
+    def _since(self, client: socket.socket, step: Step) -> float:
         """When the client had done what a step waits for. What it has not done at the limit, or when it closed, counts as done then."""
-        ready = lambda: self.heard[-1][1] >= step.need and (self.closed or not step.closed)
+        def ready() -> bool: return self.heard[-1][1] >= step.need and (self.closed is not None or not step.closed)
         if not self._pump(client, self.limit, lambda: ready() or self.over) or not ready():
             count, now = self.heard[-1][1], time.monotonic()
-            self._tell(f'the client sent {count} of {step.need} bytes' + (' and closed' if self.over else ' and did not close' if step.closed else ''), not self.over)
+            closing = ' and closed' if self.over else ' and did not close' if step.closed else ''
+            self._tell(f'the client sent {count} of {step.need} bytes{closing}', not self.over)
             self.heard.append((now, max(count, step.need)))
-            self.closed = self.closed or now * step.closed
+            if step.closed and self.closed is None: self.closed = now
         since = next(at for at, count in self.heard if count >= step.need)
-        return max(since, self.closed) if step.closed else since
+        return max(since, self.closed) if step.closed and self.closed is not None else since
 
-    def _pump(self, client, seconds, enough=lambda: False, left=b''):
+    def _pump(self, client: socket.socket, seconds: float, enough: Callable[[], bool] = lambda: False, left: Optional[bytearray] = None) -> bool:
         """Reads what the client sends, and writes what is left, for so many seconds or until it is enough; whether it is."""
         end = time.monotonic() + seconds
         while not enough():
@@ -89,10 +97,10 @@ class Player:
                 length, now = len(client.recv(65536)), time.monotonic()
                 if length: self.heard.append((now, self.heard[-1][1] + length))
                 else: self.over, self.closed = True, now
-            if writable: del left[:client.send(left)]
+            if writable and left: del left[:client.send(left)]
         return True
 
-    def _tell(self, fault, late=True):
+    def _tell(self, fault: str, late: bool = True) -> None:
         told = f'player: port {self.port}: {fault} (limit {self.limit} s)'
         if late: self.late = self.late or told
         print(told, file=sys.stderr)

@@ -1,11 +1,14 @@
 """What a player does: the steps of the server's side of one connection, each with what it waits for."""
 import bisect, itertools
 from typing import List, NamedTuple, Union
-from events import delivered
+from events import Line, delivered
 
 
 # What no toxic does: none makes a byte come earlier, or adds one.
 SWAPPED = 'has more or earlier bytes in the first output: the output under the scenario has to come first, the untouched one second'
+
+
+NEVER = 1 << 64  # later than all nanoseconds of a capture
 
 
 class Step(NamedTuple):
@@ -16,7 +19,7 @@ class Step(NamedTuple):
     what: Union[bytes, str]  # a chunk of bytes, 'fin', 'reset' or 'refused'
 
 
-def in_order(line, recorded):
+def in_order(line: Line, recorded: Line) -> bool:
     """Whether a line has no byte earlier than the recorded one, and none more; a ValueError where its bytes are others."""
     sent, whole = (b''.join(what for _, what in chunks) for chunks in (line.chunks, recorded.chunks))
     if not whole.startswith(sent) and not sent.startswith(whole): raise ValueError('the outputs are not of one capture')
@@ -36,17 +39,17 @@ def steps(output: bytes, untouched: bytes, connection: int = 0) -> List[Step]:
     the recorded end. An end that a toxic made earlier than that stands for what was recorded last before it, of either side."""
     here, there = delivered(output), delivered(untouched)
     if len(here) != len(there): raise ValueError('the outputs are not of one capture')
-    for number, (lines, recorded) in enumerate(zip(here, there)):
-        if not all(map(in_order, lines, recorded)): raise ValueError(f'connection {number} {SWAPPED}')
+    for number, (lines, untouched_lines) in enumerate(zip(here, there)):
+        if not all(map(in_order, lines, untouched_lines)): raise ValueError(f'connection {number} {SWAPPED}')
     if not 0 <= connection < len(here): raise ValueError(f'there is no connection {connection}')
     (_, down), (up, recorded) = here[connection], there[connection]
     borders = list(itertools.accumulate(len(what) for _, what in recorded.chunks))
-    answers = [at for at, _ in recorded.chunks] + [recorded.end[0] if recorded.end else float('inf')]
+    answers = [at for at, _ in recorded.chunks] + [recorded.end[0] if recorded.end else NEVER]
 
-    def step(recorded_at, at, what):
+    def step(recorded_at: int, at: int, what: Union[bytes, str]) -> Step:
         asked = [(when, len(what)) for when, what in up.chunks if when <= recorded_at]
         closed = up.end is not None and up.end[1] == 'fin' and up.end[0] < recorded_at
-        last = up.end[0] if closed else asked[-1][0] if asked else 0
+        last = up.end[0] if up.end and closed else asked[-1][0] if asked else 0
         return Step(sum(length for _, length in asked), closed, recorded_at - last, at - recorded_at, what)
 
     played, place = [], 0

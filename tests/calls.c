@@ -4,7 +4,8 @@
                   threads were made in each phase: one begins where a thread is made while there is none but the first. FILE.failed is
                   made once a call has failed
      FAIL=KIND:N  the call of this kind with this number fails, from 1 on; with N+ it and all later ones
-     CAUSE=N      the error number that it fails with; 0 has a write take nothing, and `kill` ends the process in place of the call
+     CAUSE=N      the error number that it fails with; 0 has a write take nothing, `before` ends the process in place of the call, and
+                  `after` once the call was made
      MOST=N       a read or a write moves at most so many bytes */
 #define _GNU_SOURCE
 #include <dlfcn.h>
@@ -19,12 +20,13 @@
 #include <stdlib.h>
 #include <string.h>
 #include <sys/mman.h>
+#include <sys/stat.h>
 #include <sys/syscall.h>
 #include <unistd.h>
 
-enum kind { GROWTH, THREAD, READ, WRITE, OPEN, RENAME, REMOVE, KINDS };
+enum kind { GROWTH, THREAD, READ, WRITE, OPEN, RENAME, REMOVE, STAT, CLOSE, KINDS };
 enum { PHASES = 64, PLACES = KINDS + PHASES };
-static const char *const names[KINDS] = {"growth", "thread", "read", "write", "open", "rename", "remove"};
+static const char *const names[KINDS] = {"growth", "thread", "read", "write", "open", "rename", "remove", "stat", "close"};
 
 extern void *__libc_malloc(size_t);
 extern void *__libc_calloc(size_t, size_t);
@@ -36,7 +38,8 @@ static atomic_long own_counts[PLACES], *counts = own_counts, there;
 static atomic_int phase = -1;
 static long failing[KINDS], most = 1L << 30;
 static char failed_file[4096];
-static int cause = EIO, is_killed, and_later, is_ready;
+static int cause = EIO, ends_before, ends_after, and_later, is_ready;
+static _Thread_local int is_last;
 static create_thread *next_create;
 static join_thread *next_join;
 
@@ -51,7 +54,7 @@ __attribute__((constructor)) static void begin(void)
         counts = mmap(NULL, sizeof own_counts, PROT_READ | PROT_WRITE, MAP_SHARED, fd, 0);
         if (counts == MAP_FAILED)
             abort();
-        close(fd);
+        syscall(SYS_close, fd);
     }
     for (int kind = 0; fail != NULL && kind < KINDS; kind++) {
         size_t len = strlen(names[kind]);
@@ -62,7 +65,8 @@ __attribute__((constructor)) static void begin(void)
     }
     if ((number = getenv("CAUSE")) != NULL) {
         cause = atoi(number);
-        is_killed = strcmp(number, "kill") == 0;
+        ends_before = strcmp(number, "before") == 0;
+        ends_after = strcmp(number, "after") == 0;
     }
     if ((number = getenv("MOST")) != NULL)
         most = atol(number);
@@ -78,10 +82,19 @@ static int fails(enum kind kind)
     long number = atomic_fetch_add(&counts[kind], 1) + 1;
     if (failing[kind] == 0 || number < failing[kind] || (number > failing[kind] && !and_later))
         return 0;
-    close(syscall(SYS_openat, AT_FDCWD, failed_file, O_WRONLY | O_CREAT, 0600));
-    if (is_killed)
+    syscall(SYS_close, syscall(SYS_openat, AT_FDCWD, failed_file, O_WRONLY | O_CREAT, 0600));
+    if (ends_before)
         kill(getpid(), SIGKILL);
-    return 1;
+    is_last = ends_after;
+    return !ends_after;
+}
+
+/* What a call answers that was made; the process ends here where it was the last. */
+static long made(long answer)
+{
+    if (is_last)
+        kill(getpid(), SIGKILL);
+    return answer;
 }
 
 static int told(int error)
@@ -128,19 +141,19 @@ int pthread_join(pthread_t thread, void **value)
 
 ssize_t read(int fd, void *bytes, size_t len)
 {
-    return fails(READ) ? told(cause) : syscall(SYS_read, fd, bytes, len < (size_t)most ? len : (size_t)most);
+    return fails(READ) ? told(cause) : made(syscall(SYS_read, fd, bytes, len < (size_t)most ? len : (size_t)most));
 }
 
 ssize_t pread(int fd, void *bytes, size_t len, off_t offset)
 {
-    return fails(READ) ? told(cause) : syscall(SYS_pread64, fd, bytes, len < (size_t)most ? len : (size_t)most, offset);
+    return fails(READ) ? told(cause) : made(syscall(SYS_pread64, fd, bytes, len < (size_t)most ? len : (size_t)most, offset));
 }
 
 ssize_t write(int fd, const void *bytes, size_t len)
 {
     if (fails(WRITE))
         return cause == 0 ? 0 : told(cause);
-    return syscall(SYS_write, fd, bytes, len < (size_t)most ? len : (size_t)most);
+    return made(syscall(SYS_write, fd, bytes, len < (size_t)most ? len : (size_t)most));
 }
 
 int open(const char *path, int flags, ...)
@@ -149,15 +162,25 @@ int open(const char *path, int flags, ...)
     va_start(more, flags);
     int mode = va_arg(more, int);
     va_end(more);
-    return fails(OPEN) ? told(cause) : (int)syscall(SYS_openat, AT_FDCWD, path, flags, mode);
+    return fails(OPEN) ? told(cause) : (int)made(syscall(SYS_openat, AT_FDCWD, path, flags, mode));
 }
 
 int rename(const char *from, const char *to)
 {
-    return fails(RENAME) ? told(cause) : (int)syscall(SYS_rename, from, to);
+    return fails(RENAME) ? told(cause) : (int)made(syscall(SYS_rename, from, to));
 }
 
 int unlink(const char *path)
 {
-    return fails(REMOVE) ? told(cause) : (int)syscall(SYS_unlink, path);
+    return fails(REMOVE) ? told(cause) : (int)made(syscall(SYS_unlink, path));
+}
+
+int statx(int folder, const char *path, int flags, unsigned mask, struct statx *file)
+{
+    return fails(STAT) ? told(cause) : (int)made(syscall(SYS_statx, folder, path, flags, mask, file));
+}
+
+int close(int fd)
+{
+    return fails(CLOSE) ? told(cause) : (int)made(syscall(SYS_close, fd));
 }

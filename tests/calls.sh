@@ -22,7 +22,7 @@ has_failed() { [ -e "$work/calls.failed" ]; }
 can_count() { [ -e "$work/calls" ] || { skip "$1" "no call is counted: is the program linked statically?"; return 1; }; }
 
 # count KIND: how many calls of this kind the last run has made.
-kinds=(growth thread read write open rename remove)
+kinds=(growth thread read write open rename remove stat close)
 count() {
     local place
     for place in "${!kinds[@]}"; do

@@ -1,6 +1,7 @@
 #!/usr/bin/env bash
-# The built program where its calls of the system fail, each in turn: reads, writes, files and threads. And that it reads and writes whole
-# where a call moves few bytes, and hands on how many workers there are and how long a range is.
+# The built program where its calls of the system fail: each call of one run on the disk of the host, some of the standard streams, and each
+# thread. What follows from a failure is proved of any disk and stream; seen here is that these hand it on. And that the program reads and
+# writes whole where a call moves few bytes, and hands on how many workers there are and how long a range is.
 set -euo pipefail
 cd "$(dirname "$0")/.."
 . tests/lib.sh
@@ -9,7 +10,7 @@ capture=samples/http-get.pcap
 both=(--scenario examples/latency.json --scenario examples/limit_data.json)
 files=(0000.pcap 0000.txt 0001.pcap 0001.txt)
 folder=$work/folder new=$work/new
-mkdir "$new"
+mkdir "$new" "$folder"
 run "$capture" "${both[@]}" --out "$new"
 run "$capture" "${both[@]}"
 cp "$work/output" "$work/wanted"
@@ -75,18 +76,45 @@ each() {
 failures=0
 
 # few bytes a call
-for most in 1 3; do
-    for input in "$capture" "$work/dump"; do
-        run_with MOST=$most "$input" "${both[@]}"
-        verdict "$most bytes a call, ${input##*/}" "$(whole)"
-        run_with MOST=$most /dev/null --capture "$input" "${both[@]}"
-        verdict "$most bytes a call, --capture ${input##*/}" "$(whole)"
-    done
-done
+run_with MOST=1 "$work/dump" "${both[@]}"
+verdict "1 byte a call, a dump" "$(whole)"
+run_with MOST=3 /dev/null --capture "$capture" "${both[@]}"
+verdict "3 bytes a call, --capture" "$(whole)"
 
 # reads and writes of standard streams
-each "a read is interrupted, 16 bytes a call" read "MOST=16 CAUSE=$interrupted" unread whole "$capture" "${both[@]}"
-each "a read fails" read "CAUSE=$device" unread whole /dev/null --capture "$work/dump" "${both[@]}"
+run_with "FAIL=read:3 MOST=64 CAUSE=$interrupted" "$capture"
+verdict "a read of standard input is interrupted" "$(unread)"
+most=16
+run_with "FAIL=write:5 MOST=$most CAUSE=$interrupted" "$capture" "${both[@]}"
+verdict "a write to standard output is interrupted" "$(unwritten 5)"
+run_with "FAIL=write:5 MOST=$most CAUSE=$nothing" "$capture" "${both[@]}"
+verdict "a write to standard output takes nothing" "$(unwritten 5)"
+run_with "FAIL=write:3+ MOST=4" /dev/null
+verdict "the line of a refusal cannot be written whole" "$(fault 1; told faults "refused ")"
+
+# The disk: a run that reads two scenarios and a capture by their paths, and stores four files. What cannot be told of a file, and a file that
+# is not closed, is no failure.
+named=(/dev/null --capture "$capture" "${both[@]}" --out "$folder")
+
+# unopened NUMBER: it was to be refused for this file: a scenario, the capture, or one of the folder.
+unopened() {
+    if [ "$1" -le 3 ]; then unread; else unstored; fi
+}
+each "a file cannot be opened" open "CAUSE=$device" unopened stored "${named[@]}"
+each "a read of a file fails" read "CAUSE=$device" unread stored "${named[@]}"
+each "a file is not written" write "CAUSE=$room" unstored stored "${named[@]}"
+each "a file takes nothing" write "CAUSE=$nothing" unstored stored "${named[@]}"
+each "a file does not take its name" rename "CAUSE=$device" unstored stored "${named[@]}"
+each "nothing is known of a file" stat "CAUSE=$device" stored stored "${named[@]}"
+each "a file is not closed" close "CAUSE=$device" stored stored "${named[@]}"
+rm -rf "$folder"
+mkdir -p "$folder/0001.txt"
+run_with "FAIL=remove:1 CAUSE=$device" "${named[@]}"
+verdict "an unfinished file is not removed" "$(
+    [ "$(count remove)" = 1 ] || echo "  files that were to be removed: $(count remove)"
+    refusal "refused 60 ShelfFailed after 3"
+    holds "$folder" "${files[@]}" toxicap.unfinished-1
+)"
 
 # a capture of two blocks, which two threads load: a read of a block fails, and each moves less than it is asked for
 perl tests/capture.pl 7000 > "$work/blocks.pcap"
@@ -101,27 +129,6 @@ run_with MOST=100003 /dev/null --capture "$work/blocks.pcap" "${both[@]}" --work
 verdict "100,003 bytes a read of blocks" "$(whole_blocks)"
 run_with FAIL=thread:1+ /dev/null --capture "$work/blocks.pcap" "${both[@]}" --workers 2
 verdict "no thread can be made to load a block" "$(whole_blocks)"
-
-most=16
-each "a write is interrupted" write "MOST=$most CAUSE=$interrupted" unwritten whole "$capture" "${both[@]}"
-each "a write takes nothing" write "MOST=$most CAUSE=$nothing" unwritten whole "$capture" "${both[@]}"
-run_with "FAIL=write:3+ MOST=4" /dev/null
-verdict "the line of a refusal cannot be written whole" "$(fault 1; told faults "refused ")"
-
-# files of the folder
-each "a file is not written" write "MOST=512 CAUSE=$room" unstored stored "$capture" "${both[@]}" --out "$folder"
-each "a file takes nothing" write "MOST=512 CAUSE=$nothing" unstored stored "$capture" "${both[@]}" --out "$folder"
-each "a file does not take its name" rename "CAUSE=$device" unstored stored "$capture" "${both[@]}" --out "$folder"
-each "a file is not written, by workers" write "MOST=512 CAUSE=$room" unstored stored "$capture" "${both[@]}" --workers 4 --out "$folder"
-each "a file does not take its name, by workers" rename "CAUSE=$device" unstored stored "$capture" "${both[@]}" --workers 4 --out "$folder"
-run_with FAIL=rename:5 "$capture" "${both[@]}" --out "$folder"
-verdict "a folder that would fail at its fifth file" "$(stored)"
-
-# unopened NUMBER: it was to be refused for this file: a scenario, the capture, or one of the folder.
-unopened() {
-    if [ "$1" -le 3 ]; then unread; else unstored; fi
-}
-each "a file cannot be opened" open "CAUSE=$device" unopened stored /dev/null --capture "$capture" "${both[@]}" --out "$folder"
 
 # Threads that cannot be made leave fewer workers. The words of a plan are handed on: each of so many workers but one has a thread of its own
 # in each phase, and each range of records takes memory of its own.

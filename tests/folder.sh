@@ -1,6 +1,6 @@
 #!/usr/bin/env bash
 # Files that the built program stores in a folder: each is the old one whole or the new one whole, whether the run ends well, is killed,
-# at whatever instant and before each of its calls in turn, or finds no room; and what stands in the way is refused.
+# at whatever instant and before and after each of its calls of the disk in turn, or finds no room; and what stands in the way is refused.
 set -euo pipefail
 cd "$(dirname "$0")/.."
 . tests/lib.sh
@@ -172,7 +172,7 @@ mkdir "$work/old"
 for file in "$work"/folder/*; do echo old > "$work/old/${file##*/}"; done
 sums "$work/old" >> "$work/whole"
 bad=$(well)
-for ((instant = 1; instant <= 40; instant++)); do
+for ((instant = 1; instant <= 40; instant += 3)); do
     folder
     cp "$work"/old/* "$work/folder"
     "$program" --capture "$capture" "${many[@]}" --workers $((1 + instant % 4)) --out "$work/folder" &
@@ -185,14 +185,15 @@ for ((instant = 1; instant <= 40; instant++)); do
     torn=$(grep -vxFf "$work/whole" "$work/sums" || true)
     [ -z "$torn" ] || bad+="  killed after $instant ms, torn:"$'\n'"$torn"$'\n'
 done
-verdict "killed at 40 instants" "$bad"
+verdict "killed at 14 instants" "$bad"
 
-# Killed right before each of its calls in turn that opens, writes, renames or removes a file: each output is the old file or the new one, whole,
-# the new ones first, and beside them are drafts alone; the next run has its outputs there and no more.
+# Killed right before and right after each of its calls in turn that opens, reads, looks at, writes, renames or closes a file: each output is the
+# old file or the new one, whole, the new ones first, and beside them are drafts alone; the next run has its outputs there and no more.
 both=("${late[@]}" --scenario examples/limit_data.json)
+named=(/dev/null --capture "$capture" "${both[@]}" --out "$work/folder")
 names=(0000.pcap 0000.txt 0001.pcap 0001.txt)
 folder
-run "$capture" "${both[@]}" --out "$work/folder"
+run "${named[@]}"
 mv "$work/folder" "$work/both"
 
 # survived: what is at fault with the folder after the last run, which was killed.
@@ -210,28 +211,43 @@ survived() {
     find "$work/folder" -mindepth 1 ! -name '0*' ! -name 'toxicap.unfinished-[0-9]' -printf '  another file: %f\n'
 }
 
-# killed WORKERS KIND: the verdict on runs by so many workers, which are killed before each call of a kind.
+# killed WHEN KIND: the verdict on runs that are killed `before` or `after` each call of a kind.
 killed() {
     local number=0 name bad=""
     while [ -z "$bad" ]; do
         number=$((number + 1))
         folder
         for name in "${names[@]}"; do echo old > "$work/folder/$name"; done
-        run_with "FAIL=$2:$number CAUSE=kill MOST=512" "$capture" "${both[@]}" --workers "$1" --out "$work/folder" 2> /dev/null
+        run_with "FAIL=$2:$number CAUSE=$1" "${named[@]}" 2> /dev/null
         has_failed || break
         bad=$(survived)
-        run "$capture" "${both[@]}" --workers "$1" --out "$work/folder"
+        run "${named[@]}"
         bad+=$(well; folder_difference "$work/both" "$work/folder")
     done
-    [ -n "$bad" ] || bad=$(well; folder_difference "$work/both" "$work/folder"; [ "$2" = remove ] || [ $number != 1 ] || echo "  there is no call")
-    verdict "killed before each $2, by $1 workers" "${bad:+  $2 $number$'\n'}$bad"
+    [ -n "$bad" ] || bad=$(well; folder_difference "$work/both" "$work/folder"; [ $number != 1 ] || echo "  there is no call")
+    verdict "killed $1 each $2" "${bad:+  $2 $number$'\n'}$bad"
     kills=$((kills + number - 1))
 }
+
+# removed WHEN DRAFT: the verdict on a run that is killed `before` or `after` it removes a draft, for which a folder has the name; DRAFT is left.
+removed() {
+    local bad
+    folder
+    mkdir "$work/folder/0001.txt"
+    run_with "FAIL=remove:1 CAUSE=$1" "${named[@]}" 2> /dev/null
+    bad=$(fault 137; holds "$work/folder" "${names[@]}" ${2:+"$2"})
+    rmdir "$work/folder/0001.txt"
+    run "${named[@]}"
+    verdict "killed $1 a draft is removed" "$bad$(well; folder_difference "$work/both" "$work/folder")"
+    kills=$((kills + 1))
+}
 kills=0
-if can_count "kills before each call"; then
-    for workers in 1 4; do
-        for kind in open write rename remove; do killed $workers $kind; done
+if can_count "kills before and after each call"; then
+    for when in before after; do
+        for kind in open read stat write rename close; do killed $when $kind; done
     done
-    echo "killed before $kills calls"
+    removed before toxicap.unfinished-1
+    removed after ""
+    echo "killed $kills times"
 fi
 close

@@ -15,6 +15,8 @@ mod outlined_deliveries;
 mod recordings;
 
 pub use deliveries::{Deliveries, Delivery, deliver};
-pub use delivery_rows::{OutlineRow, deliver_row, deliver_row_alone, report_lines, report_lines_alone};
+pub use delivery_rows::{
+    OutlineRow, deliver_row, deliver_row_alone, report_lines, report_lines_alone,
+};
 pub use outlined_deliveries::OutlinedDelivery;
 pub use recordings::{Recording, Recordings, record, record_alone};

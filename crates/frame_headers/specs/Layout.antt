@@ -87,6 +87,6 @@ flags_at = 13
 abbrev pub headers_len : Option ℕ → ℕ
 headers_len vlan = link_len (is_some vlan) + ipv4_len + tcp_len
 
--- the most bytes of payload after them, so that the datagram fits an Ethernet frame of 1,500 bytes
+-- the most bytes of payload after them, so that the datagram has at most the 1,500 bytes that an Ethernet frame carries
 abbrev pub payload_limit : ℕ
 payload_limit = 1500 - ipv4_len - tcp_len

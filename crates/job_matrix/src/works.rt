@@ -20,11 +20,11 @@ pub trait Work: Sync {
 /// What the workers are doing.
 #[derive(Clone, Copy, Debug, PartialEq, Eq)]
 pub enum Phase {
-    /// The ranges of a capture's records are read.
+    /// A file is loaded, block by block, or a capture's records are read, range by range.
     Ranges,
     /// The recorded lines of connections are made.
     Lines,
-    /// What each connection contributes to each scenario is made.
+    /// What scenarios answer is made: what each connection contributes, the lines of a report, or drafts of whole outputs.
     Jobs,
 }
 

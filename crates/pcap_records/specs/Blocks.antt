@@ -1,4 +1,4 @@
--- Files in blocks. Each block has bytes of its own, and after them the first bytes of the next block, so that a record that begins in a
+-- Files in blocks: the bytes that blocks hold, and how a file grows by a part that was loaded. Each block has bytes of its own, and after them the first bytes of the next block, so that a record that begins in a
 -- block lies in it whole.
 use Rattle.std.specs.Prelude.{◌≡◌, ◌<◌, ℕ, ◌+◌, ◌-◌, ◌*◌, ◌^◌, ◌++◌, nat_lt, if◌then◌else◌, List, [], ◌∷◌, length, take, drop, get_or, set}
 use Rattle.std.specs.List.{flat_map}

@@ -16,10 +16,13 @@ pub const CAPTURE_LIMIT: usize = 1 << 30;
 /// The bytes of a file header.
 pub const FILE_HEADER_LEN: usize = 24;
 
+// The magic number of files in microseconds.
 const MAGIC: u32 = 0xa1b2_c3d4;
 
+// That of files in nanoseconds.
 const NANOSECOND_MAGIC: u32 = 0xa1b2_3c4d;
 
+// The link type of captures of Ethernet frames.
 const ETHERNET: u32 = 1;
 
 /// The order of the bytes in each field of a file.

@@ -1,4 +1,4 @@
-//! Instants.
+//! Moments: ticks of a capture's unit, at most the horizon.
 ghost use Rattle.std.specs.Prelude.{◌≡◌, ◌+◌, max, nat_lt};
 ghost use Rattle.pcap_records.specs.Instants.{horizon, instant, ticks_of};
 

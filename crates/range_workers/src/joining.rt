@@ -5,8 +5,8 @@ ghost use Rattle.range_workers.specs.RangePartials.{AreAdjacent, joined_all};
 use conn_table::Partial;
 use std::alloc::AllocError;
 
-/// The partial of all ranges together, of which each begins where the one before it ends. It takes time by the size of all but the
-/// first.
+/// The partial of all ranges together, of which each begins where the one before it ends. It takes time by the number of
+/// ranges: no segment is copied.
 ///
 /// # Errors
 /// A growth was refused.

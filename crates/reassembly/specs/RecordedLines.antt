@@ -1,4 +1,4 @@
--- The recorded line of each side of a connection.
+-- The recorded line of each side of a connection: which FIN counts, when a byte is available, how the line ends.
 use Rattle.std.specs.Prelude.{ℕ, ◌+◌, ◌-◌, ◌==◌, min, max, Bool, ◌&&◌, ◌||◌, not, nat_le, if◌then◌else◌, List, [], map, filter, find, Option, Some, None}
 use Rattle.std.specs.List.{range_with_len}
 use Rattle.frame_headers.specs.declared.peers.Peer.{Peer}

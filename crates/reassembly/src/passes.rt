@@ -75,7 +75,11 @@ fn take<'a>(
 fn covered_since(from: usize, covered: Covered) -> usize
     ensures { result ≡ (if nat_lt covered.high from then from else covered.since) }
 {
-    if from > covered.high { from } else { covered.since }
+    if from > covered.high {
+        from
+    } else {
+        covered.since
+    }
 }
 
 // The ordered patches with the late ones under them.

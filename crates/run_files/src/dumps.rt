@@ -120,8 +120,10 @@ fn meaning(b: u8) -> u8
     MEANINGS[usize::from(b)]
 }
 
+// The meaning of a blank.
 const BLANK: u8 = 16;
 
+// The meaning of a byte that is neither a digit nor a blank.
 const FOREIGN: u8 = 17;
 
 // What each byte is in a dump: the digit of a value below 16, a blank or foreign.

@@ -1,4 +1,4 @@
-//! Scenarios.
+//! A scenario, read from a text: its proxies, and the first that is for a server.
 ghost use Rattle.std.specs.Prelude.{◌≡◌, ◌<◌, length, Some, None, IfSome, MatchResult};
 ghost use Rattle.serde_json.specs.View.{view};
 ghost use Rattle.lists.specs.Agreement.{AgreesUnlessMemory};

@@ -4,8 +4,8 @@ ghost use Rattle.std.specs.List.{AllByRecursion};
 ghost use Rattle.segment_writer.specs.SegmentOutlines.{framed_in, IsOutlineIn};
 
 use crate::framed::{Framed, Keys, SegKey, SegList};
-use crate::segment_outline::{SegmentOutline, parts_of, side_sender};
 use crate::records::{put_record, record_len};
+use crate::segment_outline::{SegmentOutline, parts_of, side_sender};
 use crate::senders::Sender;
 use pcap_records::Values;
 use reassembly::LinePart;

@@ -13,11 +13,11 @@ ghost use Rattle.segment_writer.specs.declared.senders.Turn.TheVariants.{Opening
 ghost use Rattle.segment_writer.specs.SegmentOutlines.{framed_in, IsOutlineIn};
 ghost use Rattle.segment_writer.specs.TimelyLines.{IsTimely};
 
+use crate::connection_outline::ConnectionOutline;
 use crate::framed::SegList;
 use crate::keyed::merged;
-use crate::segment_outline::SegmentOutline;
-use crate::connection_outline::ConnectionOutline;
 use crate::records::bare_outline;
+use crate::segment_outline::SegmentOutline;
 use crate::senders::{Numbers, Sender, Turn, client_in, in_turn, peer_in};
 use crate::turns::line_segments;
 use conn_table::Conn;

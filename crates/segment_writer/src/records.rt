@@ -13,8 +13,8 @@ ghost use Rattle.segment_writer.specs.LineCursors.{left_at, IsCursor};
 ghost use Rattle.segment_writer.specs.Senders.{frame_with, framed_by, piece_segment};
 ghost use Rattle.segment_writer.specs.SegmentOutlines.{framed_of, outlined_payload, IsOutline};
 
-use crate::segment_outline::SegmentOutline;
 use crate::pieces::{Cursor, copy_piece, is_border, part_at, skip_piece};
+use crate::segment_outline::SegmentOutline;
 use crate::senders::{Numbers, Sender, header_with, key_at};
 use frame_headers::{Flags, Header, LEAST_HEADERS_LEN, MOST_HEADERS_LEN, headers_len, put_headers};
 use pcap_records::{Moment, RECORD_HEADER_LEN, Unit, record_header_bytes};
@@ -60,7 +60,12 @@ fn piece_flags(ends: bool) -> Flags
 }
 
 /// A segment without payload.
-pub(crate) fn bare_outline(sender: &Sender, at: Moment, numbers: Numbers, flags: Flags) -> SegmentOutline
+pub(crate) fn bare_outline(
+    sender: &Sender,
+    at: Moment,
+    numbers: Numbers,
+    flags: Flags,
+) -> SegmentOutline
     requires { at < horizon (ticks_of sender.now.unit) }
     ensures framed { (own : List LinePart) → framed_of sender.now own result
         ≡ framed_by sender.now (numbers.place, opening_segment at numbers.seq numbers.ack flags) }
@@ -147,7 +152,13 @@ pub(crate) fn put_record(
 {
     out.reserve(record_len(sender, outline))?;
     let header = header_with(sender, outline.seq, outline.ack, outline.flags);
-    let frame = open_record(out, outline.key.moment, header.vlan, outline.len, sender.unit)?;
+    let frame = open_record(
+        out,
+        outline.key.moment,
+        header.vlan,
+        outline.len,
+        sender.unit,
+    )?;
     put_payload(out, sender, own, outline)?;
     put_headers(&mut out[frame..], &header);
     Ok(())

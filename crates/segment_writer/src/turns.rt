@@ -12,9 +12,9 @@ ghost use Rattle.segment_writer.specs.LineCursors.{has_none, bytes_before, IsAck
 ghost use Rattle.segment_writer.specs.Senders.{ending_segments, line_written};
 ghost use Rattle.segment_writer.specs.SegmentOutlines.{framed_of, IsOutline};
 
-use crate::segment_outline::SegmentOutline;
 use crate::pieces::{Cursor, next_filled, part_at, piece_len};
 use crate::records::{bare_outline, piece_outline};
+use crate::segment_outline::SegmentOutline;
 use crate::senders::{Numbers, Sender};
 use frame_headers::Flags;
 use pcap_records::{Moment, Unit};

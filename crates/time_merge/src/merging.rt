@@ -10,7 +10,7 @@ ghost use Rattle.time_merge.specs.Sinks.{IsWritten};
 use crate::key_order::{KeyedSegment, in_order, merged_keys, sorted_keys};
 use crate::sinks::{CaptureSink, InMemory};
 use pcap_records::{FILE_HEADER_LEN, Unit, write_header};
-use segment_writer::{Keys, ConnectionOutline, SegList};
+use segment_writer::{ConnectionOutline, Keys, SegList};
 use std::alloc::{AllocError, Global};
 use std::marker::Model;
 

@@ -1,4 +1,4 @@
--- A reset by a peer.
+-- A reset by a peer: the bytes before an instant, and a reset then.
 use Rattle.std.specs.Prelude.{ℕ, nat_lt, if◌then◌else◌, filter}
 use Rattle.reassembly.specs.RecordedLines.{Line, reset}
 use Rattle.toxic_defs.specs.EndRule.{is_before}

@@ -120,9 +120,21 @@ fn lines_through<'a>(
     let opened = recorded.opened;
     let up = recorded.up.copy(alloc)?;
     let down = recorded.down.copy(alloc)?;
-    let (up_number, down_number) = (Direction::Up.number(), Direction::Down.number());
-    let up = chain(alloc, met.up, up, opened, seed, scenario, connection, up_number)?;
-    let down = chain(alloc, met.down, down, opened, seed, scenario, connection, down_number)?;
+    let up_number = Direction::Up.number();
+    let down_number = Direction::Down.number();
+    let up = chain(
+        alloc, met.up, up, opened, seed, scenario, connection, up_number,
+    )?;
+    let down = chain(
+        alloc,
+        met.down,
+        down,
+        opened,
+        seed,
+        scenario,
+        connection,
+        down_number,
+    )?;
     Ok(cut_lines(Some(met.number), up, down))
 }
 

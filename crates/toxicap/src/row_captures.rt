@@ -25,7 +25,10 @@ pub(crate) struct RowParts<'a> {
 //
 // # Errors
 // A growth was refused; the row is then dropped.
-pub(crate) fn parts_of_row<'a>(alloc: Global, row: OutlineRow<'a>) -> Result<RowParts<'a>, AllocError>
+pub(crate) fn parts_of_row<'a>(
+    alloc: Global,
+    row: OutlineRow<'a>,
+) -> Result<RowParts<'a>, AllocError>
     ensures outlines { IfOk result (λ parts. parts.outlines.items ≡ map (λ d. d.segments) row.entry) }
     ensures lines { IfOk result (λ parts. parts.lines.items ≡ map (λ d. d.line) row.entry) }
 {

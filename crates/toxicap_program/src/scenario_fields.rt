@@ -132,9 +132,10 @@ struct Attribute {
     unit: &'static str,
 }
 
-// The unit of most attributes, and their greatest number.
+// The unit of most attributes.
 const MS: &str = "milliseconds";
 
+// The greatest number of most attributes.
 const GREATEST: u64 = 1_000_000_000;
 
 impl Attribute {

@@ -1,9 +1,10 @@
 //! Names, paths and values as a terminal shows them: short, and without a character that would command it.
 use std::alloc::{AllocError, Global};
 
-// How many characters of a text are shown, and of a path.
+// How many characters of a text are shown.
 const SHOWN: usize = 60;
 
+// How many characters of a path are shown.
 const SHOWN_OF_PATH: usize = 200;
 
 // Adds a character, escaped where it does not print. Quotes and backslashes stay as they are.

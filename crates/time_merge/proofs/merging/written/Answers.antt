@@ -28,7 +28,7 @@ pub loop-keyed-preserved : goal.loop-keyed-preserved
 loop-keyed-preserved g c =
     let was = c.loop-keyed.invariant.written in
     let more = grown (ticks_of c.args.unit) (segment_of g.L.Keys.segments c.args.lists.now) c.args.order.now c.loop-keyed.keyed-index c.keyed-item.result
-        was.0 c.loop-keyed.batch.items c.put_keyed.new.out.items c.loop-keyed-test.true c.keyed-item.is was.2 c.in_ok-put_keyed.ensures.ok in
+    was.0 c.loop-keyed.batch.items c.put_keyed.new.out.items c.loop-keyed-test.true c.keyed-item.is was.2 c.in_ok-put_keyed.ensures.ok in
     record {
       written = offered (g.S.CaptureSink.took c.offer.new.self) was.0 c.put_keyed.new.out.items c.offer.new.batch.items _ (c.offer.ensures.taken was.0 was.1) more;
       same = c.offer.ensures.same ∙ c.loop-keyed.invariant.same;

@@ -3,29 +3,26 @@ ghost use Rattle.std.specs.Prelude.{◌≡◌, IfOk};
 
 use super::captures::PLAIN_REPORT;
 use super::named_files::{check_over, ended_over};
-use scenarios::Hosts;
+use super::storing_runs::{
+    BY_ONE, BY_TWO, HELD, HTTP_GET, Run, SAMPLE, SAMPLE_BY_ALL, SAMPLE_BY_TWO, files_of,
+};
 use std::alloc::{AllocError, AllocGlobal, Global};
 use std::process::Abort;
 use std::sync::Wait;
 use std::thread::Threads;
-use toxicap::{
-    Counted, MemoryDisk, MemoryFile, MemoryShelf, Options, Plan, RunFault, answers, store_all,
-};
+use toxicap::{MemoryDisk, MemoryFile};
 use worked_sessions::sessions::{PLAIN_SESSION, header, put_field};
 
-// A proxy for the host `web` that holds the client's bytes for a time that is drawn.
-const HELD: &str =
-    "[{\"name\":\"web\",\"upstream\":\"web:80\",\"toxics\":[{\"type\":\"latency\",\"stream\":\"upstream\",\"attributes\":{\"latency\":100,\"jitter\":50}}]}]";
-
-// An older file of the last name that a run gives.
+// An older file of a name that the runs give.
 const OLDER: &[u8] = b"an older file";
 
-// A disk with a capture, two scenarios, the older file, and a capture that cannot be read to its end.
+// A disk with two captures, two scenarios, the older file, and a capture that cannot be read to its end.
 fn disk_before(alloc: Global) -> Result<MemoryDisk, AllocError>
     ensures { IfOk result (λ disk. disk.failed ≡ 0) }
 {
     let mut disk = MemoryDisk::new(alloc);
     disk.put_first("session", &PLAIN_SESSION, 0)?;
+    disk.put_first("http-get", HTTP_GET.as_bytes(), 0)?;
     disk.put_first("unread", &PLAIN_SESSION, 1)?;
     disk.put_first("bare", b"[]", 0)?;
     disk.put_first("held", HELD.as_bytes(), 0)?;
@@ -33,44 +30,7 @@ fn disk_before(alloc: Global) -> Result<MemoryDisk, AllocError>
     Ok(disk)
 }
 
-// The words of a run by one worker that stores the files of both scenarios in the folder `out`, and of one by two.
-const BY_ONE: [&str; 7] = [
-    "--capture=session",
-    "--scenario=bare",
-    "--scenario=held",
-    "--host=web=10.0.0.2",
-    "--seed=42",
-    "--out=out",
-    "--workers=1",
-];
-
-const BY_TWO: [&str; 7] = [
-    "--workers=2",
-    "--out=out",
-    "--seed=42",
-    "--host=web=10.0.0.2",
-    "--scenario=bare",
-    "--scenario=held",
-    "--capture=session",
-];
-
-// The four files of that run, from the calls that take its texts.
-fn files_of(rt: &(impl AllocGlobal + Threads + Wait + Sync)) -> Result<Vec<MemoryFile>, RunFault> {
-    let mut hosts = Hosts::new(rt.alloc());
-    if hosts.add("web", "10.0.0.2").is_err() {
-        return Err(RunFault::Memory);
-    }
-    let plan = Plan::new(1, 4096).ok_or(RunFault::Memory)?;
-    let (seed, texts) = (42, [b"[]".as_slice(), HELD.as_bytes()]);
-    let options = Options { hosts, seed, plan };
-    let mut reader = Counted::new(PLAIN_SESSION.as_slice());
-    let outputs = answers(rt, rt.alloc(), &mut reader, &texts, &options)?;
-    let mut shelf = MemoryShelf::new(rt.alloc());
-    store_all(rt.alloc(), &outputs, &mut shelf)?;
-    Ok(shelf.into_files())
-}
-
-// Whether the folder has so many of four files, and in place of those after them what was there before.
+// Whether the folder has so many of these files, and in place of those after them what was there before.
 fn has_first(
     alloc: Global,
     disk: &MemoryDisk,
@@ -89,23 +49,35 @@ fn has_first(
             return Ok(false);
         }
     }
-    Ok(files.len() == 4)
+    Ok(true)
 }
 
-// A run of these words stores all files, the report of the plain session among them.
-fn check_whole(rt: &(impl Abort + AllocGlobal + Threads + Wait + Sync), words: &[&str]) {
-    let files = files_of(rt).expect(rt, "memory");
+// A run stores all files of its scenarios; of the first the report is this one, where it is known.
+fn check_whole(
+    rt: &(impl Abort + AllocGlobal + Threads + Wait + Sync),
+    run: &Run<'_>,
+    report: Option<&str>,
+) {
+    let files = files_of(rt, run).expect(rt, "memory");
     let mut disk = disk_before(rt.alloc()).expect(rt, "memory");
-    check_over(rt, &mut disk, words, (0, "", ""));
-    let good = disk.failed() == 0 && has_first(rt.alloc(), &disk, &files, 4) == Ok(true);
-    let report = disk.bytes("out/0000.txt") == Some(PLAIN_REPORT.as_bytes());
-    assert!(rt; good && report, "{words:?}");
+    check_over(rt, &mut disk, run.words, (0, "", ""));
+    let all = has_first(rt.alloc(), &disk, &files, files.len()) == Ok(true);
+    let many = files.len() == 2 * run.scenarios.len();
+    let first = report.is_none() || disk.bytes("out/0000.txt") == report.map(str::as_bytes);
+    assert!(rt;
+        disk.failed() == 0 && all && many && first,
+        "{:?}",
+        run.words
+    );
 }
 
 #[test]
-fn a_whole_run(rt: HostRuntime) {
-    check_whole(&rt, &BY_ONE);
-    check_whole(&rt, &BY_TWO);
+fn whole_runs(rt: HostRuntime) {
+    check_whole(&rt, &BY_ONE, Some(PLAIN_REPORT));
+    check_whole(&rt, &BY_TWO, Some(PLAIN_REPORT));
+    check_whole(&rt, &SAMPLE, None);
+    check_whole(&rt, &SAMPLE_BY_ALL, None);
+    check_whole(&rt, &SAMPLE_BY_TWO, None);
 }
 
 // A run over a disk that fails once, after so many calls, stores the files for which both calls went well; another run of the same words
@@ -124,29 +96,28 @@ fn check_failing(
     let part = has_first(rt.alloc(), &disk, files, many as usize) == Ok(true);
     assert!(rt; part && disk.failed() == 1, "{words:?} after {calls}");
     check_over(rt, &mut disk, words, (0, "", ""));
-    let whole = has_first(rt.alloc(), &disk, files, 4) == Ok(true);
+    let whole = has_first(rt.alloc(), &disk, files, files.len()) == Ok(true);
     assert!(rt;
         whole && disk.failed() == 1,
         "{words:?} again after {calls}"
     );
 }
 
-fn check_each(rt: &(impl Abort + AllocGlobal + Threads + Wait + Sync), words: &[&str]) {
-    let files = files_of(rt).expect(rt, "memory");
-    check_failing(rt, &files, words, 0);
-    check_failing(rt, &files, words, 1);
-    check_failing(rt, &files, words, 2);
-    check_failing(rt, &files, words, 3);
-    check_failing(rt, &files, words, 4);
-    check_failing(rt, &files, words, 5);
-    check_failing(rt, &files, words, 6);
-    check_failing(rt, &files, words, 7);
+// Each call of a run fails in turn: two for each file.
+fn check_each(rt: &(impl Abort + AllocGlobal + Threads + Wait + Sync), run: &Run<'_>) {
+    let files = files_of(rt, run).expect(rt, "memory");
+    for calls in 0..2 * files.len() as u64 {
+        check_failing(rt, &files, run.words, calls);
+    }
 }
 
 #[test]
-fn a_run_that_a_disk_cuts_short(rt: HostRuntime) {
+fn runs_that_a_disk_cuts_short(rt: HostRuntime) {
     check_each(&rt, &BY_ONE);
     check_each(&rt, &BY_TWO);
+    check_each(&rt, &SAMPLE);
+    check_each(&rt, &SAMPLE_BY_ALL);
+    check_each(&rt, &SAMPLE_BY_TWO);
 }
 
 // A run of these words ends so, and leaves the folder as it was.
@@ -155,7 +126,7 @@ fn check_untouched(
     words: &[&str],
     ends: (u8, &str, &str),
 ) {
-    let files = files_of(rt).expect(rt, "memory");
+    let files = files_of(rt, &BY_ONE).expect(rt, "memory");
     let mut disk = disk_before(rt.alloc()).expect(rt, "memory");
     check_over(rt, &mut disk, words, ends);
     let good = disk.failed() == 0 && has_first(rt.alloc(), &disk, &files, 0) == Ok(true);
@@ -177,7 +148,7 @@ fn runs_that_store_nothing(rt: HostRuntime) {
 
 #[test]
 fn help_beside_a_folder(rt: HostRuntime) {
-    let files = files_of(&rt).expect(&rt, "memory");
+    let files = files_of(&rt, &BY_ONE).expect(&rt, "memory");
     let mut disk = disk_before(rt.alloc()).expect(&rt, "memory");
     let words = ["--capture=session", "--out=out", "--help"];
     let (status, written, told) = ended_over(&rt, &mut disk, &words);

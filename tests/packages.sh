@@ -378,6 +378,15 @@ END
     verdict "the action, no sum" "$(acts 1 'is not what SHA256SUMS says' ARCHIVE="$archive" SUMS="$work/none-right")"
     verdict "the action, no line" "$(acts 1 'is not what SHA256SUMS says' ARCHIVE="$archive" SUMS="$work/no-line")"
     verdict "the action, another archive" "$(acts 1 'is not what SHA256SUMS says' ARCHIVE="$work/$archive" SUMS="$made/SHA256SUMS")"
+    mkdir "$work/older"
+    tar -C "$work/older" -xzf "$made/$archive"
+    printf '#!/nowhere\n' > "$work/older/toxicap-$version-x86_64-linux/bin/toxicap"
+    release/pack "$work/older" "$work/older/$archive" "toxicap-$version-x86_64-linux"
+    (cd "$work/older" && sha256sum "$archive" > SHA256SUMS)
+    verdict "the action, where toxicap does not run" "$(
+        acts 0 "toxicap $version in " ARCHIVE="$work/older/$archive"
+        [ "$("$(cat "$work/runner/path")/toxicap" -V)" = "toxicap $version" ] || echo '  toxicap-static is not in its place'
+    )"
     verdict "the action, no archive" "$(acts 1 'could not be read' ARCHIVE=none.tar.gz)"
     if can "the action, a signature" minisign; then
         MINISIGN_KEY=$work/key release/sums "$work/signed" > "$work/told"

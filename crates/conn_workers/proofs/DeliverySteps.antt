@@ -1,5 +1,5 @@
 -- What is made of recordings, against the definition of what connections contribute.
-use Rattle.std.proofs.Common.{◌≡◌, ◌<◌, ℕ, ◌+◌, ◌*◌, ◌/◌, ◌%◌, List, [], ◌∷◌, length, map, get_or, refl, sym, ap, ap₂, ◌∙◌, arith}
+use Rattle.std.proofs.Common.{◌≡◌, ◌<◌, ℕ, ◌+◌, ◌*◌, ◌/◌, ◌%◌, List, length, map, get_or, refl, sym, ap, ◌∙◌, arith}
 use Rattle.std.specs.List.{enumerate_from}
 use Rattle.std.proofs.lemmas.Nat.{div_below}
 use Rattle.std.proofs.lemmas.List.{length-map}
@@ -16,7 +16,7 @@ use Rattle.conn_workers.specs.declared.deliveries.Delivery.{Delivery}
 use Rattle.conn_workers.specs.DeliveryLaws.{LinesAreContributed, RowsAreContributed}
 use Rattle.conn_workers.specs.DeliveryRows.{connections_of, delivery_of, deliveries}
 use Rattle.conn_workers.specs.CaptureTables.{whole_table, whole_connections}
-use Rattle.conn_workers.specs.Recordings.{RecordingView, recording_in, recordings_of, recorded_delivery, recorded_deliveries, recorded_row, recorded_lines}
+use Rattle.conn_workers.specs.Recordings.{RecordingView, recording_in, recordings_of, recorded_delivery, recorded_deliveries}
 use Rattle.conn_workers.proofs.RowLemmas.{length-rows, some_columns, at_place, row_alike, rows_alike}
 use Rattle.conn_workers.proofs.TableConnections.{connections_are, conns_are}
 

@@ -16,7 +16,7 @@ find_program() {
     local built=$PWD/crates/toxicap_program/out/toxicap_program
     local build="(cd crates/toxicap_program && rt run < /dev/null)"
     if [ -z "${TOXICAP:-}" ] && [ ! -x "$built" ] && type -P rt > /dev/null; then
-        echo "$0: there is no program yet: $build proves and builds it, a quarter of an hour on 4 cores" >&2
+        echo "$0: there is no program yet: $build proves and builds it, twenty minutes to an hour" >&2
         (cd crates/toxicap_program && rt run < /dev/null) >&2 || true
     fi
     program=$(cd "${OLDPWD:-.}" && realpath -s "$(type -P "${TOXICAP:-$built}")" 2> /dev/null) || {

@@ -1,4 +1,4 @@
--- Lists that are laid out row by row.
+-- Lists that stand row by row.
 use Rattle.std.proofs.Common.{◌≡◌, ◌<◌, ◌≤◌, ℕ, zero, suc, ◌+◌, ◌*◌, ◌/◌, ◌%◌, List, [], ◌∷◌, map, length, get_or, Some, refl, sym, ap, ap₂, ◌∙◌, arith}
 use Rattle.std.specs.List.{enumerate_from, slice_get}
 use Rattle.std.proofs.Math.Nat.{suc-mul, mul-le-mul_right}

@@ -10,6 +10,6 @@ use Rattle.scenarios.specs.declared.proxies.Proxy.{Proxy}
 abbrev pub met_of : ℕ × Proxy → MetProxy
 met_of (number, proxy) = record { number = number; enabled = proxy.enabled; up = proxy.up; down = proxy.down }
 
--- the first proxy of a scenario, which is seen as its proxies in order, that stands before a server, if one does
+-- the first proxy of a scenario, which is seen as its proxies in order, that is for a server, if one is
 abbrev pub met_proxy : Peer → List Proxy → Option MetProxy
 met_proxy server proxies = option_map met_of (find (λ x. leads_to server x.1) (enumerate_from 0 proxies))

@@ -22,7 +22,7 @@ fn met_of(number: u32, proxy: &Proxy) -> MetProxy<'_>
     }
 }
 
-/// The proxy of a scenario that a connection to a server meets: the first that stands before it.
+/// The proxy of a scenario that a connection to a server meets: the first that is for it.
 pub(crate) fn met_proxy(scenario: &Scenario, server: Peer) -> Option<MetProxy<'_>>
     ensures met { option_map met_view result ≡ met_proxy server scenario.now }
     ensures few_up { IfSome result (λ m. length m.up.now ≤ most_toxics) }

@@ -24,10 +24,10 @@ scenario_of_tree hosts d = with (as_array d) (of_text NotArray) (proxies_from ho
 abbrev pub scenario : List KnownHost → List ℕ → Result (List Proxy) Refusal
 scenario hosts text = with (tree text) (of_text NotJson) (scenario_of_tree hosts)
 
--- whether a proxy stands before a server
+-- whether a proxy is for a server
 abbrev pub leads_to : Peer → Proxy → Bool
 leads_to server p = p.upstream.addr == server.addr && p.upstream.port == server.port
 
--- the number of the first proxy that stands before a server
+-- the number of the first proxy that is for a server
 abbrev pub met_number : Peer → List Proxy → Option ℕ
 met_number server proxies = position (leads_to server) proxies

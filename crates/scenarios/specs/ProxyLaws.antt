@@ -27,7 +27,7 @@ AddressesAreDotted =
 
 -- ---- the proxy that a server meets
 
--- the proxy with this number stands before the server, and none before it does
+-- the proxy with this number is for the server, and none before it is
 pub record IsFirstFor (server : Peer) (proxies : List Proxy) (number : ℕ) : Type 0 where
   pub before : List Proxy
   pub proxy : Proxy
@@ -37,7 +37,7 @@ pub record IsFirstFor (server : Peer) (proxies : List Proxy) (number : ℕ) : Ty
   pub leads : proxy.upstream ≡ server
   pub others : AllByRecursion (λ p. p.upstream ≢ server) before
 
--- a server meets the first proxy that stands before it, and none where none does
+-- a server meets the first proxy that is for it, and none where none is
 abbrev pub FirstIsMet : Type 0
 FirstIsMet =
     (server : Peer) (proxies : List Proxy)

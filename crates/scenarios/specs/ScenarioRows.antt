@@ -1,4 +1,4 @@
--- Worked rows of scenario files, of the server that a proxy stands before, and of hosts.
+-- Worked rows of scenario files, of the server that a proxy is for, and of hosts.
 use Rattle.std.specs.Prelude.{◌≡◌, ℕ, List, [], ◌∷◌, ◌++◌, codes, Bool, true, false, Some, None, Ok, Err}
 use Rattle.conn_table.specs.RowSegments.{server}
 use Rattle.scenarios.specs.Refusals.{of_text, of_proxy, of_toxic}
@@ -47,7 +47,7 @@ pub record HostsUnknown : Type 0 where
 
 -- ---- files of proxies
 
--- the JSON of a proxy for 10.0.0.2:80 with a name and further members
+-- the JSON of a proxy for 10.0.0.2:80 with a name and further fields
 abbrev pub proxy_json : List ℕ → List ℕ → List ℕ
 proxy_json name more = codes "{\"name\":\"" ++ name ++ codes "\",\"upstream\":\"10.0.0.2:80\"" ++ more ++ codes "}"
 
@@ -63,7 +63,7 @@ proxy_named name enabled = record { name = name; upstream = server; enabled = en
 abbrev pub web : Proxy
 web = proxy_named (codes "web") true
 
--- members may be absent, or null, or unknown; of a repeated one the last counts
+-- fields may be absent, or null, or unknown; of a repeated one the last counts
 pub record ProxiesTold : Type 0 where
   pub plain : scenario [] (of_one []) ≡ Ok (web ∷ [])
   pub whole : scenario [] (of_one (codes ",\"listen\":\"127.0.0.1:20080\",\"enabled\":true,\"toxics\":[]"))

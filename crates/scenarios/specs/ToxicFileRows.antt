@@ -31,7 +31,7 @@ latency text =
 abbrev pub toxicity : List ℕ → List ℕ
 toxicity more = toxic_text (codes "latency") more (codes "\"latency\":100")
 
--- an upstream toxic with a name and further members
+-- an upstream toxic with a name and further fields
 abbrev pub named_toxic : List ℕ → List ℕ → List ℕ
 named_toxic name more =
     codes "{\"type\":\"timeout\",\"stream\":\"upstream\",\"name\":\"" ++ name ++ codes "\"" ++ more ++ codes "}"
@@ -89,7 +89,7 @@ pub record StreamsRead : Type 0 where
 
 -- ---- what is refused
 
--- an unknown type, one that is empty, and none; another stream; members of the wrong kinds
+-- an unknown type, one that is empty, and none; another stream; fields of the wrong kinds
 pub record WordsRefused : Type 0 where
   pub type_is : read_toxics (toxic_text (codes "explode") [] []) ≡ Err (of_toxic 0 0 UnknownToxic)
   pub typeless : read_toxics (toxic_text [] [] []) ≡ Err (of_toxic 0 0 UnknownToxic)

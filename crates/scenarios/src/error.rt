@@ -12,8 +12,8 @@ pub enum Cause {
     /// The text is no JSON array.
     #[error("the text is no array of proxies")]
     NotArray,
-    /// A member that has to be there is missing, or a member is of the wrong kind; or the item is no object.
-    #[error("a member is missing or of the wrong kind")]
+    /// A field that has to be there is missing, or a field is of the wrong kind; or the item is no object.
+    #[error("a field is missing or of the wrong kind")]
     BadMember,
     /// An earlier proxy has the name.
     #[error("an earlier proxy has the name")]

@@ -18,12 +18,12 @@ use std::alloc::{AllocError, Global};
 // The greatest number of proxies of a scenario.
 const PROXY_LIMIT: usize = 64;
 
-/// A proxy: what it is called, whom it stands before, whether it takes connections, and what it does to them.
+/// A proxy: what it is called, which server it is for, whether it takes connections, and what it does to them.
 #[derive(Debug, Drop)]
 pub struct Proxy {
     /// Its name: no other proxy of the scenario has it.
     pub name: NameText,
-    /// The server that it stands before.
+    /// The server that it is for.
     pub upstream: Peer,
     /// Whether it takes connections: one that does not refuses each.
     pub enabled: bool,

@@ -47,7 +47,7 @@ impl Scenario {
         &self.proxies
     }
 
-    /// The number of the first proxy that stands before a server, if one does.
+    /// The number of the first proxy that is for a server, if one is.
     pub fn proxy_of(&self, server: Peer) -> Option<u32>
         ensures { result ≡ met_number server self.now }
     {
@@ -56,14 +56,14 @@ impl Scenario {
     }
 }
 
-// Whether a proxy stands before a server.
+// Whether a proxy is for a server.
 fn leads_to(proxy: &Proxy, server: Peer) -> bool
     ensures { result ≡ leads_to server proxy.now }
 {
     proxy.upstream == server
 }
 
-// The place of the first proxy that stands before a server, if one does.
+// The place of the first proxy that is for a server, if one is.
 fn first_for(proxies: &[Proxy], server: Peer) -> Option<usize>
     ensures exact { result ≡ met_number server proxies.now }
     ensures within { IfSome result (λ number. number < length proxies.now) }

@@ -1,4 +1,4 @@
--- Segments that are laid out, as they are written: those of one line, and those of a connection in order of key.
+-- Segments in outline, as they are written: those of one line, and those of a connection in order of key.
 use Rattle.std.proofs.Common.{◌≡◌, Bool, true, false, not, List, [], ◌∷◌, ◌++◌, map, refl, sym, ap, ap₂, ◌∙◌, subst}
 use Rattle.std.specs.List.{AllByRecursion}
 use Rattle.std.proofs.lemmas.List.{map-append}
@@ -45,9 +45,9 @@ module _ (client : Sender) (up down : List LinePart) (first : client.is_server �
   down_outlined l outline = subst (λ (b : Bool). IsOutline (side_sender client b) (parts_of up down b) l) (sym (down_side l outline))
       (record { side = outline.side; early = outline.early; small = outline.small; within = outline.within; cursor = outline.cursor })
 
--- ---- what is laid out in order of key is written in order of key
+-- ---- outlines in order of key are written in order of key
 
--- whether a segment that is laid out has the lower key
+-- whether a segment in outline has the lower key
 abbrev pub outline_below : SegmentOutline → SegmentOutline → Bool
 outline_below = has_lower_key (λ l. l.key)
 

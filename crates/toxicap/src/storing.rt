@@ -18,7 +18,7 @@ use std::alloc::Global;
 use std::thread::Threads;
 
 /// Rehearses a capture under each of the scenarios and puts the files of their outputs into a folder, in order: those that `store_all`
-/// puts of what `rehearse` answers. SegmentOutline out are no more scenarios at once than there are workers, and there are drafts of at most twice
+/// puts of what `rehearse` answers. Outlines are made of no more scenarios at once than there are workers, and there are drafts of at most twice
 /// as many.
 ///
 /// # Errors

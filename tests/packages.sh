@@ -211,7 +211,51 @@ if can "the module for Go" go gcc; then
     shared "the module" "$away/toxicap-$version-go/share/toxicap"
     verdict "the module, as gofmt lays it out" "$(in_module gofmt -l . 2>&1)"
     verdict "the module, go vet" "$(quiet in_module go vet ./...)"
-    verdict "the module's example" "$(in_module go test -count=1 ./... > "$work/told" 2>&1 || cat "$work/told")"
+    verdict "the module's tests, under the race detector" "$(in_module go test -race -count=1 ./... > "$work/told" 2>&1 || cat "$work/told")"
+    mkdir "$away/golden-go"
+    cat > "$away/golden-go/slow_test.go" <<'END'
+package suite
+
+import (
+	"os"
+	"testing"
+
+	"example.org/toxicap"
+	"example.org/toxicap/golden"
+)
+
+func TestSlow(t *testing.T) {
+	capture, err := os.ReadFile(os.Getenv("SAMPLE"))
+	if err != nil {
+		t.Fatal(err)
+	}
+	outputs, err := toxicap.Rehearse(capture, [][]byte{[]byte("[]")}, nil, 0)
+	if err != nil {
+		t.Fatal(err)
+	}
+	golden.Compare(t, "testdata/slow", outputs[0])
+}
+END
+    # golden STATUS WORD..: runs that test in a module of its own, with these words; what it prints is in told
+    golden() {
+        local due=$1 status=0
+        shift
+        (cd "$away/golden-go" && SAMPLE=$PWD/../toxicap-$version-go/share/toxicap/samples/http-get.pcap out_of_reach go test -count=1 "$@") \
+            > "$work/told" 2>&1 || status=$?
+        [ $status = "$due" ] || { echo "  status $status"; cat "$work/told"; }
+    }
+    (
+        cd "$away/golden-go"
+        go mod init suite
+        go mod edit -go=1.18 -require=example.org/toxicap@v1.0.0 "-replace=example.org/toxicap=../toxicap-$version-go"
+    ) > "$work/told" 2>&1
+    verdict "Go without golden files" "$(golden 1; grep -q 'there is no golden file testdata/slow.pcap' "$work/told" || cat "$work/told"; [ ! -e "$away/golden-go/testdata" ] || echo '  there is one')"
+    verdict "go test -toxicap-update" "$(golden 0 -toxicap-update; holds "$away/golden-go/testdata" slow.pcap slow.txt; golden 0)"
+    verdict "Go with another golden file" "$(
+        sed -i 's:216/216:217/216:' "$away/golden-go/testdata/slow.txt"
+        golden 1
+        grep -q 'the golden file testdata/slow.txt differs from byte [0-9]* on' "$work/told" || cat "$work/told"
+    )"
     verdict "the module, vendored" "$(
         mkdir "$away/suite"
         cd "$away/suite"

@@ -8,6 +8,7 @@ import (
 	"net/http"
 	"os"
 	"strings"
+	"sync"
 	"testing"
 
 	"example.org/toxicap"
@@ -112,4 +113,38 @@ func TestReports(t *testing.T) {
 	if outputs, err := toxicap.Rehearse(capture, nil, nil, 0); err != nil || len(outputs) != 0 {
 		t.Errorf("%v, %v", outputs, err)
 	}
+}
+
+// Any goroutine may call: eight at once get the bytes that one alone gets.
+func TestManyAtOnce(t *testing.T) {
+	capture, err := os.ReadFile("share/toxicap/samples/shop.pcap")
+	if err != nil {
+		t.Fatal(err)
+	}
+	scenarios := [][]byte{[]byte("[]"), []byte(limit)}
+	alone, err := toxicap.Rehearse(capture, scenarios, nil, 7)
+	if err != nil {
+		t.Fatal(err)
+	}
+	var calls sync.WaitGroup
+	for i := 0; i < 8; i++ {
+		calls.Add(1)
+		go func() {
+			defer calls.Done()
+			for round := 0; round < 25; round++ {
+				outputs, err := toxicap.Rehearse(capture, scenarios, nil, 7)
+				if err != nil {
+					t.Error(err)
+					return
+				}
+				for number, output := range outputs {
+					if string(output.Capture) != string(alone[number].Capture) || string(output.Report) != string(alone[number].Report) {
+						t.Errorf("scenario %d has other bytes", number)
+						return
+					}
+				}
+			}
+		}()
+	}
+	calls.Wait()
 }

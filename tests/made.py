@@ -180,16 +180,17 @@ def with_clauses(code, head, none=''):
 
 
 def made_edits():
-    """Each wrong body that has an edit: the functions that it changes, in their file, with the names of their clauses."""
+    """Each wrong body that has an edit: the functions that it changes, in their file, with the names of their clauses, or the definitions."""
     for crate in uses():
         found = {}
         for path in edits(crate):
             edit = read(path)
-            file = re.search(r'^file: src/(.*)\.rt$', edit, re.M)[1]
-            code = read(TREE / 'crates' / crate / 'src' / f'{file}.rt')
-            heads = [function_at(code, code.index(old)) for old in re.findall(r'^old: *(.*)$', edit, re.M)]
-            functions = ', '.join(dict.fromkeys(with_clauses(code, head) for head in heads))
-            found.setdefault(file, {}).setdefault(functions, []).append(path.stem)
+            folder, file, suffix = re.search(r'^file: (\w+)/(.*)(\.rt|\.antt)$', edit, re.M).groups()
+            code = read(TREE / 'crates' / crate / folder / f'{file}{suffix}')
+            olds = re.findall(r'^old: *(.*)$', edit, re.M)
+            if suffix == '.rt': told = [with_clauses(code, function_at(code, code.index(old))) for old in olds]
+            else: told = [f'`{old.split()[0]}`' for old in olds]  # a definition
+            found.setdefault(file, {}).setdefault(', '.join(dict.fromkeys(told)), []).append(path.stem)
         if found: yield f'- `{crate}`, {len(edits(crate))}.\n'
         for file, bodies in found.items():
             yield f'  - `{file}`: ' + '; '.join(f'{functions} by {", ".join(wrong)}' for functions, wrong in bodies.items()) + '\n'

@@ -1,0 +1,5 @@
+mod BlankLists
+mod BlankConnections
+mod BlankLines
+mod BlankToxics
+mod BlankReports

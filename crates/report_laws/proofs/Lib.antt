@@ -1,5 +1,5 @@
-mod BlankLists
-mod BlankConnections
-mod BlankLines
-mod BlankToxics
-mod BlankReports
+mod MappedLists
+mod ZeroedConnections
+mod ZeroedLines
+mod ZeroedToxics
+mod ZeroedReports

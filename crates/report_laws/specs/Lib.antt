@@ -1,1 +1,1 @@
-pub mod BlankPayloads
+pub mod ZeroedPayloads

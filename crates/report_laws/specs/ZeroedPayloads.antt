@@ -8,25 +8,25 @@ use Rattle.toxicap.specs.PrintedReports.{reports_in}
 use Rattle.toxicap.specs.Rehearsal.{answer}
 
 -- as many bytes, of which each is 0
-abbrev pub blank : List ℕ → List ℕ
-blank bytes = map (λ byte. 0) bytes
+abbrev pub zeroed : List ℕ → List ℕ
+zeroed bytes = map (λ byte. 0) bytes
 
-abbrev pub blank_fields : SegmentFields → SegmentFields
-blank_fields f = record f { payload = blank f.payload }
+abbrev pub zeroed_fields : SegmentFields → SegmentFields
+zeroed_fields f = record f { payload = zeroed f.payload }
 
-abbrev pub blank_frame : SeenFrame → SeenFrame
-blank_frame f = record f { fields = blank_fields f.fields }
+abbrev pub zeroed_frame : SeenFrame → SeenFrame
+zeroed_frame f = record f { fields = zeroed_fields f.fields }
 
-abbrev pub blank_packet : SeenPacket → SeenPacket
-blank_packet p = record p { frame = blank_frame p.frame }
+abbrev pub zeroed_packet : SeenPacket → SeenPacket
+zeroed_packet p = record p { frame = zeroed_frame p.frame }
 
--- a capture whose payloads are blank
-abbrev pub blank_seen : SeenCapture → SeenCapture
-blank_seen c = record c { packets = map blank_packet c.packets }
+-- a capture whose payloads are zeroed
+abbrev pub zeroed_seen : SeenCapture → SeenCapture
+zeroed_seen c = record c { packets = map zeroed_packet c.packets }
 
 -- two captures differ in bytes of payloads alone, if at all
 abbrev pub DifferInPayloads : SeenCapture → SeenCapture → Type 0
-DifferInPayloads one other = blank_seen one ≡ blank_seen other
+DifferInPayloads one other = zeroed_seen one ≡ zeroed_seen other
 
 -- the reports of two such captures, one after another, are the same
 abbrev pub ReportsSeeLengths : Type 0

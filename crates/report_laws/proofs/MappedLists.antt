@@ -4,7 +4,7 @@ use Rattle.std.specs.List.{enumerate_from, last_or, find, prefix_len, take_while
 use Rattle.std.specs.Option.{option_map}
 use Rattle.std.proofs.Math.Path.{fun_ext}
 use Rattle.std.proofs.lemmas.List.{take-map}
-use Rattle.report_laws.specs.BlankPayloads.{blank}
+use Rattle.report_laws.specs.ZeroedPayloads.{zeroed}
 
 -- ---- functions that agree
 
@@ -66,8 +66,8 @@ zip_mapped f g h blind [] ys = refl
 zip_mapped f g h blind (x ∷ xs) [] = refl
 zip_mapped f g h blind (x ∷ xs) (y ∷ ys) = ap₂ (λ z zs. z ∷ zs) (blind x y) (zip_mapped f g h blind xs ys)
 
--- every byte of a blank list is 0
-pub blank_at : (xs : List ℕ) (i : ℕ) → slice_index (blank xs) i ≡ zero
-blank_at [] i = refl
-blank_at (x ∷ xs) zero = refl
-blank_at (x ∷ xs) (suc i) = blank_at xs i
+-- every byte of a zeroed list is 0
+pub zero_at : (xs : List ℕ) (i : ℕ) → slice_index (zeroed xs) i ≡ zero
+zero_at [] i = refl
+zero_at (x ∷ xs) zero = refl
+zero_at (x ∷ xs) (suc i) = zero_at xs i

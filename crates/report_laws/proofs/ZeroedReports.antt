@@ -1,0 +1,138 @@
+-- Reports of a capture whose payloads are zeroed: those of the capture.
+use Rattle.std.proofs.Common.{◌≡◌, ℕ, ◌+◌, ◌-◌, Bool, true, false, cond, nat_lt, ◌==◌, if◌then◌else◌, List, [], ◌∷◌, ◌++◌, length, map, codes, decimal, Option, Result, Ok, Err, refl, sym, ap, ap₂, ◌∙◌}
+use Rattle.std.specs.List.{enumerate_from, flat_map}
+use Rattle.std.proofs.lemmas.List.{length-map}
+use Rattle.pcap_records.specs.Instants.{greatest}
+use Rattle.pcap_records.specs.Reading.{Reading, reading}
+use Rattle.pcap_records.specs.declared.fault.CaptureFault.{CaptureFault}
+use Rattle.frame_headers.specs.Frame.{FrameClass, short, not_ipv4, bad_ipv4, fragment, not_tcp, cut, bad_tcp, same_ends, segment}
+use Rattle.frame_headers.specs.declared.peers.Peer.{Peer}
+use Rattle.conn_table.specs.SeenCapture.{SeenPacket, SeenCapture, seen_capture}
+use Rattle.conn_table.specs.ClassCounts.{count_of, class_number, counts_of}
+use Rattle.conn_table.specs.IndexedSegments.{IndexedSegment, indexed_segments}
+use Rattle.conn_table.specs.Connections.{Connection, connections, unopened_count}
+use Rattle.reassembly.specs.Positions.{client_of, server_of, vlan_of}
+use Rattle.reassembly.specs.RecordedLines.{LineByte, Line, RecordedSide, RecordedConnection, recorded_connection}
+use Rattle.toxic_defs.specs.DeliveredLines.{MetProxy, DeliveredConnection, delivered_connection}
+use Rattle.report.specs.ReportText.{peers_text, counts_text, counts_text_of, connections_text, longest_delay, end_word, side_text, connection_text, report_text}
+use Rattle.scenarios.specs.declared.proxies.Proxy.{Proxy}
+use Rattle.conn_workers.specs.MetProxies.{met_proxy}
+use Rattle.conn_workers.specs.Contributions.{contribution, contribution_of}
+use Rattle.run_files.specs.declared.error.RunFault.{RunFault}
+use Rattle.run_files.specs.declared.error.RunFault.TheVariants.{TooManyScenarios}
+use Rattle.run_files.specs.WrittenOutputs.{reports_of}
+use Rattle.toxicap.specs.PrintedReports.{reports_in}
+use Rattle.toxicap.specs.Rehearsal.{contributions, scenario_output, outputs_of, seen_file, answer_to, answer, scenario_limit}
+use Rattle.report_laws.specs.ZeroedPayloads.{zeroed_packet, zeroed_seen, ReportsSeeLengths}
+use Rattle.report_laws.proofs.MappedLists.{map_same, map_map, fold_mapped, zip_mapped}
+use Rattle.report_laws.proofs.ZeroedConnections.{zeroed_connection, indexed_zeroed, connections_zeroed, unopened_same}
+use Rattle.report_laws.proofs.ZeroedLines.{zeroed_byte, zeroed_line, zeroed_side, zeroed_recorded, connection_recorded}
+use Rattle.report_laws.proofs.ZeroedToxics.{zeroed_delivered, delivered_zeroed}
+
+-- ---- counts
+
+count_zeroed : (k : FrameClass) (packets : List SeenPacket) → count_of k (map zeroed_packet packets) ≡ count_of k packets
+count_zeroed k packets = fold_mapped (λ (n : ℕ) (p : SeenPacket). n + cond (class_number p.frame.class == class_number k) 1 0) zeroed_packet 0 packets
+
+counts_zeroed : (packets : List SeenPacket) → counts_of (map zeroed_packet packets) ≡ counts_of packets
+unfolding counts_of
+counts_zeroed packets = λ i. record {
+  segment = count_zeroed segment packets i;
+  short = count_zeroed short packets i;
+  not_ipv4 = count_zeroed not_ipv4 packets i;
+  bad_ipv4 = count_zeroed bad_ipv4 packets i;
+  fragment = count_zeroed fragment packets i;
+  not_tcp = count_zeroed not_tcp packets i;
+  cut = count_zeroed cut packets i;
+  bad_tcp = count_zeroed bad_tcp packets i;
+  same_ends = count_zeroed same_ends packets i;
+}
+
+-- ---- a connection's line
+
+delay_zeroed : (recorded delivered : List LineByte) → longest_delay (map zeroed_byte recorded) (map zeroed_byte delivered) ≡ longest_delay recorded delivered
+delay_zeroed recorded delivered = ap greatest (zip_mapped zeroed_byte zeroed_byte (λ (r, d). d.at - r.at) (λ r d. refl) recorded delivered)
+
+side_zeroed : (opened : ℕ) (refused : Bool) (s : RecordedSide) (f : Line) → side_text opened refused (zeroed_side s) (zeroed_line f) ≡ side_text opened refused s f
+side_zeroed opened refused s f = λ i.
+    decimal (length-map f.bytes zeroed_byte i) ++ (codes "/" ++ (decimal (length-map s.line.bytes zeroed_byte i) ++ (codes "/" ++ (decimal s.lost
+    ++ (codes " " ++ (end_word refused opened f.end ++ (codes " max " ++ decimal (delay_zeroed s.line.bytes f.bytes i))))))))
+
+text_zeroed : (number : ℕ) (vlan : Option ℕ) (client server : Peer) (r : RecordedConnection) (d : DeliveredConnection)
+    → connection_text number vlan client server (zeroed_recorded r) (zeroed_delivered d) ≡ connection_text number vlan client server r d
+unfolding connection_text
+text_zeroed number vlan client server r d =
+    ap₂ (λ up down. peers_text number vlan client server d.proxy ++ (codes " up " ++ (up ++ (codes " down " ++ (down ++ codes "\n")))))
+    (side_zeroed r.opened d.refused r.up d.up) (side_zeroed r.opened d.refused r.down d.down)
+
+line_zeroed : (ticks seed : ℕ) (s : ℕ × List Proxy) (c : Connection) → (contribution_of ticks seed s (zeroed_connection c)).line ≡ (contribution_of ticks seed s c).line
+unfolding contribution
+line_zeroed ticks seed (number, proxies) c =
+    let met : Option MetProxy = met_proxy (server_of c) proxies in
+    let text : RecordedConnection → DeliveredConnection → List ℕ = connection_text c.number (vlan_of c) (client_of c) (server_of c) in
+    let r : RecordedConnection = recorded_connection c in
+    ap (λ (x : RecordedConnection). text x (delivered_connection ticks seed number c.number met x)) (connection_recorded c)
+    ∙ ap (text (zeroed_recorded r)) (delivered_zeroed ticks seed number c.number met r)
+    ∙ text_zeroed c.number (vlan_of c) (client_of c) (server_of c) r (delivered_connection ticks seed number c.number met r)
+
+-- ---- reports
+
+module _ (c : SeenCapture) (seed : ℕ) where
+  segs : List IndexedSegment
+  segs = indexed_segments 0 c.packets
+
+  lines_zeroed : (s : ℕ × List Proxy) → map (λ p. p.line) (contributions (zeroed_seen c) seed s) ≡ map (λ p. p.line) (contributions c seed s)
+  unfolding segs
+  lines_zeroed s =
+      let contributed = contribution_of c.ticks seed s in
+      ap (λ xs. map (λ p. p.line) (map contributed (connections xs))) (indexed_zeroed 0 c.packets)
+      ∙ ap (λ cs. map (λ p. p.line) (map contributed cs)) (connections_zeroed segs)
+      ∙ map_map (λ p. p.line) contributed (map zeroed_connection (connections segs))
+      ∙ map_map (λ x. (contributed x).line) zeroed_connection (connections segs)
+      ∙ map_same (λ x. (contributed (zeroed_connection x)).line) (λ x. (contributed x).line) (line_zeroed c.ticks seed s) (connections segs)
+      ∙ sym (map_map (λ p. p.line) contributed (connections segs))
+
+  counts_text_zeroed : (s : ℕ) → counts_text s (zeroed_seen c) ≡ counts_text s c
+  unfolding counts_text
+  counts_text_zeroed s = ap₂ (λ many counts. counts_text_of s many c.rest counts) (length-map c.packets zeroed_packet) (counts_zeroed c.packets)
+
+  unopened_zeroed : unopened_count (indexed_segments 0 (map zeroed_packet c.packets)) ≡ unopened_count segs
+  unfolding segs
+  unopened_zeroed = ap unopened_count (indexed_zeroed 0 c.packets) ∙ unopened_same segs
+
+  report_zeroed : (s : ℕ × List Proxy) → (scenario_output (zeroed_seen c) seed s).report ≡ (scenario_output c seed s).report
+  unfolding scenario_output report_text segs
+  report_zeroed s = λ i.
+      counts_text_zeroed s.0 i ++ (connections_text (length (lines_zeroed s i)) (unopened_zeroed i) ++ flat_map (λ line. line) (lines_zeroed s i))
+
+  each_zeroed : (scenarios : List (ℕ × List Proxy))
+      → flat_map (λ o. o.report) (map (scenario_output (zeroed_seen c) seed) scenarios) ≡ flat_map (λ o. o.report) (map (scenario_output c seed) scenarios)
+  each_zeroed [] = refl
+  each_zeroed (s ∷ scenarios) = ap₂ (λ (report more : List ℕ). report ++ more) (report_zeroed s) (each_zeroed scenarios)
+
+  reports_zeroed : (scenarios : List (List Proxy)) → reports_of (outputs_of (zeroed_seen c) scenarios seed) ≡ reports_of (outputs_of c scenarios seed)
+  unfolding outputs_of
+  reports_zeroed scenarios = each_zeroed (enumerate_from 0 scenarios)
+
+-- ---- answers
+
+module _ (scenarios : List (List Proxy)) (seed : ℕ) where
+  reports_by : Bool → Result SeenCapture CaptureFault → Result (List ℕ) RunFault
+  reports_by too_many seen = reports_in (if too_many then Err TooManyScenarios else answer_to seen scenarios seed)
+
+  as_zeroed : (too_many : Bool) (c : SeenCapture) → reports_by too_many (Ok c) ≡ reports_by too_many (Ok (zeroed_seen c))
+  unfolding reports_by
+  as_zeroed true c = refl
+  as_zeroed false c = ap Ok (sym (reports_zeroed c seed scenarios))
+
+  pub answers_same : (one other : List ℕ) (a b : Reading) → reading one ≡ Ok a → reading other ≡ Ok b → zeroed_seen (seen_capture a.contents) ≡ zeroed_seen (seen_capture b.contents)
+      → reports_in (answer one scenarios seed) ≡ reports_in (answer other scenarios seed)
+  unfolding answer reports_by
+  answers_same one other a b is_one is_other alike =
+      let too_many = nat_lt scenario_limit (length scenarios) in
+      ap (λ r. reports_by too_many (seen_file r)) is_one ∙ as_zeroed too_many (seen_capture a.contents)
+      ∙ ap (λ c. reports_by too_many (Ok c)) alike
+      ∙ sym (as_zeroed too_many (seen_capture b.contents)) ∙ sym (ap (λ r. reports_by too_many (seen_file r)) is_other)
+
+pub reports_see_lengths : ReportsSeeLengths
+reports_see_lengths one other a b is_one is_other alike scenarios seed = answers_same scenarios seed one other a b is_one is_other alike

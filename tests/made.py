@@ -189,7 +189,7 @@ def made_edits():
             code = read(TREE / 'crates' / crate / folder / f'{file}{suffix}')
             olds = re.findall(r'^old: *(.*)$', edit, re.M)
             if suffix == '.rt': told = [with_clauses(code, function_at(code, code.index(old))) for old in olds]
-            else: told = [f'`{old.split()[0]}`' for old in olds]  # a definition
+            else: told = [f'`{old.split()[0]}`' for old in olds if not old.startswith('use ')]  # definitions
             found.setdefault(file, {}).setdefault(', '.join(dict.fromkeys(told)), []).append(path.stem)
         if found: yield f'- `{crate}`, {len(edits(crate))}.\n'
         for file, bodies in found.items():

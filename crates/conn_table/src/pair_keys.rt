@@ -1,4 +1,4 @@
-//! How pairs are hashed: by SipHash, with a key that is bound to the openings of a capture. Whoever makes a capture can work out its
+//! How pairs are hashed: by SipHash, which takes a key first that is bound to the openings of a capture. Whoever makes a capture can work out its
 //! key, and try many captures; but other pairs have another key, and SipHash is made so that no pairs are bad for more keys than others.
 ghost use Rattle.std.specs.Prelude.{◌≡◌};
 ghost use Rattle.conn_table.specs.PairWords.{addrs_word, ports_word};
@@ -31,7 +31,7 @@ pub(crate) fn addrs_word(pair: Pair) -> u64
     (u64::from(pair.low.addr) << 32) + u64::from(pair.high.addr)
 }
 
-// The ports of a pair's peers and the number of its VLAN side by side, 0 in place of one more where it has none.
+// The ports of a pair's peers side by side, and beside them one more than the number of its VLAN, or 0 where it has none.
 #[tactic(auto, unfolding(crate::specs::PairWords::ports_word))]
 pub(crate) fn ports_word(pair: Pair) -> u64
     ensures { result ≡ ports_word pair }

@@ -19,8 +19,8 @@ pub type DraftedOutput<D> = (D, D);
 /// this number.
 ///
 /// # Errors
-/// The first file that cannot be stored ends it; none is tried again. The folder then has the files before that one and no other;
-/// `after` says how many they are, with those of the outputs of lower numbers.
+/// The first file that cannot be stored ends it; none is tried again. The files before that one have got their names then, and no other
+/// has; `after` says how many they are, with those of the outputs of lower numbers.
 pub fn store_draft<D: Disk>(
     alloc: Global,
     number: usize,

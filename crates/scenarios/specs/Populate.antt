@@ -1,4 +1,4 @@
--- Scenarios: a JSON array of proxies in Toxiproxy's form.
+-- Scenarios: a JSON array of proxies in Toxiproxy's form; and which of its proxies a connection meets.
 use Rattle.std.specs.Prelude.{ℕ, ◌&&◌, ◌==◌, List, [], Bool, if◌then◌else◌, Option, None, position, Result}
 use Rattle.std.specs.Str.{is_utf8}
 use Rattle.serde_json.specs.Data.{Data}
@@ -28,6 +28,6 @@ scenario hosts text = with (tree text) (of_text NotJson) (scenario_of_tree hosts
 abbrev pub leads_to : Peer → Proxy → Bool
 leads_to server p = p.upstream.addr == server.addr && p.upstream.port == server.port
 
--- the number of the first proxy that is for a server
+-- The number of the first proxy that is for a server, enabled or not. A later one for the same server is met by no connection.
 abbrev pub met_number : Peer → List Proxy → Option ℕ
 met_number server proxies = position (leads_to server) proxies

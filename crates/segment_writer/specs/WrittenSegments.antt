@@ -187,7 +187,7 @@ has_lower_key key x y = is_key_below (key x) (key y)
 abbrev pub below : Framed → Framed → Bool
 below = has_lower_key (λ x. x.key)
 
--- into a list in order, before the first that has a higher key
+-- into a list in order, before the first whose key is no lower
 abbrev pub insert_by_key : Framed → List Framed → List Framed
 insert_by_key x [] = x ∷ []
 insert_by_key x (y ∷ ys) = if is_key_below y.key x.key then y ∷ insert_by_key x ys else x ∷ y ∷ ys

@@ -1,4 +1,4 @@
-//! Drafts of outputs, made by workers: those of some scenarios at once, each by one of them.
+//! Drafts of outputs, made by workers in rounds: in each those of a few scenarios, of which a worker makes one after another.
 ghost use Rattle.std.specs.Prelude.{◌≡◌, ◌≢◌, ◌+◌, ◌<◌, ◌≤◌, IfOk, drop, get_or, length, take};
 ghost use Rattle.std.specs.List.{AllPairs};
 ghost use Rattle.toxicap.specs.CaptureOutputs.{no_output, outputs_from};
@@ -14,7 +14,7 @@ use std::alloc::AllocError;
 use std::marker::Model;
 use std::thread::Threads;
 
-// How many scenarios each worker has drafts of at once, where there are as many.
+// How many scenarios a round has for each worker, where as many are left.
 const SHARE: usize = 2;
 
 /// The output of one scenario, as drafts. Contracts see the output, and the paths of its drafts.

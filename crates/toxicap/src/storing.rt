@@ -22,8 +22,8 @@ use std::thread::Threads;
 /// as many.
 ///
 /// # Errors
-/// Those of `rehearse`, and [`RunFault::ShelfFailed`] at the first file that the folder does not take. The folder then has the files
-/// before that one; where memory is wanting it has a first part of the files, and at any other refusal none of them.
+/// Those of `rehearse`, and [`RunFault::ShelfFailed`] at the first file that the folder does not take. The files before that one have got
+/// their names then; where memory is wanting a first part of the files has, and at any other refusal none.
 pub(crate) fn store_rehearsal<R: Threads + Sync, D: Disk + Sync>(
     crew: &Workers<'_, R>,
     alloc: Global,

@@ -1,4 +1,5 @@
-//! The calls that C makes.
+//! The calls that C makes. Where the header has a pointer and a length there is a slice here, and `alloc` is no argument of C's: Rattle's
+//! `extern "C"` passes them so.
 ghost use Rattle.std.specs.Prelude.{[], List, ℕ};
 ghost use Rattle.toxicap.specs.PrintedReports.{reports_in};
 ghost use Rattle.toxicap_c.specs.Buffers.{buffers};
@@ -12,7 +13,7 @@ use run_files::{RunFault, fault_line};
 use std::alloc::Global;
 
 /// Rehearses the capture that a text holds under scenarios whose texts stand one after another in `scenarios`, of `scenario_lens` bytes
-/// each, and puts the outputs over the first of the buffers: the captures one after another, the reports one after another, and for each
+/// each, and puts the outputs at the beginnings of the buffers: the captures one after another, the reports one after another, and for each
 /// scenario the length of its capture and then of its report. `hosts` has a line `NAME=ADDR` for each host that upstreams may name. What
 /// stands after them in the buffers stays.
 ///
@@ -49,7 +50,7 @@ pub extern "C" fn toxicap_rehearse(
     code_of(hand_out(alloc, parameters, captures, reports, lens, sizes))
 }
 
-/// The reports that [`toxicap_rehearse`] puts, one after another over the first of `reports`. No segment is written.
+/// The reports that [`toxicap_rehearse`] puts, one after another at the beginning of `reports`. No segment is written.
 ///
 /// It returns 0 where it answers; `sizes.reports` says how much was put, and the other sizes are 0.
 ///

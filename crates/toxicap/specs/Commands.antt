@@ -12,8 +12,9 @@
 --   9. a write of the reports, or a file of the folder, fails (`PrintsBy` and `StoresBy`, in RunEnds).
 -- Want of memory comes where a growth was refused, anywhere among them. Nothing is said here of what a named file holds: `NamedFiles`
 -- does, and there 3 is the first scenario file that is at fault, and comes before 4 where the capture is a file too.
-use Rattle.std.specs.Prelude.{◌≡◌, ◌≢◌, IfErr, ℕ, ◌<◌, ◌⊎◌, List, length, take, Option, Some, None, Result, Ok, Err}
+use Rattle.std.specs.Prelude.{◌≡◌, ◌≢◌, IfErr, ℕ, ◌+◌, ◌<◌, ◌⊎◌, List, length, take, Option, Some, None, Result, Ok, Err}
 use Rattle.std.specs.Borrow.{Bor}
+use Rattle.std.specs.Io.KnownBytes.{Appends, Consumes, IsAtEnd}
 use Rattle.std.specs.String.{string_bytes}
 use Rattle.scenarios.specs.declared.hosts.KnownHost.{KnownHost}
 use Rattle.command_line.specs.declared.asked.Asked.{Asked}
@@ -22,6 +23,7 @@ use Rattle.command_line.specs.declared.error.Stop.TheVariants as stop
 use Rattle.run_files.specs.declared.error.RunFault.{RunFault}
 use Rattle.run_files.specs.declared.error.RunFault.TheVariants.{Memory, WriteFailed}
 use Rattle.run_files.specs.declared.outputs.Output.{Output}
+use Rattle.run_files.specs.Streams.{CountedView}
 use Rattle.toxicap.specs.Answering.{called_for}
 use Rattle.toxicap.specs.Inputs.{RefusesInputs, TakesInputs}
 use Rattle.toxicap.specs.RunEnds.{PrintsBy, StoresBy, Tells, WrittenSoFar, failed_reads, failed_writes, status_of, usage_status}
@@ -37,6 +39,17 @@ pub record Streams : Type 1 where
   pub Wrote : List ℕ → Type 0
   pub WritesFailed : ℕ → Type 0
 
+-- what is said of a reader, by the bytes that it has left, and of a writer, by the bytes that it holds, each as it was and as it is
+abbrev pub streams : {R W : Type 0} → (R → Option (List ℕ)) → CountedView R → CountedView R → (W → Option (List ℕ)) → CountedView W → CountedView W → Streams
+streams remaining r s contents w x = record {
+  Unread = s ≡ r;
+  Read = λ text n. Consumes (remaining r.inner) (remaining s.inner) text × (s.failed ≡ r.failed + n);
+  AtEnd = IsAtEnd (remaining s.inner);
+  Unwritten = x ≡ w;
+  Wrote = Appends (contents w.inner) (contents x.inner);
+  WritesFailed = λ n. x.failed ≡ w.failed + n;
+}
+
 -- What is said of standard error: that nothing was written to it, that bytes were, and how many of its writes had failed before and
 -- have failed now.
 pub record FaultStream : Type 1 where
@@ -44,6 +57,14 @@ pub record FaultStream : Type 1 where
   pub Told : List ℕ → Type 0
   pub before : ℕ
   pub now : ℕ
+
+abbrev pub fault_stream : {W : Type 0} → (W → Option (List ℕ)) → CountedView W → CountedView W → FaultStream
+fault_stream contents w x = record {
+  Untold = x ≡ w;
+  Told = Appends (contents w.inner) (contents x.inner);
+  before = w.failed;
+  now = x.failed;
+}
 
 -- the answers to a text are printed on standard output, or they are stored in a folder and nothing is printed
 abbrev pub AnswersInto : Option (Bor (List ℕ)) → Result (Unit {0}) RunFault → Result (List Output) RunFault → List ℕ → Type 0 → Type 0

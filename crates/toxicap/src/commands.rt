@@ -1,11 +1,11 @@
 //! The program: from the words of its command line to an exit status.
-ghost use Rattle.std.specs.Prelude.{◌≡◌, ◌≢◌, ◌+◌, ◌-◌, ◌^◌, ◌<◌, ◌≤◌, map, Result, Err};
+ghost use Rattle.std.specs.Prelude.{◌≡◌, ◌≢◌, ◌-◌, ◌^◌, ◌<◌, ◌≤◌, map, Result, Err};
 ghost use Rattle.std.specs.IoError.{error_kind};
-ghost use Rattle.std.specs.Io.KnownBytes.{Appends, Consumes, IsAtEnd};
+ghost use Rattle.std.specs.Io.KnownBytes.{Appends};
 ghost use Rattle.command_line.specs.Asking.{ReadsAs};
 ghost use Rattle.command_line.specs.declared.asked.Asked.{Asked};
 ghost use Rattle.command_line.specs.declared.error.Stop.{Stop};
-ghost use Rattle.toxicap.specs.Commands.{ProgramEnds};
+ghost use Rattle.toxicap.specs.Commands.{ProgramEnds, fault_stream, streams};
 ghost use Rattle.toxicap.specs.NamedFiles.{ProgramEndsOver};
 ghost use Rattle.toxicap.specs.RunEnds.{no_text, status_of, text_with_line_feed, usage_status, Tells, WrittenSoFar};
 
@@ -55,21 +55,7 @@ where
     // The command line is read, and how the program ends follows from what it asks for.
     ensures ends { (line : Result Asked Stop) × ReadsAs (map S.text words.now) line
         × ProgramEnds line result
-        (record {
-          Unread = input.new ≡ input.old;
-          Read = λ text n. Consumes (I.remaining input.old.inner) (I.remaining input.new.inner) text
-              × (input.new.failed ≡ input.old.failed + n);
-          AtEnd = IsAtEnd (I.remaining input.new.inner);
-          Unwritten = output.new ≡ output.old;
-          Wrote = Appends (O.contents output.old.inner) (O.contents output.new.inner);
-          WritesFailed = λ n. output.new.failed ≡ output.old.failed + n;
-        })
-        (record {
-          Untold = faults.new ≡ faults.old;
-          Told = Appends (E.contents faults.old.inner) (E.contents faults.new.inner);
-          before = faults.old.failed;
-          now = faults.new.failed;
-        }) }
+        (streams I.remaining input.old input.new O.contents output.old output.new) (fault_stream E.contents faults.old faults.new) }
 {
     let mut disk = HostDisk::new(rt);
     command_over(rt, &mut disk, alloc, words, input, output, faults)
@@ -110,21 +96,7 @@ where
     ensures usage { result ≡ 2 → (input.new ≡ input.old) × (output.new ≡ output.old) }
     ensures ends { (line : Result Asked Stop) × ReadsAs (map S.text words.now) line
         × ProgramEndsOver (D.history disk.old) (D.history disk.new) line result
-        (record {
-          Unread = input.new ≡ input.old;
-          Read = λ text n. Consumes (I.remaining input.old.inner) (I.remaining input.new.inner) text
-              × (input.new.failed ≡ input.old.failed + n);
-          AtEnd = IsAtEnd (I.remaining input.new.inner);
-          Unwritten = output.new ≡ output.old;
-          Wrote = Appends (O.contents output.old.inner) (O.contents output.new.inner);
-          WritesFailed = λ n. output.new.failed ≡ output.old.failed + n;
-        })
-        (record {
-          Untold = faults.new ≡ faults.old;
-          Told = Appends (E.contents faults.old.inner) (E.contents faults.new.inner);
-          before = faults.old.failed;
-          now = faults.new.failed;
-        }) }
+        (streams I.remaining input.old input.new O.contents output.old output.new) (fault_stream E.contents faults.old faults.new) }
 {
     match read_arguments(alloc, words) {
         Ok(asked) => {

@@ -4,7 +4,7 @@ ghost use Rattle.std.specs.Io.KnownBytes.{Appends, Consumes, IsAtEnd};
 ghost use Rattle.command_line.specs.Asking.{IsPlanInRange};
 ghost use Rattle.run_files.specs.declared.error.RunFault.{RunFault};
 ghost use Rattle.toxicap.specs.Answering.{called_for};
-ghost use Rattle.toxicap.specs.Commands.{RunsBy};
+ghost use Rattle.toxicap.specs.Commands.{RunsBy, streams};
 ghost use Rattle.disks.specs.Histories.{held_now};
 ghost use Rattle.toxicap.specs.NamedFiles.{EndsOf, LeavesDisk, LoadsFile, LoadsInput, RunsOver, texts_from};
 ghost use Rattle.toxicap.specs.RunEnds.{failed_writes};
@@ -46,24 +46,8 @@ where
     requires faults { D.faults disk.old < 2 ^ 64 - 1 }
     requires reads { reader.old.failed < 2 ^ 64 - 1 }
     requires writes { writer.old.failed < 2 ^ 64 - 1 }
-    ensures runs { RunsBy asked.now result (record {
-      Unread = reader.new ≡ reader.old;
-      Read = λ text n. Consumes (R.remaining reader.old.inner) (R.remaining reader.new.inner) text
-          × (reader.new.failed ≡ reader.old.failed + n);
-      AtEnd = IsAtEnd (R.remaining reader.new.inner);
-      Unwritten = writer.new ≡ writer.old;
-      Wrote = Appends (W.contents writer.old.inner) (W.contents writer.new.inner);
-      WritesFailed = λ n. writer.new.failed ≡ writer.old.failed + n;
-    }) }
-    ensures named { IfSome (D.history disk.old) (λ h. RunsOver h asked.now result (record {
-      Unread = reader.new ≡ reader.old;
-      Read = λ text n. Consumes (R.remaining reader.old.inner) (R.remaining reader.new.inner) text
-          × (reader.new.failed ≡ reader.old.failed + n);
-      AtEnd = IsAtEnd (R.remaining reader.new.inner);
-      Unwritten = writer.new ≡ writer.old;
-      Wrote = Appends (W.contents writer.old.inner) (W.contents writer.new.inner);
-      WritesFailed = λ n. writer.new.failed ≡ writer.old.failed + n;
-    }) (D.history disk.new)) }
+    ensures runs { RunsBy asked.now result (streams R.remaining reader.old reader.new W.contents writer.old writer.new) }
+    ensures named { IfSome (D.history disk.old) (λ h. RunsOver h asked.now result (streams R.remaining reader.old reader.new W.contents writer.old writer.new) (D.history disk.new)) }
     ensures failed_writes { writer.new.failed ≡ writer.old.failed + failed_writes result }
     ensures untouched { IfErr result (λ fault. fault ≢ RunFault.WriteFailed → writer.new ≡ writer.old) }
 {

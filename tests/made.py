@@ -3,7 +3,8 @@
 
 A page of docs/ has such a part between two lines, `<!-- made: NAME -->`, with a crate's name after it where there is one for each crate, and
 `<!-- end -->`. Without an argument each part is written anew. With `--check` nothing is written: a part that is not what would be written fails, and
-so does one that no page has; the last line is `N passed, M failed`. A further argument is the folder of another copy of the repository."""
+so does one that no page has. The captures in the folders data/ of crates are copies of samples, and are made, or compared, too. The last line is
+`N passed, M failed`. A further argument is the folder of another copy of the repository."""
 import pathlib, re, sys
 
 FOLDERS = [word for word in sys.argv[1:] if word != '--check']
@@ -127,7 +128,8 @@ def definitions(crate):
 
 
 def made_limits():
-    """Each constant that is a number: its value, the files where it stands, and the comment above it; and limits of definitions alone."""
+    """Each constant that is a number, but for places and types in headers: its value, the files where it stands, and the comment above it; and
+    limits of definitions alone."""
     yield '| Name | Value | Crate | Files | Meaning |\n|---|---|---|---|---|\n'
     for crate in product():
         specs, told = definitions(crate), set()
@@ -138,6 +140,7 @@ def made_limits():
                 if not constant: continue
                 name = constant[1].lower()
                 told.add(name)
+                if name.endswith(('_at', '_type')): continue  # where a field stands in a header, and the types of what follows
                 file, _, meaning = specs.get(name, ('', '', ''))
                 where = f'`{path.stem}`' + (f', `{file}`' if file else '')
                 yield f'| `{constant[1]}` | `{constant[2]}` | `{crate}` | {where} | {comment_above(lines, number, "//") or meaning} |\n'
@@ -180,7 +183,7 @@ def with_clauses(code, head, none=''):
 
 
 def made_edits():
-    """Each wrong body that has an edit: the functions that it changes, in their file, with the names of their clauses, or the definitions."""
+    """Each wrong body that has an edit: the functions that it changes, in their file, or the definitions."""
     for crate in uses():
         found = {}
         for path in edits(crate):
@@ -188,7 +191,7 @@ def made_edits():
             folder, file, suffix = re.search(r'^file: (\w+)/(.*)(\.rt|\.antt)$', edit, re.M).groups()
             code = read(TREE / 'crates' / crate / folder / f'{file}{suffix}')
             olds = re.findall(r'^old: *(.*)$', edit, re.M)
-            if suffix == '.rt': told = [with_clauses(code, function_at(code, code.index(old))) for old in olds]
+            if suffix == '.rt': told = [f'`{function_at(code, code.index(old))[3]}`' for old in olds]
             else: told = [f'`{old.split()[0]}`' for old in olds if not old.startswith('use ')]  # definitions
             found.setdefault(file, {}).setdefault(', '.join(dict.fromkeys(told)), []).append(path.stem)
         if found: yield f'- `{crate}`, {len(edits(crate))}.\n'
@@ -263,12 +266,17 @@ def main():
             if made[3] != wanted: faults.append(f'docs/{path.name}, {made[2]}' + difference(made[3], wanted))
         wanted = MADE.sub(lambda made: made[1] + part(made[2]) + made[4], text)
         if '--check' not in sys.argv and wanted != text: path.write_text(wanted, encoding='utf-8')
+    copies = sorted((TREE / 'crates').glob('*/data/*.pcap'))
+    for copy in copies:
+        sample = TREE / 'samples' / copy.name
+        if '--check' not in sys.argv: copy.write_bytes(sample.read_bytes())
+        elif copy.read_bytes() != sample.read_bytes(): faults.append(f'{copy.relative_to(TREE)} is no copy of {sample.relative_to(TREE)}')
     if '--check' not in sys.argv: return
     libraries = [crate for crate in product() if crate != 'toxicap_program']
     missing = ({'crates', 'files', 'limits', 'edits'} | {f'calls {crate}' for crate in libraries}) - shown
     faults += [f'no page has the part: {name}' for name in sorted(missing)]
     for fault in faults: print('failed:', fault)
-    print(f'{len(shown | missing) - len(faults)} passed, {len(faults)} failed')
+    print(f'{len(shown | missing) + len(copies) - len(faults)} passed, {len(faults)} failed')
     sys.exit(1 if faults else 0)
 
 

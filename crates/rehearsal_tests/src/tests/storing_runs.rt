@@ -1,4 +1,4 @@
-//! Runs that store, over the plain session and over a sample, and the files that each is to give.
+//! Runs that store, over the plain session and over the samples, and the files that each is to give.
 use scenarios::Hosts;
 use std::alloc::{AllocError, AllocGlobal, Global};
 use std::sync::Wait;
@@ -9,6 +9,9 @@ use worked_sessions::sessions::PLAIN_SESSION;
 // A proxy for the host `web` that holds the client's bytes for a time that is drawn.
 pub const HELD: &str =
     "[{\"name\":\"web\",\"upstream\":\"web:80\",\"toxics\":[{\"type\":\"latency\",\"stream\":\"upstream\",\"attributes\":{\"latency\":100,\"jitter\":50}}]}]";
+
+// The faults of `examples/mobile-line.json`, and a Redis that is down.
+pub const LINE: &str = "[{\"name\":\"web\",\"upstream\":\"10.77.0.2:80\",\"toxics\":[{\"type\":\"latency\",\"stream\":\"upstream\",\"attributes\":{\"latency\":150,\"jitter\":50}},{\"type\":\"bandwidth\",\"attributes\":{\"rate\":20}},{\"type\":\"slicer\",\"attributes\":{\"average_size\":500,\"size_variation\":300,\"delay\":3000}}]},{\"name\":\"redis\",\"upstream\":\"10.77.0.3:6379\",\"enabled\":false}]";
 
 // The sample `samples/http-get.pcap` as a dump.
 pub const HTTP_GET: &str =
@@ -104,12 +107,28 @@ pub const SAMPLE_BY_TWO: Run<'static> = Run {
     scenarios: &["held", "bare", "held", "held", "bare"],
 };
 
+// Of the larger sample: four connections, under toxics, with a server that is down, and as recorded.
+pub const SHOP_BY_THREE: Run<'static> = Run {
+    words: &[
+        "--capture=shop",
+        "--scenario=line",
+        "--scenario=bare",
+        "--seed=42",
+        "--out=out",
+        "--workers=3",
+        "--cut=16",
+    ],
+    capture: "shop",
+    scenarios: &["line", "bare"],
+};
+
 // The texts of scenarios.
 fn texts_of(alloc: Global, scenarios: &[&str]) -> Result<Vec<&'static [u8]>, AllocError> {
     let mut texts = Vec::new(alloc);
     for scenario in scenarios {
         let text = match *scenario {
             "bare" => b"[]".as_slice(),
+            "line" => LINE.as_bytes(),
             _ => HELD.as_bytes(),
         };
         texts.push(text)?;
@@ -117,13 +136,15 @@ fn texts_of(alloc: Global, scenarios: &[&str]) -> Result<Vec<&'static [u8]>, All
     Ok(texts)
 }
 
-// The files of a run, from the calls that take its texts.
+// The files of a run, from the calls that take its texts; `shop` is what the larger sample holds.
 pub fn files_of(
     rt: &(impl AllocGlobal + Threads + Wait + Sync),
+    shop: &[u8],
     run: &Run<'_>,
 ) -> Result<Vec<MemoryFile>, RunFault> {
     let (capture, host) = match run.capture {
         "session" => (PLAIN_SESSION.as_slice(), "10.0.0.2"),
+        "shop" => (shop, "10.77.0.2"),
         _ => (HTTP_GET.as_bytes(), "10.77.0.2"),
     };
     let texts = texts_of(rt.alloc(), run.scenarios)?;

@@ -18,7 +18,7 @@ anew() {
 # least ONE OTHER: the lesser of two numbers.
 least() { echo $(($1 < $2 ? $1 : $2)); }
 
-# wanted BLOCKS SCENARIOS printed|stored WORKERS: how many threads each phase is to make, by docs/RULES.md (jobs) and docs/ARCHITECTURE.md (the
+# wanted BLOCKS SCENARIOS printed|stored WORKERS: how many threads each phase is to make, by docs/ARCHITECTURE.md (the
 # way of a rehearsal). One of the workers is the thread that is there. The phases: a named file of several blocks is loaded, by no more workers
 # than blocks; the table is made; then what is recorded. Of each printed report a phase makes the lines. Where files are stored, drafts are made
 # of as many scenarios as twice the workers, or as are left, each by one worker, so by no more workers than scenarios; of a last one by all.

@@ -85,6 +85,10 @@ impl Keys for ConnectionOutline<'_> {
         self.segments[index].key
     }
 
+    fn record_len(&self, index: usize) -> usize {
+        record_len(&self.client, &self.segments[index])
+    }
+
     fn written_len(&self) -> usize {
         let mut len = 0usize;
         for outline in &self.segments {

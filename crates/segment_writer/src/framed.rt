@@ -58,6 +58,10 @@ pub trait Keys: Drop {
         requires { index < length (segments self.now) }
         ensures { result ≡ (slice_index_or (segments self.now) index no_segment).key };
 
+    /// How many bytes the record of a segment has, or the greatest number where they are more.
+    fn record_len(&self, index: usize) -> usize
+        requires { index < length (segments self.now) };
+
     /// How many bytes the records of all segments have, or the greatest number where they are more.
     fn written_len(&self) -> usize;
 
@@ -138,6 +142,10 @@ impl Keys for SegList {
 
     fn key(&self, index: usize) -> SegKey {
         self.list[index].key
+    }
+
+    fn record_len(&self, index: usize) -> usize {
+        self.list[index].bytes.as_slice().len()
     }
 
     fn written_len(&self) -> usize {

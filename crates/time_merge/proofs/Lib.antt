@@ -1,3 +1,4 @@
 pub mod WalkedLists
 pub mod KeyedOrder
 pub mod KeySources
+pub mod TurnSteps

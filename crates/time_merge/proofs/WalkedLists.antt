@@ -25,7 +25,7 @@ module _ {L : Type 0} (segments : L → List Framed) (lists : List L) where
       let left = first_left (slice_index_or (map segments lists) number []) index no_segment x xs e in
       let others = list_walked number within (index + 1) xs left.2 in
       let here : KeyedSegment = record { key = x.key; list = number; index = index } in
-      let stands : IsKeyed segments lists here = record { list = within; index = left.0; key = ap (λ (s : Framed). s.key) left.1 } in
+      let stands : IsKeyed segments lists here = record { stands = record { list = within; index = left.0 }; key = ap (λ (s : Framed). s.key) left.1 } in
       (All-cons (IsKeyed segments lists) here (keyed_segments number (index + 1) xs) stands others.0, ap₂ (λ (y : Framed) (ys : List Framed). y ∷ ys) left.1 others.1)
 
   lists_walked : (number : ℕ) (rest : List L) → drop number lists ≡ rest

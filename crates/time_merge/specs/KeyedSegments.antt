@@ -1,6 +1,7 @@
--- Segments by their keys, with the list and index where they stand: what is merged in place of segments.
+-- Segments by their keys, with the list and index where they stand: what is merged, or sorted, in place of segments.
 use Rattle.std.specs.Prelude.{◌≡◌, ◌<◌, ℕ, ◌+◌, List, [], ◌∷◌, length, drop, map, slice_index_or}
 use Rattle.std.specs.List.{enumerate_from, flat_map}
+use Rattle.std.specs.List.Sorted.{IsPermutation, IsSorted}
 use Rattle.std.specs.Ordering.{then_cmp, on, nat_cmp}
 use Rattle.std.specs.declared.cmp.Ordering.{Ordering}
 use Rattle.segment_writer.specs.declared.framed.SegKey.{SegKey}
@@ -8,6 +9,7 @@ use Rattle.segment_writer.specs.declared.framed.Framed.{Framed}
 use Rattle.segment_writer.specs.SegmentOutlines.{no_segment}
 use Rattle.time_merge.specs.declared.key_order.KeyedSegment.{KeyedSegment}
 use Rattle.time_merge.specs.declared.key_order.KeyedSegments.{KeyedSegments}
+use Rattle.time_merge.specs.declared.key_order.Place.{Place}
 
 -- by moment, then connection, turn and place
 abbrev pub key_cmp : SegKey → SegKey → Ordering
@@ -16,6 +18,14 @@ key_cmp = then_cmp (on (λ k. k.moment) nat_cmp) (then_cmp (on (λ k. k.conn) na
 -- by key, then list and index
 abbrev pub keyed_cmp : KeyedSegment → KeyedSegment → Ordering
 keyed_cmp = then_cmp (on (λ l. l.key) key_cmp) (then_cmp (on (λ l. l.list) nat_cmp) (on (λ l. l.index) nat_cmp))
+
+-- where a keyed segment stands
+abbrev pub place_of : KeyedSegment → Place
+place_of l = record { list = l.list; index = l.index }
+
+-- the places of all of some keyed segments, in order of these
+abbrev pub ArePlacesInOrder : List KeyedSegment → List Place → Type 0
+ArePlacesInOrder all places = (keys : List KeyedSegment) × IsPermutation all keys × IsSorted keyed_cmp keys × (places ≡ map place_of keys)
 
 -- the segments of a list of this number, the first of them at this index
 abbrev pub keyed_segments : ℕ → ℕ → List Framed → List KeyedSegment
@@ -31,12 +41,20 @@ module _ {L : Type 0} (segments : L → List Framed) where
   abbrev pub keyed_left : KeyedSegments L → List KeyedSegment
   keyed_left l = keyed_segments l.list l.index (drop l.index (segments l.segments.now))
 
+  -- the segment at a place
+  abbrev pub segment_at : List L → Place → Framed
+  segment_at lists p = slice_index_or (slice_index_or (map segments lists) p.list []) p.index no_segment
+
+  -- there is one
+  pub record IsPlace (lists : List L) (p : Place) : Type 0 where
+    pub list : p.list < length lists
+    pub index : p.index < length (slice_index_or (map segments lists) p.list [])
+
   -- the segment that a keyed one stands for
   abbrev pub segment_of : List L → KeyedSegment → Framed
-  segment_of lists l = slice_index_or (slice_index_or (map segments lists) l.list []) l.index no_segment
+  segment_of lists l = segment_at lists (place_of l)
 
-  -- there is a segment at its index, and it has this key
+  -- there is a segment at its place, and it has this key
   pub record IsKeyed (lists : List L) (l : KeyedSegment) : Type 0 where
-    pub list : l.list < length lists
-    pub index : l.index < length (slice_index_or (map segments lists) l.list [])
+    pub stands : IsPlace lists (place_of l)
     pub key : (segment_of lists l).key ≡ l.key

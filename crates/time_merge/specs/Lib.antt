@@ -1,3 +1,4 @@
 pub mod MergedCapture
 pub mod KeyedSegments
 pub mod Sinks
+pub mod Turns

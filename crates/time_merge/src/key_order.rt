@@ -4,8 +4,9 @@ ghost use Rattle.std.specs.List.{flat_map};
 ghost use Rattle.std.specs.List.Sorted.{IsSorted};
 ghost use Rattle.segment_writer.specs.KeyLaws.{HasNoKeyTwice};
 ghost use Rattle.segment_writer.specs.WrittenSegments.{sorted_by_key};
-ghost use Rattle.time_merge.specs.KeyedSegments.{all_keyed_segments, IsKeyed, keyed_cmp, keyed_left, keyed_segments, segment_of};
+ghost use Rattle.time_merge.specs.KeyedSegments.{all_keyed_segments, ArePlacesInOrder, IsPlace, keyed_cmp, keyed_left, keyed_segments, place_of, segment_at};
 
+use crate::turns::by_turns;
 use itertools::Itertools;
 use segment_writer::laws::{one_order, sorted_never_falls};
 use segment_writer::{Keys, SegKey};
@@ -17,6 +18,25 @@ pub(crate) struct KeyedSegment {
     pub(crate) key: SegKey,
     pub(crate) list: usize,
     pub(crate) index: usize,
+}
+
+/// Where a segment stands: the number of its list, and its index there.
+#[derive(Clone, Copy, Debug)]
+pub(crate) struct Place {
+    pub(crate) list: usize,
+    pub(crate) index: usize,
+}
+
+impl KeyedSegment {
+    // Where it stands.
+    pub(crate) fn place(&self) -> Place
+        ensures { result ≡ place_of self.now }
+    {
+        Place {
+            list: self.list,
+            index: self.index,
+        }
+    }
 }
 
 // The keyed segments of a list, from one of them on.
@@ -77,18 +97,31 @@ pub(crate) fn merged_keys<L: Keys>(
     sources.kmerge(alloc)?.collect(alloc)
 }
 
-// The same of lists in any order. They are sorted and not merged: where connections are many, each step of a merge goes from one to another
-// through all of their memory.
-pub(crate) fn sorted_keys<L: Keys>(
+// The places of all segments of lists in any order, by key. They are sorted and not merged: where connections are many, each step of a merge goes
+// from one to another through all of their memory.
+pub(crate) fn sorted_places<L: Keys>(
     alloc: Global,
     lists: &[L],
-) -> Result<Vec<KeyedSegment>, AllocError>
-    ensures all { IfOk result (λ keys. IsPermutation (all_keyed_segments L.segments lists.now) keys.items) }
-    ensures sorted { IfOk result (λ keys. IsSorted keyed_cmp keys.items) }
+) -> Result<Vec<Place>, AllocError>
+    requires { HasNoKeyTwice (flat_map L.segments lists.now) }
+    ensures stand { IfOk result (λ places. All (IsPlace L.segments lists.now) places.items) }
+    ensures order { IfOk result (λ places. map (segment_at L.segments lists.now) places.items ≡ sorted_by_key (flat_map L.segments lists.now)) }
 {
-    let mut keys = keys_of(alloc, lists)?;
+    let keys = keys_of(alloc, lists)?;
+    let places = places_by_key(alloc, keys)?;
+    Ok(in_order(lists, places))
+}
+
+// The places of keyed segments, by their keys: in order of turns, or else of the keys.
+fn places_by_key(alloc: Global, keys: Vec<KeyedSegment>) -> Result<Vec<Place>, AllocError>
+    ensures { IfOk result (λ places. ArePlacesInOrder keys.items places.items) }
+{
+    if let Some(places) = by_turns(alloc, &keys)? {
+        return Ok(places);
+    }
+    let mut keys = keys;
     keys.sort_unstable();
-    Ok(keys)
+    places_of(alloc, &keys)
 }
 
 // The keyed segments of all lists, one list after another.
@@ -117,14 +150,24 @@ fn add_keys<L: Keys>(
     keys.extend(keyed(list, segments))
 }
 
-// Keyed segments of all lists, in order: they stand for the segments in order of key, where no key stands twice.
-pub(crate) fn in_order<L: Keys>(lists: &[L], keys: Vec<KeyedSegment>) -> Vec<KeyedSegment>
+// The places of keyed segments.
+pub(crate) fn places_of(alloc: Global, keys: &[KeyedSegment]) -> Result<Vec<Place>, AllocError>
+    ensures { IfOk result (λ places. places.items ≡ map place_of keys.now) }
+{
+    let mut places = Vec::with_capacity(alloc, keys.len())?;
+    for keyed in keys {
+        places.push(keyed.place())?;
+    }
+    Ok(places)
+}
+
+// Places of keyed segments of all lists, in order: they stand for the segments in order of key, where no key stands twice.
+pub(crate) fn in_order<L: Keys>(lists: &[L], places: Vec<Place>) -> Vec<Place>
     requires once { HasNoKeyTwice (flat_map L.segments lists.now) }
-    requires all { IsPermutation (all_keyed_segments L.segments lists.now) keys.items }
-    requires sorted { IsSorted keyed_cmp keys.items }
-    ensures keyed { All (IsKeyed L.segments lists.now) result.items }
-    ensures order { map (segment_of L.segments lists.now) result.items ≡ sorted_by_key (flat_map L.segments lists.now) }
+    requires of { ArePlacesInOrder (all_keyed_segments L.segments lists.now) places.items }
+    ensures stand { All (IsPlace L.segments lists.now) result.items }
+    ensures order { map (segment_at L.segments lists.now) result.items ≡ sorted_by_key (flat_map L.segments lists.now) }
 {
     one_order();
-    keys
+    places
 }

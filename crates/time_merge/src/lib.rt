@@ -4,6 +4,7 @@
 mod key_order;
 mod merging;
 mod sinks;
+mod turns;
 
 pub use merging::{Merged, merge, merged_capture, write_outlines};
 pub use sinks::CaptureSink;

@@ -1,13 +1,13 @@
 //! Merging lists of segments, in memory or in outline, and the capture of what was merged, each record written in its place.
-ghost use Rattle.std.specs.Prelude.{◌≡◌, ◌++◌, [], All, IfOk, OnErr, OnOk, map};
+ghost use Rattle.std.specs.Prelude.{◌≡◌, ◌≤◌, ◌++◌, [], All, IfOk, OnErr, OnOk, length, map};
 ghost use Rattle.pcap_records.specs.Instants.{ticks_of};
 ghost use Rattle.segment_writer.specs.KeyLaws.{HasNoKeyTwice};
 ghost use Rattle.segment_writer.specs.WrittenSegments.{sorted_by_key};
-ghost use Rattle.time_merge.specs.KeyedSegments.{IsKeyed, segment_of};
+ghost use Rattle.time_merge.specs.KeyedSegments.{IsPlace, segment_at};
 ghost use Rattle.time_merge.specs.MergedCapture.{all_segments, capture_in_turn, capture_of};
 ghost use Rattle.time_merge.specs.Sinks.{IsWritten};
 
-use crate::key_order::{KeyedSegment, in_order, merged_keys, sorted_keys};
+use crate::key_order::{Place, in_order, merged_keys, places_of, sorted_places};
 use crate::sinks::{CaptureSink, InMemory};
 use pcap_records::{FILE_HEADER_LEN, Unit, write_header};
 use segment_writer::{ConnectionOutline, Keys, SegList};
@@ -25,27 +25,28 @@ pub fn merge(alloc: Global, lists: Vec<SegList>) -> Result<Merged, AllocError>
     ensures { IfOk result (λ merged. merged ≡ sorted_by_key (all_segments lists.items)) }
 {
     let keys = merged_keys(alloc, &lists)?;
-    let order = in_order(&lists, keys);
+    let places = places_of(alloc, &keys)?;
+    let order = in_order(&lists, places);
     Ok(Merged { lists, order })
 }
 
-/// The segments of some lists, in one order. The lists stay as they are: beside them stands the order, of keyed segments.
+/// The segments of some lists, in one order. The lists stay as they are: beside them stands the order, of places.
 #[derive(Debug, Drop)]
 pub struct Merged {
     lists: Vec<SegList>,
-    order: Vec<KeyedSegment>,
+    order: Vec<Place>,
 }
 
 impl Model for Merged {
     ghost use Rattle.std.specs.Prelude.{List, All, map};
     ghost use Rattle.segment_writer.specs.declared.framed.Framed.{Framed};
-    ghost use Rattle.time_merge.specs.KeyedSegments.{IsKeyed, segment_of};
+    ghost use Rattle.time_merge.specs.KeyedSegments.{IsPlace, segment_at};
 
     ghost Value = { List Framed };
 
-    ghost view = { λ m. map (segment_of (λ l. l) m.lists.items) m.order.items };
+    ghost view = { λ m. map (segment_at (λ l. l) m.lists.items) m.order.items };
 
-    ghost invariant = { λ m. All (IsKeyed (λ l. l) m.lists.items) m.order.items };
+    ghost invariant = { λ m. All (IsPlace (λ l. l) m.lists.items) m.order.items };
 }
 
 impl Merged {
@@ -79,8 +80,7 @@ pub fn write_outlines<S: CaptureSink>(
     ensures written { IfOk result (λ rest. IsWritten (S.took sink.new) rest.items (capture_of (ticks_of unit) (all_segments outlines.now))) }
     ensures same { S.place sink.new ≡ S.place sink.old }
 {
-    let keys = sorted_keys(alloc, outlines)?;
-    let order = in_order(outlines, keys);
+    let order = sorted_places(alloc, outlines)?;
     written(Vec::new(alloc), outlines, &order, unit, sink)
 }
 
@@ -98,46 +98,79 @@ pub fn merged_capture(
     requires { HasNoKeyTwice (all_segments outlines.now) }
     ensures { IfOk result (λ bytes. bytes.items ≡ capture_of (ticks_of unit) (all_segments outlines.now)) }
 {
-    let keys = sorted_keys(alloc, outlines)?;
-    captured(alloc, outlines, &in_order(outlines, keys), unit)
+    let order = sorted_places(alloc, outlines)?;
+    captured(alloc, outlines, &order, unit)
 }
 
-// The capture of some keyed segments in turn, in memory.
+// The capture of the segments at some places in turn, in memory.
 fn captured<L: Keys>(
     alloc: Global,
     lists: &[L],
-    order: &[KeyedSegment],
+    order: &[Place],
     unit: Unit,
 ) -> Result<Vec<u8>, AllocError>
-    requires { All (IsKeyed L.segments lists.now) order.now }
-    ensures { IfOk result (λ bytes. bytes.items ≡ capture_in_turn (ticks_of unit) (map (segment_of L.segments lists.now) order.now)) }
+    requires { All (IsPlace L.segments lists.now) order.now }
+    ensures { IfOk result (λ bytes. bytes.items ≡ capture_in_turn (ticks_of unit) (map (segment_at L.segments lists.now) order.now)) }
 {
     let room = Vec::with_capacity(alloc, capture_len(lists))?;
     written(room, lists, order, unit, &mut InMemory)
 }
 
-// Writes the header of a file, and the records of some keyed segments in turn: after each the sink is offered what it has not taken yet.
+// Writes the header of a file, and the records of the segments at some places in turn: after each the sink is offered what it has not taken yet.
 fn written<L: Keys, S: CaptureSink>(
     batch: Vec<u8>,
     lists: &[L],
-    order: &[KeyedSegment],
+    order: &[Place],
     unit: Unit,
     sink: &mut S,
 ) -> Result<Vec<u8>, AllocError>
-    requires keyed { All (IsKeyed L.segments lists.now) order.now }
+    requires stand { All (IsPlace L.segments lists.now) order.now }
     requires batch { batch.items ≡ [] }
     requires empty { S.took sink.old [] }
     ensures written { IfOk result (λ rest. IsWritten (S.took sink.new) rest.items
-        (capture_in_turn (ticks_of unit) (map (segment_of L.segments lists.now) order.now))) }
+        (capture_in_turn (ticks_of unit) (map (segment_at L.segments lists.now) order.now))) }
     ensures same { S.place sink.new ≡ S.place sink.old }
 {
     let mut batch = batch;
     write_header(&mut batch, unit)?;
-    for keyed in order {
-        put_keyed(lists, keyed, &mut batch)?;
+    for number in 0..order.len() {
+        make_room(&mut batch, lists, order, number)?;
+        put_segment(lists, order[number], &mut batch)?;
         sink.offer(&mut batch);
     }
     Ok(batch)
+}
+
+// For so many records room is made at once.
+const GROUP_LEN: usize = 64;
+
+// Makes room for the records of a group where one begins. Their segments lie in the memory of as many connections: looked at one after another
+// for their lengths they are all on their way, and near at hand once their records are written.
+fn make_room<L: Keys>(
+    batch: &mut Vec<u8>,
+    lists: &[L],
+    order: &[Place],
+    number: usize,
+) -> Result<(), AllocError>
+    requires stand { All (IsPlace L.segments lists.now) order.now }
+    requires within { number ≤ length order.now }
+    ensures { batch.new.items ≡ batch.old.items }
+{
+    if number % GROUP_LEN != 0 {
+        return Ok(());
+    }
+    batch.reserve(group_len(lists, &order[number..]))
+}
+
+// How many bytes the records of the first group of some places have.
+fn group_len<L: Keys>(lists: &[L], order: &[Place]) -> usize
+    requires { All (IsPlace L.segments lists.now) order.now }
+{
+    let mut len = 0usize;
+    for place in &order[..order.len().min(GROUP_LEN)] {
+        len = len.saturating_add(lists[place.list].record_len(place.index));
+    }
+    len
 }
 
 // The length of the capture of some lists, or the greatest number where it is past that.
@@ -149,15 +182,15 @@ fn capture_len<L: Keys>(lists: &[L]) -> usize {
     len
 }
 
-// Appends the record of a keyed segment.
-fn put_keyed<L: Keys>(
+// Appends the record of the segment at a place.
+fn put_segment<L: Keys>(
     lists: &[L],
-    keyed: &KeyedSegment,
+    place: Place,
     out: &mut Vec<u8>,
 ) -> Result<(), AllocError>
-    requires { IsKeyed L.segments lists.now keyed.now }
-    ensures ok { OnOk result (out.new.items ≡ out.old.items ++ (segment_of L.segments lists.now keyed.now).bytes) }
+    requires { IsPlace L.segments lists.now place }
+    ensures ok { OnOk result (out.new.items ≡ out.old.items ++ (segment_at L.segments lists.now place).bytes) }
     ensures err { OnErr result (out.new.items ≡ out.old.items) }
 {
-    lists[keyed.list].put(keyed.index, out)
+    lists[place.list].put(place.index, out)
 }

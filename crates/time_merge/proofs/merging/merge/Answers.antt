@@ -2,15 +2,15 @@ use Rattle.std.proofs.Common.{◌≡◌, List, map, subst, sym}
 use Rattle.segment_writer.specs.declared.framed.Framed.{Framed}
 use Rattle.segment_writer.specs.KeyLaws.{HasNoKeyTwice}
 use Rattle.segment_writer.specs.WrittenSegments.{sorted_by_key}
-use Rattle.time_merge.specs.KeyedSegments.{segment_of}
+use Rattle.time_merge.specs.KeyedSegments.{segment_at}
 use Rattle.time_merge.specs.MergedCapture.{all_segments}
 use Rattle.time_merge.proofs.merging.merge.Goals as goal
 
 pub in_order-order-requires-clause-once : goal.in_order-order-requires-clause-once
 in_order-order-requires-clause-once c =
-    subst (λ (lists : List (List Framed)). HasNoKeyTwice (all_segments lists)) (sym c.deref-2.ensures.value) c.requires.once
+    subst (λ (lists : List (List Framed)). HasNoKeyTwice (all_segments lists)) (sym c.deref-3.ensures.value) c.requires.once
 
 pub returns : goal.returns
 returns c =
-    subst (λ (lists : List (List Framed)). map (segment_of (λ l. l) lists) c.in_order-order.result.items ≡ sorted_by_key (all_segments lists))
-    c.deref-2.ensures.value c.in_order-order.ensures.order
+    subst (λ (lists : List (List Framed)). map (segment_at (λ l. l) lists) c.in_order-order.result.items ≡ sorted_by_key (all_segments lists))
+    c.deref-3.ensures.value c.in_order-order.ensures.order

@@ -1,35 +1,35 @@
 use Rattle.std.proofs.Common.{◌≡◌, ◌<◌, ℕ, ◌+◌, List, [], ◌∷◌, ◌++◌, length, map, take, get_or, inl, inr, sym, ap, ◌∙◌, append-nil, append_assoc}
-use Rattle.std.proofs.lemmas.List.{flat_map_more, map-append, take_more}
+use Rattle.std.proofs.lemmas.List.{flat_map_more, get_or_default, map-append, take_more}
 use Rattle.pcap_records.specs.Instants.{ticks_of}
 use Rattle.pcap_records.specs.Writing.{file_header}
 use Rattle.segment_writer.specs.declared.framed.Framed.{Framed}
-use Rattle.time_merge.specs.KeyedSegments.{segment_of}
+use Rattle.time_merge.specs.KeyedSegments.{segment_at}
 use Rattle.time_merge.specs.MergedCapture.{capture_in_turn}
 use Rattle.time_merge.specs.Sinks.{IsOffered, IsWritten}
-use Rattle.time_merge.specs.declared.key_order.KeyedSegment.{KeyedSegment}
+use Rattle.time_merge.specs.declared.key_order.Place.{Place}
 use Rattle.time_merge.proofs.merging.written.Goals as goal
 
 -- the record of one segment more
-grown : (ticks : ℕ) (segment : KeyedSegment → Framed) (order : List KeyedSegment) (i : ℕ) (x : KeyedSegment) (front batch after : List ℕ)
+grown : (ticks : ℕ) (segment : Place → Framed) (order : List Place) (i : ℕ) (x : Place) (front batch after : List ℕ)
     → i < length order → x ≡ get_or order i x → front ++ batch ≡ capture_in_turn ticks (map segment (take i order))
     → after ≡ batch ++ (segment x).bytes → front ++ after ≡ capture_in_turn ticks (map segment (take (i + 1) order))
 grown ticks segment order i x front batch after within is so_far put =
     ap (λ (bs : List ℕ). front ++ bs) put ∙ sym (append_assoc front batch (segment x).bytes) ∙ ap (λ (bs : List ℕ). bs ++ (segment x).bytes) so_far
     ∙ flat_map_more (λ (s : Framed). s.bytes) (file_header ticks) (map segment (take i order)) (segment x)
     ∙ ap (capture_in_turn ticks) (sym (map-append segment (take i order) (x ∷ [])))
-    ∙ ap (λ (ks : List KeyedSegment). capture_in_turn ticks (map segment ks)) (ap (λ (k : KeyedSegment). take i order ++ k ∷ []) is ∙ sym (take_more order i x within))
+    ∙ ap (λ (ks : List Place). capture_in_turn ticks (map segment ks)) (ap (λ (k : Place). take i order ++ k ∷ []) is ∙ sym (take_more order i x within))
 
 -- what was offered is written still
 offered : (Took : List ℕ → Type 0) (front batch left all : List ℕ) → IsOffered Took front batch left → front ++ batch ≡ all → IsWritten Took left all
 offered Took front batch left all (inl (took, none)) is = (front ++ batch, took, ap (λ (bs : List ℕ). (front ++ batch) ++ bs) none ∙ append-nil (front ++ batch) ∙ is)
 offered Took front batch left all (inr (took, same)) is = (front, took, ap (λ (bs : List ℕ). front ++ bs) same ∙ is)
 
-pub loop-keyed-preserved : goal.loop-keyed-preserved
-loop-keyed-preserved g c =
-    let was = c.loop-keyed.invariant.written in
-    let more = grown (ticks_of c.args.unit) (segment_of g.L.Keys.segments c.args.lists.now) c.args.order.now c.loop-keyed.keyed-index c.keyed-item.result
-    was.0 c.loop-keyed.batch.items c.put_keyed.new.out.items c.loop-keyed-test.true c.keyed-item.is was.2 c.in_ok-put_keyed.ensures.ok in
+pub loop-number-preserved : goal.loop-number-preserved
+loop-number-preserved g c =
+    let was = c.loop-number.invariant.written in
+    let more = grown (ticks_of c.args.unit) (segment_at g.L.Keys.segments c.args.lists.now) c.args.order.now c.loop-number.number (get_or c.args.order.now c.loop-number.number (record { list = 0; index = 0 }))
+    was.0 c.loop-number.batch.items c.put_segment.new.out.items c.loop-number-test.true (get_or_default c.args.order.now c.loop-number.number _ _ c.loop-number-test.true) was.2 (c.in_ok-put_segment.ensures.ok ∙ ap (λ (bs : List ℕ). bs ++ (segment_at g.L.Keys.segments c.args.lists.now (get_or c.args.order.now c.loop-number.number (record { list = 0; index = 0 }))).bytes) c.make_room.ensures) in
     record {
-      written = offered (g.S.CaptureSink.took c.offer.new.self) was.0 c.put_keyed.new.out.items c.offer.new.batch.items _ (c.offer.ensures.taken was.0 was.1) more;
-      same = c.offer.ensures.same ∙ c.loop-keyed.invariant.same;
+      written = offered (g.S.CaptureSink.took c.offer.new.self) was.0 c.put_segment.new.out.items c.offer.new.batch.items _ (c.offer.ensures.taken was.0 was.1) more;
+      same = c.offer.ensures.same ∙ c.loop-number.invariant.same;
     }

@@ -1,4 +1,4 @@
 pub mod WalkedLists
 pub mod KeyedOrder
 pub mod KeySources
-pub mod TurnSteps
+pub mod ShortKeySteps

@@ -1,4 +1,4 @@
 pub mod MergedCapture
 pub mod KeyedSegments
 pub mod Sinks
-pub mod Turns
+pub mod ShortKeys

@@ -6,7 +6,7 @@ ghost use Rattle.segment_writer.specs.KeyLaws.{HasNoKeyTwice};
 ghost use Rattle.segment_writer.specs.WrittenSegments.{sorted_by_key};
 ghost use Rattle.time_merge.specs.KeyedSegments.{all_keyed_segments, ArePlacesInOrder, IsPlace, keyed_cmp, keyed_left, keyed_segments, place_of, segment_at};
 
-use crate::turns::by_turns;
+use crate::short_keys::by_short_keys;
 use itertools::Itertools;
 use segment_writer::laws::{one_order, sorted_never_falls};
 use segment_writer::{Keys, SegKey};
@@ -112,11 +112,11 @@ pub(crate) fn sorted_places<L: Keys>(
     Ok(in_order(lists, places))
 }
 
-// The places of keyed segments, by their keys: in order of turns, or else of the keys.
+// The places of keyed segments, in order: by short keys, or else by the keys.
 fn places_by_key(alloc: Global, keys: Vec<KeyedSegment>) -> Result<Vec<Place>, AllocError>
     ensures { IfOk result (λ places. ArePlacesInOrder keys.items places.items) }
 {
-    if let Some(places) = by_turns(alloc, &keys)? {
+    if let Some(places) = by_short_keys(alloc, &keys)? {
         return Ok(places);
     }
     let mut keys = keys;

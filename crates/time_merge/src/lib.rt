@@ -4,7 +4,7 @@
 mod key_order;
 mod merging;
 mod sinks;
-mod turns;
+mod short_keys;
 
 pub use merging::{Merged, merge, merged_capture, write_outlines};
 pub use sinks::CaptureSink;

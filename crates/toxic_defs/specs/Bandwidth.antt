@@ -11,11 +11,11 @@ use Rattle.toxic_defs.specs.Slices.{sliced}
 abbrev pub ceiling : ℕ → ℕ → ℕ
 ceiling n d = (n + (d - 1)) / d
 
--- Each byte holds the wire for `milli` / `rate` of a tick, `milli` being the ticks of a millisecond, from its own instant on, after those
--- before it. The sum is rounded up for each byte, never carried over rounded.
+-- Each byte holds the wire for `ticks` / `rate` of a tick, of which a millisecond has `ticks`, from its own instant on, after those before
+-- it. The sum is rounded up for each byte, never carried over rounded.
 abbrev pub bandwidth_leaves : ℕ → ℕ → ℕ → List LineByte → ℕ
-bandwidth_leaves limit milli rate bytes =
-    latest (λ y at. min (at + ceiling ((length bytes - y) * milli) rate) limit) (instants_of bytes)
+bandwidth_leaves limit ticks rate bytes =
+    latest (λ y at. min (at + ceiling ((length bytes - y) * ticks) rate) limit) (instants_of bytes)
 
 -- every chunk leaves when its last byte does
 abbrev pub joined : LineByte → List LineByte → LineByte

@@ -3,8 +3,8 @@
 
 A page of docs/ has such a part between two lines, `<!-- made: NAME -->`, with a crate's name after it where there is one for each crate, and
 `<!-- end -->`. Without an argument each part is written anew. With `--check` nothing is written: a part that is not what would be written fails, and
-so does one that no page has. The captures in the folders data/ of crates are copies of samples, and are made, or compared, too. The last line is
-`N passed, M failed`. A further argument is the folder of another copy of the repository."""
+so does one that no page has. The larger sample as a dump, for tests in Rattle, is made, or compared, too. The last line is `N passed, M failed`. A
+further argument is the folder of another copy of the repository."""
 import pathlib, re, sys
 
 FOLDERS = [word for word in sys.argv[1:] if word != '--check']
@@ -226,6 +226,18 @@ def made_calls(crate):
     for of, calls in rows.items(): yield f'| `{of}` | {", ".join(calls)} |\n'
 
 
+# ---- a sample
+
+SAMPLE, DUMP = TREE / 'samples/shop.pcap', TREE / 'crates/rehearsal_tests/src/tests/shop_sample.rt'
+
+
+def made_dump():
+    """The larger sample as a constant of the tests."""
+    digits = SAMPLE.read_bytes().hex()
+    lines = '\n'.join(digits[at:at + LINE_WIDTH - 10] for at in range(0, len(digits), LINE_WIDTH - 10))
+    return f'//! The sample `samples/shop.pcap` as a dump, made by `tests/made.py`.\n\npub const SHOP: &str =\n    "{lines}";\n'
+
+
 # ---- pages
 
 PARTS = {'crates': made_crates, 'files': made_files, 'limits': made_limits, 'edits': made_edits, 'calls': made_calls}
@@ -266,17 +278,15 @@ def main():
             if made[3] != wanted: faults.append(f'docs/{path.name}, {made[2]}' + difference(made[3], wanted))
         wanted = MADE.sub(lambda made: made[1] + part(made[2]) + made[4], text)
         if '--check' not in sys.argv and wanted != text: path.write_text(wanted, encoding='utf-8')
-    copies = sorted((TREE / 'crates').glob('*/data/*.pcap'))
-    for copy in copies:
-        sample = TREE / 'samples' / copy.name
-        if '--check' not in sys.argv: copy.write_bytes(sample.read_bytes())
-        elif copy.read_bytes() != sample.read_bytes(): faults.append(f'{copy.relative_to(TREE)} is no copy of {sample.relative_to(TREE)}')
+    wanted = made_dump()
+    if '--check' not in sys.argv: DUMP.write_text(wanted, encoding='utf-8')
+    elif read(DUMP) != wanted: faults.append(f'{DUMP.relative_to(TREE)} is no dump of {SAMPLE.relative_to(TREE)}')
     if '--check' not in sys.argv: return
     libraries = [crate for crate in product() if crate != 'toxicap_program']
     missing = ({'crates', 'files', 'limits', 'edits'} | {f'calls {crate}' for crate in libraries}) - shown
     faults += [f'no page has the part: {name}' for name in sorted(missing)]
     for fault in faults: print('failed:', fault)
-    print(f'{len(shown | missing) + len(copies) - len(faults)} passed, {len(faults)} failed')
+    print(f'{len(shown | missing) + 1 - len(faults)} passed, {len(faults)} failed')
     sys.exit(1 if faults else 0)
 
 

@@ -12,6 +12,7 @@ mod readers;
 mod rehearsed;
 mod running;
 mod shelves;
+mod shop_sample;
 mod storing_runs;
 mod usage;
 mod whole_runs;

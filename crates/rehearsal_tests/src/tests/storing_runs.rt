@@ -1,4 +1,5 @@
 //! Runs that store, over the plain session and over the samples, and the files that each is to give.
+use super::shop_sample::SHOP;
 use scenarios::Hosts;
 use std::alloc::{AllocError, AllocGlobal, Global};
 use std::sync::Wait;
@@ -136,15 +137,14 @@ fn texts_of(alloc: Global, scenarios: &[&str]) -> Result<Vec<&'static [u8]>, All
     Ok(texts)
 }
 
-// The files of a run, from the calls that take its texts; `shop` is what the larger sample holds.
+// The files of a run, from the calls that take its texts.
 pub fn files_of(
     rt: &(impl AllocGlobal + Threads + Wait + Sync),
-    shop: &[u8],
     run: &Run<'_>,
 ) -> Result<Vec<MemoryFile>, RunFault> {
     let (capture, host) = match run.capture {
         "session" => (PLAIN_SESSION.as_slice(), "10.0.0.2"),
-        "shop" => (shop, "10.77.0.2"),
+        "shop" => (SHOP.as_bytes(), "10.77.0.2"),
         _ => (HTTP_GET.as_bytes(), "10.77.0.2"),
     };
     let texts = texts_of(rt.alloc(), run.scenarios)?;

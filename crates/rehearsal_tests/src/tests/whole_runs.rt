@@ -3,14 +3,13 @@ ghost use Rattle.std.specs.Prelude.{◌≡◌, IfOk};
 
 use super::captures::PLAIN_REPORT;
 use super::named_files::{check_over, ended_over};
+use super::shop_sample::SHOP;
 use super::storing_runs::{
     BY_ONE, BY_TWO, HELD, HTTP_GET, LINE, Run, SAMPLE, SAMPLE_BY_ALL, SAMPLE_BY_TWO, SHOP_BY_THREE,
     files_of,
 };
 use std::alloc::{AllocError, AllocGlobal, Global};
-use std::fs;
 use std::process::Abort;
-use std::rt::Files;
 use std::sync::Wait;
 use std::thread::Threads;
 use toxicap::{MemoryDisk, MemoryFile};
@@ -19,32 +18,20 @@ use worked_sessions::sessions::{PLAIN_SESSION, header, put_field};
 // An older file of a name that the runs give.
 const OLDER: &[u8] = b"an older file";
 
-// The sample `samples/shop.pcap`, of which `data/` has a copy.
-fn shop(rt: &(impl Abort + AllocGlobal + Files)) -> Vec<u8> {
-    fs::read(rt, "shop.pcap").expect(rt, "the sample")
-}
-
 // A disk with three captures, three scenarios, the older file, and a capture that cannot be read to its end.
-fn disk_with(alloc: Global, shop: &[u8]) -> Result<MemoryDisk, AllocError>
+fn disk_before(alloc: Global) -> Result<MemoryDisk, AllocError>
     ensures { IfOk result (λ disk. disk.failed ≡ 0) }
 {
     let mut disk = MemoryDisk::new(alloc);
     disk.put_first("session", &PLAIN_SESSION, 0)?;
     disk.put_first("http-get", HTTP_GET.as_bytes(), 0)?;
-    disk.put_first("shop", shop, 0)?;
+    disk.put_first("shop", SHOP.as_bytes(), 0)?;
     disk.put_first("unread", &PLAIN_SESSION, 1)?;
     disk.put_first("bare", b"[]", 0)?;
     disk.put_first("held", HELD.as_bytes(), 0)?;
     disk.put_first("line", LINE.as_bytes(), 0)?;
     disk.put_first("out/0001.txt", OLDER, 0)?;
     Ok(disk)
-}
-
-// That disk, with the sample.
-fn disk_before(rt: &(impl Abort + AllocGlobal + Files)) -> MemoryDisk
-    ensures { result.failed ≡ 0 }
-{
-    disk_with(rt.alloc(), &shop(rt)).expect(rt, "memory")
 }
 
 // Whether the folder has so many of these files, and in place of those after them what was there before.
@@ -71,12 +58,12 @@ fn has_first(
 
 // A run stores all files of its scenarios; of the first the report is this one, where it is known.
 fn check_whole(
-    rt: &(impl Abort + AllocGlobal + Files + Threads + Wait + Sync),
+    rt: &(impl Abort + AllocGlobal + Threads + Wait + Sync),
     run: &Run<'_>,
     report: Option<&str>,
 ) {
-    let files = files_of(rt, &shop(rt), run).expect(rt, "memory");
-    let mut disk = disk_before(rt);
+    let files = files_of(rt, run).expect(rt, "memory");
+    let mut disk = disk_before(rt.alloc()).expect(rt, "memory");
     check_over(rt, &mut disk, run.words, (0, "", ""));
     let all = has_first(rt.alloc(), &disk, &files, files.len()) == Ok(true);
     let many = files.len() == 2 * run.scenarios.len();
@@ -101,12 +88,12 @@ fn whole_runs(rt: HostRuntime) {
 // A run over a disk that fails once, after so many calls, stores the files for which both calls went well; another run of the same words
 // then stores all.
 fn check_failing(
-    rt: &(impl Abort + AllocGlobal + Files + Threads + Wait + Sync),
+    rt: &(impl Abort + AllocGlobal + Threads + Wait + Sync),
     files: &[MemoryFile],
     words: &[&str],
     calls: u64,
 ) {
-    let mut disk = disk_before(rt);
+    let mut disk = disk_before(rt.alloc()).expect(rt, "memory");
     disk.fail_after(calls);
     let many = calls / 2;
     let told = format!(in rt.alloc(); "refused 60 ShelfFailed after {many}\n");
@@ -122,8 +109,8 @@ fn check_failing(
 }
 
 // Each call of a run fails in turn: two for each file.
-fn check_each(rt: &(impl Abort + AllocGlobal + Files + Threads + Wait + Sync), run: &Run<'_>) {
-    let files = files_of(rt, &shop(rt), run).expect(rt, "memory");
+fn check_each(rt: &(impl Abort + AllocGlobal + Threads + Wait + Sync), run: &Run<'_>) {
+    let files = files_of(rt, run).expect(rt, "memory");
     for calls in 0..2 * files.len() as u64 {
         check_failing(rt, &files, run.words, calls);
     }
@@ -141,12 +128,12 @@ fn runs_that_a_disk_cuts_short(rt: HostRuntime) {
 
 // A run of these words ends so, and leaves the folder as it was.
 fn check_untouched(
-    rt: &(impl Abort + AllocGlobal + Files + Threads + Wait + Sync),
+    rt: &(impl Abort + AllocGlobal + Threads + Wait + Sync),
     words: &[&str],
     ends: (u8, &str, &str),
 ) {
-    let files = files_of(rt, b"", &BY_ONE).expect(rt, "memory");
-    let mut disk = disk_before(rt);
+    let files = files_of(rt, &BY_ONE).expect(rt, "memory");
+    let mut disk = disk_before(rt.alloc()).expect(rt, "memory");
     check_over(rt, &mut disk, words, ends);
     let good = disk.failed() == 0 && has_first(rt.alloc(), &disk, &files, 0) == Ok(true);
     assert!(rt; good, "{words:?}");
@@ -167,8 +154,8 @@ fn runs_that_store_nothing(rt: HostRuntime) {
 
 #[test]
 fn help_beside_a_folder(rt: HostRuntime) {
-    let files = files_of(&rt, b"", &BY_ONE).expect(&rt, "memory");
-    let mut disk = disk_before(&rt);
+    let files = files_of(&rt, &BY_ONE).expect(&rt, "memory");
+    let mut disk = disk_before(rt.alloc()).expect(&rt, "memory");
     let words = ["--capture=session", "--out=out", "--help"];
     let (status, written, told) = ended_over(&rt, &mut disk, &words);
     let good = disk.failed() == 0 && has_first(rt.alloc(), &disk, &files, 0) == Ok(true);
@@ -178,7 +165,7 @@ fn help_beside_a_folder(rt: HostRuntime) {
 // A scenario that lies in the folder, under the name of a file of its run, stays there.
 #[test]
 fn an_input_in_the_folder(rt: HostRuntime) {
-    let mut disk = disk_before(&rt);
+    let mut disk = disk_before(rt.alloc()).expect(&rt, "memory");
     disk.put_first("out/0000.txt", b"[]", 0)
         .expect(&rt, "memory");
     let words = ["--capture=session", "--scenario=out/0000.txt", "--out=out"];

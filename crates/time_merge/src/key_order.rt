@@ -99,10 +99,7 @@ pub(crate) fn merged_keys<L: Keys>(
 
 // The places of all segments of lists in any order, by key. They are sorted and not merged: where connections are many, each step of a merge goes
 // from one to another through all of their memory.
-pub(crate) fn sorted_places<L: Keys>(
-    alloc: Global,
-    lists: &[L],
-) -> Result<Vec<Place>, AllocError>
+pub(crate) fn sorted_places<L: Keys>(alloc: Global, lists: &[L]) -> Result<Vec<Place>, AllocError>
     requires { HasNoKeyTwice (flat_map L.segments lists.now) }
     ensures stand { IfOk result (λ places. All (IsPlace L.segments lists.now) places.items) }
     ensures order { IfOk result (λ places. map (segment_at L.segments lists.now) places.items ≡ sorted_by_key (flat_map L.segments lists.now)) }

@@ -3,8 +3,8 @@
 
 mod key_order;
 mod merging;
-mod sinks;
 mod short_keys;
+mod sinks;
 
 pub use merging::{Merged, merge, merged_capture, write_outlines};
 pub use sinks::CaptureSink;

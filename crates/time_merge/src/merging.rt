@@ -183,11 +183,7 @@ fn capture_len<L: Keys>(lists: &[L]) -> usize {
 }
 
 // Appends the record of the segment at a place.
-fn put_segment<L: Keys>(
-    lists: &[L],
-    place: Place,
-    out: &mut Vec<u8>,
-) -> Result<(), AllocError>
+fn put_segment<L: Keys>(lists: &[L], place: Place, out: &mut Vec<u8>) -> Result<(), AllocError>
     requires { IsPlace L.segments lists.now place }
     ensures ok { OnOk result (out.new.items ≡ out.old.items ++ (segment_at L.segments lists.now place).bytes) }
     ensures err { OnErr result (out.new.items ≡ out.old.items) }

@@ -12,7 +12,8 @@ pub const HELD: &str =
     "[{\"name\":\"web\",\"upstream\":\"web:80\",\"toxics\":[{\"type\":\"latency\",\"stream\":\"upstream\",\"attributes\":{\"latency\":100,\"jitter\":50}}]}]";
 
 // The faults of `examples/mobile-line.json`, and a Redis that is down.
-pub const LINE: &str = "[{\"name\":\"web\",\"upstream\":\"10.77.0.2:80\",\"toxics\":[{\"type\":\"latency\",\"stream\":\"upstream\",\"attributes\":{\"latency\":150,\"jitter\":50}},{\"type\":\"bandwidth\",\"attributes\":{\"rate\":20}},{\"type\":\"slicer\",\"attributes\":{\"average_size\":500,\"size_variation\":300,\"delay\":3000}}]},{\"name\":\"redis\",\"upstream\":\"10.77.0.3:6379\",\"enabled\":false}]";
+pub const LINE: &str =
+    "[{\"name\":\"web\",\"upstream\":\"10.77.0.2:80\",\"toxics\":[{\"type\":\"latency\",\"stream\":\"upstream\",\"attributes\":{\"latency\":150,\"jitter\":50}},{\"type\":\"bandwidth\",\"attributes\":{\"rate\":20}},{\"type\":\"slicer\",\"attributes\":{\"average_size\":500,\"size_variation\":300,\"delay\":3000}}]},{\"name\":\"redis\",\"upstream\":\"10.77.0.3:6379\",\"enabled\":false}]";
 
 // The sample `samples/http-get.pcap` as a dump.
 pub const HTTP_GET: &str =

@@ -1,4 +1,4 @@
-use Rattle.std.proofs.Common.{◌≡◌, List, map, sym, ap, ◌∙◌, subst}
+use Rattle.std.proofs.Common.{List, map, sym, ap, ◌∙◌, subst}
 use Rattle.std.specs.List.{All}
 use Rattle.time_merge.specs.declared.key_order.Place.{Place}
 use Rattle.time_merge.specs.KeyedSegments.{segment_at, IsPlace}

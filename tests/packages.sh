@@ -281,7 +281,7 @@ if can "the crate for Rust" cargo rustc cc; then
     in_crate cargo package --no-verify --offline --list --allow-dirty > "$work/output" 2> "$work/faults" || cat "$work/faults" >> "$work/output"
     sed -i '/^Cargo\.lock$/d' "$work/output"
     {
-        printf '%s\n' Cargo.toml Cargo.toml.orig LICENCES.md build.rs native/libtoxicap.a src/events.rs src/lib.rs src/rehearse.rs
+        printf '%s\n' Cargo.toml Cargo.toml.orig LICENCES.md README.md build.rs native/libtoxicap.a src/events.rs src/lib.rs src/rehearse.rs
         (cd "$work" && find share -type f -printf 'share/toxicap/%P\n')
     } | LC_ALL=C sort > "$work/wanted"
     LC_ALL=C sort -o "$work/output" "$work/output"

@@ -14,7 +14,7 @@ pub struct Output {
 /// What toxicap refuses. As text it is the program's line, as `refused 15 UnknownHost scenario 0 proxy 1`; the numbers there count from 0.
 #[derive(Clone, Debug, PartialEq, Eq)]
 pub struct Refusal {
-    /// What it is: the guide has a table of all numbers. Want of memory is 40.
+    /// What it is: `docs/GUIDE.md` has a table of all numbers. Lack of memory is 40.
     pub number: u32,
     /// The same as a word, as `UnknownHost`.
     pub name: String,
@@ -79,12 +79,13 @@ fn texts(scenarios: &[impl AsRef<[u8]>]) -> (Vec<u8>, Vec<usize>) {
 
 /// The capture and the report of each scenario, in their order: the bytes that `toxicap --out` stores.
 ///
-/// The capture is a classic pcap of Ethernet frames, or a dump of one in hexadecimal; scenarios are JSON in Toxiproxy's populate form, with the member
-/// `toxics`; hosts are lines NAME=ADDR. All drawing depends on the seed, and equal arguments give equal bytes. Any thread may call.
+/// The capture is a classic pcap of Ethernet frames, or a dump of one in hexadecimal; scenarios are JSON in Toxiproxy's populate form, with the field
+/// `toxics`: of `[]` the session is as recorded, and where there is no scenario there is no output. Hosts are lines, as
+/// `"redis=10.77.0.3\nweb=10.77.0.2"`. All drawing depends on the seed, and equal arguments give equal bytes. Any thread with 256 KB of stack may call.
 ///
 /// # Errors
 ///
-/// What is refused, and want of memory in the library, as a [`Refusal`]. Where there is no room for the outputs themselves, the process ends as it
+/// What is refused, and lack of memory in the library, as a [`Refusal`]. Where there is no room for the outputs themselves, the process ends as it
 /// does by any `Vec`.
 #[rustfmt::skip]
 pub fn rehearse(capture: &[u8], scenarios: &[impl AsRef<[u8]>], hosts: &str, seed: u64) -> Result<Vec<Output>, Refusal> {

@@ -63,33 +63,35 @@ func (c *chunks) Read(to []byte) (int, error) {
 	return size, nil
 }
 
-// What a client reads where the answer comes in slices: a client that takes one read for the whole answer goes wrong, and net/http does not.
+// What a client reads: as recorded, a first read gives all headers of the answer, and in slices a part of them. So a client that takes one read for the
+// headers passes with the one and fails with the other; net/http reads on.
 func ExampleDelivered() {
 	capture, err := os.ReadFile("share/toxicap/samples/http-get.pcap")
 	if err != nil {
 		panic(err)
 	}
 	slicer := `[{"name": "web", "upstream": "10.77.0.2:80", "toxics": [{"type": "slicer", "attributes": {"average_size": 50, "delay": 1000}}]}]`
-	outputs, err := toxicap.Rehearse(capture, [][]byte{[]byte(slicer)}, nil, 0)
+	outputs, err := toxicap.Rehearse(capture, [][]byte{[]byte("[]"), []byte(slicer)}, nil, 0)
 	if err != nil {
 		panic(err)
 	}
-	connections, err := toxicap.Delivered(outputs[0].Capture)
-	if err != nil {
-		panic(err)
+	for _, output := range outputs {
+		connections, err := toxicap.Delivered(output.Capture)
+		if err != nil {
+			panic(err)
+		}
+		answer := connections[0][1].Chunks
+		size, _ := (&chunks{next: answer}).Read(make([]byte, 65536))
+		response, err := http.ReadResponse(bufio.NewReader(&chunks{next: answer}), nil)
+		if err != nil {
+			panic(err)
+		}
+		body, err := io.ReadAll(response.Body)
+		fmt.Printf("one read: %d bytes; net/http: %q, %v\n", size, body, err)
 	}
-	answer := connections[0][1].Chunks
-	size, _ := (&chunks{next: answer}).Read(make([]byte, 65536))
-	fmt.Println("one read:", size, "bytes")
-	response, err := http.ReadResponse(bufio.NewReader(&chunks{next: answer}), nil)
-	if err != nil {
-		panic(err)
-	}
-	body, err := io.ReadAll(response.Body)
-	fmt.Printf("net/http: %q, %v\n", body, err)
 	// Output:
-	// one read: 50 bytes
-	// net/http: "Hello from the sample server.\n", <nil>
+	// one read: 186 bytes; net/http: "Hello from the sample server.\n", <nil>
+	// one read: 50 bytes; net/http: "Hello from the sample server.\n", <nil>
 }
 
 // The reports alone are those of the outputs, and each refusal is its line.

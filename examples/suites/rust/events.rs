@@ -42,7 +42,7 @@ pub struct Event {
 /// What one direction of a connection delivered.
 #[derive(Clone, Debug, Default, PartialEq)]
 pub struct Line {
-    /// Its chunks, each with its time.
+    /// Its chunks, each whole (also above 1,460 bytes), with its time; several may have the same. A live read may give less, or more that came at once.
     pub chunks: Vec<(u64, Vec<u8>)>,
     /// Its end, if it has one, with its time.
     pub end: Option<(u64, What)>,

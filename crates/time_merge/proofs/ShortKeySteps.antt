@@ -37,21 +37,21 @@ in_order_by_short_keys keys shorts sorted places are moved given = (map (keyed_a
 -- ---- places by short keys, one after another
 
 abbrev pub Rise : List KeyedSegment → List ℕ → ℕ → Type 0
-Rise keys shorts n = (k : ℕ) → k + 1 < n → is_lt (keyed_cmp (keyed_at keys (slice_index_or shorts (k + 1) 0)) (keyed_at keys (slice_index_or shorts k 0))) ≡ false
+Rise keys shorts n = (k : ℕ) → k < n → Rises keys shorts k
 
 pub rise_more : (keys : List KeyedSegment) (shorts : List ℕ) (n : ℕ) → Rise keys shorts n → Rises keys shorts n → Rise keys shorts (n + 1)
 rise_more keys shorts n rise last k within = by (eq-or-lt_of_le (omega arith))
   where
-    by : (k + 1 ≡ n) ⊎ (k + 1 < n) → is_lt (keyed_cmp (keyed_at keys (slice_index_or shorts (k + 1) 0)) (keyed_at keys (slice_index_or shorts k 0))) ≡ false
-    by (inl is) =
-        let before : k ≡ n - 1 = omega (arith, is) in
-        ap₂ (λ i j. is_lt (keyed_cmp (keyed_at keys (slice_index_or shorts i 0)) (keyed_at keys (slice_index_or shorts j 0)))) is before ∙ last (omega (arith, is))
+    by : (k ≡ n) ⊎ (k < n) → Rises keys shorts k
+    by (inl is) = subst (Rises keys shorts) (sym is) last
     by (inr earlier) = rise k earlier
 
 pub risen : (keys : List KeyedSegment) (shorts : List ℕ) → Rise keys shorts (length shorts) → IsSorted keyed_cmp (map (keyed_at keys) shorts)
 risen keys shorts rise k d low within =
     let inside : k + 1 < length shorts = omega (arith, length-map shorts (keyed_at keys)) in
-    ap₂ (λ a b. is_lt (keyed_cmp a b)) (get_or-map (keyed_at keys) shorts (k + 1) 0 d inside) (get_or-map (keyed_at keys) shorts k 0 d (omega arith)) ∙ rise k inside
+    let here : k + 1 - 1 ≡ k = omega arith in
+    ap₂ (λ a b. is_lt (keyed_cmp a b)) (get_or-map (keyed_at keys) shorts (k + 1) 0 d inside) (get_or-map (keyed_at keys) shorts k 0 d (omega arith))
+    ∙ subst (λ i. is_lt (keyed_cmp (keyed_at keys (slice_index_or shorts (k + 1) 0)) (keyed_at keys (slice_index_or shorts i 0))) ≡ false) here (rise (k + 1) inside (omega arith))
 
 pub places_more : (keys : List KeyedSegment) (shorts : List ℕ) (n : ℕ) (places : List Place) (place : Place) → n < length shorts
     → places ≡ map place_of (map (keyed_at keys) (take n shorts)) → place ≡ place_of (keyed_at keys (slice_index_or shorts n 0))

@@ -175,10 +175,10 @@ def clauses(code, head):
     return found
 
 
-def with_clauses(code, head, none=''):
-    """A function as it is told: its name, and in brackets the names of its clauses, or a word where there are none."""
+def with_clauses(code, head):
+    """A function as it is told: its name, and in brackets the names of its clauses, or '-' where there are none."""
     promised = clauses(code, head)
-    names = ', '.join(filter(None, promised)) if promised else none
+    names = ', '.join(filter(None, promised)) if promised else '-'
     return f'`{head[3]}`' + (f' ({names})' if names else '')
 
 
@@ -217,11 +217,11 @@ def made_calls(crate):
         for block in re.finditer(r'^(pub trait|impl)(?:<.*?>)? (\w+)(?![^\n]* for ).*?^\}', code, re.M | re.S):
             if block[2] not in names: continue
             for head in FUNCTION.finditer(code, block.start(), block.end()):
-                if head[2] == 'pub ' or block[1] == 'pub trait': rows.setdefault(block[2], []).append(with_clauses(code, head, '-'))
+                if head[2] == 'pub ' or block[1] == 'pub trait': rows.setdefault(block[2], []).append(with_clauses(code, head))
         for head in FUNCTION.finditer(code):
             if head[1] or head[2] != 'pub ': continue
             if names.get(head[3]) == path.stem or path.stem == 'laws' or 'extern "C"' in head[0]:
-                rows.setdefault(path.stem, []).append(with_clauses(code, head, '-'))
+                rows.setdefault(path.stem, []).append(with_clauses(code, head))
     yield '| Of | Calls |\n|---|---|\n'
     for of, calls in rows.items(): yield f'| `{of}` | {", ".join(calls)} |\n'
 

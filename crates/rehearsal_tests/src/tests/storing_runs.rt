@@ -11,7 +11,7 @@ use worked_sessions::sessions::PLAIN_SESSION;
 pub const HELD: &str =
     "[{\"name\":\"web\",\"upstream\":\"web:80\",\"toxics\":[{\"type\":\"latency\",\"stream\":\"upstream\",\"attributes\":{\"latency\":100,\"jitter\":50}}]}]";
 
-// The faults of `examples/mobile-line.json`, and a Redis that is down.
+// A web server over the line of `examples/mobile-line.json`, mostly as its answers meet it, and a Redis that is down.
 pub const LINE: &str =
     "[{\"name\":\"web\",\"upstream\":\"10.77.0.2:80\",\"toxics\":[{\"type\":\"latency\",\"stream\":\"upstream\",\"attributes\":{\"latency\":150,\"jitter\":50}},{\"type\":\"bandwidth\",\"attributes\":{\"rate\":20}},{\"type\":\"slicer\",\"attributes\":{\"average_size\":500,\"size_variation\":300,\"delay\":3000}}]},{\"name\":\"redis\",\"upstream\":\"10.77.0.3:6379\",\"enabled\":false}]";
 

@@ -1,63 +1,181 @@
--- Sorted short keys give the keyed segments that they are of, each once.
-use Rattle.std.proofs.Common.{◌≡◌, ℕ, ◌+◌, ◌-◌, ◌<◌, ◌⊎◌, false, is_lt, List, [], ◌∷◌, ◌++◌, length, map, take, slice_index_or, inl, inr, sym, ap, ap₂, ◌∙◌, subst, arith}
+-- Short keys of keyed segments that stand in order but for their moments, and that these come in order once they are sorted.
+use Rattle.std.proofs.Common.{◌≡◌, ℕ, zero, suc, ◌+◌, ◌-◌, ◌*◌, ◌^◌, ◌<◌, ◌≤◌, ◌⊎◌, Bool, true, false, nat_cmp, is_lt, List, [], ◌∷◌, ◌++◌, length, map, slice_index_or, inl, inr, refl, sym, ap, ap₂, ◌∙◌, subst, Ordering, Equal, Greater, arith}
+use Rattle.std.specs.Cmp.{nat_cmp_is}
 use Rattle.std.specs.List.{All}
-use Rattle.std.specs.List.Sorted.{IsPermutation, IsSorted}
-use Rattle.std.proofs.lemmas.List.{get_or-map, get_or_default, length-map, map-append, same_lists, take_more}
-use Rattle.std.proofs.Math.Nat.{eq-or-lt_of_le}
+use Rattle.std.specs.List.Sorted.{IsNonDecreasing, IsPermutation, IsSorted}
+use Rattle.std.specs.Ordering.{ordering_then}
+use Rattle.std.proofs.lemmas.List.{get_or-map, get_or_default, get_or_append_left, length-append, map-append, length-map, same_lists}
+use Rattle.std.proofs.Math.Seq.{get_or-append_seam}
+use Rattle.std.proofs.lemmas.Bool.{cases_lt, cases_order}
+use Rattle.std.proofs.lemmas.List.Elements.{All-get_or, All-from_get_or}
 use Rattle.std.proofs.lemmas.List.Sorted.{IsPermutation-map, All-permutation}
 use Rattle.time_merge.specs.declared.key_order.KeyedSegment.{KeyedSegment}
-use Rattle.time_merge.specs.declared.key_order.Place.{Place}
-use Rattle.time_merge.specs.KeyedSegments.{keyed_cmp, place_of, ArePlacesInOrder}
-use Rattle.time_merge.specs.ShortKeys.{AreInOrder, AreShortKeys, keyed_at, no_keyed, number_in, Rises}
+use Rattle.time_merge.specs.declared.orders.Place.{Place}
+use Rattle.time_merge.specs.declared.short_keys.ShortKeys.{ShortKeys}
+use Rattle.time_merge.specs.KeyedSegments.{keyed_cmp, no_place, place_of, ArePlacesInOrder}
+use Rattle.time_merge.specs.ShortKeys.{keyed_at, no_keyed, number_in, ranked, short_key, HaveShortKeys, IsShortKey, NeverFallBut}
+use Rattle.time_merge.proofs.KeyedOrder.{below, below_order}
 
--- ---- sorted short keys
+-- ---- one segment more
 
-short_keys_give : (keys : List KeyedSegment) (shorts : List ℕ) → AreShortKeys (length keys) shorts → map (keyed_at keys) shorts ≡ keys
-short_keys_give keys shorts are = same_lists (map (keyed_at keys) shorts) keys (length-map shorts (keyed_at keys) ∙ are.many) (λ i d within.
-    let low : i < length keys = omega (arith, length-map shorts (keyed_at keys), are.many) in
-    let placed : i < length shorts = omega (arith, are.many) in
-    get_or-map (keyed_at keys) shorts i 0 d placed ∙ ap (λ n. slice_index_or keys n no_keyed) (are.each i low) ∙ get_or_default keys i no_keyed d low)
-
-pub short_keys_within : (n : ℕ) (shorts : List ℕ) → AreShortKeys n shorts → All (λ short. number_in short < n) shorts
-short_keys_within n shorts are k d within =
-    let read : number_in (slice_index_or shorts k d) ≡ k = ap number_in (get_or_default shorts k d 0 within) ∙ are.each k (omega (arith, are.many)) in
-    omega (arith, read, are.many)
-
--- they are, once sorted, of the keyed segments in another order
-pub in_another_order : (keys : List KeyedSegment) (shorts sorted : List ℕ) → AreShortKeys (length keys) shorts → IsPermutation shorts sorted → IsPermutation keys (map (keyed_at keys) sorted)
-in_another_order keys shorts sorted are moved =
-    subst (λ (ks : List KeyedSegment). IsPermutation ks (map (keyed_at keys) sorted)) (short_keys_give keys shorts are) (IsPermutation-map (keyed_at keys) shorts sorted moved)
-
-pub sorted_within : (n : ℕ) (shorts sorted : List ℕ) → AreShortKeys n shorts → IsPermutation shorts sorted → All (λ short. number_in short < n) sorted
-sorted_within n shorts sorted are moved = All-permutation (λ short. number_in short < n) shorts sorted moved (short_keys_within n shorts are)
-
-pub in_order_by_short_keys : (keys : List KeyedSegment) (shorts sorted : List ℕ) (places : List Place) → AreShortKeys (length keys) shorts → IsPermutation shorts sorted → AreInOrder keys sorted places → ArePlacesInOrder keys places
-in_order_by_short_keys keys shorts sorted places are moved given = (map (keyed_at keys) sorted, in_another_order keys shorts sorted are moved, given.sorted, given.of)
-
--- ---- places by short keys, one after another
-
-abbrev pub Rise : List KeyedSegment → List ℕ → ℕ → Type 0
-Rise keys shorts n = (k : ℕ) → k < n → Rises keys shorts k
-
-pub rise_more : (keys : List KeyedSegment) (shorts : List ℕ) (n : ℕ) → Rise keys shorts n → Rises keys shorts n → Rise keys shorts (n + 1)
-rise_more keys shorts n rise last k within = by (eq-or-lt_of_le (omega arith))
+not_below_itself : (k : KeyedSegment) → below k k ≡ false
+not_below_itself k = by (below k k) refl
   where
-    by : (k ≡ n) ⊎ (k < n) → Rises keys shorts k
-    by (inl is) = subst (Rises keys shorts) (sym is) last
-    by (inr earlier) = rise k earlier
+    by : (b : Bool) → below k k ≡ b → below k k ≡ false
+    by true e = below_order.one_way k k e
+    by false e = e
 
-pub risen : (keys : List KeyedSegment) (shorts : List ℕ) → Rise keys shorts (length shorts) → IsSorted keyed_cmp (map (keyed_at keys) shorts)
-risen keys shorts rise k d low within =
-    let inside : k + 1 < length shorts = omega (arith, length-map shorts (keyed_at keys)) in
-    let here : k + 1 - 1 ≡ k = omega arith in
-    ap₂ (λ a b. is_lt (keyed_cmp a b)) (get_or-map (keyed_at keys) shorts (k + 1) 0 d inside) (get_or-map (keyed_at keys) shorts k 0 d (omega arith))
-    ∙ subst (λ i. is_lt (keyed_cmp (keyed_at keys (slice_index_or shorts (k + 1) 0)) (keyed_at keys (slice_index_or shorts i 0))) ≡ false) here (rise (k + 1) inside (omega arith))
+module _ (keys : List KeyedSegment) (keyed : KeyedSegment) where
+  -- with it
+  abbrev more : List KeyedSegment
+  more = keys ++ keyed ∷ []
 
-pub places_more : (keys : List KeyedSegment) (shorts : List ℕ) (n : ℕ) (places : List Place) (place : Place) → n < length shorts
-    → places ≡ map place_of (map (keyed_at keys) (take n shorts)) → place ≡ place_of (keyed_at keys (slice_index_or shorts n 0))
-    → places ++ place ∷ [] ≡ map place_of (map (keyed_at keys) (take (n + 1) shorts))
-places_more keys shorts n places place within are is =
-    ap₂ (λ (ps : List Place) (p : Place). ps ++ p ∷ []) are is
-    ∙ sym (map-append place_of (map (keyed_at keys) (take n shorts)) (keyed_at keys (slice_index_or shorts n 0) ∷ []))
-    ∙ ap (map place_of) (sym (map-append (keyed_at keys) (take n shorts) (slice_index_or shorts n 0 ∷ [])))
-    ∙ ap (λ (ts : List ℕ). map place_of (map (keyed_at keys) ts)) (sym (take_more shorts n 0 within))
+  more_len : length more ≡ length keys + 1
+  more_len = length-append keys (keyed ∷ [])
+
+  earlier : (i : ℕ) → i < length keys → slice_index_or more i no_keyed ≡ slice_index_or keys i no_keyed
+  earlier i within = get_or_append_left keys (keyed ∷ []) no_keyed i within
+
+  added : (i : ℕ) → i ≡ length keys → slice_index_or more i no_keyed ≡ keyed
+  added i is = ap (λ n. slice_index_or more n no_keyed) is ∙ get_or-append_seam keys keyed [] no_keyed
+
+  still_short : (first short : ℕ) → IsShortKey first keys short → IsShortKey first more short
+  still_short first short was = record {
+    within = omega (arith, was.within, more_len);
+    early = subst (λ (k : KeyedSegment). first ≤ k.key.moment) (sym (earlier (number_in short) was.within)) was.early;
+    is = was.is ∙ ap (short_key first (number_in short)) (sym (earlier (number_in short) was.within));
+  }
+
+  added_short : (first short : ℕ) → length keys < 2 ^ 26 → first ≤ keyed.key.moment → short ≡ short_key first (length keys) keyed → (number_in short ≡ length keys) × IsShortKey first more short
+  added_short first short few early is =
+      let number : number_in short ≡ length keys = omega (arith, few, is) in
+      let here : keyed_at more short ≡ keyed = added (number_in short) number in (
+        number,
+        record {
+          within = omega (arith, number, more_len);
+          early = subst (λ (k : KeyedSegment). first ≤ k.key.moment) (sym here) early;
+          is = is ∙ ap₂ (short_key first) (sym number) (sym here);
+        },
+      )
+
+  in_turn_more : (first : ℕ) (last : KeyedSegment) → NeverFallBut first keys → ((i : ℕ) → i < length keys → below last (ranked first (slice_index_or keys i no_keyed)) ≡ false)
+      → below (ranked first keyed) last ≡ false → NeverFallBut first more
+  in_turn_more first last in_turn top above i j le within = by (cases_lt j (length keys)) (cases_lt i (length keys))
+    where
+      by : (j < length keys) ⊎ (length keys ≤ j) → (i < length keys) ⊎ (length keys ≤ i) → below (ranked first (slice_index_or more j no_keyed)) (ranked first (slice_index_or more i no_keyed)) ≡ false
+      by (inl low) _ = ap₂ (λ a b. below (ranked first a) (ranked first b)) (earlier j low) (earlier i (omega arith)) ∙ in_turn i j le low
+      by (inr high) (inl low) =
+          ap₂ (λ a b. below (ranked first a) (ranked first b)) (added j (omega (arith, more_len))) (earlier i low)
+          ∙ below_order.chain (ranked first keyed) last (ranked first (slice_index_or keys i no_keyed)) above (top i low)
+      by (inr high) (inr also) =
+          ap₂ (λ a b. below (ranked first a) (ranked first b)) (added j (omega (arith, more_len))) (added i (omega (arith, more_len))) ∙ not_below_itself (ranked first keyed)
+
+  pub one_more : (s t : ShortKeys) → HaveShortKeys keys s → length keys < 2 ^ 26 → s.first ≤ keyed.key.moment → below (ranked s.first keyed) s.last ≡ false
+      → t.first ≡ s.first → t.last ≡ ranked s.first keyed → t.short_keys.items ≡ s.short_keys.items ++ short_key s.first (length keys) keyed ∷ [] → t.places.items ≡ s.places.items ++ place_of keyed ∷ []
+      → HaveShortKeys more t
+  one_more s t have few early above first last short_keys places = record {
+    many = ap length short_keys ∙ length-append s.short_keys.items (short_key s.first (length keys) keyed ∷ []) ∙ ap (λ n. n + 1) have.many ∙ sym more_len;
+    each = each;
+    places = places ∙ ap (λ (ps : List Place). ps ++ place_of keyed ∷ []) have.places ∙ sym (map-append place_of keys (keyed ∷ []));
+    in_turn = subst (λ f. NeverFallBut f more) (sym first) in_turn;
+    last = λ i within. ap₂ (λ a f. below a (ranked f (slice_index_or more i no_keyed))) last first ∙ ap (λ k. below (ranked s.first k) (ranked s.first (slice_index_or more i no_keyed))) (sym (added (length keys) refl)) ∙ in_turn i (length keys) (omega (arith, within, more_len)) (omega (arith, more_len));
+  }
+    where
+      in_turn : NeverFallBut s.first more
+      in_turn = in_turn_more s.first s.last have.in_turn have.last above
+
+      all : List ℕ
+      all = s.short_keys.items ++ short_key s.first (length keys) keyed ∷ []
+
+      of_all : (i : ℕ) → (i < length keys) ⊎ (length keys ≤ i) → i < length more → (number_in (slice_index_or all i 0) ≡ i) × IsShortKey s.first more (slice_index_or all i 0)
+      of_all i (inl low) within =
+          let was = have.each i low in
+          subst (λ n. (number_in n ≡ i) × IsShortKey s.first more n) (sym (get_or_append_left s.short_keys.items (short_key s.first (length keys) keyed ∷ []) 0 i (omega (arith, have.many))))
+          (was.0, still_short s.first (slice_index_or s.short_keys.items i 0) was.1)
+      of_all i (inr high) within =
+          let here : i ≡ length keys = omega (arith, more_len) in
+          let seam : slice_index_or all i 0 ≡ short_key s.first (length keys) keyed = ap (λ n. slice_index_or all n 0) (here ∙ sym have.many) ∙ get_or-append_seam s.short_keys.items (short_key s.first (length keys) keyed) [] 0 in
+          let is = added_short s.first (slice_index_or all i 0) few early seam in
+          (is.0 ∙ sym here, is.1)
+
+      each : (i : ℕ) → i < length more → (number_in (slice_index_or t.short_keys.items i 0) ≡ i) × IsShortKey t.first more (slice_index_or t.short_keys.items i 0)
+      each i within = subst (λ f. (number_in (slice_index_or t.short_keys.items i 0) ≡ i) × IsShortKey f more (slice_index_or t.short_keys.items i 0)) (sym first)
+          (subst (λ (ns : List ℕ). (number_in (slice_index_or ns i 0) ≡ i) × IsShortKey s.first more (slice_index_or ns i 0)) (sym short_keys) (of_all i (cases_lt i (length keys)) within))
+
+-- ---- sorted
+
+pub same_short_key : (x y x2 y2 n n2 : ℕ) → x ≡ x2 → y ≡ y2 → n ≡ n2 → (x - y) * 2 ^ 26 + n ≡ (x2 - y2) * 2 ^ 26 + n2
+same_short_key x y x2 y2 n n2 a b c = ap₂ (λ i j. (i - j) * 2 ^ 26 + n) a b ∙ ap (λ k. (x2 - y2) * 2 ^ 26 + k) c
+
+by_moment : (o p q : Ordering) → o ≡ Greater → is_lt (ordering_then (ordering_then o p) q) ≡ false
+by_moment o p q is = subst (λ r. is_lt (ordering_then (ordering_then r p) q) ≡ false) (sym is) refl
+
+later : (x y : KeyedSegment) → x.key.moment < y.key.moment → below y x ≡ false
+later x y low = by_moment (nat_cmp y.key.moment x.key.moment) _ _ (sym (nat_cmp_is y.key.moment x.key.moment Greater low))
+
+by_same : (o o2 p q : Ordering) → o ≡ o2 → is_lt (ordering_then (ordering_then o2 p) q) ≡ false → is_lt (ordering_then (ordering_then o p) q) ≡ false
+by_same o o2 p q is h = subst (λ r. is_lt (ordering_then (ordering_then r p) q) ≡ false) (sym is) h
+
+same_moment : (first : ℕ) (x y : KeyedSegment) → x.key.moment ≡ y.key.moment → below (ranked first y) (ranked first x) ≡ false → below y x ≡ false
+same_moment first x y same ranks =
+    let here : nat_cmp y.key.moment x.key.moment ≡ nat_cmp first first = sym (nat_cmp_is y.key.moment x.key.moment Equal (sym same)) ∙ nat_cmp_is first first Equal refl in
+    by_same (nat_cmp y.key.moment x.key.moment) (nat_cmp first first) _ _ here ranks
+
+rise : (first : ℕ) (keys : List KeyedSegment) (a b : ℕ) → NeverFallBut first keys → IsShortKey first keys a → IsShortKey first keys b → a ≤ b → below (keyed_at keys b) (keyed_at keys a) ≡ false
+rise first keys a b in_turn low high le = by (cases_order (keyed_at keys a).key.moment (keyed_at keys b).key.moment)
+  where
+    before : (keyed_at keys b).key.moment < (keyed_at keys a).key.moment → ⊥
+    before h = omega (arith, low.is, high.is, low.early, high.early, le, h)
+
+    numbers : (keyed_at keys a).key.moment ≡ (keyed_at keys b).key.moment → number_in a ≤ number_in b
+    numbers same = omega (arith, low.is, high.is, low.early, high.early, le, same)
+
+    by : ((keyed_at keys a).key.moment ≡ (keyed_at keys b).key.moment) ⊎ (((keyed_at keys a).key.moment < (keyed_at keys b).key.moment) ⊎ ((keyed_at keys b).key.moment < (keyed_at keys a).key.moment)) → below (keyed_at keys b) (keyed_at keys a) ≡ false
+    by (inl same) = same_moment first (keyed_at keys a) (keyed_at keys b) same (in_turn (number_in a) (number_in b) (numbers same) high.within)
+    by (inr (inl low)) = later (keyed_at keys a) (keyed_at keys b) low
+    by (inr (inr high)) = absurd (before high)
+
+give_keys : (keys : List KeyedSegment) (shorts : List ℕ) → length shorts ≡ length keys → ((i : ℕ) → i < length keys → number_in (slice_index_or shorts i 0) ≡ i) → map (keyed_at keys) shorts ≡ keys
+give_keys keys shorts many each = same_lists (map (keyed_at keys) shorts) keys (length-map shorts (keyed_at keys) ∙ many) (λ i d within.
+    let low : i < length keys = omega (arith, length-map shorts (keyed_at keys), many) in
+    let placed : i < length shorts = omega (arith, many) in
+    get_or-map (keyed_at keys) shorts i 0 d placed ∙ ap (λ n. slice_index_or keys n no_keyed) (each i low) ∙ get_or_default keys i no_keyed d low)
+
+place_at : (keys : List KeyedSegment) (n : ℕ) → slice_index_or (map place_of keys) n no_place ≡ place_of (slice_index_or keys n no_keyed)
+place_at [] n = refl
+place_at (k ∷ keys) zero = refl
+place_at (k ∷ keys) (suc n) = place_at keys n
+
+places_at : (keys : List KeyedSegment) (shorts : List ℕ) → map (λ n. slice_index_or (map place_of keys) n no_place) (map number_in shorts) ≡ map place_of (map (keyed_at keys) shorts)
+places_at keys [] = refl
+places_at keys (s ∷ shorts) = ap₂ (λ (p : Place) (ps : List Place). p ∷ ps) (place_at keys (number_in s)) (places_at keys shorts)
+
+module _ (keys : List KeyedSegment) (s : ShortKeys) (have : HaveShortKeys keys s) (sorted : List ℕ) (moved : IsPermutation s.short_keys.items sorted) where
+  pub all_short : All (IsShortKey s.first keys) sorted
+  all_short = All-permutation (IsShortKey s.first keys) s.short_keys.items sorted moved (All-from_get_or (IsShortKey s.first keys) s.short_keys.items 0 (λ i within. (have.each i (omega (arith, have.many))).1))
+
+  in_order : IsNonDecreasing sorted → IsSorted keyed_cmp (map (keyed_at keys) sorted)
+  in_order rises k d low within =
+      let inside : k + 1 < length sorted = omega (arith, length-map sorted (keyed_at keys)) in
+      ap₂ (λ a b. below a b) (get_or-map (keyed_at keys) sorted (k + 1) 0 d inside) (get_or-map (keyed_at keys) sorted k 0 d (omega arith))
+      ∙ rise s.first keys (slice_index_or sorted k 0) (slice_index_or sorted (k + 1) 0) have.in_turn
+      (All-get_or (IsShortKey s.first keys) sorted k 0 (omega arith) all_short) (All-get_or (IsShortKey s.first keys) sorted (k + 1) 0 inside all_short) (rises k (k + 1) 0 (omega arith) inside)
+
+  pub places_in_order : IsNonDecreasing sorted → ArePlacesInOrder keys (map (λ n. slice_index_or s.places.items n no_place) (map number_in sorted))
+  places_in_order rises = (
+    map (keyed_at keys) sorted,
+    subst (λ (ks : List KeyedSegment). IsPermutation ks (map (keyed_at keys) sorted)) (give_keys keys s.short_keys.items have.many (λ i within. (have.each i within).0)) (IsPermutation-map (keyed_at keys) s.short_keys.items sorted moved),
+    in_order rises,
+    ap (λ (ps : List Place). map (λ n. slice_index_or ps n no_place) (map number_in sorted)) have.places ∙ places_at keys sorted,
+  )
+
+-- ---- numbers within places
+
+pub short_within : (keys : List KeyedSegment) (s : ShortKeys) → HaveShortKeys keys s → All (λ short. number_in short < length s.places.items) s.short_keys.items
+short_within keys s have = All-from_get_or (λ short. number_in short < length s.places.items) s.short_keys.items 0 (λ i within.
+    omega (arith, (have.each i (omega (arith, within, have.many))).1.within, ap length have.places, length-map keys place_of))
+
+pub numbers_within : (n : ℕ) (shorts sorted : List ℕ) → IsPermutation shorts sorted → All (λ short. number_in short < n) shorts → All (λ number. number < n) (map number_in sorted)
+numbers_within n shorts sorted moved all = All-from_get_or (λ number. number < n) (map number_in sorted) 0 (λ i within.
+    let inside : i < length sorted = omega (arith, length-map sorted number_in) in
+    omega (arith, get_or-map number_in sorted i 0 0 inside, All-get_or (λ short. number_in short < n) sorted i 0 inside (All-permutation (λ short. number_in short < n) shorts sorted moved all)))

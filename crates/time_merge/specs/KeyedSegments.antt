@@ -9,7 +9,7 @@ use Rattle.segment_writer.specs.declared.framed.Framed.{Framed}
 use Rattle.segment_writer.specs.SegmentOutlines.{no_segment}
 use Rattle.time_merge.specs.declared.key_order.KeyedSegment.{KeyedSegment}
 use Rattle.time_merge.specs.declared.key_order.KeyedSegments.{KeyedSegments}
-use Rattle.time_merge.specs.declared.key_order.Place.{Place}
+use Rattle.time_merge.specs.declared.orders.Place.{Place}
 
 -- by moment, then connection, turn and place
 abbrev pub key_cmp : SegKey → SegKey → Ordering
@@ -18,6 +18,9 @@ key_cmp = then_cmp (on (λ k. k.moment) nat_cmp) (then_cmp (on (λ k. k.conn) na
 -- by key, then list and index
 abbrev pub keyed_cmp : KeyedSegment → KeyedSegment → Ordering
 keyed_cmp = then_cmp (on (λ l. l.key) key_cmp) (then_cmp (on (λ l. l.list) nat_cmp) (on (λ l. l.index) nat_cmp))
+
+abbrev pub no_place : Place
+no_place = record { list = 0; index = 0 }
 
 -- where a keyed segment stands
 abbrev pub place_of : KeyedSegment → Place

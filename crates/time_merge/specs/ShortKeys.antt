@@ -1,15 +1,22 @@
--- Short keys: numbers whose low bits are the number of a keyed segment among all.
-use Rattle.std.specs.Prelude.{◌≡◌, ◌<◌, ℕ, ◌-◌, ◌^◌, ◌%◌, false, List, length, map, slice_index_or}
-use Rattle.std.specs.List.Sorted.{IsSorted}
+-- Short keys: numbers whose low bits are the number of a keyed segment among all, and whose others are its ticks.
+use Rattle.std.specs.Prelude.{◌≡◌, ◌<◌, ◌≤◌, ℕ, ◌+◌, ◌-◌, ◌*◌, ◌^◌, ◌%◌, false, List, length, map, slice_index_or}
 use Rattle.std.specs.Ordering.{is_lt}
 use Rattle.segment_writer.specs.SegmentOutlines.{no_segment}
 use Rattle.time_merge.specs.declared.key_order.KeyedSegment.{KeyedSegment}
-use Rattle.time_merge.specs.declared.key_order.Place.{Place}
+use Rattle.time_merge.specs.declared.short_keys.ShortKeys.{ShortKeys}
 use Rattle.time_merge.specs.KeyedSegments.{keyed_cmp, place_of}
 
 -- that number
 abbrev pub number_in : ℕ → ℕ
 number_in short = short % 2 ^ 26
+
+-- the short key of keyed segment n, whose ticks are counted from a moment
+abbrev pub short_key : ℕ → ℕ → KeyedSegment → ℕ
+short_key first n l = (l.key.moment - first) * 2 ^ 26 + n
+
+-- a keyed segment as if it were of a moment
+abbrev pub ranked : ℕ → KeyedSegment → KeyedSegment
+ranked first l = record { key = record { moment = first; conn = l.key.conn; turn = l.key.turn; place = l.key.place }; list = l.list; index = l.index }
 
 abbrev pub no_keyed : KeyedSegment
 no_keyed = record { key = no_segment.key; list = 0; index = 0 }
@@ -18,16 +25,21 @@ no_keyed = record { key = no_segment.key; list = 0; index = 0 }
 abbrev pub keyed_at : List KeyedSegment → ℕ → KeyedSegment
 keyed_at keys short = slice_index_or keys (number_in short) no_keyed
 
--- the short keys of so many keyed segments, one of each, in their order
-pub record AreShortKeys (n : ℕ) (shorts : List ℕ) : Type 0 where
-  pub many : length shorts ≡ n
-  pub each : (i : ℕ) → i < n → number_in (slice_index_or shorts i 0) ≡ i
+-- a number is the short key of a keyed segment among some
+pub record IsShortKey (first : ℕ) (keys : List KeyedSegment) (short : ℕ) : Type 0 where
+  pub within : number_in short < length keys
+  pub early : first ≤ (keyed_at keys short).key.moment
+  pub is : short ≡ short_key first (number_in short) (keyed_at keys short)
 
--- the keyed segment of short key n is not below that of the one before it
-abbrev pub Rises : List KeyedSegment → List ℕ → ℕ → Type 0
-Rises keys shorts n = 0 < n → is_lt (keyed_cmp (keyed_at keys (slice_index_or shorts n 0)) (keyed_at keys (slice_index_or shorts (n - 1) 0))) ≡ false
+-- but for their moments, no keyed segment is below an earlier one
+abbrev pub NeverFallBut : ℕ → List KeyedSegment → Type 0
+NeverFallBut first keys = (i j : ℕ) → i ≤ j → j < length keys
+    → is_lt (keyed_cmp (ranked first (slice_index_or keys j no_keyed)) (ranked first (slice_index_or keys i no_keyed))) ≡ false
 
--- the places of the keyed segments of short keys, which are in order
-pub record AreInOrder (keys : List KeyedSegment) (shorts : List ℕ) (places : List Place) : Type 0 where
-  pub sorted : IsSorted keyed_cmp (map (keyed_at keys) shorts)
-  pub of : places ≡ map place_of (map (keyed_at keys) shorts)
+-- the short keys and places of keyed segments that stand in order but for their moments, and the last of these
+pub record HaveShortKeys (keys : List KeyedSegment) (s : ShortKeys) : Type 0 where
+  pub many : length s.short_keys.items ≡ length keys
+  pub each : (i : ℕ) → i < length keys → (number_in (slice_index_or s.short_keys.items i 0) ≡ i) × IsShortKey s.first keys (slice_index_or s.short_keys.items i 0)
+  pub places : s.places.items ≡ map place_of keys
+  pub in_turn : NeverFallBut s.first keys
+  pub last : (i : ℕ) → i < length keys → is_lt (keyed_cmp s.last (ranked s.first (slice_index_or keys i no_keyed))) ≡ false

@@ -6,6 +6,7 @@ ghost use Rattle.segment_writer.specs.KeyLaws.{HasNoKeyTwice};
 ghost use Rattle.segment_writer.specs.WrittenSegments.{sorted_by_key};
 ghost use Rattle.time_merge.specs.KeyedSegments.{all_keyed_segments, ArePlacesInOrder, IsPlace, keyed_cmp, keyed_left, keyed_segments, place_of, segment_at};
 
+use crate::orders::{Order, Place};
 use crate::short_keys::by_short_keys;
 use itertools::Itertools;
 use segment_writer::laws::{one_order, sorted_never_falls};
@@ -20,15 +21,8 @@ pub(crate) struct KeyedSegment {
     pub(crate) index: usize,
 }
 
-/// Where a segment stands: the number of its list, and its index there.
-#[derive(Clone, Copy, Debug)]
-pub(crate) struct Place {
-    pub(crate) list: usize,
-    pub(crate) index: usize,
-}
-
 impl KeyedSegment {
-    // Where it stands.
+    /// Where it stands.
     pub(crate) fn place(&self) -> Place
         ensures { result ≡ place_of self.now }
     {
@@ -99,37 +93,32 @@ pub(crate) fn merged_keys<L: Keys>(
 
 // The places of all segments of lists in any order, by key. They are sorted and not merged: where connections are many, each step of a merge goes
 // from one to another through all of their memory.
-pub(crate) fn sorted_places<L: Keys>(alloc: Global, lists: &[L]) -> Result<Vec<Place>, AllocError>
+pub(crate) fn sorted_places<L: Keys>(alloc: Global, lists: &[L]) -> Result<Order, AllocError>
     requires { HasNoKeyTwice (flat_map L.segments lists.now) }
-    ensures stand { IfOk result (λ places. All (IsPlace L.segments lists.now) places.items) }
-    ensures order { IfOk result (λ places. map (segment_at L.segments lists.now) places.items ≡ sorted_by_key (flat_map L.segments lists.now)) }
+    ensures stand { IfOk result (λ order. All (IsPlace L.segments lists.now) order) }
+    ensures order { IfOk result (λ order. map (segment_at L.segments lists.now) order ≡ sorted_by_key (flat_map L.segments lists.now)) }
 {
-    let keys = keys_of(alloc, lists)?;
-    let places = places_by_key(alloc, keys)?;
-    Ok(in_order(lists, places))
+    let order = order_by_key(alloc, lists)?;
+    Ok(in_order(lists, order))
 }
 
-// The places of keyed segments, in order: by short keys, or else by the keys.
-fn places_by_key(alloc: Global, keys: Vec<KeyedSegment>) -> Result<Vec<Place>, AllocError>
-    ensures { IfOk result (λ places. ArePlacesInOrder keys.items places.items) }
+// The same, by short keys, or else by the keys.
+fn order_by_key<L: Keys>(alloc: Global, lists: &[L]) -> Result<Order, AllocError>
+    ensures { IfOk result (λ order. ArePlacesInOrder (all_keyed_segments L.segments lists.now) order) }
 {
-    if let Some(places) = by_short_keys(alloc, &keys)? {
-        return Ok(places);
+    if let Some(order) = by_short_keys(alloc, lists)? {
+        return Ok(order);
     }
-    let mut keys = keys;
+    let mut keys = keys_of(alloc, lists)?;
     keys.sort_unstable();
-    places_of(alloc, &keys)
+    order_of(alloc, &keys)
 }
 
 // The keyed segments of all lists, one list after another.
 fn keys_of<L: Keys>(alloc: Global, lists: &[L]) -> Result<Vec<KeyedSegment>, AllocError>
     ensures { IfOk result (λ keys. keys.items ≡ all_keyed_segments L.segments lists.now) }
 {
-    let mut count = 0usize;
-    for l in lists {
-        count = count.saturating_add(l.count());
-    }
-    let mut keys = Vec::with_capacity(alloc, count)?;
+    let mut keys = Vec::with_capacity(alloc, count_in(lists))?;
     for (list, l) in lists.iter().enumerate() {
         add_keys(&mut keys, list, l)?;
     }
@@ -147,24 +136,33 @@ fn add_keys<L: Keys>(
     keys.extend(keyed(list, segments))
 }
 
+// How many segments lists have, or the greatest number where they are more.
+pub(crate) fn count_in<L: Keys>(lists: &[L]) -> usize {
+    let mut count = 0usize;
+    for l in lists {
+        count = count.saturating_add(l.count());
+    }
+    count
+}
+
 // The places of keyed segments.
-pub(crate) fn places_of(alloc: Global, keys: &[KeyedSegment]) -> Result<Vec<Place>, AllocError>
-    ensures { IfOk result (λ places. places.items ≡ map place_of keys.now) }
+pub(crate) fn order_of(alloc: Global, keys: &[KeyedSegment]) -> Result<Order, AllocError>
+    ensures { IfOk result (λ order. order ≡ map place_of keys.now) }
 {
     let mut places = Vec::with_capacity(alloc, keys.len())?;
     for keyed in keys {
         places.push(keyed.place())?;
     }
-    Ok(places)
+    Order::listed(alloc, places)
 }
 
 // Places of keyed segments of all lists, in order: they stand for the segments in order of key, where no key stands twice.
-pub(crate) fn in_order<L: Keys>(lists: &[L], places: Vec<Place>) -> Vec<Place>
+pub(crate) fn in_order<L: Keys>(lists: &[L], order: Order) -> Order
     requires once { HasNoKeyTwice (flat_map L.segments lists.now) }
-    requires of { ArePlacesInOrder (all_keyed_segments L.segments lists.now) places.items }
-    ensures stand { All (IsPlace L.segments lists.now) result.items }
-    ensures order { map (segment_at L.segments lists.now) result.items ≡ sorted_by_key (flat_map L.segments lists.now) }
+    requires of { ArePlacesInOrder (all_keyed_segments L.segments lists.now) order }
+    ensures stand { All (IsPlace L.segments lists.now) result }
+    ensures order { map (segment_at L.segments lists.now) result ≡ sorted_by_key (flat_map L.segments lists.now) }
 {
     one_order();
-    places
+    order
 }

@@ -3,6 +3,7 @@
 
 mod key_order;
 mod merging;
+mod orders;
 mod short_keys;
 mod sinks;
 

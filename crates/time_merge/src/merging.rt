@@ -7,7 +7,8 @@ ghost use Rattle.time_merge.specs.KeyedSegments.{IsPlace, segment_at};
 ghost use Rattle.time_merge.specs.MergedCapture.{all_segments, capture_in_turn, capture_of};
 ghost use Rattle.time_merge.specs.Sinks.{IsWritten};
 
-use crate::key_order::{Place, in_order, merged_keys, places_of, sorted_places};
+use crate::key_order::{in_order, merged_keys, order_of, sorted_places};
+use crate::orders::{Order, Place};
 use crate::sinks::{CaptureSink, InMemory};
 use pcap_records::{FILE_HEADER_LEN, Unit, write_header};
 use segment_writer::{ConnectionOutline, Keys, SegList};
@@ -25,7 +26,7 @@ pub fn merge(alloc: Global, lists: Vec<SegList>) -> Result<Merged, AllocError>
     ensures { IfOk result (λ merged. merged ≡ sorted_by_key (all_segments lists.items)) }
 {
     let keys = merged_keys(alloc, &lists)?;
-    let places = places_of(alloc, &keys)?;
+    let places = order_of(alloc, &keys)?;
     let order = in_order(&lists, places);
     Ok(Merged { lists, order })
 }
@@ -34,7 +35,7 @@ pub fn merge(alloc: Global, lists: Vec<SegList>) -> Result<Merged, AllocError>
 #[derive(Debug, Drop)]
 pub struct Merged {
     lists: Vec<SegList>,
-    order: Vec<Place>,
+    order: Order,
 }
 
 impl Model for Merged {
@@ -44,9 +45,9 @@ impl Model for Merged {
 
     ghost Value = { List Framed };
 
-    ghost view = { λ m. map (segment_at (λ l. l) m.lists.items) m.order.items };
+    ghost view = { λ m. map (segment_at (λ l. l) m.lists.items) m.order };
 
-    ghost invariant = { λ m. All (IsPlace (λ l. l) m.lists.items) m.order.items };
+    ghost invariant = { λ m. All (IsPlace (λ l. l) m.lists.items) m.order };
 }
 
 impl Merged {
@@ -106,7 +107,7 @@ pub fn merged_capture(
 fn captured<L: Keys>(
     alloc: Global,
     lists: &[L],
-    order: &[Place],
+    order: &Order,
     unit: Unit,
 ) -> Result<Vec<u8>, AllocError>
     requires { All (IsPlace L.segments lists.now) order.now }
@@ -120,7 +121,7 @@ fn captured<L: Keys>(
 fn written<L: Keys, S: CaptureSink>(
     batch: Vec<u8>,
     lists: &[L],
-    order: &[Place],
+    order: &Order,
     unit: Unit,
     sink: &mut S,
 ) -> Result<Vec<u8>, AllocError>
@@ -135,7 +136,7 @@ fn written<L: Keys, S: CaptureSink>(
     write_header(&mut batch, unit)?;
     for number in 0..order.len() {
         make_room(&mut batch, lists, order, number)?;
-        put_segment(lists, order[number], &mut batch)?;
+        put_segment(lists, order.place(number), &mut batch)?;
         sink.offer(&mut batch);
     }
     Ok(batch)
@@ -149,7 +150,7 @@ const GROUP_LEN: usize = 64;
 fn make_room<L: Keys>(
     batch: &mut Vec<u8>,
     lists: &[L],
-    order: &[Place],
+    order: &Order,
     number: usize,
 ) -> Result<(), AllocError>
     requires stand { All (IsPlace L.segments lists.now) order.now }
@@ -159,15 +160,17 @@ fn make_room<L: Keys>(
     if number % GROUP_LEN != 0 {
         return Ok(());
     }
-    batch.reserve(group_len(lists, &order[number..]))
+    batch.reserve(group_len(lists, order, number))
 }
 
-// How many bytes the records of the first group of some places have.
-fn group_len<L: Keys>(lists: &[L], order: &[Place]) -> usize
-    requires { All (IsPlace L.segments lists.now) order.now }
+// How many bytes the records of a group have that begins with this number.
+fn group_len<L: Keys>(lists: &[L], order: &Order, number: usize) -> usize
+    requires stand { All (IsPlace L.segments lists.now) order.now }
+    requires within { number ≤ length order.now }
 {
     let mut len = 0usize;
-    for place in &order[..order.len().min(GROUP_LEN)] {
+    for next in number..order.len().min(number.saturating_add(GROUP_LEN)) {
+        let place = order.place(next);
         len = len.saturating_add(lists[place.list].record_len(place.index));
     }
     len

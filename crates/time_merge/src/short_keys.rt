@@ -1,9 +1,14 @@
-//! Keyed segments in order by short keys: numbers of 64 bits, of a moment and a number, which are sorted faster than keys.
-ghost use Rattle.std.specs.Prelude.{◌≡◌, ◌<◌, All, IfOk, IfSome, false, length};
-ghost use Rattle.time_merge.specs.KeyedSegments.{ArePlacesInOrder};
-ghost use Rattle.time_merge.specs.ShortKeys.{AreInOrder, AreShortKeys, keyed_at, number_in, Rises};
+//! Short keys: numbers of 64 bits, of a moment and a number, which are sorted faster than keys, and in less memory.
+ghost use Rattle.std.specs.Prelude.{◌≡◌, ◌++◌, [], ◌∷◌, ◌<◌, All, List, Ok, true, IfOk, IfSome, length, map};
+ghost use Rattle.std.specs.Ordering.{is_lt};
+ghost use Rattle.time_merge.specs.KeyedSegments.{all_keyed_segments, ArePlacesInOrder, keyed_cmp, keyed_segments};
+ghost use Rattle.time_merge.specs.ShortKeys.{HaveShortKeys, number_in, ranked};
+ghost use Rattle.time_merge.specs.declared.key_order.KeyedSegment.{KeyedSegment};
 
-use crate::key_order::{KeyedSegment, Place};
+use crate::key_order::{KeyedSegment, count_in};
+use crate::orders::{Order, Place};
+use pcap_records::Moment;
+use segment_writer::{Keys, SegKey};
 use std::alloc::{AllocError, Global};
 
 // The low bits of a short key are the number of its segment among all. The others are the ticks from the first segment's moment to its own.
@@ -15,75 +20,150 @@ const NUMBER_LIMIT: u64 = 1 << NUMBER_BITS;
 // And the ticks below this.
 const TICKS_LIMIT: u64 = 1 << (64 - NUMBER_BITS);
 
-// The places of keyed segments in order, where short keys give it: where there are not too many, none is too late, and those of one moment stand
-// in order already. That they come in order is looked at as they are listed.
-pub(crate) fn by_short_keys(
-    alloc: Global,
-    keys: &[KeyedSegment],
-) -> Result<Option<Vec<Place>>, AllocError>
-    ensures { IfOk result (λ found. IfSome found (λ places. ArePlacesInOrder keys.now places.items)) }
-{
-    let Some(mut short_keys) = short_keys_of(alloc, keys)? else {
-        return Ok(None);
-    };
-    short_keys.sort_unstable();
-    places_in(alloc, keys, &short_keys)
+// The short keys of some segments, one after another, and the places of these. But for their moments the segments stand in order.
+#[derive(Drop)]
+struct ShortKeys {
+    // The moment from which ticks are counted.
+    first: Moment,
+    // The last segment, as if it were of that moment.
+    last: KeyedSegment,
+    short_keys: Vec<u64>,
+    places: Vec<Place>,
 }
 
-// The short key of each of some keyed segments, where all have one.
-fn short_keys_of(alloc: Global, keys: &[KeyedSegment]) -> Result<Option<Vec<u64>>, AllocError>
-    ensures { IfOk result (λ found. IfSome found (λ short_keys. AreShortKeys (length keys.now) short_keys.items)) }
+// The places of all segments of lists, in order, where short keys give it: where there are not too many, none is too late, and but for their moments
+// they stand in order already.
+pub(crate) fn by_short_keys<L: Keys>(
+    alloc: Global,
+    lists: &[L],
+) -> Result<Option<Order>, AllocError>
+    ensures { IfOk result (λ found. IfSome found (λ order. ArePlacesInOrder (all_keyed_segments L.segments lists.now) order)) }
 {
-    let Some(first) = keys.first() else {
+    let Some(first) = first_moment(lists) else {
         return Ok(None);
     };
-    let from = first.key.moment.count();
-    if keys.len() as u64 > NUMBER_LIMIT {
-        return Ok(None);
+    let mut short = ShortKeys::none(alloc, first, count_in(lists))?;
+    for (list, l) in lists.iter().enumerate() {
+        if !short.add_list(list, l)? {
+            return Ok(None);
+        }
     }
-    let mut short_keys = Vec::with_capacity(alloc, keys.len())?;
-    for (number, keyed) in keys.iter().enumerate() {
+    Ok(Some(short.into_order()))
+}
+
+// The moment of the first segment of some lists.
+fn first_moment<L: Keys>(lists: &[L]) -> Option<Moment> {
+    for l in lists {
+        if l.count() > 0 {
+            return Some(l.key(0).moment);
+        }
+    }
+    None
+}
+
+// A keyed segment as if it were of a moment.
+fn ranked(first: Moment, keyed: &KeyedSegment) -> KeyedSegment
+    ensures { result ≡ ranked first keyed.now }
+{
+    let key = SegKey {
+        moment: first,
+        ..keyed.key
+    };
+    KeyedSegment { key, ..*keyed }
+}
+
+// Whether a keyed segment stands before another.
+fn is_below(a: &KeyedSegment, b: &KeyedSegment) -> bool
+    ensures { result ≡ is_lt (keyed_cmp a.now b.now) }
+{
+    a < b
+}
+
+// Leaves of each short key its number.
+fn keep_numbers(short_keys: &mut [u64])
+    ensures { short_keys.new ≡ map number_in short_keys.old }
+{
+    for index in 0..short_keys.len() {
+        short_keys[index] %= NUMBER_LIMIT;
+    }
+}
+
+impl ShortKeys {
+    // Those of no segment, with room for so many.
+    fn none(alloc: Global, first: Moment, room: usize) -> Result<ShortKeys, AllocError>
+        ensures { IfOk result (λ short. HaveShortKeys [] short) }
+    {
+        let key = SegKey {
+            moment: first,
+            conn: 0,
+            turn: 0,
+            place: 0,
+        };
+        let last = KeyedSegment {
+            key,
+            list: 0,
+            index: 0,
+        };
+        let short_keys = Vec::with_capacity(alloc, room)?;
+        let places = Vec::with_capacity(alloc, room)?;
+        Ok(ShortKeys {
+            first,
+            last,
+            short_keys,
+            places,
+        })
+    }
+
+    // Adds the segments of the list of this number, unless one has no short key or stands out of order.
+    fn add_list<L: Keys>(&mut self, list: usize, l: &L) -> Result<bool, AllocError>
+        ensures { (keys : List KeyedSegment) → result ≡ Ok true → HaveShortKeys keys self.old
+            → HaveShortKeys (keys ++ keyed_segments list 0 (L.segments l.now)) self.new }
+    {
+        for index in 0..l.count() {
+            let key = l.key(index);
+            if !self.add(&KeyedSegment { key, list, index })? {
+                return Ok(false);
+            }
+        }
+        Ok(true)
+    }
+
+    // Adds a segment, unless it has no short key or stands out of order.
+    fn add(&mut self, keyed: &KeyedSegment) -> Result<bool, AllocError>
+        ensures { (keys : List KeyedSegment) → result ≡ Ok true → HaveShortKeys keys self.old → HaveShortKeys (keys ++ keyed.now ∷ []) self.new }
+    {
+        let number = self.short_keys.len() as u64;
         let at = keyed.key.moment.count();
-        if at < from || at - from >= TICKS_LIMIT {
-            return Ok(None);
+        let from = self.first.count();
+        if number >= NUMBER_LIMIT || at < from || at - from >= TICKS_LIMIT {
+            return Ok(false);
         }
-        short_keys.push((at - from) * NUMBER_LIMIT + number as u64)?;
-    }
-    Ok(Some(short_keys))
-}
-
-// The places of keyed segments in the order of short keys, where that is their own.
-fn places_in(
-    alloc: Global,
-    keys: &[KeyedSegment],
-    short_keys: &[u64],
-) -> Result<Option<Vec<Place>>, AllocError>
-    requires { All (λ short_key. number_in short_key < length keys.now) short_keys.now }
-    ensures { IfOk result (λ found. IfSome found (λ places. AreInOrder keys.now short_keys.now places.items)) }
-{
-    let mut places = Vec::with_capacity(alloc, short_keys.len())?;
-    for number in 0..short_keys.len() {
-        if falls_at(keys, short_keys, number) {
-            return Ok(None);
+        let rank = ranked(self.first, keyed);
+        if is_below(&rank, &self.last) {
+            return Ok(false);
         }
-        places.push(keyed_at(keys, short_keys[number]).place())?;
+        self.last = rank;
+        self.short_keys.push((at - from) * NUMBER_LIMIT + number)?;
+        self.places.push(keyed.place())?;
+        Ok(true)
     }
-    Ok(Some(places))
-}
 
-// Whether the keyed segment of a short key is below that of the one before it.
-fn falls_at(keys: &[KeyedSegment], short_keys: &[u64], number: usize) -> bool
-    requires numbers { All (λ short_key. number_in short_key < length keys.now) short_keys.now }
-    requires within { number < length short_keys.now }
-    ensures { result ≡ false → Rises keys.now short_keys.now number }
-{
-    number > 0 && keyed_at(keys, short_keys[number]) < keyed_at(keys, short_keys[number - 1])
-}
-
-// The keyed segment of a short key.
-fn keyed_at(keys: &[KeyedSegment], short_key: u64) -> KeyedSegment
-    requires { number_in short_key < length keys.now }
-    ensures { result ≡ keyed_at keys.now short_key }
-{
-    keys[(short_key % NUMBER_LIMIT) as usize]
+    // The places in order.
+    fn into_order(self) -> Order
+        requires { All (λ short_key. number_in short_key < length self.places.items) self.short_keys.items }
+        ensures { (keys : List KeyedSegment) → HaveShortKeys keys self → ArePlacesInOrder keys result }
+    {
+        let ShortKeys {
+            first: _,
+            last: _,
+            mut short_keys,
+            places,
+        } = self;
+        short_keys.sort_unstable();
+        keep_numbers(&mut short_keys);
+        Order {
+            places,
+            numbers: short_keys,
+        }
+    }
 }

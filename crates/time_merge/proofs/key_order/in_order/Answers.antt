@@ -1,6 +1,6 @@
 use Rattle.std.proofs.Common.{List, map, sym, ap, ◌∙◌, subst}
 use Rattle.std.specs.List.{All}
-use Rattle.time_merge.specs.declared.key_order.Place.{Place}
+use Rattle.time_merge.specs.declared.orders.Place.{Place}
 use Rattle.time_merge.specs.KeyedSegments.{segment_at, IsPlace}
 use Rattle.time_merge.proofs.KeyedOrder.{merged_keyed, merged_sorted, places_stand, places_show}
 use Rattle.time_merge.proofs.key_order.in_order.Goals as goal

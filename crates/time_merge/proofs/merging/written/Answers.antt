@@ -1,12 +1,12 @@
-use Rattle.std.proofs.Common.{◌≡◌, ◌<◌, ℕ, ◌+◌, List, [], ◌∷◌, ◌++◌, length, map, take, get_or, inl, inr, sym, ap, ◌∙◌, append-nil, append_assoc}
+use Rattle.std.proofs.Common.{◌≡◌, ◌<◌, ℕ, ◌+◌, List, [], ◌∷◌, ◌++◌, length, map, take, get_or, inl, inr, sym, ap, ◌∙◌, append-nil, append_assoc, arith}
 use Rattle.std.proofs.lemmas.List.{flat_map_more, get_or_default, map-append, take_more}
 use Rattle.pcap_records.specs.Instants.{ticks_of}
 use Rattle.pcap_records.specs.Writing.{file_header}
 use Rattle.segment_writer.specs.declared.framed.Framed.{Framed}
-use Rattle.time_merge.specs.KeyedSegments.{segment_at}
+use Rattle.time_merge.specs.KeyedSegments.{no_place, segment_at}
 use Rattle.time_merge.specs.MergedCapture.{capture_in_turn}
 use Rattle.time_merge.specs.Sinks.{IsOffered, IsWritten}
-use Rattle.time_merge.specs.declared.key_order.Place.{Place}
+use Rattle.time_merge.specs.declared.orders.Place.{Place}
 use Rattle.time_merge.proofs.merging.written.Goals as goal
 
 -- the record of one segment more
@@ -27,8 +27,13 @@ offered Took front batch left all (inr (took, same)) is = (front, took, ap (λ (
 pub loop-number-preserved : goal.loop-number-preserved
 loop-number-preserved g c =
     let was = c.loop-number.invariant.written in
-    let more = grown (ticks_of c.args.unit) (segment_at g.L.Keys.segments c.args.lists.now) c.args.order.now c.loop-number.number (get_or c.args.order.now c.loop-number.number (record { list = 0; index = 0 }))
-    was.0 c.loop-number.batch.items c.put_segment.new.out.items c.loop-number-test.true (get_or_default c.args.order.now c.loop-number.number _ _ c.loop-number-test.true) was.2 (c.in_ok-put_segment.ensures.ok ∙ ap (λ (bs : List ℕ). bs ++ (segment_at g.L.Keys.segments c.args.lists.now (get_or c.args.order.now c.loop-number.number (record { list = 0; index = 0 }))).bytes) c.make_room.ensures) in
+    let order = c.args.order.now in
+    let number = c.loop-number.number in
+    let place = c.place.result in
+    let within : number < length order = omega (arith, c.loop-number-test.true, c.len-number-end.ensures) in
+    let more = grown (ticks_of c.args.unit) (segment_at g.L.Keys.segments c.args.lists.now) order number place
+    was.0 c.loop-number.batch.items c.put_segment.new.out.items within (c.place.ensures ∙ get_or_default order number no_place place within) was.2
+    (c.in_ok-put_segment.ensures.ok ∙ ap (λ (bs : List ℕ). bs ++ (segment_at g.L.Keys.segments c.args.lists.now place).bytes) c.make_room.ensures) in
     record {
       written = offered (g.S.CaptureSink.took c.offer.new.self) was.0 c.put_segment.new.out.items c.offer.new.batch.items _ (c.offer.ensures.taken was.0 was.1) more;
       same = c.offer.ensures.same ∙ c.loop-number.invariant.same;

@@ -1,4 +1,4 @@
--- Short keys of keyed segments that stand in order but for their moments, and that these come in order once they are sorted.
+-- Short keys of keyed segments that stand in order, connection by connection, and that all come in order once the short keys are sorted.
 use Rattle.std.proofs.Common.{◌≡◌, ℕ, zero, suc, ◌+◌, ◌-◌, ◌*◌, ◌^◌, ◌<◌, ◌≤◌, ◌⊎◌, Bool, true, false, nat_cmp, is_lt, List, [], ◌∷◌, ◌++◌, length, map, slice_index_or, inl, inr, refl, sym, ap, ap₂, ◌∙◌, subst, Ordering, Equal, Greater, arith}
 use Rattle.std.specs.Cmp.{nat_cmp_is}
 use Rattle.std.specs.List.{All}
@@ -13,7 +13,7 @@ use Rattle.time_merge.specs.declared.key_order.KeyedSegment.{KeyedSegment}
 use Rattle.time_merge.specs.declared.orders.Place.{Place}
 use Rattle.time_merge.specs.declared.short_keys.ShortKeys.{ShortKeys}
 use Rattle.time_merge.specs.KeyedSegments.{keyed_cmp, no_place, place_of, ArePlacesInOrder}
-use Rattle.time_merge.specs.ShortKeys.{keyed_at, no_keyed, number_in, ranked, short_key, HaveShortKeys, IsShortKey, NeverFallBut}
+use Rattle.time_merge.specs.ShortKeys.{keyed_at, no_keyed, number_in, short_key, AreInTurn, Follows, HaveShortKeys, IsShortKey}
 use Rattle.time_merge.proofs.KeyedOrder.{below, below_order}
 
 -- ---- one segment more
@@ -24,6 +24,15 @@ not_below_itself k = by (below k k) refl
     by : (b : Bool) → below k k ≡ b → below k k ≡ false
     by true e = below_order.one_way k k e
     by false e = e
+
+follows_itself : (k : KeyedSegment) → Follows k k
+follows_itself k = inr (refl, not_below_itself k)
+
+follows_on : (a b c : KeyedSegment) → Follows a b → Follows b c → Follows a c
+follows_on a b c (inl low) (inl high) = inl (omega (arith, low, high))
+follows_on a b c (inl low) (inr (same, _)) = inl (omega (arith, low, same))
+follows_on a b c (inr (same, _)) (inl high) = inl (omega (arith, same, high))
+follows_on a b c (inr (same, low)) (inr (also, high)) = inr (same ∙ also, below_order.chain c b a high low)
 
 module _ (keys : List KeyedSegment) (keyed : KeyedSegment) where
   -- with it
@@ -58,31 +67,30 @@ module _ (keys : List KeyedSegment) (keyed : KeyedSegment) where
         },
       )
 
-  in_turn_more : (first : ℕ) (last : KeyedSegment) → NeverFallBut first keys → ((i : ℕ) → i < length keys → below last (ranked first (slice_index_or keys i no_keyed)) ≡ false)
-      → below (ranked first keyed) last ≡ false → NeverFallBut first more
-  in_turn_more first last in_turn top above i j le within = by (cases_lt j (length keys)) (cases_lt i (length keys))
+  in_turn_more : (last : KeyedSegment) → AreInTurn keys → ((i : ℕ) → i < length keys → Follows (slice_index_or keys i no_keyed) last) → Follows last keyed → AreInTurn more
+  in_turn_more last in_turn top above i j le within = by (cases_lt j (length keys)) (cases_lt i (length keys))
     where
-      by : (j < length keys) ⊎ (length keys ≤ j) → (i < length keys) ⊎ (length keys ≤ i) → below (ranked first (slice_index_or more j no_keyed)) (ranked first (slice_index_or more i no_keyed)) ≡ false
-      by (inl low) _ = ap₂ (λ a b. below (ranked first a) (ranked first b)) (earlier j low) (earlier i (omega arith)) ∙ in_turn i j le low
-      by (inr high) (inl low) =
-          ap₂ (λ a b. below (ranked first a) (ranked first b)) (added j (omega (arith, more_len))) (earlier i low)
-          ∙ below_order.chain (ranked first keyed) last (ranked first (slice_index_or keys i no_keyed)) above (top i low)
-      by (inr high) (inr also) =
-          ap₂ (λ a b. below (ranked first a) (ranked first b)) (added j (omega (arith, more_len))) (added i (omega (arith, more_len))) ∙ not_below_itself (ranked first keyed)
+      at : (a b : KeyedSegment) → slice_index_or more i no_keyed ≡ a → slice_index_or more j no_keyed ≡ b → Follows a b → Follows (slice_index_or more i no_keyed) (slice_index_or more j no_keyed)
+      at a b is_a is_b follows = subst (λ (x : KeyedSegment). Follows x (slice_index_or more j no_keyed)) (sym is_a) (subst (Follows a) (sym is_b) follows)
 
-  pub one_more : (s t : ShortKeys) → HaveShortKeys keys s → length keys < 2 ^ 26 → s.first ≤ keyed.key.moment → below (ranked s.first keyed) s.last ≡ false
-      → t.first ≡ s.first → t.last ≡ ranked s.first keyed → t.short_keys.items ≡ s.short_keys.items ++ short_key s.first (length keys) keyed ∷ [] → t.places.items ≡ s.places.items ++ place_of keyed ∷ []
+      by : (j < length keys) ⊎ (length keys ≤ j) → (i < length keys) ⊎ (length keys ≤ i) → Follows (slice_index_or more i no_keyed) (slice_index_or more j no_keyed)
+      by (inl low) _ = at _ _ (earlier i (omega arith)) (earlier j low) (in_turn i j le low)
+      by (inr high) (inl low) = at _ keyed (earlier i low) (added j (omega (arith, more_len))) (follows_on _ last keyed (top i low) above)
+      by (inr high) (inr also) = at keyed keyed (added i (omega (arith, more_len))) (added j (omega (arith, more_len))) (follows_itself keyed)
+
+  pub one_more : (s t : ShortKeys) → HaveShortKeys keys s → length keys < 2 ^ 26 → s.first ≤ keyed.key.moment → Follows s.last keyed
+      → t.first ≡ s.first → t.last ≡ keyed → t.short_keys.items ≡ s.short_keys.items ++ short_key s.first (length keys) keyed ∷ [] → t.places.items ≡ s.places.items ++ place_of keyed ∷ []
       → HaveShortKeys more t
   one_more s t have few early above first last short_keys places = record {
     many = ap length short_keys ∙ length-append s.short_keys.items (short_key s.first (length keys) keyed ∷ []) ∙ ap (λ n. n + 1) have.many ∙ sym more_len;
     each = each;
     places = places ∙ ap (λ (ps : List Place). ps ++ place_of keyed ∷ []) have.places ∙ sym (map-append place_of keys (keyed ∷ []));
-    in_turn = subst (λ f. NeverFallBut f more) (sym first) in_turn;
-    last = λ i within. ap₂ (λ a f. below a (ranked f (slice_index_or more i no_keyed))) last first ∙ ap (λ k. below (ranked s.first k) (ranked s.first (slice_index_or more i no_keyed))) (sym (added (length keys) refl)) ∙ in_turn i (length keys) (omega (arith, within, more_len)) (omega (arith, more_len));
+    in_turn = in_turn;
+    last = λ i within. subst (Follows (slice_index_or more i no_keyed)) (added (length keys) refl ∙ sym last) (in_turn i (length keys) (omega (arith, within, more_len)) (omega (arith, more_len)));
   }
     where
-      in_turn : NeverFallBut s.first more
-      in_turn = in_turn_more s.first s.last have.in_turn have.last above
+      in_turn : AreInTurn more
+      in_turn = in_turn_more s.last have.in_turn have.last above
 
       all : List ℕ
       all = s.short_keys.items ++ short_key s.first (length keys) keyed ∷ []
@@ -113,15 +121,15 @@ by_moment o p q is = subst (λ r. is_lt (ordering_then (ordering_then r p) q) �
 later : (x y : KeyedSegment) → x.key.moment < y.key.moment → below y x ≡ false
 later x y low = by_moment (nat_cmp y.key.moment x.key.moment) _ _ (sym (nat_cmp_is y.key.moment x.key.moment Greater low))
 
-by_same : (o o2 p q : Ordering) → o ≡ o2 → is_lt (ordering_then (ordering_then o2 p) q) ≡ false → is_lt (ordering_then (ordering_then o p) q) ≡ false
-by_same o o2 p q is h = subst (λ r. is_lt (ordering_then (ordering_then r p) q) ≡ false) (sym is) h
+by_conn : (o p q r : Ordering) → o ≡ Equal → p ≡ Greater → is_lt (ordering_then (ordering_then o (ordering_then p q)) r) ≡ false
+by_conn o p q r same high = subst (λ m. is_lt (ordering_then (ordering_then m (ordering_then p q)) r) ≡ false) (sym same) (subst (λ n. is_lt (ordering_then (ordering_then Equal (ordering_then n q)) r) ≡ false) (sym high) refl)
 
-same_moment : (first : ℕ) (x y : KeyedSegment) → x.key.moment ≡ y.key.moment → below (ranked first y) (ranked first x) ≡ false → below y x ≡ false
-same_moment first x y same ranks =
-    let here : nat_cmp y.key.moment x.key.moment ≡ nat_cmp first first = sym (nat_cmp_is y.key.moment x.key.moment Equal (sym same)) ∙ nat_cmp_is first first Equal refl in
-    by_same (nat_cmp y.key.moment x.key.moment) (nat_cmp first first) _ _ here ranks
+same_moment : (x y : KeyedSegment) → x.key.moment ≡ y.key.moment → Follows x y → below y x ≡ false
+same_moment x y same (inl low) =
+    by_conn (nat_cmp y.key.moment x.key.moment) (nat_cmp y.key.conn x.key.conn) _ _ (sym (nat_cmp_is y.key.moment x.key.moment Equal (sym same))) (sym (nat_cmp_is y.key.conn x.key.conn Greater low))
+same_moment x y same (inr (_, high)) = high
 
-rise : (first : ℕ) (keys : List KeyedSegment) (a b : ℕ) → NeverFallBut first keys → IsShortKey first keys a → IsShortKey first keys b → a ≤ b → below (keyed_at keys b) (keyed_at keys a) ≡ false
+rise : (first : ℕ) (keys : List KeyedSegment) (a b : ℕ) → AreInTurn keys → IsShortKey first keys a → IsShortKey first keys b → a ≤ b → below (keyed_at keys b) (keyed_at keys a) ≡ false
 rise first keys a b in_turn low high le = by (cases_order (keyed_at keys a).key.moment (keyed_at keys b).key.moment)
   where
     before : (keyed_at keys b).key.moment < (keyed_at keys a).key.moment → ⊥
@@ -131,7 +139,7 @@ rise first keys a b in_turn low high le = by (cases_order (keyed_at keys a).key.
     numbers same = omega (arith, low.is, high.is, low.early, high.early, le, same)
 
     by : ((keyed_at keys a).key.moment ≡ (keyed_at keys b).key.moment) ⊎ (((keyed_at keys a).key.moment < (keyed_at keys b).key.moment) ⊎ ((keyed_at keys b).key.moment < (keyed_at keys a).key.moment)) → below (keyed_at keys b) (keyed_at keys a) ≡ false
-    by (inl same) = same_moment first (keyed_at keys a) (keyed_at keys b) same (in_turn (number_in a) (number_in b) (numbers same) high.within)
+    by (inl same) = same_moment (keyed_at keys a) (keyed_at keys b) same (in_turn (number_in a) (number_in b) (numbers same) high.within)
     by (inr (inl low)) = later (keyed_at keys a) (keyed_at keys b) low
     by (inr (inr high)) = absurd (before high)
 

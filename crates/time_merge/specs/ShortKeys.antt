@@ -1,5 +1,5 @@
 -- Short keys: numbers whose low bits are the number of a keyed segment among all, and whose others are its ticks.
-use Rattle.std.specs.Prelude.{◌≡◌, ◌<◌, ◌≤◌, ℕ, ◌+◌, ◌-◌, ◌*◌, ◌^◌, ◌%◌, false, List, length, map, slice_index_or}
+use Rattle.std.specs.Prelude.{◌≡◌, ◌<◌, ◌≤◌, ℕ, ◌+◌, ◌-◌, ◌*◌, ◌^◌, ◌%◌, ◌⊎◌, false, List, length, map, slice_index_or}
 use Rattle.std.specs.Ordering.{is_lt}
 use Rattle.segment_writer.specs.SegmentOutlines.{no_segment}
 use Rattle.time_merge.specs.declared.key_order.KeyedSegment.{KeyedSegment}
@@ -14,10 +14,6 @@ number_in short = short % 2 ^ 26
 abbrev pub short_key : ℕ → ℕ → KeyedSegment → ℕ
 short_key first n l = (l.key.moment - first) * 2 ^ 26 + n
 
--- a keyed segment as if it were of a moment
-abbrev pub ranked : ℕ → KeyedSegment → KeyedSegment
-ranked first l = record { key = record { moment = first; conn = l.key.conn; turn = l.key.turn; place = l.key.place }; list = l.list; index = l.index }
-
 abbrev pub no_keyed : KeyedSegment
 no_keyed = record { key = no_segment.key; list = 0; index = 0 }
 
@@ -31,15 +27,18 @@ pub record IsShortKey (first : ℕ) (keys : List KeyedSegment) (short : ℕ) : T
   pub early : first ≤ (keyed_at keys short).key.moment
   pub is : short ≡ short_key first (number_in short) (keyed_at keys short)
 
--- but for their moments, no keyed segment is below an earlier one
-abbrev pub NeverFallBut : ℕ → List KeyedSegment → Type 0
-NeverFallBut first keys = (i j : ℕ) → i ≤ j → j < length keys
-    → is_lt (keyed_cmp (ranked first (slice_index_or keys j no_keyed)) (ranked first (slice_index_or keys i no_keyed))) ≡ false
+-- a keyed segment is followed by another: by one of a later connection, or of the same one that is not below it
+abbrev pub Follows : KeyedSegment → KeyedSegment → Type 0
+Follows a b = (a.key.conn < b.key.conn) ⊎ (a.key.conn ≡ b.key.conn × is_lt (keyed_cmp b a) ≡ false)
 
--- the short keys and places of keyed segments that stand in order but for their moments, and the last of these
+-- connection by connection, keyed segments stand in order
+abbrev pub AreInTurn : List KeyedSegment → Type 0
+AreInTurn keys = (i j : ℕ) → i ≤ j → j < length keys → Follows (slice_index_or keys i no_keyed) (slice_index_or keys j no_keyed)
+
+-- the short keys and places of keyed segments that stand so, and the last of these
 pub record HaveShortKeys (keys : List KeyedSegment) (s : ShortKeys) : Type 0 where
   pub many : length s.short_keys.items ≡ length keys
   pub each : (i : ℕ) → i < length keys → (number_in (slice_index_or s.short_keys.items i 0) ≡ i) × IsShortKey s.first keys (slice_index_or s.short_keys.items i 0)
   pub places : s.places.items ≡ map place_of keys
-  pub in_turn : NeverFallBut s.first keys
-  pub last : (i : ℕ) → i < length keys → is_lt (keyed_cmp s.last (ranked s.first (slice_index_or keys i no_keyed))) ≡ false
+  pub in_turn : AreInTurn keys
+  pub last : (i : ℕ) → i < length keys → Follows (slice_index_or keys i no_keyed) s.last

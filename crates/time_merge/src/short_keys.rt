@@ -2,7 +2,7 @@
 ghost use Rattle.std.specs.Prelude.{◌≡◌, ◌++◌, [], ◌∷◌, ◌<◌, All, List, Ok, true, IfOk, IfSome, length, map};
 ghost use Rattle.std.specs.Ordering.{is_lt};
 ghost use Rattle.time_merge.specs.KeyedSegments.{all_keyed_segments, ArePlacesInOrder, keyed_cmp, keyed_segments};
-ghost use Rattle.time_merge.specs.ShortKeys.{HaveShortKeys, number_in, ranked};
+ghost use Rattle.time_merge.specs.ShortKeys.{Follows, HaveShortKeys, number_in};
 ghost use Rattle.time_merge.specs.declared.key_order.KeyedSegment.{KeyedSegment};
 
 use crate::key_order::{KeyedSegment, count_in};
@@ -20,19 +20,19 @@ const NUMBER_LIMIT: u64 = 1 << NUMBER_BITS;
 // And the ticks below this.
 const TICKS_LIMIT: u64 = 1 << (64 - NUMBER_BITS);
 
-// The short keys of some segments, one after another, and the places of these. But for their moments the segments stand in order.
+// The short keys of some segments, one after another, and the places of these. The segments stand in order, connection by connection.
 #[derive(Drop)]
 struct ShortKeys {
     // The moment from which ticks are counted.
     first: Moment,
-    // The last segment, as if it were of that moment.
+    // The last segment.
     last: KeyedSegment,
     short_keys: Vec<u64>,
     places: Vec<Place>,
 }
 
-// The places of all segments of lists, in order, where short keys give it: where there are not too many, none is too late, and but for their moments
-// they stand in order already.
+// The places of all segments of lists, in order, where short keys give it: where there are not too many, none is too late, and they stand in order,
+// connection by connection. So those of one moment stand in order.
 pub(crate) fn by_short_keys<L: Keys>(
     alloc: Global,
     lists: &[L],
@@ -61,18 +61,15 @@ fn first_moment<L: Keys>(lists: &[L]) -> Option<Moment> {
     None
 }
 
-// A keyed segment as if it were of a moment.
-fn ranked(first: Moment, keyed: &KeyedSegment) -> KeyedSegment
-    ensures { result ≡ ranked first keyed.now }
+// Whether a keyed segment is of a later connection than another, or of the same one and not below it.
+fn follows(keyed: &KeyedSegment, last: &KeyedSegment) -> bool
+    ensures { result ≡ true → Follows last.now keyed.now }
 {
-    let key = SegKey {
-        moment: first,
-        ..keyed.key
-    };
-    KeyedSegment { key, ..*keyed }
+    let of = last.key.conn;
+    of < keyed.key.conn || (of == keyed.key.conn && !is_below(keyed, last))
 }
 
-// Whether a keyed segment stands before another.
+// Whether a keyed segment is below another.
 fn is_below(a: &KeyedSegment, b: &KeyedSegment) -> bool
     ensures { result ≡ is_lt (keyed_cmp a.now b.now) }
 {
@@ -138,11 +135,10 @@ impl ShortKeys {
         if number >= NUMBER_LIMIT || at < from || at - from >= TICKS_LIMIT {
             return Ok(false);
         }
-        let rank = ranked(self.first, keyed);
-        if is_below(&rank, &self.last) {
+        if !follows(keyed, &self.last) {
             return Ok(false);
         }
-        self.last = rank;
+        self.last = *keyed;
         self.short_keys.push((at - from) * NUMBER_LIMIT + number)?;
         self.places.push(keyed.place())?;
         Ok(true)

@@ -65,8 +65,8 @@ fn first_moment<L: Keys>(lists: &[L]) -> Option<Moment> {
 fn follows(keyed: &KeyedSegment, last: &KeyedSegment) -> bool
     ensures { result ≡ true → Follows last.now keyed.now }
 {
-    let of = last.key.conn;
-    of < keyed.key.conn || (of == keyed.key.conn && !is_below(keyed, last))
+    let conn = keyed.key.conn;
+    last.key.conn < conn || (last.key.conn == conn && !is_below(keyed, last))
 }
 
 // Whether a keyed segment is below another.

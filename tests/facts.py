@@ -3,9 +3,10 @@
 docs/refusals.tsv (numbers, names, places, meanings, and what the program prints on a terminal after them, parts of it with a semicolon between).
 
 Compared with them are the code of the crates, the text of `--help`, what the program prints on a terminal, the tables of docs/GUIDE.md and
-docs/RULES.md, the schema of scenario files, and the tools that hold a list of attributes; and whether the names that the pages for developers tell
-are there. In the two pages a row of a table is found by the name in backquotes in its first cell; a number may be written as 10^9, 1000000000 or
-1,000,000,000. An argument is the folder of another copy of the repository. The last line is `N passed, M failed`."""
+docs/RULES.md, the schema of scenario files, and the tools that hold a list of attributes; the fields of proxies and toxics in the two pages with the
+schema and with those that the code reads; and whether the names that the pages for developers tell are there. In the two pages a row of a table is
+found by the name in backquotes in its first cell; a number may be written as 10^9, 1000000000 or 1,000,000,000. An argument is the folder of another
+copy of the repository. The last line is `N passed, M failed`."""
 import ast, json, pathlib, re, sys
 
 TREE = pathlib.Path(sys.argv[1] if sys.argv[1:] else pathlib.Path(__file__).resolve().parent.parent)
@@ -159,7 +160,7 @@ def of_schema(toxics, any_toxic):
     parts = json.loads(text_of(SCHEMA))['$defs']
     fields = parts['toxic']['properties']
     fact(f'{SCHEMA}: the types', fields['type']['enum'] == list(toxics), fields['type']['enum'])
-    for attribute in any_toxic: of_field(f'{SCHEMA}: {attribute["attribute"]}', fields[attribute['attribute']], attribute)
+    for attribute in any_toxic: of_field(f'{SCHEMA}: {attribute["attribute"]}', fields.get(attribute['attribute'], {}), attribute)
     for name, attributes in toxics.items():
         own = parts.get(name, {}).get('properties', {})
         fact(f'{SCHEMA}: the attributes of {name}', list(own) == [each['attribute'] for each in attributes], list(own))
@@ -225,6 +226,61 @@ def of_range(what, attribute, text):
     fact(f'{what}: no other limit', not [number for number in found if number >= 1000 and number not in own], text)
     fact(f'{what}: no other unit', not set(units(text)) - {unit_of(attribute), 'bytes'}, text)
     fact(f'{what}: its unit', unit_of(attribute) in units(text) + ['bytes'], text)
+
+
+# ---- fields of proxies and toxics
+
+FILES_OF = {'proxy': ['proxies'], 'toxic': ['toxics', 'toxic_types']}  # the files of crates/scenarios/src that read their fields
+FIELD_READ = re.compile(r'\b(?:required_\w+|optional_\w+|is_\w+_or_absent|field)\(\s*(?:value|toxic),\s*"(\w+)"')
+SECTIONS = {'docs/GUIDE.md': ('The toxics', 'Refusals'), 'docs/RULES.md': ('Scenario files', 'Refusals')}
+OTHER_WORDS = {'upstream', 'downstream', 'true', 'false', 'null', 'serde_json', 'max', 'fin', 'close', 'refused'}
+
+
+def tables_under(page, head):
+    """The tables of a page whose head is that pattern, each as its rows, these as their cells."""
+    found = re.findall(rf'^{head}\n\|[-| ]+\|\n((?:\|.*\n)*)', text_of(page), re.M)
+    return [[[cell.strip() for cell in re.split(r'(?<!\\)\|', line)[1:-1]] for line in rows.splitlines()] for rows in found]
+
+
+def in_backquotes(text):
+    return re.findall(r'`([^`]*)`', text)
+
+
+def of_fields():
+    """The tables of fields in docs/RULES.md, first of a proxy, then of a toxic."""
+    parts, page = json.loads(text_of(SCHEMA))['$defs'], 'docs/RULES.md'
+    tables = tables_under(page, r'\| Field \| What it is \|')
+    fact(f'{page}: a table of fields for each of {list(FILES_OF)}', len(tables) == len(FILES_OF), len(tables))
+    for (what, files), rows in zip(FILES_OF.items(), tables):
+        known = set(parts[what]['properties'])
+        read = set(FIELD_READ.findall(' '.join(text_of(f'crates/scenarios/src/{file}.rt') for file in files)))
+        fact(f'{SCHEMA}: the fields of a {what} are those that the code reads', known == read, known ^ read)
+        shown = [name for row in rows for name in in_backquotes(row[0])]
+        fact(f'{page}: the fields of a {what}', sorted(shown) == sorted(known), set(shown) ^ known or shown)
+        required = [name for row in rows for name in in_backquotes(row[0]) if re.search(r'\brequired\b', row[1])]
+        fact(f'{page}: what a {what} requires', sorted(required) == sorted(parts[what]['required']), required)
+
+
+def of_attribute_names(page, toxics):
+    """The types in a page's table of attributes, and the attributes of each."""
+    tables = tables_under(page, r'\| Type \| Attributes\b.*')
+    fact(f'{page}: one table of attributes', len(tables) == 1, len(tables))
+    rows = [(name, in_backquotes(row[1])) for table in tables for row in table for name in in_backquotes(row[0])]
+    fact(f'{page}: the types in the table of attributes', sorted(name for name, _ in rows) == sorted(toxics), [name for name, _ in rows])
+    for name, shown in rows:
+        fact(f'{page}: the attributes of {name}', shown == [each['attribute'] for each in toxics.get(name, [])], shown)
+
+
+def of_field_words(page, toxics):
+    """Whether each word in backquotes of the sections about scenarios is a field, an attribute, a type, or another word of theirs."""
+    parts = json.loads(text_of(SCHEMA))['$defs']
+    known = OTHER_WORDS | {name for what in FILES_OF for name in parts[what]['properties']} | set(toxics)
+    known |= {each['attribute'] for attributes in toxics.values() for each in attributes}
+    for section in SECTIONS[page]:
+        found = re.search(rf'^## {section}\b.*?(?=^## |\Z)', text_of(page), re.S | re.M)
+        fact(f'{page}: a section {section}', found)
+        wrong = {word for word in in_backquotes(found[0] if found else '') if re.fullmatch(r'[A-Za-z]\w*', word)} - known
+        fact(f'{page}, {section}: words that are no field', not wrong, wrong)
 
 
 # ---- refusals
@@ -415,7 +471,10 @@ def main():
     of_remedies(refusals)
     for page in ('docs/GUIDE.md', 'docs/RULES.md'):
         of_page(page, toxics)
+        of_attribute_names(page, toxics)
+        of_field_words(page, toxics)
         of_refusal_page(page, refusals)
+    of_fields()
     of_schema_limits()
     of_options(source)
     of_names()

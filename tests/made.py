@@ -1,17 +1,20 @@
 #!/usr/bin/env python3
-"""Makes what pages tell of the tree itself: the crates and what they stand on, their files, the limits, the wrong bodies, the public calls.
+"""Makes what pages tell of the tree itself: the crates, what they stand on and their files; the limits; the wrong bodies; the public calls.
 
-A page of docs/ has such a part between two lines, `<!-- made: NAME -->`, with a crate's name after it where there is one for each crate, and
-`<!-- end -->`. Without an argument each part is written anew. With `--check` nothing is written: a part that is not what would be written fails, and
-so does one that no page has. The larger sample as a dump, for tests in Rattle, is made, or compared, too. The last line is `N passed, M failed`. A
-further argument is the folder of another copy of the repository."""
+A page of docs/ has such a part between two lines, `<!-- made: NAME -->` and `<!-- end -->`. Without an argument each part is written anew. With
+`--check` nothing is written: a part that is not what would be written fails, and so does one that no page has. The larger sample as a dump, for
+tests in Rattle, is made, or compared, too. The last line is `N passed, M failed`. A further argument is the folder of another copy of the
+repository."""
 import pathlib, re, sys
 
 FOLDERS = [word for word in sys.argv[1:] if word != '--check']
 TREE = pathlib.Path(FOLDERS[0] if FOLDERS else pathlib.Path(__file__).resolve().parent.parent)
-MADE = re.compile(r'(<!-- made: ([\w ]+) -->\n)(.*?)(<!-- end -->\n)', re.S)
+MADE = re.compile(r'(<!-- made: (\w+) -->\n)(.*?)(<!-- end -->\n)', re.S)
 TESTS = ('part_tests', 'worker_tests', 'rehearsal_tests', 'worked_sessions', 'library_example')
-FILE_WIDTH, CRATE_WIDTH, LINE_WIDTH = 80, 106, 150  # the longest text about a file, about a crate; the longest line
+FILE_WIDTH, CRATE_WIDTH = 41, 58  # a longer text about a file or a crate is cut
+PLAIN = set('a all an and any are as by bytes capture captures connection connections contracts each every file files for from greatest have hold holds '
+            'how in is it its least made many may most number of one said scenario scenarios see seen segment segments so some that the their they to '
+            'what which with'.split())  # words that say little beside a name
 
 
 # ---- the tree
@@ -28,6 +31,10 @@ def uses():
 
 def product():
     return [crate for crate in uses() if crate not in TESTS]
+
+
+def libraries():
+    return [crate for crate in product() if crate != 'toxicap_program']
 
 
 def files(crate, folder, suffix):
@@ -54,13 +61,27 @@ def sentence(path):
 
 
 def short(text, width):
-    """A sentence without its sources, cut where it is long: after the last clause that ends before a width, or else the last word."""
-    text = re.sub(r' \((?:RFC|IEEE|pcap|PCG)[^)]*\)', '', text)
+    """A sentence without its sources; a long one up to its last colon before a width, else to its first comma, else to a word that goes on."""
+    text, most = re.sub(r' \((?:RFC|IEEE|pcap|PCG)[^)]*\)', '', text), width + 16
+
+    def places(ends, first, last):
+        return [end.start() for end in re.finditer(ends, text) if first <= end.start() <= last]
     if len(text) <= width: return text
-    for marks in (['; ', ': ', ', and ', ', of which ', ', which ', ', each '], [', '], [' ']):
-        at = max(text.rfind(mark, 0, width) for mark in marks)
-        if at > 24: break
-    return text[:at] + ' ..'
+    colons, clauses, words = places('[:;] ', 12, width), places('[:;] |, (?!or )', 13, most), places(' (?:that|which|with|by|and|to) ', 20, most)
+    if colons: return text[:colons[-1]]
+    if clauses: return text[:clauses[0]]
+    if len(text) <= most: return text
+    return text[:words[-1]] if words else re.split('[:;,] ', text)[0]
+
+
+def new_words(name, text):
+    """How many words of a text are neither plain nor in a name."""
+    own = {root(word) for word in name.lower().split('_')}
+    return len({root(word) for word in re.findall(r'[a-z]+', text.lower()) if word not in PLAIN} - own)
+
+
+def root(word):
+    return re.sub(r'(?<=...)(?:ies|y|s|ed|ing)$', '', word)
 
 
 def bare(text, name):
@@ -84,33 +105,38 @@ def comment_above(lines, number, mark):
 
 # ---- crates and files
 
-def made_crates():
-    """Each crate: what it is, and what it stands on, but for what it has from a crate below it."""
+def stands_on(crate):
+    """The libraries that a crate uses, but for what it has from a crate below it."""
     used = uses()
 
-    def below(crate):
-        return {each for name in used.get(crate, []) for each in {name} | below(name)}
-    yield '| Crate | What it is | Stands on |\n|---|---|---|\n'
-    for crate, names in used.items():
-        own = [name for name in names if not any(name in below(other) for other in names)]
+    def below(each):
+        return {other for name in used.get(each, []) for other in {name} | below(name)}
+    return [name for name in used[crate] if not any(name in below(other) for other in used[crate])]
+
+
+def files_by_text(crate):
+    """The names of a crate's files by what is told of them: of a file of specs/ what its name does not say; a file of src/ with its name goes with it."""
+    src = [path.stem for path in files(crate, 'src', '.rt') if path.stem not in ('laws', 'rows')]
+    specs = [path for path in files(crate, 'specs', '.antt') if not re.search('Rows$|Before$|^Row', path.stem)]
+    found, twins = {'': []}, {snake(path.stem) for path in specs} & set(src)
+    for path in specs:
+        name, text = path.stem, short(bare(sentence(path), path.stem), FILE_WIDTH)
+        told = text if new_words(f'{snake(name)}_{crate}', text) > 2 else ''
+        found.setdefault(told, []).append(name + '+' if snake(name) in twins else name)
+    found[''] += [name for name in src if name not in twins]
+    return found
+
+
+def made_crates():
+    """Each crate: what it is, what it stands on, and, but for tests, its files."""
+    for crate in uses():
         src = TREE / 'crates' / crate / 'src'
         first = src / 'lib.rt' if (src / 'lib.rt').exists() else src / 'main.rt'
-        yield f'| `{crate}` | {short(sentence(first), CRATE_WIDTH)} | {", ".join(f"`{name}`" for name in own) or "-"} |\n'
-
-
-def made_files():
-    """Each file of specs/ and of src/, one line each; a file of src/ that has the name of one of specs/ goes with it."""
-    for crate in product():
-        specs = {path.stem: path for path in files(crate, 'specs', '.antt')}
-        src = {path.stem: path for path in files(crate, 'src', '.rt')}
-        proofs = files(crate, 'proofs', '.antt')
-        yield f'### {crate}\n\nspecs {len(specs)}, src {len(src)}, proofs {len(proofs)}, edits {len(edits(crate))}\n\n'
-        for name, path in specs.items():
-            if name.endswith(('Rows', 'Before')) or name.startswith('Row'): continue
-            twin = f', `{snake(name)}`' if src.pop(snake(name), None) else ''
-            yield f'- `{name}`{twin}: {short(bare(sentence(path), name), FILE_WIDTH)}\n'
-        for name, path in src.items():
-            if name not in ('laws', 'rows'): yield f'- `{name}`: {short(sentence(path), FILE_WIDTH)}\n'
+        on = ', '.join(stands_on(crate))
+        yield f'### {crate}\n\n{short(sentence(first), CRATE_WIDTH)}{"; on " if on else ""}{on}.\n\n'
+        if crate not in product(): continue
+        for text, names in files_by_text(crate).items():
+            if names: yield f'- {", ".join(names)}{": " if text else ""}{text}\n'
         yield '\n'
 
 
@@ -127,39 +153,45 @@ def definitions(crate):
     return found
 
 
+def limits(crate):
+    """Each constant of a crate that is a number, but for places and types in headers, and limits of definitions alone: file, name, value, comment."""
+    specs, told = definitions(crate), set()
+    for path in files(crate, 'src', '.rt'):
+        lines = read(path).splitlines()
+        for number, line in enumerate(lines):
+            constant = re.match(r' *(?:pub(?:\(crate\))? )?const (\w+): (?:u\d+|usize) = (.*);$', line)
+            if not constant: continue
+            name = constant[1].lower()
+            told.add(name)
+            if name.endswith(('_at', '_type')): continue  # where a field stands in a header, and the types of what follows
+            yield path.stem, constant[1], constant[2], comment_above(lines, number, '//') or specs.get(name, ('', '', ''))[2]
+    for name, (file, value, meaning) in specs.items():
+        if re.search(r'_limit$|^most_', name) and name not in told and re.fullmatch(r'[\d ^]+', value): yield file, name, value, meaning
+
+
 def made_limits():
-    """Each constant that is a number, but for places and types in headers: its value, the files where it stands, and the comment above it; and
-    limits of definitions alone."""
-    yield '| Name | Value | Crate | Files | Meaning |\n|---|---|---|---|---|\n'
+    """Each limit after its file: its value, and the first clause of its comment where this says more than the name."""
     for crate in product():
-        specs, told = definitions(crate), set()
-        for path in files(crate, 'src', '.rt'):
-            lines = read(path).splitlines()
-            for number, line in enumerate(lines):
-                constant = re.match(r' *(?:pub(?:\(crate\))? )?const (\w+): (?:u\d+|usize) = (.*);$', line)
-                if not constant: continue
-                name = constant[1].lower()
-                told.add(name)
-                if name.endswith(('_at', '_type')): continue  # where a field stands in a header, and the types of what follows
-                file, _, meaning = specs.get(name, ('', '', ''))
-                where = f'`{path.stem}`' + (f', `{file}`' if file else '')
-                yield f'| `{constant[1]}` | `{constant[2]}` | `{crate}` | {where} | {comment_above(lines, number, "//") or meaning} |\n'
-        for name, (file, value, meaning) in specs.items():
-            if re.search(r'_limit$|^most_', name) and name not in told and re.fullmatch(r'[\d ^]+', value):
-                yield f'| `{name}` | `{value}` | `{crate}` | `{file}` | {meaning} |\n'
+        found = {}
+        for file, name, value, meaning in limits(crate):
+            meaning = re.split('[.:;] |, (?:which|where|and the same) ', meaning)[0]
+            tells = f' ({meaning[0].lower()}{meaning[1:]})' if new_words(name, meaning) > 1 else ''
+            found.setdefault(file, []).append(f'{name} = {value}{tells}')
+        for file, told in found.items(): yield f'- {crate}/{file}: {", ".join(told)}\n'
 
 
 # ---- wrong bodies
 
+def made_edits():
+    """The names of the wrong bodies of each crate."""
+    for crate in uses():
+        names = [path.stem for path in edits(crate)]
+        if names: yield f'- {crate}: {", ".join(names)}\n'
+
+
+# ---- calls
+
 FUNCTION = re.compile(r'^( *)(pub(?:\(crate\))? )?(?:unsafe )?(?:extern "C" )?fn (\w+)', re.M)
-
-
-def function_at(code, place):
-    """The head of the function that a place of a file stands in; where it stands between two, that of the next one."""
-    for head in reversed(list(FUNCTION.finditer(code, 0, code.find('\n', place)))):
-        end = re.compile(rf'^{head[1]}(?:\}}|\{{\}})', re.M).search(code, head.end())
-        if end and end.end() >= place: return head
-    return FUNCTION.search(code, place)
 
 
 def clauses(code, head):
@@ -179,27 +211,8 @@ def with_clauses(code, head):
     """A function as it is told: its name, and in brackets the names of its clauses, or '-' where there are none."""
     promised = clauses(code, head)
     names = ', '.join(filter(None, promised)) if promised else '-'
-    return f'`{head[3]}`' + (f' ({names})' if names else '')
+    return head[3] + (f' ({names})' if names else '')
 
-
-def made_edits():
-    """Each wrong body that has an edit: the functions that it changes, in their file, or the definitions."""
-    for crate in uses():
-        found = {}
-        for path in edits(crate):
-            edit = read(path)
-            folder, file, suffix = re.search(r'^file: (\w+)/(.*)(\.rt|\.antt)$', edit, re.M).groups()
-            code = read(TREE / 'crates' / crate / folder / f'{file}{suffix}')
-            olds = re.findall(r'^old: *(.*)$', edit, re.M)
-            if suffix == '.rt': told = [f'`{function_at(code, code.index(old))[3]}`' for old in olds]
-            else: told = [f'`{old.split()[0]}`' for old in olds if not old.startswith('use ')]  # definitions
-            found.setdefault(file, {}).setdefault(', '.join(dict.fromkeys(told)), []).append(path.stem)
-        if found: yield f'- `{crate}`, {len(edits(crate))}.\n'
-        for file, bodies in found.items():
-            yield f'  - `{file}`: ' + '; '.join(f'{functions} by {", ".join(wrong)}' for functions, wrong in bodies.items()) + '\n'
-
-
-# ---- calls
 
 def handed_on(crate):
     """The names that a crate's lib.rt hands on from its modules, each with its module."""
@@ -209,7 +222,7 @@ def handed_on(crate):
     return found
 
 
-def made_calls(crate):
+def calls(crate):
     """The public calls of a crate, by their type, trait or module, with the names of their clauses."""
     names, rows = handed_on(crate), {}
     for path in files(crate, 'src', '.rt'):
@@ -222,8 +235,12 @@ def made_calls(crate):
             if head[1] or head[2] != 'pub ': continue
             if names.get(head[3]) == path.stem or path.stem == 'laws' or 'extern "C"' in head[0]:
                 rows.setdefault(path.stem, []).append(with_clauses(code, head))
-    yield '| Of | Calls |\n|---|---|\n'
-    for of, calls in rows.items(): yield f'| `{of}` | {", ".join(calls)} |\n'
+    return rows
+
+
+def made_calls():
+    for crate in libraries():
+        yield f'- {crate}\n' + ''.join(f'  - {of}: {", ".join(told)}\n' for of, told in calls(crate).items())
 
 
 # ---- a sample
@@ -234,31 +251,17 @@ SAMPLE, DUMP = TREE / 'samples/shop.pcap', TREE / 'crates/rehearsal_tests/src/te
 def made_dump():
     """The larger sample as a constant of the tests."""
     digits = SAMPLE.read_bytes().hex()
-    lines = '\n'.join(digits[at:at + LINE_WIDTH - 10] for at in range(0, len(digits), LINE_WIDTH - 10))
+    lines = '\n'.join(digits[at:at + 140] for at in range(0, len(digits), 140))
     return f'//! The sample `samples/shop.pcap` as a dump, made by `tests/made.py`.\n\npub const SHOP: &str =\n    "{lines}";\n'
 
 
 # ---- pages
 
-PARTS = {'crates': made_crates, 'files': made_files, 'limits': made_limits, 'edits': made_edits, 'calls': made_calls}
+PARTS = {'crates': made_crates, 'limits': made_limits, 'edits': made_edits, 'calls': made_calls}
 
 
-def folded(text):
-    """A part, its long lines broken at spaces; a row of a table stays a line."""
-    lines = []
-    for line in text.split('\n'):
-        indent = re.match(r' *(?:- )?', line)[0]
-        while len(line) > LINE_WIDTH and not line.startswith('|'):
-            at = line.rfind(' ', 0, LINE_WIDTH)
-            lines.append(line[:at])
-            line = ' ' * len(indent) + line[at + 1:]
-        lines.append(line)
-    return '\n'.join(lines)
-
-
-def part(words):
-    name, *more = words.split()
-    return '\n' + folded(''.join(PARTS[name](*more))).strip('\n') + '\n\n'
+def part(name):
+    return '\n' + ''.join(PARTS[name]()).strip('\n') + '\n\n'
 
 
 def difference(now, wanted):
@@ -282,8 +285,7 @@ def main():
     if '--check' not in sys.argv: DUMP.write_text(wanted, encoding='utf-8')
     elif read(DUMP) != wanted: faults.append(f'{DUMP.relative_to(TREE)} is no dump of {SAMPLE.relative_to(TREE)}')
     if '--check' not in sys.argv: return
-    libraries = [crate for crate in product() if crate != 'toxicap_program']
-    missing = ({'crates', 'files', 'limits', 'edits'} | {f'calls {crate}' for crate in libraries}) - shown
+    missing = set(PARTS) - shown
     faults += [f'no page has the part: {name}' for name in sorted(missing)]
     for fault in faults: print('failed:', fault)
     print(f'{len(shown | missing) + 1 - len(faults)} passed, {len(faults)} failed')

@@ -11,7 +11,7 @@ FOLDERS = [word for word in sys.argv[1:] if word != '--check']
 TREE = pathlib.Path(FOLDERS[0] if FOLDERS else pathlib.Path(__file__).resolve().parent.parent)
 MADE = re.compile(r'(<!-- made: (\w+) -->\n)(.*?)(<!-- end -->\n)', re.S)
 TESTS = ('part_tests', 'worker_tests', 'rehearsal_tests', 'worked_sessions', 'library_example')
-FILE_WIDTH, CRATE_WIDTH = 41, 58  # a longer text about a file or a crate is cut
+FILE_WIDTH, CRATE_WIDTH = 41, 60  # a longer text about a file or a crate is cut
 PLAIN = set('a all an and any are as by bytes capture captures connection connections contracts each every file files for from greatest have hold holds '
             'how in is it its least made many may most number of one said scenario scenarios see seen segment segments so some that the their they to '
             'what which with'.split())  # words that say little beside a name
@@ -175,7 +175,7 @@ def made_limits():
         found = {}
         for file, name, value, meaning in limits(crate):
             meaning = re.split('[.:;] |, (?:which|where|and the same) ', meaning)[0]
-            tells = f' ({meaning[0].lower()}{meaning[1:]})' if new_words(name, meaning) > 1 else ''
+            tells = f' ({meaning[0].lower()}{meaning[1:]})' if new_words(name, meaning) > 1 or '`' in meaning else ''
             found.setdefault(file, []).append(f'{name} = {value}{tells}')
         for file, told in found.items(): yield f'- {crate}/{file}: {", ".join(told)}\n'
 

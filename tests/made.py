@@ -12,9 +12,9 @@ TREE = pathlib.Path(FOLDERS[0] if FOLDERS else pathlib.Path(__file__).resolve().
 MADE = re.compile(r'(<!-- made: (\w+) -->\n)(.*?)(<!-- end -->\n)', re.S)
 TESTS = ('part_tests', 'worker_tests', 'rehearsal_tests', 'worked_sessions', 'library_example')
 FILE_WIDTH, CRATE_WIDTH = 41, 60  # a longer text about a file or a crate is cut
-PLAIN = set('a all an and any are as by bytes capture captures connection connections contracts each every file files for from greatest have hold holds '
-            'how in is it its least made many may most number of one said scenario scenarios see seen segment segments so some that the their they to '
-            'what which with'.split())  # words that say little beside a name
+PLAIN = set('a all an and any are as by bytes capture captures connection connections contracts each every file files for from greatest have hold '
+            'holds how in is it its least made many may most number of one said scenario scenarios see seen segment segments so some that the their '
+            'they to what which with'.split())  # words that say little beside a name
 
 
 # ---- the tree
@@ -81,6 +81,7 @@ def new_words(name, text):
 
 
 def root(word):
+    """A word without its ending."""
     return re.sub(r'(?<=...)(?:ies|y|s|ed|ing)$', '', word)
 
 
@@ -115,7 +116,7 @@ def stands_on(crate):
 
 
 def files_by_text(crate):
-    """The names of a crate's files by what is told of them: of a file of specs/ what its name does not say; a file of src/ with its name goes with it."""
+    """The names of a crate's files by what is told of them: of files of specs/ what the name does not say. With one goes that of src/ of its name."""
     src = [path.stem for path in files(crate, 'src', '.rt') if path.stem not in ('laws', 'rows')]
     specs = [path for path in files(crate, 'specs', '.antt') if not re.search('Rows$|Before$|^Row', path.stem)]
     found, twins = {'': []}, {snake(path.stem) for path in specs} & set(src)

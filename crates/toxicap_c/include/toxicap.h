@@ -46,16 +46,16 @@ enum {
     TOXICAP_ANSWERED = 0,
     /* Refused: at the start of `reports` stands the line that the program tells, as `refused 5 RecordTooLong at 0`, without a line feed or
        a zero byte at its end, and `sizes.reports` is its length in bytes. `sizes.captures` and `sizes.lens` are 0; the other buffers are
-       as they were. docs/GUIDE.md has all refusals; `refused 40 Memory` is want of memory. */
+       as they were. docs/GUIDE.md has all refusals; `refused 40 Memory` is lack of memory. */
     TOXICAP_REFUSED = 1,
-    /* Too little room: `sizes` says what is wanted, of an answer or of a refusal's line, and at least one of these is more than the room.
+    /* Too little room: `sizes` says what is required, of an answer or of a refusal's line, and at least one of these is more than the room.
        All buffers are as they were. */
     TOXICAP_NO_ROOM = 2,
-    /* Want of memory, and no memory to make the line of that refusal. All of `sizes` is 0, all buffers are as they were. */
+    /* Lack of memory, and no memory to make the line of that refusal. All of `sizes` is 0, all buffers are as they were. */
     TOXICAP_NO_MEMORY = 3
 };
 
-/* How much is written of each output, or is wanted. */
+/* How much is written of each output, or is required. */
 typedef struct {
     size_t captures; /* bytes */
     size_t reports;  /* bytes; where the call is refused, those of the line */
@@ -77,7 +77,7 @@ typedef struct {
  *   reports          room for the reports (UTF-8 text), one right after another, or for a refusal's line; reports_room bytes
  *   lens             room for the lengths in bytes: lens[2 * i] of the capture and lens[2 * i + 1] of the report of scenario i, from 0 on;
  *                    lens_room ENTRIES
- *   sizes            what was written, or is wanted
+ *   sizes            what was written, or is required
  *
  * Gives the status.
  */

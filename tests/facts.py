@@ -232,7 +232,7 @@ def of_range(what, attribute, text):
 
 FILES_OF = {'proxy': ['proxies'], 'toxic': ['toxics', 'toxic_types']}  # the files of crates/scenarios/src that read their fields
 FIELD_READ = re.compile(r'\b(?:required_\w+|optional_\w+|is_\w+_or_absent|field)\(\s*(?:value|toxic),\s*"(\w+)"')
-SECTIONS = {'docs/GUIDE.md': ('The toxics', 'Refusals'), 'docs/RULES.md': ('Scenario files', 'Refusals')}
+SECTIONS = {'docs/GUIDE.md': ('The toxics', 'Refusals'), 'docs/RULES.md': ('Scenario files',)}
 OTHER_WORDS = {'upstream', 'downstream', 'true', 'false', 'null', 'serde_json', 'max', 'fin', 'close', 'refused'}
 
 
@@ -469,11 +469,11 @@ def main():
     of_errors(refusals)
     of_help_refusals(refusals, help_text)
     of_remedies(refusals)
+    of_refusal_page('docs/GUIDE.md', refusals)
     for page in ('docs/GUIDE.md', 'docs/RULES.md'):
         of_page(page, toxics)
         of_attribute_names(page, toxics)
         of_field_words(page, toxics)
-        of_refusal_page(page, refusals)
     of_fields()
     of_schema_limits()
     of_options(source)

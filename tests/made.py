@@ -96,14 +96,6 @@ def snake(name):
     return re.sub(r'(?<!^)(?=[A-Z])', '_', name).lower()
 
 
-def comment_above(lines, number, mark):
-    """The comment that stands right above a line."""
-    first = number
-    while re.match(rf' *{mark}', lines[first - 1]): first -= 1
-    text = ' '.join(re.sub(rf'^ *{mark}/? ?', '', line) for line in lines[first:number]).rstrip('.')
-    return text[:1].upper() + text[1:]
-
-
 # ---- crates and files
 
 def stands_on(crate):
@@ -144,40 +136,30 @@ def made_crates():
 # ---- limits
 
 def definitions(crate):
-    """The definitions of a crate that are given by one line: of each its file, what it is, and the comment above it."""
+    """The definitions of a crate that are given by one line: of each its file and what it is."""
     found = {}
     for path in files(crate, 'specs', '.antt'):
-        lines = read(path).splitlines()
-        for number, line in enumerate(lines):
-            given = re.match(r'(\w+) = (.*)$', line)
-            if given: found[given[1]] = (path.stem, given[2], comment_above(lines, number - 1, '--'))
+        for name, value in re.findall(r'^(\w+) = (.*)$', read(path), re.M): found[name] = (path.stem, value)
     return found
 
 
 def limits(crate):
-    """Each constant of a crate that is a number, but for places and types in headers, and limits of definitions alone: file, name, value, comment."""
-    specs, told = definitions(crate), set()
+    """Each constant of a crate that is a number, but for places and types in headers, and limits of definitions alone: file, name, value."""
+    told = set()
     for path in files(crate, 'src', '.rt'):
-        lines = read(path).splitlines()
-        for number, line in enumerate(lines):
-            constant = re.match(r' *(?:pub(?:\(crate\))? )?const (\w+): (?:u\d+|usize) = (.*);$', line)
-            if not constant: continue
-            name = constant[1].lower()
-            told.add(name)
-            if name.endswith(('_at', '_type')): continue  # where a field stands in a header, and the types of what follows
-            yield path.stem, constant[1], constant[2], comment_above(lines, number, '//') or specs.get(name, ('', '', ''))[2]
-    for name, (file, value, meaning) in specs.items():
-        if re.search(r'_limit$|^most_', name) and name not in told and re.fullmatch(r'[\d ^]+', value): yield file, name, value, meaning
+        for name, value in re.findall(r'^ *(?:pub(?:\(crate\))? )?const (\w+): (?:u\d+|usize) = (.*);$', read(path), re.M):
+            told.add(name.lower())
+            if name.endswith(('_AT', '_TYPE')): continue  # where a field stands in a header, and the types of what follows
+            yield path.stem, name, value
+    for name, (file, value) in definitions(crate).items():
+        if re.search(r'_limit$|^most_', name) and name not in told and re.fullmatch(r'[\d ^]+', value): yield file, name, value
 
 
 def made_limits():
-    """Each limit after its file: its value, and the first clause of its comment where this says more than the name."""
+    """Each limit after its file, with its value."""
     for crate in product():
         found = {}
-        for file, name, value, meaning in limits(crate):
-            meaning = re.split('[.:;] |, (?:which|where|and the same) ', meaning)[0]
-            tells = f' ({meaning[0].lower()}{meaning[1:]})' if new_words(name, meaning) > 1 or '`' in meaning else ''
-            found.setdefault(file, []).append(f'{name} = {value}{tells}')
+        for file, name, value in limits(crate): found.setdefault(file, []).append(f'{name} = {value}')
         for file, told in found.items(): yield f'- {crate}/{file}: {", ".join(told)}\n'
 
 

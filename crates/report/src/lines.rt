@@ -13,7 +13,7 @@ use std::alloc::{AllocError, Global};
 use toxic_defs::Delivered;
 
 /// The room of a connection's line, which is seldom longer.
-pub(crate) const LINE_ROOM: usize = 112;
+pub(crate) const LINE_ROOM: usize = 136;
 
 /// The line of a connection, with its line feed: its number and peers, their VLAN if they have one, the proxy that it met, and for each direction the number of
 /// delivered, recorded and lost bytes, how it ends, and the longest that a byte was held back.

@@ -117,9 +117,10 @@ fn outlined_segments(
 {
     let upward = in_turn(client, Turn::ClientLine);
     let ups = line_segments(alloc, &upward, up, up_end, down, down_end)?;
-    let opening = opening_segments(alloc, client, at, refused, ups.len())?;
     let downward = peer_in(client, Turn::ServerLine);
     let downs = line_segments(alloc, &downward, down, down_end, up, up_end)?;
+    let more = ups.len().saturating_add(downs.len());
+    let opening = opening_segments(alloc, client, at, refused, more)?;
     let list = merged(alloc, opening, ups)?;
     merged(alloc, list, downs)
 }

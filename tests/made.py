@@ -222,6 +222,7 @@ def calls(crate):
 
 
 def made_calls():
+    """The public calls of each library, a line for each type, trait or module."""
     for crate in libraries():
         yield f'- {crate}\n' + ''.join(f'  - {of}: {", ".join(told)}\n' for of, told in calls(crate).items())
 

@@ -271,6 +271,16 @@ def of_attribute_names(page, toxics):
         fact(f'{page}: the attributes of {name}', shown == [each['attribute'] for each in toxics.get(name, [])], shown)
 
 
+def of_rule_tables(toxics):
+    """The types in docs/RULES.md's table of what toxics do, and its frame classes."""
+    page = 'docs/RULES.md'
+    classes = between(text_of('crates/frame_headers/src/classes.rt'), "pub enum Class<'a> {", '\n}\n')
+    heads = {'Toxic | What it makes of a line': list(toxics), 'Class | Holds where': re.findall(r'^    (\w+)', classes, re.M)}
+    for head, wanted in heads.items():
+        shown = [row[0] for rows in tables_under(page, r'\| ' + head.replace('|', r'\|') + r' \|') for row in rows]
+        fact(f'{page}: the rows of {head}', sorted(shown) == sorted(wanted), shown)
+
+
 def of_field_words(page, toxics):
     """Whether each word in backquotes of the sections about scenarios is a field, an attribute, a type, or another word of theirs."""
     parts = json.loads(text_of(SCHEMA))['$defs']
@@ -474,6 +484,7 @@ def main():
         of_page(page, toxics)
         of_attribute_names(page, toxics)
         of_field_words(page, toxics)
+    of_rule_tables(toxics)
     of_fields()
     of_schema_limits()
     of_options(source)

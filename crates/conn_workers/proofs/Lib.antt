@@ -2,6 +2,7 @@ mod Meetings
 mod RowLemmas
 mod TableConnections
 mod DeliverySteps
+mod ShareSteps
 mod Isolated
 mod RecordedInTime
 mod MadeOfRecorded

@@ -3,6 +3,7 @@ pub mod Contributions
 pub mod DeliveryRows
 pub mod CaptureTables
 pub mod Recordings
+pub mod RowShares
 pub mod DeliveryLaws
 pub mod RecordedDeliveries
 pub use Rattle.pcap_records.specs.Instants

@@ -49,11 +49,14 @@ recorded_delivery_by number r d = record {
   line = connection_text r.conn.number r.conn.vlan r.conn.client r.conn.server r.recorded d;
 }
 
--- the same to a scenario with its number
+-- what is delivered of a connection in a scenario with its number
+abbrev pub recorded_delivered : ℕ → ℕ × List Proxy → RecordingView → DeliveredConnection
+recorded_delivered seed (number, proxies) r =
+    delivered_connection r.ticks seed number r.conn.number (met_proxy r.conn.server proxies) r.recorded
+
+-- what a connection contributes to it
 abbrev pub recorded_delivery : ℕ → ℕ × List Proxy → RecordingView → Delivery
-recorded_delivery seed (number, proxies) r =
-    recorded_delivery_by number r
-    (delivered_connection r.ticks seed number r.conn.number (met_proxy r.conn.server proxies) r.recorded)
+recorded_delivery seed (number, proxies) r = recorded_delivery_by number r (recorded_delivered seed (number, proxies) r)
 
 -- what all contribute to all scenarios, row by row
 unfoldable pub recorded_deliveries : ℕ → List RecordingView → List (List Proxy) → List Delivery

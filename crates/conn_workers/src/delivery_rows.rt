@@ -1,21 +1,25 @@
-//! What each connection of a capture contributes to one scenario, and its line of the scenario's report, made by workers.
-ghost use Rattle.std.specs.Prelude.{◌≡◌, IfOk};
+//! What the connections of a capture contribute to one scenario, and their lines of the scenario's report, made by workers.
+ghost use Rattle.std.specs.Prelude.{◌≡◌, [], ◌∷◌, IfOk};
+ghost use Rattle.std.specs.List.{flat_map};
 ghost use Rattle.conn_workers.specs.Recordings.{recorded_lines, recorded_row};
 
-use crate::jobs::{ReportLineJobs, RowJobs, UnderScenario};
-use crate::outlined_deliveries::OutlinedDelivery;
+use crate::jobs::{ShareJobs, TextJobs};
 use crate::recordings::Recordings;
-use job_matrix::{Gate, Phase, Plan, Through, Values, work_all, work_alone};
+use crate::row_ranges::RowRanges;
+use crate::row_shares::RowShare;
+use crate::under_scenario::UnderScenario;
+use job_matrix::{Gate, Phase, Plan, Values, work_all};
 use report::ReportText;
 use scenarios::Scenario;
 use std::alloc::{AllocError, Global};
 use std::thread::Threads;
 
-/// What each connection contributes to one scenario, in order of the connections' numbers.
-pub type OutlineRow<'a> = Values<OutlinedDelivery<'a>>;
+/// What the connections of a capture contribute to one scenario, in shares, one after another in order of the connections' numbers.
+/// How many shares there are depends on the plan; what they hold together does not.
+pub type OutlineRow<'a> = Values<RowShare<'a>>;
 
-/// What each connection contributes to a scenario with its number. Workers make it in phase `Jobs`, with one job for each
-/// connection. The answer is the same whatever the plan and the gate.
+/// What each connection contributes to a scenario with its number, one connection after another. Workers make it in phase `Jobs`, with
+/// one job for each range of connections. What the shares hold together is the same whatever the plan and the gate.
 ///
 /// # Errors
 /// A growth was refused.
@@ -29,15 +33,20 @@ pub fn deliver_row<'a, R: Threads + Sync, G: Gate>(
     plan: Plan,
     gate: &G,
 ) -> Result<OutlineRow<'a>, AllocError>
-    ensures { IfOk result (λ v. v ≡ recorded_row seed (number, scenario.now) recordings.now) }
+    ensures segments { IfOk result (λ v. flat_map (λ s. s.segments) v
+        ≡ flat_map (λ d. d.segments) (recorded_row seed (number, scenario.now) recordings.now)) }
+    ensures lines { IfOk result (λ v. flat_map (λ s. s.lines) v
+        ≡ flat_map (λ d. d.line) (recorded_row seed (number, scenario.now) recordings.now)) }
 {
-    let jobs = RowJobs(UnderScenario::of(alloc, recordings, number, scenario, seed));
-    let count = jobs.0.recordings.len() as u64;
+    let under = UnderScenario::of(alloc, recordings, number, scenario, seed);
+    let ranges = RowRanges::of(under.recordings.len(), plan);
+    let jobs = ShareJobs { under, ranges };
     let workers = plan.workers() as u64;
-    work_all(rt, alloc, count, workers, Phase::Jobs, gate, &jobs)
+    work_all(rt, alloc, ranges.count, workers, Phase::Jobs, gate, &jobs)
 }
 
-/// What each connection contributes to a scenario with its number, as [`deliver_row`] gives it, made by this thread alone.
+/// What each connection contributes to a scenario with its number, as [`deliver_row`] gives it, made by this thread alone: in one
+/// share.
 ///
 /// # Errors
 /// A growth was refused.
@@ -48,15 +57,19 @@ pub fn deliver_row_alone<'a>(
     scenario: &Scenario,
     seed: u64,
 ) -> Result<OutlineRow<'a>, AllocError>
-    ensures { IfOk result (λ v. v ≡ recorded_row seed (number, scenario.now) recordings.now) }
+    ensures segments { IfOk result (λ v. flat_map (λ s. s.segments) v
+        ≡ flat_map (λ d. d.segments) (recorded_row seed (number, scenario.now) recordings.now)) }
+    ensures lines { IfOk result (λ v. flat_map (λ s. s.lines) v
+        ≡ flat_map (λ d. d.line) (recorded_row seed (number, scenario.now) recordings.now)) }
 {
-    let jobs = RowJobs(UnderScenario::of(alloc, recordings, number, scenario, seed));
-    let count = jobs.0.recordings.len() as u64;
-    work_alone(alloc, count, Phase::Jobs, &Through, &jobs)
+    let under = UnderScenario::of(alloc, recordings, number, scenario, seed);
+    let share = under.share(under.recordings)?;
+    one(alloc, share)
 }
 
-/// The line of each connection in the report of a scenario with its number, in order of the connections' numbers. Workers make
-/// them in phase `Jobs`, with one job for each connection. The answer is the same whatever the plan and the gate.
+/// The lines of the connections in the report of a scenario with its number, in order of the connections' numbers: texts of lines,
+/// one after another. Workers make them in phase `Jobs`, with one job for each range of connections. What the texts hold together
+/// is the same whatever the plan and the gate.
 ///
 /// # Errors
 /// A growth was refused.
@@ -70,16 +83,18 @@ pub fn report_lines<R: Threads + Sync, G: Gate>(
     plan: Plan,
     gate: &G,
 ) -> Result<Values<ReportText>, AllocError>
-    ensures { IfOk result (λ v. v ≡ recorded_lines seed (number, scenario.now) recordings.now) }
+    ensures { IfOk result (λ v. flat_map (λ text. text) v
+        ≡ flat_map (λ line. line) (recorded_lines seed (number, scenario.now) recordings.now)) }
 {
-    let jobs = ReportLineJobs(UnderScenario::of(alloc, recordings, number, scenario, seed));
-    let count = jobs.0.recordings.len() as u64;
+    let under = UnderScenario::of(alloc, recordings, number, scenario, seed);
+    let ranges = RowRanges::of(under.recordings.len(), plan);
+    let jobs = TextJobs { under, ranges };
     let workers = plan.workers() as u64;
-    work_all(rt, alloc, count, workers, Phase::Jobs, gate, &jobs)
+    work_all(rt, alloc, ranges.count, workers, Phase::Jobs, gate, &jobs)
 }
 
-/// The line of each connection in the report of a scenario with its number, as [`report_lines`] gives them, made by this thread
-/// alone.
+/// The lines of the connections in the report of a scenario with its number, as [`report_lines`] gives them, made by this thread
+/// alone: in one text.
 ///
 /// # Errors
 /// A growth was refused.
@@ -90,9 +105,19 @@ pub fn report_lines_alone(
     scenario: &Scenario,
     seed: u64,
 ) -> Result<Values<ReportText>, AllocError>
-    ensures { IfOk result (λ v. v ≡ recorded_lines seed (number, scenario.now) recordings.now) }
+    ensures { IfOk result (λ v. flat_map (λ text. text) v
+        ≡ flat_map (λ line. line) (recorded_lines seed (number, scenario.now) recordings.now)) }
 {
-    let jobs = ReportLineJobs(UnderScenario::of(alloc, recordings, number, scenario, seed));
-    let count = jobs.0.recordings.len() as u64;
-    work_alone(alloc, count, Phase::Jobs, &Through, &jobs)
+    let under = UnderScenario::of(alloc, recordings, number, scenario, seed);
+    let text = under.text(under.recordings)?;
+    one(alloc, text)
+}
+
+// The list of one value.
+fn one<V: Drop>(alloc: Global, value: V) -> Result<Values<V>, AllocError>
+    ensures { IfOk result (λ v. v ≡ value ∷ []) }
+{
+    let mut values = Vec::with_capacity(alloc, 1)?;
+    values.push(value)?;
+    Ok(Values::of(values))
 }

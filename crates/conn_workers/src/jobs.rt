@@ -1,17 +1,19 @@
-//! The works of workers on recordings: what each connection contributes to all scenarios or to one, and its line of the report.
+//! The works of workers on recordings: what each connection contributes to all scenarios, and what ranges of connections contribute to
+//! one, or their lines of its report.
 ghost use Rattle.std.specs.Prelude.{◌≡◌, ◌≤◌, ◌*◌, length};
 ghost use Rattle.conn_workers.specs.DeliveryRows.{scenario_limit};
 ghost use Rattle.conn_workers.specs.Recordings.{recorded_deliveries};
 
 use crate::deliveries::Delivery;
-use crate::met_proxies::met_proxy;
-use crate::outlined_deliveries::{OutlinedDelivery, outlined_delivery};
-use crate::recordings::{Recording, Recordings};
+use crate::outlined_deliveries::outlined_delivery;
+use crate::recordings::Recording;
+use crate::row_ranges::RowRanges;
+use crate::row_shares::RowShare;
+use crate::under_scenario::UnderScenario;
 use job_matrix::Work;
-use report::{ReportText, line};
+use report::ReportText;
 use scenarios::Scenario;
 use std::alloc::{AllocError, Global};
-use toxic_defs::delivered_by;
 
 /// Recordings of connections, and scenarios: of C connections, job s * C + c makes what connection c contributes to
 /// scenario s.
@@ -48,91 +50,50 @@ impl<'w, 'v, 'a> Work for ContributionJobs<'w, 'v, 'a> {
     }
 }
 
-/// Recordings of connections, and a scenario with its number.
+/// Job r makes what the connections of range r contribute to the scenario.
 #[derive(Drop)]
-pub(crate) struct UnderScenario<'w, 'v, 'a> {
-    // Where what is made is kept.
-    alloc: Global,
-    /// The connections with what is recorded of them.
-    pub(crate) recordings: &'w [Recording<'v, 'a>],
-    number: u32,
-    scenario: &'w Scenario,
-    // That of the random words.
-    seed: u64,
+pub(crate) struct ShareJobs<'w, 'v, 'a> {
+    /// The connections and the scenario.
+    pub(crate) under: UnderScenario<'w, 'v, 'a>,
+    /// The ranges.
+    pub(crate) ranges: RowRanges,
+    ghost all: { ranges.all ≡ length under.recordings.now },
 }
 
-impl<'w, 'v, 'a> UnderScenario<'w, 'v, 'a> {
-    /// All of these together.
-    pub(crate) fn of(
-        alloc: Global,
-        recordings: &'w Recordings<'v, 'a>,
-        number: u32,
-        scenario: &'w Scenario,
-        seed: u64,
-    ) -> Self
-        ensures recordings { result.recordings.now ≡ recordings.now }
-        ensures number { result.number ≡ number }
-        ensures scenario { result.scenario.now ≡ scenario.now }
-        ensures seed { result.seed ≡ seed }
-    {
-        UnderScenario {
-            alloc,
-            recordings: recordings.as_slice(),
-            number,
-            scenario,
-            seed,
-        }
-    }
-}
-
-/// Job c makes what connection c contributes to the scenario.
-#[derive(Drop)]
-pub(crate) struct RowJobs<'w, 'v, 'a>(pub(crate) UnderScenario<'w, 'v, 'a>);
-
-impl<'w, 'v, 'a> Work for RowJobs<'w, 'v, 'a> {
-    type Out = OutlinedDelivery<'a>;
+impl<'w, 'v, 'a> Work for ShareJobs<'w, 'v, 'a> {
+    type Out = RowShare<'a>;
 
     ghost use Rattle.std.specs.Prelude.{◌≡◌, ◌<◌, length, get_or, IfOk};
-    ghost use Rattle.conn_workers.specs.Recordings.{recorded_row};
+    ghost use Rattle.conn_workers.specs.RowShares.{row_shares};
 
-    ghost values = { λ w. recorded_row w.0.seed (w.0.number, w.0.scenario.now) w.0.recordings.now };
+    ghost values = { λ w. row_shares w.ranges.size w.ranges.count w.under.seed (w.under.number, w.under.scenario.now) w.under.recordings.now };
 
-    fn value(&self, job: u64) -> Result<OutlinedDelivery<'a>, AllocError> {
-        let under = &self.0;
-        let recordings = under.recordings;
-        let recording = &recordings[job as usize];
-        let number = under.number;
-        outlined_delivery(under.alloc, recording, number, under.scenario, under.seed)
+    fn value(&self, job: u64) -> Result<RowShare<'a>, AllocError> {
+        self.under
+            .share(self.ranges.range(self.under.recordings, job))
     }
 }
 
-/// Job c makes the line of connection c in the scenario's report.
+/// Job r makes the lines of the connections of range r in the scenario's report.
 #[derive(Drop)]
-pub(crate) struct ReportLineJobs<'w, 'v, 'a>(pub(crate) UnderScenario<'w, 'v, 'a>);
+pub(crate) struct TextJobs<'w, 'v, 'a> {
+    /// The connections and the scenario.
+    pub(crate) under: UnderScenario<'w, 'v, 'a>,
+    /// The ranges.
+    pub(crate) ranges: RowRanges,
+    ghost all: { ranges.all ≡ length under.recordings.now },
+}
 
-impl<'w, 'v, 'a> Work for ReportLineJobs<'w, 'v, 'a> {
+impl<'w, 'v, 'a> Work for TextJobs<'w, 'v, 'a> {
     type Out = ReportText;
 
     ghost use Rattle.std.specs.Prelude.{◌≡◌, ◌<◌, length, get_or, IfOk};
-    ghost use Rattle.conn_workers.specs.Recordings.{recorded_lines};
+    ghost use Rattle.conn_workers.specs.RowShares.{row_texts};
 
-    ghost values = { λ w. recorded_lines w.0.seed (w.0.number, w.0.scenario.now) w.0.recordings.now };
+    ghost values = { λ w. row_texts w.ranges.size w.ranges.count w.under.seed (w.under.number, w.under.scenario.now) w.under.recordings.now };
 
     fn value(&self, job: u64) -> Result<ReportText, AllocError> {
-        let under = &self.0;
-        let recordings = under.recordings;
-        let recording = &recordings[job as usize];
-        let conn = recording.conn;
-        let recorded = &recording.recorded;
-        let met = met_proxy(under.scenario, conn.server);
-        let delivered = delivered_by(
-            under.alloc,
-            recorded,
-            met,
-            under.seed,
-            under.number,
-            conn.number,
-        )?;
-        line(under.alloc, conn, recorded, &delivered)
+        self.under
+            .text(self.ranges.range(self.under.recordings, job))
     }
 }

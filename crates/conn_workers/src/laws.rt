@@ -74,7 +74,8 @@ pub fn deliveries_are_recorded(capture: &Capture<'_>, scenarios: &[Scenario], se
     all_are_sound(scenarios);
 }
 
-/// The same of each delivery of the row that `deliver_row` and `deliver_row_alone` answer, where the recordings are a capture's.
+/// The same of each delivery of the row of a capture's recordings under a scenario with its number. Of the deliveries of such a row
+/// `deliver_row` and `deliver_row_alone` give the segments and the lines, one delivery after another.
 pub fn rows_are_recorded(capture: &Capture<'_>, number: u32, scenario: &Scenario, seed: u64)
     ensures { AllByRecursion (IsOfRecorded capture.now seed (number, scenario.now))
         (recorded_row seed (number, scenario.now) (recordings_of capture.now)) }

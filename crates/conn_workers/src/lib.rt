@@ -3,7 +3,8 @@
 //!
 //! `deliver` is the call that the crate exists for. `specs/Contributions.antt` says what a connection contributes,
 //! and `specs/DeliveryRows.antt` in what order; `laws` has the theorem that nothing else of a capture or a scenario
-//! changes it.
+//! changes it. `deliver_row` gives the same for one scenario, in shares: what a range of connections contributes stands together
+//! (`specs/RowShares.antt`). `report_lines` gives the lines alone.
 #![tactic(auto)]
 
 mod deliveries;
@@ -13,10 +14,13 @@ pub mod laws;
 mod met_proxies;
 mod outlined_deliveries;
 mod recordings;
+mod row_ranges;
+mod row_shares;
+mod under_scenario;
 
 pub use deliveries::{Deliveries, Delivery, deliver};
 pub use delivery_rows::{
     OutlineRow, deliver_row, deliver_row_alone, report_lines, report_lines_alone,
 };
-pub use outlined_deliveries::OutlinedDelivery;
 pub use recordings::{Recording, Recordings, record, record_alone};
+pub use row_shares::RowShare;

@@ -1,6 +1,8 @@
 //! What a connection contributes to a scenario.
 ghost use Rattle.std.specs.Prelude.{◌≡◌, IfOk};
-ghost use Rattle.conn_workers.specs.Recordings.{recorded_delivery};
+ghost use Rattle.reassembly.specs.LineLaws.{IsLine};
+ghost use Rattle.toxic_defs.specs.DeliveredLines.{delivered_view};
+ghost use Rattle.conn_workers.specs.Recordings.{recorded_delivered, recorded_delivery};
 
 use crate::deliveries::Delivery;
 use crate::met_proxies::met_proxy;
@@ -10,12 +12,12 @@ use scenarios::Scenario;
 use segment_writer::{ConnectionOutline, outlined};
 use std::alloc::{AllocError, Global};
 use std::marker::Model;
-use toxic_defs::delivered_by;
+use toxic_defs::{Delivered, delivered_by};
 
 /// What one connection contributes to one scenario, before the records of its segments are written. Contracts see it as the
 /// [`Delivery`] with these records.
 #[derive(Drop)]
-pub struct OutlinedDelivery<'a> {
+pub(crate) struct OutlinedDelivery<'a> {
     scenario: u32,
     conn: u32,
     outline: ConnectionOutline<'a>,
@@ -35,7 +37,7 @@ impl<'a> OutlinedDelivery<'a> {
     ///
     /// # Errors
     /// Where a growth is refused; it is then dropped.
-    pub fn written(self, alloc: Global) -> Result<Delivery, AllocError>
+    pub(crate) fn written(self, alloc: Global) -> Result<Delivery, AllocError>
         ensures { IfOk result (λ d. d ≡ self.entry) }
     {
         let segments = self.outline.written(alloc)?;
@@ -46,23 +48,27 @@ impl<'a> OutlinedDelivery<'a> {
             line: self.line,
         })
     }
-
-    /// Its segments, and its line of the report.
-    pub fn into_parts(self) -> (ConnectionOutline<'a>, ReportText)
-        ensures segments { result.0 ≡ self.entry.segments }
-        ensures line { result.1 ≡ self.entry.line }
-    {
-        let OutlinedDelivery {
-            scenario: _,
-            conn: _,
-            outline,
-            line,
-        } = self;
-        (outline, line)
-    }
 }
 
-// What a connection contributes to a scenario with its number.
+/// What is delivered of a connection in a scenario with its number.
+pub(crate) fn delivered_in<'a>(
+    alloc: Global,
+    recording: &Recording<'_, 'a>,
+    number: u32,
+    scenario: &Scenario,
+    seed: u64,
+) -> Result<Delivered<'a>, AllocError>
+    ensures value { IfOk result (λ d. delivered_view d ≡ recorded_delivered seed (number, scenario.now) recording.now) }
+    ensures up { IfOk result (λ d. IsLine d.up.line) }
+    ensures down { IfOk result (λ d. IsLine d.down.line) }
+{
+    let conn = recording.conn;
+    let recorded = &recording.recorded;
+    let met = met_proxy(scenario, conn.server);
+    delivered_by(alloc, recorded, met, seed, number, conn.number)
+}
+
+/// What a connection contributes to a scenario with its number.
 pub(crate) fn outlined_delivery<'a>(
     alloc: Global,
     recording: &Recording<'_, 'a>,
@@ -74,8 +80,7 @@ pub(crate) fn outlined_delivery<'a>(
 {
     let conn = recording.conn;
     let recorded = &recording.recorded;
-    let met = met_proxy(scenario, conn.server);
-    let delivered = delivered_by(alloc, recorded, met, seed, number, conn.number)?;
+    let delivered = delivered_in(alloc, recording, number, scenario, seed)?;
     let line = line(alloc, conn, recorded, &delivered)?;
     let outline = outlined(alloc, conn, recorded, delivered)?;
     Ok(OutlinedDelivery {

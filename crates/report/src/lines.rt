@@ -15,12 +15,51 @@ use toxic_defs::Delivered;
 /// The room of a connection's line, which is seldom longer.
 pub(crate) const LINE_ROOM: usize = 136;
 
-/// The line of a connection, with its line feed: its number and peers, their VLAN if they have one, the proxy that it met, and for each direction the number of
-/// delivered, recorded and lost bytes, how it ends, and the longest that a byte was held back.
+/// Appends the line of a connection, with its line feed: its number and peers, their VLAN if they have one, the proxy that it met,
+/// and for each direction the number of delivered, recorded and lost bytes, how it ends, and the longest that a byte was held back.
 ///
 /// # Errors
 /// A growth was refused.
 #[tactic(auto, unfolding(crate::specs::ReportText::connection_text))]
+pub fn put_line(
+    text: &mut Vec<u8>,
+    conn: &Conn,
+    recorded: &Recorded<'_>,
+    delivered: &Delivered<'_>,
+) -> Result<(), AllocError>
+    requires recorded { AreShort recorded.now.up.line recorded.now.down.line }
+    requires delivered { AreShort delivered.now.up.line delivered.now.down.line }
+    ensures { OnOk result (text.new.items ≡ text.old.items ++ connection_text conn.now.number conn.now.vlan conn.now.client conn.now.server
+        (recorded_view recorded.now) (delivered_view delivered.now)) }
+{
+    let opened = recorded.opened;
+    let refused = delivered.refused;
+    push_peers(text, conn, delivered.proxy)?;
+    push(text, " up ")?;
+    push_side(
+        text,
+        opened,
+        refused,
+        &recorded.up,
+        recorded.up_lost,
+        &delivered.up,
+    )?;
+    push(text, " down ")?;
+    push_side(
+        text,
+        opened,
+        refused,
+        &recorded.down,
+        recorded.down_lost,
+        &delivered.down,
+    )?;
+    push(text, "\n")
+}
+
+/// The line of a connection, as [`put_line`] appends it.
+///
+/// # Errors
+/// A growth was refused.
 pub fn line(
     alloc: Global,
     conn: &Conn,
@@ -33,28 +72,7 @@ pub fn line(
         (recorded_view recorded.now) (delivered_view delivered.now)) }
 {
     let mut text = Vec::with_capacity(alloc, LINE_ROOM)?;
-    let opened = recorded.opened;
-    let refused = delivered.refused;
-    push_peers(&mut text, conn, delivered.proxy)?;
-    push(&mut text, " up ")?;
-    push_side(
-        &mut text,
-        opened,
-        refused,
-        &recorded.up,
-        recorded.up_lost,
-        &delivered.up,
-    )?;
-    push(&mut text, " down ")?;
-    push_side(
-        &mut text,
-        opened,
-        refused,
-        &recorded.down,
-        recorded.down_lost,
-        &delivered.down,
-    )?;
-    push(&mut text, "\n")?;
+    put_line(&mut text, conn, recorded, delivered)?;
     Ok(ReportText::of(text))
 }
 

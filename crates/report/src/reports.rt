@@ -33,11 +33,16 @@ pub fn report(
         ≡ report_text scenario (seen_capture (contents_of capture.now)) table.now.unopened lines.now) }
 {
     let connections = lines.len();
-    let mut text = open_report(
-        alloc,
+    let room = connections
+        .saturating_mul(LINE_ROOM)
+        .saturating_add(HEAD_ROOM);
+    let mut text = Vec::with_capacity(alloc, room)?;
+    let counts = table.counts();
+    put_head(
+        &mut text,
         scenario,
         capture,
-        table.counts(),
+        counts,
         connections,
         table.unopened(),
     )?;
@@ -47,31 +52,61 @@ pub fn report(
     Ok(ReportText::of(text))
 }
 
-// The first two lines of a report, with room for the lines of so many connections.
-#[tactic(auto, using(crate::proofs::SeenCounts::seen_count), unfolding(crate::specs::ReportText::counts_text))]
-fn open_report(
+/// The first two lines of a scenario's report, which the lines of the table's connections are to follow.
+///
+/// # Errors
+/// A growth was refused.
+pub fn report_head(
     alloc: Global,
+    scenario: u32,
+    capture: &Capture<'_>,
+    table: &Table,
+) -> Result<ReportText, AllocError>
+    requires counts { table.now.counts ≡ counts_of (seen_capture (contents_of capture.now)).packets }
+    ensures { IfOk result (λ text. text ≡ counts_text scenario (seen_capture (contents_of capture.now))
+        ++ connections_text (length table.now.conns) table.now.unopened) }
+{
+    let mut text = Vec::with_capacity(alloc, HEAD_ROOM)?;
+    let counts = table.counts();
+    let connections = table.conns().len();
+    let unopened = table.unopened();
+    put_head(&mut text, scenario, capture, counts, connections, unopened)?;
+    Ok(ReportText::of(text))
+}
+
+// Appends the first two lines of a report of so many connections.
+fn put_head(
+    text: &mut Vec<u8>,
     scenario: u32,
     capture: &Capture<'_>,
     counts: Counts,
     connections: usize,
     unopened: u64,
-) -> Result<Vec<u8>, AllocError>
+) -> Result<(), AllocError>
     requires { counts ≡ counts_of (seen_capture (contents_of capture.now)).packets }
-    ensures { IfOk result (λ text. text.items ≡ counts_text scenario (seen_capture (contents_of capture.now))
-        ++ connections_text connections unopened) }
+    ensures { OnOk result (text.new.items ≡ text.old.items
+        ++ (counts_text scenario (seen_capture (contents_of capture.now)) ++ connections_text connections unopened)) }
 {
-    let room = connections
-        .saturating_mul(LINE_ROOM)
-        .saturating_add(HEAD_ROOM);
-    let mut text = Vec::with_capacity(alloc, room)?;
-    let records = capture.records().len();
-    push_counts(&mut text, scenario, records, capture.rest(), counts)?;
-    push_connections(&mut text, connections, unopened)?;
-    Ok(text)
+    put_counts(text, scenario, capture, counts)?;
+    push_connections(text, connections, unopened)
 }
 
-// Appends the line of counts.
+// Appends the line of counts of a capture.
+#[tactic(auto, using(crate::proofs::SeenCounts::seen_count), unfolding(crate::specs::ReportText::counts_text))]
+fn put_counts(
+    text: &mut Vec<u8>,
+    scenario: u32,
+    capture: &Capture<'_>,
+    counts: Counts,
+) -> Result<(), AllocError>
+    requires { counts ≡ counts_of (seen_capture (contents_of capture.now)).packets }
+    ensures { OnOk result (text.new.items ≡ text.old.items ++ counts_text scenario (seen_capture (contents_of capture.now))) }
+{
+    let records = capture.records().len();
+    push_counts(text, scenario, records, capture.rest(), counts)
+}
+
+// Appends the line of these counts.
 fn push_counts(
     text: &mut Vec<u8>,
     scenario: u32,

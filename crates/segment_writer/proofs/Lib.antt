@@ -14,3 +14,4 @@ pub mod OneOrderLaw
 pub mod KeyCounts
 pub mod KeysApart
 pub mod OutlineSteps
+pub mod RowSteps

@@ -39,11 +39,11 @@ module _ (client : Sender) (up down : List LinePart) (first : client.is_server �
 
   pub up_outlined : (l : SegmentOutline) → IsOutline (in_turn client ClientLine) up l → IsOutlineIn client up down l
   up_outlined l outline = subst (λ (b : Bool). IsOutline (side_sender client b) (parts_of up down b) l) (sym (up_side l outline))
-      (record { side = outline.side; early = outline.early; small = outline.small; within = outline.within; cursor = outline.cursor })
+      (record { side = outline.side; conn = outline.conn; early = outline.early; small = outline.small; within = outline.within; cursor = outline.cursor })
 
   pub down_outlined : (l : SegmentOutline) → IsOutline (peer_in client ServerLine) down l → IsOutlineIn client up down l
   down_outlined l outline = subst (λ (b : Bool). IsOutline (side_sender client b) (parts_of up down b) l) (sym (down_side l outline))
-      (record { side = outline.side; early = outline.early; small = outline.small; within = outline.within; cursor = outline.cursor })
+      (record { side = outline.side; conn = outline.conn; early = outline.early; small = outline.small; within = outline.within; cursor = outline.cursor })
 
 -- ---- outlines in order of key are written in order of key
 

@@ -111,6 +111,13 @@ module _ (parts : List LinePart) (c : Cursor) (p : LinePart) (ps : List LinePart
         left = is ∙ sym (ap (drop (length own)) left_here ∙ drop-append_seam own (bytes_of_parts ps)) ∙ ap (λ k. drop k (left_at parts c)) (length-marked p.at (mark p.starts c.offset) ahead ∙ sym passed.0);
       }
 
+  -- so many bytes from a cursor on that its part has
+  pub first_taken : (n : ℕ) → n ≤ length (rest_of c.offset p.bytes.now) → values (take n (left_at parts c)) ≡ take n (rest_of c.offset p.bytes.now)
+  first_taken n within =
+      ap (λ xs. values (take n xs)) left_here
+      ∙ taken-marked n p.at (mark p.starts c.offset) ahead (bytes_of_parts ps) (omega (arith, length-rest c.offset p.bytes.now, length-drop c.offset p.bytes.now))
+      ∙ ap (take n) (sym (rest_is c.offset p.bytes.now))
+
 -- ---- passing over a piece
 
 -- `left` bytes of what follows a cursor are what follows another

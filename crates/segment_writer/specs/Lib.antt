@@ -9,3 +9,4 @@ pub mod SegmentOutlines
 pub mod OrderedLists
 pub mod KeyLaws
 pub mod SentRows
+pub mod SegmentRows

@@ -26,6 +26,7 @@ framed_of s own l = record {
 -- it is before the horizon, and what it takes of the line is there and fits
 pub record IsOutline (s : Sender) (own : List LinePart) (l : SegmentOutline) : Type 0 where
   pub side : l.is_server ≡ s.is_server
+  pub conn : l.key.conn ≡ s.conn
   pub early : l.key.moment < horizon (ticks_of s.unit)
   pub small : l.len ≤ payload_limit
   pub within : l.len ≤ length (left_at own l.from)

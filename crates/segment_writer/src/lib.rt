@@ -6,12 +6,15 @@ mod connection_segments;
 mod framed;
 mod keyed;
 pub mod laws;
+mod payloads;
 mod pieces;
 mod records;
 mod segment_outline;
+mod segment_rows;
 mod senders;
 mod turns;
 
 pub use connection_outline::ConnectionOutline;
 pub use connection_segments::{outlined, segments};
 pub use framed::{Framed, Keys, RecordBytes, SegKey, SegList};
+pub use segment_rows::SegmentRow;

@@ -2,7 +2,7 @@
 ghost use Rattle.std.specs.Prelude.{◌≡◌, ◌≤◌, ◌<◌, ◌+◌, ◌++◌, List, length, drop, take, replicate, min, vec_len, vec_capacity, IfOk, IsOk, OnOk, OnErr, if◌then◌else◌};
 ghost use Rattle.pcap_records.specs.Instants.{horizon, ticks_of};
 ghost use Rattle.pcap_records.specs.Reading.{record_header_len};
-ghost use Rattle.pcap_records.specs.Writing.{record_header};
+ghost use Rattle.pcap_records.specs.Writing.{record_bytes, record_header};
 ghost use Rattle.frame_headers.specs.Flags.{psh_flag, ack_flag};
 ghost use Rattle.frame_headers.specs.Headers.{headers};
 ghost use Rattle.frame_headers.specs.Layout.{headers_len, payload_limit};
@@ -11,11 +11,11 @@ ghost use Rattle.segment_writer.specs.WrittenSegments.{opening_segment};
 ghost use Rattle.segment_writer.specs.FirstPieces.{first_instant, first_of, piece_size};
 ghost use Rattle.segment_writer.specs.LineCursors.{left_at, IsCursor};
 ghost use Rattle.segment_writer.specs.Senders.{frame_with, framed_by, piece_segment};
-ghost use Rattle.segment_writer.specs.SegmentOutlines.{framed_of, outlined_payload, IsOutline};
+ghost use Rattle.segment_writer.specs.SegmentOutlines.{framed_of, IsOutline};
 
-use crate::pieces::{Cursor, copy_piece, is_border, part_at, skip_piece};
+use crate::pieces::{Cursor, is_border, part_at, skip_piece};
 use crate::segment_outline::SegmentOutline;
-use crate::senders::{Numbers, Sender, header_with, key_at};
+use crate::senders::{Numbers, Sender, key_at};
 use frame_headers::{Flags, Header, LEAST_HEADERS_LEN, MOST_HEADERS_LEN, headers_len, put_headers};
 use pcap_records::{Moment, RECORD_HEADER_LEN, Unit, record_header_bytes};
 use reassembly::LinePart;
@@ -115,51 +115,30 @@ pub(crate) fn piece_outline(
     (outline, after)
 }
 
-/// The length of the record of a segment.
-pub(crate) fn record_len(sender: &Sender, outline: &SegmentOutline) -> usize
-    ensures { result ≡ min (record_header_len + headers_len sender.now.vlan + outline.now.len) usize.MAX }
+/// The length of a record whose frame has `len` bytes of payload, or the greatest number where it is more.
+pub(crate) fn record_len(vlan: Option<u16>, len: usize) -> usize
+    ensures { result ≡ min (record_header_len + headers_len vlan + len) usize.MAX }
 {
-    (RECORD_HEADER_LEN + headers_len(sender.vlan)).saturating_add(outline.len)
+    (RECORD_HEADER_LEN + headers_len(vlan)).saturating_add(len)
 }
 
-// Appends the payload of a segment.
-fn put_payload(
-    out: &mut Vec<u8>,
-    sender: &Sender,
-    own: &[LinePart<'_>],
-    outline: &SegmentOutline,
-) -> Result<(), AllocError>
-    requires { IsOutline sender.now own.now outline.now }
-    ensures bytes { OnOk result (out.new.items ≡ out.old.items ++ outlined_payload own.now outline.now) }
-    ensures succeeds { vec_len out.old + outline.now.len ≤ vec_capacity out.old → IsOk result }
-{
-    if outline.len == 0 {
-        return Ok(());
-    }
-    copy_piece(out, own, outline.from, outline.len)
-}
-
-/// Appends the record of a segment. Room for all of it is made first, so that a growth that is refused leaves `out` as it was.
+/// Appends the record of a segment with this header and payload. Room for all of it is made first, so that a growth that is refused
+/// leaves `out` as it was.
 pub(crate) fn put_record(
     out: &mut Vec<u8>,
-    sender: &Sender,
-    own: &[LinePart<'_>],
-    outline: &SegmentOutline,
+    unit: Unit,
+    at: Moment,
+    header: &Header,
+    payload: &[u8],
 ) -> Result<(), AllocError>
-    requires { IsOutline sender.now own.now outline.now }
-    ensures ok { OnOk result (out.new.items ≡ out.old.items ++ (framed_of sender.now own.now outline.now).bytes) }
+    requires early { at < horizon (ticks_of unit) }
+    requires small { length payload.now ≤ payload_limit }
+    ensures ok { OnOk result (out.new.items ≡ out.old.items ++ record_bytes (ticks_of unit) at (frame_with header.now payload.now)) }
     ensures err { OnErr result (out.new.items ≡ out.old.items) }
 {
-    out.reserve(record_len(sender, outline))?;
-    let header = header_with(sender, outline.seq, outline.ack, outline.flags);
-    let frame = open_record(
-        out,
-        outline.key.moment,
-        header.vlan,
-        outline.len,
-        sender.unit,
-    )?;
-    put_payload(out, sender, own, outline)?;
-    put_headers(&mut out[frame..], &header);
+    out.reserve(record_len(header.vlan, payload.len()))?;
+    let frame = open_record(out, at, header.vlan, payload.len(), unit)?;
+    out.extend_from_slice(payload)?;
+    put_headers(&mut out[frame..], header);
     Ok(())
 }

@@ -1,7 +1,7 @@
 -- The keyed segments of lists, one segment after another and one list after another.
 use Rattle.std.proofs.Common.{◌≡◌, ℕ, ◌+◌, ◌<◌, List, [], ◌∷◌, ◌++◌, length, take, slice_index_or, sym, ap, ◌∙◌, append-nil, append_assoc, arith}
 use Rattle.std.specs.List.{enumerate_from, flat_map}
-use Rattle.std.proofs.lemmas.List.{length-take-le, take_more}
+use Rattle.std.proofs.lemmas.List.{length-take-le, take_all, take_more}
 use Rattle.segment_writer.specs.declared.framed.Framed.{Framed}
 use Rattle.time_merge.specs.declared.key_order.KeyedSegment.{KeyedSegment}
 use Rattle.time_merge.specs.KeyedSegments.{all_keyed_segments, keyed_segments}
@@ -34,3 +34,6 @@ module _ {L : Type 0} (segments : L → List Framed) where
   list_more lists n l within is =
       ap (all_keyed_segments segments) (take_more lists n l within ∙ ap (λ (x : L). take n lists ++ x ∷ []) (sym is)) ∙ gathered_end 0 (take n lists) l
       ∙ ap (λ (i : ℕ). all_keyed_segments segments (take n lists) ++ keyed_segments i 0 (segments l)) (omega (arith, length-take-le n lists (omega (arith, within))))
+
+  pub one_list : (lists : List L) (l : L) → length lists ≡ 1 → l ≡ slice_index_or lists 0 l → all_keyed_segments segments lists ≡ keyed_segments 0 0 (segments l)
+  one_list lists l many is = ap (all_keyed_segments segments) (sym (take_all 1 lists (omega (arith, many)))) ∙ list_more lists 0 l (omega (arith, many)) is

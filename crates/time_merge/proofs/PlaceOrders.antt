@@ -1,10 +1,13 @@
 -- Places in the order in which they stand, by their numbers.
-use Rattle.std.proofs.Common.{◌≡◌, ℕ, ◌<◌, List, length, map, slice_index_or, ap, ◌∙◌, arith}
+use Rattle.std.proofs.Common.{◌≡◌, ℕ, zero, suc, ◌+◌, ◌<◌, List, [], ◌∷◌, length, map, slice_index_or, refl, sym, ap, ◌∙◌, arith}
 use Rattle.std.specs.List.{All}
 use Rattle.std.proofs.lemmas.List.{get_or-map, get_or_default, length-map, same_lists}
 use Rattle.std.proofs.lemmas.List.Elements.{All-from_get_or}
+use Rattle.segment_writer.specs.declared.framed.Framed.{Framed}
 use Rattle.time_merge.specs.declared.orders.Place.{Place}
-use Rattle.time_merge.specs.KeyedSegments.{no_place}
+use Rattle.time_merge.specs.declared.orders.Places.{Places}
+use Rattle.time_merge.specs.declared.orders.Places.TheVariants.{OfOneList}
+use Rattle.time_merge.specs.KeyedSegments.{keyed_segments, no_place, one_list_places, place_of, places_in}
 
 -- the numbers below n, in order
 pub record AreCounted (n : ℕ) (numbers : List ℕ) : Type 0 where
@@ -18,3 +21,23 @@ pub counted_show : (n : ℕ) (numbers : List ℕ) (places : List Place) → AreC
 counted_show n numbers places are many = same_lists (map (λ number. slice_index_or places number no_place) numbers) places (length-map numbers (λ number. slice_index_or places number no_place) ∙ are.many ∙ many) (λ i d within.
     let low : i < n = omega (arith, length-map numbers (λ number. slice_index_or places number no_place), are.many) in
     get_or-map (λ number. slice_index_or places number no_place) numbers i 0 d (omega (arith, are.many)) ∙ ap (λ number. slice_index_or places number no_place) (are.each i low) ∙ get_or_default places i no_place d (omega (arith, many)))
+
+-- ---- the places of one list alone
+
+one_list_len : (index n : ℕ) → length (one_list_places index n) ≡ n
+one_list_len index zero = refl
+one_list_len index (suc n) = omega (arith, one_list_len (index + 1) n)
+
+one_list_at : (index n i : ℕ) → i < n → slice_index_or (one_list_places index n) i no_place ≡ record { list = 0; index = index + i }
+one_list_at index zero i within = absurd (omega (arith, within))
+one_list_at index (suc n) zero within = ap (λ (k : ℕ). record { list = 0; index = k }) (omega arith)
+one_list_at index (suc n) (suc i) within = one_list_at (index + 1) n i (omega (arith, within)) ∙ ap (λ (k : ℕ). record { list = 0; index = k }) (omega arith)
+
+pub place_of_one : (places : Places) (n number : ℕ) → places ≡ OfOneList n → number < length (places_in places) → record { list = 0; index = number } ≡ slice_index_or (places_in places) number no_place
+place_of_one places n number is within =
+    let listed : places_in places ≡ one_list_places 0 n = ap places_in is in
+    sym (ap (λ (ps : List Place). slice_index_or ps number no_place) listed ∙ one_list_at 0 n number (omega (arith, within, ap length listed, one_list_len 0 n)) ∙ ap (λ (k : ℕ). record { list = 0; index = k }) (omega arith))
+
+pub one_list_keyed : (index : ℕ) (xs : List Framed) → one_list_places index (length xs) ≡ map place_of (keyed_segments 0 index xs)
+one_list_keyed index [] = refl
+one_list_keyed index (x ∷ xs) = ap (λ (ps : List Place). record { list = 0; index = index } ∷ ps) (one_list_keyed (index + 1) xs)

@@ -4,7 +4,7 @@ use Rattle.std.specs.Cmp.{nat_cmp_is}
 use Rattle.std.specs.List.{All}
 use Rattle.std.specs.List.Sorted.{IsNonDecreasing, IsPermutation, IsSorted}
 use Rattle.std.specs.Ordering.{ordering_then}
-use Rattle.std.proofs.lemmas.List.{get_or-map, get_or_default, get_or_append_left, length-append, map-append, length-map, same_lists}
+use Rattle.std.proofs.lemmas.List.{get_or-map, get_or_default, get_or_append_left, length-append, length-map, same_lists}
 use Rattle.std.proofs.Math.Seq.{get_or-append_seam}
 use Rattle.std.proofs.lemmas.Bool.{cases_lt, cases_order}
 use Rattle.std.proofs.lemmas.List.Elements.{All-get_or, All-from_get_or}
@@ -13,7 +13,7 @@ use Rattle.time_merge.specs.declared.key_order.KeyedSegment.{KeyedSegment}
 use Rattle.time_merge.specs.declared.orders.Place.{Place}
 use Rattle.time_merge.specs.declared.short_keys.ShortKeys.{ShortKeys}
 use Rattle.time_merge.specs.KeyedSegments.{keyed_cmp, no_place, place_of, ArePlacesInOrder}
-use Rattle.time_merge.specs.ShortKeys.{keyed_at, no_keyed, number_in, short_key, AreInTurn, Follows, HaveShortKeys, IsShortKey}
+use Rattle.time_merge.specs.ShortKeys.{no_keyed, number_in, short_key, AreInTurn, Follows, HaveShortKeys, IsShortKey}
 use Rattle.time_merge.proofs.KeyedOrder.{below, below_order}
 
 -- ---- one segment more
@@ -48,25 +48,6 @@ module _ (keys : List KeyedSegment) (keyed : KeyedSegment) where
   added : (i : ℕ) → i ≡ length keys → slice_index_or more i no_keyed ≡ keyed
   added i is = ap (λ n. slice_index_or more n no_keyed) is ∙ get_or-append_seam keys keyed [] no_keyed
 
-  still_short : (first short : ℕ) → IsShortKey first keys short → IsShortKey first more short
-  still_short first short was = record {
-    within = omega (arith, was.within, more_len);
-    early = subst (λ (k : KeyedSegment). first ≤ k.key.moment) (sym (earlier (number_in short) was.within)) was.early;
-    is = was.is ∙ ap (short_key first (number_in short)) (sym (earlier (number_in short) was.within));
-  }
-
-  added_short : (first short : ℕ) → length keys < 2 ^ 26 → first ≤ keyed.key.moment → short ≡ short_key first (length keys) keyed → (number_in short ≡ length keys) × IsShortKey first more short
-  added_short first short few early is =
-      let number : number_in short ≡ length keys = omega (arith, few, is) in
-      let here : keyed_at more short ≡ keyed = added (number_in short) number in (
-        number,
-        record {
-          within = omega (arith, number, more_len);
-          early = subst (λ (k : KeyedSegment). first ≤ k.key.moment) (sym here) early;
-          is = is ∙ ap₂ (short_key first) (sym number) (sym here);
-        },
-      )
-
   in_turn_more : (last : KeyedSegment) → AreInTurn keys → ((i : ℕ) → i < length keys → Follows (slice_index_or keys i no_keyed) last) → Follows last keyed → AreInTurn more
   in_turn_more last in_turn top above i j le within = by (cases_lt j (length keys)) (cases_lt i (length keys))
     where
@@ -79,12 +60,11 @@ module _ (keys : List KeyedSegment) (keyed : KeyedSegment) where
       by (inr high) (inr also) = at keyed keyed (added i (omega (arith, more_len))) (added j (omega (arith, more_len))) (follows_itself keyed)
 
   pub one_more : (s t : ShortKeys) → HaveShortKeys keys s → length keys < 2 ^ 26 → s.first ≤ keyed.key.moment → Follows s.last keyed
-      → t.first ≡ s.first → t.last ≡ keyed → t.short_keys.items ≡ s.short_keys.items ++ short_key s.first (length keys) keyed ∷ [] → t.places.items ≡ s.places.items ++ place_of keyed ∷ []
+      → t.first ≡ s.first → t.last ≡ keyed → t.short_keys.items ≡ s.short_keys.items ++ short_key s.first (length keys) keyed ∷ []
       → HaveShortKeys more t
-  one_more s t have few early above first last short_keys places = record {
-    many = ap length short_keys ∙ length-append s.short_keys.items (short_key s.first (length keys) keyed ∷ []) ∙ ap (λ n. n + 1) have.many ∙ sym more_len;
+  one_more s t have few early above first last short_keys = record {
+    many = ap length short_keys ∙ length-append s.short_keys.items (added_short ∷ []) ∙ ap (λ n. n + 1) have.many ∙ sym more_len;
     each = each;
-    places = places ∙ ap (λ (ps : List Place). ps ++ place_of keyed ∷ []) have.places ∙ sym (map-append place_of keys (keyed ∷ []));
     in_turn = in_turn;
     last = λ i within. subst (Follows (slice_index_or more i no_keyed)) (added (length keys) refl ∙ sym last) (in_turn i (length keys) (omega (arith, within, more_len)) (omega (arith, more_len)));
   }
@@ -92,23 +72,25 @@ module _ (keys : List KeyedSegment) (keyed : KeyedSegment) where
       in_turn : AreInTurn more
       in_turn = in_turn_more s.last have.in_turn have.last above
 
-      all : List ℕ
-      all = s.short_keys.items ++ short_key s.first (length keys) keyed ∷ []
+      added_short : ℕ
+      added_short = short_key s.first (length keys) keyed
 
-      of_all : (i : ℕ) → (i < length keys) ⊎ (length keys ≤ i) → i < length more → (number_in (slice_index_or all i 0) ≡ i) × IsShortKey s.first more (slice_index_or all i 0)
-      of_all i (inl low) within =
-          let was = have.each i low in
-          subst (λ n. (number_in n ≡ i) × IsShortKey s.first more n) (sym (get_or_append_left s.short_keys.items (short_key s.first (length keys) keyed ∷ []) 0 i (omega (arith, have.many))))
-          (was.0, still_short s.first (slice_index_or s.short_keys.items i 0) was.1)
+      all : List ℕ
+      all = s.short_keys.items ++ added_short ∷ []
+
+      at : (i : ℕ) (l : KeyedSegment) (short : ℕ) → slice_index_or more i no_keyed ≡ l → slice_index_or all i 0 ≡ short → IsShortKey s.first i l short → IsShortKey s.first i (slice_index_or more i no_keyed) (slice_index_or all i 0)
+      at i l short is_l is_short is = subst (λ (k : KeyedSegment). IsShortKey s.first i k (slice_index_or all i 0)) (sym is_l) (subst (IsShortKey s.first i l) (sym is_short) is)
+
+      of_all : (i : ℕ) → (i < length keys) ⊎ (length keys ≤ i) → i < length more → IsShortKey s.first i (slice_index_or more i no_keyed) (slice_index_or all i 0)
+      of_all i (inl low) within = at i _ _ (earlier i low) (get_or_append_left s.short_keys.items (added_short ∷ []) 0 i (omega (arith, have.many))) (have.each i low)
       of_all i (inr high) within =
           let here : i ≡ length keys = omega (arith, more_len) in
-          let seam : slice_index_or all i 0 ≡ short_key s.first (length keys) keyed = ap (λ n. slice_index_or all n 0) (here ∙ sym have.many) ∙ get_or-append_seam s.short_keys.items (short_key s.first (length keys) keyed) [] 0 in
-          let is = added_short s.first (slice_index_or all i 0) few early seam in
-          (is.0 ∙ sym here, is.1)
+          let seam : slice_index_or all i 0 ≡ added_short = ap (λ n. slice_index_or all n 0) (here ∙ sym have.many) ∙ get_or-append_seam s.short_keys.items added_short [] 0 in
+          at i keyed added_short (added i here) seam (record { number = omega (arith, few, here); early = early; is = ap (λ n. short_key s.first n keyed) (sym here) })
 
-      each : (i : ℕ) → i < length more → (number_in (slice_index_or t.short_keys.items i 0) ≡ i) × IsShortKey t.first more (slice_index_or t.short_keys.items i 0)
-      each i within = subst (λ f. (number_in (slice_index_or t.short_keys.items i 0) ≡ i) × IsShortKey f more (slice_index_or t.short_keys.items i 0)) (sym first)
-          (subst (λ (ns : List ℕ). (number_in (slice_index_or ns i 0) ≡ i) × IsShortKey s.first more (slice_index_or ns i 0)) (sym short_keys) (of_all i (cases_lt i (length keys)) within))
+      each : (i : ℕ) → i < length more → IsShortKey t.first i (slice_index_or more i no_keyed) (slice_index_or t.short_keys.items i 0)
+      each i within = subst (λ f. IsShortKey f i (slice_index_or more i no_keyed) (slice_index_or t.short_keys.items i 0)) (sym first)
+          (subst (λ (ns : List ℕ). IsShortKey s.first i (slice_index_or more i no_keyed) (slice_index_or ns i 0)) (sym short_keys) (of_all i (cases_lt i (length keys)) within))
 
 -- ---- sorted
 
@@ -129,14 +111,23 @@ same_moment x y same (inl low) =
     by_conn (nat_cmp y.key.moment x.key.moment) (nat_cmp y.key.conn x.key.conn) _ _ (sym (nat_cmp_is y.key.moment x.key.moment Equal (sym same))) (sym (nat_cmp_is y.key.conn x.key.conn Greater low))
 same_moment x y same (inr (_, high)) = high
 
-rise : (first : ℕ) (keys : List KeyedSegment) (a b : ℕ) → AreInTurn keys → IsShortKey first keys a → IsShortKey first keys b → a ≤ b → below (keyed_at keys b) (keyed_at keys a) ≡ false
+-- the keyed segment of a short key
+abbrev keyed_at : List KeyedSegment → ℕ → KeyedSegment
+keyed_at keys short = slice_index_or keys (number_in short) no_keyed
+
+-- a number is the short key of one of some keyed segments
+record IsShortAmong (first : ℕ) (keys : List KeyedSegment) (short : ℕ) : Type 0 where
+  within : number_in short < length keys
+  of : IsShortKey first (number_in short) (keyed_at keys short) short
+
+rise : (first : ℕ) (keys : List KeyedSegment) (a b : ℕ) → AreInTurn keys → IsShortAmong first keys a → IsShortAmong first keys b → a ≤ b → below (keyed_at keys b) (keyed_at keys a) ≡ false
 rise first keys a b in_turn low high le = by (cases_order (keyed_at keys a).key.moment (keyed_at keys b).key.moment)
   where
     before : (keyed_at keys b).key.moment < (keyed_at keys a).key.moment → ⊥
-    before h = omega (arith, low.is, high.is, low.early, high.early, le, h)
+    before h = omega (arith, low.of.is, high.of.is, low.of.early, high.of.early, le, h)
 
     numbers : (keyed_at keys a).key.moment ≡ (keyed_at keys b).key.moment → number_in a ≤ number_in b
-    numbers same = omega (arith, low.is, high.is, low.early, high.early, le, same)
+    numbers same = omega (arith, low.of.is, high.of.is, low.of.early, high.of.early, le, same)
 
     by : ((keyed_at keys a).key.moment ≡ (keyed_at keys b).key.moment) ⊎ (((keyed_at keys a).key.moment < (keyed_at keys b).key.moment) ⊎ ((keyed_at keys b).key.moment < (keyed_at keys a).key.moment)) → below (keyed_at keys b) (keyed_at keys a) ≡ false
     by (inl same) = same_moment (keyed_at keys a) (keyed_at keys b) same (in_turn (number_in a) (number_in b) (numbers same) high.within)
@@ -158,30 +149,40 @@ places_at : (keys : List KeyedSegment) (shorts : List ℕ) → map (λ n. slice_
 places_at keys [] = refl
 places_at keys (s ∷ shorts) = ap₂ (λ (p : Place) (ps : List Place). p ∷ ps) (place_at keys (number_in s)) (places_at keys shorts)
 
-module _ (keys : List KeyedSegment) (s : ShortKeys) (have : HaveShortKeys keys s) (sorted : List ℕ) (moved : IsPermutation s.short_keys.items sorted) where
-  pub all_short : All (IsShortKey s.first keys) sorted
-  all_short = All-permutation (IsShortKey s.first keys) s.short_keys.items sorted moved (All-from_get_or (IsShortKey s.first keys) s.short_keys.items 0 (λ i within. (have.each i (omega (arith, have.many))).1))
+module _ (keys : List KeyedSegment) (s : ShortKeys) (have : HaveShortKeys keys s) where
+  numbers : (i : ℕ) → i < length keys → number_in (slice_index_or s.short_keys.items i 0) ≡ i
+  numbers i within = (have.each i within).number
 
-  in_order : IsNonDecreasing sorted → IsSorted keyed_cmp (map (keyed_at keys) sorted)
-  in_order rises k d low within =
-      let inside : k + 1 < length sorted = omega (arith, length-map sorted (keyed_at keys)) in
-      ap₂ (λ a b. below a b) (get_or-map (keyed_at keys) sorted (k + 1) 0 d inside) (get_or-map (keyed_at keys) sorted k 0 d (omega arith))
-      ∙ rise s.first keys (slice_index_or sorted k 0) (slice_index_or sorted (k + 1) 0) have.in_turn
-      (All-get_or (IsShortKey s.first keys) sorted k 0 (omega arith) all_short) (All-get_or (IsShortKey s.first keys) sorted (k + 1) 0 inside all_short) (rises k (k + 1) 0 (omega arith) inside)
+  short_among : (i : ℕ) → i < length s.short_keys.items → IsShortAmong s.first keys (slice_index_or s.short_keys.items i 0)
+  short_among i within =
+      let inside : i < length keys = omega (arith, have.many) in record {
+        within = omega (arith, numbers i inside);
+        of = subst (λ n. IsShortKey s.first n (slice_index_or keys n no_keyed) (slice_index_or s.short_keys.items i 0)) (sym (numbers i inside)) (have.each i inside);
+      }
 
-  pub places_in_order : IsNonDecreasing sorted → ArePlacesInOrder keys (map (λ n. slice_index_or s.places.items n no_place) (map number_in sorted))
-  places_in_order rises = (
-    map (keyed_at keys) sorted,
-    subst (λ (ks : List KeyedSegment). IsPermutation ks (map (keyed_at keys) sorted)) (give_keys keys s.short_keys.items have.many (λ i within. (have.each i within).0)) (IsPermutation-map (keyed_at keys) s.short_keys.items sorted moved),
-    in_order rises,
-    ap (λ (ps : List Place). map (λ n. slice_index_or ps n no_place) (map number_in sorted)) have.places ∙ places_at keys sorted,
-  )
+  pub short_within : All (λ short. number_in short < length keys) s.short_keys.items
+  short_within = All-from_get_or (λ short. number_in short < length keys) s.short_keys.items 0 (λ i within. (short_among i within).within)
+
+  module _ (sorted : List ℕ) (moved : IsPermutation s.short_keys.items sorted) where
+    all_short : All (IsShortAmong s.first keys) sorted
+    all_short = All-permutation (IsShortAmong s.first keys) s.short_keys.items sorted moved (All-from_get_or (IsShortAmong s.first keys) s.short_keys.items 0 short_among)
+
+    in_order : IsNonDecreasing sorted → IsSorted keyed_cmp (map (keyed_at keys) sorted)
+    in_order rises k d low within =
+        let inside : k + 1 < length sorted = omega (arith, length-map sorted (keyed_at keys)) in
+        ap₂ (λ a b. below a b) (get_or-map (keyed_at keys) sorted (k + 1) 0 d inside) (get_or-map (keyed_at keys) sorted k 0 d (omega arith))
+        ∙ rise s.first keys (slice_index_or sorted k 0) (slice_index_or sorted (k + 1) 0) have.in_turn
+        (All-get_or (IsShortAmong s.first keys) sorted k 0 (omega arith) all_short) (All-get_or (IsShortAmong s.first keys) sorted (k + 1) 0 inside all_short) (rises k (k + 1) 0 (omega arith) inside)
+
+    pub places_in_order : IsNonDecreasing sorted → (places : List Place) → places ≡ map place_of keys → ArePlacesInOrder keys (map (λ n. slice_index_or places n no_place) (map number_in sorted))
+    places_in_order rises places are = (
+      map (keyed_at keys) sorted,
+      subst (λ (ks : List KeyedSegment). IsPermutation ks (map (keyed_at keys) sorted)) (give_keys keys s.short_keys.items have.many numbers) (IsPermutation-map (keyed_at keys) s.short_keys.items sorted moved),
+      in_order rises,
+      ap (λ (ps : List Place). map (λ n. slice_index_or ps n no_place) (map number_in sorted)) are ∙ places_at keys sorted,
+    )
 
 -- ---- numbers within places
-
-pub short_within : (keys : List KeyedSegment) (s : ShortKeys) → HaveShortKeys keys s → All (λ short. number_in short < length s.places.items) s.short_keys.items
-short_within keys s have = All-from_get_or (λ short. number_in short < length s.places.items) s.short_keys.items 0 (λ i within.
-    omega (arith, (have.each i (omega (arith, within, have.many))).1.within, ap length have.places, length-map keys place_of))
 
 pub numbers_within : (n : ℕ) (shorts sorted : List ℕ) → IsPermutation shorts sorted → All (λ short. number_in short < n) shorts → All (λ number. number < n) (map number_in sorted)
 numbers_within n shorts sorted moved all = All-from_get_or (λ number. number < n) (map number_in sorted) 0 (λ i within.

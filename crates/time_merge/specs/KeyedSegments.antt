@@ -1,5 +1,5 @@
 -- Segments by their keys, with the list and index where they stand: what is merged, or sorted, in place of segments.
-use Rattle.std.specs.Prelude.{◌≡◌, ◌<◌, ℕ, ◌+◌, List, [], ◌∷◌, length, drop, map, slice_index_or}
+use Rattle.std.specs.Prelude.{◌≡◌, ◌<◌, ℕ, zero, suc, ◌+◌, List, [], ◌∷◌, length, drop, map, slice_index_or}
 use Rattle.std.specs.List.{enumerate_from, flat_map}
 use Rattle.std.specs.List.Sorted.{IsPermutation, IsSorted}
 use Rattle.std.specs.Ordering.{then_cmp, on, nat_cmp}
@@ -10,6 +10,8 @@ use Rattle.segment_writer.specs.SegmentOutlines.{no_segment}
 use Rattle.time_merge.specs.declared.key_order.KeyedSegment.{KeyedSegment}
 use Rattle.time_merge.specs.declared.key_order.KeyedSegments.{KeyedSegments}
 use Rattle.time_merge.specs.declared.orders.Place.{Place}
+use Rattle.time_merge.specs.declared.orders.Places.{Places}
+use Rattle.time_merge.specs.declared.orders.Places.TheVariants.{Listed, OfOneList}
 
 -- by moment, then connection, turn and place
 abbrev pub key_cmp : SegKey → SegKey → Ordering
@@ -21,6 +23,16 @@ keyed_cmp = then_cmp (on (λ l. l.key) key_cmp) (then_cmp (on (λ l. l.list) nat
 
 abbrev pub no_place : Place
 no_place = record { list = 0; index = 0 }
+
+-- the places of so many segments of list 0, the first of them at this index
+abbrev pub one_list_places : ℕ → ℕ → List Place
+one_list_places index zero = []
+one_list_places index (suc n) = record { list = 0; index = index } ∷ one_list_places (index + 1) n
+
+-- places in the order of their numbers
+abbrev pub places_in : Places → List Place
+places_in (Listed places) = places.items
+places_in (OfOneList n) = one_list_places 0 n
 
 -- where a keyed segment stands
 abbrev pub place_of : KeyedSegment → Place

@@ -4,9 +4,9 @@ ghost use Rattle.std.specs.List.{flat_map};
 ghost use Rattle.std.specs.List.Sorted.{IsSorted};
 ghost use Rattle.segment_writer.specs.KeyLaws.{HasNoKeyTwice};
 ghost use Rattle.segment_writer.specs.WrittenSegments.{sorted_by_key};
-ghost use Rattle.time_merge.specs.KeyedSegments.{all_keyed_segments, ArePlacesInOrder, IsPlace, keyed_cmp, keyed_left, keyed_segments, place_of, segment_at};
+ghost use Rattle.time_merge.specs.KeyedSegments.{all_keyed_segments, ArePlacesInOrder, IsPlace, keyed_cmp, keyed_left, keyed_segments, place_of, places_in, segment_at};
 
-use crate::orders::{Order, Place};
+use crate::orders::{Order, Place, Places};
 use crate::short_keys::by_short_keys;
 use itertools::Itertools;
 use segment_writer::laws::{one_order, sorted_never_falls};
@@ -154,6 +154,30 @@ pub(crate) fn order_of(alloc: Global, keys: &[KeyedSegment]) -> Result<Order, Al
         places.push(keyed.place())?;
     }
     Order::listed(alloc, places)
+}
+
+// Where all segments of lists stand, one list after another.
+pub(crate) fn places_of<L: Keys>(alloc: Global, lists: &[L]) -> Result<Places, AllocError>
+    ensures { IfOk result (λ places. places_in places ≡ map place_of (all_keyed_segments L.segments lists.now)) }
+{
+    if let [only] = lists {
+        return Ok(Places::OfOneList(only.count()));
+    }
+    let mut places = Vec::with_capacity(alloc, count_in(lists))?;
+    for (list, l) in lists.iter().enumerate() {
+        add_places(&mut places, list, l)?;
+    }
+    Ok(Places::Listed(places))
+}
+
+// Appends the places of the segments of the list of this number.
+fn add_places<L: Keys>(places: &mut Vec<Place>, list: usize, l: &L) -> Result<(), AllocError>
+    ensures { OnOk result (places.new.items ≡ places.old.items ++ map place_of (keyed_segments list 0 (L.segments l.now))) }
+{
+    for index in 0..l.count() {
+        places.push(Place { list, index })?;
+    }
+    Ok(())
 }
 
 // Places of keyed segments of all lists, in order: they stand for the segments in order of key, where no key stands twice.

@@ -7,5 +7,5 @@ mod orders;
 mod short_keys;
 mod sinks;
 
-pub use merging::{Merged, merge, merged_capture, write_outlines};
+pub use merging::{Merged, merge, merged_capture, write_capture};
 pub use sinks::CaptureSink;

@@ -1,5 +1,6 @@
-//! Merging lists of segments, in memory or in outline, and the capture of what was merged, each record written in its place.
+//! Merging lists of segments, and the capture of what was merged, or of lists in any order, each record written in its place.
 ghost use Rattle.std.specs.Prelude.{◌≡◌, ◌≤◌, ◌++◌, [], All, IfOk, OnErr, OnOk, length, map};
+ghost use Rattle.std.specs.List.{flat_map};
 ghost use Rattle.pcap_records.specs.Instants.{ticks_of};
 ghost use Rattle.segment_writer.specs.KeyLaws.{HasNoKeyTwice};
 ghost use Rattle.segment_writer.specs.WrittenSegments.{sorted_by_key};
@@ -11,7 +12,7 @@ use crate::key_order::{in_order, merged_keys, order_of, sorted_places};
 use crate::orders::{Order, Place};
 use crate::sinks::{CaptureSink, InMemory};
 use pcap_records::{FILE_HEADER_LEN, Unit, write_header};
-use segment_writer::{ConnectionOutline, Keys, SegList};
+use segment_writer::{Keys, SegList};
 use std::alloc::{AllocError, Global};
 use std::marker::Model;
 
@@ -26,8 +27,8 @@ pub fn merge(alloc: Global, lists: Vec<SegList>) -> Result<Merged, AllocError>
     ensures { IfOk result (λ merged. merged ≡ sorted_by_key (all_segments lists.items)) }
 {
     let keys = merged_keys(alloc, &lists)?;
-    let places = order_of(alloc, &keys)?;
-    let order = in_order(&lists, places);
+    let order = order_of(alloc, &keys)?;
+    let order = in_order(&lists, order);
     Ok(Merged { lists, order })
 }
 
@@ -63,44 +64,44 @@ impl Merged {
     }
 }
 
-/// Writes the capture of the segments of all outlines, whose instants count in `unit`, to a sink: what [`merge`] and [`Merged::capture`]
-/// give of them, but that each record is written in its place. What the sink has taken then, and after it the bytes that are answered, are
-/// the capture. Over all outlines no key stands twice.
+/// Writes the capture of the segments of all lists, whose instants count in `unit`, to a sink. The segments may stand in any order, and each
+/// record is written in its place: it is the capture that [`merge`] and [`Merged::capture`] give of lists in order. What the sink has taken
+/// then, and after it the bytes that are answered, are the capture. Over all lists no key stands twice.
 ///
 /// # Errors
 /// Where a growth is refused; the sink has then taken a first part of the capture.
 #[tactic(auto, unfolding(crate::specs::MergedCapture::capture_of))]
-pub fn write_outlines<S: CaptureSink>(
+pub fn write_capture<L: Keys, S: CaptureSink>(
     alloc: Global,
-    outlines: &[ConnectionOutline<'_>],
+    lists: &[L],
     unit: Unit,
     sink: &mut S,
 ) -> Result<Vec<u8>, AllocError>
-    requires once { HasNoKeyTwice (all_segments outlines.now) }
+    requires once { HasNoKeyTwice (flat_map L.segments lists.now) }
     requires empty { S.took sink.old [] }
-    ensures written { IfOk result (λ rest. IsWritten (S.took sink.new) rest.items (capture_of (ticks_of unit) (all_segments outlines.now))) }
+    ensures written { IfOk result (λ rest. IsWritten (S.took sink.new) rest.items (capture_of (ticks_of unit) (flat_map L.segments lists.now))) }
     ensures same { S.place sink.new ≡ S.place sink.old }
 {
-    let order = sorted_places(alloc, outlines)?;
-    written(Vec::new(alloc), outlines, &order, unit, sink)
+    let order = sorted_places(alloc, lists)?;
+    written(Vec::new(alloc), lists, &order, unit, sink)
 }
 
-/// The capture of the segments of all outlines, whose instants count in `unit`, in memory. Its length is known before the first byte is
-/// written, so that memory is asked for once.
+/// The capture of the segments of all lists, whose instants count in `unit`, in memory. The segments may stand in any order. The length is
+/// known before the first byte is written, so that memory is asked for once. Over all lists no key stands twice.
 ///
 /// # Errors
 /// Where a growth is refused.
 #[tactic(auto, unfolding(crate::specs::MergedCapture::capture_of))]
-pub fn merged_capture(
+pub fn merged_capture<L: Keys>(
     alloc: Global,
-    outlines: &[ConnectionOutline<'_>],
+    lists: &[L],
     unit: Unit,
 ) -> Result<Vec<u8>, AllocError>
-    requires { HasNoKeyTwice (all_segments outlines.now) }
-    ensures { IfOk result (λ bytes. bytes.items ≡ capture_of (ticks_of unit) (all_segments outlines.now)) }
+    requires { HasNoKeyTwice (flat_map L.segments lists.now) }
+    ensures { IfOk result (λ bytes. bytes.items ≡ capture_of (ticks_of unit) (flat_map L.segments lists.now)) }
 {
-    let order = sorted_places(alloc, outlines)?;
-    captured(alloc, outlines, &order, unit)
+    let order = sorted_places(alloc, lists)?;
+    captured(alloc, lists, &order, unit)
 }
 
 // The capture of the segments at some places in turn, in memory.

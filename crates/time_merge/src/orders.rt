@@ -1,6 +1,6 @@
 //! Orders of segments: where these stand, and how the places follow one another.
 ghost use Rattle.std.specs.Prelude.{◌≡◌, ◌<◌, IfOk, length, slice_index_or};
-ghost use Rattle.time_merge.specs.KeyedSegments.{no_place};
+ghost use Rattle.time_merge.specs.KeyedSegments.{no_place, places_in};
 
 use std::alloc::{AllocError, Global};
 use std::marker::Model;
@@ -12,23 +12,48 @@ pub(crate) struct Place {
     pub(crate) index: usize,
 }
 
+/// Places by their numbers.
+#[derive(Debug, Drop)]
+pub(crate) enum Places {
+    /// One by one.
+    Listed(Vec<Place>),
+    /// Of so many segments of one list alone: the number of each is its index.
+    OfOneList(usize),
+}
+
+impl Places {
+    /// The place of this number.
+    pub(crate) fn at(&self, number: usize) -> Place
+        requires { number < length (places_in self.now) }
+        ensures { result ≡ slice_index_or (places_in self.now) number no_place }
+    {
+        match self {
+            Places::Listed(places) => places[number],
+            Places::OfOneList(_) => Place {
+                list: 0,
+                index: number,
+            },
+        }
+    }
+}
+
 /// Places in an order, by their numbers. Contracts see the places in this order.
 #[derive(Debug, Drop)]
 pub(crate) struct Order {
-    pub(crate) places: Vec<Place>,
+    pub(crate) places: Places,
     pub(crate) numbers: Vec<u64>,
 }
 
 impl Model for Order {
     ghost use Rattle.std.specs.Prelude.{◌<◌, All, List, length, map, slice_index_or};
-    ghost use Rattle.time_merge.specs.KeyedSegments.{no_place};
+    ghost use Rattle.time_merge.specs.KeyedSegments.{no_place, places_in};
     ghost use Rattle.time_merge.specs.declared.orders.Place.{Place};
 
     ghost Value = { List Place };
 
-    ghost view = { λ o. map (λ n. slice_index_or o.places.items n no_place) o.numbers.items };
+    ghost view = { λ o. map (λ n. slice_index_or (places_in o.places) n no_place) o.numbers.items };
 
-    ghost invariant = { λ o. All (λ n. n < length o.places.items) o.numbers.items };
+    ghost invariant = { λ o. All (λ n. n < length (places_in o.places)) o.numbers.items };
 }
 
 impl Order {
@@ -43,7 +68,10 @@ impl Order {
         for number in 0..places.len() {
             numbers.push(number as u64)?;
         }
-        Ok(Order { places, numbers })
+        Ok(Order {
+            places: Places::Listed(places),
+            numbers,
+        })
     }
 
     /// How many there are.
@@ -58,6 +86,6 @@ impl Order {
         requires { index < length self.now }
         ensures { result ≡ slice_index_or self.now index no_place }
     {
-        self.places[self.numbers[index] as usize]
+        self.places.at(self.numbers[index] as usize)
     }
 }

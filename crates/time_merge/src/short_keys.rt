@@ -1,12 +1,12 @@
 //! Short keys: numbers of 64 bits, of a moment and a number, which are sorted faster than keys, and in less memory.
 ghost use Rattle.std.specs.Prelude.{◌≡◌, ◌++◌, [], ◌∷◌, ◌<◌, All, List, Ok, true, IfOk, IfSome, length, map};
 ghost use Rattle.std.specs.Ordering.{is_lt};
-ghost use Rattle.time_merge.specs.KeyedSegments.{all_keyed_segments, ArePlacesInOrder, keyed_cmp, keyed_segments};
+ghost use Rattle.time_merge.specs.KeyedSegments.{all_keyed_segments, ArePlacesInOrder, keyed_cmp, keyed_segments, place_of, places_in};
 ghost use Rattle.time_merge.specs.ShortKeys.{Follows, HaveShortKeys, number_in};
 ghost use Rattle.time_merge.specs.declared.key_order.KeyedSegment.{KeyedSegment};
 
-use crate::key_order::{KeyedSegment, count_in};
-use crate::orders::{Order, Place};
+use crate::key_order::{KeyedSegment, count_in, places_of};
+use crate::orders::{Order, Places};
 use pcap_records::Moment;
 use segment_writer::{Keys, SegKey};
 use std::alloc::{AllocError, Global};
@@ -20,7 +20,7 @@ const NUMBER_LIMIT: u64 = 1 << NUMBER_BITS;
 // And the ticks below this.
 const TICKS_LIMIT: u64 = 1 << (64 - NUMBER_BITS);
 
-// The short keys of some segments, one after another, and the places of these. The segments stand in order, connection by connection.
+// The short keys of some segments, one after another. The segments stand in order, connection by connection.
 #[derive(Drop)]
 struct ShortKeys {
     // The moment from which ticks are counted.
@@ -28,7 +28,6 @@ struct ShortKeys {
     // The last segment.
     last: KeyedSegment,
     short_keys: Vec<u64>,
-    places: Vec<Place>,
 }
 
 // The places of all segments of lists, in order, where short keys give it: where there are not too many, none is too late, and they stand in order,
@@ -48,7 +47,8 @@ pub(crate) fn by_short_keys<L: Keys>(
             return Ok(None);
         }
     }
-    Ok(Some(short.into_order()))
+    let places = places_of(alloc, lists)?;
+    Ok(Some(short.into_order(places)))
 }
 
 // The moment of the first segment of some lists.
@@ -102,12 +102,10 @@ impl ShortKeys {
             index: 0,
         };
         let short_keys = Vec::with_capacity(alloc, room)?;
-        let places = Vec::with_capacity(alloc, room)?;
         Ok(ShortKeys {
             first,
             last,
             short_keys,
-            places,
         })
     }
 
@@ -140,20 +138,18 @@ impl ShortKeys {
         }
         self.last = *keyed;
         self.short_keys.push((at - from) * NUMBER_LIMIT + number)?;
-        self.places.push(keyed.place())?;
         Ok(true)
     }
 
-    // The places in order.
-    fn into_order(self) -> Order
-        requires { All (λ short_key. number_in short_key < length self.places.items) self.short_keys.items }
-        ensures { (keys : List KeyedSegment) → HaveShortKeys keys self → ArePlacesInOrder keys result }
+    // The places of the segments, in order.
+    fn into_order(self, places: Places) -> Order
+        requires { All (λ short_key. number_in short_key < length (places_in places)) self.short_keys.items }
+        ensures { (keys : List KeyedSegment) → HaveShortKeys keys self → places_in places ≡ map place_of keys → ArePlacesInOrder keys result }
     {
         let ShortKeys {
             first: _,
             last: _,
             mut short_keys,
-            places,
         } = self;
         short_keys.sort_unstable();
         keep_numbers(&mut short_keys);

@@ -1,7 +1,8 @@
 -- What each scenario answers to a capture that was read.
-use Rattle.std.specs.Prelude.{ℕ, List, [], get_or}
+use Rattle.std.specs.Prelude.{ℕ, List, [], ◌++◌, get_or, length}
 use Rattle.pcap_records.specs.CaptureView.{CaptureView, contents_of}
 use Rattle.conn_table.specs.SeenCapture.{seen_capture}
+use Rattle.report.specs.ReportText.{counts_text, connections_text}
 use Rattle.scenarios.specs.declared.proxies.Proxy.{Proxy}
 use Rattle.run_files.specs.declared.outputs.Output.{Output}
 use Rattle.toxicap.specs.Rehearsal.{outputs_of}
@@ -17,6 +18,11 @@ outputs_from sources = outputs_for sources.capture.now sources.scenarios.now sou
 -- a scenario of them, with its number
 abbrev pub scenario_at : Sources → ℕ → ℕ × List Proxy
 scenario_at sources number = (number, get_or sources.scenarios.now number [])
+
+-- the first two lines of its report
+abbrev pub head_from : Sources → ℕ → List ℕ
+head_from sources number =
+    counts_text number (seen_capture (contents_of sources.capture.now)) ++ connections_text (length sources.table.now.conns) sources.table.now.unopened
 
 -- what stands past the last output
 abbrev pub no_output : Output

@@ -16,6 +16,7 @@ use std::thread::Threads;
 /// who it is.
 pub(crate) trait Crew {
     ghost use Rattle.std.specs.Prelude.{◌≡◌, IfOk};
+    ghost use Rattle.std.specs.List.{flat_map};
     ghost use Rattle.conn_workers.specs.CaptureTables.{whole_table};
     ghost use Rattle.conn_workers.specs.Recordings.{recordings_of, recorded_lines, recorded_row};
 
@@ -44,7 +45,7 @@ pub(crate) trait Crew {
         requires table { table.now ≡ whole_table capture.now }
         ensures { IfOk result (λ v. v ≡ recordings_of capture.now) };
 
-    /// The line of each connection in the report of a scenario with its number.
+    /// The lines of the connections in the report of a scenario with its number, in some texts one after another.
     ///
     /// # Errors
     /// A growth was refused.
@@ -57,9 +58,10 @@ pub(crate) trait Crew {
         seed: u64,
     ) -> Result<Values<ReportText>, AllocError>
         requires { shares self.now }
-        ensures { IfOk result (λ v. v ≡ recorded_lines seed (number, scenario.now) recordings.now) };
+        ensures { IfOk result (λ v. flat_map (λ text. text) v
+            ≡ flat_map (λ line. line) (recorded_lines seed (number, scenario.now) recordings.now)) };
 
-    /// What each connection contributes to a scenario with its number.
+    /// What the connections contribute to a scenario with its number, in some shares one after another.
     ///
     /// # Errors
     /// A growth was refused.
@@ -72,7 +74,10 @@ pub(crate) trait Crew {
         seed: u64,
     ) -> Result<OutlineRow<'a>, AllocError>
         requires { shares self.now }
-        ensures { IfOk result (λ v. v ≡ recorded_row seed (number, scenario.now) recordings.now) };
+        ensures segments { IfOk result (λ v. flat_map (λ s. s.segments) v
+            ≡ flat_map (λ d. d.segments) (recorded_row seed (number, scenario.now) recordings.now)) }
+        ensures lines { IfOk result (λ v. flat_map (λ s. s.lines) v
+            ≡ flat_map (λ d. d.line) (recorded_row seed (number, scenario.now) recordings.now)) };
 }
 
 /// One thread alone: that of the call.

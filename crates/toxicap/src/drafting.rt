@@ -15,7 +15,7 @@ use std::marker::Model;
 use std::thread::Threads;
 
 // How many scenarios a round has for each worker, where as many are left.
-const SHARE: usize = 2;
+const SCENARIOS_EACH: usize = 2;
 
 /// The output of one scenario, as drafts. Contracts see the output, and the paths of its drafts.
 #[derive(Drop)]
@@ -122,7 +122,7 @@ where
     let jobs = DraftJobs {
         sources,
         first: number,
-        count: left.min(SHARE * workers),
+        count: left.min(SCENARIOS_EACH * workers),
         folder,
         disk,
     };

@@ -18,6 +18,7 @@ mod reading;
 mod rehearsal;
 mod reports;
 mod row_captures;
+mod row_reports;
 mod rows;
 mod runs;
 mod sources;

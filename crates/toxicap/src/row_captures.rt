@@ -1,47 +1,15 @@
-//! What each connection contributes to a scenario, in outline, and the capture of these, written to a draft.
-ghost use Rattle.std.specs.Prelude.{◌≡◌, [], IfOk, map};
+//! The capture of what connections contribute to a scenario, written to a draft.
+ghost use Rattle.std.specs.Prelude.{◌≡◌, [], IfOk};
+ghost use Rattle.std.specs.List.{flat_map};
 ghost use Rattle.pcap_records.specs.Instants.{ticks_of};
 ghost use Rattle.segment_writer.specs.KeyLaws.{HasNoKeyTwice};
-ghost use Rattle.time_merge.specs.MergedCapture.{all_segments, capture_of};
+ghost use Rattle.time_merge.specs.MergedCapture.{capture_of};
 
-use conn_workers::OutlineRow;
+use conn_workers::RowShare;
 use disks::Disk;
 use pcap_records::Unit;
-use report::ReportText;
-use segment_writer::ConnectionOutline;
 use std::alloc::{AllocError, Global};
-use time_merge::{CaptureSink, write_outlines};
-
-// What each connection contributes to one scenario, in order of number.
-#[derive(Drop)]
-pub(crate) struct RowParts<'a> {
-    // The segments of each connection.
-    pub(crate) outlines: Vec<ConnectionOutline<'a>>,
-    // The line of each connection.
-    pub(crate) lines: Vec<ReportText>,
-}
-
-// Takes a row apart.
-//
-// # Errors
-// A growth was refused; the row is then dropped.
-pub(crate) fn parts_of_row<'a>(
-    alloc: Global,
-    row: OutlineRow<'a>,
-) -> Result<RowParts<'a>, AllocError>
-    ensures outlines { IfOk result (λ parts. parts.outlines.items ≡ map (λ d. d.segments) row.entry) }
-    ensures lines { IfOk result (λ parts. parts.lines.items ≡ map (λ d. d.line) row.entry) }
-{
-    let row = row.into_vec();
-    let mut outlines = Vec::with_capacity(alloc, row.len())?;
-    let mut lines = Vec::with_capacity(alloc, row.len())?;
-    for delivery in row {
-        let (outline, line) = delivery.into_parts();
-        outlines.push(outline)?;
-        lines.push(line)?;
-    }
-    Ok(RowParts { outlines, lines })
-}
+use time_merge::{CaptureSink, write_capture};
 
 // From how many bytes on a batch is appended to a draft. They are few enough to stay in a processor's own memory.
 const BATCH_LEN: usize = 1 << 18;
@@ -65,23 +33,23 @@ impl<D: Disk> CaptureSink for DraftSink<D> {
     }
 }
 
-// A draft without bytes, once the capture of the segments of all outlines is written to it.
+// A draft without bytes, once the capture of the segments of all shares is written to it.
 //
 // # Errors
 // A growth was refused.
 pub(crate) fn written_draft<D: Disk>(
     alloc: Global,
-    outlines: &[ConnectionOutline<'_>],
+    shares: &[RowShare<'_>],
     unit: Unit,
     draft: D::Draft,
 ) -> Result<D::Draft, AllocError>
-    requires once { HasNoKeyTwice (all_segments outlines.now) }
+    requires once { HasNoKeyTwice (flat_map (λ s. s.segments) shares.now) }
     requires empty { D.holds draft [] }
-    ensures holds { IfOk result (λ d. D.holds d (capture_of (ticks_of unit) (all_segments outlines.now))) }
+    ensures holds { IfOk result (λ d. D.holds d (capture_of (ticks_of unit) (flat_map (λ s. s.segments) shares.now))) }
     ensures path { IfOk result (λ d. D.path_of d ≡ D.path_of draft) }
 {
     let mut sink = DraftSink::<D> { draft };
-    let rest = write_outlines(alloc, outlines, unit, &mut sink)?;
+    let rest = write_capture(alloc, shares, unit, &mut sink)?;
     let DraftSink { mut draft } = sink;
     D::append(&mut draft, &rest);
     Ok(draft)

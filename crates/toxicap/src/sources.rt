@@ -5,13 +5,14 @@ ghost use Rattle.conn_workers.specs.Recordings.{recordings_of};
 ghost use Rattle.toxicap.specs.Rehearsal.{scenario_limit};
 
 use crate::crews::Crew;
-use crate::row_captures::{RowParts, parts_of_row, written_draft};
+use crate::row_captures::written_draft;
+use crate::row_reports::{put_lines, put_texts, reported_draft};
 use conn_table::Table;
-use conn_workers::Recordings;
 use conn_workers::laws::{lines_are_contributed, rows_are_contributed};
+use conn_workers::{OutlineRow, Recordings};
 use disks::Disk;
 use pcap_records::{Capture, Values};
-use report::{ReportText, report};
+use report::{ReportText, report_head};
 use run_files::{DraftedOutput, Folder, Output, Outputs};
 use scenarios::Scenario;
 use segment_writer::laws::keys_stand_once;
@@ -40,13 +41,13 @@ pub(crate) struct Sources<'w, 'v, 'a> {
 
 // Each method that returns an error had a growth refused.
 impl<'w, 'v, 'a> Sources<'w, 'v, 'a> {
-    ghost use Rattle.std.specs.Prelude.{◌≡◌, ◌^◌, ◌<◌, ◌≤◌, IfOk, get_or, length};
+    ghost use Rattle.std.specs.Prelude.{◌≡◌, ◌^◌, ◌<◌, ◌≤◌, ◌++◌, IfOk, OnOk, get_or, length};
+    ghost use Rattle.std.specs.List.{flat_map};
     ghost use Rattle.segment_writer.specs.KeyLaws.{HasNoKeyTwice};
-    ghost use Rattle.time_merge.specs.MergedCapture.{all_segments, capture_of};
-    ghost use Rattle.conn_workers.specs.Recordings.{recorded_lines};
+    ghost use Rattle.time_merge.specs.MergedCapture.{capture_of};
     ghost use Rattle.run_files.specs.DraftedOutputs.{IsDraftOf};
     ghost use Rattle.run_files.specs.WrittenOutputs.{reports_of};
-    ghost use Rattle.toxicap.specs.CaptureOutputs.{no_output, outputs_from, scenario_at};
+    ghost use Rattle.toxicap.specs.CaptureOutputs.{head_from, no_output, outputs_from};
     ghost use Rattle.toxicap.specs.DraftPlaces.{AreAtPlace};
 
     /// The outputs of all scenarios, made one after another.
@@ -69,8 +70,7 @@ impl<'w, 'v, 'a> Sources<'w, 'v, 'a> {
     {
         let mut text = Vec::new(self.alloc);
         for number in 0..self.scenarios.len() {
-            let report = self.report(crew, number)?;
-            text.extend_from_slice(report.as_slice())?;
+            self.put_report(crew, number, &mut text)?;
         }
         Ok(ReportText::of(text))
     }
@@ -81,14 +81,14 @@ impl<'w, 'v, 'a> Sources<'w, 'v, 'a> {
         requires within { number < length self.now.scenarios.now }
         ensures { IfOk result (λ o. o ≡ get_or (outputs_from self.now) number no_output) }
     {
-        let parts = self.parts(crew, number)?;
-        let RowParts { outlines, lines } = parts;
-        let bytes = merged_capture(self.alloc, &outlines, self.capture.unit())?;
-        drop(outlines);
-        let report = self.report_of(number, &lines)?;
+        let row = self.row(crew, number)?;
+        let shares = row.as_slice();
+        let bytes = merged_capture(self.alloc, shares, self.capture.unit())?;
+        let mut report = self.head(number)?.into_vec();
+        put_lines(&mut report, shares)?;
         Ok(Output {
             capture: Values::of(bytes),
-            report: Values::of(report.into_vec()),
+            report: Values::of(report),
         })
     }
 
@@ -107,23 +107,28 @@ impl<'w, 'v, 'a> Sources<'w, 'v, 'a> {
         ensures drafts { IfOk result (IsDraftOf D.holds (get_or (outputs_from self.now) number no_output)) }
         ensures places { IfOk result (AreAtPlace D.path_of folder.now.folder place) }
     {
-        let parts = self.parts(crew, number)?;
-        let RowParts { outlines, lines } = parts;
+        let row = self.row(crew, number)?;
+        let shares = row.as_slice();
         let draft = folder.draft(self.alloc, disk, 2 * place)?;
-        let draft = written_draft::<D>(self.alloc, &outlines, self.capture.unit(), draft)?;
-        drop(outlines);
-        let text = self.report_of(number, &lines)?.into_vec();
-        let mut report = folder.draft(self.alloc, disk, 2 * place + 1)?;
-        D::append(&mut report, &text);
-        Ok((draft, report))
+        let capture = written_draft::<D>(self.alloc, shares, self.capture.unit(), draft)?;
+        let head = self.head(number)?;
+        let draft = folder.draft(self.alloc, disk, 2 * place + 1)?;
+        let report = reported_draft::<D>(draft, &head, shares);
+        Ok((capture, report))
     }
 
-    // Its report alone.
-    fn report<C: Crew>(&self, crew: &C, number: usize) -> Result<ReportText, AllocError>
+    // Appends the report of the scenario of a number.
+    fn put_report<C: Crew>(
+        &self,
+        crew: &C,
+        number: usize,
+        text: &mut Vec<u8>,
+    ) -> Result<(), AllocError>
         requires crew { C.shares crew.now }
         requires within { number < length self.now.scenarios.now }
-        ensures { IfOk result (λ text. text ≡ (get_or (outputs_from self.now) number no_output).report) }
+        ensures { OnOk result (text.new.items ≡ text.old.items ++ (get_or (outputs_from self.now) number no_output).report) }
     {
+        lines_are_contributed();
         let scenario = &self.scenarios[number];
         let lines = crew.report_lines(
             self.alloc,
@@ -132,38 +137,38 @@ impl<'w, 'v, 'a> Sources<'w, 'v, 'a> {
             scenario,
             self.seed,
         )?;
-        self.report_of(number, lines.as_slice())
+        text.extend_from_slice(self.head(number)?.as_slice())?;
+        put_texts(text, lines.as_slice())
     }
 
-    // The report of the scenario of a number, of the lines of the connections.
-    fn report_of(&self, number: usize, lines: &[ReportText]) -> Result<ReportText, AllocError>
-        requires within { number < length self.now.scenarios.now }
-        requires lines { lines.now ≡ recorded_lines self.now.seed (scenario_at self.now number) self.now.recordings.now }
-        ensures { IfOk result (λ text. text ≡ (get_or (outputs_from self.now) number no_output).report) }
+    // The first two lines of the report of the scenario of a number.
+    fn head(&self, number: usize) -> Result<ReportText, AllocError>
+        requires { number < length self.now.scenarios.now }
+        ensures { IfOk result (λ text. text ≡ head_from self.now number) }
     {
-        lines_are_contributed();
-        report(self.alloc, number as u32, self.capture, self.table, lines)
+        report_head(self.alloc, number as u32, self.capture, self.table)
     }
 
-    // What each connection contributes to the output of the scenario of a number.
-    fn parts<C: Crew>(&self, crew: &C, number: usize) -> Result<RowParts<'a>, AllocError>
+    // What the connections contribute to the output of the scenario of a number.
+    fn row<C: Crew>(&self, crew: &C, number: usize) -> Result<OutlineRow<'a>, AllocError>
         requires crew { C.shares crew.now }
         requires within { number < length self.now.scenarios.now }
-        ensures once { IfOk result (λ parts. HasNoKeyTwice (all_segments parts.outlines.items)) }
-        ensures capture { IfOk result (λ parts. capture_of self.now.capture.now.ticks (all_segments parts.outlines.items)
+        ensures once { IfOk result (λ row. HasNoKeyTwice (flat_map (λ s. s.segments) row)) }
+        ensures capture { IfOk result (λ row. capture_of self.now.capture.now.ticks (flat_map (λ s. s.segments) row)
             ≡ (get_or (outputs_from self.now) number no_output).capture) }
-        ensures lines { IfOk result (λ parts. parts.lines.items ≡ recorded_lines self.now.seed (scenario_at self.now number) self.now.recordings.now) }
+        ensures report { IfOk result (λ row. head_from self.now number ++ flat_map (λ s. s.lines) row
+            ≡ (get_or (outputs_from self.now) number no_output).report) }
     {
         rows_are_contributed();
+        lines_are_contributed();
         keys_stand_once();
         let scenario = &self.scenarios[number];
-        let row = crew.deliver_row(
+        crew.deliver_row(
             self.alloc,
             self.recordings,
             number as u32,
             scenario,
             self.seed,
-        )?;
-        parts_of_row(self.alloc, row)
+        )
     }
 }

@@ -129,14 +129,19 @@ fn a_row_for_each_scenario(rt: HostRuntime) {
     check_rows(&rt, rt.alloc(), 16);
 }
 
-// Whether a row, with the records of its segments, is that of the second scenario.
+// Whether what the shares of a row hold together is the row of the second scenario.
 fn is_second_row(rt: &impl Abort, alloc: Global, row: OutlineRow<'_>) -> bool {
-    let mut deliveries = Vec::new(alloc);
-    for delivery in row.into_vec() {
-        let written = delivery.written(alloc).expect(rt, "memory");
-        deliveries.push(written).expect(rt, "memory");
+    let mut segments = 0usize;
+    let mut lines = Vec::new(alloc);
+    for share in row.as_slice() {
+        let written = share.segments.written(alloc).expect(rt, "memory");
+        segments = segments.saturating_add(written.as_slice().len());
+        lines
+            .extend_from_slice(share.lines.as_slice())
+            .expect(rt, "memory");
     }
-    are_wanted(&deliveries, &REFUSED)
+    let wanted = format!(in alloc; "{FIRST_LINE}{REFUSED_LINE}").expect(rt, "memory");
+    segments == 5 && lines.as_slice() == wanted.as_bytes()
 }
 
 // That one thread alone and workers give the second row, of what is recorded.

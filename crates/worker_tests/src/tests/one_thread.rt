@@ -19,14 +19,16 @@ fn a_table_by_one_thread(rt: HostRuntime) {
     check_table(&rt, &table, &REPEATED, 0);
 }
 
-// Whether lines of a report are those of the second scenario.
-fn are_lines(lines: &[ReportText]) -> bool {
-    match lines {
-        [first, second] => {
-            first.as_slice() == FIRST_LINE.as_bytes()
-                && second.as_slice() == REFUSED_LINE.as_bytes()
+// Whether texts of a report are one, with the lines of the second scenario.
+fn are_lines(texts: &[ReportText]) -> bool {
+    let [text] = texts else {
+        return false;
+    };
+    match text.as_slice().split_at_checked(FIRST_LINE.len()) {
+        Some((first, second)) => {
+            first == FIRST_LINE.as_bytes() && second == REFUSED_LINE.as_bytes()
         }
-        _ => false,
+        None => false,
     }
 }
 

@@ -69,5 +69,5 @@ fn recorded_bytes_are_delivered(rt: HostRuntime) {
     }
     rows_are_recorded(&capture, 0, &scenarios[0], 42);
     let row = deliver_row_alone(alloc, &recordings, 0, &scenarios[0], 42).expect(&rt, "memory");
-    check(&rt, "a row", row.as_slice().len() == 2);
+    check(&rt, "a row", row.as_slice().len() == 1);
 }

@@ -11,6 +11,7 @@ returns-clause-framed c =
 pub returns-clause-outline : goal.returns-clause-outline
 returns-clause-outline c = λ own. record {
   side = refl;
+  conn = ap (λ (k : SegKey). k.conn) c.key_at.ensures;
   early = omega (arith, c.requires, ap (λ (k : SegKey). k.moment) c.key_at.ensures);
   small = omega arith;
   within = omega arith;

@@ -23,6 +23,7 @@ returns-clause-outline c =
     let at = first_instant-cursor c.args.own.now c.args.from c.part_at-at.result _ c.part_at-at.ensures c.requires.cursor in
     record {
       side = refl;
+      conn = ap (λ (k : SegKey). k.conn) c.key_at.ensures;
       early = omega (arith, c.requires.early, ap (λ (k : SegKey). k.moment) c.key_at.ensures, at);
       small = omega (arith, c.requires.len, piece_limited payload_limit (left_at c.args.own.now c.args.from));
       within = omega (arith, c.requires.len, piece_within payload_limit (left_at c.args.own.now c.args.from));

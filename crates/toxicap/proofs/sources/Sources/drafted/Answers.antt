@@ -1,4 +1,4 @@
 use Rattle.toxicap.proofs.sources.Sources.drafted.Goals as goal
 
 pub written_draft-requires-clause-once : goal.written_draft-requires-clause-once
-written_draft-requires-clause-once g c = rw c.deref.ensures.value c.in_ok-parts.ensures.once
+written_draft-requires-clause-once g c = rw c.as_slice-shares.ensures c.in_ok-row.ensures.once

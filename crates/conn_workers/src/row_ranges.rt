@@ -1,0 +1,45 @@
+//! How the connections of a row are spread: in ranges of them, one after another.
+ghost use Rattle.std.specs.Prelude.{◌≡◌, ◌≤◌, ◌<◌, ◌+◌, ◌*◌, length, take, drop};
+
+use crate::recordings::Recording;
+use job_matrix::Plan;
+
+// How many ranges there are at most for each worker.
+const RANGES_EACH: usize = 8;
+
+/// So many connections in ranges that follow one another: each has `size` of them, but the last has what is left.
+#[derive(Clone, Copy, Debug)]
+pub(crate) struct RowRanges {
+    all: usize,
+    /// How many connections a range has.
+    pub(crate) size: usize,
+    /// How many ranges there are.
+    pub(crate) count: u64,
+    ghost whole: { all ≤ count * size },
+    ghost needed: { count * size < all + size },
+}
+
+impl RowRanges {
+    /// Ranges of so many connections, at most eight for each worker of a plan.
+    pub(crate) fn of(all: usize, plan: Plan) -> RowRanges
+        ensures { result.all ≡ all }
+    {
+        let size = all / (RANGES_EACH * plan.workers() as usize) + 1;
+        let count = all.div_ceil(size) as u64;
+        RowRanges { all, size, count }
+    }
+
+    /// The connections of a range.
+    pub(crate) fn range<'w, 'v, 'a>(
+        &self,
+        recordings: &'w [Recording<'v, 'a>],
+        range: u64,
+    ) -> &'w [Recording<'v, 'a>]
+        requires all { length recordings.now ≡ self.now.all }
+        requires below { range < self.now.count }
+        ensures { result.now ≡ take self.now.size (drop (range * self.now.size) recordings.now) }
+    {
+        let rest = &recordings[range as usize * self.size..];
+        &rest[..self.size.min(rest.len())]
+    }
+}

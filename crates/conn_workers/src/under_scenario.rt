@@ -1,0 +1,112 @@
+//! Recordings of connections under a scenario, and what these contribute to it together.
+ghost use Rattle.std.specs.Prelude.{◌≡◌, ◌++◌, IfOk, OnOk};
+ghost use Rattle.reassembly.specs.LineLaws.{IsLine};
+ghost use Rattle.toxic_defs.specs.DeliveredLines.{delivered_view};
+ghost use Rattle.conn_workers.specs.Recordings.{recorded_delivered, recorded_delivery};
+ghost use Rattle.conn_workers.specs.RowShares.{row_share, row_text};
+
+use crate::outlined_deliveries::delivered_in;
+use crate::recordings::{Recording, Recordings};
+use crate::row_shares::RowShare;
+use report::{ReportText, put_line};
+use scenarios::Scenario;
+use segment_writer::{ConnectionOutline, SegmentRow, outlined};
+use std::alloc::{AllocError, Global};
+use toxic_defs::Delivered;
+
+/// Recordings of connections, and a scenario with its number.
+#[derive(Drop)]
+pub(crate) struct UnderScenario<'w, 'v, 'a> {
+    // Where what is made is kept.
+    alloc: Global,
+    /// The connections with what is recorded of them.
+    pub(crate) recordings: &'w [Recording<'v, 'a>],
+    number: u32,
+    scenario: &'w Scenario,
+    // That of the random words.
+    seed: u64,
+}
+
+impl<'w, 'v, 'a> UnderScenario<'w, 'v, 'a> {
+    /// All of these together.
+    pub(crate) fn of(
+        alloc: Global,
+        recordings: &'w Recordings<'v, 'a>,
+        number: u32,
+        scenario: &'w Scenario,
+        seed: u64,
+    ) -> Self
+        ensures recordings { result.recordings.now ≡ recordings.now }
+        ensures number { result.number ≡ number }
+        ensures scenario { result.scenario.now ≡ scenario.now }
+        ensures seed { result.seed ≡ seed }
+    {
+        UnderScenario {
+            alloc,
+            recordings: recordings.as_slice(),
+            number,
+            scenario,
+            seed,
+        }
+    }
+
+    // Appends the line of a connection in the scenario's report, and gives what is delivered of it.
+    fn put_line_of(
+        &self,
+        lines: &mut Vec<u8>,
+        recording: &Recording<'v, 'a>,
+    ) -> Result<Delivered<'a>, AllocError>
+        ensures line { OnOk result (lines.new.items ≡ lines.old.items
+            ++ (recorded_delivery self.now.seed (self.now.number, self.now.scenario.now) recording.now).line) }
+        ensures value { IfOk result (λ d. delivered_view d
+            ≡ recorded_delivered self.now.seed (self.now.number, self.now.scenario.now) recording.now) }
+        ensures up { IfOk result (λ d. IsLine d.up.line) }
+        ensures down { IfOk result (λ d. IsLine d.down.line) }
+    {
+        let delivered = delivered_in(self.alloc, recording, self.number, self.scenario, self.seed)?;
+        put_line(lines, recording.conn, &recording.recorded, &delivered)?;
+        Ok(delivered)
+    }
+
+    // Appends the line of a connection in the scenario's report, and gives its segments.
+    fn outline_of(
+        &self,
+        lines: &mut Vec<u8>,
+        recording: &Recording<'v, 'a>,
+    ) -> Result<ConnectionOutline<'a>, AllocError>
+        ensures line { OnOk result (lines.new.items ≡ lines.old.items
+            ++ (recorded_delivery self.now.seed (self.now.number, self.now.scenario.now) recording.now).line) }
+        ensures segments { IfOk result (λ outline. outline
+            ≡ (recorded_delivery self.now.seed (self.now.number, self.now.scenario.now) recording.now).segments) }
+    {
+        let delivered = self.put_line_of(lines, recording)?;
+        outlined(self.alloc, recording.conn, &recording.recorded, delivered)
+    }
+
+    /// What connections contribute, one after another. Room is not asked for ahead.
+    pub(crate) fn share(&self, recordings: &[Recording<'v, 'a>]) -> Result<RowShare<'a>, AllocError>
+        ensures { IfOk result (λ share. share
+            ≡ row_share self.now.seed (self.now.number, self.now.scenario.now) recordings.now) }
+    {
+        let mut segments = SegmentRow::none(self.alloc);
+        let mut lines = Vec::new(self.alloc);
+        for recording in recordings {
+            let outline = self.outline_of(&mut lines, recording)?;
+            segments = segments.with(outline)?;
+        }
+        let lines = ReportText::of(lines);
+        Ok(RowShare { segments, lines })
+    }
+
+    /// The lines of connections in the scenario's report, one after another. Room is not asked for ahead.
+    pub(crate) fn text(&self, recordings: &[Recording<'v, 'a>]) -> Result<ReportText, AllocError>
+        ensures { IfOk result (λ text. text
+            ≡ row_text self.now.seed (self.now.number, self.now.scenario.now) recordings.now) }
+    {
+        let mut lines = Vec::new(self.alloc);
+        for recording in recordings {
+            self.put_line_of(&mut lines, recording)?;
+        }
+        Ok(ReportText::of(lines))
+    }
+}

@@ -1,0 +1,83 @@
+//! Payloads of segments in a row: lent by the capture, or gathered of several of its slices.
+ghost use Rattle.std.specs.Prelude.{◌≡◌, ◌≤◌, ◌<◌, ◌++◌, ℕ, IfOk, length, take};
+ghost use Rattle.segment_writer.specs.FirstPieces.{values};
+ghost use Rattle.segment_writer.specs.LineCursors.{left_at, IsCursor};
+ghost use Rattle.segment_writer.specs.SegmentOutlines.{outlined_payload};
+ghost use Rattle.segment_writer.specs.SegmentRows.{gathered_for, payload_in, IsHeld};
+
+use crate::pieces::{Cursor, copy_piece, part_at};
+use crate::segment_outline::SegmentOutline;
+use reassembly::LinePart;
+use std::alloc::AllocError;
+
+/// The payload of a segment.
+#[derive(Clone, Copy, Debug)]
+pub(crate) enum Payload<'a> {
+    /// Bytes of one slice of the capture.
+    Lent(&'a [u8]),
+    /// Bytes of several, gathered beside the row.
+    Gathered {
+        /// How many bytes are gathered before them.
+        start: usize,
+        /// How many they are.
+        len: usize,
+    },
+}
+
+/// How many bytes a payload has.
+pub(crate) fn payload_len(payload: &Payload<'_>) -> usize {
+    match payload {
+        Payload::Lent(bytes) => bytes.len(),
+        Payload::Gathered { start: _, len } => *len,
+    }
+}
+
+/// The bytes of a payload.
+pub(crate) fn payload_bytes<'p>(gathered: &'p [u8], payload: &Payload<'p>) -> &'p [u8]
+    requires { IsHeld gathered.now payload.now }
+    ensures { result.now ≡ payload_in gathered.now payload.now }
+{
+    match payload {
+        Payload::Lent(bytes) => bytes,
+        Payload::Gathered { start, len } => &gathered[*start..*start + *len],
+    }
+}
+
+/// The payload of an outline over the parts of its sender's line. It is gathered where no part has all of it.
+///
+/// # Errors
+/// Where a growth is refused.
+pub(crate) fn payload_of<'a>(
+    gathered: &mut Vec<u8>,
+    own: &[LinePart<'a>],
+    outline: &SegmentOutline,
+) -> Result<Payload<'a>, AllocError>
+    requires within { outline.now.len ≤ length (left_at own.now outline.now.from) }
+    requires cursor { 0 < outline.now.len → IsCursor own.now outline.now.from }
+    ensures payload { IfOk result (λ p. payload_in gathered.new.items p ≡ outlined_payload own.now outline.now) }
+    ensures held { IfOk result (λ p. IsHeld gathered.new.items p) }
+    ensures gathered { IfOk result (λ p. gathered.new.items ≡ gathered.old.items ++ gathered_for (outlined_payload own.now outline.now) p) }
+{
+    if outline.len == 0 {
+        return Ok(Payload::Lent(&[]));
+    }
+    let bytes = first_bytes(own, outline.from);
+    if outline.len <= bytes.len() {
+        return Ok(Payload::Lent(&bytes[..outline.len]));
+    }
+    let start = gathered.len();
+    copy_piece(gathered, own, outline.from, outline.len)?;
+    Ok(Payload::Gathered {
+        start,
+        len: outline.len,
+    })
+}
+
+// The bytes from a cursor on that its part has.
+fn first_bytes<'a>(own: &[LinePart<'a>], from: Cursor) -> &'a [u8]
+    requires cursor { IsCursor own.now from }
+    requires some { 0 < length (left_at own.now from) }
+    ensures { (n : ℕ) → n ≤ length result.now → values (take n (left_at own.now from)) ≡ take n result.now }
+{
+    &part_at(own, from.part).bytes[from.offset..]
+}

@@ -1,0 +1,62 @@
+//! The reports of scenarios, put together: the first two lines, and after them those of the connections, of some texts one after another.
+ghost use Rattle.std.specs.Prelude.{◌≡◌, ◌++◌, [], OnOk};
+ghost use Rattle.std.specs.List.{flat_map};
+
+use conn_workers::RowShare;
+use disks::Disk;
+use report::ReportText;
+use std::alloc::AllocError;
+
+// Appends texts.
+//
+// # Errors
+// A growth was refused.
+pub(crate) fn put_texts(text: &mut Vec<u8>, texts: &[ReportText]) -> Result<(), AllocError>
+    ensures { OnOk result (text.new.items ≡ text.old.items ++ flat_map (λ lines. lines) texts.now) }
+{
+    for lines in texts {
+        text.extend_from_slice(lines.as_slice())?;
+    }
+    Ok(())
+}
+
+// Appends the lines of all shares. Room is made for them at once.
+//
+// # Errors
+// A growth was refused.
+pub(crate) fn put_lines(text: &mut Vec<u8>, shares: &[RowShare<'_>]) -> Result<(), AllocError>
+    ensures { OnOk result (text.new.items ≡ text.old.items ++ flat_map (λ s. s.lines) shares.now) }
+{
+    text.reserve(lines_len(shares))?;
+    for share in shares {
+        text.extend_from_slice(share.lines.as_slice())?;
+    }
+    Ok(())
+}
+
+// How many bytes the lines of all shares have, or the greatest number where they are more.
+fn lines_len(shares: &[RowShare<'_>]) -> usize {
+    let mut len = 0usize;
+    for share in shares {
+        len = len.saturating_add(share.lines.as_slice().len());
+    }
+    len
+}
+
+// A draft without bytes, once the first two lines of a report and the lines of all shares are appended to it.
+pub(crate) fn reported_draft<D: Disk>(
+    draft: D::Draft,
+    head: &ReportText,
+    shares: &[RowShare<'_>],
+) -> D::Draft
+    requires empty { D.holds draft [] }
+    ensures holds { D.holds result (head.now ++ flat_map (λ s. s.lines) shares.now) }
+    ensures path { D.path_of result ≡ D.path_of draft }
+{
+    let mut draft = draft;
+    D::append(&mut draft, head.as_slice());
+    for share in shares {
+        D::append(&mut draft, share.lines.as_slice());
+    }
+    draft
+}

@@ -138,7 +138,7 @@ static const char *events_take(Events *events, EventConnection *of, size_t numbe
     } else if ((record->flags == 24 && 0 < len && len <= 1460) || (record->flags == 16 && len == 1460)) {
         uint8_t *bytes = realloc(of->begun[side], of->begun_len[side] + len);
         if (bytes == NULL)
-            return "want of memory";
+            return "lack of memory";
         memcpy(bytes + of->begun_len[side], record->payload, len);
         of->begun[side] = bytes;
         of->begun_len[side] += len;
@@ -240,7 +240,7 @@ static int events_of(const uint8_t *capture, size_t capture_len, Events *events)
     events->all = malloc(room * sizeof *events->all);
     int is_right = records != NULL && connections != NULL && events->all != NULL;
     if (!is_right)
-        events_fault(events, 0, "want of memory");
+        events_fault(events, 0, "lack of memory");
     for (size_t place = 24, held; is_right && place < capture_len; place += 16 + held, count++) {
         const uint8_t *head = capture + place;
         held = 0;

@@ -5,10 +5,10 @@ ghost use Rattle.conn_workers.specs.DeliveryRows.{scenario_limit};
 ghost use Rattle.conn_workers.specs.Recordings.{recorded_deliveries};
 
 use crate::deliveries::Delivery;
-use crate::outlined_deliveries::outlined_delivery;
 use crate::recordings::Recording;
 use crate::row_ranges::RowRanges;
 use crate::row_shares::RowShare;
+use crate::scenario_deliveries::delivery_in;
 use crate::under_scenario::UnderScenario;
 use job_matrix::Work;
 use report::ReportText;
@@ -45,8 +45,7 @@ impl<'w, 'v, 'a> Work for ContributionJobs<'w, 'v, 'a> {
         let number = job / count;
         let recording = &self.recordings[(job % count) as usize];
         let scenario = &self.scenarios[number as usize];
-        let outline = outlined_delivery(self.alloc, recording, number as u32, scenario, self.seed)?;
-        outline.written(self.alloc)
+        delivery_in(self.alloc, recording, number as u32, scenario, self.seed)
     }
 }
 

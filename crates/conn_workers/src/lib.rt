@@ -12,10 +12,10 @@ mod delivery_rows;
 mod jobs;
 pub mod laws;
 mod met_proxies;
-mod outlined_deliveries;
 mod recordings;
 mod row_ranges;
 mod row_shares;
+mod scenario_deliveries;
 mod under_scenario;
 
 pub use deliveries::{Deliveries, Delivery, deliver};

@@ -5,12 +5,12 @@ ghost use Rattle.toxic_defs.specs.DeliveredLines.{delivered_view};
 ghost use Rattle.conn_workers.specs.Recordings.{recorded_delivered, recorded_delivery};
 ghost use Rattle.conn_workers.specs.RowShares.{row_share, row_text};
 
-use crate::outlined_deliveries::delivered_in;
 use crate::recordings::{Recording, Recordings};
 use crate::row_shares::RowShare;
+use crate::scenario_deliveries::delivered_in;
 use report::{ReportText, put_line};
 use scenarios::Scenario;
-use segment_writer::{ConnectionOutline, SegmentRow, outlined};
+use segment_writer::SegmentRow;
 use std::alloc::{AllocError, Global};
 use toxic_defs::Delivered;
 
@@ -68,21 +68,6 @@ impl<'w, 'v, 'a> UnderScenario<'w, 'v, 'a> {
         Ok(delivered)
     }
 
-    // Appends the line of a connection in the scenario's report, and gives its segments.
-    fn outline_of(
-        &self,
-        lines: &mut Vec<u8>,
-        recording: &Recording<'v, 'a>,
-    ) -> Result<ConnectionOutline<'a>, AllocError>
-        ensures line { OnOk result (lines.new.items ≡ lines.old.items
-            ++ (recorded_delivery self.now.seed (self.now.number, self.now.scenario.now) recording.now).line) }
-        ensures segments { IfOk result (λ outline. outline
-            ≡ (recorded_delivery self.now.seed (self.now.number, self.now.scenario.now) recording.now).segments) }
-    {
-        let delivered = self.put_line_of(lines, recording)?;
-        outlined(self.alloc, recording.conn, &recording.recorded, delivered)
-    }
-
     /// What connections contribute, one after another. Room is not asked for ahead.
     pub(crate) fn share(&self, recordings: &[Recording<'v, 'a>]) -> Result<RowShare<'a>, AllocError>
         ensures { IfOk result (λ share. share
@@ -91,8 +76,8 @@ impl<'w, 'v, 'a> UnderScenario<'w, 'v, 'a> {
         let mut segments = SegmentRow::none(self.alloc);
         let mut lines = Vec::new(self.alloc);
         for recording in recordings {
-            let outline = self.outline_of(&mut lines, recording)?;
-            segments = segments.with(outline)?;
+            let delivered = self.put_line_of(&mut lines, recording)?;
+            segments = segments.with_connection(recording.conn, &recording.recorded, delivered)?;
         }
         let lines = ReportText::of(lines);
         Ok(RowShare { segments, lines })

@@ -2,7 +2,7 @@
 use Rattle.std.proofs.Common.{◌≡◌, ℕ, Bool, true, false, cond, ◌||◌, ◌&&◌, ◌==◌, nat_lt, nat_cmp, is_lt, List, [], ◌∷◌, ◌++◌, if◌then◌else◌, refl, ap, ◌∙◌, subst, Ordering, Less, Equal, Greater}
 use Rattle.std.specs.Cmp.{IsStrictWeakOrder}
 use Rattle.std.specs.Ordering.{ordering_then}
-use Rattle.std.specs.List.Sorted.{IsPermutation}
+use Rattle.std.specs.List.Sorted.{IsPermutation, IsSortedBy, IsSortedByKey}
 use Rattle.std.proofs.lemmas.List.Sorted.{ranks_by}
 use Rattle.segment_writer.specs.declared.framed.SegKey.{SegKey}
 use Rattle.segment_writer.specs.declared.framed.Framed.{Framed}
@@ -12,7 +12,7 @@ use Rattle.segment_writer.specs.WrittenSegments.{is_key_below, has_lower_key, be
 use Rattle.segment_writer.specs.KeyLaws.{NeverFalls, SortedKeepsAll, SortedNeverFalls}
 use Rattle.segment_writer.specs.KeyOrder.{RisesFrom, RisingIsSorted, PartsAreSortedFirst}
 use Rattle.segment_writer.specs.OrderedLists.{NoneBelow, Ordered, insert_by, sorted_by}
-use Rattle.segment_writer.proofs.Sorting.{ordered_stays, keeps_all, none_below-chain, ordered-sorted, parts_sorted}
+use Rattle.segment_writer.proofs.Sorting.{ordered_stays, keeps_all, none_below-chain, ordered-sorted, parts_sorted, sorted_ordered}
 
 -- ---- the derived order of keys is that of the definition
 
@@ -38,6 +38,10 @@ key_order key = subst IsStrictWeakOrder (λ i x y. derived_is_lower (key x) (key
 
 pub below_order : IsStrictWeakOrder below
 below_order = key_order (λ x. x.key)
+
+-- what was put in order by a key is in order by it
+pub sorted_by_keys : {X : Type 0} (key : X → SegKey) (xs : List X) → IsSortedByKey key ghosts.cmp xs → Ordered (has_lower_key key) xs
+sorted_by_keys key xs sorted = sorted_ordered (has_lower_key key) (key_order key) xs (subst (λ lt. IsSortedBy lt xs) (λ i x y. derived_is_lower (key x) (key y) i) sorted)
 
 inserted_by_key : (x : Framed) (ys : List Framed) → insert_by below x ys ≡ insert_by_key x ys
 inserted_by_key x [] = refl

@@ -1,15 +1,19 @@
 -- No two segments that are written have one key.
-use Rattle.std.proofs.Common.{◌≡◌, ◌≤◌, ◌<◌, ℕ, ◌+◌, Bool, true, false, cond, not, ◌&&◌, nat_lt, List, [], ◌∷◌, ◌++◌, map, refl, ap, ap₂, ◌∙◌, arith, append_assoc}
+use Rattle.std.proofs.Common.{◌≡◌, ◌≤◌, ◌<◌, ℕ, ◌+◌, Bool, true, false, cond, not, ◌&&◌, nat_lt, List, [], ◌∷◌, ◌++◌, filter, map, refl, sym, ap, ap₂, ◌∙◌, subst, arith, append_assoc}
 use Rattle.std.specs.List.{All, enumerate_from, flat_map}
-use Rattle.std.proofs.lemmas.List.Elements.{All-nil, All-cons, All-append, All-filter, All-weaker}
+use Rattle.std.proofs.lemmas.List.Elements.{All-nil, All-cons, All-append, All-filter, All-weaker, filter-append}
 use Rattle.std.proofs.lemmas.List.Sorted.{All-permutation}
-use Rattle.pcap_records.specs.Instants.{horizon}
+use Rattle.pcap_records.specs.Instants.{horizon, ticks_of}
+use Rattle.reassembly.specs.RecordedLines.{Line}
 use Rattle.segment_writer.specs.WrittenSegments.{WrittenConnection, Host, SentSegment, framed_segment, is_key_below, below, sorted_by_key, segments_before_horizon, opening_turn, up_turn, down_turn, written_segments, segments_sent_by}
 use Rattle.segment_writer.specs.KeyOrder.{RisesFrom, AreRising}
 use Rattle.segment_writer.specs.KeyLaws.{same_key, HasNoKeyTwice, KeysRise, AreNumbered, KeysStandOnce}
 use Rattle.segment_writer.specs.declared.framed.SegKey.{SegKey}
 use Rattle.segment_writer.specs.declared.framed.Framed.{Framed}
 use Rattle.segment_writer.specs.OrderedLists.{Ordered}
+use Rattle.segment_writer.specs.Senders.{framed_by, in_turn, line_written, opening_by, own_side, peer_in, peer_side, turn_number, turns_written}
+use Rattle.segment_writer.specs.declared.senders.Sender.{Sender}
+use Rattle.segment_writer.specs.declared.senders.Turn.TheVariants.{Opening, ClientLine, ServerLine}
 use Rattle.segment_writer.proofs.Sorting.{not_below_itself}
 use Rattle.segment_writer.proofs.InOrder.{below_order, sorted_never_falls, sorted_keeps_all}
 use Rattle.segment_writer.proofs.KeyCounts.{same_conn, same_turn, same_place, key_count, key_count-cons, key_count-sorted, key_count-filter, apart, one_alone}
@@ -52,6 +56,41 @@ sent_counts : (ticks : ℕ) (c : WrittenConnection) (turn : ℕ) (from to : Host
 sent_counts ticks c turn from to n [] = tt
 sent_counts ticks c turn from to n (s ∷ sent) = ((refl, refl, refl), sent_counts ticks c turn from to (n + 1) sent)
 
+-- ---- three turns of a connection, some of their segments left out
+
+module _ (conn : ℕ) (p : Framed → Bool) (opening ups downs : List Framed) (opening_count : Counts conn 0 0 opening) (ups_count : Counts conn 1 0 ups) (downs_count : Counts conn 2 0 downs) where
+  up_turns : All (λ (x : Framed). x.key.turn ≡ 1) ups
+  up_turns = turns_are conn 1 0 ups ups_count
+
+  down_turns : All (λ (x : Framed). x.key.turn ≡ 2) downs
+  down_turns = turns_are conn 2 0 downs downs_count
+
+  lines_once : HasNoKeyTwice (ups ++ downs)
+  lines_once =
+      apart (λ k. k.turn) same_turn 1 ups downs up_turns (All-weaker (λ x. x.key.turn ≡ 2) (λ x. 1 < x.key.turn) (λ x h. omega arith) downs down_turns)
+      (turn_once conn 1 0 ups ups_count) (turn_once conn 2 0 downs downs_count)
+
+  turns_once : HasNoKeyTwice ((opening ++ ups) ++ downs)
+  turns_once =
+      rw (append_assoc opening ups downs)
+      (apart (λ k. k.turn) same_turn 0 opening (ups ++ downs) (turns_are conn 0 0 opening opening_count)
+      (All-append (λ x. 0 < x.key.turn) ups downs (All-weaker (λ x. x.key.turn ≡ 1) (λ x. 0 < x.key.turn) (λ x h. omega arith) ups up_turns) (All-weaker (λ x. x.key.turn ≡ 2) (λ x. 0 < x.key.turn) (λ x h. omega arith) downs down_turns))
+      (turn_once conn 0 0 opening opening_count) lines_once)
+
+  abbrev of_conn : Framed → Type 0
+  of_conn x = x.key.conn ≡ conn
+
+  kept_once : HasNoKeyTwice (filter p ((opening ++ ups) ++ downs))
+  kept_once k =
+      let few : key_count k ((opening ++ ups) ++ downs) ≤ 1 = turns_once k in
+      omega (arith, key_count-filter k p ((opening ++ ups) ++ downs))
+
+  kept_conns : All of_conn (filter p ((opening ++ ups) ++ downs))
+  kept_conns =
+      All-filter p of_conn ((opening ++ ups) ++ downs)
+      (All-append of_conn (opening ++ ups) downs
+      (All-append of_conn opening ups (conns_are conn 0 0 opening opening_count) (conns_are conn 1 0 ups ups_count)) (conns_are conn 2 0 downs downs_count))
+
 -- ---- a connection
 
 module _ (ticks : ℕ) (c : WrittenConnection) where
@@ -64,37 +103,21 @@ module _ (ticks : ℕ) (c : WrittenConnection) where
   abbrev downs : List Framed
   downs = down_turn ticks c
 
+  abbrev early : Framed → Bool
+  early x = nat_lt x.key.moment (horizon ticks)
+
   ups_count : Counts c.number 1 0 ups
   ups_count = sent_counts ticks c 1 c.client.host c.server.host 0 (segments_sent_by c.client c.server)
 
   downs_count : Counts c.number 2 0 downs
   downs_count = sent_counts ticks c 2 c.server.host c.client.host 0 (segments_sent_by c.server c.client)
 
-  up_turns : All (λ (x : Framed). x.key.turn ≡ 1) ups
-  up_turns = turns_are c.number 1 0 ups ups_count
-
-  down_turns : All (λ (x : Framed). x.key.turn ≡ 2) downs
-  down_turns = turns_are c.number 2 0 downs downs_count
-
-  lines_once : HasNoKeyTwice (ups ++ downs)
-  lines_once =
-      apart (λ k. k.turn) same_turn 1 ups downs up_turns (All-weaker (λ x. x.key.turn ≡ 2) (λ x. 1 < x.key.turn) (λ x h. omega arith) downs down_turns)
-      (turn_once c.number 1 0 ups ups_count) (turn_once c.number 2 0 downs downs_count)
-
-  turns_once : HasNoKeyTwice ((opening ++ ups) ++ downs)
-  turns_once =
-      rw (append_assoc opening ups downs)
-      (apart (λ k. k.turn) same_turn 0 opening (ups ++ downs) (turns_are c.number 0 0 opening (opening_counts c.refused ticks c))
-      (All-append (λ x. 0 < x.key.turn) ups downs (All-weaker (λ x. x.key.turn ≡ 1) (λ x. 0 < x.key.turn) (λ x h. omega arith) ups up_turns) (All-weaker (λ x. x.key.turn ≡ 2) (λ x. 0 < x.key.turn) (λ x h. omega arith) downs down_turns))
-      (turn_once c.number 0 0 opening (opening_counts c.refused ticks c)) lines_once)
-
   written_once : HasNoKeyTwice (written_segments ticks c)
   unfolding written_segments
   written_once k =
-      let all : List Framed = (opening ++ ups) ++ downs in
-      let kept : List Framed = segments_before_horizon ticks all in
-      let few : key_count k all ≤ 1 = turns_once k in
-      omega (arith, key_count-sorted k kept, key_count-filter k (λ x. nat_lt x.key.moment (horizon ticks)) all)
+      let kept : List Framed = segments_before_horizon ticks ((opening ++ ups) ++ downs) in
+      let few : key_count k kept ≤ 1 = kept_once c.number early opening ups downs (opening_counts c.refused ticks c) ups_count downs_count k in
+      omega (arith, key_count-sorted k kept)
 
   written_ordered : Ordered below (written_segments ticks c)
   unfolding written_segments
@@ -103,11 +126,56 @@ module _ (ticks : ℕ) (c : WrittenConnection) where
   written_conns : All (λ (x : Framed). x.key.conn ≡ c.number) (written_segments ticks c)
   unfolding written_segments
   written_conns =
-      let all : List Framed = (opening ++ ups) ++ downs in
-      let of_conn : Framed → Type 0 = λ x. x.key.conn ≡ c.number in
-      All-permutation of_conn (segments_before_horizon ticks all) (sorted_by_key (segments_before_horizon ticks all)) (sorted_keeps_all (segments_before_horizon ticks all)) (All-filter (λ x. nat_lt x.key.moment (horizon ticks)) of_conn all
-      (All-append of_conn (opening ++ ups) downs
-      (All-append of_conn opening ups (conns_are c.number 0 0 opening (opening_counts c.refused ticks c)) (conns_are c.number 1 0 ups ups_count)) (conns_are c.number 2 0 downs downs_count)))
+      let kept : List Framed = segments_before_horizon ticks ((opening ++ ups) ++ downs) in
+      All-permutation (λ (x : Framed). x.key.conn ≡ c.number) kept (sorted_by_key kept) (sorted_keeps_all kept) (kept_conns c.number early opening ups downs (opening_counts c.refused ticks c) ups_count downs_count)
+
+-- ---- the turns of a client and its server
+
+side_counts : (s : Sender) (n : ℕ) (sent : List SentSegment) → Counts s.conn (turn_number s.turn) n (map (framed_by s) (enumerate_from n sent))
+side_counts s n [] = tt
+side_counts s n (x ∷ sent) = ((refl, refl, refl), side_counts s (n + 1) sent)
+
+module _ (refused : Bool) (client : Sender) (at : ℕ) (up down : Line) (first : client.turn ≡ Opening) where
+  abbrev client_opening : List Framed
+  client_opening = opening_by refused client (peer_in client Opening) at
+
+  abbrev client_ups : List Framed
+  client_ups = map (framed_by (in_turn client ClientLine)) (enumerate_from 0 (segments_sent_by (own_side client up) (peer_side client down)))
+
+  abbrev server_downs : List Framed
+  server_downs = map (framed_by (peer_in client ServerLine)) (enumerate_from 0 (segments_sent_by (own_side (peer_in client ServerLine) down) (peer_side (peer_in client ServerLine) up)))
+
+  abbrev client_early : Framed → Bool
+  client_early x = nat_lt x.key.moment (horizon (ticks_of client.unit))
+
+  client_counts : Counts client.conn 0 0 client_opening
+  client_counts = by refused
+    where
+      zero : turn_number client.turn ≡ 0
+      zero = ap turn_number first
+
+      by : (b : Bool) → Counts client.conn 0 0 (opening_by b client (peer_in client Opening) at)
+      by true = ((refl, zero, refl), ((refl, refl, refl), tt))
+      by false = ((refl, zero, refl), ((refl, refl, refl), ((refl, zero, refl), tt)))
+
+  written_kept : turns_written refused client at up down ≡ filter client_early ((client_opening ++ client_ups) ++ server_downs)
+  unfolding line_written
+  written_kept =
+      ap (λ xs. xs ++ filter client_early server_downs) (sym (filter-append client_early client_opening client_ups)) ∙ sym (filter-append client_early (client_opening ++ client_ups) server_downs)
+
+  -- no two of their segments have one key
+  pub client_once : HasNoKeyTwice (turns_written refused client at up down)
+  client_once =
+      subst HasNoKeyTwice (sym written_kept)
+      (kept_once client.conn client_early client_opening client_ups server_downs client_counts (side_counts (in_turn client ClientLine) 0 (segments_sent_by (own_side client up) (peer_side client down)))
+      (side_counts (peer_in client ServerLine) 0 (segments_sent_by (own_side (peer_in client ServerLine) down) (peer_side (peer_in client ServerLine) up))))
+
+  -- all are of the client's connection
+  pub client_conns : All (λ (x : Framed). x.key.conn ≡ client.conn) (turns_written refused client at up down)
+  client_conns =
+      subst (All (λ (x : Framed). x.key.conn ≡ client.conn)) (sym written_kept)
+      (kept_conns client.conn client_early client_opening client_ups server_downs client_counts (side_counts (in_turn client ClientLine) 0 (segments_sent_by (own_side client up) (peer_side client down)))
+      (side_counts (peer_in client ServerLine) 0 (segments_sent_by (own_side (peer_in client ServerLine) down) (peer_side (peer_in client ServerLine) up))))
 
 -- ---- in order, and no key twice: keys rise
 

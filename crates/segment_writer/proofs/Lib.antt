@@ -8,10 +8,10 @@ pub mod TurnSteps
 pub mod Sorting
 pub mod InOrder
 pub mod JoinSteps
-pub mod TurnOrder
 pub mod WholeSegments
 pub mod OneOrderLaw
 pub mod KeyCounts
 pub mod KeysApart
-pub mod OutlineSteps
 pub mod RowSteps
+pub mod RowOrder
+pub mod PuttingSteps

@@ -2,22 +2,29 @@
 use Rattle.std.proofs.Common.{◌≡◌, ◌≤◌, ◌<◌, ℕ, ◌+◌, Bool, true, false, List, [], ◌∷◌, ◌++◌, length, map, take, drop, refl, sym, ap, ap₂, ◌∙◌, subst, arith, append-nil, append_assoc, length-append, length-drop, slice_index_or}
 use Rattle.std.specs.List.{AllByRecursion}
 use Rattle.std.proofs.lemmas.List.{map-append, take-append-le, drop-append-le, get_or_append_left}
-use Rattle.std.proofs.Math.Seq.{get_or-append_seam}
 use Rattle.lists.proofs.Lists.{all_weaker, all_push}
 use Rattle.pcap_records.specs.Instants.{ticks_of}
 use Rattle.pcap_records.specs.Writing.{record_bytes}
 use Rattle.frame_headers.specs.Layout.{payload_limit}
-use Rattle.segment_writer.specs.Senders.{frame_with, header_with}
+use Rattle.segment_writer.specs.Senders.{frame_with, header_with, in_turn}
 use Rattle.reassembly.specs.declared.line_parts.LinePart.{LinePart}
-use Rattle.segment_writer.specs.SegmentOutlines.{parts_of, side_sender, IsOutline, IsOutlineIn}
+use Rattle.segment_writer.specs.SegmentOutlines.{framed_of, side_sender, IsOutline}
 use Rattle.segment_writer.specs.SegmentRows.{payload_in, IsHeld, no_sender, framed_at, client_of, IsInRow}
+use Rattle.segment_writer.specs.OpenRows.{written_in, IsLonger, IsRow, IsSideOf}
 use Rattle.segment_writer.specs.declared.framed.Framed.{Framed}
 use Rattle.segment_writer.specs.declared.payloads.Payload.{Payload}
 use Rattle.segment_writer.specs.declared.payloads.Payload.TheVariants.{Lent, Gathered}
 use Rattle.segment_writer.specs.declared.segment_outline.SegmentOutline.{SegmentOutline}
-use Rattle.segment_writer.specs.declared.segment_rows.RowSegment.{RowSegment}
+use Rattle.segment_writer.specs.declared.open_rows.OpenRow.{OpenRow}
+use Rattle.segment_writer.specs.declared.open_rows.RowSegment.{RowSegment}
 use Rattle.segment_writer.specs.declared.senders.Sender.{Sender}
-use Rattle.segment_writer.proofs.OutlineSteps.{map_same}
+
+-- ---- all of a list
+
+module _ {X Y : Type 0} (P : X → Type 0) (f g : X → Y) (same : (x : X) → P x → f x ≡ g x) where
+  map_same : (xs : List X) → AllByRecursion P xs → map f xs ≡ map g xs
+  map_same [] all = refl
+  map_same (x ∷ xs) all = ap₂ (λ y ys. y ∷ ys) (same x all.0) (map_same xs all.1)
 
 -- ---- who sends is of the same connection and unit
 
@@ -82,34 +89,57 @@ pub row_grows : (clients all more : List Sender) (gathered now bytes : List ℕ)
 row_grows clients all more gathered now bytes all_is now_is ss rows =
     rw (all_is, now_is) (row_stays clients more gathered bytes ss rows, all_stay clients more gathered bytes ss rows)
 
--- by the segment of an outline
-pub row_next : (clients : List Sender) (gathered now bytes : List ℕ) (ss next : List RowSegment) (s : RowSegment) (written : SegmentOutline → Framed) (before : List Framed) (outlines : List SegmentOutline) (l : SegmentOutline) (i : ℕ)
-    → now ≡ gathered ++ bytes → next ≡ ss ++ s ∷ [] → take (i + 1) outlines ≡ take i outlines ++ l ∷ [] → framed_at clients now s ≡ written l → IsInRow clients now s
-    → map (framed_at clients gathered) ss ≡ before ++ map written (take i outlines) → AllByRecursion (IsInRow clients gathered) ss
-    → (map (framed_at clients now) next ≡ before ++ map written (take (i + 1) outlines)) × AllByRecursion (IsInRow clients now) next
-row_next clients gathered now bytes ss next s written before outlines l i now_is next_is taken framed in_row was rows =
-    let grown = row_grows clients clients [] gathered now bytes (sym (append-nil clients)) now_is ss rows in (
-      ap (map (framed_at clients now)) next_is
-          ∙ map-append (framed_at clients now) ss (s ∷ [])
-          ∙ ap₂ (λ (xs : List Framed) (y : Framed). xs ++ y ∷ []) (grown.0 ∙ was) framed
-          ∙ append_assoc before (map written (take i outlines)) (written l ∷ [])
-          ∙ ap (λ xs. before ++ xs) (sym (map-append written (take i outlines) (l ∷ [])) ∙ ap (map written) (sym taken)),
-      subst (AllByRecursion (IsInRow clients now)) (sym next_is) (all_push (IsInRow clients now) ss s grown.1 in_row),
-    )
+-- by one segment
+pub segment_put : (before now : OpenRow) (bytes : List ℕ) (s : RowSegment) (x : Framed) → now.clients.items ≡ before.clients.items → now.gathered.items ≡ before.gathered.items ++ bytes
+    → now.segments.items ≡ before.segments.items ++ s ∷ [] → framed_at now.clients.items now.gathered.items s ≡ x → IsInRow now.clients.items now.gathered.items s → IsRow before → IsLonger before (x ∷ []) now
+segment_put before now bytes s x clients_are gathered_is segments_are framed in_row rows =
+    let written : RowSegment → Framed = framed_at now.clients.items now.gathered.items in
+    let grown = row_grows before.clients.items now.clients.items [] before.gathered.items now.gathered.items bytes (clients_are ∙ sym (append-nil before.clients.items)) gathered_is before.segments.items rows in
+    record {
+      written = ap (map written) segments_are
+          ∙ map-append written before.segments.items (s ∷ [])
+          ∙ ap₂ (λ (xs : List Framed) (y : Framed). xs ++ y ∷ []) grown.0 framed;
+      row = subst (AllByRecursion (IsInRow now.clients.items now.gathered.items)) (sym segments_are) (all_push (IsInRow now.clients.items now.gathered.items) before.segments.items s grown.1 in_row);
+    }
 
--- ---- an outline of a connection, over the parts of its sender's line
+-- by none: a client alone
+pub client_put : (before now : OpenRow) (more : List Sender) → now.clients.items ≡ before.clients.items ++ more → now.gathered.items ≡ before.gathered.items → now.segments.items ≡ before.segments.items
+    → IsRow before → IsLonger before [] now
+client_put before now more clients_are gathered_is segments_are rows =
+    let grown = row_grows before.clients.items now.clients.items more before.gathered.items now.gathered.items [] clients_are (gathered_is ∙ sym (append-nil before.gathered.items)) before.segments.items rows in
+    record {
+      written = ap (map (framed_at now.clients.items now.gathered.items)) segments_are ∙ grown.0 ∙ sym (append-nil (written_in before));
+      row = subst (AllByRecursion (IsInRow now.clients.items now.gathered.items)) (sym segments_are) grown.1;
+    }
 
-module _ (client : Sender) (ups downs up down own : List LinePart) (l : SegmentOutline) (up_is : up ≡ ups) (down_is : down ≡ downs) (own_is : own ≡ parts_of up down l.is_server) where
-  pub own_is_of : own ≡ parts_of ups downs l.is_server
-  own_is_of = own_is ∙ (λ i. parts_of (up_is i) (down_is i) l.is_server)
+pub longer_not : (row : OpenRow) → IsRow row → IsLonger row [] row
+longer_not row rows = record { written = sym (append-nil (written_in row)); row = rows }
 
-  pub own_outline : (all outlines : List SegmentOutline) → outlines ≡ all
-      → ((c : Sender) (xs ys : List LinePart) → AllByRecursion (IsOutlineIn c xs ys) outlines → IsOutlineIn c xs ys l) → AllByRecursion (IsOutlineIn client ups downs) all
-      → IsOutline (side_sender client l.is_server) own l
-  own_outline all outlines outlines_are one is =
-      let one_is : IsOutlineIn client ups downs l = one client ups downs (subst (AllByRecursion (IsOutlineIn client ups downs)) (sym outlines_are) is) in
-      subst (λ parts. IsOutline (side_sender client l.is_server) parts l) (sym own_is_of) one_is
+pub longer_on : (a b c : OpenRow) (xs ys : List Framed) → IsLonger a xs b → IsLonger b ys c → IsLonger a (xs ++ ys) c
+longer_on a b c xs ys first next = record {
+  written = next.written ∙ ap (λ us. us ++ ys) first.written ∙ append_assoc (written_in a) xs ys;
+  row = next.row;
+}
 
--- the client that was added last
-pub last_client : (clients all : List Sender) (client : Sender) (number : ℕ) → all ≡ clients ++ client ∷ [] → number ≡ length clients → slice_index_or all number no_sender ≡ client
-last_client clients all client number all_is number_is = rw (all_is, number_is) (get_or-append_seam clients client [] no_sender)
+-- ---- who sends in a turn
+
+pub same_side : (clients now : List Sender) (number : ℕ) (s : Sender) → now ≡ clients → IsSideOf clients number s → IsSideOf now number s
+same_side clients now number s are side = subst (λ all. IsSideOf all number s) (sym are) side
+
+-- ---- the outline of a segment that is sent in a turn
+
+module _ (clients : List Sender) (number : ℕ) (s : Sender) (own : List LinePart) (l : SegmentOutline) (side : IsSideOf clients number s) (outline : IsOutline s own l) where
+  -- who sends it, in that turn
+  abbrev pub sender_now : Sender
+  sender_now = side_sender (slice_index_or clients number no_sender) l.is_server
+
+  sent_by : in_turn sender_now s.turn ≡ s
+  sent_by = ap (λ (b : Bool). in_turn (side_sender (slice_index_or clients number no_sender) b) s.turn) outline.side ∙ side.side
+
+  pub side_framed : framed_of sender_now own l ≡ framed_of s own l
+  side_framed = ap (λ (t : Sender). framed_of t own l) sent_by
+
+  pub side_outline : IsOutline sender_now own l
+  side_outline =
+      let o : IsOutline (in_turn sender_now s.turn) own l = subst (λ (t : Sender). IsOutline t own l) (sym sent_by) outline in
+      record { side = o.side; conn = o.conn; early = o.early; small = o.small; within = o.within; cursor = o.cursor }

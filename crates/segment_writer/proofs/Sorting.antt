@@ -1,12 +1,16 @@
 -- Lists in order by a test. Putting a list in order keeps its elements, and what ties keeps its order: no other list is so.
-use Rattle.std.proofs.Common.{◌≡◌, Bool, true, false, cond, not, ◌&&◌, List, [], ◌∷◌, ◌++◌, filter, map, if◌then◌else◌, refl, sym, ap, ap₂, ◌∙◌, subst}
+use Rattle.std.proofs.Common.{◌≡◌, suc, arith, slice_index_or, Bool, true, false, cond, not, ◌&&◌, List, [], ◌∷◌, ◌++◌, filter, if◌then◌else◌, refl, sym, ap, ap₂, ◌∙◌, subst}
 use Rattle.std.specs.List.{AllByRecursion}
+use native.Mathlib.Numerals.{add-one}
 use Rattle.std.specs.Cmp.{IsStrictWeakOrder}
-use Rattle.std.specs.List.Sorted.{ties, IsStableBy, IsPermutation}
+use Rattle.std.specs.List.Sorted.{ties, IsSortedBy, IsStableBy, IsPermutation}
 use Rattle.std.proofs.lemmas.List.Elements.{All-from_recursion, recursion_from_All, filter-append}
 use Rattle.std.proofs.lemmas.List.Sorted.{IsPermutation-refl, IsPermutation-sym, IsPermutation-cons, IsPermutation-middle, IsPermutation-trans, All-permutation}
 use Rattle.lists.proofs.Lists.{all_filter, all_weaker}
 use Rattle.segment_writer.specs.OrderedLists.{NoneBelow, Ordered, insert_by, sorted_by}
+
+pub all_moved : {X : Type 0} (P : X → Type 0) (xs ys : List X) → IsPermutation xs ys → AllByRecursion P xs → AllByRecursion P ys
+all_moved P xs ys moved all = recursion_from_All P ys (All-permutation P xs ys moved (All-from_recursion P xs all))
 
 module _ {X : Type 0} (lt : X → X → Bool) where
   insert_first : (x : X) (ys : List X) → NoneBelow lt x ys → insert_by lt x ys ≡ x ∷ ys
@@ -35,9 +39,6 @@ module _ {X : Type 0} (lt : X → X → Bool) where
   keeps_all (x ∷ xs) =
       IsPermutation-trans (x ∷ xs) (x ∷ sorted_by lt xs) (insert_by lt x (sorted_by lt xs)) (IsPermutation-cons x xs (sorted_by lt xs) (keeps_all xs)) (inserted x (sorted_by lt xs))
 
-  all_moved : (P : X → Type 0) (xs ys : List X) → IsPermutation xs ys → AllByRecursion P xs → AllByRecursion P ys
-  all_moved P xs ys moved all = recursion_from_All P ys (All-permutation P xs ys moved (All-from_recursion P xs all))
-
   pub all_sorted : (P : X → Type 0) (xs : List X) → AllByRecursion P xs → AllByRecursion P (sorted_by lt xs)
   all_sorted P xs all = all_moved P xs (sorted_by lt xs) (keeps_all xs) all
 
@@ -52,6 +53,15 @@ module _ {X : Type 0} (lt : X → X → Bool) where
     -- what is not below y is not below x
     pub none_below-chain : (x y : X) (ys : List X) → lt y x ≡ false → NoneBelow lt y ys → NoneBelow lt x ys
     none_below-chain x y ys h none = all_weaker (λ w. lt w y ≡ false) (λ w. lt w x ≡ false) (λ w up. o.chain w y x up h) ys none
+
+    -- where no neighbours fall, none falls
+    pub sorted_ordered : (xs : List X) → IsSortedBy lt xs → Ordered lt xs
+    sorted_ordered [] sorted = tt
+    sorted_ordered (x ∷ []) sorted = (tt, tt)
+    sorted_ordered (x ∷ y ∷ ys) sorted =
+        let higher : lt y x ≡ false = sorted 0 x (omega arith) (omega arith) in
+        let rest : Ordered lt (y ∷ ys) = sorted_ordered (y ∷ ys) (λ k d low high. rw (add-one k) (subst (λ n. lt (slice_index_or (x ∷ y ∷ ys) n d) (slice_index_or (y ∷ ys) k d) ≡ false) (add-one (suc k)) (sorted (suc k) d (omega arith) (omega arith)))) in
+        ((higher, none_below-chain x y ys higher rest.0), rest)
 
     ordered-insert : (x : X) (ys : List X) → Ordered lt ys → Ordered lt (insert_by lt x ys)
     ordered-insert x [] h = (tt, tt)
@@ -135,30 +145,3 @@ module _ {X : Type 0} (lt : X → X → Bool) where
         let parts : List X = sorted_by lt xs ++ sorted_by lt ys in
         sorted-only (xs ++ ys) (sorted_by lt parts) (ordered-sorted parts)
         (λ z. filter-sorted z parts ∙ filter-append (ties lt z) (sorted_by lt xs) (sorted_by lt ys) ∙ ap₂ (λ us vs. us ++ vs) (filter-sorted z xs) (filter-sorted z ys) ∙ sym (filter-append (ties lt z) xs ys))
-
--- ---- what stands for other elements is in order as these are
-
-module _ {X Y : Type 0} (f : X → Y) (lt : Y → Y → Bool) where
-  abbrev by_image : X → X → Bool
-  by_image a b = lt (f a) (f b)
-
-  none_below-map : (x : X) (xs : List X) → NoneBelow lt (f x) (map f xs) → NoneBelow by_image x xs
-  none_below-map x [] none = tt
-  none_below-map x (y ∷ xs) none = (none.0, none_below-map x xs none.1)
-
-  pub ordered-map : (xs : List X) → Ordered lt (map f xs) → Ordered by_image xs
-  ordered-map [] ordered = tt
-  ordered-map (x ∷ xs) ordered = (none_below-map x xs ordered.0, ordered-map xs ordered.1)
-
-  insert-map : (x : X) (ys : List X) → map f (insert_by by_image x ys) ≡ insert_by lt (f x) (map f ys)
-  insert-map x [] = refl
-  insert-map x (y ∷ ys) = by (by_image y x) (insert-map x ys)
-    where
-      by : (b : Bool) → map f (insert_by by_image x ys) ≡ insert_by lt (f x) (map f ys)
-          → map f (if b then y ∷ insert_by by_image x ys else x ∷ y ∷ ys) ≡ (if b then f y ∷ insert_by lt (f x) (map f ys) else f x ∷ f y ∷ map f ys)
-      by true later = ap (λ zs. f y ∷ zs) later
-      by false later = refl
-
-  pub sorted-map : (xs : List X) → map f (sorted_by by_image xs) ≡ sorted_by lt (map f xs)
-  sorted-map [] = refl
-  sorted-map (x ∷ xs) = insert-map x (sorted_by by_image xs) ∙ ap (insert_by lt (f x)) (sorted-map xs)

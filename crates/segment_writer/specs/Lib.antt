@@ -10,3 +10,4 @@ pub mod OrderedLists
 pub mod KeyLaws
 pub mod SentRows
 pub mod SegmentRows
+pub mod OpenRows

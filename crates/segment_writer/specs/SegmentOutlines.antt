@@ -38,15 +38,5 @@ abbrev pub side_sender : Sender → Bool → Sender
 side_sender client false = client
 side_sender client true = peer_in client Opening
 
-abbrev pub parts_of : List LinePart → List LinePart → Bool → List LinePart
-parts_of up down false = up
-parts_of up down true = down
-
-abbrev pub framed_in : Sender → List LinePart → List LinePart → SegmentOutline → Framed
-framed_in client up down l = framed_of (side_sender client l.is_server) (parts_of up down l.is_server) l
-
-abbrev pub IsOutlineIn : Sender → List LinePart → List LinePart → SegmentOutline → Type 0
-IsOutlineIn client up down l = IsOutline (side_sender client l.is_server) (parts_of up down l.is_server) l
-
 abbrev pub no_segment : Framed
 no_segment = record { key = record { moment = 0; conn = 0; turn = 0; place = 0 }; bytes = [] }

@@ -9,7 +9,7 @@ use Rattle.segment_writer.specs.SegmentOutlines.{side_sender}
 use Rattle.segment_writer.specs.declared.framed.Framed.{Framed}
 use Rattle.segment_writer.specs.declared.payloads.Payload.{Payload}
 use Rattle.segment_writer.specs.declared.payloads.Payload.TheVariants.{Lent, Gathered}
-use Rattle.segment_writer.specs.declared.segment_rows.RowSegment.{RowSegment}
+use Rattle.segment_writer.specs.declared.open_rows.RowSegment.{RowSegment}
 use Rattle.segment_writer.specs.declared.senders.Sender.{Sender}
 use Rattle.segment_writer.specs.declared.senders.Turn.TheVariants.{Opening}
 

@@ -142,8 +142,12 @@ opening_written refused client server at = segments_before_horizon (ticks_of cli
 
 -- ---- a connection
 
--- all segments of a connection, in order of key: the opening by its client, of that instant, and both lines
+-- the three turns of a connection: the opening by its client, of that instant, and both lines
+abbrev pub turns_written : Bool → Sender → ℕ → Line → Line → List Framed
+turns_written refused client at up down =
+    (opening_written refused client (peer_in client Opening) at ++ line_written (in_turn client ClientLine) up down)
+    ++ line_written (peer_in client ServerLine) down up
+
+-- all segments of a connection, in order of key
 abbrev pub connection_written : Bool → Sender → ℕ → Line → Line → List Framed
-connection_written refused client at up down =
-    sorted_by_key ((opening_written refused client (peer_in client Opening) at ++ line_written (in_turn client ClientLine) up down)
-    ++ line_written (peer_in client ServerLine) down up)
+connection_written refused client at up down = sorted_by_key (turns_written refused client at up down)

@@ -1,11 +1,11 @@
 //! The segments of a connection as they are written, in the order in which a capture has them.
 #![tactic(auto)]
 
-mod connection_outline;
 mod connection_segments;
 mod framed;
 mod keyed;
 pub mod laws;
+mod open_rows;
 mod payloads;
 mod pieces;
 mod records;
@@ -14,7 +14,6 @@ mod segment_rows;
 mod senders;
 mod turns;
 
-pub use connection_outline::ConnectionOutline;
-pub use connection_segments::{outlined, segments};
+pub use connection_segments::segments;
 pub use framed::{Framed, Keys, RecordBytes, SegKey, SegList};
 pub use segment_rows::SegmentRow;

@@ -1,13 +1,11 @@
 //! Segments in outline: all of a written segment but the bytes of its record.
 ghost use Rattle.std.specs.Prelude.{◌≡◌};
-ghost use Rattle.segment_writer.specs.SegmentOutlines.{side_sender, parts_of};
+ghost use Rattle.segment_writer.specs.SegmentOutlines.{side_sender};
 
 use crate::framed::SegKey;
-use crate::keyed::Keyed;
 use crate::pieces::Cursor;
 use crate::senders::{Sender, Turn, peer_in};
 use frame_headers::Flags;
-use reassembly::LinePart;
 
 /// A segment that is to be written: its key, who sends it, its numbers and flags, and the `len` bytes of its payload, which begin
 /// at a cursor over the parts of its sender's line.
@@ -22,14 +20,6 @@ pub(crate) struct SegmentOutline {
     pub(crate) len: usize,
 }
 
-impl Keyed for SegmentOutline {
-    ghost key_of = { λ l. l.key };
-
-    fn key(&self) -> SegKey {
-        self.key
-    }
-}
-
 /// The client of a connection, or its server.
 pub(crate) fn side_sender(client: &Sender, is_server: bool) -> Sender
     ensures { result ≡ side_sender client.now is_server }
@@ -39,15 +29,4 @@ pub(crate) fn side_sender(client: &Sender, is_server: bool) -> Sender
     } else {
         *client
     }
-}
-
-/// The parts of the client's line, or of the server's.
-pub(crate) fn parts_of<'p, 'a>(
-    up: &'p [LinePart<'a>],
-    down: &'p [LinePart<'a>],
-    is_server: bool,
-) -> &'p [LinePart<'a>]
-    ensures { result.now ≡ parts_of up.now down.now is_server }
-{
-    if is_server { down } else { up }
 }

@@ -1,7 +1,6 @@
 //! The segments of a line, in one pass over its parts and those of the peer's line, and the numbers that say what was delivered of
 //! the peer's line before an instant (RFC 9293 section 3.4).
-ghost use Rattle.std.specs.Prelude.{◌≡◌, ◌≤◌, ◌<◌, ◌+◌, ◌%◌, ◌||◌, true, false, ℕ, length, map, nat_lt, IfOk};
-ghost use Rattle.std.specs.List.{AllByRecursion};
+ghost use Rattle.std.specs.Prelude.{◌≡◌, ◌≤◌, ◌<◌, ◌+◌, ◌%◌, ◌||◌, true, false, ℕ, length, nat_lt, OnOk};
 ghost use Rattle.pcap_records.specs.Instants.{horizon, ticks_of};
 ghost use Rattle.reassembly.specs.LineView.{bytes_of_parts, line_of, end_view};
 ghost use Rattle.reassembly.specs.RecordedLines.{live};
@@ -10,33 +9,38 @@ ghost use Rattle.segment_writer.specs.WrittenSegments.{WrittenSide, end_numbers_
 ghost use Rattle.segment_writer.specs.TimelyLines.{Climbs, IsTimely};
 ghost use Rattle.segment_writer.specs.LineCursors.{has_none, bytes_before, IsAcknowledged};
 ghost use Rattle.segment_writer.specs.Senders.{ending_segments, line_written};
-ghost use Rattle.segment_writer.specs.SegmentOutlines.{framed_of, IsOutline};
+ghost use Rattle.segment_writer.specs.OpenRows.{IsLonger, IsRow, IsSideOf};
 
+use crate::open_rows::{OpenRow, put_bare, put_segment};
 use crate::pieces::{Cursor, next_filled, part_at, piece_len};
-use crate::records::{bare_outline, piece_outline};
-use crate::segment_outline::SegmentOutline;
+use crate::records::piece_outline;
 use crate::senders::{Numbers, Sender};
 use frame_headers::Flags;
 use pcap_records::{Moment, Unit};
 use reassembly::{End, LinePart};
-use std::alloc::{AllocError, Global};
+use std::alloc::AllocError;
 
-/// The segments of a line that are written, which the peer's line goes with. Nothing is written at the horizon.
-pub(crate) fn line_segments(
-    alloc: Global,
+/// Puts the segments of a line, which the peer's line goes with. Nothing is written at the horizon.
+///
+/// # Errors
+/// Where a growth is refused.
+pub(crate) fn put_line<'a>(
+    row: &mut OpenRow<'a>,
+    number: usize,
     sender: &Sender,
-    own: &[LinePart<'_>],
+    own: &[LinePart<'a>],
     own_end: &End,
     peer: &[LinePart<'_>],
     peer_end: &End,
-) -> Result<Vec<SegmentOutline>, AllocError>
+) -> Result<(), AllocError>
     requires own { IsTimely (line_of own.now own_end.now) }
     requires peer { IsTimely (line_of peer.now peer_end.now) }
-    ensures framed { IfOk result (λ list. map (framed_of sender.now own.now) list.items
-        ≡ line_written sender.now (line_of own.now own_end.now) (line_of peer.now peer_end.now)) }
-    ensures outline { IfOk result (λ list. AllByRecursion (IsOutline sender.now own.now) list.items) }
+    requires side { IsSideOf row.old.clients.items number sender.now }
+    requires row { IsRow row.old }
+    ensures longer { OnOk result (IsLonger row.old
+        (line_written sender.now (line_of own.now own_end.now) (line_of peer.now peer_end.now)) row.new) }
+    ensures clients { OnOk result (row.new.clients.items ≡ row.old.clients.items) }
 {
-    let mut list = Vec::with_capacity(alloc, own.len().saturating_add(1))?;
     let mut from = Cursor {
         part: next_filled(own, 0),
         offset: 0,
@@ -47,27 +51,26 @@ pub(crate) fn line_segments(
     'pieces: while from.part < own.len() {
         let at = part_at(own, from.part).at;
         if is_late(at, sender.unit) {
-            return Ok(list);
+            return Ok(());
         }
         acknowledged = acknowledge(peer, acknowledged, at);
         let numbers = numbers_at(sender, sent, acknowledged, peer_end, at, place);
         let len = piece_len(own, from);
         let (outline, after) = piece_outline(sender, own, from, len, numbers);
-        list.push(outline)?;
+        put_segment(row, number, own, &outline)?;
         from = after;
         sent += len as u32;
         place += 1;
     }
     let Some(ending) = ending_of(own_end) else {
-        return Ok(list);
+        return Ok(());
     };
     if is_late(ending.at, sender.unit) {
-        return Ok(list);
+        return Ok(());
     }
     let all = acknowledge(peer, acknowledged, ending.at);
     let numbers = numbers_at(sender, sent, all, peer_end, ending.at, place);
-    list.push(bare_outline(sender, ending.at, numbers, ending.flags))?;
-    Ok(list)
+    put_bare(row, number, sender, ending.at, numbers, ending.flags)
 }
 
 // Whether an instant is a unit's horizon.

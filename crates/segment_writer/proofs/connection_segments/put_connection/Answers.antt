@@ -1,26 +1,29 @@
-use Rattle.std.proofs.Common.{◌∙◌, map, sym, ap, subst}
+use Rattle.std.proofs.Common.{◌∙◌, OnOk, sym, ap, subst}
 use Rattle.reassembly.specs.LineView.{bytes_of_parts, line_of}
 use Rattle.reassembly.specs.RecordedLines.{Line}
 use Rattle.reassembly.specs.RecordedView.{recorded_view}
 use Rattle.toxic_defs.specs.DeliveredLines.{DeliveredConnection, delivered_view}
+use Rattle.segment_writer.specs.OpenRows.{IsLonger}
 use Rattle.segment_writer.specs.WrittenConnections.{written_connection}
 use Rattle.segment_writer.specs.WrittenSegments.{WrittenConnection}
 use Rattle.segment_writer.specs.TimelyLines.{IsTimely}
-use Rattle.segment_writer.specs.SegmentOutlines.{framed_in}
 use Rattle.segment_writer.specs.declared.senders.Sender.{Sender}
 use Rattle.segment_writer.proofs.WholeSegments.{lines_are_timely, connection_is, line_is}
-use Rattle.segment_writer.proofs.connection_segments.outlined.Goals as goal
+use Rattle.segment_writer.proofs.connection_segments.put_connection.Goals as goal
 
-pub outlined_segments-requires-clause-client : goal.outlined_segments-requires-clause-client
-outlined_segments-requires-clause-client c = ap (λ (s : Sender). s.is_server) (c.client_in-client.ensures.sender (delivered_view c.args.delivered))
+pub put_in_order-requires-clause-client : goal.put_in_order-requires-clause-client
+put_in_order-requires-clause-client c = ap (λ (s : Sender). s.is_server) (c.client_in-client.ensures.sender (delivered_view c.args.delivered))
 
-pub outlined_segments-requires-clause-up : goal.outlined_segments-requires-clause-up
-outlined_segments-requires-clause-up c =
+pub put_in_order-requires-clause-turn : goal.put_in_order-requires-clause-turn
+put_in_order-requires-clause-turn c = ap (λ (s : Sender). s.turn) (c.client_in-client.ensures.sender (delivered_view c.args.delivered))
+
+pub put_in_order-requires-clause-up : goal.put_in_order-requires-clause-up
+put_in_order-requires-clause-up c =
     let up : Line = c.args.delivered.up.line in
     subst IsTimely (sym (line_is c.deref.result.now c.end-up_end.result up (ap bytes_of_parts c.deref.ensures.value ∙ c.into_parts-ups.ensures) c.end-up_end.ensures)) (lines_are_timely up c.requires.up)
 
-pub outlined_segments-requires-clause-down : goal.outlined_segments-requires-clause-down
-outlined_segments-requires-clause-down c =
+pub put_in_order-requires-clause-down : goal.put_in_order-requires-clause-down
+put_in_order-requires-clause-down c =
     let down : Line = c.args.delivered.down.line in
     subst IsTimely (sym (line_is c.deref-2.result.now c.end-down_end.result down (ap bytes_of_parts c.deref-2.ensures.value ∙ c.into_parts-downs.ensures) c.end-down_end.ensures)) (lines_are_timely down c.requires.down)
 
@@ -31,10 +34,5 @@ returns c =
     let client : Sender = c.client_in-client.result in
     let up = line_is c.deref.result.now c.end-up_end.result d.up (ap bytes_of_parts c.deref.ensures.value ∙ c.into_parts-ups.ensures) c.end-up_end.ensures in
     let down = line_is c.deref-2.result.now c.end-down_end.result d.down (ap bytes_of_parts c.deref-2.ensures.value ∙ c.into_parts-downs.ensures) c.end-down_end.ensures in
-    c.of.ensures
-    ∙ (λ i. map (framed_in client (sym c.deref.ensures.value i) (sym c.deref-2.ensures.value i)) c.in_ok-segments.segments.items)
-    ∙ c.in_ok-segments.ensures.framed
-    ∙ connection_is client client.unit c.args.recorded.now.up.ticks w (line_of c.deref.result.now c.end-up_end.result) (line_of c.deref-2.result.now c.end-down_end.result) (c.client_in-client.ensures.sender d) c.client_in-client.ensures.ticks up down
-
-pub outlined_segments-requires-clause-turn : goal.outlined_segments-requires-clause-turn
-outlined_segments-requires-clause-turn c = ap (λ (s : Sender). s.turn) (c.client_in-client.ensures.sender (delivered_view c.args.delivered))
+    let is = connection_is client client.unit c.args.recorded.now.up.ticks w (line_of c.deref.result.now c.end-up_end.result) (line_of c.deref-2.result.now c.end-down_end.result) (c.client_in-client.ensures.sender d) c.client_in-client.ensures.ticks up down in
+    subst (λ xs. OnOk c.put_in_order.result (IsLonger c.args.row.now xs c.put_in_order.new.row)) is c.put_in_order.ensures

@@ -1,5 +1,7 @@
 mod FileBlocks
 mod FileHeaders
+mod HeadReading
+mod HeadLists
 mod Passes
 pub mod Running
 mod Splitting

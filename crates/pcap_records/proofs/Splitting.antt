@@ -19,13 +19,13 @@ number_in-take : (o : Order) (n m : ℕ) (bytes : List ℕ) → n ≤ m → numb
 number_in-take Big n m bytes fits = big_from-take 0 n m bytes (omega arith)
 number_in-take Little n m bytes fits = little_from-take 0 n m bytes (omega arith)
 
-number_in-append : (o : Order) (n : ℕ) (xs ys : List ℕ) → n ≤ length xs → number_in o n (xs ++ ys) ≡ number_in o n xs
+pub number_in-append : (o : Order) (n : ℕ) (xs ys : List ℕ) → n ≤ length xs → number_in o n (xs ++ ys) ≡ number_in o n xs
 number_in-append Big n xs ys fits = big_from-append n xs ys fits
 number_in-append Little n xs ys fits = little_from-append n xs ys fits
 
 -- ---- what the next record says
 
-abbrev NextSays : Heading → List ℕ → NextRecord → Type 0
+abbrev pub NextSays : Heading → List ℕ → NextRecord → Type 0
 NextSays h bytes torn = IsRest h bytes
 NextSays h bytes too_long = AnnouncesTooMuch h bytes
 NextSays h bytes whole = (16 ≤ length bytes) × (packet_len h bytes ≤ packet_limit) × (packet_len h bytes ≤ length bytes - 16)
@@ -37,11 +37,11 @@ by_tests false true c h bytes short long cut = (ltb-false _ _ short, ltb-true _ 
 by_tests false false true h bytes short long cut = inr (ltb-false _ _ long, omega (arith, ltb-true _ _ cut, ltb-false _ _ short))
 by_tests false false false h bytes short long cut = (ltb-false _ _ short, ltb-false _ _ long, ltb-false _ _ cut)
 
-next_says : (h : Heading) (bytes : List ℕ) → NextSays h bytes (next_record h bytes)
+pub next_says : (h : Heading) (bytes : List ℕ) → NextSays h bytes (next_record h bytes)
 unfolding next_record
 next_says h bytes = by_tests (nat_lt (length bytes) 16) (nat_lt packet_limit (packet_len h bytes)) (nat_lt (length bytes - 16) (packet_len h bytes)) h bytes refl refl refl
 
-says_next : (h : Heading) (bytes : List ℕ) (f : NextRecord) → NextSays h bytes f → next_record h bytes ≡ f
+pub says_next : (h : Heading) (bytes : List ℕ) (f : NextRecord) → NextSays h bytes f → next_record h bytes ≡ f
 unfolding next_record
 says_next h bytes torn (inl short) = grind (arith, nat_tests)
 says_next h bytes torn (inr cut) = grind (arith, nat_tests)

@@ -4,5 +4,7 @@ pub mod Grammar
 pub mod Blocks
 pub mod CaptureView
 pub mod Listed
+pub mod Heads
+pub mod HeadLists
 pub mod Writing
 pub use Rattle.byteorder.specs.Endian

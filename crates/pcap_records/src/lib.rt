@@ -1,4 +1,5 @@
-//! Classic pcap files (format 2.4): an exact reading that borrows the file's bytes, instants, and writing.
+//! Classic pcap files (format 2.4): an exact reading that borrows the file's bytes, a reader of heads of packets that takes a file
+//! part by part, instants, and writing.
 //!
 //! `specs/Reading.antt` says what a file holds, `specs/Grammar.antt` says the same as a grammar, and `laws`
 //! has the theorems that join the two.
@@ -8,7 +9,10 @@ mod blocks;
 mod capture;
 mod fault;
 mod file_bytes;
+mod head_list;
 mod heading;
+mod heads;
+mod kept_heads;
 pub mod laws;
 mod moment;
 mod reader;
@@ -19,7 +23,10 @@ pub use blocks::{BLOCK_LEN, Blocks, SLICE_LIMIT};
 pub use capture::{Capture, Record};
 pub use fault::CaptureFault;
 pub use file_bytes::FileBytes;
+pub use head_list::HEAD_LIMIT;
 pub use heading::{CAPTURE_LIMIT, FILE_HEADER_LEN, Order};
+pub use heads::HeadReader;
+pub use kept_heads::{HeadRecords, KeptHeads};
 pub use lists::Values;
 pub use moment::Moment;
 pub use reader::{PACKET_LIMIT, RECORD_HEADER_LEN, read_capture, read_file};

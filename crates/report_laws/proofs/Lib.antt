@@ -3,3 +3,6 @@ mod ZeroedConnections
 mod ZeroedLines
 mod ZeroedToxics
 mod ZeroedReports
+mod AlikeLists
+mod FrameHeads
+mod SeenHeads

@@ -1,13 +1,11 @@
 -- Reports of a capture whose payloads are zeroed: those of the capture.
-use Rattle.std.proofs.Common.{◌≡◌, ℕ, ◌+◌, ◌-◌, Bool, true, false, cond, nat_lt, ◌==◌, if◌then◌else◌, List, [], ◌∷◌, ◌++◌, length, map, codes, decimal, Option, Result, Ok, Err, refl, sym, ap, ap₂, ◌∙◌}
-use Rattle.std.specs.List.{enumerate_from, flat_map}
+use Rattle.std.proofs.Common.{◌≡◌, ℕ, ◌+◌, ◌-◌, cond, ◌==◌, List, ◌++◌, length, map, codes, decimal, Bool, Option, refl, sym, ap, ap₂, ◌∙◌}
+use Rattle.std.specs.List.{flat_map}
 use Rattle.std.proofs.lemmas.List.{length-map}
 use Rattle.pcap_records.specs.Instants.{greatest}
-use Rattle.pcap_records.specs.Reading.{Reading, reading}
-use Rattle.pcap_records.specs.declared.fault.CaptureFault.{CaptureFault}
 use Rattle.frame_headers.specs.Frame.{FrameClass, short, not_ipv4, bad_ipv4, fragment, not_tcp, cut, bad_tcp, same_ends, segment}
 use Rattle.frame_headers.specs.declared.peers.Peer.{Peer}
-use Rattle.conn_table.specs.SeenCapture.{SeenPacket, SeenCapture, seen_capture}
+use Rattle.conn_table.specs.SeenCapture.{SeenPacket, SeenCapture}
 use Rattle.conn_table.specs.ClassCounts.{count_of, class_number, counts_of}
 use Rattle.conn_table.specs.IndexedSegments.{IndexedSegment, indexed_segments}
 use Rattle.conn_table.specs.Connections.{Connection, connections, unopened_count}
@@ -18,12 +16,7 @@ use Rattle.report.specs.ReportText.{peers_text, counts_text, counts_text_of, con
 use Rattle.scenarios.specs.declared.proxies.Proxy.{Proxy}
 use Rattle.conn_workers.specs.MetProxies.{met_proxy}
 use Rattle.conn_workers.specs.Contributions.{contribution, contribution_of}
-use Rattle.run_files.specs.declared.error.RunFault.{RunFault}
-use Rattle.run_files.specs.declared.error.RunFault.TheVariants.{TooManyScenarios}
-use Rattle.run_files.specs.WrittenOutputs.{reports_of}
-use Rattle.toxicap.specs.PrintedReports.{reports_in}
-use Rattle.toxicap.specs.Rehearsal.{contributions, scenario_output, outputs_of, seen_file, answer_to, answer, scenario_limit}
-use Rattle.report_laws.specs.ZeroedPayloads.{zeroed_packet, zeroed_seen, ReportsSeeLengths}
+use Rattle.report_laws.specs.ZeroedPayloads.{zeroed_packet, zeroed_seen, report_of, ReportSeesLengths}
 use Rattle.report_laws.proofs.MappedLists.{map_same, map_map, fold_mapped, zip_mapped}
 use Rattle.report_laws.proofs.ZeroedConnections.{zeroed_connection, indexed_zeroed, connections_zeroed, unopened_same}
 use Rattle.report_laws.proofs.ZeroedLines.{zeroed_byte, zeroed_line, zeroed_side, zeroed_recorded, connection_recorded}
@@ -81,7 +74,8 @@ module _ (c : SeenCapture) (seed : ℕ) where
   segs : List IndexedSegment
   segs = indexed_segments 0 c.packets
 
-  lines_zeroed : (s : ℕ × List Proxy) → map (λ p. p.line) (contributions (zeroed_seen c) seed s) ≡ map (λ p. p.line) (contributions c seed s)
+  lines_zeroed : (s : ℕ × List Proxy) → map (λ p. p.line) (map (contribution_of c.ticks seed s) (connections (indexed_segments 0 (map zeroed_packet c.packets))))
+      ≡ map (λ p. p.line) (map (contribution_of c.ticks seed s) (connections (indexed_segments 0 c.packets)))
   unfolding segs
   lines_zeroed s =
       let contributed = contribution_of c.ticks seed s in
@@ -100,39 +94,10 @@ module _ (c : SeenCapture) (seed : ℕ) where
   unfolding segs
   unopened_zeroed = ap unopened_count (indexed_zeroed 0 c.packets) ∙ unopened_same segs
 
-  report_zeroed : (s : ℕ × List Proxy) → (scenario_output (zeroed_seen c) seed s).report ≡ (scenario_output c seed s).report
-  unfolding scenario_output report_text segs
+  report_zeroed : (s : ℕ × List Proxy) → report_of (zeroed_seen c) seed s ≡ report_of c seed s
+  unfolding report_text segs
   report_zeroed s = λ i.
       counts_text_zeroed s.0 i ++ (connections_text (length (lines_zeroed s i)) (unopened_zeroed i) ++ flat_map (λ line. line) (lines_zeroed s i))
 
-  each_zeroed : (scenarios : List (ℕ × List Proxy))
-      → flat_map (λ o. o.report) (map (scenario_output (zeroed_seen c) seed) scenarios) ≡ flat_map (λ o. o.report) (map (scenario_output c seed) scenarios)
-  each_zeroed [] = refl
-  each_zeroed (s ∷ scenarios) = ap₂ (λ (report more : List ℕ). report ++ more) (report_zeroed s) (each_zeroed scenarios)
-
-  reports_zeroed : (scenarios : List (List Proxy)) → reports_of (outputs_of (zeroed_seen c) scenarios seed) ≡ reports_of (outputs_of c scenarios seed)
-  unfolding outputs_of
-  reports_zeroed scenarios = each_zeroed (enumerate_from 0 scenarios)
-
--- ---- answers
-
-module _ (scenarios : List (List Proxy)) (seed : ℕ) where
-  reports_by : Bool → Result SeenCapture CaptureFault → Result (List ℕ) RunFault
-  reports_by too_many seen = reports_in (if too_many then Err TooManyScenarios else answer_to seen scenarios seed)
-
-  as_zeroed : (too_many : Bool) (c : SeenCapture) → reports_by too_many (Ok c) ≡ reports_by too_many (Ok (zeroed_seen c))
-  unfolding reports_by
-  as_zeroed true c = refl
-  as_zeroed false c = ap Ok (sym (reports_zeroed c seed scenarios))
-
-  pub answers_same : (one other : List ℕ) (a b : Reading) → reading one ≡ Ok a → reading other ≡ Ok b → zeroed_seen (seen_capture a.contents) ≡ zeroed_seen (seen_capture b.contents)
-      → reports_in (answer one scenarios seed) ≡ reports_in (answer other scenarios seed)
-  unfolding answer reports_by
-  answers_same one other a b is_one is_other alike =
-      let too_many = nat_lt scenario_limit (length scenarios) in
-      ap (λ r. reports_by too_many (seen_file r)) is_one ∙ as_zeroed too_many (seen_capture a.contents)
-      ∙ ap (λ c. reports_by too_many (Ok c)) alike
-      ∙ sym (as_zeroed too_many (seen_capture b.contents)) ∙ sym (ap (λ r. reports_by too_many (seen_file r)) is_other)
-
-pub reports_see_lengths : ReportsSeeLengths
-reports_see_lengths one other a b is_one is_other alike scenarios seed = answers_same scenarios seed one other a b is_one is_other alike
+pub report_sees_lengths : ReportSeesLengths
+report_sees_lengths one other alike seed s = sym (report_zeroed one seed s) ∙ ap (λ c. report_of c seed s) alike ∙ report_zeroed other seed s

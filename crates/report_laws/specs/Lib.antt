@@ -1,1 +1,2 @@
 pub mod ZeroedPayloads
+pub mod SeenHeads

@@ -1,11 +1,12 @@
--- Captures without what their segments carry, and what reports see of captures.
-use Rattle.std.specs.Prelude.{◌≡◌, ℕ, List, map, Ok}
-use Rattle.pcap_records.specs.Reading.{Reading, reading}
+-- Captures without what their segments carry, and what a report sees of captures.
+use Rattle.std.specs.Prelude.{◌≡◌, ℕ, List, map}
 use Rattle.frame_headers.specs.Frame.{SegmentFields, SeenFrame}
-use Rattle.conn_table.specs.SeenCapture.{SeenPacket, SeenCapture, seen_capture}
+use Rattle.conn_table.specs.SeenCapture.{SeenPacket, SeenCapture}
+use Rattle.conn_table.specs.IndexedSegments.{indexed_segments}
+use Rattle.conn_table.specs.Connections.{connections, unopened_count}
+use Rattle.report.specs.ReportText.{report_text}
 use Rattle.scenarios.specs.declared.proxies.Proxy.{Proxy}
-use Rattle.toxicap.specs.PrintedReports.{reports_in}
-use Rattle.toxicap.specs.Rehearsal.{answer}
+use Rattle.conn_workers.specs.Contributions.{contribution_of}
 
 -- as many bytes, of which each is 0
 abbrev pub zeroed : List ℕ → List ℕ
@@ -28,8 +29,13 @@ zeroed_seen c = record c { packets = map zeroed_packet c.packets }
 abbrev pub DifferInPayloads : SeenCapture → SeenCapture → Type 0
 DifferInPayloads one other = zeroed_seen one ≡ zeroed_seen other
 
--- the reports of two such captures, one after another, are the same
-abbrev pub ReportsSeeLengths : Type 0
-ReportsSeeLengths =
-    (one other : List ℕ) (a b : Reading) → reading one ≡ Ok a → reading other ≡ Ok b → DifferInPayloads (seen_capture a.contents) (seen_capture b.contents)
-    → (scenarios : List (List Proxy)) (seed : ℕ) → reports_in (answer one scenarios seed) ≡ reports_in (answer other scenarios seed)
+-- the report of a scenario with its number, by its definition; a scenario is seen as its proxies in order
+abbrev pub report_of : SeenCapture → ℕ → ℕ × List Proxy → List ℕ
+report_of c seed scenario =
+    report_text scenario.0 c (unopened_count (indexed_segments 0 c.packets))
+    (map (λ p. p.line) (map (contribution_of c.ticks seed scenario) (connections (indexed_segments 0 c.packets))))
+
+-- two such captures have the same report of a scenario
+abbrev pub ReportSeesLengths : Type 0
+ReportSeesLengths =
+    (one other : SeenCapture) → DifferInPayloads one other → (seed : ℕ) (scenario : ℕ × List Proxy) → report_of one seed scenario ≡ report_of other seed scenario

@@ -1,0 +1,58 @@
+-- Lists that are as long and begin with the same numbers.
+use Rattle.std.proofs.Common.{◌≡◌, ◌≤◌, ◌<◌, ℕ, zero, suc, ◌+◌, ◌-◌, min, List, [], ◌∷◌, length, take, drop, slice_index, slice_range, refl, sym, ap, ap₂, ◌∙◌, arith}
+use Rattle.std.proofs.lemmas.List.{length-take, length-drop, take-take, drop-take, get_or-take}
+use Rattle.byteorder.specs.Endian.{big_number}
+use Rattle.byteorder.specs.Numbers.{big_from-take}
+use Rattle.frame_headers.specs.Frame.{number_at}
+use Rattle.report_laws.specs.ZeroedPayloads.{zeroed}
+use Rattle.report_laws.specs.SeenHeads.{Alike}
+
+take_swap : (m n : ℕ) (xs : List ℕ) → take m (take n xs) ≡ take n (take m xs)
+take_swap zero zero xs = refl
+take_swap zero (suc n) xs = refl
+take_swap (suc m) zero xs = refl
+take_swap (suc m) (suc n) [] = refl
+take_swap (suc m) (suc n) (x ∷ xs) = ap (λ ys. x ∷ ys) (take_swap m n xs)
+
+pub range_long : (xs : List ℕ) (from to : ℕ) → length (slice_range xs from to) ≡ min (to - from) (length xs - from)
+range_long xs from to = length-take (to - from) (drop from xs) ∙ ap (λ n. min (to - from) n) (length-drop from xs)
+
+pub zeroed_same : (xs ys : List ℕ) → length xs ≡ length ys → zeroed xs ≡ zeroed ys
+zeroed_same [] [] same = refl
+zeroed_same [] (y ∷ ys) same = absurd (omega (arith, same))
+zeroed_same (x ∷ xs) [] same = absurd (omega (arith, same))
+zeroed_same (x ∷ xs) (y ∷ ys) same = ap (λ zs. 0 ∷ zs) (zeroed_same xs ys (omega (arith, same)))
+
+module _ (a b : List ℕ) where
+  pub fewer : (m n : ℕ) → m ≤ n → Alike n a b → Alike m a b
+  fewer m n within x = record { first = sym (take-take m n a within) ∙ ap (take m) x.first ∙ take-take m n b within; long = x.long }
+
+  pub dropped : (k m : ℕ) → Alike (k + m) a b → Alike m (drop k a) (drop k b)
+  dropped k m x = record {
+    first = sym (drop-take k m a) ∙ ap (drop k) x.first ∙ drop-take k m b;
+    long = length-drop k a ∙ ap (λ n. n - k) x.long ∙ sym (length-drop k b);
+  }
+
+  pub taken : (k n : ℕ) → Alike n a b → Alike n (take k a) (take k b)
+  taken k n x = record {
+    first = take_swap n k a ∙ ap (take k) x.first ∙ take_swap k n b;
+    long = length-take k a ∙ ap (λ n. min k n) x.long ∙ sym (length-take k b);
+  }
+
+  pub same_index : (i n : ℕ) → i < n → Alike n a b → slice_index a i ≡ slice_index b i
+  same_index i n within x = sym (get_or-take n a i 0 within) ∙ ap (λ xs. slice_index xs i) x.first ∙ get_or-take n b i 0 within
+
+  pub same_number : (m place n : ℕ) → place + m ≤ n → Alike n a b → number_at m place a ≡ number_at m place b
+  same_number m place n within x =
+      let d = dropped place m (fewer (place + m) n within x) in
+      sym (big_from-take 0 m m (drop place a) (omega arith)) ∙ ap (big_number m) d.first ∙ big_from-take 0 m m (drop place b) (omega arith)
+
+-- a range of both, whose bounds may be written in two ways
+pub same_range : (a b : List ℕ) (from to from' to' m n : ℕ) → from ≡ from' → to ≡ to' → from + m ≤ n → Alike n a b → Alike m (slice_range a from to) (slice_range b from' to')
+same_range a b from to from' to' m n begins ends within x =
+    let r : Alike m (slice_range a from to) (slice_range b from to) =
+    taken (drop from a) (drop from b) (to - from) m (dropped a b from m (fewer a b (from + m) n within x)) in
+    record {
+      first = r.first ∙ ap₂ (λ f t. take m (slice_range b f t)) begins ends;
+      long = r.long ∙ ap₂ (λ f t. length (slice_range b f t)) begins ends;
+    }

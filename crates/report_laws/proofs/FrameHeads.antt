@@ -1,0 +1,103 @@
+-- Frames that are as long and begin with the same bytes: the same is seen of them, but for the bytes of a payload.
+use Rattle.std.proofs.Common.{◌≡◌, ◌≤◌, ℕ, ◌-◌, ◌*◌, ◌/◌, ◌%◌, min, Bool, true, false, ◌||◌, ◌&&◌, not, nat_lt, nat_le, ◌==◌, if◌then◌else◌, List, length, refl, sym, ap, ap₂, ◌∙◌, arith}
+use Rattle.frame_headers.specs.Layout.{ethernet_len, link_len, tag_type, vlan_limit, ipv4_type, ipv4_len, total_len_at, fragment_at, protocol_at, source_at, destination_at, tcp_protocol, tcp_len, to_port_at, seq_at, ack_at, data_offset_at, flags_at}
+use Rattle.frame_headers.specs.Frame.{link_type, is_tagged, vlan_numbered, vlan_in, datagram_in, header_len, total_len, ip_payload, data_offset, payload_of, short, not_ipv4, bad_ipv4, fragment, not_tcp, cut, bad_tcp, same_ends, segment, frame_class_in, frame_class, segment_fields_in, segment_fields, SeenFrame}
+use Rattle.report_laws.specs.ZeroedPayloads.{zeroed, zeroed_frame}
+use Rattle.report_laws.specs.SeenHeads.{Alike, FrameSeesHead}
+use Rattle.report_laws.proofs.AlikeLists.{range_long, zeroed_same, fewer, dropped, same_index, same_number, same_range}
+
+-- So many first bytes are looked at: of Ethernet's header 18 at most, of IPv4's 60 at most, and of TCP's 14.
+abbrev looked_at : ℕ
+looked_at = 92
+
+-- what is seen of a frame, where `tagged` says whether there is a tag
+abbrev seen_in : Bool → List ℕ → SeenFrame
+seen_in tagged frame = zeroed_frame (record { class = frame_class_in tagged frame; fields = segment_fields_in tagged frame })
+
+module _ (a b : List ℕ) (x : Alike looked_at a b) where
+  types_same : (tagged : Bool) → link_type tagged a ≡ link_type tagged b
+  types_same true = same_number a b 2 16 looked_at (omega arith) x
+  types_same false = same_number a b 2 12 looked_at (omega arith) x
+
+  tags_same : is_tagged a ≡ is_tagged b
+  tags_same = λ i. nat_le ethernet_len (x.long i) && types_same false i == tag_type
+
+  vlans_same : (tagged : Bool) → vlan_in tagged a ≡ vlan_in tagged b
+  vlans_same true = ap (λ n. vlan_numbered (n % vlan_limit)) (same_number a b 2 ethernet_len looked_at (omega arith) x)
+  vlans_same false = refl
+
+  datagrams_alike : (tagged : Bool) → Alike 74 (datagram_in tagged a) (datagram_in tagged b)
+  datagrams_alike true = dropped a b 18 74 x
+  datagrams_alike false = dropped a b 14 74 (fewer a b 88 looked_at (omega arith) x)
+
+module _ (a b : List ℕ) (x : Alike 74 a b) where
+  headers_same : header_len a ≡ header_len b
+  headers_same = ap (λ n. 4 * (n % 16)) (same_index a b 0 74 (omega arith) x)
+
+  totals_same : total_len a ≡ total_len b
+  totals_same = same_number a b 2 total_len_at 74 (omega arith) x
+
+  payloads_alike : Alike 14 (ip_payload a) (ip_payload b)
+  payloads_alike = same_range a b (header_len a) (total_len a) (header_len b) (total_len b) 14 74 headers_same totals_same (omega arith) x
+
+module _ (a b : List ℕ) (x : Alike 14 a b) where
+  offsets_same : data_offset a ≡ data_offset b
+  offsets_same = ap (λ n. 4 * (n / 16)) (same_index a b data_offset_at 14 (omega arith) x)
+
+  zeroed_payloads : zeroed (payload_of a) ≡ zeroed (payload_of b)
+  zeroed_payloads =
+      zeroed_same (payload_of a) (payload_of b)
+      (range_long a (data_offset a) (length a) ∙ ap₂ (λ n offset. min (n - offset) (n - offset)) x.long offsets_same
+      ∙ sym (range_long b (data_offset b) (length b)))
+
+seen_same : (tagged : Bool) (a b : List ℕ) → Alike looked_at a b → seen_in tagged a ≡ seen_in tagged b
+seen_same tagged a b x =
+    let d = datagrams_alike a b x tagged in
+    let ip = datagram_in tagged a in
+    let ip' = datagram_in tagged b in
+    let t = payloads_alike ip ip' d in
+    let tcp = ip_payload ip in
+    let tcp' = ip_payload ip' in
+    let type = types_same a b x tagged in
+    let first = same_index ip ip' 0 74 (omega arith) d in
+    let total = totals_same ip ip' d in
+    let bits = same_number ip ip' 2 fragment_at 74 (omega arith) d in
+    let protocol = same_index ip ip' protocol_at 74 (omega arith) d in
+    let source = same_number ip ip' 4 source_at 74 (omega arith) d in
+    let destination = same_number ip ip' 4 destination_at 74 (omega arith) d in
+    let offset = offsets_same tcp tcp' t in
+    let from = same_number tcp tcp' 2 0 14 (omega arith) t in
+    let to = same_number tcp tcp' 2 to_port_at 14 (omega arith) t in
+    λ i. record {
+      class =
+          if nat_lt (x.long i) (link_len tagged) then short
+          else if not (type i == ipv4_type) then not_ipv4
+          else if nat_lt (d.long i) ipv4_len || not (first i / 16 == 4) || nat_lt (4 * (first i % 16)) ipv4_len || nat_lt (total i) (4 * (first i % 16)) then bad_ipv4
+          else if not (bits i % 16384 == 0) then fragment
+          else if not (protocol i == tcp_protocol) then not_tcp
+          else if nat_lt (d.long i) (total i) then cut
+          else if nat_lt (t.long i) tcp_len || nat_lt (offset i) tcp_len || nat_lt (t.long i) (offset i) then bad_tcp
+          else if source i == destination i && from i == to i then same_ends
+          else segment;
+      fields = record {
+        mac_from = (dropped a b 6 6 (fewer a b 12 looked_at (omega arith) x)).first i;
+        mac_to = (fewer a b 6 looked_at (omega arith) x).first i;
+        vlan = vlans_same a b x tagged i;
+        from = record { addr = source i; port = from i };
+        to = record { addr = destination i; port = to i };
+        seq = same_number tcp tcp' 4 seq_at 14 (omega arith) t i;
+        ack = same_number tcp tcp' 4 ack_at 14 (omega arith) t i;
+        flags = same_index tcp tcp' flags_at 14 (omega arith) t i;
+        payload = zeroed_payloads tcp tcp' t i;
+      };
+    }
+
+frames_same : (a b : List ℕ) (n : ℕ) → Alike n a b → looked_at ≤ n
+    → zeroed_frame (record { class = frame_class a; fields = segment_fields a }) ≡ zeroed_frame (record { class = frame_class b; fields = segment_fields b })
+unfolding frame_class segment_fields
+frames_same a b n alike enough =
+    let x = fewer a b looked_at n enough alike in
+    ap (λ tagged. seen_in tagged a) (tags_same a b x) ∙ seen_same (is_tagged b) a b x
+
+pub frame_sees_head : FrameSeesHead
+frame_sees_head one other alike = frames_same one other _ alike (omega arith)

@@ -4,5 +4,8 @@ mod DraftNames
 mod LoadedFiles
 mod LoadedParts
 mod PrintedPart
+mod SeenParts
+mod SeenFiles
+mod SeenInputs
 pub mod StoredFiles
 pub mod DraftedFiles

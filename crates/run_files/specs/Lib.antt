@@ -5,6 +5,7 @@ pub mod LoadedBlocks
 pub mod DraftedOutputs
 pub mod Dumps
 pub mod Texts
+pub mod SeenTexts
 pub mod Shelves
 pub mod Folders
 pub mod WrittenOutputs

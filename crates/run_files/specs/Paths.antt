@@ -1,5 +1,5 @@
 -- Named files: the text that is loaded of a path.
-use Rattle.std.specs.Prelude.{ℕ, nat_lt, if◌then◌else◌, List, length, Option, Some, None, Result, Ok, Err}
+use Rattle.std.specs.Prelude.{◌≡◌, ◌≤◌, ℕ, nat_lt, if◌then◌else◌, List, length, take, Option, Some, None, Result, Ok, Err}
 use Rattle.disks.specs.ToldFiles.{Held, ToldFile}
 use Rattle.pcap_records.specs.Reading.{capture_limit}
 use Rattle.run_files.specs.declared.error.RunFault.{RunFault}
@@ -21,3 +21,7 @@ IsOfFile ReadFailed = Unit {0}
 IsOfFile CaptureTooLong = Unit {0}
 IsOfFile Memory = Unit {0}
 IsOfFile _ = ⊥
+
+-- some bytes are the first ones of a file, and it is read on after them
+abbrev pub HaveCome : ToldFile → List ℕ → ℕ → Type 0
+HaveCome file bytes place = (bytes ≡ take (length bytes) file.bytes) × (length bytes ≤ length file.bytes) × (place ≡ length bytes)

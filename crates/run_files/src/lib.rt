@@ -1,6 +1,6 @@
 //! The files of a run, where they come from and where they go: readers and writers that count their failed calls, loading a
-//! file of a disk, dumps in hexadecimal, why a run is refused and the line that tells it, and what a rehearsal answers, printed on a
-//! writer, stored on a shelf, or drafted in a folder of a disk.
+//! file of a disk, whole or by the heads of its packets, dumps in hexadecimal, why a run is refused and the line that tells it,
+//! and what a rehearsal answers, printed on a writer, stored on a shelf, or drafted in a folder of a disk.
 #![tactic(auto)]
 
 mod block_loading;
@@ -9,9 +9,11 @@ mod dumps;
 mod error;
 mod fault_lines;
 mod folders;
+mod head_loading;
 pub mod laws;
 mod loading;
 mod outputs;
+mod seen_parts;
 mod shelves;
 mod streams;
 mod texts;
@@ -21,8 +23,10 @@ pub use dumps::{capture_bytes, is_dump, undump};
 pub use error::{RunFault, ShelfError, StoreFault};
 pub use fault_lines::fault_line;
 pub use folders::{Folder, FolderShelf};
+pub use head_loading::{see_file, see_input};
 pub use loading::{load_by_workers, load_file};
 pub use outputs::{Output, Outputs, print_reports, store_all, store_from};
+pub use seen_parts::SeenText;
 pub use shelves::{MemoryFile, MemoryShelf, Shelf};
 pub use streams::{Counted, load, write_bytes};
 pub use texts::Text;

@@ -1,10 +1,10 @@
 //! Loading a file of a disk by its path: a large one by workers, block by block.
-ghost use Rattle.std.specs.Prelude.{◌≡◌, ◌≤◌, length, IfErr, IfOk, IfSome, Err, Some};
+ghost use Rattle.std.specs.Prelude.{◌≡◌, ◌≤◌, ◌<◌, length, take, IfErr, IfOk, IfSome, Err, Some};
 ghost use Rattle.disks.specs.ToldFiles.{IsFileAt};
 ghost use Rattle.disks.specs.Histories.{held_now};
 ghost use Rattle.lists.specs.Agreement.{AgreesUnlessMemory};
 ghost use Rattle.pcap_records.specs.Reading.{capture_limit};
-ghost use Rattle.run_files.specs.Paths.{IsOfFile, text_at, text_of};
+ghost use Rattle.run_files.specs.Paths.{HaveCome, IsOfFile, text_at, text_of};
 ghost use Rattle.run_files.specs.RunFault.{run_refusal};
 
 use crate::block_loading::text_in_blocks;
@@ -61,7 +61,7 @@ where
 //
 // # Errors
 // [`RunFault::ReadFailed`] where none can be opened there, and [`RunFault::Memory`].
-fn opened<D: ReadDisk>(alloc: Global, disk: &D, path: &str) -> Result<D::File, RunFault>
+pub(crate) fn opened<D: ReadDisk>(alloc: Global, disk: &D, path: &str) -> Result<D::File, RunFault>
     ensures told { IfSome (D.history disk.now) (λ h. IfOk result (λ file. IsFileAt (held_now h path.now) (D.File.told file))) }
     ensures place { IfOk result (λ file. D.File.place file ≡ 0) }
     ensures untold { IfSome (D.history disk.now) (λ h. IfErr result (λ fault.
@@ -87,8 +87,27 @@ fn load_whole<F: DiskFile>(alloc: Global, file: &mut F) -> Result<Vec<u8>, RunFa
     ensures of_file { IfErr result IsOfFile }
 {
     let mut room = room_to_read(alloc)?;
-    let buffer = room.as_mut_slice();
-    let mut bytes = Vec::new(alloc);
+    load_rest(file, Vec::new(alloc), room.as_mut_slice())
+}
+
+// Loads all bytes of a file after its first ones, which came already.
+//
+// # Errors
+// Those of [`load_whole`].
+pub(crate) fn load_rest<F: DiskFile>(
+    file: &mut F,
+    came: Vec<u8>,
+    buffer: &mut [u8],
+) -> Result<Vec<u8>, RunFault>
+    requires came { IfSome (F.told file.old) (λ f. HaveCome f came.items (F.place file.old)) }
+    requires short { length came.items ≤ capture_limit }
+    requires room { 0 < length buffer.old }
+    ensures told { IfSome (F.told file.old) (λ f. AgreesUnlessMemory run_refusal (λ bytes. bytes.items) result (text_of (Some f))) }
+    ensures first { IfOk result (λ bytes. take (length came.items) bytes.items ≡ came.items) }
+    ensures within { IfOk result (λ bytes. length bytes.items ≤ capture_limit) }
+    ensures of_file { IfErr result IsOfFile }
+{
+    let mut bytes = came;
     'reads: loop {
         let Ok(len) = file.read(buffer) else {
             return Err(RunFault::ReadFailed);

@@ -1,5 +1,5 @@
 //! Readers and writers that count their failed calls, and reading and writing whole.
-ghost use Rattle.std.specs.Prelude.{◌≡◌, ◌+◌, ◌-◌, ◌^◌, ◌<◌, length, IfOk, is_ok, if◌then◌else◌, ℕ, ◌≤◌, List, OnOk, IfErr, IfSome, take, OnErr};
+ghost use Rattle.std.specs.Prelude.{◌≡◌, ◌+◌, ◌-◌, ◌^◌, ◌<◌, length, IfOk, is_ok, if◌then◌else◌, ℕ, ◌≤◌, List, OnOk, IfErr, IfSome, take, drop, OnErr};
 ghost use Rattle.std.specs.Io.{ReadsAtMost, WritesAtMost};
 ghost use Rattle.std.specs.Io.KnownBytes.{ReadConsumes, WriteAppends, Consumes, IsAtEnd, Appends};
 ghost use Rattle.pcap_records.specs.Reading.{capture_limit};
@@ -101,7 +101,7 @@ pub(crate) fn count_failure<T, E>(outcome: &Result<T, E>, failed: &mut u64)
 }
 
 // How many bytes are asked for at once.
-const READ_LEN: usize = 1 << 18;
+pub(crate) const READ_LEN: usize = 1 << 18;
 
 /// Reads all that the reader has, up to 2^30 bytes, by at most 2^30 + 1 reads.
 ///
@@ -125,8 +125,32 @@ pub fn load<R: Read>(alloc: Global, reader: &mut Counted<R>) -> Result<Vec<u8>, 
         × StopsLoading fault (length given) reader.old.failed reader.new.failed) }
 {
     let mut room = room_to_read(alloc)?;
-    let buffer = room.as_mut_slice();
-    let mut bytes = Vec::new(alloc);
+    load_rest(reader, Vec::new(alloc), room.as_mut_slice())
+}
+
+// Reads all that the reader has after some bytes that came already.
+//
+// # Errors
+// Those of [`load`], where the bytes that came already are counted too.
+pub(crate) fn load_rest<R: Read>(
+    reader: &mut Counted<R>,
+    came: Vec<u8>,
+    buffer: &mut [u8],
+) -> Result<Vec<u8>, RunFault>
+    requires counts { reader.old.failed < 2 ^ 64 - 1 }
+    requires short { length came.items ≤ capture_limit }
+    requires room { 0 < length buffer.old }
+    ensures first { IfOk result (λ bytes. take (length came.items) bytes.items ≡ came.items) }
+    ensures lost { IfOk result (λ bytes. Consumes (R.remaining reader.old.inner) (R.remaining reader.new.inner)
+        (drop (length came.items) bytes.items)) }
+    ensures at_end { OnOk result (IsAtEnd (R.remaining reader.new.inner)) }
+    ensures within { IfOk result (λ bytes. length bytes.items ≤ capture_limit) }
+    ensures none_failed { OnOk result (reader.new.failed ≡ reader.old.failed) }
+    ensures refused { IfErr result (λ fault. (given : List ℕ)
+        × Consumes (R.remaining reader.old.inner) (R.remaining reader.new.inner) given
+        × StopsLoading fault (length came.items + length given) reader.old.failed reader.new.failed) }
+{
+    let mut bytes = came;
     'reads: loop {
         let Ok(len) = reader.read_some(buffer) else {
             return Err(RunFault::ReadFailed);

@@ -16,3 +16,5 @@ mod RowSteps
 mod GatheredRows
 mod OutputSteps
 mod ReadyDrafts
+mod PrintedSteps
+mod SeenReports

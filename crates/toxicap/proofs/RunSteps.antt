@@ -43,7 +43,7 @@ ends_refused None fault wanted Wrote own is = is
 ends_refused (Some folder) (ShelfFailed after) wanted Wrote own is = absurd own
 ends_refused (Some folder) fault wanted Wrote own is = is
 
-none_written : (fault : RunFault) → IsOfInput fault → failed_writes (let r : Result (Unit {0}) RunFault = Err fault in r) ≡ 0
+pub none_written : (fault : RunFault) → IsOfInput fault → failed_writes (let r : Result (Unit {0}) RunFault = Err fault in r) ≡ 0
 none_written WriteFailed own = absurd own
 none_written fault own = refl
 

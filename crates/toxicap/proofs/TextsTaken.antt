@@ -1,5 +1,5 @@
 -- What texts call for, by what is read of them: a refusal, or a rehearsal.
-use Rattle.std.proofs.Common.{◌≡◌, ℕ, ◌≤◌, List, [], length, Option, Some, None, Result, Ok, Err, refl, ap}
+use Rattle.std.proofs.Common.{◌≡◌, ℕ, ◌≤◌, false, List, [], length, Option, Some, None, Result, Ok, Err, refl, ap}
 use Rattle.std.specs.Prelude.{IfSome}
 use Rattle.std.proofs.lemmas.Bool.{le-ltb}
 use Rattle.std.proofs.lemmas.Option.{IfSome_then}
@@ -10,6 +10,7 @@ use Rattle.scenarios.specs.declared.proxies.Proxy.{Proxy}
 use Rattle.run_files.specs.declared.error.RunFault.{RunFault}
 use Rattle.run_files.specs.declared.error.RunFault.TheVariants.{Memory}
 use Rattle.run_files.specs.declared.outputs.Output.{Output}
+use Rattle.run_files.specs.Dumps.{is_dump}
 use Rattle.run_files.specs.RunFault.{run_refusal}
 use Rattle.toxicap.specs.Answering.{called_for, capture_bytes_of, scenarios_from}
 use Rattle.toxicap.specs.PrintedReports.{reports_in}
@@ -53,6 +54,10 @@ module _ (hosts : List KnownHost) (texts : List (List ℕ)) (seed : ℕ) where
       → AgreesUnlessMemory run_refusal (λ (outputs : List Output). outputs) (Err fault) (called_for hosts texts seed text)
   refused_scenarios Memory text bytes within is refused = tt
   refused_scenarios fault text bytes within is refused = called_scenarios fault text bytes within is refused
+
+-- a text that is no dump stands for its own bytes
+pub not_dumped : (text : List ℕ) → is_dump text ≡ false → capture_bytes_of text ≡ Ok text
+not_dumped text is = rw is refl
 
 -- ---- the reports of it
 

@@ -13,3 +13,4 @@ pub mod Commands
 pub mod NamedFiles
 pub mod WrittenRows
 pub mod GroupingRows
+pub mod SeenLengths

@@ -17,7 +17,6 @@ use Rattle.disks.specs.Histories.{History, held_now, LeavesWhole}
 use Rattle.run_files.specs.Folders.{in_folder, TakesIn}
 use Rattle.run_files.specs.Paths.{IsOfFile, text_at}
 use Rattle.run_files.specs.RunFault.{run_refusal}
-use Rattle.run_files.specs.Streams.{StopsLoading}
 use Rattle.toxicap.specs.Answering.{called_for}
 use Rattle.toxicap.specs.Commands.{FaultStream, ProgramEnds, Streams}
 use Rattle.toxicap.specs.Inputs.{hosts_asked, texts_or_bare}
@@ -86,12 +85,6 @@ abbrev pub ProgramEndsOver : Option History → Option History → Result Asked 
 ProgramEndsOver old new line status s t = ProgramEnds line status s t × IfSome old (λ h. EndsOver h line status s t new)
 
 -- ---- how a capture is loaded
-
--- of standard input, given what it is to have lost some bytes: to its end, or as far as loading came
-abbrev pub LoadsInput : {A : Type 0} → (A → List ℕ) → Result A RunFault → (List ℕ → Type 0) → Type 0 → ℕ → ℕ → Type 0
-LoadsInput view (Ok text) Lost AtEnd old_failed new_failed = Lost (view text) × AtEnd × (new_failed ≡ old_failed)
-LoadsInput view (Err fault) Lost AtEnd old_failed new_failed =
-    (given : List ℕ) × Lost given × StopsLoading fault (length given) old_failed new_failed
 
 -- of a file, and standard input is not read
 abbrev pub LoadsFile : {A : Type 0} → (A → List ℕ) → Result A RunFault → Option History → List ℕ → Type 0 → Type 0

@@ -19,3 +19,8 @@ PrintsOf (Err WriteFailed) wanted Wrote =
     × (written < length (reports_of outputs)) × Wrote (take written (reports_of outputs))
 PrintsOf (Err Memory) wanted Wrote = Unit {0}
 PrintsOf (Err fault) wanted Wrote = wanted ≡ Err fault
+
+-- the same where a text was loaded, given what each text calls for; or none was, and for that cause nothing is printed
+abbrev pub PrintsLoaded : Result (Unit {0}) RunFault → Result (List ℕ) RunFault → (List ℕ → Result (List Output) RunFault) → (List ℕ → Type 0) → Type 0
+PrintsLoaded result (Ok text) called Wrote = PrintsOf result (called text) Wrote
+PrintsLoaded result (Err fault) called Wrote = result ≡ Err fault

@@ -3,11 +3,13 @@
 ghost use Rattle.toxicap.specs.SoundOutputs.{OutputsAreRead};
 ghost use Rattle.toxicap.specs.NamedFiles.{FilesAreLoadedInOrder};
 ghost use Rattle.toxicap.specs.Rehearsal.{ByteOrderDoesNotMatter};
+ghost use Rattle.toxicap.specs.SeenLengths.{ReportsSeeLengths};
 ghost use Rattle.toxicap.specs.StoredOutputs.{KilledRunsAreMended};
 
 use disks::laws::named_again;
 use frame_headers::laws::{headers_are_sound, segments_fit};
 use pcap_records::laws::{readings_split, written_is_read};
+use report_laws::laws::report_sees_lengths;
 pub use run_files::laws::{draft_paths_differ, dumps_read_back};
 use segment_writer::laws::sorted_never_falls;
 
@@ -41,4 +43,12 @@ pub fn killed_runs_are_mended()
     ensures { KilledRunsAreMended }
 {
     named_again();
+}
+
+/// Two captures that differ in bytes of the payloads of TCP segments alone, with the same lengths, headers and stamps, have the same reports,
+/// whatever the scenarios and the seed, or the same refusal. So who puts as many other bytes in place of a secret changes no report.
+pub fn reports_see_lengths()
+    ensures { ReportsSeeLengths }
+{
+    report_sees_lengths();
 }

@@ -8,9 +8,8 @@ ghost use Rattle.toxicap.specs.Rehearsal.{answer};
 
 use crate::answering::answers_by;
 use crate::crews::Alone;
-use crate::reading::read_inputs;
 use crate::rehearsal::rehearse_by;
-use crate::reports::rehearse_reports;
+use crate::reports::{rehearse_reports, text_reports};
 use pcap_records::FileBytes;
 use report::ReportText;
 use run_files::{Outputs, RunFault, Text};
@@ -79,12 +78,5 @@ pub fn report_answers_alone(
 ) -> Result<ReportText, RunFault>
     ensures { AgreesUnlessMemory run_refusal (λ reports. reports) result (reports_in (called_for hosts.now (map (λ t. t.now) texts.now) seed text.now)) }
 {
-    let inputs = read_inputs(alloc, Text::lent(text), texts, hosts)?;
-    rehearse_reports(
-        &Alone,
-        alloc,
-        inputs.capture.bytes(),
-        &inputs.scenarios,
-        seed,
-    )
+    text_reports(&Alone, alloc, Text::lent(text), texts, hosts, seed)
 }

@@ -14,8 +14,8 @@ use run_files::{RunFault, Text};
 use scenarios::{Hosts, Scenario, ScenarioFault, read_scenario};
 use std::alloc::{AllocError, Global};
 
-// The most scenarios of a rehearsal.
-const SCENARIO_LIMIT: usize = 256;
+/// The most scenarios of a rehearsal.
+pub(crate) const SCENARIO_LIMIT: usize = 256;
 
 /// What some texts hold: the bytes of a capture, and scenarios.
 #[derive(Drop)]
@@ -52,12 +52,12 @@ pub(crate) fn read_inputs<'t>(
     Ok(Inputs { capture, scenarios })
 }
 
-// The scenarios of some texts.
-//
-// # Errors
-// The first refusal, with the number of its text; or a growth was refused.
+/// The scenarios of some texts.
+///
+/// # Errors
+/// The first refusal, with the number of its text; or a growth was refused.
 #[tactic(auto, unfolding(crate::specs::Answering::scenarios_from))]
-fn read_texts(alloc: Global, texts: &[&[u8]], hosts: &Hosts) -> Result<Vec<Scenario>, RunFault>
+pub(crate) fn read_texts(alloc: Global, texts: &[&[u8]], hosts: &Hosts) -> Result<Vec<Scenario>, RunFault>
     ensures { AgreesUnlessMemory run_refusal (λ v. v.items) result (scenarios_from hosts.now [] (map (λ t. t.now) texts.now)) }
 {
     let mut scenarios = Vec::with_capacity(alloc, texts.len())?;

@@ -1,21 +1,77 @@
 //! The reports of a rehearsal alone: no segment is written, and no capture made.
-ghost use Rattle.std.specs.Prelude.{◌≡◌, ◌≤◌, IfOk, length};
-ghost use Rattle.lists.specs.Agreement.{Agrees};
-ghost use Rattle.pcap_records.specs.CaptureView.{bytes_of};
+ghost use Rattle.std.specs.Prelude.{◌≡◌, ◌≤◌, ℕ, List, IfOk, length, map};
+ghost use Rattle.lists.specs.Agreement.{Agrees, AgreesUnlessMemory};
+ghost use Rattle.pcap_records.specs.Heads.{heads_in};
+ghost use Rattle.pcap_records.specs.CaptureView.{bytes_of, capture_refusal};
+ghost use Rattle.pcap_records.specs.Reading.{capture_limit, reading};
 ghost use Rattle.run_files.specs.RunFault.{run_refusal};
+ghost use Rattle.run_files.specs.SeenTexts.{IsSeenOf};
 ghost use Rattle.run_files.specs.WrittenOutputs.{reports_of};
+ghost use Rattle.toxicap.specs.Answering.{called_for};
 ghost use Rattle.toxicap.specs.CaptureOutputs.{outputs_for};
 ghost use Rattle.toxicap.specs.PrintedReports.{reports_in};
 ghost use Rattle.toxicap.specs.Rehearsal.{answer, scenario_limit};
 
 use crate::crews::Crew;
-use crate::reading::read_rehearsed;
+use crate::reading::{SCENARIO_LIMIT, read_inputs, read_rehearsed, read_texts};
 use crate::sources::Sources;
-use pcap_records::{Capture, FileBytes};
+use pcap_records::{Capture, CaptureFault, FileBytes, KeptHeads};
 use report::ReportText;
-use run_files::RunFault;
-use scenarios::Scenario;
+use report_laws::laws::report_sees_heads;
+use run_files::{RunFault, SeenText, Text};
+use scenarios::{Hosts, Scenario};
 use std::alloc::{AllocError, Global};
+
+/// The reports that a capture's text and the texts of scenarios call for, one after another, of what was seen of the capture's text.
+///
+/// # Errors
+/// What they call for, or `Memory`, where a growth was refused.
+pub(crate) fn seen_reports<C: Crew>(
+    crew: &C,
+    alloc: Global,
+    seen: SeenText,
+    texts: &[&[u8]],
+    hosts: &Hosts,
+    seed: u64,
+) -> Result<ReportText, RunFault>
+    requires { C.shares crew.now }
+    ensures { (text : List ℕ) → length text ≤ capture_limit → IsSeenOf seen text → AgreesUnlessMemory run_refusal (λ reports. reports) result
+        (reports_in (called_for hosts.now (map (λ t. t.now) texts.now) seed text)) }
+{
+    match seen {
+        SeenText::Dump(text) => text_reports(crew, alloc, text, texts, hosts, seed),
+        SeenText::Heads(heads) => {
+            let scenarios = read_texts(alloc, texts, hosts)?;
+            head_reports(crew, alloc, heads, &scenarios, seed)
+        }
+    }
+}
+
+/// The same of the whole text of a capture.
+///
+/// # Errors
+/// Those of [`seen_reports`].
+pub(crate) fn text_reports<C: Crew>(
+    crew: &C,
+    alloc: Global,
+    text: Text<'_>,
+    texts: &[&[u8]],
+    hosts: &Hosts,
+    seed: u64,
+) -> Result<ReportText, RunFault>
+    requires { C.shares crew.now }
+    ensures { AgreesUnlessMemory run_refusal (λ reports. reports) result
+        (reports_in (called_for hosts.now (map (λ t. t.now) texts.now) seed text.entry)) }
+{
+    let inputs = read_inputs(alloc, text, texts, hosts)?;
+    rehearse_reports(
+        crew,
+        alloc,
+        inputs.capture.bytes(),
+        &inputs.scenarios,
+        seed,
+    )
+}
 
 /// The reports of a rehearsal of a capture under each of the scenarios, one after another: those of the outputs that `rehearse` gives,
 /// whoever does the work.
@@ -33,6 +89,32 @@ pub(crate) fn rehearse_reports<C: Crew>(
     ensures { Agrees run_refusal (λ text. text) result (reports_in (answer (bytes_of capture.entry) scenarios.now seed)) }
 {
     let capture = read_rehearsed(alloc, capture, scenarios)?;
+    let reports = join_reports(crew, alloc, &capture, scenarios, seed)?;
+    Ok(reports)
+}
+
+// The same of a capture of which the heads of its packets were kept, or its first fault: reports see no more of it.
+//
+// # Errors
+// Those of `rehearse`.
+fn head_reports<C: Crew>(
+    crew: &C,
+    alloc: Global,
+    heads: Result<KeptHeads, CaptureFault>,
+    scenarios: &[Scenario],
+    seed: u64,
+) -> Result<ReportText, RunFault>
+    requires { C.shares crew.now }
+    ensures { (bytes : List ℕ) → AgreesUnlessMemory capture_refusal (λ h. h) heads (heads_in (reading bytes))
+        → AgreesUnlessMemory run_refusal (λ text. text) result (reports_in (answer bytes scenarios.now seed)) }
+{
+    report_sees_heads();
+    if scenarios.len() > SCENARIO_LIMIT {
+        return Err(RunFault::TooManyScenarios);
+    }
+    let heads = heads?;
+    let (bytes, records) = heads.split();
+    let capture = records.over(&bytes);
     let reports = join_reports(crew, alloc, &capture, scenarios, seed)?;
     Ok(reports)
 }

@@ -1,12 +1,15 @@
 //! A run that a command line asks for: the hosts and files that it names are read, and the answers printed or stored.
-ghost use Rattle.std.specs.Prelude.{◌≡◌, ◌≢◌, ◌+◌, ◌-◌, ◌^◌, ◌<◌, ◌≤◌, map, IfErr, [], length, IfNone, IfOk, IfSome, OnSome};
+ghost use Rattle.std.specs.Prelude.{◌≡◌, ◌≢◌, ◌+◌, ◌-◌, ◌^◌, ◌<◌, ◌≤◌, ℕ, List, Result, map, IfErr, [], length, IfNone, IfOk, IfSome, Some};
 ghost use Rattle.std.specs.Io.KnownBytes.{Appends, Consumes, IsAtEnd};
 ghost use Rattle.command_line.specs.Asking.{IsPlanInRange};
 ghost use Rattle.run_files.specs.declared.error.RunFault.{RunFault};
 ghost use Rattle.toxicap.specs.Answering.{called_for};
 ghost use Rattle.toxicap.specs.Commands.{RunsBy, streams};
 ghost use Rattle.disks.specs.Histories.{held_now};
-ghost use Rattle.toxicap.specs.NamedFiles.{EndsOf, LeavesDisk, LoadsFile, LoadsInput, RunsOver, texts_from};
+ghost use Rattle.run_files.specs.SeenTexts.{LoadsInput, SeesAs};
+ghost use Rattle.toxicap.specs.NamedFiles.{LeavesDisk, LoadsFile, RunsOver, texts_from};
+ghost use Rattle.toxicap.specs.PrintedReports.{PrintsLoaded};
+ghost use Rattle.toxicap.specs.StoredOutputs.{StoresUnlessMemory};
 ghost use Rattle.toxicap.specs.RunEnds.{failed_writes};
 ghost use Rattle.lists.specs.Agreement.{AgreesUnlessMemory};
 ghost use Rattle.pcap_records.specs.Reading.{capture_limit};
@@ -17,13 +20,16 @@ use crate::answering::Options;
 use crate::crews::Workers;
 use crate::host_lines::read_hosts;
 use crate::reading::read_inputs;
-use crate::reports::rehearse_reports;
+use crate::reports::seen_reports;
 use crate::storing::store_rehearsal;
 use command_line::Asked;
 use disks::laws::names_leave_whole;
 use disks::{Disk, ReadDisk};
 use job_matrix::Plan;
-use run_files::{Counted, Folder, RunFault, Text, load, load_by_workers, load_file, write_bytes};
+use run_files::{
+    Counted, Folder, RunFault, SeenText, Text, load, load_by_workers, load_file, see_file, see_input,
+    write_bytes,
+};
 use std::alloc::{AllocError, Global};
 use std::io::{Read, Write};
 use std::sync::Wait;
@@ -60,51 +66,99 @@ where
         seed: asked.seed,
         plan: Plan::new(asked.workers, asked.cut).unwrap(),
     };
+    let Some(folder) = asked.out else {
+        return print_answers(
+            rt, disk, alloc, asked, reader, writer, &texts, &options,
+        );
+    };
     let text = load_capture(rt, alloc, disk, asked, options.plan, reader)?;
-    answer_into(rt, disk, alloc, text, writer, asked, &texts, &options)
+    store_answers(rt, disk, alloc, text, folder, asked, &texts, &options)
 }
 
-// The answers to a capture's text, stored in a folder as they are made, or without one their reports printed. Nothing is printed
-// before all reports are whole, so every refusal but a failed write leaves the writer as it was.
-fn answer_into<H: Threads + Wait + Sync, D: Disk + Sync, W: Write>(
+// The reports of the answers to the capture that a command line names, printed. Nothing is printed before all reports are whole, so
+// every refusal but a failed write leaves the writer as it was.
+fn print_answers<H: Threads + Wait + Sync, D: ReadDisk, R: Read, W: Write>(
+    rt: &H,
+    disk: &D,
+    alloc: Global,
+    asked: &Asked<'_>,
+    reader: &mut Counted<R>,
+    writer: &mut Counted<W>,
+    texts: &[&[u8]],
+    options: &Options,
+) -> Result<(), RunFault>
+    requires reads { reader.old.failed < 2 ^ 64 - 1 }
+    requires writes { writer.old.failed < 2 ^ 64 - 1 }
+    ensures printed { (loaded : Result (List ℕ) RunFault) × IfOk loaded (λ text. length text ≤ capture_limit)
+        × PrintsLoaded result loaded (called_for options.now.hosts (map (λ t. t.now) texts.now) options.now.seed)
+            (Appends (W.contents writer.old.inner) (W.contents writer.new.inner))
+        × IfNone asked.now.capture (LoadsInput (λ text. text) loaded
+            (Consumes (R.remaining reader.old.inner) (R.remaining reader.new.inner)) (IsAtEnd (R.remaining reader.new.inner))
+            reader.old.failed reader.new.failed)
+        × IfSome asked.now.capture (λ path. LoadsFile (λ text. text) loaded (D.history disk.now) path.now (reader.new ≡ reader.old)) }
+    ensures failed_writes { writer.new.failed ≡ writer.old.failed + failed_writes result }
+    ensures untouched { IfErr result (λ fault. fault ≢ RunFault.WriteFailed → writer.new ≡ writer.old) }
+{
+    let seen = see_capture(alloc, disk, asked, reader)?;
+    let crew = Workers {
+        rt,
+        plan: options.plan,
+    };
+    let reports = seen_reports(&crew, alloc, seen, texts, &options.hosts, options.seed)?;
+    write_bytes(writer, reports.as_slice())
+}
+
+// What reports see of the capture, from the file that a command line names, or without one from a reader.
+fn see_capture<D: ReadDisk, R: Read>(
+    alloc: Global,
+    disk: &D,
+    asked: &Asked<'_>,
+    reader: &mut Counted<R>,
+) -> Result<SeenText, RunFault>
+    requires { reader.old.failed < 2 ^ 64 - 1 }
+    ensures { (loaded : Result (List ℕ) RunFault) × SeesAs result loaded × IfOk loaded (λ text. length text ≤ capture_limit)
+        × IfNone asked.now.capture (LoadsInput (λ text. text) loaded
+            (Consumes (R.remaining reader.old.inner) (R.remaining reader.new.inner)) (IsAtEnd (R.remaining reader.new.inner))
+            reader.old.failed reader.new.failed)
+        × IfSome asked.now.capture (λ path. LoadsFile (λ text. text) loaded (D.history disk.now) path.now (reader.new ≡ reader.old)) }
+{
+    match asked.capture {
+        Some(path) => see_file(alloc, disk, path),
+        None => see_input(alloc, reader),
+    }
+}
+
+// The answers to a capture's text, stored in a folder as they are made.
+fn store_answers<H: Threads + Wait + Sync, D: Disk + Sync>(
     rt: &H,
     disk: &mut D,
     alloc: Global,
     text: Text<'_>,
-    writer: &mut Counted<W>,
+    folder: &str,
     asked: &Asked<'_>,
     texts: &[&[u8]],
     options: &Options,
 ) -> Result<(), RunFault>
 where
     D::Draft: Send,
-    requires writes { writer.old.failed < 2 ^ 64 - 1 }
     requires faults { D.faults disk.old < 2 ^ 64 - 1 }
-    ensures disk { IfSome (D.history disk.old) (λ h. LeavesDisk asked.now.out result
+    ensures disk { IfSome (D.history disk.old) (λ h. LeavesDisk (Some folder.entry) result
         (called_for options.now.hosts (map (λ t. t.now) texts.now) options.now.seed text.entry) h (D.history disk.new)) }
-    ensures ends { EndsOf asked.now.out result (called_for options.now.hosts (map (λ t. t.now) texts.now) options.now.seed text.entry)
-        (Appends (W.contents writer.old.inner) (W.contents writer.new.inner)) }
-    ensures unwritten { OnSome asked.now.out (writer.new ≡ writer.old) }
-    ensures failed_writes { writer.new.failed ≡ writer.old.failed + failed_writes result }
-    ensures untouched { IfErr result (λ fault. fault ≢ RunFault.WriteFailed → writer.new ≡ writer.old) }
+    ensures ends { StoresUnlessMemory result (called_for options.now.hosts (map (λ t. t.now) texts.now) options.now.seed text.entry) }
+    ensures none_printed { failed_writes result ≡ 0 }
 {
     names_leave_whole();
     let inputs = read_inputs(alloc, text, texts, &options.hosts)?;
-    let capture = inputs.capture.bytes();
     let crew = Workers {
         rt,
         plan: options.plan,
-    };
-    let Some(folder) = asked.out else {
-        let reports = rehearse_reports(&crew, alloc, capture, &inputs.scenarios, options.seed)?;
-        return write_bytes(writer, reports.as_slice());
     };
     let mut folder = Folder::new(alloc, folder)?;
     spare_inputs(asked, disk, &mut folder)?;
     store_rehearsal(
         &crew,
         alloc,
-        capture,
+        inputs.capture.bytes(),
         &inputs.scenarios,
         options.seed,
         &mut folder,

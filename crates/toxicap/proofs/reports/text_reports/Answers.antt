@@ -1,14 +1,14 @@
 use Rattle.std.proofs.lemmas.Result.{err_from_is_err_and}
 use Rattle.run_files.specs.RunFault.{run_refusal}
 use Rattle.toxicap.proofs.TextsTaken.{agrees_unless_memory, of_fault_printed}
-use Rattle.toxicap.proofs.one_thread.report_answers_alone.Goals as goal
+use Rattle.toxicap.proofs.reports.text_reports.Goals as goal
 
 pub returns-in_err-inputs : goal.returns-in_err-inputs
-returns-in_err-inputs c =
+returns-in_err-inputs g c =
     let fault = err_from_is_err_and c.from_residual.result c.from_residual.ensures.1 in
-    rw (fault.1, fault.2) (of_fault_printed _ _ (rw c.lent.ensures at c.in_err-inputs.ensures.refused c.args.seed))
+    rw (fault.1, fault.2) (of_fault_printed _ _ (c.in_err-inputs.ensures.refused c.args.seed))
 
 pub returns : goal.returns
-returns c =
+returns g c =
     let told = rw (c.bytes.ensures, c.deref.ensures.value) at c.rehearse_reports.ensures in
-    rw (rw c.lent.ensures at c.in_ok-inputs.ensures.taken c.args.seed) (agrees_unless_memory run_refusal _ c.rehearse_reports.result _ told)
+    rw (c.in_ok-inputs.ensures.taken c.args.seed) (agrees_unless_memory run_refusal _ c.rehearse_reports.result _ told)

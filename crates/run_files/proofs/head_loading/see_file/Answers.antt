@@ -1,0 +1,23 @@
+use Rattle.std.proofs.Common.{ℕ, List, Result, Err, refl}
+use Rattle.std.proofs.lemmas.Result.{err_from_is_err_and}
+use Rattle.lists.specs.Agreement.{AgreesUnlessMemory}
+use Rattle.run_files.specs.declared.error.RunFault.{RunFault}
+use Rattle.run_files.specs.RunFault.{run_refusal}
+use Rattle.run_files.proofs.LoadedFiles.{text_of_path}
+use Rattle.run_files.proofs.head_loading.see_file.Goals as goal
+
+pub returns-in_err-file : goal.returns-in_err-file
+returns-in_err-file g c =
+    let fault = err_from_is_err_and c.from_residual.result c.from_residual.ensures.1 in
+    rw (fault.1, fault.2) (Err c.in_err-file.field-0.0, refl, tt, c.in_err-file.ensures.of_file, c.in_err-file.ensures.untold)
+
+pub returns : goal.returns
+returns g c =
+    let seen = c.see_whole.ensures in (
+      seen.0,
+      seen.1,
+      seen.2,
+      seen.3.0,
+      text_of_path (λ (wanted : Result (List ℕ) RunFault). AgreesUnlessMemory run_refusal (λ text. text) seen.0 wanted)
+          (g.D.Disk.history c.args.disk.now) c.args.path.now (g.D.File.DiskFile.told c.in_ok-file.file) c.in_ok-file.ensures.told seen.3.1,
+    )

@@ -1,0 +1,50 @@
+-- What is loaded of the text of a capture whose reports alone are wanted.
+use Rattle.std.specs.Prelude.{◌≡◌, ℕ, ◌+◌, ◌≤◌, true, false, List, ◌++◌, length, IfErr, IfOk, IfSome, Option, Some, Result, Ok, Err}
+use Rattle.disks.specs.ToldFiles.{ToldFile}
+use Rattle.lists.specs.Agreement.{AgreesUnlessMemory}
+use Rattle.pcap_records.specs.Heads.{heads_in}
+use Rattle.pcap_records.specs.CaptureView.{capture_refusal}
+use Rattle.pcap_records.specs.Reading.{capture_limit, reading}
+use Rattle.run_files.specs.declared.error.RunFault.{RunFault}
+use Rattle.run_files.specs.declared.seen_parts.SeenText.{SeenText}
+use Rattle.run_files.specs.declared.seen_parts.SeenText.TheVariants.{Dump, Heads}
+use Rattle.run_files.specs.Dumps.{is_dump}
+use Rattle.run_files.specs.Paths.{IsOfFile, text_of}
+use Rattle.run_files.specs.RunFault.{run_refusal}
+use Rattle.run_files.specs.Streams.{StopsLoading}
+
+-- what is loaded of a text: all of it where it is taken for a dump, and else the heads in it
+abbrev pub IsSeenOf : SeenText → List ℕ → Type 0
+IsSeenOf (Dump whole) text = (is_dump text ≡ true) × (whole ≡ text)
+IsSeenOf (Heads heads) text = (is_dump text ≡ false) × AgreesUnlessMemory capture_refusal (λ h. h) heads (heads_in (reading text))
+
+-- a text was loaded, and this was seen of it; or none was, for that cause
+abbrev pub SeesAs : Result SeenText RunFault → Result (List ℕ) RunFault → Type 0
+SeesAs (Ok seen) (Ok text) = IsSeenOf seen text
+SeesAs (Err fault) (Err cause) = fault ≡ cause
+SeesAs _ _ = ⊥
+
+-- this was seen of a text that was loaded so, within the limit
+abbrev pub Sees : Result SeenText RunFault → (Result (List ℕ) RunFault → Type 0) → Type 0
+Sees result LoadedSo =
+    (loaded : Result (List ℕ) RunFault) × SeesAs result loaded × IfOk loaded (λ text. length text ≤ capture_limit) × LoadedSo loaded
+
+-- this was seen of a file, given what is told of it
+abbrev pub SeesFile : Option ToldFile → Result SeenText RunFault → Type 0
+SeesFile told result =
+    Sees result (λ loaded. IfErr loaded IsOfFile × IfSome told (λ f. AgreesUnlessMemory run_refusal (λ text. text) loaded (text_of (Some f))))
+
+-- ---- of a reader
+
+-- how its text was loaded, given what it is to have lost some bytes: to its end, or as far as loading came
+abbrev pub LoadsInput : {A : Type 0} → (A → List ℕ) → Result A RunFault → (List ℕ → Type 0) → Type 0 → ℕ → ℕ → Type 0
+LoadsInput view (Ok text) Lost AtEnd old_failed new_failed = Lost (view text) × AtEnd × (new_failed ≡ old_failed)
+LoadsInput view (Err fault) Lost AtEnd old_failed new_failed =
+    (given : List ℕ) × Lost given × StopsLoading fault (length given) old_failed new_failed
+
+-- the same of what comes after some first bytes: the text begins with these, and what is lost is the rest of it
+abbrev pub LoadsAfter : List ℕ → Result (List ℕ) RunFault → (List ℕ → Type 0) → Type 0 → ℕ → ℕ → Type 0
+LoadsAfter first (Ok text) Lost AtEnd old_failed new_failed =
+    (rest : List ℕ) × (text ≡ first ++ rest) × Lost rest × AtEnd × (new_failed ≡ old_failed)
+LoadsAfter first (Err fault) Lost AtEnd old_failed new_failed =
+    (rest : List ℕ) × Lost rest × StopsLoading fault (length first + length rest) old_failed new_failed

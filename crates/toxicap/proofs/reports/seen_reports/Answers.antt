@@ -1,0 +1,19 @@
+use Rattle.std.proofs.Common.{map, subst}
+use Rattle.std.proofs.lemmas.Result.{err_from_is_err_and}
+use Rattle.run_files.specs.SeenTexts.{IsSeenOf}
+use Rattle.toxicap.proofs.TextsTaken.{called_rehearsal, not_dumped, of_fault_printed, refused_scenarios}
+use Rattle.toxicap.proofs.reports.seen_reports.Goals as goal
+
+pub returns-in_err-scenarios-in-Heads : goal.returns-in_err-scenarios-in-Heads
+returns-in_err-scenarios-in-Heads g c = λ text within seen.
+    let fault = err_from_is_err_and c.from_residual.result c.from_residual.ensures.1 in
+    let is = subst (λ s. IsSeenOf s text) c.in-Heads.is seen in
+    rw (fault.1, fault.2) (of_fault_printed _ _ (refused_scenarios c.args.hosts.now (map (λ t. t.now) c.args.texts.now) c.args.seed _ text text within
+    (not_dumped text is.0) c.in_err-scenarios-in-Heads.ensures))
+
+pub returns-in_ok-scenarios-in-Heads : goal.returns-in_ok-scenarios-in-Heads
+returns-in_ok-scenarios-in-Heads g c = λ text within seen.
+    let is = subst (λ s. IsSeenOf s text) c.in-Heads.is seen in
+    let told = rw c.deref.ensures.value at c.head_reports.ensures text is.1 in
+    rw (called_rehearsal c.args.hosts.now (map (λ t. t.now) c.args.texts.now) c.args.seed text text c.in_ok-scenarios-in-Heads.scenarios.items within
+    (not_dumped text is.0) c.in_ok-scenarios-in-Heads.ensures) told

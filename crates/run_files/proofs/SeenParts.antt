@@ -34,7 +34,7 @@ dump_goes_on first whole some dump begins =
 pub fits_taken : (taken held : ℕ) (buffer : List ℕ) → taken + held ≤ capture_limit → taken + length (take held buffer) ≤ capture_limit
 fits_taken taken held buffer within = omega (arith, within, length-take held buffer)
 
--- the room behind those that are held
+-- the room after those that are held
 pub room_left : (buffer room : List ℕ) (held : ℕ) → held < length buffer → length room ≡ length (take (length buffer - held) (drop held buffer)) → 0 < length room
 room_left buffer room held less is = omega (arith, less, is, length-take (length buffer - held) (drop held buffer), length-drop held buffer)
 
@@ -66,7 +66,7 @@ seen_taken old new buffer after held left given seen len counted fits same = rec
   same = λ more m. seen.same more m ∙ same more (omega (arith, m, seen.counted));
 }
 
--- so many bytes came more, behind those that are held
+-- so many bytes came more, after those that are held
 pub seen_read : (reader : HeadReaderView) (buffer part post after : List ℕ) (held n : ℕ) (given : List ℕ) → IsSeenSoFar reader buffer held given
     → after ≡ take held buffer ++ (part ++ post) → n ≤ length part → length given + n ≤ capture_limit → IsSeenSoFar reader after (held + n) (given ++ take n part)
 seen_read reader buffer part post after held n given seen is fits short =

@@ -116,19 +116,36 @@ verdict "an unfinished file is not removed" "$(
     holds "$folder" "${files[@]}" toxicap.unfinished-1
 )"
 
-# a capture of two blocks, which two threads load: a read of a block fails, and each moves less than it is asked for
+# a capture of two blocks, which two threads load where it is stored, and one thread where it is printed: a read fails, and each moves less than it is
+# asked for
 perl tests/capture.pl 7000 > "$work/blocks.pcap"
 run "$work/blocks.pcap" "${both[@]}"
 cp "$work/output" "$work/wanted-of-blocks"
-whole_blocks() {
+mkdir "$work/new-of-blocks"
+run "$work/blocks.pcap" "${both[@]}" --out "$work/new-of-blocks"
+blocks=(/dev/null --capture "$work/blocks.pcap" "${both[@]}" --workers 2)
+printed_blocks() {
     well
     difference "$work/wanted-of-blocks" "$work/output"
 }
-each "a read of a block fails" read "CAUSE=$device" unread whole_blocks /dev/null --capture "$work/blocks.pcap" "${both[@]}" --workers 2
-run_with MOST=100003 /dev/null --capture "$work/blocks.pcap" "${both[@]}" --workers 2
-verdict "100,003 bytes a read of blocks" "$(whole_blocks)"
-run_with FAIL=thread:1+ /dev/null --capture "$work/blocks.pcap" "${both[@]}" --workers 2
-verdict "no thread can be made to load a block" "$(whole_blocks)"
+stored_blocks() {
+    well
+    folder_difference "$work/new-of-blocks" "$folder"
+}
+each "a read of a large capture fails" read "CAUSE=$device" unread printed_blocks "${blocks[@]}"
+run_with MOST=100003 "${blocks[@]}"
+verdict "100,003 bytes a read of a large capture" "$(printed_blocks)"
+run_with MOST=100003 "$work/blocks.pcap" "${both[@]}"
+verdict "100,003 bytes a read of a large capture, standard input" "$(printed_blocks)"
+each "a read of a block fails" read "CAUSE=$device" unread stored_blocks "${blocks[@]}" --out "$folder"
+rm -rf "$folder"
+mkdir "$folder"
+run_with MOST=100003 "${blocks[@]}" --out "$folder"
+verdict "100,003 bytes a read of blocks" "$(stored_blocks)"
+rm -rf "$folder"
+mkdir "$folder"
+run_with FAIL=thread:1+ "${blocks[@]}" --out "$folder"
+verdict "no thread can be made to load a block" "$(stored_blocks)"
 
 # Threads that cannot be made leave fewer workers. The words of a plan are handed on: each of so many workers but one has a thread of its own
 # in each phase, and each range of records takes memory of its own.

@@ -226,12 +226,22 @@ status=0
 (ulimit -t 3; exec "$program" --capture "$work/openings" > "$work/output" 2> "$work/faults") || status=$?
 verdict "400,000 pairs within three seconds" "$(well; sed -n 2p "$work/output" | grep -vx 'connections 400000 unopened 0')"
 
+# Of a capture that is printed heads alone are kept, which takes less than half of its 45 MB; by its name, and through a pipe that gives it in small parts.
+perl tests/capture.pl 34100 > "$work/six.pcap"
+perl tests/capture.pl 34100 report > "$work/six.report"
+limit=$(ulimit -S -v)
+ulimit -S -v 36000
+run_with GLIBC_TUNABLES=glibc.malloc.arena_max=1 /dev/null --capture "$work/six.pcap" --workers 2
+ulimit -S -v "$limit"
+verdict "45 MB printed in little memory" "$(well; byte_difference "$work/six.report" "$work/output")"
+status=0
+dd if="$work/six.pcap" bs=997 status=none | "$program" > "$work/output" 2> "$work/faults" || status=$?
+verdict "45 MB printed in parts of 997 bytes" "$(well; byte_difference "$work/six.report" "$work/output")"
+
 # A capture of 45 MB, loaded in six blocks and stored, takes 74 MB of addresses, and half of what it would take with the capture or its output in memory
 # once more is granted. What is written goes out in batches of 256 KiB, of which there are 172, and a report. glibc has one arena: a second one, which
 # the other worker would get if it starts early enough, takes 64 MB of addresses.
-perl tests/capture.pl 34100 > "$work/six.pcap"
 rm "$work"/stored/*
-limit=$(ulimit -S -v)
 ulimit -S -v 95000
 run_with GLIBC_TUNABLES=glibc.malloc.arena_max=1 /dev/null --capture "$work/six.pcap" --workers 2 --out "$work/stored"
 ulimit -S -v "$limit"

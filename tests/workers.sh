@@ -1,7 +1,7 @@
 #!/usr/bin/env bash
 # Workers of the built program: how many threads are made in each phase of a run, by 1 to 16 workers; and that no byte depends on how many they are, in
-# what is printed and in what is stored. 40 scenarios are stored as each of them is alone, and a capture of 45 MB, whose blocks are loaded by threads,
-# gives what it gives as standard input.
+# what is printed and in what is stored. 40 scenarios are stored as each of them is alone, and a capture of 45 MB, whose blocks are loaded by threads
+# where it is stored, gives what it gives as standard input.
 set -euo pipefail
 cd "$(dirname "$0")/.."
 . tests/lib.sh
@@ -19,13 +19,14 @@ anew() {
 least() { echo $(($1 < $2 ? $1 : $2)); }
 
 # wanted BLOCKS SCENARIOS printed|stored WORKERS: how many threads each phase is to make, by docs/ARCHITECTURE.md (the
-# way of a rehearsal). One of the workers is the thread that is there. The phases: a named file of several blocks is loaded, by no more workers
-# than blocks; the table is made; then what is recorded. Of each printed report a phase makes the lines. Where files are stored, drafts are made
-# of as many scenarios as twice the workers, or as are left, each by one worker, so by no more workers than scenarios; of a last one by all.
+# way of a rehearsal). One of the workers is the thread that is there. The phases: where files are stored, a named file of several blocks is loaded,
+# by no more workers than blocks; the table is made; then what is recorded. Of each printed report a phase makes the lines. Where files are stored,
+# drafts are made of as many scenarios as twice the workers, or as are left, each by one worker, so by no more workers than scenarios; of a last one by
+# all.
 wanted() {
     local blocks=$1 left=$2 where=$3 workers=$4 all=() share
     [ "$workers" != 1 ] || return 0
-    [ "$blocks" -lt 2 ] || all+=($(($(least "$blocks" "$workers") - 1)))
+    [ "$where" = printed ] || [ "$blocks" -lt 2 ] || all+=($(($(least "$blocks" "$workers") - 1)))
     all+=($((workers - 1)) $((workers - 1)))
     while [ "$left" -gt 0 ]; do
         share=1

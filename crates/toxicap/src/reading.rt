@@ -57,7 +57,11 @@ pub(crate) fn read_inputs<'t>(
 /// # Errors
 /// The first refusal, with the number of its text; or a growth was refused.
 #[tactic(auto, unfolding(crate::specs::Answering::scenarios_from))]
-pub(crate) fn read_texts(alloc: Global, texts: &[&[u8]], hosts: &Hosts) -> Result<Vec<Scenario>, RunFault>
+pub(crate) fn read_texts(
+    alloc: Global,
+    texts: &[&[u8]],
+    hosts: &Hosts,
+) -> Result<Vec<Scenario>, RunFault>
     ensures { AgreesUnlessMemory run_refusal (λ v. v.items) result (scenarios_from hosts.now [] (map (λ t. t.now) texts.now)) }
 {
     let mut scenarios = Vec::with_capacity(alloc, texts.len())?;

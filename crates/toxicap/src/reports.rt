@@ -64,13 +64,7 @@ pub(crate) fn text_reports<C: Crew>(
         (reports_in (called_for hosts.now (map (λ t. t.now) texts.now) seed text.entry)) }
 {
     let inputs = read_inputs(alloc, text, texts, hosts)?;
-    rehearse_reports(
-        crew,
-        alloc,
-        inputs.capture.bytes(),
-        &inputs.scenarios,
-        seed,
-    )
+    rehearse_reports(crew, alloc, inputs.capture.bytes(), &inputs.scenarios, seed)
 }
 
 /// The reports of a rehearsal of a capture under each of the scenarios, one after another: those of the outputs that `rehearse` gives,

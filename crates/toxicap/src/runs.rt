@@ -27,8 +27,8 @@ use disks::laws::names_leave_whole;
 use disks::{Disk, ReadDisk};
 use job_matrix::Plan;
 use run_files::{
-    Counted, Folder, RunFault, SeenText, Text, load, load_by_workers, load_file, see_file, see_input,
-    write_bytes,
+    Counted, Folder, RunFault, SeenText, Text, load, load_by_workers, load_file, see_file,
+    see_input, write_bytes,
 };
 use std::alloc::{AllocError, Global};
 use std::io::{Read, Write};
@@ -67,9 +67,7 @@ where
         plan: Plan::new(asked.workers, asked.cut).unwrap(),
     };
     let Some(folder) = asked.out else {
-        return print_answers(
-            rt, disk, alloc, asked, reader, writer, &texts, &options,
-        );
+        return print_answers(rt, disk, alloc, asked, reader, writer, &texts, &options);
     };
     let text = load_capture(rt, alloc, disk, asked, options.plan, reader)?;
     store_answers(rt, disk, alloc, text, folder, asked, &texts, &options)
@@ -91,10 +89,10 @@ fn print_answers<H: Threads + Wait + Sync, D: ReadDisk, R: Read, W: Write>(
     requires writes { writer.old.failed < 2 ^ 64 - 1 }
     ensures printed { (loaded : Result (List ℕ) RunFault) × IfOk loaded (λ text. length text ≤ capture_limit)
         × PrintsLoaded result loaded (called_for options.now.hosts (map (λ t. t.now) texts.now) options.now.seed)
-            (Appends (W.contents writer.old.inner) (W.contents writer.new.inner))
+        (Appends (W.contents writer.old.inner) (W.contents writer.new.inner))
         × IfNone asked.now.capture (LoadsInput (λ text. text) loaded
-            (Consumes (R.remaining reader.old.inner) (R.remaining reader.new.inner)) (IsAtEnd (R.remaining reader.new.inner))
-            reader.old.failed reader.new.failed)
+        (Consumes (R.remaining reader.old.inner) (R.remaining reader.new.inner)) (IsAtEnd (R.remaining reader.new.inner))
+        reader.old.failed reader.new.failed)
         × IfSome asked.now.capture (λ path. LoadsFile (λ text. text) loaded (D.history disk.now) path.now (reader.new ≡ reader.old)) }
     ensures failed_writes { writer.new.failed ≡ writer.old.failed + failed_writes result }
     ensures untouched { IfErr result (λ fault. fault ≢ RunFault.WriteFailed → writer.new ≡ writer.old) }
@@ -118,8 +116,8 @@ fn see_capture<D: ReadDisk, R: Read>(
     requires { reader.old.failed < 2 ^ 64 - 1 }
     ensures { (loaded : Result (List ℕ) RunFault) × SeesAs result loaded × IfOk loaded (λ text. length text ≤ capture_limit)
         × IfNone asked.now.capture (LoadsInput (λ text. text) loaded
-            (Consumes (R.remaining reader.old.inner) (R.remaining reader.new.inner)) (IsAtEnd (R.remaining reader.new.inner))
-            reader.old.failed reader.new.failed)
+        (Consumes (R.remaining reader.old.inner) (R.remaining reader.new.inner)) (IsAtEnd (R.remaining reader.new.inner))
+        reader.old.failed reader.new.failed)
         × IfSome asked.now.capture (λ path. LoadsFile (λ text. text) loaded (D.history disk.now) path.now (reader.new ≡ reader.old)) }
 {
     match asked.capture {

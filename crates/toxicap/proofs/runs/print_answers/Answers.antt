@@ -45,7 +45,7 @@ returns-in_err-reports-clause-failed_writes g c =
     let fault = err_from_is_err_and c.from_residual-in_err-reports.result c.from_residual-in_err-reports.ensures.1 in
     let (loaded, sees, within, input, file) = c.in_ok-seen.ensures in
     let none = none_written _ (none_refused c.in_ok-seen.seen loaded sees within c.in_err-reports.field-0.0
-        (λ text short seen. input_fault own.hosts texts own.seed (λ written. Unit {0}) _ text (of_fault _ _ (c.in_err-reports.ensures text short seen)))) in
+    (λ text short seen. input_fault own.hosts texts own.seed (λ written. Unit {0}) _ text (of_fault _ _ (c.in_err-reports.ensures text short seen)))) in
     rw (fault.1, fault.2) (omega (arith, none))
 
 -- they are written

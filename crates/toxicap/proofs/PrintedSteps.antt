@@ -18,11 +18,11 @@ use Rattle.run_files.specs.WrittenOutputs.{reports_of}
 use Rattle.toxicap.specs.Answering.{called_for}
 use Rattle.toxicap.specs.Commands.{RunsBy, Streams}
 use Rattle.toxicap.specs.Inputs.{TakesInputs, hosts_asked, texts_or_bare}
-use Rattle.toxicap.specs.NamedFiles.{EndsOf, LeavesDisk, LoadsFile, RunsOver, texts_from}
+use Rattle.toxicap.specs.NamedFiles.{LoadsFile, RunsOver, texts_from}
 use Rattle.toxicap.specs.PrintedReports.{PrintsLoaded, PrintsOf, reports_in}
 use Rattle.toxicap.proofs.DiskSteps.{disk_kept}
 use Rattle.toxicap.proofs.NamedSteps.{loaded_over, stopped_over}
-use Rattle.toxicap.proofs.RunSteps.{IsOfInput, none_written, of_input, runs_loaded, runs_stopped}
+use Rattle.toxicap.proofs.RunSteps.{IsOfInput, of_input, runs_loaded, runs_stopped}
 
 -- ---- what is printed
 

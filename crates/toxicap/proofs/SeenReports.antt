@@ -1,5 +1,5 @@
 -- Reports of what was seen of a capture: those of the whole of it.
-use Rattle.std.proofs.Common.{◌≡◌, ℕ, ◌<◌, ◌≤◌, Bool, true, false, nat_lt, if◌then◌else◌, List, [], ◌∷◌, ◌++◌, length, map, Option, Some, None, Result, Ok, Err, refl, sym, ap, ap₂, ◌∙◌}
+use Rattle.std.proofs.Common.{◌≡◌, ℕ, ◌<◌, ◌≤◌, Bool, true, false, nat_lt, if◌then◌else◌, List, [], ◌∷◌, ◌++◌, length, map, Result, Ok, Err, refl, sym, ap, ap₂, ◌∙◌}
 use Rattle.std.specs.List.{enumerate_from, flat_map}
 use Rattle.std.specs.Prelude.{IfSome}
 use Rattle.std.proofs.lemmas.Bool.{lt-ltb, le-ltb}
@@ -7,14 +7,13 @@ use Rattle.pcap_records.specs.declared.fault.CaptureFault.{CaptureFault}
 use Rattle.pcap_records.specs.declared.fault.CaptureFault.TheVariants as of_capture
 use Rattle.pcap_records.specs.CaptureView.{capture_refusal}
 use Rattle.pcap_records.specs.Reading.{Contents, Reading, reading}
-use Rattle.pcap_records.specs.Heads.{Heads, heads_in, heads_of}
+use Rattle.pcap_records.specs.Heads.{heads_in, heads_of}
 use Rattle.conn_table.specs.SeenCapture.{SeenCapture, seen_capture}
 use Rattle.scenarios.specs.declared.proxies.Proxy.{Proxy}
 use Rattle.report_laws.specs.SeenHeads.{ReportSeesHeads}
 use Rattle.report_laws.specs.ZeroedPayloads.{ReportSeesLengths, report_of}
 use Rattle.run_files.specs.declared.error.RunFault.{RunFault}
 use Rattle.run_files.specs.declared.error.RunFault.TheVariants.{TooManyScenarios}
-use Rattle.run_files.specs.declared.outputs.Output.{Output}
 use Rattle.run_files.specs.RunFault.{run_fault, run_refusal}
 use Rattle.run_files.specs.WrittenOutputs.{reports_of}
 use Rattle.toxicap.specs.PrintedReports.{reports_in}

@@ -3,7 +3,7 @@
 -- What is called for is a function of the command line, of what paths hold, and of the text on standard input where no capture is
 -- named (`outputs_asked`). The first refusal counts: a host; a scenario file, in order, that cannot be opened or read (61), or is
 -- longer than a capture may be (6); the capture, for the same; and then what its text calls for.
-use Rattle.std.specs.Prelude.{◌≡◌, ℕ, List, [], ◌∷◌, ◌++◌, length, map, Option, Some, None, IfErr, IfSome, Result, Ok, Err}
+use Rattle.std.specs.Prelude.{◌≡◌, ℕ, List, [], ◌∷◌, ◌++◌, map, Option, Some, None, IfErr, IfSome, Result, Ok, Err}
 use Rattle.std.specs.Borrow.{Bor}
 use Rattle.lists.specs.Agreement.{AgreesUnlessMemory}
 use Rattle.scenarios.specs.Refusals.{and_then}

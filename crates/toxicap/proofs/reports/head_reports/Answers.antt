@@ -1,6 +1,8 @@
-use Rattle.std.proofs.Common.{arith}
+use Rattle.std.proofs.Common.{◌≡◌, ◌∙◌, Ok, ap, sym, arith}
 use Rattle.std.proofs.lemmas.Result.{err_from_is_err_and}
-use Rattle.toxicap.proofs.SeenReports.{refused_heads, too_many}
+use Rattle.pcap_records.specs.CaptureView.{contents_of}
+use Rattle.pcap_records.specs.Heads.{heads_of}
+use Rattle.toxicap.proofs.SeenReports.{heads_reports, refused_heads, too_many}
 use Rattle.toxicap.proofs.reports.head_reports.Goals as goal
 
 pub returns-then-scenarios-gt-SCENARIO_LIMIT : goal.returns-then-scenarios-gt-SCENARIO_LIMIT
@@ -8,5 +10,13 @@ returns-then-scenarios-gt-SCENARIO_LIMIT g c = λ bytes told. too_many bytes c.a
 
 pub returns-in_err-heads : goal.returns-in_err-heads
 returns-in_err-heads g c = λ bytes told.
-    let fault = err_from_is_err_and c.from_residual-in_err-heads.result c.from_residual-in_err-heads.ensures.1 in
+    let fault = err_from_is_err_and c.from_residual.result c.from_residual.ensures.1 in
     rw (fault.1, fault.2) (refused_heads bytes c.args.scenarios.now c.args.seed (omega (arith, c.if-scenarios-gt-SCENARIO_LIMIT.false)) _ (rw c.in_err-heads.was at told))
+
+-- the reports were made of a capture with the same heads
+pub returns : goal.returns
+returns g c = λ bytes told.
+    let is = rw c.in_ok-heads.was at told in
+    let same : heads_of (contents_of c.over-capture.result) ≡ c.in_ok-heads.heads = rw (c.over-capture.ensures, c.deref.ensures.value) c.split-bytes.ensures.same in
+    heads_reports bytes c.args.scenarios.now c.args.seed c.report_sees_heads.ensures (omega (arith, c.if-scenarios-gt-SCENARIO_LIMIT.false)) (contents_of c.over-capture.result)
+    (is ∙ ap Ok (sym same)) ∙ ap Ok (sym c.in_ok-reports.ensures)

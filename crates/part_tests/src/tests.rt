@@ -2,6 +2,7 @@
 mod captures;
 mod checks;
 mod frames;
+mod heads;
 mod instants;
 mod scenario_files;
 mod tagged_frames;

@@ -226,11 +226,12 @@ status=0
 (ulimit -t 3; exec "$program" --capture "$work/openings" > "$work/output" 2> "$work/faults") || status=$?
 verdict "400,000 pairs within three seconds" "$(well; sed -n 2p "$work/output" | grep -vx 'connections 400000 unopened 0')"
 
-# Of a capture that is printed heads alone are kept, which takes less than half of its 45 MB; by its name, and through a pipe that gives it in small parts.
+# Of a capture that is printed heads alone are kept, so its 45 MB take no more than 24 MB of addresses with all else; by its name, and through a pipe
+# that gives it in small parts.
 perl tests/capture.pl 34100 > "$work/six.pcap"
 perl tests/capture.pl 34100 report > "$work/six.report"
 limit=$(ulimit -S -v)
-ulimit -S -v 36000
+ulimit -S -v 24000
 run_with GLIBC_TUNABLES=glibc.malloc.arena_max=1 /dev/null --capture "$work/six.pcap" --workers 2
 ulimit -S -v "$limit"
 verdict "45 MB printed in little memory" "$(well; byte_difference "$work/six.report" "$work/output")"

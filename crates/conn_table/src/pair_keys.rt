@@ -5,7 +5,7 @@ ghost use Rattle.conn_table.specs.PairWords.{addrs_word, ports_word};
 
 use crate::conns::Pair;
 use crate::entries::Entry;
-use sha2::{Digest, Sha256};
+use sha2::{Digest, Sha512};
 use std::hash::{BuildHasher, DefaultHasher, Hash, Hasher};
 
 impl Hash for Pair {
@@ -50,10 +50,10 @@ pub(crate) struct PairKeys {
 }
 
 impl PairKeys {
-    // The hasher whose key is a digest of the openings' pairs in order (SHA-256, FIPS 180-4), and how many openings there are. Only
+    // The hasher whose key is a digest of the openings' pairs in order (SHA-512, FIPS 180-4), and how many openings there are. Only
     // openings are put into a table: who chooses other pairs for them, or another order, has another key.
     pub(crate) fn of_openings(ranges: &[Vec<Entry>]) -> (PairKeys, usize) {
-        let mut digest = Sha256::new();
+        let mut digest = Sha512::new();
         let mut openings = 0usize;
         for range in ranges {
             for entry in range {

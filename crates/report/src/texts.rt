@@ -1,5 +1,5 @@
 //! Texts: how words and numbers are appended.
-ghost use Rattle.std.specs.Prelude.{◌≡◌, ◌++◌, OnOk};
+ghost use Rattle.std.specs.Prelude.{◌≡◌, [], ◌∷◌, ◌++◌, OnOk};
 ghost use Rattle.std.specs.Fmt.{decimal};
 
 use itoa::Buffer;
@@ -17,10 +17,31 @@ pub(crate) fn push(text: &mut Vec<u8>, words: &str) -> Result<(), AllocError>
     Ok(())
 }
 
+/// Appends a number.
+#[tactic(auto, using(std::proofs::lemmas::Fmt::decimal_digit))]
 pub(crate) fn push_number(text: &mut Vec<u8>, number: u64) -> Result<(), AllocError>
     ensures { OnOk result (text.new.items ≡ text.old.items ++ decimal number) }
 {
+    if number < 10 {
+        return push_mark(text, b'0' + number as u8);
+    }
     push(text, Buffer::new().format(number))
+}
+
+/// Appends one character: it takes less time than a word of one.
+pub(crate) fn push_mark(text: &mut Vec<u8>, mark: u8) -> Result<(), AllocError>
+    ensures { OnOk result (text.new.items ≡ text.old.items ++ mark ∷ []) }
+{
+    text.push(mark)?;
+    Ok(())
+}
+
+/// Appends one character and a number.
+pub(crate) fn push_marked(text: &mut Vec<u8>, mark: u8, number: u64) -> Result<(), AllocError>
+    ensures { OnOk result (text.new.items ≡ text.old.items ++ mark ∷ decimal number) }
+{
+    push_mark(text, mark)?;
+    push_number(text, number)
 }
 
 /// Appends words and a number.

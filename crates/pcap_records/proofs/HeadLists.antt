@@ -1,47 +1,69 @@
 -- Lists of heads: what they keep as they grow.
 use Rattle.std.proofs.Common.{◌≡◌, ◌≤◌, ℕ, ◌+◌, ◌-◌, Bool, true, false, nat_lt, min, max, List, [], ◌∷◌, ◌++◌, length, map, take, drop, replicate, All, refl, ap, ap₂, sym, ◌∙◌, arith, length-drop, length-append, length-take}
 use Rattle.std.specs.List.{AllByRecursion}
-use Rattle.std.proofs.lemmas.List.{take-take, take_all, drop-drop, length-replicate, drop-append-le, take-append-le, map_push, length_push}
+use Rattle.std.proofs.lemmas.List.{take_all, drop-drop, length-replicate, drop-append-le, take-append-le, map_push, length_push}
 use Rattle.std.proofs.lemmas.Bool.{ltb-true, ltb-false}
 use Rattle.std.proofs.lemmas.List.Elements.{All-push, All-weaker, recursion_from_All}
-use Rattle.std.proofs.Math.Seq.{drop-append_seam}
+use Rattle.std.proofs.Math.Seq.{drop-append_seam, take-append-add}
 use Rattle.pcap_records.specs.declared.capture.Record.{Record}
 use Rattle.pcap_records.specs.declared.head_list.HeadList.{HeadList}
 use Rattle.pcap_records.specs.CaptureView.{IsWithinFile, packet_of}
 use Rattle.pcap_records.specs.Reading.{Heading, first_packet, packet_len}
 use Rattle.pcap_records.specs.Listed.{IsRecordAt}
-use Rattle.pcap_records.specs.Heads.{head_limit, head_of, read_on, some_heads}
-use Rattle.pcap_records.specs.HeadLists.{AreKept, IsGrownBy, IsKept, heads_kept, kept_bytes, kept_head}
+use Rattle.pcap_records.specs.Heads.{head_bytes, head_len, head_of, read_on, some_heads}
+use Rattle.pcap_records.specs.HeadLists.{AreKept, IsGrownBy, IsKept, heads_kept, kept_bytes, kept_head, kept_len, told_packet}
 use Rattle.pcap_records.proofs.HeadReading.{read_on-whole}
+use Rattle.pcap_records.proofs.PacketHeads.{head_bytes-again, head_len-append, head_len-head, head_len-least}
 
 -- ---- one head
-
-take_firsts : (n : ℕ) (xs : List ℕ) → take 98 (take n xs) ≡ take (min 98 n) xs
-take_firsts n xs = by (nat_lt 98 n) refl
-  where
-    by : (b : Bool) → nat_lt 98 n ≡ b → take 98 (take n xs) ≡ take (min 98 n) xs
-    by true is =
-        let least : 98 ≡ min 98 n = omega (arith, ltb-true _ _ is) in
-        take-take 98 n xs (omega (arith, ltb-true _ _ is)) ∙ ap (λ m. take m xs) least
-    by false is =
-        let least : n ≡ min 98 n = omega (arith, ltb-false _ _ is) in
-        take_all 98 (take n xs) (omega (arith, length-take n xs, ltb-false _ _ is)) ∙ ap (λ m. take m xs) least
 
 -- the head of a packet that lies within some bytes is what is kept of it
 pub head_is_kept : (bytes : List ℕ) (r : Record) → r.start + r.len ≤ length bytes → head_of (packet_of bytes r) ≡ kept_head bytes r
 head_is_kept bytes r within =
-    let len : length (take r.len (drop r.start bytes)) ≡ r.len = omega (arith, length-take r.len (drop r.start bytes), length-drop r.start bytes) in
-    rw (len, take_firsts r.len (drop r.start bytes)) refl
+    let len : length (told_packet bytes r) ≡ r.len = omega (arith, length-take r.len (drop r.start bytes), length-drop r.start bytes) in
+    rw len refl
 
-kept_len : (bytes : List ℕ) (r : Record) → r.start + r.len ≤ length bytes → length (kept_bytes bytes r) ≡ min 98 r.len
-kept_len bytes r within = omega (arith, length-take (min 98 r.len) (drop r.start bytes), length-drop r.start bytes)
+kept_bytes-len : (bytes : List ℕ) (r : Record) → r.start + r.len ≤ length bytes → length (kept_bytes bytes r) ≡ kept_len bytes r
+kept_bytes-len bytes r within =
+    let packet = told_packet bytes r in
+    omega (arith, length-take (head_len packet) packet, length-take r.len (drop r.start bytes), length-drop r.start bytes)
 
 abbrev IsHeld : List ℕ → Record → Type 0
-IsHeld bytes r = r.start + min head_limit r.len ≤ length bytes
+IsHeld bytes r = r.start + kept_len bytes r ≤ length bytes
+
+-- what is kept of a packet of n bytes, where these bytes are there from its start on and others follow them
+first_stays : (n : ℕ) (xs more : List ℕ) → min (head_len (take n xs)) n ≤ length xs
+    → (head_len (take n (xs ++ more)) ≡ head_len (take n xs)) × (head_bytes (take n (xs ++ more)) ≡ head_bytes (take n xs))
+first_stays n xs more held = by (nat_lt (length xs) n) refl
+  where
+    by : (b : Bool) → nat_lt (length xs) n ≡ b → (head_len (take n (xs ++ more)) ≡ head_len (take n xs)) × (head_bytes (take n (xs ++ more)) ≡ head_bytes (take n xs))
+    by false is =
+        let same : take n (xs ++ more) ≡ take n xs = take-append-le n xs more (omega (arith, ltb-false _ _ is)) in
+        (ap head_len same, ap head_bytes same)
+    by true is =
+        let short = ltb-true _ _ is in
+        let all : take n xs ≡ xs = take_all n xs (omega (arith, short)) in
+        let count : n ≡ length xs + (n - length xs) = omega (arith, short) in
+        let longer : take n (xs ++ more) ≡ xs ++ take (n - length xs) more = ap (λ m. take m (xs ++ more)) count ∙ take-append-add xs more (n - length xs) in
+        let within : head_len xs ≤ length xs = omega (arith, short, held, ap head_len all) in
+        let len : head_len (xs ++ take (n - length xs) more) ≡ head_len xs = head_len-append xs (take (n - length xs) more) (omega (arith, within, head_len-least xs)) in
+        let first : head_bytes (xs ++ take (n - length xs) more) ≡ head_bytes xs =
+        ap (λ m. take m (xs ++ take (n - length xs) more)) len ∙ take-append-le (head_len xs) xs (take (n - length xs) more) within in
+        (ap head_len longer ∙ len ∙ sym (ap head_len all), ap head_bytes longer ∙ first ∙ sym (ap head_bytes all))
+
+start_within : (bytes : List ℕ) (r : Record) → IsHeld bytes r → r.start ≤ length bytes
+start_within bytes r held = omega arith
+
+held_from : (bytes : List ℕ) (r : Record) → IsHeld bytes r → kept_len bytes r ≤ length (drop r.start bytes)
+held_from bytes r held = omega (arith, length-drop r.start bytes)
 
 kept_head-append : (bytes more : List ℕ) (r : Record) → IsHeld bytes r → kept_head (bytes ++ more) r ≡ kept_head bytes r
 kept_head-append bytes more r held =
-    rw (drop-append-le r.start bytes more (omega arith), take-append-le (min 98 r.len) (drop r.start bytes) more (omega (arith, length-drop r.start bytes))) refl
+    rw (drop-append-le r.start bytes more (start_within bytes r held), (first_stays r.len (drop r.start bytes) more (held_from bytes r held)).1) refl
+
+kept_len-append : (bytes more : List ℕ) (r : Record) → IsHeld bytes r → kept_len (bytes ++ more) r ≡ kept_len bytes r
+kept_len-append bytes more r held =
+    rw (drop-append-le r.start bytes more (start_within bytes r held), (first_stays r.len (drop r.start bytes) more (held_from bytes r held)).0) refl
 
 -- ---- heads
 
@@ -66,23 +88,36 @@ all_held ticks list kept = All-weaker (IsKept ticks list.bytes.items list.need) 
 
 -- ---- a list that grew by a record
 
+-- the head of the record that was added
+added_packet : (bytes file : List ℕ) (r : Record) → told_packet (bytes ++ kept_bytes file r) (record { stamp = r.stamp; start = length bytes; len = r.len }) ≡ kept_bytes file r
+added_packet bytes file r =
+    let packet = told_packet file r in
+    ap (take r.len) (drop-append_seam bytes (kept_bytes file r))
+    ∙ take_all r.len (kept_bytes file r) (omega (arith, length-take (head_len packet) packet, length-take r.len (drop r.start file)))
+
 pub heads_grown : (ticks : ℕ) (file : List ℕ) (r : Record) (old new : HeadList) → AreKept ticks old → IsGrownBy file r old new → r.start + r.len ≤ length file → heads_kept new ≡ heads_kept old ++ head_of (packet_of file r) ∷ []
 heads_grown ticks file r old new kept grown within =
     let bytes = old.bytes.items in
     let first = kept_bytes file r in
     let next : Record = record { stamp = r.stamp; start = length bytes; len = r.len } in
-    let its : kept_head (bytes ++ first) next ≡ kept_head file r = rw (drop-append_seam bytes first, take-take (min 98 r.len) (min 98 r.len) (drop r.start file) (omega arith)) refl in
+    let its : kept_head (bytes ++ first) next ≡ kept_head file r = rw (added_packet bytes file r, head_bytes-again (told_packet file r)) refl in
     rw (grown.bytes, grown.records, map_push (kept_head (bytes ++ first)) old.records.items next, heads-append bytes first old.records.items (all_held ticks old kept), its, head_is_kept file r within) refl
 
 pub kept_grown : (ticks : ℕ) (file : List ℕ) (r : Record) (old new : HeadList) → AreKept ticks old → IsGrownBy file r old new → IsWithinFile ticks file r → AreKept ticks new
 kept_grown ticks file r old new kept grown within =
-    let len : length new.bytes.items ≡ length old.bytes.items + min 98 r.len = rw grown.bytes (omega (arith, length-append old.bytes.items (kept_bytes file r), kept_len file r within.ends)) in
-    let next : Record = record { stamp = r.stamp; start = length old.bytes.items; len = r.len } in
-    let stays : (q : Record) → IsKept ticks old.bytes.items old.need q → IsKept ticks new.bytes.items new.need q =
-    λ q is. record { held = omega (arith, len, is.held); ends = omega (arith, grown.need, is.ends); limited = is.limited; stamped = is.stamped } in
-    let added : IsKept ticks new.bytes.items new.need next = record { held = omega (arith, len); ends = omega (arith, grown.need); limited = within.limited; stamped = within.stamped } in
+    let bytes = old.bytes.items in
+    let first = kept_bytes file r in
+    let len : length new.bytes.items ≡ length bytes + kept_len file r = rw grown.bytes (omega (arith, length-append bytes first, kept_bytes-len file r within.ends)) in
+    let next : Record = record { stamp = r.stamp; start = length bytes; len = r.len } in
+    let same : (q : Record) → IsKept ticks bytes old.need q → kept_len new.bytes.items q ≡ kept_len bytes q =
+    λ q is. ap (λ all. kept_len all q) grown.bytes ∙ kept_len-append bytes first q is.held in
+    let stays : (q : Record) → IsKept ticks bytes old.need q → IsKept ticks new.bytes.items new.need q =
+    λ q is. record { held = omega (arith, len, same q is, is.held); ends = omega (arith, grown.need, is.ends); limited = is.limited; stamped = is.stamped } in
+    let its : kept_len new.bytes.items next ≡ kept_len file r =
+    ap (λ all. kept_len all next) grown.bytes ∙ ap (λ packet. min (head_len packet) r.len) (added_packet bytes file r) ∙ ap (λ n. min n r.len) (head_len-head (told_packet file r)) in
+    let added : IsKept ticks new.bytes.items new.need next = record { held = omega (arith, len, its); ends = omega (arith, grown.need); limited = within.limited; stamped = within.stamped } in
     record {
-      each = rw grown.records (All-push (IsKept ticks new.bytes.items new.need) old.records.items next (All-weaker (IsKept ticks old.bytes.items old.need) (IsKept ticks new.bytes.items new.need) stays old.records.items kept.each) added);
+      each = rw grown.records (All-push (IsKept ticks new.bytes.items new.need) old.records.items next (All-weaker (IsKept ticks bytes old.need) (IsKept ticks new.bytes.items new.need) stays old.records.items kept.each) added);
       bytes = omega (arith, len, grown.taken, kept.bytes);
       need = omega (arith, grown.need, grown.taken, kept.need, kept.bytes);
       few = rw (grown.records, length_push old.records.items next) (omega (arith, grown.taken, kept.few));

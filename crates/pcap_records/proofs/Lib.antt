@@ -1,6 +1,7 @@
 mod FileBlocks
 mod FileHeaders
 mod HeadReading
+mod PacketHeads
 mod HeadLists
 mod Passes
 pub mod Running

@@ -9,11 +9,19 @@ use Rattle.pcap_records.specs.declared.heads.State.TheVariants.{Header, Records,
 use Rattle.pcap_records.specs.CaptureView.{heading_of}
 use Rattle.pcap_records.specs.Instants.{horizon, ticks_of}
 use Rattle.pcap_records.specs.Reading.{Heading, next_record, torn, too_long, file_header_len, packet_limit, record_header_len}
-use Rattle.pcap_records.specs.Heads.{Head, HeadReaderView, Finding, no_header, some_heads, a_fault, head_limit}
+use Rattle.pcap_records.specs.Heads.{Head, HeadReaderView, Finding, no_header, some_heads, a_fault, head_bytes, head_len}
 
--- the first bytes of the packet that a record tells of, which are kept
+-- the packet that a record tells of, as far as it stands in some bytes
+abbrev pub told_packet : List ℕ → Record → List ℕ
+told_packet bytes r = take r.len (drop r.start bytes)
+
+-- its first bytes, which are kept
 abbrev pub kept_bytes : List ℕ → Record → List ℕ
-kept_bytes bytes r = take (min head_limit r.len) (drop r.start bytes)
+kept_bytes bytes r = head_bytes (told_packet bytes r)
+
+-- how many they are, where it is whole
+abbrev pub kept_len : List ℕ → Record → ℕ
+kept_len bytes r = min (head_len (told_packet bytes r)) r.len
 
 -- the head that a record tells of over the bytes that are kept
 abbrev pub kept_head : List ℕ → Record → Head
@@ -24,7 +32,7 @@ heads_kept list = map (kept_head list.bytes.items) list.records.items
 
 -- a record's head stands in the bytes that are kept, and its packet would end by `need`; it is not too long, and its stamp is no later than the horizon
 pub record IsKept (ticks : ℕ) (bytes : List ℕ) (need : ℕ) (r : Record) : Type 0 where
-  pub held : r.start + min head_limit r.len ≤ length bytes
+  pub held : r.start + kept_len bytes r ≤ length bytes
   pub ends : r.start + r.len ≤ need
   pub limited : r.len ≤ packet_limit
   pub stamped : r.stamp ≤ horizon ticks

@@ -1,15 +1,27 @@
 -- Heads of packets: of each its stamp, how long it is, and its first bytes; and what a reader of heads has found in the first part of a file.
-use Rattle.std.specs.Prelude.{◌≡◌, ◌≤◌, ℕ, ◌+◌, ◌-◌, List, ◌++◌, length, map, take, drop, Result, Ok, Err}
+use Rattle.std.specs.Prelude.{◌≡◌, ◌≤◌, ℕ, ◌+◌, ◌-◌, Bool, ◌==◌, ◌&&◌, if◌then◌else◌, List, ◌++◌, length, map, take, drop, slice_index, Result, Ok, Err}
 use Rattle.pcap_records.specs.declared.capture.Record.{Record}
 use Rattle.pcap_records.specs.declared.fault.CaptureFault.{CaptureFault}
 use Rattle.pcap_records.specs.declared.heading.Order.{Order}
 use Rattle.pcap_records.specs.CaptureView.{IsSoundCapture, contents_of}
 use Rattle.pcap_records.specs.Reading.{Heading, Packet, Contents, Reading, capture_limit, reading, records_after}
 
--- So many first bytes of a packet are kept, if it has them: those of an Ethernet header with a tag, of the longest header of IPv4, and of a TCP header
--- without options. Nothing else of a packet is looked at but its payload.
-abbrev pub head_limit : ℕ
-head_limit = 98
+-- ---- how many first bytes of a packet are kept
+
+-- headers as most packets have: Ethernet's without a tag, whose type is IPv4's, and IPv4's without options
+abbrev pub is_usual : List ℕ → Bool
+is_usual bytes = slice_index bytes 12 == 0x08 && (slice_index bytes 13 == 0x00 && slice_index bytes 14 == 0x45)
+
+-- Where the headers are usual ones, those up to the flags of a TCP header; else an Ethernet header with a tag, the longest header of IPv4, and a TCP
+-- header without options. Of what stands after them nothing is looked at but how long it is.
+unfoldable pub head_len : List ℕ → ℕ
+head_len bytes = if is_usual bytes then 48 else 98
+
+-- the first bytes of a packet, which are kept: all that it has, where it has no more
+abbrev pub head_bytes : List ℕ → List ℕ
+head_bytes bytes = take (head_len bytes) bytes
+
+-- ---- heads
 
 -- what is kept of a packet: its stamp, how long it is, and its first bytes
 pub record Head : Type 0 where
@@ -18,7 +30,7 @@ pub record Head : Type 0 where
   pub bytes : List ℕ
 
 abbrev pub head_of : Packet → Head
-head_of p = record { stamp = p.stamp; len = length p.bytes; bytes = take head_limit p.bytes }
+head_of p = record { stamp = p.stamp; len = length p.bytes; bytes = head_bytes p.bytes }
 
 -- what is kept of a file: the ticks of a second, the head of each packet in the file's order, and how many bytes follow them
 pub record Heads : Type 0 where

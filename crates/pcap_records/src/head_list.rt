@@ -10,12 +10,9 @@ ghost use Rattle.pcap_records.specs.declared.heads.State.TheVariants.{Records};
 use crate::capture::Record;
 use crate::file_bytes::FileBytes;
 use crate::heading::Heading;
+use crate::packet_heads::head_len;
 use crate::reader::{Found, RECORD_HEADER_LEN, found_at};
 use std::alloc::AllocError;
-
-/// The most first bytes of a packet that are kept: those of an Ethernet header with a tag, of the longest header of IPv4, and of
-/// a TCP header without options.
-pub const HEAD_LIMIT: usize = 98;
 
 /// The heads that were kept of the first part of a file.
 #[derive(Drop)]
@@ -78,8 +75,9 @@ fn push_head(list: &mut HeadList, bytes: &[u8], read: Record) -> Result<(), Allo
     let start = list.bytes.len();
     let len = read.len as usize;
     let first = read.start as usize;
+    let packet = &bytes[first..first + len];
     list.bytes
-        .extend_from_slice(&bytes[first..first + len.min(HEAD_LIMIT)])?;
+        .extend_from_slice(&packet[..head_len(packet).min(len)])?;
     let kept = Record {
         stamp: read.stamp,
         start: start as u32,

@@ -35,8 +35,8 @@ pub(crate) struct Progress {
     pub list: HeadList,
 }
 
-/// A reader of heads, which takes a file part by part. Of each packet it keeps the first 98 bytes at most, its length and its
-/// stamp, and of the file nothing else.
+/// A reader of heads, which takes a file part by part. Of each packet it keeps its first bytes, as many as [`head_len`](crate::head_len)
+/// says, its length and its stamp, and of the file nothing else.
 ///
 /// The bytes of a part that it did not take, which are fewer than 262,160 after an `Ok`, are to stand again at the beginning of
 /// the next part. A fault of the file is told at the end.

@@ -39,8 +39,8 @@ impl Model for KeptHeads {
 impl KeptHeads {
     ghost use Rattle.pcap_records.specs.Heads.{AreRecordsOf};
 
-    /// The bytes in which the heads stand, and their records over these. Each record has its packet's full length, so that a
-    /// packet's first 98 bytes are its own, and those after them are whatever stands there.
+    /// The bytes in which the heads stand, and their records over these. Each record has its packet's full length, so that as
+    /// many first bytes of a packet as [`head_len`](crate::head_len) says are its own, and those after them are whatever stands there.
     pub fn split(self) -> (Vec<u8>, HeadRecords)
         ensures { AreRecordsOf self result.0.items result.1 }
     {

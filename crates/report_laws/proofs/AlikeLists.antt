@@ -5,7 +5,11 @@ use Rattle.byteorder.specs.Endian.{big_number}
 use Rattle.byteorder.specs.Numbers.{big_from-take}
 use Rattle.frame_headers.specs.Frame.{number_at}
 use Rattle.report_laws.specs.ZeroedPayloads.{zeroed}
-use Rattle.report_laws.specs.SeenHeads.{Alike}
+
+-- two lists are as long, and begin with the same n numbers, or are the same where they have fewer
+pub record Alike (n : ℕ) (one other : List ℕ) : Type 0 where
+  pub first : take n one ≡ take n other
+  pub long : length one ≡ length other
 
 take_swap : (m n : ℕ) (xs : List ℕ) → take m (take n xs) ≡ take n (take m xs)
 take_swap zero zero xs = refl

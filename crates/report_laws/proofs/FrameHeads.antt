@@ -1,17 +1,16 @@
 -- Frames that are as long and begin with the same bytes: the same is seen of them, but for the bytes of a payload.
-use Rattle.std.proofs.Common.{◌≡◌, ◌≤◌, ℕ, ◌-◌, ◌*◌, ◌/◌, ◌%◌, min, Bool, true, false, ◌||◌, ◌&&◌, not, nat_lt, nat_le, ◌==◌, if◌then◌else◌, List, length, refl, sym, ap, ap₂, ◌∙◌, arith}
+use Rattle.std.proofs.Common.{◌≡◌, ◌≤◌, ℕ, ◌+◌, ◌-◌, ◌*◌, ◌/◌, ◌%◌, min, Bool, true, false, ◌||◌, ◌&&◌, not, nat_lt, nat_le, ◌==◌, if◌then◌else◌, List, length, refl, sym, ap, ap₂, ◌∙◌, arith}
 use Rattle.frame_headers.specs.Layout.{ethernet_len, link_len, tag_type, vlan_limit, ipv4_type, ipv4_len, total_len_at, fragment_at, protocol_at, source_at, destination_at, tcp_protocol, tcp_len, to_port_at, seq_at, ack_at, data_offset_at, flags_at}
 use Rattle.frame_headers.specs.Frame.{link_type, is_tagged, vlan_numbered, vlan_in, datagram_in, header_len, total_len, ip_payload, data_offset, payload_of, short, not_ipv4, bad_ipv4, fragment, not_tcp, cut, bad_tcp, same_ends, segment, frame_class_in, frame_class, segment_fields_in, segment_fields, SeenFrame}
 use Rattle.report_laws.specs.ZeroedPayloads.{zeroed, zeroed_frame}
-use Rattle.report_laws.specs.SeenHeads.{Alike, FrameSeesHead}
-use Rattle.report_laws.proofs.AlikeLists.{range_long, zeroed_same, fewer, dropped, same_index, same_number, same_range}
+use Rattle.report_laws.proofs.AlikeLists.{Alike, range_long, zeroed_same, fewer, dropped, same_index, same_number, same_range}
 
 -- So many first bytes are looked at: of Ethernet's header 18 at most, of IPv4's 60 at most, and of TCP's 14.
 abbrev looked_at : ℕ
 looked_at = 92
 
 -- what is seen of a frame, where `tagged` says whether there is a tag
-abbrev seen_in : Bool → List ℕ → SeenFrame
+abbrev pub seen_in : Bool → List ℕ → SeenFrame
 seen_in tagged frame = zeroed_frame (record { class = frame_class_in tagged frame; fields = segment_fields_in tagged frame })
 
 module _ (a b : List ℕ) (x : Alike looked_at a b) where
@@ -30,15 +29,16 @@ module _ (a b : List ℕ) (x : Alike looked_at a b) where
   datagrams_alike true = dropped a b 18 74 x
   datagrams_alike false = dropped a b 14 74 (fewer a b 88 looked_at (omega arith) x)
 
-module _ (a b : List ℕ) (x : Alike 74 a b) where
+-- datagrams, of which so many first bytes are the same
+module _ (a b : List ℕ) (n : ℕ) (many : 20 ≤ n) (x : Alike n a b) where
   headers_same : header_len a ≡ header_len b
-  headers_same = ap (λ n. 4 * (n % 16)) (same_index a b 0 74 (omega arith) x)
+  headers_same = ap (λ first. 4 * (first % 16)) (same_index a b 0 n (omega arith) x)
 
   totals_same : total_len a ≡ total_len b
-  totals_same = same_number a b 2 total_len_at 74 (omega arith) x
+  totals_same = same_number a b 2 total_len_at n (omega arith) x
 
-  payloads_alike : Alike 14 (ip_payload a) (ip_payload b)
-  payloads_alike = same_range a b (header_len a) (total_len a) (header_len b) (total_len b) 14 74 headers_same totals_same (omega arith) x
+  pub payloads_alike : header_len a + 14 ≤ n → Alike 14 (ip_payload a) (ip_payload b)
+  payloads_alike far = same_range a b (header_len a) (total_len a) (header_len b) (total_len b) 14 n headers_same totals_same far x
 
 module _ (a b : List ℕ) (x : Alike 14 a b) where
   offsets_same : data_offset a ≡ data_offset b
@@ -50,21 +50,21 @@ module _ (a b : List ℕ) (x : Alike 14 a b) where
       (range_long a (data_offset a) (length a) ∙ ap₂ (λ n offset. min (n - offset) (n - offset)) x.long offsets_same
       ∙ sym (range_long b (data_offset b) (length b)))
 
-seen_same : (tagged : Bool) (a b : List ℕ) → Alike looked_at a b → seen_in tagged a ≡ seen_in tagged b
-seen_same tagged a b x =
-    let d = datagrams_alike a b x tagged in
+-- frames whose Ethernet headers, IPv4 headers and TCP headers as far as their flags are the same
+pub seen_alike : (tagged : Bool) (a b : List ℕ) (m n : ℕ) → 16 ≤ m → 20 ≤ n → Alike m a b → Alike n (datagram_in tagged a) (datagram_in tagged b)
+    → Alike 14 (ip_payload (datagram_in tagged a)) (ip_payload (datagram_in tagged b)) → link_type tagged a ≡ link_type tagged b → vlan_in tagged a ≡ vlan_in tagged b
+    → seen_in tagged a ≡ seen_in tagged b
+seen_alike tagged a b m n far many x d t type vlan =
     let ip = datagram_in tagged a in
     let ip' = datagram_in tagged b in
-    let t = payloads_alike ip ip' d in
     let tcp = ip_payload ip in
     let tcp' = ip_payload ip' in
-    let type = types_same a b x tagged in
-    let first = same_index ip ip' 0 74 (omega arith) d in
-    let total = totals_same ip ip' d in
-    let bits = same_number ip ip' 2 fragment_at 74 (omega arith) d in
-    let protocol = same_index ip ip' protocol_at 74 (omega arith) d in
-    let source = same_number ip ip' 4 source_at 74 (omega arith) d in
-    let destination = same_number ip ip' 4 destination_at 74 (omega arith) d in
+    let first = same_index ip ip' 0 n (omega arith) d in
+    let total = totals_same ip ip' n many d in
+    let bits = same_number ip ip' 2 fragment_at n (omega arith) d in
+    let protocol = same_index ip ip' protocol_at n (omega arith) d in
+    let source = same_number ip ip' 4 source_at n (omega arith) d in
+    let destination = same_number ip ip' 4 destination_at n (omega arith) d in
     let offset = offsets_same tcp tcp' t in
     let from = same_number tcp tcp' 2 0 14 (omega arith) t in
     let to = same_number tcp tcp' 2 to_port_at 14 (omega arith) t in
@@ -80,9 +80,9 @@ seen_same tagged a b x =
           else if source i == destination i && from i == to i then same_ends
           else segment;
       fields = record {
-        mac_from = (dropped a b 6 6 (fewer a b 12 looked_at (omega arith) x)).first i;
-        mac_to = (fewer a b 6 looked_at (omega arith) x).first i;
-        vlan = vlans_same a b x tagged i;
+        mac_from = (dropped a b 6 6 (fewer a b 12 m (omega arith) x)).first i;
+        mac_to = (fewer a b 6 m (omega arith) x).first i;
+        vlan = vlan i;
         from = record { addr = source i; port = from i };
         to = record { addr = destination i; port = to i };
         seq = same_number tcp tcp' 4 seq_at 14 (omega arith) t i;
@@ -92,12 +92,15 @@ seen_same tagged a b x =
       };
     }
 
-frames_same : (a b : List ℕ) (n : ℕ) → Alike n a b → looked_at ≤ n
+seen_same : (tagged : Bool) (a b : List ℕ) → Alike looked_at a b → seen_in tagged a ≡ seen_in tagged b
+seen_same tagged a b x =
+    let d = datagrams_alike a b x tagged in
+    let t = payloads_alike (datagram_in tagged a) (datagram_in tagged b) 74 (omega arith) d (omega arith) in
+    seen_alike tagged a b looked_at 74 (omega arith) (omega arith) x d t (types_same a b x tagged) (vlans_same a b x tagged)
+
+pub frames_same : (a b : List ℕ) (n : ℕ) → Alike n a b → looked_at ≤ n
     → zeroed_frame (record { class = frame_class a; fields = segment_fields a }) ≡ zeroed_frame (record { class = frame_class b; fields = segment_fields b })
 unfolding frame_class segment_fields
 frames_same a b n alike enough =
     let x = fewer a b looked_at n enough alike in
     ap (λ tagged. seen_in tagged a) (tags_same a b x) ∙ seen_same (is_tagged b) a b x
-
-pub frame_sees_head : FrameSeesHead
-frame_sees_head one other alike = frames_same one other _ alike (omega arith)

@@ -5,4 +5,5 @@ mod ZeroedToxics
 mod ZeroedReports
 mod AlikeLists
 mod FrameHeads
+mod UsualHeads
 mod SeenHeads

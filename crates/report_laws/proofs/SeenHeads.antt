@@ -9,7 +9,7 @@ use Rattle.conn_table.specs.SeenCapture.{SeenPacket, seen_packet, seen_packets, 
 use Rattle.report_laws.specs.ZeroedPayloads.{zeroed_frame, zeroed_packet, zeroed_seen}
 use Rattle.report_laws.specs.SeenHeads.{ReportSeesHeads}
 use Rattle.report_laws.proofs.MappedLists.{map_map}
-use Rattle.report_laws.proofs.FrameHeads.{frame_sees_head}
+use Rattle.report_laws.proofs.UsualHeads.{frame_sees_head}
 use Rattle.report_laws.proofs.ZeroedReports.{report_sees_lengths}
 
 frames_same : (p q : Packet) → head_of p ≡ head_of q → zeroed_frame (seen_frame p.bytes) ≡ zeroed_frame (seen_frame q.bytes)

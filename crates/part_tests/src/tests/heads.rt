@@ -2,7 +2,7 @@
 use super::captures::{LITTLE, put_record_header};
 use super::checks::check;
 use pcap_records::{
-    CAPTURE_LIMIT, Capture, CaptureFault, HEAD_LIMIT, HeadReader, KeptHeads, Order, read_capture,
+    CAPTURE_LIMIT, Capture, CaptureFault, HeadReader, KeptHeads, Order, head_len, read_capture,
 };
 use std::alloc::{AllocError, AllocGlobal, Global};
 use std::process::Abort;
@@ -27,7 +27,7 @@ fn heads_by(alloc: Global, file: &[u8], part: usize) -> Result<KeptHeads, Captur
 
 // Whether two packets are as long and begin with the same head.
 fn are_alike(one: &[u8], other: &[u8]) -> bool {
-    let len = one.len().min(HEAD_LIMIT);
+    let len = one.len().min(head_len(one));
     one.len() == other.len() && one.get(..len) == other.get(..len)
 }
 
@@ -54,13 +54,24 @@ fn check_heads(rt: &(impl Abort + AllocGlobal), file: &[u8], part: usize) {
     check(rt, "heads", has_heads(&heads, &whole));
 }
 
-// A file of a record with a packet of each of these lengths, which is its second too, and whose bytes count up; then a part of one more.
-fn file_of(alloc: Global, lens: &[u32]) -> Result<Vec<u8>, AllocError> {
+// The three bytes of a packet from its Ethernet header's type on: where IPv4's header has no options, and others.
+const USUAL: [u8; 3] = [0x08, 0x00, 0x45];
+
+const OTHER: [u8; 3] = [0x08, 0x00, 0x46];
+
+// A file of a record with a packet of each of these lengths, which is its second too, and whose bytes count up but for its type and the
+// byte after it; then a part of one more.
+fn file_of(alloc: Global, lens: &[u32], marks: [u8; 3]) -> Result<Vec<u8>, AllocError> {
     let mut file = Vec::from_slice(alloc, &LITTLE)?;
     for len in lens {
         put_record_header(&mut file, Order::Little, (*len, 7), *len)?;
         for i in 0..*len {
-            file.push((i % 251) as u8)?;
+            file.push(match i {
+                12 => marks[0],
+                13 => marks[1],
+                14 => marks[2],
+                _ => (i % 251) as u8,
+            })?;
         }
     }
     file.extend_from_slice(&[1, 2, 3])?;
@@ -77,24 +88,40 @@ fn the_plain_session_in_parts(rt: HostRuntime) {
 // Packets of fewer bytes than a head has, of as many, of one more, and of many more.
 #[test]
 fn packets_in_parts(rt: HostRuntime) {
-    let file = file_of(rt.alloc(), &[0, 1, 97, 98, 99, 1514, 5000, 3]).expect(&rt, "memory");
-    check_heads(&rt, &file, 1);
-    check_heads(&rt, &file, 113);
-    check_heads(&rt, &file, 100_000);
+    let lens = [0, 1, 14, 15, 47, 48, 49, 97, 98, 99, 1514, 5000, 3];
+    for marks in [USUAL, OTHER] {
+        let file = file_of(rt.alloc(), &lens, marks).expect(&rt, "memory");
+        check_heads(&rt, &file, 1);
+        check_heads(&rt, &file, 113);
+        check_heads(&rt, &file, 100_000);
+    }
+}
+
+// 14 bytes of Ethernet, 20 of IPv4 and 14 of TCP; or at most 18, 60 and 20. A packet without the byte after its type is any other.
+#[test]
+fn lengths_of_heads(rt: HostRuntime) {
+    let mut packet = [0; 60];
+    packet[12..15].copy_from_slice(&USUAL);
+    check(&rt, "usual", head_len(&packet) == 48);
+    check(&rt, "cut", head_len(&packet[..14]) == 98);
+    packet[12..15].copy_from_slice(&OTHER);
+    check(&rt, "options", head_len(&packet) == 98);
+    packet[12..15].copy_from_slice(&[0x81, 0x00, 0x45]);
+    check(&rt, "a tag", head_len(&packet) == 98);
 }
 
 // Some thousand packets, of which each is handed over in two parts or more.
 #[test]
 fn many_packets_in_parts(rt: HostRuntime) {
     let lens = [150; 3000];
-    let file = file_of(rt.alloc(), &lens).expect(&rt, "memory");
+    let file = file_of(rt.alloc(), &lens, OTHER).expect(&rt, "memory");
     check_heads(&rt, &file, 99);
 }
 
 // The second record announces a byte more than a packet may have, and another follows that does too.
 #[test]
 fn too_long_a_packet_in_parts(rt: HostRuntime) {
-    let mut file = file_of(rt.alloc(), &[9]).expect(&rt, "memory");
+    let mut file = file_of(rt.alloc(), &[9], OTHER).expect(&rt, "memory");
     file.truncate(file.len().saturating_sub(3));
     put_record_header(&mut file, Order::Little, (1, 1), 262_145).expect(&rt, "memory");
     put_record_header(&mut file, Order::Little, (1, 1), 262_146).expect(&rt, "memory");

@@ -1,4 +1,4 @@
-use Rattle.report_laws.proofs.FrameHeads.{frame_sees_head}
+use Rattle.report_laws.proofs.UsualHeads.{frame_sees_head}
 use Rattle.report_laws.proofs.laws.frame_sees_head.Goals as goal
 
 pub returns : goal.returns

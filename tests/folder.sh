@@ -76,6 +76,18 @@ ln -s "$work/target" "$work/folder/0000.txt"
 run "$capture" "${late[@]}" --out "$work/folder"
 verdict "a link of the report's name" "$(well; folder_difference "$work/new" "$work/folder"; echo target | byte_difference - "$work/target")"
 
+# A draft replaces what stands at its path: a link, which is not followed, and a pipe, for which no run waits.
+folder
+ln -s "$work/target" "$work/folder/toxicap.unfinished-0"
+mkfifo "$work/folder/toxicap.unfinished-1"
+run "$capture" "${late[@]}" --out "$work/folder"
+verdict "a link and a pipe where drafts are made" "$(well; folder_difference "$work/new" "$work/folder"; echo target | byte_difference - "$work/target")"
+
+folder
+mkfifo "$work/folder/0000.txt"
+run "$capture" "${late[@]}" --out "$work/folder"
+verdict "a pipe of the report's name" "$(refusal "refused 60 ShelfFailed after 1"; [ -p "$work/folder/0000.txt" ] || echo "  the pipe is gone")"
+
 # A file that the run reads is not replaced: neither the capture, nor a scenario, nor standard input, nor what a link leads to.
 # spared WHAT NUMBER FILE: the verdict on the last run, which was refused after so many files, where FILE was to stay as the capture is.
 spared() { verdict "$1" "$(refusal "refused 60 ShelfFailed after $2"; byte_difference "$capture" "$3")"; }

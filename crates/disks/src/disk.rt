@@ -117,8 +117,8 @@ pub trait Disk {
         ensures appended { (had : List ℕ) → holds draft.old had → holds draft.new (had ++ bytes.now) }
         ensures path { path_of draft.new ≡ path_of draft.old };
 
-    /// Looks whether a file may get this name: not where a folder stands, or a file that may not be written, or one of those that are
-    /// spared.
+    /// Looks whether a file may get this name: not where something else than a file stands (a folder, a pipe), or a file that may not
+    /// be written, or one of those that are spared.
     ///
     /// # Errors
     /// It may not, or the disk failed. Its files are as they were.

@@ -4,7 +4,7 @@ ghost use Rattle.std.specs.Prelude.{None};
 use crate::disk::{Disk, DiskFault, DiskFile, FileId, ReadDisk};
 use std::alloc::Global;
 use std::fs::{self, Metadata, OpenFile, OpenOptions};
-use std::io::{ErrorKind, Read, Write};
+use std::io::{self, ErrorKind, Read, Write};
 use std::os::unix::fs::{FileExt, MetadataExt};
 use std::rt::Files;
 
@@ -25,10 +25,11 @@ impl<'a, F: Files> HostDisk<'a, F> {
         HostDisk { files, failed: 0 }
     }
 
-    // Refuses a name that stands for a folder, for a file that may not be written, or for one that is spared.
+    // Refuses a name that stands for anything but a file, for a file that may not be written, or for one that is spared. Nothing
+    // but a file is opened: a pipe would wait.
     fn look_at_name(&self, path: &str, spared: &[FileId]) -> Result<(), DiskFault> {
         if let Ok(metadata) = fs::metadata(self.files, path)
-            && spared.contains(&id_of(&metadata))
+            && (!metadata.is_file() || spared.contains(&id_of(&metadata)))
         {
             return Err(DiskFault::Failed);
         }
@@ -45,6 +46,19 @@ fn id_of(metadata: &Metadata) -> FileId {
     FileId {
         device: metadata.dev(),
         inode: metadata.ino(),
+    }
+}
+
+// Makes a file at a path. What a killed run left there is removed first, and so is a link: it is not followed.
+fn create_anew<F: Files>(files: &F, path: &str) -> io::Result<F::File> {
+    let mut options = OpenOptions::new();
+    options.write(true).create_new(true);
+    match options.open(files, path) {
+        Err(error) if error.kind() == ErrorKind::AlreadyExists => {
+            fs::remove_file(files, path)?;
+            options.open(files, path)
+        }
+        opened => opened,
     }
 }
 
@@ -65,7 +79,7 @@ impl<'a, F: Files> HostDraft<'a, F> {
     fn begun(files: &'a F, path: String) -> HostDraft<'a, F>
         ensures { result.path ≡ path }
     {
-        match fs::create(files, &path) {
+        match create_anew(files, &path) {
             Ok(file) => HostDraft {
                 files,
                 path,

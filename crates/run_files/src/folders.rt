@@ -22,11 +22,11 @@ const UNFINISHED: &str = "toxicap.unfinished";
 ///
 /// A file is written as a draft beside the others, `toxicap.unfinished-0` where its place is 0, and gets its name when it is whole: at any
 /// time the file of a name is the old one whole or the new one whole, also where the program is killed or the disk is full. What a killed
-/// program leaves of a draft is replaced by the next draft of that place.
+/// program leaves of a draft is replaced by the next draft of that place, and so is a link, which is not followed.
 ///
 /// A file that cannot be made or written whole is a failure, and so is any file in a folder that is not there, and a name that stands
-/// for a folder or a file that may not be written, or that is [spared](Folder::spare). A name with a slash, of more than 255 bytes, or that
-/// begins as those of drafts do, is a failure too.
+/// for something else than a file, or for a file that may not be written or is [spared](Folder::spare). A name with a slash, of more than
+/// 255 bytes, or that begins as those of drafts do, is a failure too.
 #[derive(Drop)]
 pub struct Folder<'a> {
     folder: &'a str,

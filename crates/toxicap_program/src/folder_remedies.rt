@@ -40,8 +40,8 @@ fn file_remedy<R: Files>(
     let kind = if after % 2 == 0 { "pcap" } else { "txt" };
     let path = format!(in alloc; "{folder}/{number:04}.{kind}")?;
     let name = shown_path(alloc, &path)?;
-    if is_folder(files, &path) {
-        return format!(in alloc; "{name} is a folder: move it, or choose another --out");
+    if let Some(kind) = other_kind(files, &path) {
+        return format!(in alloc; "{name} is {kind}: move it, or choose another --out");
     }
     if has_been_read(files, inputs, &path) {
         return format!(in alloc;
@@ -58,11 +58,12 @@ fn file_remedy<R: Files>(
     }
 }
 
-// Whether a path stands for a folder.
-fn is_folder<R: Files>(files: &R, path: &str) -> bool {
+// What a path stands for where it is no file: a folder, or a pipe and the like.
+fn other_kind<R: Files>(files: &R, path: &str) -> Option<&'static str> {
     match fs::metadata(files, path) {
-        Ok(metadata) => metadata.is_dir(),
-        Err(_) => false,
+        Ok(metadata) if metadata.is_dir() => Some("a folder"),
+        Ok(metadata) if !metadata.is_file() => Some("no file"),
+        _ => None,
     }
 }
 

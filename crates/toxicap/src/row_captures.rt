@@ -1,13 +1,14 @@
 //! The capture of what connections contribute to a scenario, written to a draft.
-ghost use Rattle.std.specs.Prelude.{◌≡◌, [], IfOk};
+ghost use Rattle.std.specs.Prelude.{◌≡◌, [], IfOk, map};
 ghost use Rattle.std.specs.List.{flat_map};
 ghost use Rattle.pcap_records.specs.Instants.{ticks_of};
 ghost use Rattle.segment_writer.specs.KeyLaws.{HasNoKeyTwice};
 ghost use Rattle.time_merge.specs.MergedCapture.{capture_of};
 
-use conn_workers::RowShare;
+use conn_workers::OutlineRow;
 use disks::Disk;
 use pcap_records::Unit;
+use segment_writer::SegmentRow;
 use std::alloc::{AllocError, Global};
 use time_merge::{CaptureSink, write_capture};
 
@@ -33,23 +34,41 @@ impl<D: Disk> CaptureSink for DraftSink<D> {
     }
 }
 
-// A draft without bytes, once the capture of the segments of all shares is written to it.
+// The segments of all shares, share by share. Their lines are let go.
+//
+// # Errors
+// A growth was refused.
+pub(crate) fn segments_alone<'a>(
+    alloc: Global,
+    row: OutlineRow<'a>,
+) -> Result<Vec<SegmentRow<'a>>, AllocError>
+    ensures { IfOk result (λ rows. rows.items ≡ map (λ s. s.segments) row.entry) }
+{
+    let shares = row.into_vec();
+    let mut rows = Vec::with_capacity(alloc, shares.len())?;
+    for share in shares {
+        rows.push(share.segments)?;
+    }
+    Ok(rows)
+}
+
+// A draft without bytes, once the capture of the segments of all rows is written to it.
 //
 // # Errors
 // A growth was refused.
 pub(crate) fn written_draft<D: Disk>(
     alloc: Global,
-    shares: &[RowShare<'_>],
+    rows: &[SegmentRow<'_>],
     unit: Unit,
     draft: D::Draft,
 ) -> Result<D::Draft, AllocError>
-    requires once { HasNoKeyTwice (flat_map (λ s. s.segments) shares.now) }
+    requires once { HasNoKeyTwice (flat_map (λ r. r) rows.now) }
     requires empty { D.holds draft [] }
-    ensures holds { IfOk result (λ d. D.holds d (capture_of (ticks_of unit) (flat_map (λ s. s.segments) shares.now))) }
+    ensures holds { IfOk result (λ d. D.holds d (capture_of (ticks_of unit) (flat_map (λ r. r) rows.now))) }
     ensures path { IfOk result (λ d. D.path_of d ≡ D.path_of draft) }
 {
     let mut sink = DraftSink::<D> { draft };
-    let rest = write_capture(alloc, shares, unit, &mut sink)?;
+    let rest = write_capture(alloc, rows, unit, &mut sink)?;
     let DraftSink { mut draft } = sink;
     D::append(&mut draft, &rest);
     Ok(draft)

@@ -5,7 +5,7 @@ ghost use Rattle.conn_workers.specs.Recordings.{recordings_of};
 ghost use Rattle.toxicap.specs.Rehearsal.{scenario_limit};
 
 use crate::crews::Crew;
-use crate::row_captures::written_draft;
+use crate::row_captures::{segments_alone, written_draft};
 use crate::row_reports::{put_lines, put_texts, reported_draft};
 use conn_table::Table;
 use conn_workers::laws::{lines_are_contributed, rows_are_contributed};
@@ -92,7 +92,8 @@ impl<'w, 'v, 'a> Sources<'w, 'v, 'a> {
         })
     }
 
-    /// The same as drafts of a folder: the capture in the place that is twice this one, and the report in the next.
+    /// The same as drafts of a folder: the capture in the place that is twice this one, and the report in the next. The report is written
+    /// first, so that no lines are held while the capture is.
     pub(crate) fn drafted<C: Crew, D: Disk>(
         &self,
         crew: &C,
@@ -108,12 +109,12 @@ impl<'w, 'v, 'a> Sources<'w, 'v, 'a> {
         ensures places { IfOk result (AreAtPlace D.path_of folder.now.folder place) }
     {
         let row = self.row(crew, number)?;
-        let shares = row.as_slice();
-        let draft = folder.draft(self.alloc, disk, 2 * place)?;
-        let capture = written_draft::<D>(self.alloc, shares, self.capture.unit(), draft)?;
         let head = self.head(number)?;
         let draft = folder.draft(self.alloc, disk, 2 * place + 1)?;
-        let report = reported_draft::<D>(draft, &head, shares);
+        let report = reported_draft::<D>(draft, &head, row.as_slice());
+        let rows = segments_alone(self.alloc, row)?;
+        let draft = folder.draft(self.alloc, disk, 2 * place)?;
+        let capture = written_draft::<D>(self.alloc, &rows, self.capture.unit(), draft)?;
         Ok((capture, report))
     }
 

@@ -1,5 +1,5 @@
 #!/usr/bin/env python3
-"""Makes what pages tell of the tree itself: the crates, what they stand on and their files; the limits; the wrong bodies; the public calls.
+"""Makes what pages tell of the tree itself: the crates, what they stand on and their files; the limits; the public calls.
 
 A page of docs/ has such a part between two lines, `<!-- made: NAME -->` and `<!-- end -->`. Without an argument each part is written anew. With
 `--check` nothing is written: a part that is not what would be written fails, and so does one that no page has. The larger sample as a dump, for
@@ -41,10 +41,6 @@ def files(crate, folder, suffix):
     """The files of a folder of a crate, but for those that only list the others."""
     found = (TREE / 'crates' / crate / folder).rglob('*' + suffix)
     return sorted(path for path in found if path.stem not in ('lib', 'Lib'))
-
-
-def edits(crate):
-    return sorted((TREE / 'crates' / crate / 'must-fail').glob('*.edit'))
 
 
 # ---- texts about files
@@ -163,15 +159,6 @@ def made_limits():
         for file, told in found.items(): yield f'- {crate}/{file}: {", ".join(told)}\n'
 
 
-# ---- wrong bodies
-
-def made_edits():
-    """The names of the wrong bodies of each crate."""
-    for crate in uses():
-        names = [path.stem for path in edits(crate)]
-        if names: yield f'- {crate}: {", ".join(names)}\n'
-
-
 # ---- calls
 
 FUNCTION = re.compile(r'^( *)(pub(?:\(crate\))? )?(?:unsafe )?(?:extern "C" )?fn (\w+)', re.M)
@@ -241,7 +228,7 @@ def made_dump():
 
 # ---- pages
 
-PARTS = {'crates': made_crates, 'limits': made_limits, 'edits': made_edits, 'calls': made_calls}
+PARTS = {'crates': made_crates, 'limits': made_limits, 'calls': made_calls}
 
 
 def part(name):

@@ -221,6 +221,32 @@ for workers in 1 4; do
     )"
 done
 
+for workers in 2 4; do
+    run_with "" /dev/null --capture "$work/pairs.recorded" --workers $workers
+    verdict "100,000 pairs, printed by $workers workers" "$(well; byte_difference "$work/pairs.report" "$work/output")"
+done
+
+# Reports of more than a MB are written in parts. Each write of these 9 MB fails in turn: a first part is written then, and nothing after it.
+# cut_short BEFORE: what is at fault with a run of which a write failed, that had less written than this one, so many bytes.
+cut_short() {
+    local size
+    size=$(stat -c %s "$work/output")
+    fault 1
+    told faults $'refused 62 WriteFailed\n'
+    [ "$size" -gt "$1" ] || echo "  bytes written: $size, by a write fewer: $1"
+    head -c "$size" "$work/pairs.report" | byte_difference - "$work/output"
+}
+run_with "" "$work/pairs.recorded"
+if can_count "9 MB of which each write fails"; then
+    writes=$(count write) before=-1 bad=""
+    for ((number = 1; number <= writes; number++)); do
+        run_with "FAIL=write:$number" "$work/pairs.recorded"
+        bad+=$(cut_short "$before")
+        before=$(stat -c %s "$work/output")
+    done
+    verdict "9 MB of which each write fails" "$([ "$writes" -gt 9 ] || echo "  writes: $writes")$bad"
+fi
+
 # 400,000 openings take less than a second of a processor, and have three. A list of their pairs would take 96 seconds, and 16 lists would take six.
 status=0
 (ulimit -t 3; exec "$program" --capture "$work/openings" > "$work/output" 2> "$work/faults") || status=$?

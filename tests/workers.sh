@@ -20,17 +20,16 @@ least() { echo $(($1 < $2 ? $1 : $2)); }
 
 # wanted BLOCKS SCENARIOS printed|stored WORKERS: how many threads each phase is to make, by docs/ARCHITECTURE.md (the
 # way of a rehearsal). One of the workers is the thread that is there. The phases: where files are stored, a named file of several blocks is loaded,
-# by no more workers than blocks; the table is made; then what is recorded. Of each printed report a phase makes the lines. Where files are stored,
-# drafts are made of as many scenarios as twice the workers, or as are left, each by one worker, so by no more workers than scenarios; of a last one by
-# all.
+# by no more workers than blocks; the table is made; then the lines of all printed reports, or what is recorded. Where files are stored, drafts are
+# made of as many scenarios as twice the workers, or as are left, each by one worker, so by no more workers than scenarios; of a last one by all.
 wanted() {
     local blocks=$1 left=$2 where=$3 workers=$4 all=() share
     [ "$workers" != 1 ] || return 0
     [ "$where" = printed ] || [ "$blocks" -lt 2 ] || all+=($(($(least "$blocks" "$workers") - 1)))
     all+=($((workers - 1)) $((workers - 1)))
+    [ "$where" != printed ] || left=0
     while [ "$left" -gt 0 ]; do
-        share=1
-        [ "$where" = printed ] || share=$(least "$left" $((2 * workers)))
+        share=$(least "$left" $((2 * workers)))
         if [ "$share" = 1 ]; then all+=($((workers - 1))); else all+=($(($(least "$share" "$workers") - 1))); fi
         left=$((left - share))
     done

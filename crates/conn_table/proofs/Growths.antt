@@ -13,9 +13,10 @@ use Rattle.conn_table.specs.declared.entries.Entry.{Entry}
 use Rattle.conn_table.specs.declared.lasts.Current.{Current}
 use Rattle.conn_table.specs.declared.growth.Growth.{Growth}
 use Rattle.conn_table.specs.IndexedSegments.{same_pair}
-use Rattle.conn_table.specs.KeptSegments.{KeptSegment, opening_of}
+use Rattle.conn_table.specs.KeptSegments.{KeptSegment, is_again, opening_of, opens}
 use Rattle.conn_table.specs.LastConnections.{IsLasts}
 use Rattle.conn_table.specs.Entries.{kept_by, all_of}
+use Rattle.conn_table.proofs.Peers.{same_pair-is}
 use Rattle.conn_table.specs.Growing.{GrownView, member_from, conn_with, grown_at, grown_none, begins, grown_begun, grown_plain, grown_with, grown_of, shown_by, HasGrown, IsReady}
 
 -- ---- the three cases of a segment
@@ -32,6 +33,23 @@ pub grown-plain : (old new : GrownView) (k : KeptSegment) (last : Option Current
     → new.conns ≡ (grown_plain last old k).conns → ((p : Pair) → new.current p ≡ (grown_plain last old k).current p) → new.unopened ≡ (grown_plain last old k).unopened
     → new ≡ grown_with old k
 grown-plain old new k last found plain conns current unopened = rw (found, plain) (λ i. record { conns = conns i; unopened = unopened i; current = λ p. current p i })
+
+-- an opening that is sent again
+pub grown-again : (old new : GrownView) (k : KeptSegment) (last : Current) → old.current k.pair ≡ Some last → opens k ≡ true → is_again (Some last.opening) (opening_of k) ≡ true
+    → new.conns ≡ grown_at last.number (member_from last.opening.from_low k) old.conns → ((p : Pair) → new.current p ≡ old.current p) → new.unopened ≡ old.unopened
+    → new ≡ grown_with old k
+grown-again old new k last found opened again conns current unopened =
+    let plain : begins (Some last) k ≡ false = rw (opened, again) refl in
+    grown-plain old new k (Some last) found plain conns current unopened
+
+-- who puts what a pair had back changes nothing
+pub put_back : (old mid new : Pair → Option Current) (p : Pair) (other own : Current) → old p ≡ Some own
+    → ((q : Pair) → mid q ≡ cond (same_pair p q) (Some other) (old q)) → ((q : Pair) → new q ≡ cond (same_pair p q) (Some own) (mid q)) → (q : Pair) → new q ≡ old q
+put_back old mid new p other own had one two q = two q ∙ by (same_pair p q) refl
+  where
+    by : (t : Bool) → same_pair p q ≡ t → cond t (Some own) (mid q) ≡ old q
+    by true same = sym had ∙ ap old (same_pair-is p q same)
+    by false apart = one q ∙ ap (λ t. cond t (Some other) (old q)) apart
 
 pub grown_at-set : (n : ℕ) (x : Member) (cs : List Conn) (d : Conn) → n < length cs → d ≡ get_or cs n d → set cs n (record d { members = d.members ++ x ∷ [] }) ≡ grown_at n x cs
 grown_at-set n x [] d within is = absurd (omega arith)
@@ -100,6 +118,11 @@ grown-next done e old new grown next lasts = record {
   lasts = lasts;
 }
 
+-- after some segments, one more of a list
+pub taken-next : (done es : List Entry) (i : ℕ) (e : Entry) → i < length es → e ≡ get_or es i e → done ++ take (i + 1) es ≡ (done ++ take i es) ++ e ∷ []
+taken-next done es i e within is =
+    ap (λ xs. done ++ xs) (take_more es i e within ∙ ap (λ x. take i es ++ x ∷ []) (sym is)) ∙ sym (append_assoc done (take i es) (e ∷ []))
+
 -- ---- ranges
 
 abbrev items_of : Vec Entry Global → List Entry
@@ -111,23 +134,11 @@ all_of-append rs ss = flat_map-append items_of rs ss
 pub all_of-one : (r : Vec Entry Global) → all_of (r ∷ []) ≡ r.items
 all_of-one r = append-nil r.items
 
--- the segments of the first n ranges, and the first i of the next one
-abbrev pub done_to : List (Vec Entry Global) → ℕ → List Entry → ℕ → List Entry
-done_to rs n es i = all_of (take n rs) ++ take i es
+-- those of one range more
+pub all_of-push : (rs : List (Vec Entry Global)) (r : Vec Entry Global) → all_of (rs ++ r ∷ []) ≡ all_of rs ++ r.items
+all_of-push rs r = all_of-append rs (r ∷ []) ∙ ap (λ es. all_of rs ++ es) (all_of-one r)
 
-pub done-none : (rs : List (Vec Entry Global)) (n : ℕ) (es : List Entry) → done_to rs n es 0 ≡ all_of (take n rs)
-done-none rs n es = append-nil (all_of (take n rs))
-
-pub done-next : (rs : List (Vec Entry Global)) (n : ℕ) (es : List Entry) (i : ℕ) (e : Entry) → i < length es → e ≡ get_or es i e → done_to rs n es (i + 1) ≡ done_to rs n es i ++ e ∷ []
-done-next rs n es i e within is =
-    ap (λ xs. all_of (take n rs) ++ xs) (take_more es i e within ∙ ap (λ x. take i es ++ x ∷ []) (sym is)) ∙ sym (append_assoc (all_of (take n rs)) (take i es) (e ∷ []))
-
-pub done-range : (rs : List (Vec Entry Global)) (n i : ℕ) (r : Vec Entry Global) (es : List Entry) → n < length rs → r ≡ get_or rs n r → es ≡ r.items → length es ≤ i → done_to rs n es i ≡ all_of (take (n + 1) rs)
-done-range rs n i r es within is same over =
-    ap (λ xs. all_of (take n rs) ++ xs) (take_all i es over ∙ same ∙ sym (all_of-one r)) ∙ sym (all_of-append (take n rs) (r ∷ []))
-    ∙ ap all_of (sym (take_more rs n r within ∙ ap (λ x. take n rs ++ x ∷ []) (sym is)))
-
-pub done-few : (rs : List (Vec Entry Global)) (n i : ℕ) (r : Vec Entry Global) (es : List Entry) → n < length rs → r ≡ get_or rs n r → es ≡ r.items → i ≤ length es → length (done_to rs n es i) ≤ length (all_of rs)
-done-few rs n i r es within is same inside =
-    let len : length es ≡ length (get_or rs n r).items = ap length same ∙ ap (λ (x : Vec Entry Global). length x.items) is in
-    omega (arith, length-append (all_of (take n rs)) (take i es), length-take i es, len, length-flat_map-take items_of rs n r within, inside)
+-- and of all with one range before the rest
+pub all_of-longer : (rs rest : List (Vec Entry Global)) (r : Vec Entry Global) → length (all_of rs) + length r.items ≤ length (all_of (rs ++ r ∷ rest))
+all_of-longer rs rest r =
+    omega (arith, ap length (all_of-append rs (r ∷ rest)), length-append (all_of rs) (all_of (r ∷ rest)), length-append r.items (all_of rest))

@@ -1,7 +1,6 @@
 //! The connections of a capture, which grow segment by segment.
 ghost use Rattle.std.specs.Prelude.{◌≡◌, ◌<◌, length, OnOk};
-ghost use Rattle.conn_table.specs.Entries.{kept_by};
-ghost use Rattle.conn_table.specs.Growing.{begins, grown_at};
+ghost use Rattle.conn_table.specs.Growing.{grown_at};
 
 use crate::conns::{Conn, Member, Members};
 use crate::entries::Entry;
@@ -20,9 +19,12 @@ pub(crate) struct Growth {
 }
 
 impl Growth {
-    ghost use Rattle.std.specs.Prelude.{◌≡◌, ◌<◌, ◌^◌, [], ◌∷◌, ◌++◌, length, IfOk, OnOk};
+    ghost use Rattle.std.specs.Prelude.{◌≡◌, ◌+◌, ◌<◌, ◌^◌, List, [], ◌∷◌, ◌++◌, length, IfOk, OnOk, true};
+    ghost use Rattle.conn_table.specs.declared.entries.Entry.{Entry};
     ghost use Rattle.conn_table.specs.LastConnections.{IsLasts};
-    ghost use Rattle.conn_table.specs.Growing.{conn_with, grown_with, shown_by, HasGrown, IsReady};
+    ghost use Rattle.conn_table.specs.Entries.{kept_by};
+    ghost use Rattle.conn_table.specs.KeptSegments.{opens};
+    ghost use Rattle.conn_table.specs.Growing.{conn_with, grown_at, grown_with, member_from, shown_by, HasGrown, IsReady};
 
     // No connections yet, and room for those of some segments: as many as these have openings, each with as many members as there are
     // segments for an opening.
@@ -34,8 +36,19 @@ impl Growth {
             conns: Vec::with_capacity(alloc, openings)?,
             lasts: Lasts::with_room(alloc, keys, openings)?,
             unopened: 0,
-            room: (segments_in(ranges) / openings.max(1)).saturating_add(1),
+            room: segments_in(ranges).div_ceil(openings.max(1)),
         })
+    }
+
+    // Takes the segments of a range more, one after another.
+    pub(crate) fn take_all(&mut self, alloc: Global, range: &[Entry]) -> Result<(), AllocError>
+        requires { (done : List Entry) × HasGrown done self.old × (length done + length range.now < 2 ^ 31) }
+        ensures { OnOk result ((done : List Entry) → HasGrown done self.old → HasGrown (done ++ range.now) self.new) }
+    {
+        for entry in range {
+            self.take(alloc, entry)?;
+        }
+        Ok(())
     }
 
     // Takes one segment more.
@@ -44,31 +57,56 @@ impl Growth {
         ensures shown { OnOk result (shown_by self.new ≡ grown_with (shown_by self.old) (kept_by entry.now)) }
         ensures lasts { OnOk result (IsLasts self.new.lasts) }
     {
+        if entry.opens() {
+            return self.take_opening(alloc, entry);
+        }
+        if let Some(last) = self.lasts.last_of(entry.pair()) {
+            return self.take_member(entry, last);
+        }
+        self.unopened += 1;
+        Ok(())
+    }
+
+    // Takes an opening: it begins a connection, unless it repeats the one that begins its pair's last connection. Most do not, so its pair
+    // is put into the table at once, and not looked up before.
+    fn take_opening(&mut self, alloc: Global, entry: &Entry) -> Result<(), AllocError>
+        requires ready { IsReady self.old }
+        requires opens { opens (kept_by entry.now) ≡ true }
+        ensures shown { OnOk result (shown_by self.new ≡ grown_with (shown_by self.old) (kept_by entry.now)) }
+        ensures lasts { OnOk result (IsLasts self.new.lasts) }
+    {
         let pair = entry.pair();
-        let last = self.lasts.last_of(pair);
-        if begins(entry, last) {
-            let opening = entry.opening();
-            let number = self.begin(alloc, entry)?;
-            self.lasts.put(pair, Current { number, opening })?;
-        } else if let Some(last) = last {
-            let member = entry.member_of(last.opening.from_low);
-            add_member(&mut self.conns, last.number as usize, member)?;
-        } else {
-            self.unopened += 1;
+        let opening = entry.opening();
+        let number = self.conns.len() as u32;
+        let last = self.lasts.put(pair, Current { number, opening })?;
+        match last {
+            Some(last) if last.opening.is_same(opening) => {
+                self.lasts.put(pair, last)?;
+                self.take_member(entry, last)?;
+            }
+            _ => self.begin(alloc, entry, number)?,
         }
         Ok(())
     }
 
-    // Begins a connection, and tells its number.
-    fn begin(&mut self, alloc: Global, entry: &Entry) -> Result<u32, AllocError>
-        requires { length self.old.conns.items < 2 ^ 31 }
-        ensures number { IfOk result (λ number. number ≡ length self.old.conns.items) }
+    // Takes a segment of its pair's last connection.
+    fn take_member(&mut self, entry: &Entry, last: Current) -> Result<(), AllocError>
+        requires { last.number < length self.old.conns.items }
         ensures conns { OnOk result (self.new.conns.items
-            ≡ self.old.conns.items ++ conn_with (length self.old.conns.items) (kept_by entry.now) ∷ []) }
+            ≡ grown_at last.number (member_from last.opening.from_low (kept_by entry.now)) self.old.conns.items) }
         ensures lasts { OnOk result (self.new.lasts ≡ self.old.lasts) }
         ensures unopened { OnOk result (self.new.unopened ≡ self.old.unopened) }
     {
-        let number = self.conns.len() as u32;
+        let member = entry.member_of(last.opening.from_low);
+        add_member(&mut self.conns, last.number as usize, member)
+    }
+
+    // Begins the connection of a number.
+    fn begin(&mut self, alloc: Global, entry: &Entry, number: u32) -> Result<(), AllocError>
+        ensures conns { OnOk result (self.new.conns.items ≡ self.old.conns.items ++ conn_with number (kept_by entry.now) ∷ []) }
+        ensures lasts { OnOk result (self.new.lasts ≡ self.old.lasts) }
+        ensures unopened { OnOk result (self.new.unopened ≡ self.old.unopened) }
+    {
         let pair = entry.pair();
         let from_low = entry.member.from_client;
         self.conns.push(Conn {
@@ -80,7 +118,7 @@ impl Growth {
             server: pair.receiver(from_low),
             members: Members::of_first(alloc, self.room, entry.member_of(from_low))?,
         })?;
-        Ok(number)
+        Ok(())
     }
 }
 
@@ -91,13 +129,6 @@ fn segments_in(ranges: &[Vec<Entry>]) -> usize {
         count = count.saturating_add(range.len());
     }
     count
-}
-
-// Whether a segment begins a connection, given the last one of its pair: it opens, and is no repeat of that one's opening.
-fn begins(entry: &Entry, last: Option<Current>) -> bool
-    ensures { result ≡ begins last (kept_by entry.now) }
-{
-    entry.opens() && !last.is_some_and(|last| last.opening.is_same(entry.opening()))
 }
 
 // One member more in the connection of a number.

@@ -99,14 +99,19 @@ impl Lasts {
         last
     }
 
-    // The last connection of a pair is this one from now on.
-    pub(crate) fn put(&mut self, pair: Pair, current: Current) -> Result<(), AllocError>
+    // The last connection of a pair is this one from now on. Gives the one before it.
+    pub(crate) fn put(
+        &mut self,
+        pair: Pair,
+        current: Current,
+    ) -> Result<Option<Current>, AllocError>
         requires { IsLasts self.old }
+        ensures last { IfOk result (λ last. last ≡ get same_pair self.old.map pair) }
         ensures lasts { OnOk result (IsLasts self.new) }
         ensures map { OnOk result (Updates same_pair self.old.map self.new.map pair (Some current)) }
     {
-        self.map.insert(pair, current)?;
+        let last = self.map.insert(pair, current)?;
         self.recent[slot_of(pair)] = Some(Recent { pair, current });
-        Ok(())
+        Ok(last)
     }
 }

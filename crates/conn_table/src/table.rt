@@ -1,9 +1,12 @@
 //! The table of a capture's connections.
-ghost use Rattle.std.specs.Prelude.{◌≡◌, IfOk};
+ghost use Rattle.std.specs.Prelude.{◌≡◌, ◌<◌, ◌^◌, IfOk, length};
+ghost use Rattle.conn_table.specs.Entries.{all_of};
+ghost use Rattle.conn_table.specs.Growing.{HasGrown};
 ghost use Rattle.conn_table.specs.Tables.{finished};
 
 use crate::class_counts::Counts;
 use crate::conns::Conn;
+use crate::entries::Entry;
 use crate::growth::Growth;
 use crate::partial::Partial;
 use std::alloc::{AllocError, Global};
@@ -58,13 +61,8 @@ impl Table {
 pub fn finish(alloc: Global, partial: Partial) -> Result<Table, AllocError>
     ensures { IfOk result (λ table. table ≡ finished partial) }
 {
-    let ranges = &partial.ranges;
-    let mut growth = Growth::of_none(alloc, ranges)?;
-    for range in ranges {
-        for entry in range {
-            growth.take(alloc, entry)?;
-        }
-    }
+    let Partial { counts, ranges, .. } = partial;
+    let growth = grown_of(alloc, ranges)?;
     let Growth {
         conns,
         lasts: _,
@@ -74,6 +72,18 @@ pub fn finish(alloc: Global, partial: Partial) -> Result<Table, AllocError>
     Ok(Table {
         conns,
         unopened,
-        counts: partial.counts,
+        counts,
     })
+}
+
+// What grows of the segments of some ranges, range after range. A range is let go once its segments are taken.
+fn grown_of(alloc: Global, ranges: Vec<Vec<Entry>>) -> Result<Growth, AllocError>
+    requires { length (all_of ranges.items) < 2 ^ 26 }
+    ensures { IfOk result (HasGrown (all_of ranges.items)) }
+{
+    let mut growth = Growth::of_none(alloc, &ranges)?;
+    for range in ranges {
+        growth.take_all(alloc, &range)?;
+    }
+    Ok(growth)
 }

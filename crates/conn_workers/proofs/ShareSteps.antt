@@ -1,16 +1,20 @@
 -- What ranges of connections contribute, against what all of them do.
-use Rattle.std.proofs.Common.{◌≡◌, ◌<◌, ◌≤◌, ℕ, zero, suc, ◌+◌, ◌*◌, List, [], ◌∷◌, ◌++◌, length, map, take, drop, get_or, refl, sym, ap, ◌∙◌, arith}
-use Rattle.std.specs.List.{flat_map}
+use Rattle.std.proofs.Common.{◌≡◌, ◌<◌, ◌≤◌, ℕ, zero, suc, ◌+◌, ◌*◌, List, [], ◌∷◌, ◌++◌, length, map, take, drop, get_or, refl, sym, ap, ap₂, ◌∙◌, arith}
+use Rattle.std.specs.List.{enumerate_from, flat_map}
+use Rattle.std.specs.Prelude.{All}
 use Rattle.std.proofs.Math.Nat.{suc-mul}
 use Rattle.std.proofs.Math.Seq.{drop-drop}
 use Rattle.std.proofs.lemmas.Grind.{flat_map-append}
 use Rattle.std.proofs.lemmas.List.{length-map, length-drop, get_or-map, take-append-drop}
+use Rattle.std.proofs.lemmas.List.Elements.{All-cons, All-map, All-nil}
 use Rattle.std.proofs.lemmas.List.Folds.{flat_map-map}
+use Rattle.std.proofs.lemmas.List.FromFn.{get_or-enumerate_from, length-enumerate_from}
 use Rattle.scenarios.specs.declared.proxies.Proxy.{Proxy}
 use Rattle.conn_workers.specs.declared.deliveries.Delivery.{Delivery}
 use Rattle.conn_workers.specs.declared.row_shares.RowShare.{RowShare}
 use Rattle.conn_workers.specs.Recordings.{RecordingView, recorded_delivery, recorded_row, recorded_lines}
-use Rattle.conn_workers.specs.RowShares.{row_segments, row_text, row_share, ranges_of, row_shares, row_texts}
+use Rattle.conn_workers.specs.ReportTexts.{HoldLines, text_shares, texts_under}
+use Rattle.conn_workers.specs.RowShares.{row_segments, row_text, row_share, ranges_of, row_shares}
 
 -- ---- ranges
 
@@ -75,8 +79,43 @@ module _ (seed : ℕ) (s : ℕ × List Proxy) (recordings : List RecordingView) 
         flat_map-map (λ (x : RowShare). x.lines) (row_share seed s) (ranges_of size count recordings)
         ∙ together (λ r. (recorded_delivery seed s r).line) size count recordings whole ∙ text_in_row
 
-    pub texts_together : flat_map (λ (text : List ℕ). text) (row_texts size count seed s recordings)
-        ≡ flat_map (λ (line : List ℕ). line) (recorded_lines seed s recordings)
-    texts_together =
-        flat_map-map (λ (text : List ℕ). text) (row_text seed s) (ranges_of size count recordings)
-        ∙ together (λ r. (recorded_delivery seed s r).line) size count recordings whole ∙ text_in_lines
+-- ---- texts of all scenarios
+
+-- a text for each
+pub length-texts_under : (seed : ℕ) (scenarios : List (List Proxy)) (recordings : List RecordingView) → length (texts_under seed scenarios recordings) ≡ length scenarios
+unfolding texts_under
+length-texts_under seed scenarios recordings = length-map (enumerate_from 0 scenarios) (λ s. row_text seed s recordings) ∙ length-enumerate_from 0 scenarios
+
+-- that of the scenario of a number
+pub text_at : (seed : ℕ) (scenarios : List (List Proxy)) (recordings : List RecordingView) (number : ℕ) (other : List Proxy) → number < length scenarios
+    → row_text seed (number, get_or scenarios number other) recordings ≡ get_or (texts_under seed scenarios recordings) number []
+unfolding texts_under
+text_at seed scenarios recordings number other within =
+    let text : ℕ × List Proxy → List ℕ = λ s. row_text seed s recordings in
+    let inside : number < length (enumerate_from 0 scenarios) = omega (arith, within, length-enumerate_from 0 scenarios) in
+    let zero_on : 0 + number ≡ number = omega arith in
+    let numbered = get_or-enumerate_from 0 scenarios number (0, other) within ∙ ap (λ (n : ℕ). let p : ℕ × List Proxy = (n, get_or scenarios number other) in p) zero_on in
+    ap text (sym numbered) ∙ sym (get_or-map text (enumerate_from 0 scenarios) number (0, other) [] inside)
+
+module _ (seed : ℕ) (scenarios : List (List Proxy)) where
+  -- what holds of all
+  each_has : {X : Type 0} {P : X → Type 0} → ((x : X) → P x) → (xs : List X) → All P xs
+  each_has {X} {P} has [] = All-nil P
+  each_has {X} {P} has (x ∷ xs) = All-cons P x xs (has x) (each_has has xs)
+
+  -- what is read of all shares at one place
+  read_alike : {X : Type 0} (f g : X → List ℕ) → ((x : X) → f x ≡ g x) → (xs : List X) → flat_map f xs ≡ flat_map g xs
+  read_alike f g alike [] = refl
+  read_alike f g alike (x ∷ xs) = ap₂ (λ (a b : List ℕ). a ++ b) (alike x) (read_alike f g alike xs)
+
+  pub texts_together : (size count : ℕ) (recordings : List RecordingView) → length recordings ≤ count * size
+      → HoldLines seed scenarios recordings (text_shares size count seed scenarios recordings)
+  texts_together size count recordings whole = record {
+    each = All-map (λ (share : List (List ℕ)). length share ≡ length scenarios) (texts_under seed scenarios) (ranges_of size count recordings)
+        (each_has (length-texts_under seed scenarios) (ranges_of size count recordings));
+    lines = λ number within.
+        let s : ℕ × List Proxy = (number, get_or scenarios number []) in
+        flat_map-map (λ (share : List (List ℕ)). get_or share number []) (texts_under seed scenarios) (ranges_of size count recordings)
+        ∙ read_alike (λ rs. get_or (texts_under seed scenarios rs) number []) (row_text seed s) (λ rs. sym (text_at seed scenarios rs number [] within)) (ranges_of size count recordings)
+        ∙ together (λ r. (recorded_delivery seed s r).line) size count recordings whole ∙ text_in_lines seed s recordings;
+  }

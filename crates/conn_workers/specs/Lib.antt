@@ -4,6 +4,7 @@ pub mod DeliveryRows
 pub mod CaptureTables
 pub mod Recordings
 pub mod RowShares
+pub mod ReportTexts
 pub mod DeliveryLaws
 pub mod RecordedDeliveries
 pub use Rattle.pcap_records.specs.Instants

@@ -30,7 +30,3 @@ ranges_of size (suc count) xs = take size xs ∷ ranges_of size count (drop size
 -- what the connections of each range contribute
 abbrev pub row_shares : ℕ → ℕ → ℕ → ℕ × List Proxy → List RecordingView → List RowShare
 row_shares size count seed s recordings = map (row_share seed s) (ranges_of size count recordings)
-
--- the lines of each range
-abbrev pub row_texts : ℕ → ℕ → ℕ → ℕ × List Proxy → List RecordingView → List (List ℕ)
-row_texts size count seed s recordings = map (row_text seed s) (ranges_of size count recordings)

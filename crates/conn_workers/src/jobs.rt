@@ -1,5 +1,5 @@
 //! The works of workers on recordings: what each connection contributes to all scenarios, and what ranges of connections contribute to
-//! one, or their lines of its report.
+//! one.
 ghost use Rattle.std.specs.Prelude.{◌≡◌, ◌≤◌, ◌*◌, length};
 ghost use Rattle.conn_workers.specs.DeliveryRows.{scenario_limit};
 ghost use Rattle.conn_workers.specs.Recordings.{recorded_deliveries};
@@ -11,7 +11,6 @@ use crate::row_shares::RowShare;
 use crate::scenario_deliveries::delivery_in;
 use crate::under_scenario::UnderScenario;
 use job_matrix::Work;
-use report::ReportText;
 use scenarios::Scenario;
 use std::alloc::{AllocError, Global};
 
@@ -52,11 +51,13 @@ impl<'w, 'v, 'a> Work for ContributionJobs<'w, 'v, 'a> {
 /// Job r makes what the connections of range r contribute to the scenario.
 #[derive(Drop)]
 pub(crate) struct ShareJobs<'w, 'v, 'a> {
-    /// The connections and the scenario.
-    pub(crate) under: UnderScenario<'w, 'v, 'a>,
+    /// The scenario.
+    pub(crate) under: UnderScenario<'w>,
+    /// The connections with what is recorded of them.
+    pub(crate) recordings: &'w [Recording<'v, 'a>],
     /// The ranges.
     pub(crate) ranges: RowRanges,
-    ghost all: { ranges.all ≡ length under.recordings.now },
+    ghost all: { ranges.all ≡ length recordings.now },
 }
 
 impl<'w, 'v, 'a> Work for ShareJobs<'w, 'v, 'a> {
@@ -65,34 +66,9 @@ impl<'w, 'v, 'a> Work for ShareJobs<'w, 'v, 'a> {
     ghost use Rattle.std.specs.Prelude.{◌≡◌, ◌<◌, length, get_or, IfOk};
     ghost use Rattle.conn_workers.specs.RowShares.{row_shares};
 
-    ghost values = { λ w. row_shares w.ranges.size w.ranges.count w.under.seed (w.under.number, w.under.scenario.now) w.under.recordings.now };
+    ghost values = { λ w. row_shares w.ranges.size w.ranges.count w.under.seed (w.under.number, w.under.scenario.now) w.recordings.now };
 
     fn value(&self, job: u64) -> Result<RowShare<'a>, AllocError> {
-        self.under
-            .share(self.ranges.range(self.under.recordings, job))
-    }
-}
-
-/// Job r makes the lines of the connections of range r in the scenario's report.
-#[derive(Drop)]
-pub(crate) struct TextJobs<'w, 'v, 'a> {
-    /// The connections and the scenario.
-    pub(crate) under: UnderScenario<'w, 'v, 'a>,
-    /// The ranges.
-    pub(crate) ranges: RowRanges,
-    ghost all: { ranges.all ≡ length under.recordings.now },
-}
-
-impl<'w, 'v, 'a> Work for TextJobs<'w, 'v, 'a> {
-    type Out = ReportText;
-
-    ghost use Rattle.std.specs.Prelude.{◌≡◌, ◌<◌, length, get_or, IfOk};
-    ghost use Rattle.conn_workers.specs.RowShares.{row_texts};
-
-    ghost values = { λ w. row_texts w.ranges.size w.ranges.count w.under.seed (w.under.number, w.under.scenario.now) w.under.recordings.now };
-
-    fn value(&self, job: u64) -> Result<ReportText, AllocError> {
-        self.under
-            .text(self.ranges.range(self.under.recordings, job))
+        self.under.share(self.ranges.range(self.recordings, job))
     }
 }

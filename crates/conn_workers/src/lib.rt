@@ -4,7 +4,7 @@
 //! `deliver` is the call that the crate exists for. `specs/Contributions.antt` says what a connection contributes,
 //! and `specs/DeliveryRows.antt` in what order; `laws` has the theorem that nothing else of a capture or a scenario
 //! changes it. `deliver_row` gives the same for one scenario, in shares: what a range of connections contributes stands together
-//! (`specs/RowShares.antt`). `report_lines` gives the lines alone.
+//! (`specs/RowShares.antt`). `report_texts` gives the lines alone, for all scenarios at once (`specs/ReportTexts.antt`).
 #![tactic(auto)]
 
 mod deliveries;
@@ -16,11 +16,11 @@ mod recordings;
 mod row_ranges;
 mod row_shares;
 mod scenario_deliveries;
+mod scenario_texts;
 mod under_scenario;
 
 pub use deliveries::{Deliveries, Delivery, deliver};
-pub use delivery_rows::{
-    OutlineRow, deliver_row, deliver_row_alone, report_lines, report_lines_alone,
-};
+pub use delivery_rows::{RowShares, deliver_row, deliver_row_alone};
 pub use recordings::{Recording, Recordings, record, record_alone};
 pub use row_shares::RowShare;
+pub use scenario_texts::{ShareTexts, report_texts, report_texts_alone};

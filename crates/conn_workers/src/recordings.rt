@@ -63,6 +63,32 @@ impl<'w, 'a> LineJobs<'w, 'a> {
     }
 }
 
+impl<'w, 'a> LineJobs<'w, 'a> {
+    ghost use Rattle.std.specs.Prelude.{◌≡◌, ◌≤◌, IfOk, drop, length, take};
+    ghost use Rattle.conn_workers.specs.Recordings.{recordings_of};
+
+    /// What is recorded of the connections from one on, of so many at most.
+    ///
+    /// # Errors
+    /// A growth was refused.
+    pub(crate) fn recorded(
+        &self,
+        from: usize,
+        most: usize,
+    ) -> Result<Vec<Recording<'w, 'a>>, AllocError>
+        requires { from ≤ length self.now.conns.now }
+        ensures { IfOk result (λ v. v.items ≡ take most (drop from (recordings_of self.now.capture.now))) }
+    {
+        let count = most.min(self.conns.len() - from);
+        let mut recordings = Vec::with_capacity(self.alloc, count)?;
+        for place in 0..count {
+            let recording = self.value((from + place) as u64)?;
+            recordings.push(recording)?;
+        }
+        Ok(recordings)
+    }
+}
+
 impl<'w, 'a> Work for LineJobs<'w, 'a> {
     type Out = Recording<'w, 'a>;
 

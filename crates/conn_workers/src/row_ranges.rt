@@ -24,9 +24,37 @@ impl RowRanges {
     pub(crate) fn of(all: usize, plan: Plan) -> RowRanges
         ensures { result.all ≡ all }
     {
-        let size = all / (RANGES_EACH * plan.workers() as usize) + 1;
+        RowRanges::of_size(all, even_size(all, plan))
+    }
+
+    /// Ranges of so many connections, of at most so many each: at most eight for each worker of a plan where that allows it, and as few as
+    /// it allows for one worker.
+    pub(crate) fn of_at_most(all: usize, most: usize, plan: Plan) -> RowRanges
+        requires { 1 ≤ most }
+        ensures { result.all ≡ all }
+    {
+        if plan.workers() == 1 {
+            return RowRanges::of_size(all, most);
+        }
+        RowRanges::of_size(all, even_size(all, plan).min(most))
+    }
+
+    // Ranges of this size.
+    fn of_size(all: usize, size: usize) -> RowRanges
+        requires { 1 ≤ size }
+        ensures { result.all ≡ all }
+    {
         let count = all.div_ceil(size) as u64;
         RowRanges { all, size, count }
+    }
+
+    /// How many connections stand before a range.
+    pub(crate) fn first(&self, range: u64) -> usize
+        requires { range < self.now.count }
+        ensures first { result ≡ range * self.now.size }
+        ensures within { result ≤ self.now.all }
+    {
+        range as usize * self.size
     }
 
     /// The connections of a range.
@@ -39,7 +67,14 @@ impl RowRanges {
         requires below { range < self.now.count }
         ensures { result.now ≡ take self.now.size (drop (range * self.now.size) recordings.now) }
     {
-        let rest = &recordings[range as usize * self.size..];
+        let rest = &recordings[self.first(range)..];
         &rest[..self.size.min(rest.len())]
     }
+}
+
+// How many connections a range has so that there are at most eight ranges for each worker.
+fn even_size(all: usize, plan: Plan) -> usize
+    ensures { 1 ≤ result }
+{
+    all / (RANGES_EACH * plan.workers() as usize) + 1
 }

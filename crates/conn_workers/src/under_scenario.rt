@@ -1,11 +1,11 @@
-//! Recordings of connections under a scenario, and what these contribute to it together.
+//! A scenario with its number, and what recordings of connections contribute to it together.
 ghost use Rattle.std.specs.Prelude.{◌≡◌, ◌++◌, IfOk, OnOk};
 ghost use Rattle.reassembly.specs.LineLaws.{IsLine};
 ghost use Rattle.toxic_defs.specs.DeliveredLines.{delivered_view};
 ghost use Rattle.conn_workers.specs.Recordings.{recorded_delivered, recorded_delivery};
 ghost use Rattle.conn_workers.specs.RowShares.{row_share, row_text};
 
-use crate::recordings::{Recording, Recordings};
+use crate::recordings::Recording;
 use crate::row_shares::RowShare;
 use crate::scenario_deliveries::delivered_in;
 use report::{ReportText, put_line};
@@ -14,36 +14,29 @@ use segment_writer::SegmentRow;
 use std::alloc::{AllocError, Global};
 use toxic_defs::Delivered;
 
-/// Recordings of connections, and a scenario with its number.
+// The room for a line of the report, which is seldom longer.
+const LINE_ROOM: usize = 136;
+
+/// A scenario with its number, and the seed.
 #[derive(Drop)]
-pub(crate) struct UnderScenario<'w, 'v, 'a> {
+pub(crate) struct UnderScenario<'w> {
     // Where what is made is kept.
     alloc: Global,
-    /// The connections with what is recorded of them.
-    pub(crate) recordings: &'w [Recording<'v, 'a>],
     number: u32,
     scenario: &'w Scenario,
     // That of the random words.
     seed: u64,
 }
 
-impl<'w, 'v, 'a> UnderScenario<'w, 'v, 'a> {
+impl<'w> UnderScenario<'w> {
     /// All of these together.
-    pub(crate) fn of(
-        alloc: Global,
-        recordings: &'w Recordings<'v, 'a>,
-        number: u32,
-        scenario: &'w Scenario,
-        seed: u64,
-    ) -> Self
-        ensures recordings { result.recordings.now ≡ recordings.now }
+    pub(crate) fn of(alloc: Global, number: u32, scenario: &'w Scenario, seed: u64) -> Self
         ensures number { result.number ≡ number }
         ensures scenario { result.scenario.now ≡ scenario.now }
         ensures seed { result.seed ≡ seed }
     {
         UnderScenario {
             alloc,
-            recordings: recordings.as_slice(),
             number,
             scenario,
             seed,
@@ -51,10 +44,10 @@ impl<'w, 'v, 'a> UnderScenario<'w, 'v, 'a> {
     }
 
     // Appends the line of a connection in the scenario's report, and gives what is delivered of it.
-    fn put_line_of(
+    fn put_line_of<'a>(
         &self,
         lines: &mut Vec<u8>,
-        recording: &Recording<'v, 'a>,
+        recording: &Recording<'_, 'a>,
     ) -> Result<Delivered<'a>, AllocError>
         ensures line { OnOk result (lines.new.items ≡ lines.old.items
             ++ (recorded_delivery self.now.seed (self.now.number, self.now.scenario.now) recording.now).line) }
@@ -69,7 +62,10 @@ impl<'w, 'v, 'a> UnderScenario<'w, 'v, 'a> {
     }
 
     /// What connections contribute, one after another. Room is not asked for ahead.
-    pub(crate) fn share(&self, recordings: &[Recording<'v, 'a>]) -> Result<RowShare<'a>, AllocError>
+    pub(crate) fn share<'a>(
+        &self,
+        recordings: &[Recording<'_, 'a>],
+    ) -> Result<RowShare<'a>, AllocError>
         ensures { IfOk result (λ share. share
             ≡ row_share self.now.seed (self.now.number, self.now.scenario.now) recordings.now) }
     {
@@ -84,14 +80,16 @@ impl<'w, 'v, 'a> UnderScenario<'w, 'v, 'a> {
     }
 
     /// The lines of connections in the scenario's report, one after another. Room is not asked for ahead.
-    pub(crate) fn text(&self, recordings: &[Recording<'v, 'a>]) -> Result<ReportText, AllocError>
+    pub(crate) fn text(&self, recordings: &[Recording<'_, '_>]) -> Result<ReportText, AllocError>
         ensures { IfOk result (λ text. text
             ≡ row_text self.now.seed (self.now.number, self.now.scenario.now) recordings.now) }
     {
-        let mut lines = Vec::new(self.alloc);
+        let room = recordings.len().saturating_mul(LINE_ROOM);
+        let mut lines = Vec::with_capacity(self.alloc, room)?;
         for recording in recordings {
             self.put_line_of(&mut lines, recording)?;
         }
+        lines.shrink_to_fit();
         Ok(ReportText::of(lines))
     }
 }

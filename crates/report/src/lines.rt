@@ -5,7 +5,7 @@ ghost use Rattle.toxic_defs.specs.DeliveredLines.{delivered_view};
 ghost use Rattle.report.specs.ReportText.{AreShort, peer_text, proxy_text, vlan_text, met_text, peers_text, connection_text};
 
 use crate::sides::push_side;
-use crate::texts::{ReportText, push, push_mark, push_marked, push_number, push_told};
+use crate::texts::{ReportText, push, push_char, push_char_number, push_number, push_told};
 use conn_table::Conn;
 use frame_headers::Peer;
 use reassembly::Recorded;
@@ -53,7 +53,7 @@ pub fn put_line(
         recorded.down_lost,
         &delivered.down,
     )?;
-    push_mark(text, b'\n')
+    push_char(text, b'\n')
 }
 
 /// The line of a connection, as [`put_line`] appends it.
@@ -82,7 +82,7 @@ fn push_peers(text: &mut Vec<u8>, conn: &Conn, proxy: Option<u32>) -> Result<(),
         ++ peers_text conn.now.number conn.now.vlan conn.now.client conn.now.server proxy) }
 {
     push_number(text, u64::from(conn.number))?;
-    push_mark(text, b' ')?;
+    push_char(text, b' ')?;
     push_peer(text, conn.client)?;
     push(text, " > ")?;
     push_peer(text, conn.server)?;
@@ -103,10 +103,10 @@ fn push_peer(text: &mut Vec<u8>, peer: Peer) -> Result<(), AllocError>
     ensures { OnOk result (text.new.items ≡ text.old.items ++ peer_text peer) }
 {
     push_number(text, u64::from(peer.addr / (1 << 24)))?;
-    push_marked(text, b'.', u64::from(peer.addr / (1 << 16) % 256))?;
-    push_marked(text, b'.', u64::from(peer.addr / 256 % 256))?;
-    push_marked(text, b'.', u64::from(peer.addr % 256))?;
-    push_marked(text, b':', u64::from(peer.port))
+    push_char_number(text, b'.', u64::from(peer.addr / (1 << 16) % 256))?;
+    push_char_number(text, b'.', u64::from(peer.addr / 256 % 256))?;
+    push_char_number(text, b'.', u64::from(peer.addr % 256))?;
+    push_char_number(text, b':', u64::from(peer.port))
 }
 
 // Appends the number of a VLAN, if there is one.
@@ -125,6 +125,6 @@ fn push_proxy(text: &mut Vec<u8>, proxy: Option<u32>) -> Result<(), AllocError>
 {
     match proxy {
         Some(number) => push_number(text, u64::from(number)),
-        None => push_mark(text, b'-'),
+        None => push_char(text, b'-'),
     }
 }

@@ -3,7 +3,7 @@ ghost use Rattle.std.specs.Prelude.{◌≡◌, ◌++◌, ◌+◌, ◌-◌, ◌<�
 ghost use Rattle.reassembly.specs.LineView.{bytes_of_parts, end_view};
 ghost use Rattle.report.specs.ReportText.{end_text, end_word, longest_delay, side_text};
 
-use crate::texts::{push, push_mark, push_marked, push_number, push_told};
+use crate::texts::{push, push_char, push_char_number, push_number, push_told};
 use pcap_records::Moment;
 use reassembly::{End, Line, LinePart};
 use std::alloc::AllocError;
@@ -26,9 +26,9 @@ pub(crate) fn push_side(
     let sent = recorded.parts();
     let came = delivered.parts();
     push_number(text, byte_count(came))?;
-    push_marked(text, b'/', byte_count(sent))?;
-    push_marked(text, b'/', lost)?;
-    push_mark(text, b' ')?;
+    push_char_number(text, b'/', byte_count(sent))?;
+    push_char_number(text, b'/', lost)?;
+    push_char(text, b' ')?;
     push_end_word(text, refused, opened, &delivered.end())?;
     push_told(text, " max ", longest_delay(sent, came))
 }

@@ -23,24 +23,24 @@ pub(crate) fn push_number(text: &mut Vec<u8>, number: u64) -> Result<(), AllocEr
     ensures { OnOk result (text.new.items ≡ text.old.items ++ decimal number) }
 {
     if number < 10 {
-        return push_mark(text, b'0' + number as u8);
+        return push_char(text, b'0' + number as u8);
     }
     push(text, Buffer::new().format(number))
 }
 
 /// Appends one character: it takes less time than a word of one.
-pub(crate) fn push_mark(text: &mut Vec<u8>, mark: u8) -> Result<(), AllocError>
-    ensures { OnOk result (text.new.items ≡ text.old.items ++ mark ∷ []) }
+pub(crate) fn push_char(text: &mut Vec<u8>, byte: u8) -> Result<(), AllocError>
+    ensures { OnOk result (text.new.items ≡ text.old.items ++ byte ∷ []) }
 {
-    text.push(mark)?;
+    text.push(byte)?;
     Ok(())
 }
 
 /// Appends one character and a number.
-pub(crate) fn push_marked(text: &mut Vec<u8>, mark: u8, number: u64) -> Result<(), AllocError>
-    ensures { OnOk result (text.new.items ≡ text.old.items ++ mark ∷ decimal number) }
+pub(crate) fn push_char_number(text: &mut Vec<u8>, byte: u8, number: u64) -> Result<(), AllocError>
+    ensures { OnOk result (text.new.items ≡ text.old.items ++ byte ∷ decimal number) }
 {
-    push_mark(text, mark)?;
+    push_char(text, byte)?;
     push_number(text, number)
 }
 

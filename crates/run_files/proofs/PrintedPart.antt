@@ -1,27 +1,30 @@
--- A first part of the reports: some reports whole, and a first part of the next one.
+-- A first part of texts that are written one after another: some of them whole, and a first part of the next one.
 use Rattle.std.proofs.Common.{◌≡◌, ◌<◌, ℕ, ◌+◌, List, ◌∷◌, ◌++◌, length, take, drop, get_or, refl, sym, ap, ◌∙◌, arith, length-append, take-add}
-use Rattle.std.proofs.lemmas.List.{take-append-drop, drop_more, take_at, drop_at, take-append-le}
+use Rattle.std.specs.List.{flat_map}
+use Rattle.std.proofs.lemmas.List.{get_or_default, take-append-drop, drop_more, take_at, drop_at, take-append-le}
 use Rattle.std.proofs.lemmas.List.Concat.{flat_map-append}
-use Rattle.run_files.specs.declared.outputs.Output.{Output}
-use Rattle.run_files.specs.WrittenOutputs.{reports_of}
 
-report : Output → List ℕ
-report o = o.report
+module _ {X : Type 0} (text : X → List ℕ) where
+  -- the texts, around the one at place i
+  around : (xs : List X) (i : ℕ) (x : X) → i < length xs → x ≡ get_or xs i x
+      → flat_map text xs ≡ flat_map text (take i xs) ++ (text x ++ flat_map text (drop (i + 1) xs))
+  around xs i x within is =
+      let later : drop i xs ≡ x ∷ drop (i + 1) xs = drop_more xs i x within ∙ ap (λ y. y ∷ drop (i + 1) xs) (sym is) in
+      ap (flat_map text) (sym (take-append-drop i xs)) ∙ (flat_map-append text (take i xs) (drop i xs) ∙ ap (λ ys. flat_map text (take i xs) ++ flat_map text ys) later)
 
--- the reports, around the one at place i
-around : (outputs : List Output) (i : ℕ) (o : Output) → i < length outputs → o ≡ get_or outputs i o
-    → reports_of outputs ≡ reports_of (take i outputs) ++ (o.report ++ reports_of (drop (i + 1) outputs))
-around outputs i o within is =
-    let behind : drop i outputs ≡ o ∷ drop (i + 1) outputs = drop_more outputs i o within ∙ ap (λ x. x ∷ drop (i + 1) outputs) (sym is) in
-    ap reports_of (sym (take-append-drop i outputs)) ∙ (flat_map-append (λ x. x.report) (take i outputs) (drop i outputs) ∙ ap (λ xs. reports_of (take i outputs) ++ reports_of xs) behind)
+  pub printed_part : (xs : List X) (i w : ℕ) (x : X) → i < length xs → x ≡ get_or xs i x → w < length (text x)
+      → (length (flat_map text (take i xs)) + w < length (flat_map text xs))
+      × (flat_map text (take i xs) ++ take w (text x) ≡ take (length (flat_map text (take i xs)) + w) (flat_map text xs))
+  printed_part xs i w x within is less =
+      let first : List ℕ = flat_map text (take i xs) in
+      let rest : List ℕ = text x ++ flat_map text (drop (i + 1) xs) in
+      let whole : flat_map text xs ≡ first ++ rest = around xs i x within is in (
+        rw whole (omega (arith, length-append first rest, length-append (text x) (flat_map text (drop (i + 1) xs)))),
+        rw (whole, take-add (length first) w (first ++ rest), take_at first rest (length first) refl, drop_at first rest (length first) refl, take-append-le w (text x) (flat_map text (drop (i + 1) xs)) (omega (arith, less))) refl,
+      )
 
-pub printed_part : (outputs : List Output) (i w : ℕ) (o : Output) → i < length outputs → o ≡ get_or outputs i o → w < length o.report
-    → (length (reports_of (take i outputs)) + w < length (reports_of outputs))
-    × (reports_of (take i outputs) ++ take w o.report ≡ take (length (reports_of (take i outputs)) + w) (reports_of outputs))
-printed_part outputs i w o within is less =
-    let first : List ℕ = reports_of (take i outputs) in
-    let rest : List ℕ = o.report ++ reports_of (drop (i + 1) outputs) in
-    let whole : reports_of outputs ≡ first ++ rest = around outputs i o within is in (
-      rw whole (omega (arith, length-append first rest, length-append o.report (reports_of (drop (i + 1) outputs)))),
-      rw (whole, take-add (length first) w (first ++ rest), take_at first rest (length first) refl, drop_at first rest (length first) refl, take-append-le w o.report (reports_of (drop (i + 1) outputs)) (omega (arith, less))) refl,
-    )
+  -- the same by its place alone
+  pub printed_at : (xs : List X) (i w : ℕ) (d : X) → i < length xs → w < length (text (get_or xs i d))
+      → (length (flat_map text (take i xs)) + w < length (flat_map text xs))
+      × (flat_map text (take i xs) ++ take w (text (get_or xs i d)) ≡ take (length (flat_map text (take i xs)) + w) (flat_map text xs))
+  printed_at xs i w d within less = printed_part xs i w (get_or xs i d) within (get_or_default xs i d (get_or xs i d) within) less

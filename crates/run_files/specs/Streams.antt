@@ -1,5 +1,7 @@
 -- Readers and writers that count their failed calls: what contracts see of them, and how far loading came.
-use Rattle.std.specs.Prelude.{◌≡◌, ℕ, ◌+◌, ◌<◌, ◌≤◌}
+use Rattle.std.specs.Prelude.{◌≡◌, ℕ, ◌+◌, ◌<◌, ◌≤◌, List}
+use Rattle.std.specs.Borrow.{Bor}
+use Rattle.std.specs.List.{flat_map}
 use Rattle.pcap_records.specs.Reading.{capture_limit}
 use Rattle.run_files.specs.declared.error.RunFault.{RunFault}
 use Rattle.run_files.specs.declared.error.RunFault.TheVariants.{CaptureTooLong, ReadFailed, Memory}
@@ -16,3 +18,7 @@ StopsLoading CaptureTooLong given old_failed new_failed = (capture_limit < given
 StopsLoading ReadFailed given old_failed new_failed = (given ≤ capture_limit) × (new_failed ≡ old_failed + 1)
 StopsLoading Memory given old_failed new_failed = (given ≤ capture_limit) × (new_failed ≡ old_failed)
 StopsLoading _ given old_failed new_failed = ⊥
+
+-- slices, one after another
+abbrev pub joined : List (Bor (List ℕ)) → List ℕ
+joined slices = flat_map (λ s. s.now) slices

@@ -28,5 +28,5 @@ pub use loading::{load_by_workers, load_file};
 pub use outputs::{Output, Outputs, print_reports, store_all, store_from};
 pub use seen_parts::SeenText;
 pub use shelves::{MemoryFile, MemoryShelf, Shelf};
-pub use streams::{Counted, load, write_bytes};
+pub use streams::{Counted, load, write_bytes, write_texts};
 pub use texts::Text;

@@ -3,7 +3,7 @@ ghost use Rattle.std.specs.Prelude.{◌≡◌, ◌+◌, ◌-◌, ◌^◌, ◌<�
 ghost use Rattle.std.specs.Io.{ReadsAtMost, WritesAtMost};
 ghost use Rattle.std.specs.Io.KnownBytes.{ReadConsumes, WriteAppends, Consumes, IsAtEnd, Appends};
 ghost use Rattle.pcap_records.specs.Reading.{capture_limit};
-ghost use Rattle.run_files.specs.Streams.{StopsLoading};
+ghost use Rattle.run_files.specs.Streams.{StopsLoading, joined};
 
 use crate::error::RunFault;
 use pcap_records::CAPTURE_LIMIT;
@@ -194,6 +194,28 @@ pub fn write_bytes<W: Write>(writer: &mut Counted<W>, bytes: &[u8]) -> Result<()
             return Err(RunFault::WriteFailed);
         };
         written += len;
+    }
+    Ok(())
+}
+
+/// Writes some texts, one after another.
+///
+/// # Errors
+/// [`RunFault::WriteFailed`] at the first write that fails or takes no byte. The writer then
+/// has a first part of the texts, not all of them.
+pub fn write_texts<W: Write>(writer: &mut Counted<W>, texts: &[&[u8]]) -> Result<(), RunFault>
+    requires { writer.old.failed < 2 ^ 64 - 1 }
+
+    ensures whole { OnOk result (Appends (W.contents writer.old.inner) (W.contents writer.new.inner) (joined texts.now)) }
+    ensures none_failed { OnOk result (writer.new.failed ≡ writer.old.failed) }
+
+    ensures refused { IfErr result (λ fault. fault ≡ RunFault.WriteFailed) }
+    ensures one_failed { OnErr result (writer.new.failed ≡ writer.old.failed + 1) }
+    ensures first_part { OnErr result ((written : ℕ) × (written < length (joined texts.now))
+        × Appends (W.contents writer.old.inner) (W.contents writer.new.inner) (take written (joined texts.now))) }
+{
+    for text in texts {
+        write_bytes(writer, text)?;
     }
     Ok(())
 }

@@ -15,6 +15,7 @@ mod WholeTables
 mod RowSteps
 mod GatheredRows
 mod OutputSteps
+mod PartSteps
 mod ReadyDrafts
 mod PrintedSteps
 mod SeenReports

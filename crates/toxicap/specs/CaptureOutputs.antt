@@ -2,6 +2,7 @@
 use Rattle.std.specs.Prelude.{ℕ, List, [], ◌++◌, get_or, length}
 use Rattle.pcap_records.specs.CaptureView.{CaptureView, contents_of}
 use Rattle.conn_table.specs.SeenCapture.{seen_capture}
+use Rattle.conn_table.specs.Tables.{TableView}
 use Rattle.report.specs.ReportText.{counts_text, connections_text}
 use Rattle.scenarios.specs.declared.proxies.Proxy.{Proxy}
 use Rattle.run_files.specs.declared.outputs.Output.{Output}
@@ -19,10 +20,12 @@ outputs_from sources = outputs_for sources.capture.now sources.scenarios.now sou
 abbrev pub scenario_at : Sources → ℕ → ℕ × List Proxy
 scenario_at sources number = (number, get_or sources.scenarios.now number [])
 
--- the first two lines of its report
+-- the first two lines of the report of a scenario with its number
+abbrev pub head_of : CaptureView → TableView → ℕ → List ℕ
+head_of capture table number = counts_text number (seen_capture (contents_of capture)) ++ connections_text (length table.conns) table.unopened
+
 abbrev pub head_from : Sources → ℕ → List ℕ
-head_from sources number =
-    counts_text number (seen_capture (contents_of sources.capture.now)) ++ connections_text (length sources.table.now.conns) sources.table.now.unopened
+head_from sources number = head_of sources.capture.now sources.table.now number
 
 -- what stands past the last output
 abbrev pub no_output : Output

@@ -1,13 +1,12 @@
 //! Who does the work of a rehearsal: workers in threads, or one thread alone.
 use conn_table::Table;
 use conn_workers::{
-    OutlineRow, Recordings, deliver_row, deliver_row_alone, record, record_alone, report_lines,
-    report_lines_alone,
+    Recordings, RowShares, ShareTexts, deliver_row, deliver_row_alone, record, record_alone,
+    report_texts, report_texts_alone,
 };
 use job_matrix::{Plan, Through};
 use pcap_records::{Capture, Values};
 use range_workers::{table, table_alone};
-use report::ReportText;
 use scenarios::Scenario;
 use std::alloc::{AllocError, Global};
 use std::thread::Threads;
@@ -15,10 +14,12 @@ use std::thread::Threads;
 /// Who makes the table of a capture, what is recorded of its connections, and what these contribute to a scenario. No answer depends on
 /// who it is.
 pub(crate) trait Crew {
-    ghost use Rattle.std.specs.Prelude.{◌≡◌, IfOk};
+    ghost use Rattle.std.specs.Prelude.{◌≡◌, ◌≤◌, IfOk, length};
     ghost use Rattle.std.specs.List.{flat_map};
     ghost use Rattle.conn_workers.specs.CaptureTables.{whole_table};
-    ghost use Rattle.conn_workers.specs.Recordings.{recordings_of, recorded_lines, recorded_row};
+    ghost use Rattle.conn_workers.specs.Recordings.{recordings_of, recorded_row};
+    ghost use Rattle.conn_workers.specs.ReportTexts.{HoldLines};
+    ghost use Rattle.toxicap.specs.Rehearsal.{scenario_limit};
 
     /// What starts its threads, if it starts any, may be shared among them.
     ghost shares: { Self → Type 0 };
@@ -45,21 +46,22 @@ pub(crate) trait Crew {
         requires table { table.now ≡ whole_table capture.now }
         ensures { IfOk result (λ v. v ≡ recordings_of capture.now) };
 
-    /// The lines of the connections in the report of a scenario with its number, in some texts one after another.
+    /// The lines of the connections in the report of each scenario, in some shares one after another.
     ///
     /// # Errors
     /// A growth was refused.
-    fn report_lines(
+    fn report_texts(
         &self,
         alloc: Global,
-        recordings: &Recordings<'_, '_>,
-        number: u32,
-        scenario: &Scenario,
+        capture: &Capture<'_>,
+        table: &Table,
+        scenarios: &[Scenario],
         seed: u64,
-    ) -> Result<Values<ReportText>, AllocError>
-        requires { shares self.now }
-        ensures { IfOk result (λ v. flat_map (λ text. text) v
-            ≡ flat_map (λ line. line) (recorded_lines seed (number, scenario.now) recordings.now)) };
+    ) -> Result<Values<ShareTexts>, AllocError>
+        requires shares { shares self.now }
+        requires table { table.now ≡ whole_table capture.now }
+        requires few { length scenarios.now ≤ scenario_limit }
+        ensures { IfOk result (HoldLines seed scenarios.now (recordings_of capture.now)) };
 
     /// What the connections contribute to a scenario with its number, in some shares one after another.
     ///
@@ -72,7 +74,7 @@ pub(crate) trait Crew {
         number: u32,
         scenario: &Scenario,
         seed: u64,
-    ) -> Result<OutlineRow<'a>, AllocError>
+    ) -> Result<RowShares<'a>, AllocError>
         requires { shares self.now }
         ensures segments { IfOk result (λ v. flat_map (λ s. s.segments) v
             ≡ flat_map (λ d. d.segments) (recorded_row seed (number, scenario.now) recordings.now)) }
@@ -100,15 +102,15 @@ impl Crew for Alone {
         record_alone(alloc, capture, table)
     }
 
-    fn report_lines(
+    fn report_texts(
         &self,
         alloc: Global,
-        recordings: &Recordings<'_, '_>,
-        number: u32,
-        scenario: &Scenario,
+        capture: &Capture<'_>,
+        table: &Table,
+        scenarios: &[Scenario],
         seed: u64,
-    ) -> Result<Values<ReportText>, AllocError> {
-        report_lines_alone(alloc, recordings, number, scenario, seed)
+    ) -> Result<Values<ShareTexts>, AllocError> {
+        report_texts_alone(alloc, capture, table, scenarios, seed)
     }
 
     fn deliver_row<'a>(
@@ -118,7 +120,7 @@ impl Crew for Alone {
         number: u32,
         scenario: &Scenario,
         seed: u64,
-    ) -> Result<OutlineRow<'a>, AllocError> {
+    ) -> Result<RowShares<'a>, AllocError> {
         deliver_row_alone(alloc, recordings, number, scenario, seed)
     }
 }
@@ -150,16 +152,16 @@ impl<'r, R: Threads + Sync> Crew for Workers<'r, R> {
         record(self.rt, alloc, capture, table, self.plan, &Through)
     }
 
-    fn report_lines(
+    fn report_texts(
         &self,
         alloc: Global,
-        recordings: &Recordings<'_, '_>,
-        number: u32,
-        scenario: &Scenario,
+        capture: &Capture<'_>,
+        table: &Table,
+        scenarios: &[Scenario],
         seed: u64,
-    ) -> Result<Values<ReportText>, AllocError> {
-        report_lines(
-            self.rt, alloc, recordings, number, scenario, seed, self.plan, &Through,
+    ) -> Result<Values<ShareTexts>, AllocError> {
+        report_texts(
+            self.rt, alloc, capture, table, scenarios, seed, self.plan, &Through,
         )
     }
 
@@ -170,7 +172,7 @@ impl<'r, R: Threads + Sync> Crew for Workers<'r, R> {
         number: u32,
         scenario: &Scenario,
         seed: u64,
-    ) -> Result<OutlineRow<'a>, AllocError> {
+    ) -> Result<RowShares<'a>, AllocError> {
         deliver_row(
             self.rt, alloc, recordings, number, scenario, seed, self.plan, &Through,
         )

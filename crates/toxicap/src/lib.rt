@@ -16,6 +16,7 @@ pub mod laws;
 mod one_thread;
 mod reading;
 mod rehearsal;
+mod report_parts;
 mod reports;
 mod row_captures;
 mod row_reports;
@@ -34,5 +35,5 @@ pub use rehearsal::rehearse;
 pub use run_files::{
     Counted, DraftedOutput, Folder, FolderShelf, MemoryFile, MemoryShelf, Output, Outputs,
     RunFault, Shelf, ShelfError, StoreFault, fault_line, is_dump, load, print_reports, store_all,
-    store_draft, undump, write_bytes,
+    store_draft, undump, write_bytes, write_texts,
 };

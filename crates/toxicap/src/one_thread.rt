@@ -44,7 +44,9 @@ pub fn reports_alone(
 ) -> Result<ReportText, RunFault>
     ensures { Agrees run_refusal (λ text. text) result (reports_in (answer capture.now scenarios.now seed)) }
 {
-    rehearse_reports(&Alone, alloc, FileBytes::Whole(capture), scenarios, seed)
+    let parts = rehearse_reports(&Alone, alloc, FileBytes::Whole(capture), scenarios, seed)?;
+    let text = parts.text(alloc)?;
+    Ok(text)
 }
 
 /// Rehearses the capture that a text holds under scenarios that are still texts, each a JSON array of proxies in Toxiproxy's form. Where
@@ -78,5 +80,7 @@ pub fn report_answers_alone(
 ) -> Result<ReportText, RunFault>
     ensures { AgreesUnlessMemory run_refusal (λ reports. reports) result (reports_in (called_for hosts.now (map (λ t. t.now) texts.now) seed text.now)) }
 {
-    text_reports(&Alone, alloc, Text::lent(text), texts, hosts, seed)
+    let parts = text_reports(&Alone, alloc, Text::lent(text), texts, hosts, seed)?;
+    let text = parts.text(alloc)?;
+    Ok(text)
 }

@@ -8,15 +8,19 @@ ghost use Rattle.run_files.specs.RunFault.{run_refusal};
 ghost use Rattle.run_files.specs.SeenTexts.{IsSeenOf};
 ghost use Rattle.run_files.specs.WrittenOutputs.{reports_of};
 ghost use Rattle.toxicap.specs.Answering.{called_for};
-ghost use Rattle.toxicap.specs.CaptureOutputs.{outputs_for};
+ghost use Rattle.conn_workers.specs.CaptureTables.{whole_table};
+ghost use Rattle.std.specs.List.{range_with_len};
+ghost use Rattle.toxicap.specs.CaptureOutputs.{head_of, outputs_for};
 ghost use Rattle.toxicap.specs.PrintedReports.{reports_in};
 ghost use Rattle.toxicap.specs.Rehearsal.{answer, scenario_limit};
 
 use crate::crews::Crew;
 use crate::reading::{SCENARIO_LIMIT, read_inputs, read_rehearsed, read_texts};
-use crate::sources::Sources;
+use crate::report_parts::ReportParts;
+use conn_table::Table;
+use conn_workers::laws::lines_are_contributed;
 use pcap_records::{Capture, CaptureFault, FileBytes, KeptHeads};
-use report::ReportText;
+use report::{ReportText, report_head};
 use report_laws::laws::report_sees_heads;
 use run_files::{RunFault, SeenText, Text};
 use scenarios::{Hosts, Scenario};
@@ -33,7 +37,7 @@ pub(crate) fn seen_reports<C: Crew>(
     texts: &[&[u8]],
     hosts: &Hosts,
     seed: u64,
-) -> Result<ReportText, RunFault>
+) -> Result<ReportParts, RunFault>
     requires { C.shares crew.now }
     ensures { (text : List ℕ) → length text ≤ capture_limit → IsSeenOf seen text → AgreesUnlessMemory run_refusal (λ reports. reports) result
         (reports_in (called_for hosts.now (map (λ t. t.now) texts.now) seed text)) }
@@ -58,7 +62,7 @@ pub(crate) fn text_reports<C: Crew>(
     texts: &[&[u8]],
     hosts: &Hosts,
     seed: u64,
-) -> Result<ReportText, RunFault>
+) -> Result<ReportParts, RunFault>
     requires { C.shares crew.now }
     ensures { AgreesUnlessMemory run_refusal (λ reports. reports) result
         (reports_in (called_for hosts.now (map (λ t. t.now) texts.now) seed text.entry)) }
@@ -78,12 +82,12 @@ pub(crate) fn rehearse_reports<C: Crew>(
     capture: FileBytes<'_>,
     scenarios: &[Scenario],
     seed: u64,
-) -> Result<ReportText, RunFault>
+) -> Result<ReportParts, RunFault>
     requires { C.shares crew.now }
     ensures { Agrees run_refusal (λ text. text) result (reports_in (answer (bytes_of capture.entry) scenarios.now seed)) }
 {
     let capture = read_rehearsed(alloc, capture, scenarios)?;
-    let reports = join_reports(crew, alloc, &capture, scenarios, seed)?;
+    let reports = made_reports(crew, alloc, &capture, scenarios, seed)?;
     Ok(reports)
 }
 
@@ -97,7 +101,7 @@ fn head_reports<C: Crew>(
     heads: Result<KeptHeads, CaptureFault>,
     scenarios: &[Scenario],
     seed: u64,
-) -> Result<ReportText, RunFault>
+) -> Result<ReportParts, RunFault>
     requires { C.shares crew.now }
     ensures { (bytes : List ℕ) → AgreesUnlessMemory capture_refusal (λ h. h) heads (heads_in (reading bytes))
         → AgreesUnlessMemory run_refusal (λ text. text) result (reports_in (answer bytes scenarios.now seed)) }
@@ -109,35 +113,51 @@ fn head_reports<C: Crew>(
     let heads = heads?;
     let (bytes, records) = heads.split();
     let capture = records.over(&bytes);
-    let reports = join_reports(crew, alloc, &capture, scenarios, seed)?;
+    let reports = made_reports(crew, alloc, &capture, scenarios, seed)?;
     Ok(reports)
 }
 
-// The reports of all scenarios, one after another. The crew makes the table of the capture, and what is recorded of each connection; then
-// for one scenario after another the lines of its report.
+// The reports of all scenarios, one after another. The crew makes the table of the capture, and then the lines of its connections in all
+// reports.
 //
 // # Errors
 // A growth was refused.
-fn join_reports<C: Crew>(
+fn made_reports<C: Crew>(
     crew: &C,
     alloc: Global,
     capture: &Capture<'_>,
     scenarios: &[Scenario],
     seed: u64,
-) -> Result<ReportText, AllocError>
+) -> Result<ReportParts, AllocError>
     requires crew { C.shares crew.now }
     requires few { length scenarios.now ≤ scenario_limit }
-    ensures { IfOk result (λ text. text ≡ reports_of (outputs_for capture.now scenarios.now seed)) }
+    ensures { IfOk result (λ parts. parts ≡ reports_of (outputs_for capture.now scenarios.now seed)) }
 {
+    lines_are_contributed();
     let table = crew.table(alloc, capture)?;
-    let recordings = crew.record(alloc, capture, &table)?;
-    let sources = Sources {
-        alloc,
-        capture,
-        table: &table,
-        recordings: &recordings,
-        scenarios,
-        seed,
-    };
-    sources.reports(crew)
+    let shares = crew.report_texts(alloc, capture, &table, scenarios, seed)?;
+    let heads = report_heads(alloc, capture, &table, scenarios.len())?;
+    Ok(ReportParts::of(heads, shares))
+}
+
+// The first two lines of so many reports.
+//
+// # Errors
+// A growth was refused.
+fn report_heads(
+    alloc: Global,
+    capture: &Capture<'_>,
+    table: &Table,
+    count: usize,
+) -> Result<Vec<ReportText>, AllocError>
+    requires table { table.now ≡ whole_table capture.now }
+    requires few { count ≤ scenario_limit }
+    ensures { IfOk result (λ heads. heads.items ≡ map (head_of capture.now table.now) (range_with_len 0 count)) }
+{
+    let mut heads = Vec::with_capacity(alloc, count)?;
+    for number in 0..count {
+        let head = report_head(alloc, number as u32, capture, table)?;
+        heads.push(head)?;
+    }
+    Ok(heads)
 }

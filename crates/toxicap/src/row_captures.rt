@@ -5,7 +5,7 @@ ghost use Rattle.pcap_records.specs.Instants.{ticks_of};
 ghost use Rattle.segment_writer.specs.KeyLaws.{HasNoKeyTwice};
 ghost use Rattle.time_merge.specs.MergedCapture.{capture_of};
 
-use conn_workers::OutlineRow;
+use conn_workers::RowShares;
 use disks::Disk;
 use pcap_records::Unit;
 use segment_writer::SegmentRow;
@@ -40,7 +40,7 @@ impl<D: Disk> CaptureSink for DraftSink<D> {
 // A growth was refused.
 pub(crate) fn segments_alone<'a>(
     alloc: Global,
-    row: OutlineRow<'a>,
+    row: RowShares<'a>,
 ) -> Result<Vec<SegmentRow<'a>>, AllocError>
     ensures { IfOk result (λ rows. rows.items ≡ map (λ s. s.segments) row.entry) }
 {

@@ -7,19 +7,6 @@ use disks::Disk;
 use report::ReportText;
 use std::alloc::AllocError;
 
-// Appends texts.
-//
-// # Errors
-// A growth was refused.
-pub(crate) fn put_texts(text: &mut Vec<u8>, texts: &[ReportText]) -> Result<(), AllocError>
-    ensures { OnOk result (text.new.items ≡ text.old.items ++ flat_map (λ lines. lines) texts.now) }
-{
-    for lines in texts {
-        text.extend_from_slice(lines.as_slice())?;
-    }
-    Ok(())
-}
-
 // Appends the lines of all shares. Room is made for them at once.
 //
 // # Errors

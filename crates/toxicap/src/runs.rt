@@ -28,7 +28,7 @@ use disks::{Disk, ReadDisk};
 use job_matrix::Plan;
 use run_files::{
     Counted, Folder, RunFault, SeenText, Text, load, load_by_workers, load_file, see_file,
-    see_input, write_bytes,
+    see_input, write_texts,
 };
 use std::alloc::{AllocError, Global};
 use std::io::{Read, Write};
@@ -103,7 +103,9 @@ fn print_answers<H: Threads + Wait + Sync, D: ReadDisk, R: Read, W: Write>(
         plan: options.plan,
     };
     let reports = seen_reports(&crew, alloc, seen, texts, &options.hosts, options.seed)?;
-    write_bytes(writer, reports.as_slice())
+    let reports = reports.compact(alloc)?;
+    let pieces = reports.pieces(alloc)?;
+    write_texts(writer, &pieces)
 }
 
 // What reports see of the capture, from the file that a command line names, or without one from a reader.

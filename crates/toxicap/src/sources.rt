@@ -1,4 +1,4 @@
-//! What the outputs of all scenarios are made of, and what is made of it by whatever crew: an output in memory or as drafts, or its report alone.
+//! What the outputs of all scenarios are made of, and what is made of it by whatever crew: an output in memory or as drafts.
 ghost use Rattle.std.specs.Prelude.{◌≡◌, ◌≤◌, length};
 ghost use Rattle.conn_workers.specs.CaptureTables.{whole_table};
 ghost use Rattle.conn_workers.specs.Recordings.{recordings_of};
@@ -6,10 +6,10 @@ ghost use Rattle.toxicap.specs.Rehearsal.{scenario_limit};
 
 use crate::crews::Crew;
 use crate::row_captures::{segments_alone, written_draft};
-use crate::row_reports::{put_lines, put_texts, reported_draft};
+use crate::row_reports::{put_lines, reported_draft};
 use conn_table::Table;
 use conn_workers::laws::{lines_are_contributed, rows_are_contributed};
-use conn_workers::{OutlineRow, Recordings};
+use conn_workers::{Recordings, RowShares};
 use disks::Disk;
 use pcap_records::{Capture, Values};
 use report::{ReportText, report_head};
@@ -46,7 +46,6 @@ impl<'w, 'v, 'a> Sources<'w, 'v, 'a> {
     ghost use Rattle.segment_writer.specs.KeyLaws.{HasNoKeyTwice};
     ghost use Rattle.time_merge.specs.MergedCapture.{capture_of};
     ghost use Rattle.run_files.specs.DraftedOutputs.{IsDraftOf};
-    ghost use Rattle.run_files.specs.WrittenOutputs.{reports_of};
     ghost use Rattle.toxicap.specs.CaptureOutputs.{head_from, no_output, outputs_from};
     ghost use Rattle.toxicap.specs.DraftPlaces.{AreAtPlace};
 
@@ -61,18 +60,6 @@ impl<'w, 'v, 'a> Sources<'w, 'v, 'a> {
             outputs.push(output)?;
         }
         Ok(Values::of(outputs))
-    }
-
-    /// Their reports, one after another. No segment is written.
-    pub(crate) fn reports<C: Crew>(&self, crew: &C) -> Result<ReportText, AllocError>
-        requires { C.shares crew.now }
-        ensures { IfOk result (λ text. text ≡ reports_of (outputs_from self.now)) }
-    {
-        let mut text = Vec::new(self.alloc);
-        for number in 0..self.scenarios.len() {
-            self.put_report(crew, number, &mut text)?;
-        }
-        Ok(ReportText::of(text))
     }
 
     // The output of the scenario of a number.
@@ -118,30 +105,6 @@ impl<'w, 'v, 'a> Sources<'w, 'v, 'a> {
         Ok((capture, report))
     }
 
-    // Appends the report of the scenario of a number.
-    fn put_report<C: Crew>(
-        &self,
-        crew: &C,
-        number: usize,
-        text: &mut Vec<u8>,
-    ) -> Result<(), AllocError>
-        requires crew { C.shares crew.now }
-        requires within { number < length self.now.scenarios.now }
-        ensures { OnOk result (text.new.items ≡ text.old.items ++ (get_or (outputs_from self.now) number no_output).report) }
-    {
-        lines_are_contributed();
-        let scenario = &self.scenarios[number];
-        let lines = crew.report_lines(
-            self.alloc,
-            self.recordings,
-            number as u32,
-            scenario,
-            self.seed,
-        )?;
-        text.extend_from_slice(self.head(number)?.as_slice())?;
-        put_texts(text, lines.as_slice())
-    }
-
     // The first two lines of the report of the scenario of a number.
     fn head(&self, number: usize) -> Result<ReportText, AllocError>
         requires { number < length self.now.scenarios.now }
@@ -151,7 +114,7 @@ impl<'w, 'v, 'a> Sources<'w, 'v, 'a> {
     }
 
     // What the connections contribute to the output of the scenario of a number.
-    fn row<C: Crew>(&self, crew: &C, number: usize) -> Result<OutlineRow<'a>, AllocError>
+    fn row<C: Crew>(&self, crew: &C, number: usize) -> Result<RowShares<'a>, AllocError>
         requires crew { C.shares crew.now }
         requires within { number < length self.now.scenarios.now }
         ensures once { IfOk result (λ row. HasNoKeyTwice (flat_map (λ s. s.segments) row)) }

@@ -7,5 +7,6 @@ mod merging;
 mod one_thread;
 mod range_tables;
 mod recorded_bytes;
+mod report_texts;
 mod tables;
 mod workers;

@@ -3,7 +3,7 @@ use std::alloc::AllocGlobal;
 use std::io;
 use std::io::{ErrorKind, Write};
 use std::process::Abort;
-use toxicap::{Counted, RunFault, write_bytes};
+use toxicap::{Counted, RunFault, write_bytes, write_texts};
 
 /// Takes at most `most` bytes a call, and fails once `calls` calls were made.
 #[derive(Drop)]
@@ -148,4 +148,30 @@ fn a_write_that_fails_once(rt: HostRuntime) {
     check_refusing(&rt, (0, true), Err(""));
     check_refusing(&rt, (1, false), Err("repo"));
     check_refusing(&rt, (1, true), Err("repo"));
+}
+
+// Three texts to a writer that refuses once, after so many calls.
+fn check_refused_texts(
+    rt: &(impl Abort + AllocGlobal),
+    calls_before: u32,
+    wanted: Result<&str, &str>,
+) {
+    let mut writer = Counted::new(RefusesOnce {
+        taken: Vec::new(rt.alloc()),
+        calls_before,
+        takes_nothing: false,
+    });
+    let texts: [&[u8]; 3] = [b"rep", b"", b"orts"];
+    let answer = write_texts(&mut writer, &texts);
+    let failed = writer.failed();
+    let good = is_written((answer, failed), &writer.into_inner().taken, wanted);
+    assert!(rt; good, "texts, after {calls_before} calls");
+}
+
+// The texts after one that was not written whole are not written.
+#[test]
+fn texts_of_which_a_write_fails_once(rt: HostRuntime) {
+    check_refused_texts(&rt, 0, Err(""));
+    check_refused_texts(&rt, 1, Err("rep"));
+    check_refused_texts(&rt, 2, Ok("reports"));
 }

@@ -6,7 +6,7 @@ use super::checks::check;
 use conn_table::laws::tables_agree;
 use conn_table::{Partial, Table, finish};
 use conn_workers::{
-    Delivery, OutlineRow, Recordings, deliver, deliver_row, deliver_row_alone, record,
+    Delivery, Recordings, RowShares, deliver, deliver_row, deliver_row_alone, record,
 };
 use job_matrix::{Gate, Phase, Plan, Through};
 use pcap_records::{Capture, Moment, read_capture};
@@ -33,7 +33,7 @@ pub(super) const DISABLED: &str =
 pub(super) const FIRST_LINE: &str =
     "0 10.0.0.1:40000 > 10.0.0.3:40001 proxy - up 0/0/0 open max 0 down 0/0/0 open max 0\n";
 
-const SECOND_LINE: &str =
+pub(super) const SECOND_LINE: &str =
     "1 10.0.0.1:40000 > 10.0.0.2:80 proxy - up 2/2/0 open max 0 down 0/0/0 open max 0\n";
 
 pub(super) const REFUSED_LINE: &str =
@@ -130,7 +130,7 @@ fn a_row_for_each_scenario(rt: HostRuntime) {
 }
 
 // Whether what the shares of a row hold together is the row of the second scenario.
-fn is_second_row(rt: &impl Abort, alloc: Global, row: OutlineRow<'_>) -> bool {
+fn is_second_row(rt: &impl Abort, alloc: Global, row: RowShares<'_>) -> bool {
     let mut segments = 0usize;
     let mut lines = Vec::new(alloc);
     for share in row.as_slice() {

@@ -13,10 +13,10 @@ returns-clause-segments g c =
     let under = c.of-under.result in
     let is = c.of-under.ensures in
     let ranges = c.of-ranges.result in
-    let whole : length under.recordings.now ≤ ranges.count * ranges.size = omega (arith, c.of-ranges.ensures, ranges.whole) in
-    rw (← is.seed, ← is.number, ← is.scenario, ← is.recordings)
+    let whole : length c.as_slice-recordings.result.now ≤ ranges.count * ranges.size = omega (arith, c.of-ranges.ensures, ranges.whole) in
+    rw (← is.seed, ← is.number, ← is.scenario, ← c.as_slice-recordings.ensures)
     (IfOk-weaker c.work_all.result _ _
-    (λ v e. ap (flat_map (λ (x : RowShare). x.segments)) e ∙ segments_together under.seed (under.number, under.scenario.now) under.recordings.now ranges.size ranges.count whole)
+    (λ v e. ap (flat_map (λ (x : RowShare). x.segments)) e ∙ segments_together under.seed (under.number, under.scenario.now) c.as_slice-recordings.result.now ranges.size ranges.count whole)
     c.work_all.ensures)
 
 pub returns-clause-lines : goal.returns-clause-lines
@@ -24,8 +24,8 @@ returns-clause-lines g c =
     let under = c.of-under.result in
     let is = c.of-under.ensures in
     let ranges = c.of-ranges.result in
-    let whole : length under.recordings.now ≤ ranges.count * ranges.size = omega (arith, c.of-ranges.ensures, ranges.whole) in
-    rw (← is.seed, ← is.number, ← is.scenario, ← is.recordings)
+    let whole : length c.as_slice-recordings.result.now ≤ ranges.count * ranges.size = omega (arith, c.of-ranges.ensures, ranges.whole) in
+    rw (← is.seed, ← is.number, ← is.scenario, ← c.as_slice-recordings.ensures)
     (IfOk-weaker c.work_all.result _ _
-    (λ v e. ap (flat_map (λ (x : RowShare). x.lines)) e ∙ lines_together under.seed (under.number, under.scenario.now) under.recordings.now ranges.size ranges.count whole)
+    (λ v e. ap (flat_map (λ (x : RowShare). x.lines)) e ∙ lines_together under.seed (under.number, under.scenario.now) c.as_slice-recordings.result.now ranges.size ranges.count whole)
     c.work_all.ensures)

@@ -11,10 +11,10 @@ returns-clause-segments c =
     let under = c.of-under.result in
     let is = c.of-under.ensures in
     let share = c.in_ok-share.share in
-    rw (← is.seed, ← is.number, ← is.scenario, ← is.recordings)
+    rw (← is.seed, ← is.number, ← is.scenario, ← c.as_slice.ensures)
     (IfOk-weaker c.one.result _ _
     (λ v e. ap (flat_map (λ (x : RowShare). x.segments)) e ∙ append-nil share.segments ∙ ap (λ (x : RowShare). x.segments) c.in_ok-share.ensures
-    ∙ segments_in_row under.seed (under.number, under.scenario.now) under.recordings.now)
+    ∙ segments_in_row under.seed (under.number, under.scenario.now) c.as_slice.result.now)
     c.one.ensures)
 
 pub returns-clause-lines : goal.returns-clause-lines
@@ -22,8 +22,8 @@ returns-clause-lines c =
     let under = c.of-under.result in
     let is = c.of-under.ensures in
     let share = c.in_ok-share.share in
-    rw (← is.seed, ← is.number, ← is.scenario, ← is.recordings)
+    rw (← is.seed, ← is.number, ← is.scenario, ← c.as_slice.ensures)
     (IfOk-weaker c.one.result _ _
     (λ v e. ap (flat_map (λ (x : RowShare). x.lines)) e ∙ append-nil share.lines ∙ ap (λ (x : RowShare). x.lines) c.in_ok-share.ensures
-    ∙ text_in_row under.seed (under.number, under.scenario.now) under.recordings.now)
+    ∙ text_in_row under.seed (under.number, under.scenario.now) c.as_slice.result.now)
     c.one.ensures)

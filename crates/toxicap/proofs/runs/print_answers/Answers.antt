@@ -1,6 +1,7 @@
 use Rattle.std.proofs.Common.{map, arith, ap, sym, ◌∙◌, None, Ok, Err}
 use Rattle.std.proofs.lemmas.Result.{err_from_is_err_and}
 use Rattle.std.specs.Io.KnownBytes.{Appends}
+use Rattle.run_files.specs.Streams.{joined}
 use Rattle.toxicap.proofs.PrintedSteps.{none_refused, none_sees, prints_none, prints_reports, prints_seen}
 use Rattle.toxicap.proofs.RunSteps.{input_fault, none_written, refused}
 use Rattle.toxicap.proofs.TextsTaken.{of_fault}
@@ -53,13 +54,14 @@ pub returns-clause-printed : goal.returns-clause-printed
 returns-clause-printed g c =
     let own = c.args.options.now in
     let texts = map (λ t. t.now) c.args.texts.now in
-    let Wrote = Appends (g.W.Write.contents c.args.writer.now.inner) (g.W.Write.contents c.write_bytes.new.writer.inner) in
+    let Wrote = Appends (g.W.Write.contents c.args.writer.now.inner) (g.W.Write.contents c.write_texts.new.writer.inner) in
+    let whole = ap joined c.deref.ensures.value ∙ c.in_ok-pieces.ensures ∙ c.in_ok-reports-2.ensures in
     let (loaded, sees, within, input, file) = c.in_ok-seen.ensures in (
       loaded,
       within,
-      prints_seen (called_for own.hosts texts own.seed) Wrote c.in_ok-seen.seen loaded sees within c.write_bytes.result
-          (λ text short seen. prints_reports Wrote c.write_bytes.result c.as_slice.result.now (called_for own.hosts texts own.seed text)
-          (c.in_ok-reports.ensures text short seen ∙ ap Ok (sym c.as_slice.ensures)) c.write_bytes.ensures.whole c.write_bytes.ensures.refused c.write_bytes.ensures.first_part),
+      prints_seen (called_for own.hosts texts own.seed) Wrote c.in_ok-seen.seen loaded sees within c.write_texts.result
+          (λ text short seen. prints_reports Wrote c.write_texts.result (joined c.deref.result.now) (called_for own.hosts texts own.seed text)
+          (c.in_ok-reports.ensures text short seen ∙ ap Ok (sym whole)) c.write_texts.ensures.whole c.write_texts.ensures.refused c.write_texts.ensures.first_part),
       input,
       file,
     )

@@ -8,6 +8,6 @@ index_mut-requires c = omega (arith, c.slot_of.ensures.within, c.requires.room, 
 pub returns-clause-lasts : goal.returns-clause-lasts
 returns-clause-lasts c =
     let p = c.args.pair in
-    let updates = c.in_ok-insert.ensures.updates in
+    let updates = c.in_ok-last.ensures.updates in
     let slot = c.slot_of.ensures.slot in
     lasts-set c.args.self.now _ p c.args.current c.requires (ap (λ i. set c.args.self.now.recent.items i (Some (record { pair = p; current = c.args.current }))) slot) (subst (λ i. i < 4096) slot c.slot_of.ensures.within) updates.1 updates.2

@@ -7,12 +7,12 @@ use Rattle.conn_workers.proofs.jobs.ShareJobsWork.value.Goals as goal
 pub range-requires-clause-below : goal.range-requires-clause-below
 range-requires-clause-below c =
     let work = c.args.self.now in
-    omega (arith, c.requires, length-by_range (row_share work.under.seed (work.under.number, work.under.scenario.now)) work.ranges.size work.ranges.count work.under.recordings.now)
+    omega (arith, c.requires, length-by_range (row_share work.under.seed (work.under.number, work.under.scenario.now)) work.ranges.size work.ranges.count work.recordings.now)
 
 pub returns : goal.returns
 returns c =
     let work = c.args.self.now in
     let made = row_share work.under.seed (work.under.number, work.under.scenario.now) in
     IfOk-weaker c.share.result _ _
-    (λ v e other. e ∙ ap made c.range.ensures ∙ by_range made work.ranges.size work.ranges.count work.under.recordings.now c.args.job other c.requires)
+    (λ v e other. e ∙ ap made c.range.ensures ∙ by_range made work.ranges.size work.ranges.count work.recordings.now c.args.job other c.requires)
     c.share.ensures

@@ -1,0 +1,61 @@
+-- Reports in parts, against those of the outputs.
+use Rattle.std.proofs.Common.{◌≡◌, ◌<◌, ℕ, ◌+◌, List, [], ◌∷◌, ◌++◌, length, map, get_or, refl, sym, ap, ap₂, ◌∙◌, arith, append_assoc, append-nil}
+use Rattle.std.specs.Borrow.{Bor}
+use Rattle.std.specs.List.{flat_map, range_with_len}
+use Rattle.std.proofs.lemmas.List.{get_or-map, length-map}
+use Rattle.std.proofs.lemmas.List.Concat.{flat_map-append}
+use Rattle.std.proofs.lemmas.List.Folds.{flat_map-map}
+use Rattle.std.proofs.lemmas.List.FromFn.{fill_by_all, get_or-map-range_with_len, length-map-range_with_len, map-range_with_len_more}
+use Rattle.pcap_records.specs.CaptureView.{CaptureView}
+use Rattle.conn_table.specs.Tables.{TableView}
+use Rattle.scenarios.specs.declared.proxies.Proxy.{Proxy}
+use Rattle.conn_workers.specs.CaptureTables.{whole_table}
+use Rattle.conn_workers.specs.DeliveryLaws.{LinesAreContributed}
+use Rattle.conn_workers.specs.Recordings.{recordings_of}
+use Rattle.conn_workers.specs.ReportTexts.{HoldLines, text_of}
+use Rattle.run_files.specs.Streams.{joined}
+use Rattle.run_files.specs.declared.outputs.Output.{Output}
+use Rattle.run_files.specs.WrittenOutputs.{reports_of}
+use Rattle.toxicap.specs.CaptureOutputs.{head_of, no_output, outputs_for}
+use Rattle.toxicap.specs.ReportParts.{report_at, reports_below, reports_held}
+use Rattle.toxicap.proofs.OutputSteps.{as_many_for, report_is}
+
+-- one report more
+pub below_more : (heads : List (List ℕ)) (shares : List (List (List ℕ))) (number : ℕ) → reports_below heads shares number ++ report_at heads shares number ≡ reports_below heads shares (number + 1)
+below_more heads shares number =
+    ap (λ (more : List ℕ). reports_below heads shares number ++ more) (sym (append-nil (report_at heads shares number)))
+    ∙ sym (flat_map-append (λ (report : List ℕ). report) (map (report_at heads shares) (range_with_len 0 number)) (report_at heads shares number ∷ []))
+    ∙ ap (flat_map (λ (report : List ℕ). report)) (sym (map-range_with_len_more (report_at heads shares) 0 number number (omega arith)))
+
+-- one slice more
+pub joined_more : (slices : List (Bor (List ℕ))) (slice : Bor (List ℕ)) → joined (slices ++ slice ∷ []) ≡ joined slices ++ slice.now
+joined_more slices slice = flat_map-append (λ (s : Bor (List ℕ)). s.now) slices (slice ∷ []) ∙ ap (λ (more : List ℕ). joined slices ++ more) (append-nil slice.now)
+
+-- one text alone is its own
+pub of_one : (text : List ℕ) → reports_held (text ∷ []) [] ≡ text
+of_one text = append-nil (text ++ []) ∙ append-nil text
+
+module _ (capture : CaptureView) (table : TableView) (table_is : table ≡ whole_table capture) (scenarios : List (List Proxy)) (seed : ℕ) (contributed : LinesAreContributed)
+    (heads : List (List ℕ)) (heads_are : heads ≡ map (head_of capture table) (range_with_len 0 (length scenarios)))
+    (shares : List (List (List ℕ))) (hold : HoldLines seed scenarios (recordings_of capture) shares) where
+  pub as_many_heads : length heads ≡ length scenarios
+  as_many_heads = ap length heads_are ∙ length-map-range_with_len (head_of capture table) 0 (length scenarios)
+
+  abbrev pub outputs : List Output
+  outputs = outputs_for capture scenarios seed
+
+  each : (number : ℕ) → number < length scenarios → get_or (map (λ (o : Output). o.report) outputs) number [] ≡ report_at heads shares number
+  each number within =
+      let inside : number < length outputs = omega (arith, within, as_many_for capture scenarios seed) in
+      let head : get_or heads number [] ≡ head_of capture table number =
+      ap (λ hs. get_or hs number []) heads_are ∙ get_or-map-range_with_len (head_of capture table) 0 (length scenarios) number number [] within (omega arith) in
+      get_or-map (λ (o : Output). o.report) outputs number no_output [] inside
+      ∙ sym (report_is capture scenarios seed table table_is contributed number within (text_of number shares) (hold.lines number within))
+      ∙ ap (λ (h : List ℕ). h ++ text_of number shares) (sym head)
+
+  pub parts_are : reports_held heads shares ≡ reports_of outputs
+  parts_are =
+      ap (reports_below heads shares) as_many_heads
+      ∙ ap (flat_map (λ (report : List ℕ). report))
+      (sym (fill_by_all (report_at heads shares) (map (λ (o : Output). o.report) outputs) (length scenarios) [] (length-map outputs _ ∙ as_many_for capture scenarios seed) each))
+      ∙ flat_map-map (λ (report : List ℕ). report) (λ (o : Output). o.report) outputs

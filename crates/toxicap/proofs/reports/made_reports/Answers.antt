@@ -1,0 +1,19 @@
+use Rattle.std.proofs.Common.{◌≡◌, ℕ, List, length, sym, ◌∙◌}
+use Rattle.std.proofs.lemmas.List.Elements.{All-weaker}
+use Rattle.toxicap.proofs.PartSteps.{as_many_heads, parts_are}
+use Rattle.toxicap.proofs.reports.made_reports.Goals as goal
+
+pub of-requires : goal.of-requires
+of-requires g c =
+    let scenarios = c.args.scenarios.now in
+    let hold = c.in_ok-shares.ensures in
+    let as_many = as_many_heads c.args.capture.now c.in_ok-table.table c.in_ok-table.ensures scenarios c.args.seed c.lines_are_contributed.ensures
+    c.in_ok-heads.heads.items c.in_ok-heads.ensures c.in_ok-shares.shares hold in
+    All-weaker (λ (share : List (List ℕ)). length share ≡ length scenarios) (λ share. length share ≡ length c.in_ok-heads.heads.items) (λ share is. is ∙ sym as_many)
+    c.in_ok-shares.shares hold.each
+
+pub returns : goal.returns
+returns g c =
+    c.of.ensures
+    ∙ parts_are c.args.capture.now c.in_ok-table.table c.in_ok-table.ensures c.args.scenarios.now c.args.seed c.lines_are_contributed.ensures
+    c.in_ok-heads.heads.items c.in_ok-heads.ensures c.in_ok-shares.shares c.in_ok-shares.ensures

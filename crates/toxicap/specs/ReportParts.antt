@@ -1,0 +1,16 @@
+-- The reports of all scenarios in parts: the first two lines of each, and shares of the lines of the connections, with a text for each.
+use Rattle.std.specs.Prelude.{ℕ, List, [], ◌++◌, get_or, length, map}
+use Rattle.std.specs.List.{flat_map, range_with_len}
+use Rattle.conn_workers.specs.ReportTexts.{text_of}
+
+-- the report of the scenario of a number
+abbrev pub report_at : List (List ℕ) → List (List (List ℕ)) → ℕ → List ℕ
+report_at heads shares number = get_or heads number [] ++ text_of number shares
+
+-- those of the scenarios below a number, one after another
+abbrev pub reports_below : List (List ℕ) → List (List (List ℕ)) → ℕ → List ℕ
+reports_below heads shares count = flat_map (λ report. report) (map (report_at heads shares) (range_with_len 0 count))
+
+-- those of all
+abbrev pub reports_held : List (List ℕ) → List (List (List ℕ)) → List ℕ
+reports_held heads shares = reports_below heads shares (length heads)

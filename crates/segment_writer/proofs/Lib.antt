@@ -3,6 +3,7 @@ pub mod PieceCuts
 pub mod PieceSteps
 pub mod Acknowledging
 pub mod RecordSteps
+pub mod RecordLengths
 pub mod SentClimb
 pub mod TurnSteps
 pub mod Sorting

@@ -27,7 +27,7 @@ use Rattle.segment_writer.proofs.PartBytes.{mark, inside_is, left_is, first_inst
 abbrev pub opened_record : ℕ → ℕ → ℕ → ℕ → List ℕ
 opened_record n ticks at len = record_header ticks at len ++ replicate n 0
 
-length-record_header : (ticks at n : ℕ) → length (record_header ticks at n) ≡ record_header_len
+pub length-record_header : (ticks at n : ℕ) → length (record_header ticks at n) ≡ record_header_len
 unfolding record_header
 length-record_header ticks at n = refl
 

@@ -43,7 +43,8 @@ impl Keyed for Framed {
 
 /// A list of written segments, which lends their keys and appends their records.
 pub trait Keys: Drop {
-    ghost use Rattle.std.specs.Prelude.{◌≡◌, ◌<◌, ◌++◌, List, length, slice_index_or, OnOk, OnErr};
+    ghost use Rattle.std.specs.Prelude.{◌≡◌, ◌<◌, ◌++◌, List, length, min, slice_index_or, OnOk, OnErr};
+    ghost use Rattle.std.specs.List.{flat_map};
     ghost use Rattle.segment_writer.specs.declared.framed.Framed.{Framed};
     ghost use Rattle.segment_writer.specs.SegmentOutlines.{no_segment};
 
@@ -60,10 +61,12 @@ pub trait Keys: Drop {
 
     /// How many bytes the record of a segment has, or the greatest number where they are more.
     fn record_len(&self, index: usize) -> usize
-        requires { index < length (segments self.now) };
+        requires { index < length (segments self.now) }
+        ensures { result ≡ min (length (slice_index_or (segments self.now) index no_segment).bytes) usize.MAX };
 
     /// How many bytes the records of all segments have, or the greatest number where they are more.
-    fn written_len(&self) -> usize;
+    fn written_len(&self) -> usize
+        ensures { result ≡ min (length (flat_map (λ x. x.bytes) (segments self.now))) usize.MAX };
 
     /// Appends the record of a segment.
     ///

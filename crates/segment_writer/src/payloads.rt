@@ -24,14 +24,6 @@ pub(crate) enum Payload<'a> {
     },
 }
 
-/// How many bytes a payload has.
-pub(crate) fn payload_len(payload: &Payload<'_>) -> usize {
-    match payload {
-        Payload::Lent(bytes) => bytes.len(),
-        Payload::Gathered { start: _, len } => *len,
-    }
-}
-
 /// The bytes of a payload.
 pub(crate) fn payload_bytes<'p>(gathered: &'p [u8], payload: &Payload<'p>) -> &'p [u8]
     requires { IsHeld gathered.now payload.now }

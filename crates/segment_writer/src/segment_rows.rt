@@ -1,18 +1,21 @@
 //! The written segments of connections in a row, which stand side by side. Each record is made where it is wanted.
-ghost use Rattle.std.specs.Prelude.{◌≡◌, ◌++◌, [], IfOk};
+ghost use Rattle.std.specs.Prelude.{◌≡◌, ◌++◌, [], ℕ, Bool, IfOk, length, min};
+ghost use Rattle.pcap_records.specs.Writing.{record_bytes};
 ghost use Rattle.reassembly.specs.LineLaws.{IsLine};
 ghost use Rattle.reassembly.specs.RecordedView.{recorded_view};
 ghost use Rattle.toxic_defs.specs.DeliveredLines.{delivered_view};
+ghost use Rattle.segment_writer.specs.SegmentOutlines.{side_sender};
+ghost use Rattle.segment_writer.specs.Senders.{frame_with, header_with};
 ghost use Rattle.segment_writer.specs.WrittenConnections.{written_connection};
 ghost use Rattle.segment_writer.specs.WrittenSegments.{written_segments};
 
 use crate::connection_segments::put_connection;
 use crate::framed::{Framed, Keys, SegKey, SegList};
 use crate::open_rows::OpenRow;
-use crate::payloads::{payload_bytes, payload_len};
+use crate::payloads::payload_bytes;
 use crate::records::{put_record, record_len};
 use crate::segment_outline::side_sender;
-use crate::senders::header_with;
+use crate::senders::{Sender, header_with};
 use conn_table::Conn;
 use pcap_records::Values;
 use reassembly::Recorded;
@@ -112,10 +115,8 @@ impl Keys for SegmentRow<'_> {
 
     fn record_len(&self, index: usize) -> usize {
         let segment = &self.row.segments[index];
-        record_len(
-            self.row.clients[segment.client].vlan,
-            payload_len(&segment.payload),
-        )
+        let payload = payload_bytes(&self.row.gathered, &segment.payload);
+        sent_len(&self.row.clients[segment.client], payload)
     }
 
     fn written_len(&self) -> usize {
@@ -133,4 +134,16 @@ impl Keys for SegmentRow<'_> {
         let payload = payload_bytes(&self.row.gathered, &segment.payload);
         put_record(out, sender.unit, segment.moment, &header, payload)
     }
+}
+
+// The length of the record of a segment with this payload that a client sends, or its server, or the greatest number where it is more.
+fn sent_len(client: &Sender, payload: &[u8]) -> usize
+    ensures { (is_server : Bool) (ticks at seq ack flags : ℕ)
+        → result ≡ min (length (record_bytes ticks at (frame_with (header_with (side_sender client.now is_server) seq ack flags) payload.now))) usize.MAX }
+{
+    let mac_from: &[u8] = &client.mac_from;
+    let mac_to: &[u8] = &client.mac_to;
+    prove!(mac_from.len() == 6);
+    prove!(mac_to.len() == 6);
+    record_len(client.vlan, payload.len())
 }

@@ -6,7 +6,7 @@ ghost use Rattle.segment_writer.specs.KeyLaws.{HasNoKeyTwice};
 ghost use Rattle.segment_writer.specs.WrittenSegments.{sorted_by_key};
 ghost use Rattle.time_merge.specs.KeyedSegments.{IsPlace, segment_at};
 ghost use Rattle.time_merge.specs.MergedCapture.{all_segments, capture_in_turn, capture_of};
-ghost use Rattle.time_merge.specs.Sinks.{IsWritten};
+ghost use Rattle.time_merge.specs.Sinks.{HasFirstPart, IsWritten};
 
 use crate::key_order::{in_order, merged_keys, order_of, sorted_places};
 use crate::orders::{Order, Place};
@@ -80,6 +80,7 @@ pub fn write_capture<L: Keys, S: CaptureSink>(
     requires once { HasNoKeyTwice (flat_map L.segments lists.now) }
     requires empty { S.took sink.old [] }
     ensures written { IfOk result (λ rest. IsWritten (S.took sink.new) rest.items (capture_of (ticks_of unit) (flat_map L.segments lists.now))) }
+    ensures first { OnErr result (HasFirstPart (S.took sink.new) (capture_of (ticks_of unit) (flat_map L.segments lists.now))) }
     ensures same { S.place sink.new ≡ S.place sink.old }
 {
     let order = sorted_places(alloc, lists)?;
@@ -130,6 +131,8 @@ fn written<L: Keys, S: CaptureSink>(
     requires batch { batch.items ≡ [] }
     requires empty { S.took sink.old [] }
     ensures written { IfOk result (λ rest. IsWritten (S.took sink.new) rest.items
+        (capture_in_turn (ticks_of unit) (map (segment_at L.segments lists.now) order.now))) }
+    ensures first { OnErr result (HasFirstPart (S.took sink.new)
         (capture_in_turn (ticks_of unit) (map (segment_at L.segments lists.now) order.now))) }
     ensures same { S.place sink.new ≡ S.place sink.old }
 {

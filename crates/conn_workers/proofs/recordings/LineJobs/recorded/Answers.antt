@@ -1,4 +1,4 @@
-use Rattle.std.proofs.Common.{◌<◌, ◌++◌, ◌∷◌, [], ◌-◌, length, drop, ap, ap₂, sym, ◌∙◌, arith}
+use Rattle.std.proofs.Common.{◌<◌, ◌++◌, ◌∷◌, [], length, drop, ap₂, sym, ◌∙◌, arith}
 use Rattle.std.proofs.lemmas.List.{get_or-drop, length-drop, take_more}
 use Rattle.conn_workers.specs.Recordings.{recordings_of}
 use Rattle.conn_workers.proofs.recordings.LineJobs.recorded.Goals as goal

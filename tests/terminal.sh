@@ -184,11 +184,14 @@ helps 'refused 60 ShelfFailed after 0' 'nowhere: No such file or directory; --ou
 helps 'refused 60 ShelfFailed after 0' '"": No such file or directory; --out names a folder that exists: mkdir makes one' "--capture shop.pcap --out ''"
 helps 'refused 60 ShelfFailed after 0' 'file is no folder: choose another --out' '--capture shop.pcap --out file'
 mkdir "$here/out/0000.txt" "$here/linked" "$here/piped"
+mkdir -p "$here/drafted/toxicap.unfinished-0"
 mkfifo "$here/piped/0000.txt"
 cp "$here/shop.pcap" "$here/taken/0000.pcap"
 ln "$here/web.json" "$here/linked/0000.txt"
 helps 'refused 60 ShelfFailed after 1' 'out/0000.txt is a folder: move it, or choose another --out' '--capture shop.pcap --out out'
 helps 'refused 60 ShelfFailed after 1' 'piped/0000.txt is no file: move it, or choose another --out' '--capture shop.pcap --out piped'
+helps 'refused 60 ShelfFailed after 0' 'drafted/toxicap.unfinished-0 is a folder, where files are first written: move it, or choose another --out' \
+    '--capture shop.pcap --out drafted'
 helps 'refused 60 ShelfFailed after 0' 'taken/0000.pcap: the run has read it, and it is not replaced: choose another --out' '--capture taken/0000.pcap --out taken'
 helps 'refused 60 ShelfFailed after 0' 'taken/0000.pcap: the run has read it, and it is not replaced: choose another --out' '--out taken < taken/0000.pcap'
 helps 'refused 60 ShelfFailed after 1' 'linked/0000.txt: the run has read it, and it is not replaced: choose another --out' \

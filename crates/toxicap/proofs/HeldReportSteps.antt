@@ -1,5 +1,5 @@
--- Reports in parts, against those of the outputs.
-use Rattle.std.proofs.Common.{◌≡◌, ◌<◌, ℕ, ◌+◌, List, [], ◌∷◌, ◌++◌, length, map, get_or, refl, sym, ap, ap₂, ◌∙◌, arith, append_assoc, append-nil}
+-- Reports held in texts, against those of the outputs.
+use Rattle.std.proofs.Common.{◌≡◌, ◌<◌, ℕ, ◌+◌, List, [], ◌∷◌, ◌++◌, length, map, get_or, sym, ap, ◌∙◌, arith, append-nil}
 use Rattle.std.specs.Borrow.{Bor}
 use Rattle.std.specs.List.{flat_map, range_with_len}
 use Rattle.std.proofs.lemmas.List.{get_or-map, length-map}
@@ -17,7 +17,7 @@ use Rattle.run_files.specs.Streams.{joined}
 use Rattle.run_files.specs.declared.outputs.Output.{Output}
 use Rattle.run_files.specs.WrittenOutputs.{reports_of}
 use Rattle.toxicap.specs.CaptureOutputs.{head_of, no_output, outputs_for}
-use Rattle.toxicap.specs.ReportParts.{report_at, reports_below, reports_held}
+use Rattle.toxicap.specs.HeldReports.{report_at, reports_below, reports_held}
 use Rattle.toxicap.proofs.OutputSteps.{as_many_for, report_is}
 
 -- one report more
@@ -27,9 +27,9 @@ below_more heads shares number =
     ∙ sym (flat_map-append (λ (report : List ℕ). report) (map (report_at heads shares) (range_with_len 0 number)) (report_at heads shares number ∷ []))
     ∙ ap (flat_map (λ (report : List ℕ). report)) (sym (map-range_with_len_more (report_at heads shares) 0 number number (omega arith)))
 
--- one slice more
-pub joined_more : (slices : List (Bor (List ℕ))) (slice : Bor (List ℕ)) → joined (slices ++ slice ∷ []) ≡ joined slices ++ slice.now
-joined_more slices slice = flat_map-append (λ (s : Bor (List ℕ)). s.now) slices (slice ∷ []) ∙ ap (λ (more : List ℕ). joined slices ++ more) (append-nil slice.now)
+-- one text more
+pub joined_more : (texts : List (Bor (List ℕ))) (text : Bor (List ℕ)) → joined (texts ++ text ∷ []) ≡ joined texts ++ text.now
+joined_more texts text = flat_map-append (λ (t : Bor (List ℕ)). t.now) texts (text ∷ []) ∙ ap (λ (more : List ℕ). joined texts ++ more) (append-nil text.now)
 
 -- one text alone is its own
 pub of_one : (text : List ℕ) → reports_held (text ∷ []) [] ≡ text
@@ -53,8 +53,8 @@ module _ (capture : CaptureView) (table : TableView) (table_is : table ≡ whole
       ∙ sym (report_is capture scenarios seed table table_is contributed number within (text_of number shares) (hold.lines number within))
       ∙ ap (λ (h : List ℕ). h ++ text_of number shares) (sym head)
 
-  pub parts_are : reports_held heads shares ≡ reports_of outputs
-  parts_are =
+  pub held_are : reports_held heads shares ≡ reports_of outputs
+  held_are =
       ap (reports_below heads shares) as_many_heads
       ∙ ap (flat_map (λ (report : List ℕ). report))
       (sym (fill_by_all (report_at heads shares) (map (λ (o : Output). o.report) outputs) (length scenarios) [] (length-map outputs _ ∙ as_many_for capture scenarios seed) each))

@@ -15,7 +15,7 @@ mod WholeTables
 mod RowSteps
 mod GatheredRows
 mod OutputSteps
-mod PartSteps
+mod HeldReportSteps
 mod ReadyDrafts
 mod PrintedSteps
 mod SeenReports

@@ -1,4 +1,4 @@
--- The reports of all scenarios in parts: the first two lines of each, and shares of the lines of the connections, with a text for each.
+-- The reports of all scenarios, held in texts: the first two lines of each, and shares of the lines of the connections, with a text for each.
 use Rattle.std.specs.Prelude.{ℕ, List, [], ◌++◌, get_or, length, map}
 use Rattle.std.specs.List.{flat_map, range_with_len}
 use Rattle.conn_workers.specs.ReportTexts.{text_of}

@@ -5,7 +5,7 @@ pub mod DraftPlaces
 pub mod SoundOutputs
 pub mod Answering
 pub mod PrintedReports
-pub mod ReportParts
+pub mod HeldReports
 pub mod StoredOutputs
 pub mod RunEnds
 pub mod Inputs

@@ -1,8 +1,8 @@
-//! The reports of all scenarios in the parts that they are made in, which are printed one after another without being put together.
+//! The reports of all scenarios, held in the texts that they are made in, which are printed one after another without being put together.
 ghost use Rattle.std.specs.Prelude.{◌≡◌, ◌++◌, ◌<◌, All, IfOk, OnOk, length};
 ghost use Rattle.conn_workers.specs.ReportTexts.{text_of};
 ghost use Rattle.run_files.specs.Streams.{joined};
-ghost use Rattle.toxicap.specs.ReportParts.{reports_held};
+ghost use Rattle.toxicap.specs.HeldReports.{reports_held};
 
 use conn_workers::ShareTexts;
 use pcap_records::Values;
@@ -10,18 +10,18 @@ use report::ReportText;
 use std::alloc::{AllocError, Global};
 use std::marker::Model;
 
-/// The reports of all scenarios in parts. Contracts see them one after another.
+/// The reports of all scenarios, held in the texts that they are made in. Contracts see them one after another.
 #[derive(Drop)]
-pub(crate) struct ReportParts {
+pub(crate) struct HeldReports {
     // The first two lines of each.
     heads: Vec<ReportText>,
     // The lines of the connections: each share has a text for each scenario.
     shares: Values<ShareTexts>,
 }
 
-impl Model for ReportParts {
+impl Model for HeldReports {
     ghost use Rattle.std.specs.Prelude.{◌≡◌, ℕ, All, List, length};
-    ghost use Rattle.toxicap.specs.ReportParts.{reports_held};
+    ghost use Rattle.toxicap.specs.HeldReports.{reports_held};
 
     ghost Value = { List ℕ };
 
@@ -33,27 +33,27 @@ impl Model for ReportParts {
 // How many bytes of reports are put together before they are printed, so that short ones take one write.
 const TOGETHER: usize = 1 << 20;
 
-impl ReportParts {
+impl HeldReports {
     ghost use Rattle.std.specs.Prelude.{◌≡◌, All, IfOk, length};
     ghost use Rattle.run_files.specs.Streams.{joined};
-    ghost use Rattle.toxicap.specs.ReportParts.{reports_held};
+    ghost use Rattle.toxicap.specs.HeldReports.{reports_held};
 
-    /// Those of these parts.
-    pub(crate) fn of(heads: Vec<ReportText>, shares: Values<ShareTexts>) -> ReportParts
+    /// Those of these texts.
+    pub(crate) fn of(heads: Vec<ReportText>, shares: Values<ShareTexts>) -> HeldReports
         requires { All (λ share. length share ≡ length heads.items) shares }
         ensures { result ≡ reports_held heads.items shares }
     {
-        ReportParts { heads, shares }
+        HeldReports { heads, shares }
     }
 
-    /// The parts, one after another.
+    /// The texts, one after another.
     ///
     /// # Errors
     /// A growth was refused.
-    pub(crate) fn pieces<'p>(&'p self, alloc: Global) -> Result<Vec<&'p [u8]>, AllocError>
-        ensures { IfOk result (λ pieces. joined pieces.items ≡ self.now) }
+    pub(crate) fn texts<'t>(&'t self, alloc: Global) -> Result<Vec<&'t [u8]>, AllocError>
+        ensures { IfOk result (λ texts. joined texts.items ≡ self.now) }
     {
-        pieces_of(alloc, &self.heads, self.shares.as_slice())
+        texts_in_turn(alloc, &self.heads, self.shares.as_slice())
     }
 
     /// The reports as one text.
@@ -63,106 +63,97 @@ impl ReportParts {
     pub(crate) fn text(&self, alloc: Global) -> Result<ReportText, AllocError>
         ensures { IfOk result (λ text. text ≡ self.now) }
     {
-        let pieces = self.pieces(alloc)?;
-        let text = put_together(alloc, &pieces)?;
+        let texts = self.texts(alloc)?;
+        let text = put_together(alloc, &texts)?;
         Ok(ReportText::of(text))
     }
 
-    /// The same reports, put together into one part where they are short.
+    /// The same reports, put together into one text where they are short.
     ///
     /// # Errors
     /// A growth was refused.
-    pub(crate) fn compact(self, alloc: Global) -> Result<ReportParts, AllocError>
-        ensures { IfOk result (λ parts. parts ≡ self) }
+    pub(crate) fn compact(self, alloc: Global) -> Result<HeldReports, AllocError>
+        ensures { IfOk result (λ reports. reports ≡ self) }
     {
-        if parts_len(&self.heads, self.shares.as_slice()) > TOGETHER {
+        if self.len(alloc)? > TOGETHER {
             return Ok(self);
         }
         let text = self.text(alloc)?;
         let heads = vec![in alloc; text]?;
-        Ok(ReportParts {
+        Ok(HeldReports {
             heads,
             shares: Values::of(Vec::new(alloc)),
         })
     }
+
+    // How many bytes they have, or the greatest number where they are more.
+    //
+    // # Errors
+    // A growth was refused.
+    fn len(&self, alloc: Global) -> Result<usize, AllocError> {
+        let texts = self.texts(alloc)?;
+        Ok(texts_len(&texts))
+    }
 }
 
-// The parts of reports, one after another: the first two lines of each, and after them the scenario's text of each share.
+// The texts of reports, one after another: the first two lines of each, and after them the scenario's text of each share.
 //
 // # Errors
 // A growth was refused.
-fn pieces_of<'p>(
+fn texts_in_turn<'t>(
     alloc: Global,
-    heads: &'p [ReportText],
-    shares: &'p [ShareTexts],
-) -> Result<Vec<&'p [u8]>, AllocError>
+    heads: &'t [ReportText],
+    shares: &'t [ShareTexts],
+) -> Result<Vec<&'t [u8]>, AllocError>
     requires { All (λ share. length share ≡ length heads.now) shares.now }
-    ensures { IfOk result (λ pieces. joined pieces.items ≡ reports_held heads.now shares.now) }
+    ensures { IfOk result (λ texts. joined texts.items ≡ reports_held heads.now shares.now) }
 {
     let room = heads.len().saturating_mul(shares.len().saturating_add(1));
-    let mut pieces = Vec::with_capacity(alloc, room)?;
+    let mut texts = Vec::with_capacity(alloc, room)?;
     for number in 0..heads.len() {
-        pieces.push(heads[number].as_slice())?;
-        put_texts(&mut pieces, shares, number)?;
+        texts.push(heads[number].as_slice())?;
+        put_texts(&mut texts, shares, number)?;
     }
-    Ok(pieces)
+    Ok(texts)
 }
 
 // Appends the texts of the scenario of a number, share after share.
 //
 // # Errors
 // A growth was refused.
-fn put_texts<'p>(
-    pieces: &mut Vec<&'p [u8]>,
-    shares: &'p [ShareTexts],
+fn put_texts<'t>(
+    texts: &mut Vec<&'t [u8]>,
+    shares: &'t [ShareTexts],
     number: usize,
 ) -> Result<(), AllocError>
     requires { All (λ share. number < length share) shares.now }
-    ensures { OnOk result (joined pieces.new.items ≡ joined pieces.old.items ++ text_of number shares.now) }
+    ensures { OnOk result (joined texts.new.items ≡ joined texts.old.items ++ text_of number shares.now) }
 {
     for share in shares {
-        pieces.push(share.as_slice()[number].as_slice())?;
+        texts.push(share.as_slice()[number].as_slice())?;
     }
     Ok(())
 }
 
-// Pieces, put together.
+// Texts, put together.
 //
 // # Errors
 // A growth was refused.
-fn put_together(alloc: Global, pieces: &[&[u8]]) -> Result<Vec<u8>, AllocError>
-    ensures { IfOk result (λ text. text.items ≡ joined pieces.now) }
+fn put_together(alloc: Global, texts: &[&[u8]]) -> Result<Vec<u8>, AllocError>
+    ensures { IfOk result (λ whole. whole.items ≡ joined texts.now) }
 {
-    let mut text = Vec::with_capacity(alloc, pieces_len(pieces))?;
-    for piece in pieces {
-        text.extend_from_slice(piece)?;
+    let mut whole = Vec::with_capacity(alloc, texts_len(texts))?;
+    for text in texts {
+        whole.extend_from_slice(text)?;
     }
-    Ok(text)
+    Ok(whole)
 }
 
-// How many bytes pieces have together, or the greatest number where they are more.
-fn pieces_len(pieces: &[&[u8]]) -> usize {
-    let mut len = 0usize;
-    for piece in pieces {
-        len = len.saturating_add(piece.len());
-    }
-    len
-}
-
-// How many bytes parts have together, or the greatest number where they are more.
-fn parts_len(heads: &[ReportText], shares: &[ShareTexts]) -> usize {
-    let mut len = texts_len(heads);
-    for share in shares {
-        len = len.saturating_add(texts_len(share.as_slice()));
-    }
-    len
-}
-
-// How many bytes texts have together.
-fn texts_len(texts: &[ReportText]) -> usize {
+// How many bytes texts have together, or the greatest number where they are more.
+fn texts_len(texts: &[&[u8]]) -> usize {
     let mut len = 0usize;
     for text in texts {
-        len = len.saturating_add(text.as_slice().len());
+        len = len.saturating_add(text.len());
     }
     len
 }

@@ -16,7 +16,7 @@ pub mod laws;
 mod one_thread;
 mod reading;
 mod rehearsal;
-mod report_parts;
+mod held_reports;
 mod reports;
 mod row_captures;
 mod row_reports;

@@ -44,8 +44,8 @@ pub fn reports_alone(
 ) -> Result<ReportText, RunFault>
     ensures { Agrees run_refusal (λ text. text) result (reports_in (answer capture.now scenarios.now seed)) }
 {
-    let parts = rehearse_reports(&Alone, alloc, FileBytes::Whole(capture), scenarios, seed)?;
-    let text = parts.text(alloc)?;
+    let reports = rehearse_reports(&Alone, alloc, FileBytes::Whole(capture), scenarios, seed)?;
+    let text = reports.text(alloc)?;
     Ok(text)
 }
 
@@ -80,7 +80,7 @@ pub fn report_answers_alone(
 ) -> Result<ReportText, RunFault>
     ensures { AgreesUnlessMemory run_refusal (λ reports. reports) result (reports_in (called_for hosts.now (map (λ t. t.now) texts.now) seed text.now)) }
 {
-    let parts = text_reports(&Alone, alloc, Text::lent(text), texts, hosts, seed)?;
-    let text = parts.text(alloc)?;
+    let reports = text_reports(&Alone, alloc, Text::lent(text), texts, hosts, seed)?;
+    let text = reports.text(alloc)?;
     Ok(text)
 }

@@ -16,7 +16,7 @@ ghost use Rattle.toxicap.specs.Rehearsal.{answer, scenario_limit};
 
 use crate::crews::Crew;
 use crate::reading::{SCENARIO_LIMIT, read_inputs, read_rehearsed, read_texts};
-use crate::report_parts::ReportParts;
+use crate::held_reports::HeldReports;
 use conn_table::Table;
 use conn_workers::laws::lines_are_contributed;
 use pcap_records::{Capture, CaptureFault, FileBytes, KeptHeads};
@@ -37,7 +37,7 @@ pub(crate) fn seen_reports<C: Crew>(
     texts: &[&[u8]],
     hosts: &Hosts,
     seed: u64,
-) -> Result<ReportParts, RunFault>
+) -> Result<HeldReports, RunFault>
     requires { C.shares crew.now }
     ensures { (text : List ℕ) → length text ≤ capture_limit → IsSeenOf seen text → AgreesUnlessMemory run_refusal (λ reports. reports) result
         (reports_in (called_for hosts.now (map (λ t. t.now) texts.now) seed text)) }
@@ -62,7 +62,7 @@ pub(crate) fn text_reports<C: Crew>(
     texts: &[&[u8]],
     hosts: &Hosts,
     seed: u64,
-) -> Result<ReportParts, RunFault>
+) -> Result<HeldReports, RunFault>
     requires { C.shares crew.now }
     ensures { AgreesUnlessMemory run_refusal (λ reports. reports) result
         (reports_in (called_for hosts.now (map (λ t. t.now) texts.now) seed text.entry)) }
@@ -82,7 +82,7 @@ pub(crate) fn rehearse_reports<C: Crew>(
     capture: FileBytes<'_>,
     scenarios: &[Scenario],
     seed: u64,
-) -> Result<ReportParts, RunFault>
+) -> Result<HeldReports, RunFault>
     requires { C.shares crew.now }
     ensures { Agrees run_refusal (λ text. text) result (reports_in (answer (bytes_of capture.entry) scenarios.now seed)) }
 {
@@ -101,7 +101,7 @@ fn head_reports<C: Crew>(
     heads: Result<KeptHeads, CaptureFault>,
     scenarios: &[Scenario],
     seed: u64,
-) -> Result<ReportParts, RunFault>
+) -> Result<HeldReports, RunFault>
     requires { C.shares crew.now }
     ensures { (bytes : List ℕ) → AgreesUnlessMemory capture_refusal (λ h. h) heads (heads_in (reading bytes))
         → AgreesUnlessMemory run_refusal (λ text. text) result (reports_in (answer bytes scenarios.now seed)) }
@@ -128,16 +128,16 @@ fn made_reports<C: Crew>(
     capture: &Capture<'_>,
     scenarios: &[Scenario],
     seed: u64,
-) -> Result<ReportParts, AllocError>
+) -> Result<HeldReports, AllocError>
     requires crew { C.shares crew.now }
     requires few { length scenarios.now ≤ scenario_limit }
-    ensures { IfOk result (λ parts. parts ≡ reports_of (outputs_for capture.now scenarios.now seed)) }
+    ensures { IfOk result (λ reports. reports ≡ reports_of (outputs_for capture.now scenarios.now seed)) }
 {
     lines_are_contributed();
     let table = crew.table(alloc, capture)?;
     let shares = crew.report_texts(alloc, capture, &table, scenarios, seed)?;
     let heads = report_heads(alloc, capture, &table, scenarios.len())?;
-    Ok(ReportParts::of(heads, shares))
+    Ok(HeldReports::of(heads, shares))
 }
 
 // The first two lines of so many reports.

@@ -104,8 +104,8 @@ fn print_answers<H: Threads + Wait + Sync, D: ReadDisk, R: Read, W: Write>(
     };
     let reports = seen_reports(&crew, alloc, seen, texts, &options.hosts, options.seed)?;
     let reports = reports.compact(alloc)?;
-    let pieces = reports.pieces(alloc)?;
-    write_texts(writer, &pieces)
+    let report_texts = reports.texts(alloc)?;
+    write_texts(writer, &report_texts)
 }
 
 // What reports see of the capture, from the file that a command line names, or without one from a reader.

@@ -48,14 +48,39 @@ fn file_remedy<R: Files>(
             "{name}: the run has read it, and it is not replaced: choose another --out"
         );
     }
-    match why_unwritten(files, alloc, &path)? {
-        Some(cause) => format!(in alloc;
+    if let Some(cause) = why_unwritten(files, alloc, &path)? {
+        return format!(in alloc;
             "{name}: {cause}; choose another --out, or give the right to write it"
-        ),
-        None => format!(in alloc;
-            "{name} could not be written: look at the rights of the folder, and at the room that is left"
-        ),
+        );
     }
+    if let Some(draft) = folder_of_a_draft(files, alloc, folder)? {
+        let draft = shown_path(alloc, &draft)?;
+        return format!(in alloc;
+            "{draft} is a folder, where files are first written: move it, or choose another --out"
+        );
+    }
+    format!(in alloc;
+        "{name} could not be written: look at the rights of the folder, and at the room that is left"
+    )
+}
+
+// How many drafts a folder has at most: two of an output, and at once of two outputs for each of 16 workers.
+const DRAFT_LIMIT: u32 = 64;
+
+// The path of the first draft, if there is one, at which a folder stands. What else stands there is removed by a run.
+fn folder_of_a_draft<R: Files>(
+    files: &R,
+    alloc: Global,
+    folder: &str,
+) -> Result<Option<String>, AllocError> {
+    for place in 0..DRAFT_LIMIT {
+        let path = format!(in alloc; "{folder}/toxicap.unfinished-{place}")?;
+        match fs::symlink_metadata(files, &path) {
+            Ok(metadata) if metadata.is_dir() => return Ok(Some(path)),
+            _ => {}
+        }
+    }
+    Ok(None)
 }
 
 // What a path stands for where it is no file: a folder, or a pipe and the like.

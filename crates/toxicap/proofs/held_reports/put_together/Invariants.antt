@@ -1,6 +1,6 @@
 use Rattle.std.proofs.Common.{◌≡◌, take}
 use Rattle.run_files.specs.Streams.{joined}
-use Rattle.toxicap.proofs.report_parts.put_together.Given as goal
+use Rattle.toxicap.proofs.held_reports.put_together.Given as goal
 
-abbrev pub invariant-loop-piece : goal.invariant-loop-piece
-invariant-loop-piece l = l.text.items ≡ joined (take l.piece-index l.pieces)
+abbrev pub invariant-loop-text : goal.invariant-loop-text
+invariant-loop-text l = l.whole.items ≡ joined (take l.text-index l.texts)

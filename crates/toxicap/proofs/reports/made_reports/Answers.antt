@@ -1,6 +1,6 @@
 use Rattle.std.proofs.Common.{◌≡◌, ℕ, List, length, sym, ◌∙◌}
 use Rattle.std.proofs.lemmas.List.Elements.{All-weaker}
-use Rattle.toxicap.proofs.PartSteps.{as_many_heads, parts_are}
+use Rattle.toxicap.proofs.HeldReportSteps.{as_many_heads, held_are}
 use Rattle.toxicap.proofs.reports.made_reports.Goals as goal
 
 pub of-requires : goal.of-requires
@@ -15,5 +15,5 @@ of-requires g c =
 pub returns : goal.returns
 returns g c =
     c.of.ensures
-    ∙ parts_are c.args.capture.now c.in_ok-table.table c.in_ok-table.ensures c.args.scenarios.now c.args.seed c.lines_are_contributed.ensures
+    ∙ held_are c.args.capture.now c.in_ok-table.table c.in_ok-table.ensures c.args.scenarios.now c.args.seed c.lines_are_contributed.ensures
     c.in_ok-heads.heads.items c.in_ok-heads.ensures c.in_ok-shares.shares c.in_ok-shares.ensures

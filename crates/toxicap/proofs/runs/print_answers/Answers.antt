@@ -55,7 +55,7 @@ returns-clause-printed g c =
     let own = c.args.options.now in
     let texts = map (λ t. t.now) c.args.texts.now in
     let Wrote = Appends (g.W.Write.contents c.args.writer.now.inner) (g.W.Write.contents c.write_texts.new.writer.inner) in
-    let whole = ap joined c.deref.ensures.value ∙ c.in_ok-pieces.ensures ∙ c.in_ok-reports-2.ensures in
+    let whole = ap joined c.deref.ensures.value ∙ c.in_ok-report_texts.ensures ∙ c.in_ok-reports-2.ensures in
     let (loaded, sees, within, input, file) = c.in_ok-seen.ensures in (
       loaded,
       within,

@@ -8,7 +8,7 @@ use Rattle.std.specs.Str.Parse.{AllDigits}
 use Rattle.disks.specs.DraftPaths.{slash, has_slash, path_in, unfinished, IsDraftPath, DraftsAreNamed}
 use Rattle.run_files.specs.Folders.{draft_name, DraftPathsDiffer}
 
-no_slash : (xs : List ℕ) → AllDigits 10 xs → has_slash xs ≡ false
+pub no_slash : (xs : List ℕ) → AllDigits 10 xs → has_slash xs ≡ false
 no_slash [] each = refl
 no_slash (c ∷ xs) each = by (c == slash) refl (no_slash xs each.1)
   where

@@ -1,6 +1,7 @@
 mod DumpTable
 mod DumpLemmas
 mod DraftNames
+mod OutputNames
 mod LoadedFiles
 mod LoadedParts
 mod PrintedPart

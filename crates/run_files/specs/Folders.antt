@@ -1,9 +1,11 @@
 -- Folders of a disk: which names they refuse, where their drafts are, and what contracts see of them.
-use Rattle.std.specs.Prelude.{◌≡◌, ◌<◌, ◌^◌, ℕ, ◌+◌, nat_lt, ◌==◌, Bool, ◌||◌, if◌then◌else◌, List, [], ◌++◌, codes, length, map, drop, Option, option_map}
+use Rattle.std.specs.Prelude.{◌≡◌, ◌<◌, ◌^◌, ℕ, ◌+◌, nat_lt, ◌==◌, Bool, ◌||◌, if◌then◌else◌, List, [], ◌++◌, codes, length, map, drop, Option, option_map, Result, Err}
 use Rattle.std.specs.Fmt.{decimal}
 use Rattle.disks.specs.DraftPaths.{has_slash, is_draft_name, path_in, unfinished}
 use Rattle.disks.specs.Histories.{History, NamedFile, named_file, Names}
 use Rattle.run_files.specs.Shelves.{StoredFile, stored_file}
+use Rattle.run_files.specs.declared.error.StoreFault.{StoreFault}
+use Rattle.run_files.specs.declared.error.StoreFault.TheVariants.{ShelfFailed}
 
 -- its path, and how many calls have failed
 pub record FolderView : Type 0 where
@@ -17,6 +19,12 @@ name_limit = 255
 -- no file of a folder may have a name, in one without a path none at all
 abbrev pub is_refused : List ℕ → List ℕ → Bool
 is_refused folder name = length folder == 0 || nat_lt name_limit (length name) || has_slash name || is_draft_name name
+
+-- How many calls of its disk failed where storing files of outputs in a folder ended so: one where a file could not be stored; but in a
+-- folder without a path, which refuses each name itself, none.
+abbrev pub disk_failures : List ℕ → Result (Unit {0}) StoreFault → ℕ
+disk_failures folder (Err (ShelfFailed after)) = if length folder == 0 then 0 else 1
+disk_failures folder _ = 0
 
 -- the name of a draft at a place
 abbrev pub draft_name : ℕ → List ℕ

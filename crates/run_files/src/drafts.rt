@@ -1,7 +1,8 @@
 //! Drafts of outputs: files of a folder that are written, by many threads side by side, before they get their names.
-ghost use Rattle.std.specs.Prelude.{◌≡◌, ℕ, List, ◌+◌, ◌-◌, ◌^◌, ◌<◌, ◌*◌, ◌++◌, [], ◌∷◌, OnOk};
+ghost use Rattle.std.specs.Prelude.{◌≡◌, false, ℕ, List, ◌+◌, ◌-◌, ◌^◌, ◌<◌, ◌≤◌, ◌*◌, ◌++◌, [], ◌∷◌, length, OnOk};
 ghost use Rattle.run_files.specs.DraftedOutputs.{IsDraftOf};
-ghost use Rattle.run_files.specs.Folders.{TakesIn};
+ghost use Rattle.disks.specs.DraftPaths.{has_slash};
+ghost use Rattle.run_files.specs.Folders.{TakesIn, disk_failures};
 ghost use Rattle.run_files.specs.declared.outputs.Output.{Output};
 ghost use Rattle.run_files.specs.Shelves.{stored_file};
 ghost use Rattle.run_files.specs.WrittenOutputs.{files_from, four_digits, PutsAfter, StoresAfter};
@@ -33,7 +34,8 @@ pub fn store_draft<D: Disk>(
     requires number { number < 2 ^ 32 }
     ensures folder { folder.new.folder ≡ folder.old.folder }
     ensures none_failed { OnOk result (folder.new.failed ≡ folder.old.failed) }
-    ensures no_fault { OnOk result (D.faults disk.new ≡ D.faults disk.old) }
+    ensures faults { D.faults disk.new ≡ D.faults disk.old + disk_failures folder.old.folder result }
+    ensures path { OnOk result (0 < length folder.old.folder) }
     ensures stores { (output : Output) → IsDraftOf D.holds output drafts
         → StoresAfter (2 * number) (files_from number (output ∷ [])) (TakesIn folder.old.folder (D.history disk.old) (D.history disk.new))
         folder.old.failed folder.new.failed result }
@@ -56,9 +58,13 @@ fn take_file<D: Disk>(
 ) -> Result<(), StoreFault>
     requires failures { folder.old.failed < 2 ^ 64 - 1 }
     requires faults { D.faults disk.old < 2 ^ 64 - 1 }
+    requires number { number < 2 ^ 32 }
+    requires ending { length ending.now ≤ 5 }
+    requires slash { has_slash ending.now ≡ false }
     ensures folder { folder.new.folder ≡ folder.old.folder }
     ensures none_failed { OnOk result (folder.new.failed ≡ folder.old.failed) }
-    ensures no_fault { OnOk result (D.faults disk.new ≡ D.faults disk.old) }
+    ensures faults { D.faults disk.new ≡ D.faults disk.old + disk_failures folder.old.folder result }
+    ensures path { OnOk result (0 < length folder.old.folder) }
     ensures puts { (bytes : List ℕ) → D.holds draft bytes
         → PutsAfter after (TakesIn folder.old.folder (D.history disk.old) (D.history disk.new) (stored_file (four_digits number ++ ending.now) bytes ∷ []))
         (D.history disk.new ≡ D.history disk.old) folder.old.failed folder.new.failed result }

@@ -49,7 +49,7 @@ impl<'a> Model for Folder<'a> {
 }
 
 impl<'a> Folder<'a> {
-    ghost use Rattle.std.specs.Prelude.{◌≡◌, ◌⊎◌, ℕ, List, ◌+◌, ◌-◌, ◌^◌, ◌<◌, ◌≤◌, ◌∷◌, [], true, IfOk, OnErr, OnOk, is_ok, if◌then◌else◌};
+    ghost use Rattle.std.specs.Prelude.{◌≡◌, ◌||◌, ℕ, List, ◌+◌, ◌-◌, ◌^◌, ◌<◌, ◌∷◌, [], false, IfOk, OnErr, OnOk, is_ok, if◌then◌else◌};
     ghost use Rattle.std.specs.String.{string_bytes};
     ghost use Rattle.disks.specs.DraftPaths.{IsDraftPath, path_in};
     ghost use Rattle.disks.specs.Histories.{named_file, Names};
@@ -138,10 +138,9 @@ impl<'a> Folder<'a> {
         ensures counted { self.new.failed ≡ (if is_ok result then self.old.failed else self.old.failed + 1) }
         ensures named { (bytes : List ℕ) → D.holds draft bytes → OnOk result
             (Names (D.history disk.old) (D.history disk.new) (named_file (path_in self.old.folder name.now) bytes ∷ [])) }
-        ensures none_failed { OnOk result (D.faults disk.new ≡ D.faults disk.old) }
-        ensures one_failed { D.faults disk.new ≤ D.faults disk.old + 1 }
         ensures as_before { OnErr result (D.history disk.new ≡ D.history disk.old) }
-        ensures refused { OnErr result ((is_refused self.old.folder name.now ≡ true) ⊎ (D.faults disk.new ≡ D.faults disk.old + 1)) }
+        ensures allowed { OnOk result (is_refused self.old.folder name.now ≡ false) }
+        ensures faults { D.faults disk.new ≡ (if is_ok result || is_refused self.old.folder name.now then D.faults disk.old else D.faults disk.old + 1) }
     {
         drafts_are_named();
         if self.refuses(name) {

@@ -9,7 +9,7 @@ use Rattle.run_files.specs.declared.outputs.Output.{Output}
 use Rattle.run_files.specs.Folders.{in_folder, TakesIn}
 use Rattle.run_files.specs.Shelves.{StoredFile}
 use Rattle.toxicap.specs.NamedFiles.{LeavesDisk}
-use Rattle.toxicap.specs.StoredOutputs.{FilesOf, TakenOf, files_in}
+use Rattle.toxicap.specs.StoredOutputs.{FilesOf, TakenOf, failed_stores, files_in}
 use Rattle.toxicap.proofs.RunSteps.{IsOfInput}
 use Rattle.toxicap.proofs.StoringEnds.{nothing_taken}
 
@@ -66,3 +66,8 @@ pub disk_unused : NamesLeaveWhole → (out : Option (Bor (List ℕ))) (fault : R
     → IsOfInput fault → IfSome told (λ h. LeavesDisk out (Err fault) wanted h told)
 disk_unused whole out fault wanted None own = tt
 disk_unused whole out fault wanted (Some h) own = disk_refused whole out fault wanted h (Some h) refl own
+
+-- nor has a call of it failed
+pub none_asked : (folder : List ℕ) (fault : RunFault) → IsOfInput fault → failed_stores folder (Err fault) ≡ 0
+none_asked folder (ShelfFailed after) own = absurd own
+none_asked folder fault own = refl

@@ -1,5 +1,5 @@
 -- How storing ends, by what a text calls for.
-use Rattle.std.proofs.Common.{◌≡◌, ℕ, ◌<◌, ◌≤◌, List, [], length, Option, Some, None, Result, Ok, Err, IfErr, refl, sym, ap, subst, append-nil, arith}
+use Rattle.std.proofs.Common.{◌≡◌, ℕ, ◌+◌, ◌<◌, ◌≤◌, List, [], length, Option, Some, None, Result, Ok, Err, IfErr, refl, sym, ap, ◌∙◌, subst, append-nil, arith}
 use Rattle.std.specs.Io.KnownBytes.{Consumes}
 use Rattle.lists.specs.Agreement.{Refuses}
 use Rattle.pcap_records.specs.Reading.{capture_limit}
@@ -7,15 +7,17 @@ use Rattle.scenarios.specs.declared.hosts.KnownHost.{KnownHost}
 use Rattle.scenarios.specs.declared.proxies.Proxy.{Proxy}
 use Rattle.run_files.specs.declared.error.RunFault.{RunFault}
 use Rattle.run_files.specs.declared.error.RunFault.TheVariants.{Memory, ReadFailed, ShelfFailed}
+use Rattle.run_files.specs.declared.error.StoreFault.{StoreFault}
+use Rattle.run_files.specs.declared.error.StoreFault.TheVariants as store
 use Rattle.run_files.specs.declared.outputs.Output.{Output}
-use Rattle.run_files.specs.RunFault.{run_refusal}
+use Rattle.run_files.specs.RunFault.{run_fault_of_storing, run_refusal}
 use Rattle.disks.specs.Histories.{History, NamedFile}
-use Rattle.run_files.specs.Folders.{TakesIn}
+use Rattle.run_files.specs.Folders.{TakesIn, disk_failures}
 use Rattle.run_files.specs.WrittenOutputs.{files_from}
 use Rattle.toxicap.specs.Answering.{IsOfText, called_for}
 use Rattle.toxicap.specs.Rehearsal.{answer}
 use Rattle.toxicap.specs.RunEnds.{StoresBy, failed_reads}
-use Rattle.toxicap.specs.StoredOutputs.{StoresOf, StoresUnlessMemory, TakenOf}
+use Rattle.toxicap.specs.StoredOutputs.{StoresOf, StoresUnlessMemory, TakenOf, failed_stores}
 use Rattle.toxicap.proofs.AnswerSteps.{answered, never, of_answer}
 
 -- a folder took no file
@@ -60,3 +62,17 @@ module _ (hosts : List KnownHost) (texts : List (List ℕ)) (seed : ℕ) where
   none_failed (Ok u) text is = refl
   none_failed (Err ReadFailed) text is = never hosts texts seed text is (λ own. own)
   none_failed (Err _) text is = refl
+
+-- ---- how many calls of the disk have failed
+
+-- where a file could not be stored, or there was no memory for its name
+pub stopped_faults : (folder : List ℕ) (fault : StoreFault) (before old new : ℕ) → old ≡ before → new ≡ old + disk_failures folder (Err fault)
+    → new ≡ before + failed_stores folder (Err (run_fault_of_storing fault))
+stopped_faults folder (store.ShelfFailed after) before old new is more = more ∙ ap (λ n. n + disk_failures folder (Err (store.ShelfFailed after))) is
+stopped_faults folder (store.Memory after) before old new is more = more ∙ ap (λ n. n + 0) is
+
+-- where a rehearsal is refused
+pub refused_faults : (fault : RunFault) (bytes : List ℕ) (scenarios : List (List Proxy)) (seed : ℕ) (folder : List ℕ)
+    → Refuses (run_refusal fault) (answer bytes scenarios seed) → failed_stores folder (Err fault) ≡ 0
+refused_faults (ShelfFailed after) bytes scenarios seed folder is = absurd (subst (λ wanted. IfErr wanted IsOfText) is (of_answer bytes scenarios seed))
+refused_faults fault bytes scenarios seed folder is = refl

@@ -22,7 +22,7 @@ use Rattle.toxicap.specs.Commands.{FaultStream, ProgramEnds, Streams}
 use Rattle.toxicap.specs.Inputs.{hosts_asked, texts_or_bare}
 use Rattle.toxicap.specs.PrintedReports.{PrintsOf}
 use Rattle.toxicap.specs.RunEnds.{Tells, status_of}
-use Rattle.toxicap.specs.StoredOutputs.{FilesOf, StoresUnlessMemory, files_in}
+use Rattle.toxicap.specs.StoredOutputs.{FilesOf, StoresUnlessMemory, failed_stores, files_in}
 
 -- the texts at some paths, after those loaded earlier, or the first refusal
 unfoldable pub texts_from : Held → List (List ℕ) → List (List ℕ) → Result (List (List ℕ)) RunFault
@@ -72,17 +72,23 @@ RunsOver h asked outcome s new =
     × EndsOf asked.out outcome (outputs_asked (held_now h) asked capture) s.Wrote
     × LeavesDisk asked.out outcome (outputs_asked (held_now h) asked capture) h new
 
--- how the program ends on a command line that asks for a run: the status and what is told are those of the run's outcome; on any other the
--- disk is as it was
-abbrev pub EndsOver : History → Result Asked Stop → ℕ → Streams → FaultStream → Option History → Type 0
-EndsOver h (Ok asked) status s t new =
-    (outcome : Result (Unit {0}) RunFault) × RunsOver h asked outcome s new
-    × (status ≡ status_of outcome) × Tells outcome t.Untold t.Told t.before t.now
-EndsOver h (Err stop) status s t new = new ≡ Some h
+-- how many calls of the disk have failed where a run ended so: without a folder none
+abbrev pub failed_calls : Option (Bor (List ℕ)) → Result (Unit {0}) RunFault → ℕ
+failed_calls None outcome = 0
+failed_calls (Some folder) outcome = failed_stores folder.now outcome
 
--- How the program ends, whatever its disk holds; and by the disk's history before and after, where the disk tells it.
-abbrev pub ProgramEndsOver : Option History → Option History → Result Asked Stop → ℕ → Streams → FaultStream → Type 0
-ProgramEndsOver old new line status s t = ProgramEnds line status s t × IfSome old (λ h. EndsOver h line status s t new)
+-- how the program ends on a command line that asks for a run, given what it is that so many calls of the disk have failed: the status and what
+-- is told are those of the run's outcome; on any other the disk is as it was
+abbrev pub EndsOver : History → Result Asked Stop → ℕ → Streams → FaultStream → Option History → (ℕ → Type 0) → Type 0
+EndsOver h (Ok asked) status s t new HaveFailed =
+    (outcome : Result (Unit {0}) RunFault) × RunsOver h asked outcome s new × HaveFailed (failed_calls asked.out outcome)
+    × (status ≡ status_of outcome) × Tells outcome t.Untold t.Told t.before t.now
+EndsOver h (Err stop) status s t new HaveFailed = (new ≡ Some h) × HaveFailed 0
+
+-- How the program ends, whatever its disk holds; and by the disk's history before and after, where the disk tells it, and by its failed calls.
+abbrev pub ProgramEndsOver : Option History → Option History → (ℕ → Type 0) → Result Asked Stop → ℕ → Streams → FaultStream → Type 0
+ProgramEndsOver old new HaveFailed line status s t =
+    ProgramEnds line status s t × IfSome old (λ h. EndsOver h line status s t new HaveFailed)
 
 -- ---- how a capture is loaded
 

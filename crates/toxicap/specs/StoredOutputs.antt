@@ -1,5 +1,5 @@
 -- Outputs that are stored as they are made: the files of each scenario before the next ones are made.
-use Rattle.std.specs.Prelude.{◌≡◌, ℕ, ◌+◌, ◌<◌, List, [], length, map, take, Result, Ok, Err, IsOk}
+use Rattle.std.specs.Prelude.{◌≡◌, ◌==◌, if◌then◌else◌, ℕ, ◌+◌, ◌<◌, List, [], length, map, take, Result, Ok, Err, IsOk}
 use Rattle.disks.specs.ToldFiles.{Held}
 use Rattle.disks.specs.Histories.{held_after}
 use Rattle.lists.specs.Agreement.{Refuses}
@@ -44,6 +44,12 @@ TakenOf (Err (ShelfFailed after)) wanted Took old_failures new_failures =
 TakenOf (Err Memory) wanted Took old_failures new_failures =
     ((stored : ℕ) × Took (take stored (files_in wanted))) × (new_failures ≡ old_failures)
 TakenOf (Err fault) wanted Took old_failures new_failures = Took [] × (new_failures ≡ old_failures)
+
+-- How many calls of its disk have failed where storing in a folder ended so: one where a file could not be stored; but in a folder without a
+-- path, which refuses each name itself, none.
+abbrev pub failed_stores : List ℕ → Result (Unit {0}) RunFault → ℕ
+failed_stores folder (Err (ShelfFailed after)) = if length folder == 0 then 0 else 1
+failed_stores folder _ = 0
 
 -- ---- a run that was killed
 

@@ -1,5 +1,5 @@
 //! The program: from the words of its command line to an exit status.
-ghost use Rattle.std.specs.Prelude.{◌≡◌, ◌≢◌, ◌-◌, ◌^◌, ◌<◌, ◌≤◌, map, Result, Err};
+ghost use Rattle.std.specs.Prelude.{◌≡◌, ◌≢◌, ◌+◌, ◌-◌, ◌^◌, ◌<◌, ◌≤◌, map, Result, Err};
 ghost use Rattle.std.specs.IoError.{error_kind};
 ghost use Rattle.std.specs.Io.KnownBytes.{Appends};
 ghost use Rattle.command_line.specs.Asking.{ReadsAs};
@@ -66,7 +66,8 @@ where
 /// Where the disk tells its history, the outcome follows from it: each scenario is the text at its own path, and the capture that at
 /// its path; of several files that are at fault the first is told, in the order of the scenarios, and then the capture. After a run of
 /// status 0 the files of the outputs have got their names in the folder, and no others have; where the folder fails or memory is wanting, a first part of
-/// them has; at any other refusal, and without `--out`, the disk is as it was. Whenever the run is cut off, each path holds what it held
+/// them has; at any other refusal, and without `--out`, the disk is as it was. A call of the disk has failed exactly where a file could not be
+/// stored in a folder that has a path. Whenever the run is cut off, each path holds what it held
 /// before it, or the whole file that it was to get.
 pub fn command_over<
     H: Threads + Wait + Sync,
@@ -95,7 +96,7 @@ where
     ensures quiet { result ≡ 0 → faults.new ≡ faults.old }
     ensures usage { result ≡ 2 → (input.new ≡ input.old) × (output.new ≡ output.old) }
     ensures ends { (line : Result Asked Stop) × ReadsAs (map S.text words.now) line
-        × ProgramEndsOver (D.history disk.old) (D.history disk.new) line result
+        × ProgramEndsOver (D.history disk.old) (D.history disk.new) (λ n. D.faults disk.new ≡ D.faults disk.old + n) line result
         (streams I.remaining input.old input.new O.contents output.old output.new) (fault_stream E.contents faults.old faults.new) }
 {
     match read_arguments(alloc, words) {

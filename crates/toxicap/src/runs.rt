@@ -7,9 +7,9 @@ ghost use Rattle.toxicap.specs.Answering.{called_for};
 ghost use Rattle.toxicap.specs.Commands.{RunsBy, streams};
 ghost use Rattle.disks.specs.Histories.{held_now};
 ghost use Rattle.run_files.specs.SeenTexts.{LoadsInput, SeesAs};
-ghost use Rattle.toxicap.specs.NamedFiles.{LeavesDisk, LoadsFile, RunsOver, texts_from};
+ghost use Rattle.toxicap.specs.NamedFiles.{LeavesDisk, LoadsFile, RunsOver, failed_calls, texts_from};
 ghost use Rattle.toxicap.specs.PrintedReports.{PrintsLoaded};
-ghost use Rattle.toxicap.specs.StoredOutputs.{StoresUnlessMemory};
+ghost use Rattle.toxicap.specs.StoredOutputs.{StoresUnlessMemory, failed_stores};
 ghost use Rattle.toxicap.specs.RunEnds.{failed_writes};
 ghost use Rattle.lists.specs.Agreement.{AgreesUnlessMemory};
 ghost use Rattle.pcap_records.specs.Reading.{capture_limit};
@@ -54,6 +54,7 @@ where
     requires writes { writer.old.failed < 2 ^ 64 - 1 }
     ensures runs { RunsBy asked.now result (streams R.remaining reader.old reader.new W.contents writer.old writer.new) }
     ensures named { IfSome (D.history disk.old) (λ h. RunsOver h asked.now result (streams R.remaining reader.old reader.new W.contents writer.old writer.new) (D.history disk.new)) }
+    ensures failed_calls { D.faults disk.new ≡ D.faults disk.old + failed_calls asked.now.out result }
     ensures failed_writes { writer.new.failed ≡ writer.old.failed + failed_writes result }
     ensures untouched { IfErr result (λ fault. fault ≢ RunFault.WriteFailed → writer.new ≡ writer.old) }
 {
@@ -145,6 +146,7 @@ where
     ensures disk { IfSome (D.history disk.old) (λ h. LeavesDisk (Some folder.entry) result
         (called_for options.now.hosts (map (λ t. t.now) texts.now) options.now.seed text.entry) h (D.history disk.new)) }
     ensures ends { StoresUnlessMemory result (called_for options.now.hosts (map (λ t. t.now) texts.now) options.now.seed text.entry) }
+    ensures faults { D.faults disk.new ≡ D.faults disk.old + failed_stores folder.entry.now result }
     ensures none_printed { failed_writes result ≡ 0 }
 {
     names_leave_whole();

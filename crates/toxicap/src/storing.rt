@@ -1,10 +1,10 @@
 //! Outputs that are stored as they are made: drafts of those of a few scenarios are made, stored and let go, and then those of the next.
-ghost use Rattle.std.specs.Prelude.{◌-◌, ◌^◌, ◌<◌, ◌≤◌, Ok, length};
+ghost use Rattle.std.specs.Prelude.{◌≡◌, ◌+◌, ◌-◌, ◌^◌, ◌<◌, ◌≤◌, Ok, length};
 ghost use Rattle.pcap_records.specs.CaptureView.{bytes_of};
 ghost use Rattle.run_files.specs.Folders.{TakesIn};
 ghost use Rattle.toxicap.specs.CaptureOutputs.{outputs_for, outputs_from};
 ghost use Rattle.toxicap.specs.Rehearsal.{answer, scenario_limit};
-ghost use Rattle.toxicap.specs.StoredOutputs.{StoresOf, TakenOf};
+ghost use Rattle.toxicap.specs.StoredOutputs.{StoresOf, TakenOf, failed_stores};
 
 use crate::crews::{Crew, Workers};
 use crate::drafting::drafts_from;
@@ -18,7 +18,7 @@ use std::alloc::Global;
 use std::thread::Threads;
 
 /// Rehearses a capture under each of the scenarios and puts the files of their outputs into a folder, in order: those that `store_all`
-/// puts of what `rehearse` answers. Outlines are made of no more scenarios at once than there are workers, and there are drafts of at most twice
+/// puts of what `rehearse` answers. Rows are made of no more scenarios at once than there are workers, and there are drafts of at most twice
 /// as many.
 ///
 /// # Errors
@@ -40,6 +40,7 @@ where
     ensures ends { StoresOf result (answer (bytes_of capture.entry) scenarios.now seed) }
     ensures taken { TakenOf result (answer (bytes_of capture.entry) scenarios.now seed) (TakesIn folder.old.folder (D.history disk.old) (D.history disk.new))
         folder.old.failed folder.new.failed }
+    ensures faults { D.faults disk.new ≡ D.faults disk.old + failed_stores folder.old.folder result }
 {
     let capture = read_rehearsed(alloc, capture, scenarios)?;
     store_outputs(crew, alloc, &capture, scenarios, seed, folder, disk)
@@ -63,6 +64,7 @@ where
     ensures ends { StoresOf result (Ok (outputs_for capture.now scenarios.now seed)) }
     ensures taken { TakenOf result (Ok (outputs_for capture.now scenarios.now seed))
         (TakesIn folder.old.folder (D.history disk.old) (D.history disk.new)) folder.old.failed folder.new.failed }
+    ensures faults { D.faults disk.new ≡ D.faults disk.old + failed_stores folder.old.folder result }
 {
     let table = crew.table(alloc, capture)?;
     let recordings = crew.record(alloc, capture, &table)?;
@@ -91,6 +93,7 @@ where
     ensures ends { StoresOf result (Ok (outputs_from sources.now)) }
     ensures taken { TakenOf result (Ok (outputs_from sources.now))
         (TakesIn folder.old.folder (D.history disk.old) (D.history disk.new)) folder.old.failed folder.new.failed }
+    ensures faults { D.faults disk.new ≡ D.faults disk.old + failed_stores folder.old.folder result }
 {
     let mut number = 0;
     while number < sources.scenarios.len() {

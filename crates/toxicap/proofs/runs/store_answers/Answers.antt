@@ -1,11 +1,11 @@
-use Rattle.std.proofs.Common.{◌≡◌, map, subst, Some, rules}
+use Rattle.std.proofs.Common.{◌≡◌, map, subst, Some, arith, rules}
 use Rattle.std.proofs.lemmas.Result.{err_from_is_err_and}
 use Rattle.run_files.specs.declared.error.RunFault.TheVariants.{Memory}
 use Rattle.toxicap.proofs.RunSteps.{input_fault, none_printed, refused}
 use Rattle.run_files.specs.Folders.{TakesIn}
 use Rattle.toxicap.specs.Rehearsal.{answer}
 use Rattle.toxicap.specs.StoredOutputs.{TakenOf}
-use Rattle.toxicap.proofs.DiskSteps.{disk_stored, disk_unused}
+use Rattle.toxicap.proofs.DiskSteps.{disk_stored, disk_unused, none_asked}
 use Rattle.toxicap.proofs.StoringEnds.{stores_unless_memory}
 use Rattle.toxicap.proofs.runs.store_answers.Goals as goal
 
@@ -33,6 +33,15 @@ pub returns-clause-ends : goal.returns-clause-ends
 returns-clause-ends g c =
     let taken = c.in_ok-inputs.ensures.taken c.args.options.now.seed in
     rw taken (stores_unless_memory c.store_rehearsal.result _ (rw (c.bytes.ensures, c.deref.ensures.value) at c.store_rehearsal.ensures.ends))
+
+-- ---- how many calls of the disk have failed
+
+pub returns-in_err-inputs-clause-faults : goal.returns-in_err-inputs-clause-faults
+returns-in_err-inputs-clause-faults g c =
+    let own = c.args.options.now in
+    let fault = err_from_is_err_and c.from_residual.result c.from_residual.ensures.1 in
+    rw (fault.1, fault.2) (omega (arith, none_asked c.args.folder.now _
+    (input_fault own.hosts (map (λ t. t.now) c.args.texts.now) own.seed (λ written. Unit {0}) _ c.args.text (c.in_err-inputs.ensures.refused own.seed))))
 
 -- ---- what is left of the disk
 

@@ -1,15 +1,15 @@
-use Rattle.std.proofs.Common.{◌≡◌, ◌≤◌, ◌*◌, ℕ, List, [], ◌∷◌, Err, subst, length, refl, ap, ◌∙◌, arith, rules}
+use Rattle.std.proofs.Common.{◌≡◌, ◌≤◌, ◌+◌, ◌*◌, ℕ, List, [], ◌∷◌, Err, subst, length, refl, ap, ◌∙◌, arith, rules}
 use Rattle.std.specs.Vec.Iter.{into_iter_items}
 use Rattle.std.proofs.lemmas.List.{take_all}
 use Rattle.std.proofs.lemmas.Result.{err_from_is_err_and}
 use Rattle.run_files.specs.declared.outputs.Output.{Output}
-use Rattle.run_files.specs.Folders.{TakesIn}
+use Rattle.run_files.specs.Folders.{TakesIn, disk_failures}
 use Rattle.run_files.specs.WrittenOutputs.{files_from, StoresAfter}
 use Rattle.toxicap.specs.CaptureOutputs.{outputs_from}
 use Rattle.toxicap.specs.DraftPlaces.{outputs_in}
 use Rattle.toxicap.proofs.OutputSteps.{as_many_outputs}
 use Rattle.toxicap.proofs.ReadyDrafts.{ready_outputs, takes_first}
-use Rattle.toxicap.proofs.StoringEnds.{nothing_taken}
+use Rattle.toxicap.proofs.StoringEnds.{nothing_taken, stopped_faults}
 use Rattle.toxicap.proofs.StoredSteps.{length-files_from, taken_more, stops_at}
 use Rattle.toxicap.proofs.storing.store_each.Goals as goal
 
@@ -49,6 +49,11 @@ overflow_add-number g c =
     let first = takes_first (outputs_from c.args.sources.now) _ _ c.loop-draft.number c.in-Some.draft.output c.loop-draft.invariant.left (ap outputs_in c.in-Some.ensures.steps.0) in
     omega (arith, first.below, as_many_outputs c.args.sources.now, c.args.sources.now.few)
 
+pub returns-in_err-drafts-clause-faults : goal.returns-in_err-drafts-clause-faults
+returns-in_err-drafts-clause-faults g c =
+    let fault = err_from_is_err_and c.from_residual.result c.from_residual.ensures.1 in
+    rw (fault.1, fault.2) (omega (arith, c.loop-number.invariant.no_fault))
+
 -- the shelf did not take the next one
 pub returns-in_err-store_draft-clause-ends : goal.returns-in_err-store_draft-clause-ends
 returns-in_err-store_draft-clause-ends g c =
@@ -70,6 +75,14 @@ returns-in_err-store_draft-clause-taken g c =
     rw (fault.1, fault.2) (stops_at c.args.folder.now.folder all c.loop-draft.number c.in-Some.draft.output first.below first.is _ _ _ loop.taken _ _ _ _ loop.none_failed (subst (λ f. StoresAfter (2 * number) (files_from number (c.in-Some.draft.output ∷ [])) (TakesIn f (g.D.Disk.history c.loop-draft.disk) (g.D.Disk.history c.store_draft.new.disk))
     c.loop-draft.folder.failed c.store_draft.new.folder.failed (Err c.in_err-store_draft.field-0.0)) loop.folder (c.in_err-store_draft.ensures.stores c.in-Some.draft.output c.into_drafts.ensures.drafts))).1
 
+pub returns-in_err-store_draft-clause-faults : goal.returns-in_err-store_draft-clause-faults
+returns-in_err-store_draft-clause-faults g c =
+    let loop = c.loop-draft.invariant in
+    let fault = err_from_is_err_and c.from_residual-in_err-store_draft.result c.from_residual-in_err-store_draft.ensures.1 in
+    rw (fault.1, fault.2) (stopped_faults c.args.folder.now.folder c.in_err-store_draft.field-0.0 _ _ _ loop.no_fault
+    (subst (λ f. g.D.Disk.faults c.store_draft.new.disk ≡ g.D.Disk.faults c.loop-draft.disk + disk_failures f (Err c.in_err-store_draft.field-0.0)) loop.folder
+    c.in_err-store_draft.ensures.faults))
+
 pub loop-draft-preserved : goal.loop-draft-preserved
 loop-draft-preserved g c =
     let all : List Output = outputs_from c.args.sources.now in
@@ -81,7 +94,7 @@ loop-draft-preserved g c =
       is_finite = tt;
       taken = taken_more c.args.folder.now.folder all c.loop-draft.number c.in-Some.draft.output first.below first.is _ _ _ loop.taken stored.0;
       folder = c.in_ok-store_draft.ensures.folder ∙ loop.folder;
-      no_fault = c.in_ok-store_draft.ensures.no_fault ∙ loop.no_fault;
+      no_fault = omega (arith, c.in_ok-store_draft.ensures.faults, loop.no_fault);
       none_failed = stored.1 ∙ loop.none_failed;
       left = first.left;
       rises = omega (arith, loop.rises, ap length c.in-Some.ensures.steps.0);

@@ -105,6 +105,7 @@ conn_is_sound c n k all b rising placed mine =
     let above = all_weaker (λ s. Q s ≡ true) (λ s. b.index + 1 ≤ s.index) (λ s passes. omega (arith, ltb-true b.index s.index (and_parts (nat_lt b.index s.index) (is_at b (beginning_of all s)) passes).0)) (filter Q all) (all_pass Q all) in
     let within = all_weaker (IsPlaced c) (λ s. payload_start c s.index + length s.timed.fields.payload ≤ length c.bytes) (λ s is. is.within) (filter Q all) (all_filter (IsPlaced c) Q all placed) in
     record {
+      first = refl;
       rising = (omega arith, members_rise c b (b.index + 1) (filter Q all) (rising_above (b.index + 1) n (filter Q all) above (rising_filter n Q all rising)));
       placed = (mine.within, all_map (λ (m : Member). m.start + m.len ≤ length c.bytes) (member_in c b.timed.fields.from) (filter Q all) within);
     }

@@ -1,5 +1,5 @@
 -- What holds of every table of a capture.
-use Rattle.std.specs.Prelude.{◌≡◌, ◌≤◌, ℕ, ◌+◌, not, List, [], ◌∷◌, length, slice_range}
+use Rattle.std.specs.Prelude.{◌≡◌, ◌≤◌, ℕ, ◌+◌, not, List, [], ◌∷◌, length, slice_get, slice_range, IsSomeAnd}
 use Rattle.std.specs.List.{AllByRecursion}
 use Rattle.pcap_records.specs.Reading.{Packet}
 use Rattle.pcap_records.specs.CaptureView.{CaptureView, IsSoundCapture}
@@ -30,6 +30,7 @@ MembersRise n (m ∷ ms) = (n ≤ m.index) × MembersRise (m.index + 1) ms
 
 -- the members of a connection stand in the order of the file, its beginning first, and their payloads lie in the file
 pub record IsSoundConn (bytes : List ℕ) (x : Conn) : Type 0 where
+  pub first : IsSomeAnd (slice_get x.members 0) (λ m. m.index ≡ x.opening)
   pub rising : MembersRise x.opening x.members
   pub placed : AllByRecursion (λ (m : Member). m.start + m.len ≤ length bytes) x.members
 

@@ -50,8 +50,9 @@ pub struct FileId {
 /// Contracts see two things of it. `told` is what is told of its bytes, or `None` where nothing is; `place` is how many of them
 /// [`read`](DiskFile::read) has gone past.
 pub trait DiskFile {
-    ghost use Rattle.std.specs.Prelude.{◌≡◌, ℕ, ◌+◌, ◌≤◌, Option, length, IfOk, IfSome, OnErr};
+    ghost use Rattle.std.specs.Prelude.{◌≡◌, ℕ, ◌+◌, ◌≤◌, Option, length, IfErr, IfOk, IfSome, OnErr};
     ghost use Rattle.disks.specs.ToldFiles.{Reads, ToldFile, file_len};
+    ghost use Rattle.disks.specs.declared.disk.DiskFault.TheVariants.{Failed};
 
     ghost told: { Self → Option ToldFile };
 
@@ -68,7 +69,8 @@ pub trait DiskFile {
     fn read_at(&self, room: &mut [u8], at: usize) -> Result<usize, DiskFault>
         ensures within { IfOk result (λ n. n ≤ length room.new) }
         ensures len { length room.new ≡ length room.old }
-        ensures told { IfSome (told self.now) (λ file. Reads result file at room.new) };
+        ensures told { IfSome (told self.now) (λ file. Reads result file at room.new) }
+        ensures failed { IfErr result (λ fault. fault ≡ Failed) };
 
     /// Reads once from where the last read ended.
     ///
@@ -80,6 +82,7 @@ pub trait DiskFile {
         ensures told { IfSome (told self.old) (λ file. Reads result file (place self.old) room.new) }
         ensures same { told self.new ≡ told self.old }
         ensures place { IfSome (told self.old) (λ _. IfOk result (λ n. place self.new ≡ place self.old + n)) }
+        ensures failed { IfErr result (λ fault. fault ≡ Failed) }
         ensures as_before { OnErr result (place self.new ≡ place self.old) };
 }
 

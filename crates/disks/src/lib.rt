@@ -6,7 +6,9 @@ mod disk;
 mod host;
 pub mod laws;
 mod memory;
+mod memory_files;
 
 pub use disk::{Disk, DiskFault, DiskFile, FileId, ReadDisk};
 pub use host::{HostDisk, HostDraft, HostFile};
-pub use memory::{MemoryDisk, MemoryDiskFile, MemoryDraft};
+pub use memory::{MemoryDisk, MemoryDraft};
+pub use memory_files::MemoryDiskFile;

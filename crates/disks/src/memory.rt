@@ -1,7 +1,8 @@
 //! A disk in memory, which tells what its paths hold, and fails where it is told to.
 ghost use Rattle.std.specs.Prelude.{◌≡◌, ◌+◌, ◌-◌, ◌^◌, ◌<◌, is_ok, if◌then◌else◌};
 
-use crate::disk::{Disk, DiskFault, DiskFile, FileId, ReadDisk};
+use crate::disk::{Disk, DiskFault, FileId, ReadDisk};
+use crate::memory_files::MemoryDiskFile;
 use std::alloc::{AllocError, Global};
 use std::marker::Model;
 
@@ -59,15 +60,6 @@ impl Model for MemoryDisk {
     ghost Value = { MemoryDiskView };
 
     ghost view = { λ d. record { first = d.first.items; names = d.names.items; failed = d.failed } };
-}
-
-/// A file of a disk in memory, which is open to be read.
-#[derive(Drop)]
-pub struct MemoryDiskFile {
-    bytes: Vec<u8>,
-    lost: u32,
-    place: usize,
-    read_len: usize,
 }
 
 /// A draft of a disk in memory.
@@ -310,38 +302,6 @@ impl MemoryDisk {
             Some(id) if spared.contains(&id) => Err(DiskFault::Failed),
             _ => Ok(()),
         }
-    }
-}
-
-impl DiskFile for MemoryDiskFile {
-    ghost use Rattle.std.specs.Prelude.{Some};
-
-    ghost told = { λ f. Some (record { bytes = f.bytes.items; lost = f.lost }) };
-
-    ghost place = { λ f. f.place };
-
-    fn len(&self) -> Option<u64> {
-        Some(self.bytes.len() as u64 + u64::from(self.lost))
-    }
-
-    fn read_at(&self, room: &mut [u8], at: usize) -> Result<usize, DiskFault> {
-        let len = self.bytes.len();
-        if at >= len {
-            return if (at - len) < self.lost as usize {
-                Err(DiskFault::Failed)
-            } else {
-                Ok(0)
-            };
-        }
-        let count = room.len().min(len - at).min(self.read_len.max(1));
-        room[..count].copy_from_slice(&self.bytes[at..at + count]);
-        Ok(count)
-    }
-
-    fn read(&mut self, room: &mut [u8]) -> Result<usize, DiskFault> {
-        let count = self.read_at(room, self.place)?;
-        self.place += count;
-        Ok(count)
     }
 }
 

@@ -8,8 +8,8 @@ use Rattle.pcap_records.specs.declared.fault.CaptureFault.{CaptureFault}
 use Rattle.pcap_records.specs.declared.fault.CaptureFault.TheVariants.{CaptureTooLong, ShortHeader, BadMagic, BadVersion, BadLink, RecordTooLong, Memory}
 use Rattle.pcap_records.specs.CaptureView.{capture_refusal, heading_of}
 use Rattle.pcap_records.specs.Reading.{Heading, Packet, Contents, whole, torn, too_long, next_record, packet_len, stamp_of, first_packet, contents_with_packet, records_after, file_heading, reading_in, capture_limit}
-use Rattle.pcap_records.specs.Heads.{Finding, Head, HeadReaderView, Heads, Takes, head_of, heads_in, heads_then, no_header, some_heads, a_fault, read_on}
-use Rattle.pcap_records.specs.HeadLists.{IsSpent, finding}
+use Rattle.pcap_records.specs.Heads.{Finding, Head, HeadReaderView, Heads, Takes, head_of, heads_in, heads_then, no_header, some_heads, a_fault, read_on, IsSpent}
+use Rattle.pcap_records.specs.HeadLists.{finding}
 use Rattle.pcap_records.specs.Instants.{ticks_of}
 use Rattle.pcap_records.specs.declared.heads.State.{State}
 use Rattle.pcap_records.specs.declared.heads.State.TheVariants.{Header, Records, Refused}

@@ -1,5 +1,5 @@
 -- How a reader of heads keeps them: the first bytes of each packet in one buffer, one after another, and records that tell where they stand there.
-use Rattle.std.specs.Prelude.{◌≡◌, ◌≤◌, ◌<◌, ℕ, ◌+◌, ◌*◌, min, max, List, [], ◌∷◌, ◌++◌, length, map, take, drop, All}
+use Rattle.std.specs.Prelude.{◌≡◌, ◌≤◌, ℕ, ◌+◌, ◌*◌, min, max, List, [], ◌∷◌, ◌++◌, length, map, take, drop, All}
 use Rattle.pcap_records.specs.declared.capture.Record.{Record}
 use Rattle.pcap_records.specs.declared.head_list.HeadList.{HeadList}
 use Rattle.pcap_records.specs.declared.head_list.Stop.{Stop}
@@ -80,9 +80,3 @@ abbrev pub IsSoundIn : State → HeadList → Type 0
 IsSoundIn Header list = (list.bytes.items ≡ []) × (list.records.items ≡ []) × (list.need ≡ 0)
 IsSoundIn (Records h) list = AreKept (ticks_of h.unit) list
 IsSoundIn (Refused fault) list = Unit {0}
-
--- nothing more can be read of the bytes that are left
-abbrev pub IsSpent : Finding → List ℕ → Type 0
-IsSpent no_header rest = length rest < file_header_len
-IsSpent (some_heads h heads) rest = next_record h rest ≡ torn
-IsSpent (a_fault fault) rest = rest ≡ []

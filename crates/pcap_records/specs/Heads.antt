@@ -1,10 +1,10 @@
 -- Heads of packets: of each its stamp, how long it is, and its first bytes; and what a reader of heads has found in the first part of a file.
-use Rattle.std.specs.Prelude.{◌≡◌, ◌≤◌, ℕ, ◌+◌, ◌-◌, Bool, ◌==◌, ◌&&◌, if◌then◌else◌, List, ◌++◌, length, map, take, drop, slice_index, Result, Ok, Err}
+use Rattle.std.specs.Prelude.{◌≡◌, ◌≤◌, ◌<◌, ℕ, ◌+◌, ◌-◌, Bool, ◌==◌, ◌&&◌, if◌then◌else◌, List, [], ◌++◌, length, map, take, drop, slice_index, Result, Ok, Err}
 use Rattle.pcap_records.specs.declared.capture.Record.{Record}
 use Rattle.pcap_records.specs.declared.fault.CaptureFault.{CaptureFault}
 use Rattle.pcap_records.specs.declared.heading.Order.{Order}
 use Rattle.pcap_records.specs.CaptureView.{IsSoundCapture, contents_of}
-use Rattle.pcap_records.specs.Reading.{Heading, Packet, Contents, Reading, capture_limit, reading, records_after}
+use Rattle.pcap_records.specs.Reading.{Heading, Packet, Contents, Reading, capture_limit, file_header_len, next_record, reading, records_after, torn}
 
 -- ---- how many first bytes of a packet are kept
 
@@ -75,6 +75,12 @@ pub record Takes (old new : HeadReaderView) (bytes : List ℕ) : Type 0 where
   pub within : new.taken ≤ old.taken + length bytes
   pub same : (more : List ℕ) → old.taken + length bytes + length more ≤ capture_limit
       → read_on old.found (bytes ++ more) ≡ read_on new.found (drop (new.taken - old.taken) bytes ++ more)
+
+-- nothing more can be read of the bytes that are left: no file header, or no next record, stands there whole; after a fault there are none
+abbrev pub IsSpent : Finding → List ℕ → Type 0
+IsSpent no_header rest = length rest < file_header_len
+IsSpent (some_heads h heads) rest = next_record h rest ≡ torn
+IsSpent (a_fault fault) rest = rest ≡ []
 
 -- ---- the capture of heads
 

@@ -5,8 +5,8 @@ ghost use Rattle.pcap_records.specs.Blocks.{slice_limit};
 ghost use Rattle.pcap_records.specs.CaptureView.{capture_refusal};
 ghost use Rattle.pcap_records.specs.Instants.{ticks_of};
 ghost use Rattle.pcap_records.specs.Reading.{capture_limit};
-ghost use Rattle.pcap_records.specs.Heads.{Takes, no_header, read_on};
-ghost use Rattle.pcap_records.specs.HeadLists.{AreKept, IsSoundIn, IsSpent, seen};
+ghost use Rattle.pcap_records.specs.Heads.{IsSpent, Takes, no_header, read_on};
+ghost use Rattle.pcap_records.specs.HeadLists.{AreKept, IsSoundIn, seen};
 ghost use Rattle.pcap_records.specs.declared.heads.State.TheVariants.{Header, Records};
 
 use crate::fault::CaptureFault;
@@ -89,7 +89,8 @@ impl HeadReader {
     pub fn take(&mut self, bytes: &[u8]) -> Result<(), AllocError>
         requires { self.old.taken + length bytes.now ≤ capture_limit }
         ensures takes { Takes self.old self.new bytes.now }
-        ensures all { OnOk result (self.old.taken + length bytes.now < self.new.taken + slice_limit) }
+        ensures spent { OnOk result (IsSpent self.new.found (drop (self.new.taken - self.old.taken) bytes.now)) }
+        ensures few { OnOk result (self.old.taken + length bytes.now < self.new.taken + slice_limit) }
     {
         take_part(&mut self.progress, bytes)
     }

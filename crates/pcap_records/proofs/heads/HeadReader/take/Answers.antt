@@ -4,8 +4,8 @@ use Rattle.pcap_records.specs.HeadLists.{seen}
 use Rattle.pcap_records.proofs.HeadReading.{spent_short}
 use Rattle.pcap_records.proofs.heads.HeadReader.take.Goals as goal
 
-pub returns-clause-all : goal.returns-clause-all
-returns-clause-all c =
+pub returns-clause-few : goal.returns-clause-few
+returns-clause-few c =
     let bytes = c.args.bytes.now in
     let old = c.self.inside.progress in
     let new = c.take_part.new.progress in

@@ -1,0 +1,46 @@
+//! Files of a disk in memory as they are read.
+use crate::disk::{DiskFault, DiskFile};
+
+/// A file of a disk in memory, which is open to be read.
+#[derive(Drop)]
+pub struct MemoryDiskFile {
+    pub(crate) bytes: Vec<u8>,
+    // How many bytes after these are lost.
+    pub(crate) lost: u32,
+    // How many bytes were read.
+    pub(crate) place: usize,
+    // How many bytes a read gives at most, or one where this is 0.
+    pub(crate) read_len: usize,
+}
+
+impl DiskFile for MemoryDiskFile {
+    ghost use Rattle.std.specs.Prelude.{Some};
+
+    ghost told = { λ f. Some (record { bytes = f.bytes.items; lost = f.lost }) };
+
+    ghost place = { λ f. f.place };
+
+    fn len(&self) -> Option<u64> {
+        Some(self.bytes.len() as u64 + u64::from(self.lost))
+    }
+
+    fn read_at(&self, room: &mut [u8], at: usize) -> Result<usize, DiskFault> {
+        let len = self.bytes.len();
+        if at >= len {
+            return if (at - len) < self.lost as usize {
+                Err(DiskFault::Failed)
+            } else {
+                Ok(0)
+            };
+        }
+        let count = room.len().min(len - at).min(self.read_len.max(1));
+        room[..count].copy_from_slice(&self.bytes[at..at + count]);
+        Ok(count)
+    }
+
+    fn read(&mut self, room: &mut [u8]) -> Result<usize, DiskFault> {
+        let count = self.read_at(room, self.place)?;
+        self.place += count;
+        Ok(count)
+    }
+}

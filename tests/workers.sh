@@ -18,20 +18,24 @@ anew() {
 # least ONE OTHER: the lesser of two numbers.
 least() { echo $(($1 < $2 ? $1 : $2)); }
 
-# wanted BLOCKS SCENARIOS printed|stored WORKERS: how many threads each phase is to make, by docs/ARCHITECTURE.md (the
-# way of a rehearsal). One of the workers is the thread that is there. The phases: where files are stored, a named file of several blocks is loaded,
-# by no more workers than blocks; the table is made; then the lines of all printed reports, or what is recorded. Where files are stored, drafts are
-# made of as many scenarios as twice the workers, or as are left, each by one worker, so by no more workers than scenarios; of a last one by all.
+# wanted BLOCKS RANGES CONNECTIONS SCENARIOS printed|stored WORKERS: how many threads each phase is to make, by docs/ARCHITECTURE.md (the way of a
+# rehearsal). One of the workers is the thread that is there, and there are no more workers than jobs. The phases and their jobs: where files are
+# stored, a named file of several blocks is loaded; the table is made, by ranges; then the lines of all printed reports, or what is recorded, by
+# connections. Where files are stored, drafts are made of as many scenarios as twice the workers, or as are left, each a job; of a last one by
+# connections.
 wanted() {
-    local blocks=$1 left=$2 where=$3 workers=$4 all=() share
-    [ "$workers" != 1 ] || return 0
-    [ "$where" = printed ] || [ "$blocks" -lt 2 ] || all+=($(($(least "$blocks" "$workers") - 1)))
-    all+=($((workers - 1)) $((workers - 1)))
+    local blocks=$1 ranges=$2 connections=$3 left=$4 where=$5 workers=$6 jobs=() count made all=()
+    [ "$where" = printed ] || jobs+=("$blocks")
+    jobs+=("$ranges" "$connections")
     [ "$where" != printed ] || left=0
     while [ "$left" -gt 0 ]; do
-        share=$(least "$left" $((2 * workers)))
-        if [ "$share" = 1 ]; then all+=($((workers - 1))); else all+=($(($(least "$share" "$workers") - 1))); fi
-        left=$((left - share))
+        count=$(least "$left" $((2 * workers)))
+        if [ "$count" = 1 ]; then jobs+=("$connections"); else jobs+=("$count"); fi
+        left=$((left - count))
+    done
+    for count in "${jobs[@]}"; do
+        made=$(($(least "$count" "$workers") - 1))
+        [ "$made" -le 0 ] || all+=("$made")
     done
     printf '%s' "${all[*]}"
 }
@@ -40,7 +44,7 @@ run_with "" /dev/null -V
 is_counted=yes
 can_count "threads" || is_counted=no
 
-# threads BLOCKS SCENARIOS printed|stored WORKERS: what is at fault with the threads of the last run.
+# threads BLOCKS RANGES CONNECTIONS SCENARIOS printed|stored WORKERS: what is at fault with the threads of the last run.
 threads() {
     local due made
     [ $is_counted = yes ] || return 0
@@ -63,23 +67,41 @@ for ((number = 0; number < 40; number++)); do
     bare+=(--scenario "$work/bare.json")
 done
 
-# by 1 to 16 workers: three reports printed; one scenario stored, and seven
-anew "$work/one"
-anew "$work/seven"
-run "$capture" "${many[@]:0:6}"
-cp "$work/output" "$work/three"
-run "$capture" "${many[@]:0:2}" --out "$work/one"
-run "$capture" "${many[@]:0:14}" --out "$work/seven"
-for ((workers = 1; workers <= 16; workers++)); do
-    run_with "" "$capture" "${many[@]:0:6}" --workers $workers
-    verdict "three reports by $workers workers" "$(well; threads 0 3 printed $workers; difference "$work/three" "$work/output")"
-    anew "$folder"
-    run_with "" "$capture" "${many[@]:0:2}" --workers $workers --out "$folder"
-    verdict "one scenario stored by $workers workers" "$(well; threads 0 1 stored $workers; folder_difference "$work/one" "$folder")"
-    anew "$folder"
-    run_with "" "$capture" "${many[@]:0:14}" --workers $workers --out "$folder"
-    verdict "seven scenarios stored by $workers workers" "$(well; threads 0 7 stored $workers; folder_difference "$work/seven" "$folder")"
-done
+# by_workers NAME CAPTURE RANGES CONNECTIONS: by 1 to 16 workers, in ranges of 6 records: three reports printed; one scenario stored, and seven.
+by_workers() {
+    local name=$1 capture=$2 ranges=$3 connections=$4 workers
+    anew "$work/one"
+    anew "$work/seven"
+    run "$capture" "${many[@]:0:6}"
+    cp "$work/output" "$work/three"
+    run "$capture" "${many[@]:0:2}" --out "$work/one"
+    run "$capture" "${many[@]:0:14}" --out "$work/seven"
+    for ((workers = 1; workers <= 16; workers++)); do
+        run_with "" "$capture" "${many[@]:0:6}" --workers $workers --cut 6
+        verdict "$name: three reports by $workers workers" "$(
+            well
+            threads 0 "$ranges" "$connections" 3 printed $workers
+            difference "$work/three" "$work/output"
+        )"
+        anew "$folder"
+        run_with "" "$capture" "${many[@]:0:2}" --workers $workers --cut 6 --out "$folder"
+        verdict "$name: one scenario stored by $workers workers" "$(
+            well
+            threads 0 "$ranges" "$connections" 1 stored $workers
+            folder_difference "$work/one" "$folder"
+        )"
+        anew "$folder"
+        run_with "" "$capture" "${many[@]:0:14}" --workers $workers --cut 6 --out "$folder"
+        verdict "$name: seven scenarios stored by $workers workers" "$(
+            well
+            threads 0 "$ranges" "$connections" 7 stored $workers
+            folder_difference "$work/seven" "$folder"
+        )"
+    done
+}
+perl tests/capture.pl 20x3 > "$work/twenty.pcap"
+by_workers "64 records, 4 connections" "$capture" 11 4
+by_workers "60 records, 20 connections" "$work/twenty.pcap" 10 20
 
 # Each of 40 scenarios alone, after so many without proxies that it has its number, by one worker; and all of them by 16, the first eight by 4.
 anew "$work/forty"
@@ -91,13 +113,14 @@ done
 verdict "40 scenarios that differ" "$([ "$(sha256sum "$work"/forty/*.pcap | cut -d ' ' -f 1 | sort -u | wc -l)" = 40 ] || echo '  two have the same capture')"
 anew "$folder"
 run_with "" "$capture" "${many[@]}" --workers 16 --out "$folder"
-verdict "40 scenarios by 16 workers" "$(well; threads 0 40 stored 16; folder_difference "$work/forty" "$folder")"
+verdict "40 scenarios by 16 workers" "$(well; threads 0 1 4 40 stored 16; folder_difference "$work/forty" "$folder")"
 anew "$folder"
 run_with "" "$capture" "${many[@]:0:16}" --workers 4 --out "$folder"
 rm "$work"/forty/000[89].* "$work"/forty/00[123]*
-verdict "8 scenarios by 4 workers" "$(well; threads 0 8 stored 4; folder_difference "$work/forty" "$folder")"
+verdict "8 scenarios by 4 workers" "$(well; threads 0 1 4 8 stored 4; folder_difference "$work/forty" "$folder")"
 
-# A capture of 45 MB, which is six blocks, from standard input and by its name: the report and the stored capture are those of tests/capture.pl.
+# A capture of 45 MB, which is six blocks, nine ranges and one connection, from standard input and by its name: the report and the stored capture are
+# those of tests/capture.pl.
 perl tests/capture.pl 34100 > "$work/six.pcap"
 perl tests/capture.pl 34100 report > "$work/report"
 perl tests/capture.pl 34100 delivered > "$work/delivered"
@@ -107,12 +130,12 @@ six() {
     local blocks=$1 workers=$2 input=$3 name="45 MB by $2 workers${4:+, named}"
     shift 3
     run_with "" "$input" --workers "$workers" "$@"
-    verdict "$name" "$(well; threads "$blocks" 1 printed "$workers"; difference "$work/report" "$work/output")"
+    verdict "$name" "$(well; threads "$blocks" 9 1 1 printed "$workers"; difference "$work/report" "$work/output")"
     anew "$folder"
     run_with "" "$input" --workers "$workers" "$@" --out "$folder"
     verdict "$name, stored" "$(
         well
-        threads "$blocks" 1 stored "$workers"
+        threads "$blocks" 9 1 1 stored "$workers"
         holds "$folder" 0000.pcap 0000.txt
         difference "$work/report" "$folder/0000.txt"
         byte_difference "$work/delivered" "$folder/0000.pcap"
@@ -124,6 +147,6 @@ for workers in 1 2 5; do
 done
 for workers in 9 16; do
     run_with "" /dev/null --capture "$work/six.pcap" --workers $workers
-    verdict "45 MB by $workers workers, named" "$(well; threads 6 1 printed $workers; difference "$work/report" "$work/output")"
+    verdict "45 MB by $workers workers, named" "$(well; threads 6 9 1 1 printed $workers; difference "$work/report" "$work/output")"
 done
 close

@@ -1,6 +1,8 @@
--- The proxy that a connection meets, by its number in the scenario.
-use Rattle.std.proofs.Common.{◌≡◌, ℕ, ◌+◌, ◌<◌, ◌≤◌, Bool, find, List, [], ◌∷◌, length, get_or, position, Some, None, option_map, refl, ap, ◌∙◌, arith}
-use Rattle.std.specs.List.{enumerate_from, position_or_len, slice_get}
+-- The proxy that a connection meets: by its number in the scenario, and that it is the first for the server.
+use Rattle.std.proofs.Common.{◌≡◌, ◌≢◌, ℕ, ◌+◌, ◌<◌, ◌≤◌, Bool, find, List, [], ◌∷◌, ◌++◌, length, get_or, position, Option, Some, None, option_map, refl, sym, ap, subst, ◌∙◌, arith}
+use Rattle.std.proofs.Math.Seq.{get_or-append_seam}
+use Rattle.std.specs.List.{AllByRecursion, enumerate_from, position_or_len, slice_get}
+use Rattle.std.specs.Option.{MatchOption}
 use Rattle.std.proofs.lemmas.Grind.{common_steps}
 use Rattle.std.proofs.lemmas.List.Folds.{find_at}
 use Rattle.std.proofs.lemmas.List.FromFn.{length-enumerate_from}
@@ -8,8 +10,10 @@ use Rattle.std.proofs.lemmas.List.Quantifiers.{position-Some}
 use Rattle.std.proofs.lemmas.Option.{slice_get_past, slice_get_read}
 use Rattle.frame_headers.specs.declared.peers.Peer.{Peer}
 use Rattle.scenarios.specs.Populate.{leads_to, met_number}
+use Rattle.scenarios.specs.ProxyLaws.{IsFirstFor, FirstIsMet}
 use Rattle.scenarios.specs.declared.proxies.Proxy.{Proxy}
 use Rattle.conn_workers.specs.MetProxies.{met_of, met_proxy}
+use Rattle.conn_workers.specs.DeliveryLaws.{IsFirstMet, FirstProxyIsMet}
 use Rattle.conn_workers.proofs.RowLemmas.{numbered}
 
 -- the first element that passes, beside its number
@@ -37,3 +41,22 @@ met_none server proxies none = ap (option_map met_of) (none_found (leads_to serv
 
 pub met_some : (server : Peer) (proxies : List Proxy) (n : ℕ) (p : Proxy) → met_number server proxies ≡ Some n → p ≡ get_or proxies n p → met_proxy server proxies ≡ Some (met_of (n, p))
 met_some server proxies n p some read = ap (option_map met_of) (some_found (leads_to server) proxies n p some read)
+
+-- the proxy that is the first for a server stands at its number
+stands_there : (server : Peer) (proxies : List Proxy) (n : ℕ) (first : IsFirstFor server proxies n) → first.proxy ≡ get_or proxies n first.proxy
+stands_there server proxies n first =
+    sym
+    (ap (λ ps. get_or ps n first.proxy) first.split ∙ ap (λ k. get_or (first.before ++ first.proxy ∷ first.after) k first.proxy) (sym first.place)
+    ∙ get_or-append_seam first.before first.proxy first.after first.proxy)
+
+pub first_proxy_is_met : FirstIsMet → FirstProxyIsMet
+first_proxy_is_met first_is_met server proxies = by (met_number server proxies) refl (first_is_met server proxies)
+  where
+    Others : Type 0
+    Others = AllByRecursion (λ p. p.upstream ≢ server) proxies
+
+    by : (o : Option ℕ) → met_number server proxies ≡ o → MatchOption o Others (IsFirstFor server proxies) → MatchOption (met_proxy server proxies) Others (IsFirstMet server proxies)
+    by None none others = subst (λ m. MatchOption m Others (IsFirstMet server proxies)) (sym (met_none server proxies none)) others
+    by (Some n) some first =
+        subst (λ m. MatchOption m Others (IsFirstMet server proxies)) (sym (met_some server proxies n first.proxy some (stands_there server proxies n first)))
+        (record { first = first; enabled = refl; up = refl; down = refl })

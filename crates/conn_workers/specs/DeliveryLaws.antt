@@ -1,9 +1,14 @@
--- Where each delivery stands, and what it does not depend on.
-use Rattle.std.specs.Prelude.{◌≡◌, ℕ, ◌+◌, ◌*◌, List, length, map, Option, Some, slice_get}
+-- Where each delivery stands, what it does not depend on, and which proxy a connection meets.
+use Rattle.std.specs.Prelude.{◌≡◌, ◌≢◌, ℕ, ◌+◌, ◌*◌, List, length, map, Option, Some, slice_get}
+use Rattle.std.specs.List.{AllByRecursion}
+use Rattle.std.specs.Option.{MatchOption}
 use Rattle.pcap_records.specs.CaptureView.{CaptureView, contents_of}
 use Rattle.conn_table.specs.SeenCapture.{SeenCapture, seen_capture}
 use Rattle.conn_table.specs.Connections.{Connection}
+use Rattle.frame_headers.specs.declared.peers.Peer.{Peer}
 use Rattle.reassembly.specs.Positions.{members_of, server_of}
+use Rattle.toxic_defs.specs.DeliveredLines.{MetProxy}
+use Rattle.scenarios.specs.ProxyLaws.{IsFirstFor}
 use Rattle.scenarios.specs.declared.proxies.Proxy.{Proxy}
 use Rattle.conn_workers.specs.declared.deliveries.Delivery.{Delivery}
 use Rattle.conn_workers.specs.MetProxies.{met_proxy}
@@ -53,6 +58,22 @@ ContributionsAreIsolated =
     → members_of x ≡ members_of y → met_proxy (server_of x) a ≡ met_proxy (server_of y) b
     → (contribution_of ticks seed (s, a) x ≡ contribution_of ticks seed (s, b) y)
     × (delivery_at ticks seed first number s ≡ delivery_at ticks seed second number s)
+
+-- ---- the proxy that is met
+
+-- it is the first proxy that is for the server: its number, its enabled flag and its toxics
+pub record IsFirstMet (server : Peer) (proxies : List Proxy) (met : MetProxy) : Type 0 where
+  pub first : IsFirstFor server proxies met.number
+  pub enabled : met.enabled ≡ first.proxy.enabled
+  pub up : met.up ≡ first.proxy.up
+  pub down : met.down ≡ first.proxy.down
+
+-- a connection to a server meets the first proxy that is for it, and none where no upstream is the server
+abbrev pub FirstProxyIsMet : Type 0
+FirstProxyIsMet =
+    (server : Peer) (proxies : List Proxy)
+    → MatchOption (met_proxy server proxies)
+    (AllByRecursion (λ p. p.upstream ≢ server) proxies) (IsFirstMet server proxies)
 
 -- ---- one scenario
 

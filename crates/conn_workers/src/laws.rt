@@ -5,7 +5,7 @@ ghost use Rattle.std.specs.List.{AllByRecursion};
 ghost use Rattle.reassembly.specs.RecordedLines.{recorded_connection};
 ghost use Rattle.toxic_defs.specs.Laws.{IsRecordedInTime};
 ghost use Rattle.scenarios.specs.ProxyLaws.{IsSound};
-ghost use Rattle.conn_workers.specs.DeliveryLaws.{RowsAreWhole, DeliveriesArePlaced, ContributionsAreIsolated, LinesAreContributed, RowsAreContributed};
+ghost use Rattle.conn_workers.specs.DeliveryLaws.{RowsAreWhole, DeliveriesArePlaced, ContributionsAreIsolated, FirstProxyIsMet, LinesAreContributed, RowsAreContributed};
 ghost use Rattle.conn_workers.specs.DeliveryRows.{deliveries};
 ghost use Rattle.conn_workers.specs.RecordedDeliveries.{table_connections, IsOfRecorded, IsOfScenario};
 ghost use Rattle.conn_workers.specs.Recordings.{recordings_of, recorded_row};
@@ -16,6 +16,7 @@ use reassembly::laws::{
     connections_are_in_time, recorded_sides_are_lines, recorded_sides_lie_between,
 };
 use scenarios::Scenario;
+use scenarios::laws::first_is_met;
 use toxic_defs::laws::{cut_lines_end_in_time, delayed_bytes_are_the_first, delivered_is_recorded};
 
 /// There is a delivery for each scenario and each connection of a capture. Of C connections, that of number c under
@@ -32,6 +33,14 @@ pub fn deliveries_are_placed()
 pub fn contributions_are_isolated()
     ensures { ContributionsAreIsolated }
 {}
+
+/// A connection to a server meets the first proxy of a scenario whose upstream is the server, with its number, its enabled flag and
+/// its toxics, and none where no upstream is the server.
+pub fn first_proxy_is_met()
+    ensures { FirstProxyIsMet }
+{
+    first_is_met();
+}
 
 /// What is recorded of a capture gives what its connections contribute to a scenario.
 pub fn rows_are_contributed()

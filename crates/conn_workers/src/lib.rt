@@ -1,10 +1,11 @@
 //! What each connection of a capture contributes to each scenario, made by workers: its written segments and its line
 //! of the report.
 //!
-//! `deliver` is the call that the crate exists for. `specs/Contributions.antt` says what a connection contributes,
-//! and `specs/DeliveryRows.antt` in what order; `laws` has the theorem that nothing else of a capture or a scenario
-//! changes it. `deliver_row` gives the same for one scenario, in shares: what a range of connections contributes stands together
-//! (`specs/RowShares.antt`). `report_texts` gives the lines alone, for all scenarios at once (`specs/ReportTexts.antt`).
+//! `deliver` gives it all at once. `specs/Contributions.antt` says what a connection contributes,
+//! and `specs/DeliveryRows.antt` in what order; `laws` has the theorems that nothing else of a capture or a scenario
+//! changes it, and that a connection meets the first proxy for its server. `deliver_row` gives the same for one scenario, in shares: what
+//! a range of connections contributes stands together (`specs/RowShares.antt`). `report_texts` gives the lines alone, for all scenarios
+//! at once (`specs/ReportTexts.antt`). The program calls these two.
 #![tactic(auto)]
 
 mod deliveries;

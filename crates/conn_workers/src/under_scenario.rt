@@ -8,14 +8,11 @@ ghost use Rattle.conn_workers.specs.RowShares.{row_share, row_text};
 use crate::recordings::Recording;
 use crate::row_shares::RowShare;
 use crate::scenario_deliveries::delivered_in;
-use report::{ReportText, put_line};
+use report::{LINE_ROOM, ReportText, put_line};
 use scenarios::Scenario;
 use segment_writer::SegmentRow;
 use std::alloc::{AllocError, Global};
 use toxic_defs::Delivered;
-
-// The room for a line of the report, which is seldom longer.
-const LINE_ROOM: usize = 136;
 
 /// A scenario with its number, and the seed.
 #[derive(Drop)]
@@ -79,7 +76,7 @@ impl<'w> UnderScenario<'w> {
         Ok(RowShare { segments, lines })
     }
 
-    /// The lines of connections in the scenario's report, one after another. Room is not asked for ahead.
+    /// The lines of connections in the scenario's report, one after another. Room is asked for ahead.
     pub(crate) fn text(&self, recordings: &[Recording<'_, '_>]) -> Result<ReportText, AllocError>
         ensures { IfOk result (λ text. text
             ≡ row_text self.now.seed (self.now.number, self.now.scenario.now) recordings.now) }

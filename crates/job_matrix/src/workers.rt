@@ -151,7 +151,7 @@ where
 }
 
 /// The values of all jobs of a work, `n` of them, in order. They are the same for every number of workers and in whatever order
-/// these come.
+/// these come. No more workers start than there are jobs.
 pub fn work_all<W: Work, G: Gate, R: Threads + Sync>(
     rt: &R,
     alloc: Global,
@@ -168,6 +168,7 @@ where
     requires jobs { n ≡ length (W.values work.now) }
     ensures { IfOk result (λ v. v ≡ W.values work.now) }
 {
+    let workers = workers.min(n.max(1));
     if workers == 1 {
         return work_alone(alloc, n, phase, gate, work);
     }

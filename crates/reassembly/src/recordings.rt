@@ -91,15 +91,9 @@ fn recorded_by_members<'a>(
     let client_base = first_seq(members);
     let counted = effective_members(members);
     let server_base = server_base(counted);
-    let up = recorded_side(
-        alloc,
-        Some(client_base),
-        true,
-        counted,
-        file,
-        end_else(members),
-    )?;
-    let down = recorded_side(alloc, server_base, false, counted, file, end_else(members))?;
+    let other = end_else(members);
+    let up = recorded_side(alloc, Some(client_base), true, counted, file, &other)?;
+    let down = recorded_side(alloc, server_base, false, counted, file, &other)?;
     let mac_client = macs.client;
     let mac_server = macs.server;
     Ok(Recorded {

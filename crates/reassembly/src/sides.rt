@@ -22,17 +22,17 @@ pub(crate) fn recorded_side<'a>(
     from_client: bool,
     members: &[Member],
     file: FileBytes<'a>,
-    other: End,
+    other: &End,
 ) -> Result<SideLine<'a>, AllocError>
     requires { All (IsInFile (bytes_of file)) members.now }
-    ensures { IfOk result (λ side. IsSideOf base from_client (bytes_of file.entry) members.now (end_view other) (side_view side)) }
+    ensures { IfOk result (λ side. IsSideOf base from_client (bytes_of file.entry) members.now (end_view other.now) (side_view side)) }
 {
     let Some(base) = base else {
-        return Ok(without_base(alloc, other));
+        return Ok(without_base(alloc, *other));
     };
     let patches = side_patches(alloc, base, from_client, members, file)?;
     let fin = first_fin(base, from_client, members);
-    side_line(alloc, &patches, fin, other)
+    side_line(alloc, &patches, fin, *other)
 }
 
 // The line without bytes.

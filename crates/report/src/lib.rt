@@ -8,6 +8,6 @@ mod rows;
 mod sides;
 mod texts;
 
-pub use lines::{line, put_line};
+pub use lines::{LINE_ROOM, line, put_line};
 pub use reports::{report, report_head};
 pub use texts::ReportText;

@@ -13,13 +13,13 @@ use std::alloc::{AllocError, Global};
 use toxic_defs::Delivered;
 
 /// The room of a connection's line, which is seldom longer.
-pub(crate) const LINE_ROOM: usize = 136;
+pub const LINE_ROOM: usize = 136;
 
 /// Appends the line of a connection, with its line feed: its number and peers, their VLAN if they have one, the proxy that it met,
 /// and for each direction the number of delivered, recorded and lost bytes, how it ends, and the longest that a byte was held back.
 ///
 /// # Errors
-/// A growth was refused.
+/// A growth was refused. `text` then has a first part of the line, which may be empty, after what it had.
 #[tactic(auto, unfolding(crate::specs::ReportText::connection_text))]
 pub fn put_line(
     text: &mut Vec<u8>,

@@ -35,13 +35,16 @@ impl Model for Scenario {
 }
 
 impl Scenario {
+    ghost use Rattle.std.specs.Prelude.{◌≤◌};
     ghost use Rattle.std.specs.List.{AllByRecursion};
+    ghost use Rattle.scenarios.specs.Proxies.{proxy_limit};
     ghost use Rattle.scenarios.specs.ProxyLaws.{IsSound};
 
-    /// The proxies, in the order of their file. Each has a name and a port, and at most eight toxics in each
+    /// The proxies, in the order of their file, at most 64. Each has a name and a port, and at most eight toxics in each
     /// direction, all in range.
     pub fn proxies(&self) -> &[Proxy]
         ensures list { result.now ≡ self.now }
+        ensures few { length result.now ≤ proxy_limit }
         ensures sound { AllByRecursion IsSound self.now }
     {
         &self.proxies

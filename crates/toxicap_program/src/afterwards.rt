@@ -1,7 +1,7 @@
 //! The line that a person at a terminal reads after a run: what helps after a refusal, or what would be missed in the reports.
 use crate::capture_remedies::{first_bytes_again, unit_of};
 use crate::inputs::Inputs;
-use crate::looks::{FirstBytes, text_of};
+use crate::looks::{CaptureStart, text_of};
 use crate::refusals::Refusal;
 use crate::remedies::remedy;
 use crate::summary::Summary;
@@ -15,7 +15,7 @@ pub struct Ended<'a> {
     /// Its exit status.
     pub status: u8,
     /// The first bytes that it read of standard input.
-    pub first_bytes: FirstBytes,
+    pub first_bytes: CaptureStart,
     /// The first line that it wrote on standard error.
     pub fault: &'a [u8],
     /// The summary of the first report that it printed.

@@ -1,6 +1,6 @@
 //! What helps where a capture was refused.
 use crate::inputs::Inputs;
-use crate::looks::{FirstBytes, first_bytes_of, text_of};
+use crate::looks::{CaptureStart, first_bytes_of, text_of};
 use crate::refusals::Refusal;
 use crate::shown::shown_path;
 use std::alloc::{AllocError, Global};
@@ -46,9 +46,9 @@ fn capture_name(alloc: Global, inputs: &Inputs<'_>) -> Result<String, AllocError
 }
 
 /// The first bytes of the capture; none where they cannot be had.
-pub fn first_bytes_again<R: Files>(files: &R, inputs: &Inputs<'_>) -> FirstBytes {
+pub fn first_bytes_again<R: Files>(files: &R, inputs: &Inputs<'_>) -> CaptureStart {
     match inputs.capture {
-        Some(path) => first_bytes_of(files, path).unwrap_or(FirstBytes::new()),
+        Some(path) => first_bytes_of(files, path).unwrap_or(CaptureStart::new()),
         None => inputs.first_bytes,
     }
 }

@@ -5,11 +5,13 @@
 
 mod afterwards;
 mod capture_remedies;
+mod first_bytes;
 mod folder_remedies;
 mod inputs;
 mod looks;
 mod refusals;
 mod remedies;
+mod report_lines;
 mod scenario_fields;
 mod scenario_remedies;
 mod shown;

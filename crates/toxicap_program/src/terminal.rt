@@ -1,5 +1,5 @@
 //! What the program says on a terminal, beside its outputs and refusals: that it reads standard input, and how many scenarios are stored.
-use crate::looks::FirstBytes;
+use crate::looks::CaptureStart;
 use std::alloc::Allocator;
 use std::fs::{Metadata, OpenOptions};
 use std::io::{self, IsTerminal, Read, Stderr, Stdin};
@@ -15,7 +15,7 @@ pub struct Announced {
     input: Stdin,
     faults: Stderr,
     is_told: bool,
-    first_bytes: FirstBytes,
+    first_bytes: CaptureStart,
 }
 
 impl Announced {
@@ -24,12 +24,12 @@ impl Announced {
             input,
             faults,
             is_told: !input.is_terminal() || !faults.is_terminal(),
-            first_bytes: FirstBytes::new(),
+            first_bytes: CaptureStart::new(),
         }
     }
 
     /// The first bytes that were read.
-    pub fn first_bytes(&self) -> FirstBytes {
+    pub fn first_bytes(&self) -> CaptureStart {
         self.first_bytes
     }
 }

@@ -209,7 +209,8 @@ if [ "$(id -u)" != 0 ]; then
 fi
 helps 'refused 62 WriteFailed' 'standard output took no more: the disk is full, or what read it has ended' '--capture shop.pcap > /dev/full'
 
-# What would be missed in the reports. The captures are of one connection of 3 segments, and without its second one, without its opening, and empty.
+# What would be missed in the reports. The captures are of one connection of 3 segments, and without its second one, without its
+# opening, and of the first segment alone; of two bytes, of which one between them is missing; and empty.
 # sums LINE WORDS: the program with these words of the shell says this on a terminal, where its standard output is none.
 sums() {
     verdict "toxicap $2: $1" "$(said "toxicap: $1\r\n" "cd '$here' && '$program' $2 > '$work/output'")"
@@ -219,6 +220,14 @@ sums() {
 perl tests/capture.pl 3 > "$here/whole.pcap"
 { head -c 1484 "$here/whole.pcap"; tail -c +2805 "$here/whole.pcap"; } > "$here/hole.pcap"
 { head -c 24 "$here/whole.pcap"; tail -c +165 "$here/whole.pcap"; } > "$here/late.pcap"
+head -c 1344 "$here/late.pcap" > "$here/alone.pcap"
+# shellcheck disable=SC2046
+capture byte.pcap $(awk -f tests/capture.awk << 'EOT'
+1.000000 c>s SYN 1000 0
+1.001000 c>s PSH ACK 1001 1 "a"
+1.002000 c>s PSH ACK 1003 1 "c"
+EOT
+)
 capture nano.pcap 4d3cb2a1 "$start" 01000000
 capture short.pcap d4c3b2a1 "$start" 01000000 01000000 00000000 02000000 02000000 abcd
 sums '4 connections, 0 with a proxy; times in microseconds' '--capture shop.pcap'
@@ -226,7 +235,9 @@ sums '4 connections, 1 with a proxy; times in microseconds' '--scenario web.json
 sums 'scenario 0: 4 connections, 0 with a proxy; times in microseconds' '--capture shop.pcap --scenario bare.json --scenario web.json'
 sums '1 connection, 0 with a proxy; times in microseconds' '--capture whole.pcap'
 sums '1 connection, 0 with a proxy; 1250 bytes lost; times in microseconds' '--capture hole.pcap'
+sums '1 connection, 0 with a proxy; 1 byte lost; times in microseconds' '--capture byte.pcap'
 sums '0 connections, 0 with a proxy; 3 segments without an opening; times in microseconds' '--capture late.pcap'
+sums '0 connections, 0 with a proxy; 1 segment without an opening; times in microseconds' '--capture alone.pcap'
 sums '0 connections, 0 with a proxy; times in nanoseconds' '--capture nano.pcap'
 sums '0 connections, 0 with a proxy; 1 of 1 records short; times in microseconds' '--capture short.pcap'
 sums '0 connections, 0 with a proxy; 1 of 1 records short' "< '$PWD/crates/toxicap_program/stdin'"

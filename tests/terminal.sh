@@ -79,6 +79,7 @@ capture torn.pcap d4c3b2a1 "$start" 01000000 00000000 00000000 00000000 00000000
 capture first.pcap d4c3b2a1 "$start" 01000000 00000000 00000000 01000400 01000400
 printf 'd4c3 b2a1\n0200 0x00\n' > "$here/dump.txt"
 printf 'd4c3b2a1\n020' > "$here/odd.txt"
+for name in other old torn; do od -An -v -tx1 "$here/$name.pcap" | tr -d ' \n' > "$here/$name.txt"; done
 
 helps 'refused 1 ShortHeader' 'none.pcap has fewer than 24 bytes: the recording was stopped too early, or it is another file' '--capture none.pcap'
 helps 'refused 2 BadMagic' 'next.pcap is a pcapng file: editcap -F pcap IN OUT converts it' '--capture next.pcap'
@@ -94,7 +95,19 @@ helps 'refused 5 RecordTooLong at 0' 'first.pcap is damaged where its first reco
 truncate -s $((2 ** 30 + 1)) "$here/long"
 helps 'refused 6 CaptureTooLong' 'long has more than 2^30 bytes: it is no scenario' '--scenario long'
 helps 'refused 6 CaptureTooLong' "long has more than 2^30 bytes: tshark -r IN -Y 'tcp.port == 6379' -F pcap -w OUT keeps what matters" '--capture long'
+printf 'd' > "$here/long"
+truncate -s $((2 ** 30 + 1)) "$here/long"
+helps 'refused 6 CaptureTooLong' 'long is a dump, and has more than 2^30 bytes: xxd -r -p IN OUT makes a file of it, of half its length at most' '--capture long'
 rm "$here/long"
+# a dump, which only xxd reads
+made='xxd -r -p IN OUT makes a file of it first, then editcap -F pcap'
+helps 'refused 2 BadMagic' "other.txt is a dump, and is no classic pcap: $made IN OUT writes one of most captures" '--capture other.txt'
+helps 'refused 3 BadVersion' "old.txt is a dump, and is of another pcap version than 2.4: $made IN OUT writes it again" '--capture old.txt'
+helps 'refused 3 BadVersion' "standard input is a dump, and is of another pcap version than 2.4: $made IN OUT writes it again" '< old.txt'
+helps 'refused 5 RecordTooLong at 1' "torn.txt is a dump, and is damaged where record 1 begins: $made -r IN OUT 1-1 keeps what is before" '--capture torn.txt'
+if can "a file that xxd makes of a dump" xxd; then
+    verdict "a file that xxd makes of a dump" "$(cd "$here" && xxd -r -p torn.txt made.pcap 2>&1; byte_difference "$here/torn.pcap" "$here/made.pcap")"
+fi
 helps 'refused 55 BadDump at 16' 'dump.txt is a dump, by its first byte, and no hexadecimal digit is at line 2 column 7' '--capture dump.txt'
 helps 'refused 55 BadDump at 12' 'odd.txt is a dump, by its first byte, and its last byte has but one hexadecimal digit' '--capture odd.txt'
 helps 'refused 55 BadDump at 16' 'standard input is a dump, by its first byte, and byte 16 is no hexadecimal digit, or its last byte has but one' '< dump.txt'

@@ -76,7 +76,7 @@ impl Summary {
         }
     }
 
-    /// What it tells in one line; nothing where there was no report. `unit` is the unit of times, where it is known.
+    /// What it says in one line; nothing where there was no report. `unit` is the unit of times, where it is known.
     pub fn text(&self, alloc: Global, unit: Option<&str>) -> Result<Option<String>, AllocError> {
         if !self.has_begun {
             return Ok(None);

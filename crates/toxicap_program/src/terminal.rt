@@ -14,7 +14,7 @@ use std::thread::Threads;
 pub struct Announced {
     input: Stdin,
     faults: Stderr,
-    is_told: bool,
+    is_announced: bool,
     first_bytes: CaptureStart,
 }
 
@@ -23,7 +23,7 @@ impl Announced {
         Announced {
             input,
             faults,
-            is_told: !input.is_terminal() || !faults.is_terminal(),
+            is_announced: !input.is_terminal() || !faults.is_terminal(),
             first_bytes: CaptureStart::new(),
         }
     }
@@ -36,8 +36,8 @@ impl Announced {
 
 impl Read for Announced {
     fn read(&mut self, buf: &mut [u8]) -> io::Result<usize> {
-        if !self.is_told {
-            self.is_told = true;
+        if !self.is_announced {
+            self.is_announced = true;
             let _ = eprintln!(self.faults;
                 "toxicap: reading the capture from standard input; --capture names a file"
             );
@@ -50,7 +50,7 @@ impl Read for Announced {
     }
 }
 
-/// The files of a runtime. Standard error tells how many scenarios are stored, each time the second file of one has taken its name.
+/// The files of a runtime. Standard error says how many scenarios are stored, each time the second file of one has taken its name.
 #[derive(Drop)]
 pub struct Counting<'a, R> {
     rt: &'a R,

@@ -79,6 +79,7 @@ capture torn.pcap d4c3b2a1 "$start" 01000000 00000000 00000000 00000000 00000000
 capture first.pcap d4c3b2a1 "$start" 01000000 00000000 00000000 01000400 01000400
 printf 'd4c3 b2a1\n0200 0x00\n' > "$here/dump.txt"
 printf 'd4c3b2a1\n020' > "$here/odd.txt"
+for name in other old torn; do od -An -v -tx1 "$here/$name.pcap" | tr -d ' \n' > "$here/$name.txt"; done
 
 helps 'refused 1 ShortHeader' 'none.pcap has fewer than 24 bytes: the recording was stopped too early, or it is another file' '--capture none.pcap'
 helps 'refused 2 BadMagic' 'next.pcap is a pcapng file: editcap -F pcap IN OUT converts it' '--capture next.pcap'
@@ -94,7 +95,19 @@ helps 'refused 5 RecordTooLong at 0' 'first.pcap is damaged where its first reco
 truncate -s $((2 ** 30 + 1)) "$here/long"
 helps 'refused 6 CaptureTooLong' 'long has more than 2^30 bytes: it is no scenario' '--scenario long'
 helps 'refused 6 CaptureTooLong' "long has more than 2^30 bytes: tshark -r IN -Y 'tcp.port == 6379' -F pcap -w OUT keeps what matters" '--capture long'
+printf 'd' > "$here/long"
+truncate -s $((2 ** 30 + 1)) "$here/long"
+helps 'refused 6 CaptureTooLong' 'long is a dump, and has more than 2^30 bytes: xxd -r -p IN OUT makes a file of it, of half its length at most' '--capture long'
 rm "$here/long"
+# a dump, which only xxd reads
+made='xxd -r -p IN OUT makes a file of it first, then editcap -F pcap'
+helps 'refused 2 BadMagic' "other.txt is a dump, and is no classic pcap: $made IN OUT writes one of most captures" '--capture other.txt'
+helps 'refused 3 BadVersion' "old.txt is a dump, and is of another pcap version than 2.4: $made IN OUT writes it again" '--capture old.txt'
+helps 'refused 3 BadVersion' "standard input is a dump, and is of another pcap version than 2.4: $made IN OUT writes it again" '< old.txt'
+helps 'refused 5 RecordTooLong at 1' "torn.txt is a dump, and is damaged where record 1 begins: $made -r IN OUT 1-1 keeps what is before" '--capture torn.txt'
+if can "a file that xxd makes of a dump" xxd; then
+    verdict "a file that xxd makes of a dump" "$(cd "$here" && xxd -r -p torn.txt made.pcap 2>&1; byte_difference "$here/torn.pcap" "$here/made.pcap")"
+fi
 helps 'refused 55 BadDump at 16' 'dump.txt is a dump, by its first byte, and no hexadecimal digit is at line 2 column 7' '--capture dump.txt'
 helps 'refused 55 BadDump at 12' 'odd.txt is a dump, by its first byte, and its last byte has but one hexadecimal digit' '--capture odd.txt'
 helps 'refused 55 BadDump at 16' 'standard input is a dump, by its first byte, and byte 16 is no hexadecimal digit, or its last byte has but one' '< dump.txt'
@@ -209,7 +222,8 @@ if [ "$(id -u)" != 0 ]; then
 fi
 helps 'refused 62 WriteFailed' 'standard output took no more: the disk is full, or what read it has ended' '--capture shop.pcap > /dev/full'
 
-# What would be missed in the reports. The captures are of one connection of 3 segments, and without its second one, without its opening, and empty.
+# What would be missed in the reports. The captures are of one connection of 3 segments, and without its second one, without its
+# opening, and of the first segment alone; of two bytes, of which one between them is missing; and empty.
 # sums LINE WORDS: the program with these words of the shell says this on a terminal, where its standard output is none.
 sums() {
     verdict "toxicap $2: $1" "$(said "toxicap: $1\r\n" "cd '$here' && '$program' $2 > '$work/output'")"
@@ -219,6 +233,14 @@ sums() {
 perl tests/capture.pl 3 > "$here/whole.pcap"
 { head -c 1484 "$here/whole.pcap"; tail -c +2805 "$here/whole.pcap"; } > "$here/hole.pcap"
 { head -c 24 "$here/whole.pcap"; tail -c +165 "$here/whole.pcap"; } > "$here/late.pcap"
+head -c 1344 "$here/late.pcap" > "$here/alone.pcap"
+# shellcheck disable=SC2046
+capture byte.pcap $(awk -f tests/capture.awk << 'EOT'
+1.000000 c>s SYN 1000 0
+1.001000 c>s PSH ACK 1001 1 "a"
+1.002000 c>s PSH ACK 1003 1 "c"
+EOT
+)
 capture nano.pcap 4d3cb2a1 "$start" 01000000
 capture short.pcap d4c3b2a1 "$start" 01000000 01000000 00000000 02000000 02000000 abcd
 sums '4 connections, 0 with a proxy; times in microseconds' '--capture shop.pcap'
@@ -226,7 +248,9 @@ sums '4 connections, 1 with a proxy; times in microseconds' '--scenario web.json
 sums 'scenario 0: 4 connections, 0 with a proxy; times in microseconds' '--capture shop.pcap --scenario bare.json --scenario web.json'
 sums '1 connection, 0 with a proxy; times in microseconds' '--capture whole.pcap'
 sums '1 connection, 0 with a proxy; 1250 bytes lost; times in microseconds' '--capture hole.pcap'
+sums '1 connection, 0 with a proxy; 1 byte lost; times in microseconds' '--capture byte.pcap'
 sums '0 connections, 0 with a proxy; 3 segments without an opening; times in microseconds' '--capture late.pcap'
+sums '0 connections, 0 with a proxy; 1 segment without an opening; times in microseconds' '--capture alone.pcap'
 sums '0 connections, 0 with a proxy; times in nanoseconds' '--capture nano.pcap'
 sums '0 connections, 0 with a proxy; 1 of 1 records short; times in microseconds' '--capture short.pcap'
 sums '0 connections, 0 with a proxy; 1 of 1 records short' "< '$PWD/crates/toxicap_program/stdin'"

@@ -24,7 +24,7 @@ typedef struct {
    The status is never TOXICAP_NO_ROOM. */
 static Answer rehearse(Text capture, Text scenarios, const size_t *lens, size_t count, const char *hosts, uint64_t seed)
 {
-    Answer it = {.status = TOXICAP_NO_ROOM, .sizes = {2 * count * capture.len, 1024 * count, 2 * count}};
+    Answer it = {.status = TOXICAP_NO_ROOM, .sizes = {count * (capture.len + capture.len / 4) + 4096, 1024 * count, 2 * count}};
     while (it.status == TOXICAP_NO_ROOM) {
         ToxicapSizes room = it.sizes;
         free(it.lens);

@@ -65,7 +65,8 @@ func Rehearse(capture []byte, scenarios [][]byte, hosts []byte, seed uint64) ([]
 	var captures, reports []byte
 	var lens []C.size_t
 	count := len(scenarios)
-	sizes := C.ToxicapSizes{captures: C.size_t(2 * count * len(capture)), reports: C.size_t(1024 * count), lens: C.size_t(2 * count)}
+	room := count*(len(capture)+len(capture)/4) + 4096
+	sizes := C.ToxicapSizes{captures: C.size_t(room), reports: C.size_t(1024 * count), lens: C.size_t(2 * count)}
 	status := C.uint8_t(C.TOXICAP_NO_ROOM)
 	for status == C.TOXICAP_NO_ROOM {
 		captures, reports, lens = make([]byte, sizes.captures), make([]byte, sizes.reports), make([]C.size_t, sizes.lens)

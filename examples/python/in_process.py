@@ -127,7 +127,7 @@ def rehearse(capture: bytes, scenarios: Sequence[bytes], hosts: bytes = b"", see
     """The capture and the report of each scenario, in their order: the bytes that `toxicap --out` stores.
 
     capture    a classic pcap of Ethernet frames, in microseconds or nanoseconds, or a dump of one in hexadecimal; at most 2^30 bytes
-    scenarios  the texts of scenarios: JSON in Toxiproxy's populate form, with the member `toxics`; at most 256. `[]` leaves all as recorded
+    scenarios  the texts of scenarios: JSON in Toxiproxy's populate form, with the field `toxics`; at most 256. `[]` leaves all as recorded
     hosts      the addresses of the names that scenarios use: lines NAME=ADDR, each ended by a line feed, which the last one may do without
     seed       a number from 0 to 2^64 - 1, which all drawing depends on
 
@@ -136,7 +136,7 @@ def rehearse(capture: bytes, scenarios: Sequence[bytes], hosts: bytes = b"", see
     is made, and RuntimeError is raised."""
     inputs = inputs_of(capture, scenarios, hosts, seed)
     capture_len, count = inputs[1], inputs[5]
-    status, sizes = NO_ROOM, Sizes(2 * count * capture_len, 1024 * count, 2 * count)
+    status, sizes = NO_ROOM, Sizes(count * (capture_len + capture_len // 4) + 4096, 1024 * count, 2 * count)
     while status == NO_ROOM:
         captures, reports, lens = room_for(sizes.captures), room_for(sizes.reports), (ctypes.c_size_t * sizes.lens)()
         status = library().toxicap_rehearse(*inputs, captures, len(captures), reports, len(reports), lens, len(lens), sizes)

@@ -90,7 +90,8 @@ fn texts(scenarios: &[impl AsRef<[u8]>]) -> (Vec<u8>, Vec<usize>) {
 #[rustfmt::skip]
 pub fn rehearse(capture: &[u8], scenarios: &[impl AsRef<[u8]>], hosts: &str, seed: u64) -> Result<Vec<Output>, Refusal> {
     let ((text, scenario_lens), count) = (texts(scenarios), scenarios.len());
-    let mut sizes = Sizes { captures: 2 * count * capture.len(), reports: 1024 * count, lens: 2 * count };
+    let room = count * (capture.len() + capture.len() / 4) + 4096;
+    let mut sizes = Sizes { captures: room, reports: 1024 * count, lens: 2 * count };
     loop {
         let (mut captures, mut reports) = (vec![0; sizes.captures], vec![0; sizes.reports]);
         let mut lens = vec![0; sizes.lens];

@@ -26,16 +26,16 @@ pub enum RunFault {
     #[error("record {at} is too long")]
     RecordTooLong { at: u32 },
     /// The text of the scenario with this number, from 0, is refused.
-    #[error("scenario {number}: {refusal}")]
+    #[error("scenario {number}{}{refusal}", end_of_number(.refusal))]
     BadScenario { number: usize, refusal: Refusal },
-    /// The host with this number among those of the command line, from 0, is refused.
+    /// The host with this number among those that were given, from 0, is refused.
     #[error("host {at} is refused")]
     BadHost { at: usize },
     /// More than 256 scenarios were given.
     #[error("there are more than 256 scenarios")]
     TooManyScenarios,
-    /// More than 2^30 bytes were given.
-    #[error("the capture is longer than 2^30 bytes")]
+    /// A capture, a dump or a scenario file has more than 2^30 bytes.
+    #[error("a capture, a dump or a scenario file is longer than 2^30 bytes")]
     CaptureTooLong,
     /// Memory was refused.
     #[error("out of memory")]
@@ -52,6 +52,11 @@ pub enum RunFault {
     /// A write failed.
     #[error("a write failed")]
     WriteFailed,
+}
+
+// What stands between the number of a scenario and its refusal: of a proxy, `scenario 0 proxy 1: ..`, and else `scenario 0: ..`.
+fn end_of_number(refusal: &Refusal) -> &'static str {
+    if refusal.proxy.is_some() { " " } else { ": " }
 }
 
 impl From<CaptureFault> for RunFault {

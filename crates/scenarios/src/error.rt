@@ -1,5 +1,6 @@
 //! Why a scenario or a host is refused.
 use std::alloc::AllocError;
+use std::{error, fmt};
 use thiserror::Error;
 
 /// Why a scenario is refused. The causes are tested in the order in which they stand here, proxy by proxy and, in a
@@ -45,9 +46,8 @@ pub enum Cause {
 }
 
 /// A refusal, and where it stands: the numbers of the proxy in its file and of the toxic in its proxy, each from 0,
-/// where the refusal is of one.
-#[derive(Clone, Copy, Debug, PartialEq, Eq, Error)]
-#[error("{cause}")]
+/// where the refusal is of one. As text it has the place before the cause, as `proxy 0 toxic 1: there is no toxic of this type`.
+#[derive(Clone, Copy, Debug, PartialEq, Eq)]
 pub struct Refusal {
     /// Why.
     pub cause: Cause,
@@ -93,6 +93,19 @@ impl Refusal {
         }
     }
 }
+
+impl fmt::Display for Refusal {
+    fn fmt<W: fmt::Write>(&self, f: &mut fmt::Formatter<W>) -> fmt::Result {
+        let cause = self.cause;
+        match (self.proxy, self.toxic) {
+            (Some(proxy), Some(toxic)) => write!(f, "proxy {proxy} toxic {toxic}: {cause}"),
+            (Some(proxy), None) => write!(f, "proxy {proxy}: {cause}"),
+            _ => write!(f, "{cause}"),
+        }
+    }
+}
+
+impl error::Error for Refusal {}
 
 /// Why there is no scenario.
 #[derive(Debug, Drop, Error)]

@@ -1,12 +1,15 @@
 //! The line that a person at a terminal reads after a run: what helps after a refusal, or what would be missed in the reports.
 use crate::capture_remedies::{first_bytes_again, unit_of};
 use crate::inputs::Inputs;
-use crate::looks::{FirstBytes, text_of};
+use crate::looks::CaptureStart;
 use crate::refusals::Refusal;
 use crate::remedies::remedy;
+use crate::report_lines::ReportLines;
 use crate::summary::Summary;
 use command_line::{Asked, read_arguments};
 use std::alloc::{AllocError, Global};
+use std::fs;
+use std::io::{self, Read};
 use std::rt::Files;
 
 /// What is known of a run that has ended.
@@ -15,7 +18,7 @@ pub struct Ended<'a> {
     /// Its exit status.
     pub status: u8,
     /// The first bytes that it read of standard input.
-    pub first_bytes: FirstBytes,
+    pub first_bytes: CaptureStart,
     /// The first line that it wrote on standard error.
     pub fault: &'a [u8],
     /// The summary of the first report that it printed.
@@ -69,8 +72,8 @@ fn summed_up<R: Files>(
         None => printed,
         Some(folder) => {
             let path = format!(in alloc; "{folder}/0000.txt")?;
-            match text_of(files, alloc, &path) {
-                Ok(text) => summary_of(&text),
+            match stored_summary(files, alloc, &path) {
+                Ok(summary) => summary,
                 Err(_) => return Ok(None),
             }
         }
@@ -85,13 +88,26 @@ fn summed_up<R: Files>(
     Ok(Some(text))
 }
 
-// The summary of a report.
-fn summary_of(report: &[u8]) -> Summary {
-    let mut summary = Summary::new();
-    for line in report.split(|byte| *byte == b'\n') {
-        if !line.is_empty() {
-            summary.add_line(line);
-        }
+// How many bytes of a stored report are read at once.
+const BUFFER_LEN: usize = 1 << 18;
+
+// The summary of the report that is stored at a path.
+//
+// # Errors
+// It cannot be seen, opened or read, or is no regular file; or a growth was refused.
+fn stored_summary<R: Files>(files: &R, alloc: Global, path: &str) -> io::Result<Summary> {
+    if !fs::metadata(files, path)?.is_file() {
+        return Err(io::Error::from(io::ErrorKind::InvalidInput));
     }
-    summary
+    let mut file = fs::open(files, path)?;
+    let mut buffer = vec![in alloc; 0u8; BUFFER_LEN]?;
+    let mut lines = ReportLines::new();
+    for _ in 0..u64::MAX {
+        let len = file.read(&mut buffer)?;
+        if len == 0 {
+            break;
+        }
+        lines.add(buffer.get(..len).unwrap_or(&[]));
+    }
+    Ok(lines.summary())
 }

@@ -1,6 +1,6 @@
 //! What helps where a capture was refused.
 use crate::inputs::Inputs;
-use crate::looks::{FirstBytes, first_bytes_of, text_of};
+use crate::looks::{CaptureStart, first_bytes_of, text_of};
 use crate::refusals::Refusal;
 use crate::shown::shown_path;
 use std::alloc::{AllocError, Global};
@@ -17,22 +17,25 @@ pub fn capture_remedy<R: Files>(
     inputs: &Inputs<'_>,
     refusal: &Refusal,
 ) -> Result<String, AllocError> {
-    let first_bytes = first_bytes_again(files, inputs);
+    let start = first_bytes_again(files, inputs);
+    let first_bytes = start.bytes();
     let name = capture_name(alloc, inputs)?;
     match refusal.number {
         1 => format!(in alloc;
             "{name} has fewer than 24 bytes: the recording was stopped too early, or it is another file"
         ),
         2 => {
-            let remedy = magic_remedy(first_bytes.bytes());
-            format!(in alloc; "{name} {remedy}")
+            let (fault, command) = magic_fault(first_bytes);
+            file_remedy(alloc, &name, first_bytes, fault, command)
         }
-        3 => format!(in alloc;
-            "{name} is of another pcap version than 2.4: editcap -F pcap IN OUT writes it again"
-        ),
-        4 => link_remedy(alloc, &name, first_bytes.bytes()),
-        5 => record_remedy(alloc, &name, refusal.at),
-        6 => length_remedy(files, alloc, inputs, &name),
+        3 => {
+            let fault = "is of another pcap version than 2.4";
+            let command = "editcap -F pcap IN OUT writes it again";
+            file_remedy(alloc, &name, first_bytes, fault, command)
+        }
+        4 => link_remedy(alloc, &name, first_bytes),
+        5 => record_remedy(alloc, &name, first_bytes, refusal.at),
+        6 => length_remedy(files, alloc, inputs, &name, first_bytes),
         _ => dump_remedy(files, alloc, inputs, &name, refusal.at),
     }
 }
@@ -46,19 +49,46 @@ fn capture_name(alloc: Global, inputs: &Inputs<'_>) -> Result<String, AllocError
 }
 
 /// The first bytes of the capture; none where they cannot be had.
-pub fn first_bytes_again<R: Files>(files: &R, inputs: &Inputs<'_>) -> FirstBytes {
+pub fn first_bytes_again<R: Files>(files: &R, inputs: &Inputs<'_>) -> CaptureStart {
     match inputs.capture {
-        Some(path) => first_bytes_of(files, path).unwrap_or(FirstBytes::new()),
+        Some(path) => first_bytes_of(files, path).unwrap_or(CaptureStart::new()),
         None => inputs.first_bytes,
     }
 }
 
-// What helps where these are the first bytes, which are no magic number.
-fn magic_remedy(first_bytes: &[u8]) -> &'static str {
+// Whether a capture with these first bytes is given as a dump.
+fn is_dump(first_bytes: &[u8]) -> bool {
+    match first_bytes.first() {
+        Some(first) => first.is_ascii_hexdigit(),
+        None => false,
+    }
+}
+
+// What helps where a command does, which reads no dump, but the file that is made of it.
+fn file_remedy(
+    alloc: Global,
+    name: &str,
+    first_bytes: &[u8],
+    fault: &str,
+    command: &str,
+) -> Result<String, AllocError> {
+    if is_dump(first_bytes) {
+        return format!(in alloc;
+            "{name} is a dump, and {fault}: xxd -r -p IN OUT makes a file of it first, then {command}"
+        );
+    }
+    format!(in alloc; "{name} {fault}: {command}")
+}
+
+// What is wrong with a capture that has these first bytes, which are no magic number, and the command that helps.
+fn magic_fault(first_bytes: &[u8]) -> (&'static str, &'static str) {
     match first_bytes {
-        [0x0a, 0x0d, 0x0d, 0x0a, ..] => "is a pcapng file: editcap -F pcap IN OUT converts it",
-        [0x1f, 0x8b, ..] => "is gzipped: gunzip -c IN > OUT unzips it",
-        _ => "is no classic pcap: editcap -F pcap IN OUT writes one of most captures",
+        [0x0a, 0x0d, 0x0d, 0x0a, ..] => ("is a pcapng file", "editcap -F pcap IN OUT converts it"),
+        [0x1f, 0x8b, ..] => ("is gzipped", "gunzip -c IN > OUT unzips it"),
+        _ => (
+            "is no classic pcap",
+            "editcap -F pcap IN OUT writes one of most captures",
+        ),
     }
 }
 
@@ -105,15 +135,20 @@ fn link_remedy(alloc: Global, name: &str, first_bytes: &[u8]) -> Result<String, 
 }
 
 // What helps where a record announces too much.
-fn record_remedy(alloc: Global, name: &str, at: u64) -> Result<String, AllocError> {
+fn record_remedy(
+    alloc: Global,
+    name: &str,
+    first_bytes: &[u8],
+    at: u64,
+) -> Result<String, AllocError> {
     if at == 0 {
         return format!(in alloc;
             "{name} is damaged where its first record begins: record it again"
         );
     }
-    format!(in alloc;
-        "{name} is damaged where record {at} begins: editcap -F pcap -r IN OUT 1-{at} keeps what is before"
-    )
+    let fault = format!(in alloc; "is damaged where record {at} begins")?;
+    let command = format!(in alloc; "editcap -F pcap -r IN OUT 1-{at} keeps what is before")?;
+    file_remedy(alloc, name, first_bytes, &fault, &command)
 }
 
 // What helps where a file is too long: the first that is.
@@ -122,12 +157,18 @@ fn length_remedy<R: Files>(
     alloc: Global,
     inputs: &Inputs<'_>,
     capture: &str,
+    first_bytes: &[u8],
 ) -> Result<String, AllocError> {
     for path in inputs.scenarios {
         if is_too_long(files, path) {
             let path = shown_path(alloc, path)?;
             return format!(in alloc; "{path} has more than 2^30 bytes: it is no scenario");
         }
+    }
+    if is_dump(first_bytes) {
+        return format!(in alloc;
+            "{capture} is a dump, and has more than 2^30 bytes: xxd -r -p IN OUT makes a file of it, of half its length at most"
+        );
     }
     format!(in alloc;
         "{capture} has more than 2^30 bytes: tshark -r IN -Y 'tcp.port == 6379' -F pcap -w OUT keeps what matters"

@@ -1,5 +1,5 @@
 //! What a run was asked for.
-use crate::looks::FirstBytes;
+use crate::looks::CaptureStart;
 
 /// What a run was asked for.
 #[derive(Clone, Copy)]
@@ -13,5 +13,5 @@ pub struct Inputs<'a> {
     /// The folder for the outputs, or `None` for the reports on standard output.
     pub out: Option<&'a str>,
     /// The first bytes that were read of standard input.
-    pub first_bytes: FirstBytes,
+    pub first_bytes: CaptureStart,
 }

@@ -1,4 +1,5 @@
 //! Files that were named on the command line, looked at again after a run. Only regular files are opened: another could wait.
+use crate::first_bytes::FirstBytes;
 use std::alloc::{AllocError, Global};
 use std::fs::{self, OpenOptions};
 use std::io::{self, Read};
@@ -7,44 +8,15 @@ use std::rt::Files;
 /// How many bytes a capture has before its records.
 pub const HEADER_LEN: usize = 24;
 
-/// The first bytes of a capture, as many as there were.
-#[derive(Clone, Copy)]
-pub struct FirstBytes {
-    bytes: [u8; HEADER_LEN],
-    len: usize,
-}
-
-impl FirstBytes {
-    /// That of no bytes.
-    pub fn new() -> FirstBytes {
-        FirstBytes {
-            bytes: [0; HEADER_LEN],
-            len: 0,
-        }
-    }
-
-    /// Takes the next bytes, as far as there is room.
-    pub fn add(&mut self, bytes: &[u8]) {
-        for byte in bytes.iter().take(HEADER_LEN.saturating_sub(self.len)) {
-            if let Some(place) = self.bytes.get_mut(self.len) {
-                *place = *byte;
-                self.len = self.len.saturating_add(1);
-            }
-        }
-    }
-
-    /// The bytes.
-    pub fn bytes(&self) -> &[u8] {
-        self.bytes.get(..self.len).unwrap_or(&[])
-    }
-}
+/// The first bytes of a capture.
+pub type CaptureStart = FirstBytes<HEADER_LEN>;
 
 /// The first bytes of the file at a path; none of one that is neither a regular file nor a folder.
 ///
 /// # Errors
 /// It cannot be seen, opened or read.
-pub fn first_bytes_of<R: Files>(files: &R, path: &str) -> io::Result<FirstBytes> {
-    let mut first_bytes = FirstBytes::new();
+pub fn first_bytes_of<R: Files>(files: &R, path: &str) -> io::Result<CaptureStart> {
+    let mut first_bytes = CaptureStart::new();
     let metadata = fs::metadata(files, path)?;
     if metadata.is_file() || metadata.is_dir() {
         let mut file = fs::open(files, path)?;

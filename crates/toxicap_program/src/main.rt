@@ -1,15 +1,17 @@
 //! The program `toxicap`. All of it is the library's `command`, on the words of the command line and the standard streams; on a terminal it
-//! also says that it reads its standard input, counts the scenarios that it stores, and tells in a line more what helps after a refusal, or
+//! also says that it reads its standard input, counts the scenarios that it stores, and prints in a line more what helps after a refusal, or
 //! what would be missed in the reports.
 #![tactic(auto)]
 
 mod afterwards;
 mod capture_remedies;
+mod first_bytes;
 mod folder_remedies;
 mod inputs;
 mod looks;
 mod refusals;
 mod remedies;
+mod report_lines;
 mod scenario_fields;
 mod scenario_remedies;
 mod shown;
@@ -52,7 +54,7 @@ fn main(rt: HostRuntime) -> ExitCode {
             fault: faults.line(),
             printed: output.into_inner().summary(),
         };
-        tell_line(&rt, &words, &ended);
+        print_line(&rt, &words, &ended);
     }
     ExitCode::from(status)
 }
@@ -62,8 +64,8 @@ fn words_of(rt: &HostRuntime) -> io::Result<Vec<String>> {
     Ok(env::args(rt)?.skip(1).collect(rt.alloc())?)
 }
 
-// Tells on standard error what a person reads after a run.
-fn tell_line(rt: &HostRuntime, words: &[String], ended: &Ended<'_>) {
+// Prints on standard error what a person reads after a run.
+fn print_line(rt: &HostRuntime, words: &[String], ended: &Ended<'_>) {
     if let Ok(Some(line)) = line_after(rt, rt.alloc(), words, ended) {
         let _ = eprintln!(rt.stderr(); "toxicap: {line}");
     }

@@ -76,13 +76,13 @@ impl Summary {
         }
     }
 
-    /// What it tells in one line; nothing where there was no report. `unit` is the unit of times, where it is known.
+    /// What it says in one line; nothing where there was no report. `unit` is the unit of times, where it is known.
     pub fn text(&self, alloc: Global, unit: Option<&str>) -> Result<Option<String>, AllocError> {
         if !self.has_begun {
             return Ok(None);
         }
         let (connections, met) = (self.connections, self.met);
-        let end = if connections == 1 { "" } else { "s" };
+        let end = plural_end(connections);
         let mut text = format!(in alloc; "{connections} connection{end}, {met} with a proxy")?;
         self.push_losses(&mut text)?;
         self.push_classes(&mut text)?;
@@ -96,10 +96,12 @@ impl Summary {
     fn push_losses(&self, text: &mut String) -> Result<(), AllocError> {
         let (lost, unopened) = (self.lost, self.unopened);
         if lost > 0 {
-            write!(text, "; {lost} bytes lost")?;
+            let end = plural_end(lost);
+            write!(text, "; {lost} byte{end} lost")?;
         }
         if unopened > 0 {
-            write!(text, "; {unopened} segments without an opening")?;
+            let end = plural_end(unopened);
+            write!(text, "; {unopened} segment{end} without an opening")?;
         }
         Ok(())
     }
@@ -114,6 +116,11 @@ impl Summary {
         }
         Ok(())
     }
+}
+
+// The end of a noun that so many are counted by.
+fn plural_end(count: u64) -> &'static str {
+    if count == 1 { "" } else { "s" }
 }
 
 // The word of a line that stands after another word.

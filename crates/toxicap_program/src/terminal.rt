@@ -1,5 +1,5 @@
 //! What the program says on a terminal, beside its outputs and refusals: that it reads standard input, and how many scenarios are stored.
-use crate::looks::FirstBytes;
+use crate::looks::CaptureStart;
 use std::alloc::Allocator;
 use std::fs::{Metadata, OpenOptions};
 use std::io::{self, IsTerminal, Read, Stderr, Stdin};
@@ -14,8 +14,8 @@ use std::thread::Threads;
 pub struct Announced {
     input: Stdin,
     faults: Stderr,
-    is_told: bool,
-    first_bytes: FirstBytes,
+    is_announced: bool,
+    first_bytes: CaptureStart,
 }
 
 impl Announced {
@@ -23,21 +23,21 @@ impl Announced {
         Announced {
             input,
             faults,
-            is_told: !input.is_terminal() || !faults.is_terminal(),
-            first_bytes: FirstBytes::new(),
+            is_announced: !input.is_terminal() || !faults.is_terminal(),
+            first_bytes: CaptureStart::new(),
         }
     }
 
     /// The first bytes that were read.
-    pub fn first_bytes(&self) -> FirstBytes {
+    pub fn first_bytes(&self) -> CaptureStart {
         self.first_bytes
     }
 }
 
 impl Read for Announced {
     fn read(&mut self, buf: &mut [u8]) -> io::Result<usize> {
-        if !self.is_told {
-            self.is_told = true;
+        if !self.is_announced {
+            self.is_announced = true;
             let _ = eprintln!(self.faults;
                 "toxicap: reading the capture from standard input; --capture names a file"
             );
@@ -50,7 +50,7 @@ impl Read for Announced {
     }
 }
 
-/// The files of a runtime. Standard error tells how many scenarios are stored, each time the second file of one has taken its name.
+/// The files of a runtime. Standard error says how many scenarios are stored, each time the second file of one has taken its name.
 #[derive(Drop)]
 pub struct Counting<'a, R> {
     rt: &'a R,

@@ -1,4 +1,6 @@
 //! Writers that look at what goes through them, and hand it on as it is.
+use crate::first_bytes::FirstBytes;
+use crate::report_lines::ReportLines;
 use crate::summary::Summary;
 use std::io::{self, Write};
 
@@ -9,8 +11,7 @@ const FIRST_LEN: usize = 200;
 #[derive(Drop)]
 pub struct FirstLine<W> {
     inner: W,
-    line: [u8; FIRST_LEN],
-    len: usize,
+    line: FirstBytes<FIRST_LEN>,
     is_whole: bool,
 }
 
@@ -19,29 +20,24 @@ impl<W> FirstLine<W> {
     pub fn new(inner: W) -> FirstLine<W> {
         FirstLine {
             inner,
-            line: [0; FIRST_LEN],
-            len: 0,
+            line: FirstBytes::new(),
             is_whole: false,
         }
     }
 
     /// The first line, or as much of it as was written, without its line feed.
     pub fn line(&self) -> &[u8] {
-        self.line.get(..self.len).unwrap_or(&[])
+        self.line.bytes()
     }
 
-    // Keeps a byte of the first line.
-    fn keep(&mut self, byte: u8) {
-        if byte == b'\n' {
-            self.is_whole = true;
-        }
+    // Keeps what the next bytes have of the first line.
+    fn keep(&mut self, bytes: &[u8]) {
         if self.is_whole {
             return;
         }
-        if let Some(place) = self.line.get_mut(self.len) {
-            *place = byte;
-            self.len = self.len.saturating_add(1);
-        }
+        let line = bytes.split(|byte| *byte == b'\n').next().unwrap_or(&[]);
+        self.line.add(line);
+        self.is_whole = line.len() < bytes.len();
     }
 }
 
@@ -49,9 +45,7 @@ impl<W: Write> Write for FirstLine<W> {
     fn write(&mut self, buf: &[u8]) -> io::Result<usize> {
         let written = self.inner.write(buf);
         if let Ok(len) = &written {
-            for byte in buf.iter().take(*len).take(FIRST_LEN) {
-                self.keep(*byte);
-            }
+            self.keep(buf.get(..*len).unwrap_or(&[]));
         }
         written
     }
@@ -61,16 +55,11 @@ impl<W: Write> Write for FirstLine<W> {
     }
 }
 
-// The most bytes of a report's line that are looked at. Each line has fewer.
-const LINE_LEN: usize = 512;
-
 /// A writer of reports, of which the first is summed up.
 #[derive(Drop)]
 pub struct SummedUp<W> {
     inner: W,
-    line: [u8; LINE_LEN],
-    len: usize,
-    summary: Summary,
+    lines: ReportLines,
     is_wanted: bool,
 }
 
@@ -79,31 +68,14 @@ impl<W> SummedUp<W> {
     pub fn new(inner: W, is_wanted: bool) -> SummedUp<W> {
         SummedUp {
             inner,
-            line: [0; LINE_LEN],
-            len: 0,
-            summary: Summary::new(),
+            lines: ReportLines::new(),
             is_wanted,
         }
     }
 
     /// The summary of the first report that was written.
     pub fn summary(&self) -> Summary {
-        self.summary
-    }
-
-    // Looks at a byte of the first report.
-    fn look_at(&mut self, byte: u8) {
-        if self.summary.is_over() {
-            return;
-        }
-        if byte == b'\n' {
-            self.summary
-                .add_line(self.line.get(..self.len).unwrap_or(&[]));
-            self.len = 0;
-        } else if let Some(place) = self.line.get_mut(self.len) {
-            *place = byte;
-            self.len = self.len.saturating_add(1);
-        }
+        self.lines.summary()
     }
 }
 
@@ -113,9 +85,7 @@ impl<W: Write> Write for SummedUp<W> {
         if let Ok(len) = &written
             && self.is_wanted
         {
-            for byte in buf.iter().take(*len) {
-                self.look_at(*byte);
-            }
+            self.lines.add(buf.get(..*len).unwrap_or(&[]));
         }
         written
     }

@@ -12,6 +12,7 @@ HEADERS = struct.Struct('>5H2x4s4s2s2s2I2BH2xH')  # IPv4 and TCP, checksums pass
 FIN, SYN, RST, PSH, ACK = 1, 2, 4, 8, 16
 SPACE = 1 << 32  # how many sequence numbers there are
 
+Awaited = Tuple[bytes, bytes, bytes, int]  # what the next record of a side has: VLAN, sender, receiver, sequence number
 Event = Tuple[int, str, Union[bytes, str]]  # nanoseconds since the opening; 'up' or 'down'; a chunk of bytes, or how the direction ends
 
 
@@ -29,15 +30,18 @@ class Record(NamedTuple):
 class Connection:
     """A connection while it is read. Lists of two have the client's before the server's."""
 
-    def __init__(self, opened: int, seqs: List[int]) -> None:
-        self.opened, self.next, self.sent, self.ended = opened, seqs, [0, 0], [False, False]
+    def __init__(self, syn: Record, seqs: List[int]) -> None:
+        self.opened, self.vlan, self.peers = syn.time, syn.vlan, (syn.sender, syn.receiver)
+        self.next, self.sent, self.ended = seqs, [0, 0], [False, False]
         self.begun: List[List[bytes]] = [[], []]
         self.events: List[Event] = []
 
+    def awaits(self, side: int) -> Awaited:
+        return self.vlan, self.peers[side], self.peers[1 - side], self.next[side]
+
     def goes_on(self, side: int, record: Record) -> bool:
-        """Whether a record may be of this connection: its bytes are the next ones, and it acknowledges what was sent."""
-        heard = (self.next[1 - side] - record.ack) % SPACE <= self.sent[1 - side]
-        return heard and record.seq == self.next[side] and not self.ended[side]
+        """Whether a record as a side awaits it may be of this connection: it acknowledges what was sent."""
+        return (self.next[1 - side] - record.ack) % SPACE <= self.sent[1 - side]
 
     def take(self, side: int, record: Record) -> bool:
         """Takes a record of this connection; False where toxicap writes none such. The pieces of a chunk are joined up to its PSH."""
@@ -82,18 +86,19 @@ def refuse(number: int, why: str) -> NoReturn:
 
 def opening(found: List[Record], number: int) -> Tuple[Connection, int]:
     """The connection that the record of this number begins, by a SYN, and how many records its opening has."""
-    time, vlan, client, server, seq, *_ = found[number]
+    syn = found[number]
+    time, vlan, client, server, seq, *_ = syn
     first = (seq + 1) % SPACE
     answer = found[number + 1:number + 2]
     if answer == [(time, vlan, server, client, 0, first, RST | ACK, b'')]:
-        connection = Connection(time, [0, 0])
+        connection = Connection(syn, [0, 0])
         connection.ended, connection.events = [True, True], [(0, 'up', 'refused'), (0, 'down', 'refused')]
         return connection, 2
     theirs = answer[0].seq if answer else 0
     second = (theirs + 1) % SPACE
     if found[number + 1:number + 3] != [(time, vlan, server, client, theirs, first, SYN | ACK, b''),
                                         (time, vlan, client, server, first, second, ACK, b'')]: refuse(number, 'no opening follows its SYN')
-    return Connection(time, [first, second]), 3
+    return Connection(syn, [first, second]), 3
 
 
 def events(capture: bytes) -> List[List[Event]]:
@@ -104,18 +109,26 @@ def events(capture: bytes) -> List[List[Event]]:
     'fin', which ends its direction (a FIN or a close in the report); 'reset'; or 'refused', in both directions, where the proxy is disabled."""
     found, number = records(capture), 0
     connections: List[Connection] = []
-    of_pair: Dict[Tuple[bytes, bytes, bytes], List[Connection]] = {}
+    awaited: Dict[Awaited, List[Tuple[Connection, int]]] = {}  # the sides that have not ended
+
+    def wait(connection: Connection, side: int) -> None:
+        if not connection.ended[side]: awaited.setdefault(connection.awaits(side), []).append((connection, side))
+
     while number < len(found):
         record, length = found[number], 1
         if record.flags == SYN and not record.payload:
             connection, length = opening(found, number)
             connections.append(connection)
-            of_pair.setdefault((record.vlan, record.sender, record.receiver), []).append(connection)
+            for side in (0, 1): wait(connection, side)
         else:
-            ways = (0, (record.vlan, record.sender, record.receiver)), (1, (record.vlan, record.receiver, record.sender))
-            able = [(c, side) for side, pair in ways for c in of_pair.get(pair, ()) if c.goes_on(side, record)]
+            what = record.vlan, record.sender, record.receiver, record.seq
+            able = [(c, side) for c, side in awaited.get(what, ()) if c.goes_on(side, record)]
             if len(able) != 1: refuse(number, f'{len(able)} connections go on with it')
-            if not able[0][0].take(able[0][1], record): refuse(number, 'toxicap writes no such segment')
+            awaited[what].remove(able[0])
+            if not awaited[what]: del awaited[what]
+            connection, side = able[0]
+            if not connection.take(side, record): refuse(number, 'toxicap writes no such segment')
+            wait(connection, side)
         number += length
     if any(c.begun != [[], []] for c in connections): refuse(number, 'the end is missing')
     return [c.events for c in connections]

@@ -14,8 +14,8 @@ use std::alloc::{AllocError, Global};
 /// The room of the first two lines, which are seldom longer.
 const HEAD_ROOM: usize = 256;
 
-/// The report of a scenario: the line that tells how many records the capture has and how many packets are of each class, the line
-/// that tells how many connections and unopened segments there are, and the lines of the connections in the order of their numbers.
+/// The report of a scenario: the line with how many records the capture has and how many packets are of each class, the line
+/// with how many connections and unopened segments there are, and the lines of the connections in the order of their numbers.
 ///
 /// # Errors
 /// A growth was refused.

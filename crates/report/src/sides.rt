@@ -1,4 +1,4 @@
-//! What a report tells of one direction of a connection.
+//! What a report says of one direction of a connection.
 ghost use Rattle.std.specs.Prelude.{◌≡◌, ◌++◌, ◌+◌, ◌-◌, ◌<◌, ◌≤◌, ◌==◌, ◌^◌, max, length, if◌then◌else◌, OnOk};
 ghost use Rattle.reassembly.specs.LineView.{bytes_of_parts, end_view};
 ghost use Rattle.report.specs.ReportText.{end_text, end_word, longest_delay, side_text};
@@ -9,7 +9,7 @@ use reassembly::{End, Line, LinePart};
 use std::alloc::AllocError;
 
 /// Appends the number of delivered, of recorded and of lost bytes of a direction, how it ends, and the longest delay. Instants are
-/// told in ticks since the connection was opened.
+/// given in ticks since the connection was opened.
 pub(crate) fn push_side(
     text: &mut Vec<u8>,
     opened: Moment,

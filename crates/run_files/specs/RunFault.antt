@@ -1,4 +1,4 @@
--- The faults of a run: which of them a fault of a capture is, what each refuses, and how each is told.
+-- The faults of a run: which of them a fault of a capture is, what each refuses, and the line of each.
 use Rattle.std.specs.Prelude.{ℕ, List, [], ◌++◌, codes, Option, Some, None}
 use Rattle.std.specs.Fmt.{decimal}
 use Rattle.pcap_records.specs.declared.fault.CaptureFault.{CaptureFault}
@@ -32,7 +32,7 @@ abbrev pub run_refusal : RunFault → Option RunFault
 run_refusal of_run.Memory = None
 run_refusal fault = Some fault
 
--- ---- how a fault is told
+-- ---- the line of a fault
 
 -- its number, its name, and its place where it knows one
 pub record FaultEntry : Type 0 where

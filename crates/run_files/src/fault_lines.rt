@@ -1,4 +1,4 @@
-//! The line that tells a fault.
+//! The line of a fault.
 ghost use Rattle.std.specs.Prelude.{◌≡◌, ◌++◌, IfOk, OnOk, Some};
 ghost use Rattle.std.specs.String.{string_bytes};
 ghost use Rattle.run_files.specs.declared.error.RunFault.TheVariants as RunFault;
@@ -27,7 +27,7 @@ pub(crate) enum FaultPlace {
     },
 }
 
-/// What is told of a fault: its number, its name, and its place.
+/// What the line of a fault has: its number, its name, and its place.
 #[derive(Clone, Copy)]
 pub(crate) struct FaultEntry {
     pub number: u32,
@@ -56,7 +56,7 @@ fn entry_of_cause(cause: Cause) -> (u32, &'static str)
     }
 }
 
-// What is told of a scenario's refusal.
+// What the line of a scenario's refusal has.
 fn entry_of_refusal(scenario: usize, refusal: &Refusal) -> FaultEntry
     ensures number { result.number ≡ (fault_entry (RunFault.BadScenario scenario refusal.now)).number }
     ensures name { result.name.now ≡ (fault_entry (RunFault.BadScenario scenario refusal.now)).name }
@@ -142,7 +142,7 @@ fn push_place(line: &mut String, place: &FaultPlace) -> Result<(), AllocError>
     }
 }
 
-/// The line that tells a fault: `refused`, its number, its name and, where the fault knows one, its
+/// The line of a fault: `refused`, its number, its name and, where the fault knows one, its
 /// place. It has no line feed at its end.
 #[tactic(auto, unfolding(crate::specs::RunFault::fault_text))]
 pub fn fault_line(alloc: Global, fault: &RunFault) -> Result<String, AllocError>

@@ -26,20 +26,29 @@ module _ (h : Header) (payload : List ℕ) (from : length h.mac_from ≡ mac_len
   pub length-headers : length (headers h payload) ≡ headers_len h.vlan
   unfolding headers
   length-headers =
-      omega (arith, from, to,
+      omega (
+        arith,
+        from,
+        to,
         length-append (ethernet h ++ ipv4 h (tcp_len + length payload)) (tcp h payload),
         length-append (ethernet h) (ipv4 h (tcp_len + length payload)),
         length-append (h.mac_to ++ h.mac_from) (link_bytes h.vlan),
         length-append h.mac_to h.mac_from,
-        length-ipv4 h (tcp_len + length payload), length-tcp h payload, length-link h.vlan)
+        length-ipv4 h (tcp_len + length payload),
+        length-tcp h payload,
+        length-link h.vlan,
+      )
 
   pub length-framed : (ticks at : ℕ) → length (record_bytes ticks at (frame_with h payload)) ≡ record_header_len + headers_len h.vlan + length payload
   length-framed ticks at =
       let frame : List ℕ = frame_with h payload in
-      omega (arith, length-headers,
+      omega (
+        arith,
+        length-headers,
         length-append (record_header ticks at (length frame)) frame,
         length-record_header ticks at (length frame),
-        length-append (headers h payload) payload)
+        length-append (headers h payload) payload,
+      )
 
 -- whoever of the two sides sends
 pub length-sent : (client : Sender) (is_server : Bool) → length client.mac_from ≡ mac_len → length client.mac_to ≡ mac_len → (ticks at seq ack flags : ℕ) (payload : List ℕ)

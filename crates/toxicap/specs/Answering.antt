@@ -45,7 +45,7 @@ IsOfText (BadHost at) = ⊥
 IsOfText _ = Unit {0}
 
 -- How an answer comes of what was called for by the text that was read, given what it is to be at the reader's end. A failed
--- read and want of memory come within the limit; that the text is too long is told as soon as it is; any other answer comes at the
+-- read and want of memory come within the limit; that the text is too long is answered as soon as it is; any other answer comes at the
 -- reader's end.
 abbrev pub AnswersBy : Result (List Output) RunFault → Result (List Output) RunFault → List ℕ → Type 0 → Type 0
 AnswersBy (Ok outputs) wanted text AtEnd = AtEnd × (wanted ≡ Ok outputs)

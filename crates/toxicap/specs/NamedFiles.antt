@@ -29,7 +29,7 @@ unfoldable pub texts_from : Held → List (List ℕ) → List (List ℕ) → Res
 texts_from held earlier [] = Ok earlier
 texts_from held earlier (path ∷ paths) = and_then (text_at held path) (λ text. texts_from held (earlier ++ text ∷ []) paths)
 
--- Where files are loaded, each is the text at its own path, in order; and of files at fault the first is told: that of the path after
+-- Where files are loaded, each is the text at its own path, in order; and of files at fault the first counts: that of the path after
 -- those that hold texts.
 abbrev pub FilesAreLoadedInOrder : Type 0
 FilesAreLoadedInOrder = (held : Held) (paths texts : List (List ℕ)) → map (text_at held) paths ≡ map Ok texts
@@ -78,7 +78,7 @@ failed_calls None outcome = 0
 failed_calls (Some folder) outcome = failed_stores folder.now outcome
 
 -- how the program ends on a command line that asks for a run, given what it is that so many calls of the disk have failed: the status and what
--- is told are those of the run's outcome; on any other the disk is as it was
+-- is printed are those of the run's outcome; on any other the disk is as it was
 abbrev pub EndsOver : History → Result Asked Stop → ℕ → Streams → FaultStream → Option History → (ℕ → Type 0) → Type 0
 EndsOver h (Ok asked) status s t new HaveFailed =
     (outcome : Result (Unit {0}) RunFault) × RunsOver h asked outcome s new × HaveFailed (failed_calls asked.out outcome)

@@ -37,7 +37,7 @@ abbrev pub failed_writes : {A : Type 0} → Result A RunFault → ℕ
 failed_writes (Err WriteFailed) = 1
 failed_writes _ = 0
 
--- ---- what is told of it
+-- ---- what is printed of it
 
 -- 0 where all went well, 1 for a refusal
 abbrev pub status_of : Result (Unit {0}) RunFault → ℕ
@@ -48,7 +48,7 @@ status_of (Err _) = 1
 abbrev pub usage_status : ℕ
 usage_status = 2
 
--- what is told where a word of the command line is no text
+-- what is printed where a word of the command line is no text
 abbrev pub no_text : List ℕ
 no_text = codes "error: a word of the command line is not text in UTF-8"
 
@@ -62,7 +62,7 @@ abbrev pub WrittenSoFar : List ℕ → (List ℕ → Type 0) → ℕ → ℕ →
 WrittenSoFar text Wrote old_failed new_failed =
     (Wrote text × (new_failed ≡ old_failed)) ⊎ ((written : ℕ) × (written < length text) × Wrote (take written text) × (new_failed ≡ old_failed + 1))
 
--- what is told of an outcome: nothing where all went well; of a refusal its line, as far as the writes go, or nothing, where
+-- what is printed of an outcome: nothing where all went well; of a refusal its line, as far as the writes go, or nothing, where
 -- there was no memory for the line
 abbrev pub Tells : Result (Unit {0}) RunFault → Type 0 → (List ℕ → Type 0) → ℕ → ℕ → Type 0
 Tells (Ok _) Untouched Wrote old_failed new_failed = Untouched

@@ -17,7 +17,7 @@ files_in (Ok outputs) = files_from 0 outputs
 files_in (Err fault) = []
 
 -- How storing ends, by what is called for: well where outputs are; the shelf fails before it has all files; any other refusal is what
--- is called for, and want of memory is told only where nothing is refused.
+-- is called for, and want of memory is answered only where nothing is refused.
 abbrev pub StoresOf : Result (Unit {0}) RunFault → Result (List Output) RunFault → Type 0
 StoresOf (Ok _) wanted = IsOk wanted
 StoresOf (Err (ShelfFailed after)) wanted = after < length (files_in wanted)

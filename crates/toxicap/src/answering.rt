@@ -17,7 +17,7 @@ use std::io::Read;
 use std::sync::Wait;
 use std::thread::Threads;
 
-/// What a rehearsal is told beside its capture and its scenarios.
+/// What a rehearsal is given beside its capture and its scenarios.
 #[derive(Debug, Drop)]
 pub struct Options {
     /// The hosts that upstreams may name.

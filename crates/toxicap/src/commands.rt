@@ -21,11 +21,11 @@ use std::rt::Files;
 use std::sync::Wait;
 use std::thread::Threads;
 
-// What is told of words that are no text.
+// What is printed where a word is no text.
 const NO_TEXT: &[u8] = b"error: a word of the command line is not text in UTF-8";
 
 /// The whole program on the arguments after its name: it reads what they name, the capture from `input` where they name none, rehearses,
-/// prints or stores the outputs, tells a refusal on `faults`, and answers the exit status.
+/// prints or stores the outputs, prints a refusal on `faults`, and answers the exit status.
 ///
 /// The status is 0, 1 for a refusal, whose line is written with a line feed, and 2 for a fault of the command line, whose text is
 /// written; nothing is read then. `--help` and `--version` are written on `output`. Refusals come in this order: hosts, scenario
@@ -64,7 +64,7 @@ where
 /// [`command`] over any disk: its scenario files and its capture are loaded from there, and its outputs stored there.
 ///
 /// Where the disk tells its history, the outcome follows from it: each scenario is the text at its own path, and the capture that at
-/// its path; of several files that are at fault the first is told, in the order of the scenarios, and then the capture. After a run of
+/// its path; of several files that are at fault the first counts, in the order of the scenarios, and then the capture. After a run of
 /// status 0 the files of the outputs have got their names in the folder, and no others have; where the folder fails or memory is wanting, a first part of
 /// them has; at any other refusal, and without `--out`, the disk is as it was. A call of the disk has failed exactly where a file could not be
 /// stored in a folder that has a path. Whenever the run is cut off, each path holds what it held
@@ -116,7 +116,7 @@ where
     }
 }
 
-/// What the program answers where its command line cannot be had, for this error: 1 for want of memory, which is told as any
+/// What the program answers where its command line cannot be had, for this error: 1 for want of memory, which is printed as any
 /// refusal is, and else 2, with a line that says that a word is no text.
 pub fn refuse_words<E: Write>(alloc: Global, error: &Error, faults: &mut Counted<E>) -> u8
     requires { faults.old.failed < 2 ^ 64 - 1 }

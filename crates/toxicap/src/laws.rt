@@ -32,7 +32,7 @@ pub fn outputs_are_read()
     sorted_never_falls();
 }
 
-/// Named files are loaded in order, each at its own path; where some cannot be loaded, the fault of the first of them is told.
+/// Named files are loaded in order, each at its own path; where some cannot be loaded, the fault of the first of them counts.
 pub fn files_are_loaded_in_order()
     ensures { FilesAreLoadedInOrder }
 {}

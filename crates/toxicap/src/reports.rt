@@ -15,8 +15,8 @@ ghost use Rattle.toxicap.specs.PrintedReports.{reports_in};
 ghost use Rattle.toxicap.specs.Rehearsal.{answer, scenario_limit};
 
 use crate::crews::Crew;
-use crate::reading::{SCENARIO_LIMIT, read_inputs, read_rehearsed, read_texts};
 use crate::held_reports::HeldReports;
+use crate::reading::{SCENARIO_LIMIT, read_inputs, read_rehearsed, read_texts};
 use conn_table::Table;
 use conn_workers::laws::lines_are_contributed;
 use pcap_records::{Capture, CaptureFault, FileBytes, KeptHeads};

@@ -8,7 +8,7 @@
  * It calls: `free`, `malloc`, `memcpy`, `memmove`, `memset` and `realloc` of the C library, and linked statically also `__udivti3` of the
  * compiler's own library, which gcc, clang and rustc link by themselves.
  *
- * In use: call with the room that you have (none will do), and where the status is TOXICAP_NO_ROOM make the room that `sizes` tells, and
+ * In use: call with the room that you have (none will do), and where the status is TOXICAP_NO_ROOM make the room that `sizes` says, and
  * call again:
  *
  *     ToxicapSizes sizes;
@@ -44,7 +44,7 @@ extern "C" {
 enum {
     /* Answered: the outputs are written, and `sizes` says how much of each. What stands after that in a buffer is as it was. */
     TOXICAP_ANSWERED = 0,
-    /* Refused: at the start of `reports` stands the line that the program tells, as `refused 5 RecordTooLong at 0`, without a line feed or
+    /* Refused: at the start of `reports` stands the line that the program prints, as `refused 5 RecordTooLong at 0`, without a line feed or
        a zero byte at its end, and `sizes.reports` is its length in bytes. `sizes.captures` and `sizes.lens` are 0; the other buffers are
        as they were. docs/GUIDE.md has all refusals; `refused 40 Memory` is lack of memory. */
     TOXICAP_REFUSED = 1,

@@ -31,7 +31,7 @@ pub(crate) struct Parameters<'a> {
 /// The outputs that the parameters call for, with their sizes.
 ///
 /// # Errors
-/// The first refusal, of the hosts and then of the texts; or a growth was refused, or a size is 2^64 or more, which is told as want of
+/// The first refusal, of the hosts and then of the texts; or a growth was refused, or a size is 2^64 or more, which is answered as want of
 /// memory.
 pub(crate) fn sized_outputs_for(
     alloc: Global,

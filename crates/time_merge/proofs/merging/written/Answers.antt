@@ -37,11 +37,11 @@ taken_first Took ticks segment order i batch (front, took, is) =
     let record_of : Framed → List ℕ = λ x. x.bytes in
     let later : List ℕ = flat_map record_of (map segment (drop i order)) in
     let all : capture_in_turn ticks (map segment order) ≡ front ++ (batch ++ later) =
-        ap (λ (ks : List Place). capture_in_turn ticks (map segment ks)) (sym (take-append-drop i order))
-        ∙ ap (capture_in_turn ticks) (map-append segment (take i order) (drop i order))
-        ∙ ap (λ (bs : List ℕ). file_header ticks ++ bs) (flat_map-append record_of (map segment (take i order)) (map segment (drop i order)))
-        ∙ sym (append_assoc (file_header ticks) (flat_map record_of (map segment (take i order))) later)
-        ∙ ap (λ (bs : List ℕ). bs ++ later) (sym is) ∙ append_assoc front batch later in
+    ap (λ (ks : List Place). capture_in_turn ticks (map segment ks)) (sym (take-append-drop i order))
+    ∙ ap (capture_in_turn ticks) (map-append segment (take i order) (drop i order))
+    ∙ ap (λ (bs : List ℕ). file_header ticks ++ bs) (flat_map-append record_of (map segment (take i order)) (map segment (drop i order)))
+    ∙ sym (append_assoc (file_header ticks) (flat_map record_of (map segment (take i order))) later)
+    ∙ ap (λ (bs : List ℕ). bs ++ later) (sym is) ∙ append_assoc front batch later in
     (length front, subst Took (sym (ap (take (length front)) all ∙ take_at front (batch ++ later) (length front) refl)) took)
 
 pub returns-in_err-make_room-clause-first : goal.returns-in_err-make_room-clause-first

@@ -40,8 +40,11 @@ pub returns-in_err-inputs-clause-faults : goal.returns-in_err-inputs-clause-faul
 returns-in_err-inputs-clause-faults g c =
     let own = c.args.options.now in
     let fault = err_from_is_err_and c.from_residual.result c.from_residual.ensures.1 in
-    rw (fault.1, fault.2) (omega (arith, none_asked c.args.folder.now _
-    (input_fault own.hosts (map (λ t. t.now) c.args.texts.now) own.seed (λ written. Unit {0}) _ c.args.text (c.in_err-inputs.ensures.refused own.seed))))
+    rw (fault.1, fault.2) (omega (
+      arith,
+      none_asked c.args.folder.now _
+          (input_fault own.hosts (map (λ t. t.now) c.args.texts.now) own.seed (λ written. Unit {0}) _ c.args.text (c.in_err-inputs.ensures.refused own.seed)),
+    ))
 
 -- ---- what is left of the disk
 

@@ -1,5 +1,5 @@
 -- The pass over a line that puts its segments into a row.
-use Rattle.std.proofs.Common.{◌≡◌, ℕ, List}
+use Rattle.std.proofs.Common.{ℕ, List}
 use Rattle.reassembly.specs.declared.line_parts.LinePart.{LinePart}
 use Rattle.reassembly.specs.declared.line_parts.End as code
 use Rattle.segment_writer.specs.OpenRows.{IsLonger}
@@ -14,5 +14,4 @@ use Rattle.segment_writer.proofs.TurnSteps.{Going}
 pub record Putting (before now : OpenRow) (s : Sender) (own : List LinePart) (own_end : code.End) (peer : List LinePart) (peer_end : code.End) (from : Cursor) (acknowledged : Acknowledged) (sent place : ℕ) : Type 0 where
   pub list : List Framed
   pub longer : IsLonger before list now
-  pub clients : now.clients.items ≡ before.clients.items
   pub going : Going s own own_end peer peer_end list from acknowledged sent place

@@ -13,15 +13,14 @@ use Rattle.segment_writer.specs.WrittenSegments.{below, has_lower_key, is_key_be
 use Rattle.segment_writer.specs.declared.framed.Framed.{Framed}
 use Rattle.segment_writer.specs.declared.open_rows.OpenRow.{OpenRow}
 use Rattle.segment_writer.specs.declared.open_rows.RowSegment.{RowSegment}
-use Rattle.segment_writer.specs.declared.senders.Sender.{Sender}
 use Rattle.segment_writer.proofs.OneOrderLaw.{one_order}
 use Rattle.segment_writer.proofs.Sorting.{all_moved}
 
 -- ---- of one connection, what is in order is written in order
 
-module _ (clients : List Sender) (gathered : List ℕ) (conn : ℕ) where
+module _ (gathered : List ℕ) (conn : ℕ) where
   abbrev written : RowSegment → Framed
-  written = framed_at clients gathered
+  written = framed_at gathered
 
   abbrev OfConn : Framed → Type 0
   OfConn x = x.key.conn ≡ conn
@@ -47,10 +46,10 @@ module _ (clients : List Sender) (gathered : List ℕ) (conn : ℕ) where
 module _ (before now : OpenRow) (sorted : List RowSegment) (start conn : ℕ) (turns : List Framed) (start_is : start ≡ length before.segments.items) (was : IsLonger before turns now)
     (first : take start sorted ≡ take start now.segments.items) (moved : IsPermutation (drop start now.segments.items) (drop start sorted)) where
   abbrev framed : RowSegment → Framed
-  framed = framed_at now.clients.items now.gathered.items
+  framed = framed_at now.gathered.items
 
   count : length (written_in before) ≡ start
-  count = length-map before.segments.items (framed_at before.clients.items before.gathered.items) ∙ sym start_is
+  count = length-map before.segments.items (framed_at before.gathered.items) ∙ sym start_is
 
   before_is : map framed (take start now.segments.items) ≡ written_in before
   before_is = sym (take-map framed start now.segments.items) ∙ ap (take start) was.written ∙ take_at (written_in before) turns start count
@@ -67,14 +66,14 @@ module _ (before now : OpenRow) (sorted : List RowSegment) (start conn : ℕ) (t
       (subst (λ ys. IsPermutation (take start now.segments.items ++ drop start now.segments.items) ys) (ap (λ xs. xs ++ drop start sorted) (sym first) ∙ take-append-drop start sorted)
       (IsPermutation-append_right (take start now.segments.items) (drop start now.segments.items) (drop start sorted) moved))
 
-  pub rows_stay : AllByRecursion (IsInRow now.clients.items now.gathered.items) sorted
-  rows_stay = all_moved (IsInRow now.clients.items now.gathered.items) now.segments.items sorted all_moved_on was.row
+  pub rows_stay : AllByRecursion (IsInRow now.gathered.items) sorted
+  rows_stay = all_moved (IsInRow now.gathered.items) now.segments.items sorted all_moved_on was.row
 
   pub written_sorted : Ordered (has_lower_key (row_key conn)) (drop start sorted) → All (λ (x : Framed). x.key.conn ≡ conn) turns → HasNoKeyTwice turns → map framed sorted ≡ written_in before ++ sorted_by_key turns
   written_sorted ordered conns once =
       let last : List Framed = map framed (drop start sorted) in
       let falls : Ordered below last =
-      ordered-written now.clients.items now.gathered.items conn (drop start sorted) (All-permutation (λ (x : Framed). x.key.conn ≡ conn) turns last turns_moved conns) ordered in
+      ordered-written now.gathered.items conn (drop start sorted) (All-permutation (λ (x : Framed). x.key.conn ≡ conn) turns last turns_moved conns) ordered in
       let last_is : last ≡ sorted_by_key turns = one_order turns last once turns_moved falls in
       ap (map framed) (sym (take-append-drop start sorted))
       ∙ map-append framed (take start sorted) (drop start sorted)

@@ -1,7 +1,7 @@
 -- Segments in a row, and what stays of them where the row grows.
-use Rattle.std.proofs.Common.{◌≡◌, ◌≤◌, ◌<◌, ℕ, ◌+◌, Bool, true, false, List, [], ◌∷◌, ◌++◌, length, map, take, drop, refl, sym, ap, ap₂, ◌∙◌, subst, arith, append-nil, append_assoc, length-append, length-drop, slice_index_or}
+use Rattle.std.proofs.Common.{◌≡◌, ◌≤◌, ℕ, ◌+◌, Bool, true, false, List, [], ◌∷◌, ◌++◌, length, map, take, drop, refl, sym, ap, ap₂, ◌∙◌, subst, arith, append-nil, append_assoc, length-append, length-drop}
 use Rattle.std.specs.List.{AllByRecursion}
-use Rattle.std.proofs.lemmas.List.{map-append, take-append-le, drop-append-le, get_or_append_left}
+use Rattle.std.proofs.lemmas.List.{map-append, take-append-le, drop-append-le}
 use Rattle.lists.proofs.Lists.{all_weaker, all_push}
 use Rattle.pcap_records.specs.Instants.{ticks_of}
 use Rattle.pcap_records.specs.Writing.{record_bytes}
@@ -9,7 +9,7 @@ use Rattle.frame_headers.specs.Layout.{payload_limit}
 use Rattle.segment_writer.specs.Senders.{frame_with, header_with, in_turn}
 use Rattle.reassembly.specs.declared.line_parts.LinePart.{LinePart}
 use Rattle.segment_writer.specs.SegmentOutlines.{framed_of, side_sender, IsOutline}
-use Rattle.segment_writer.specs.SegmentRows.{payload_in, IsHeld, no_sender, framed_at, client_of, IsInRow}
+use Rattle.segment_writer.specs.SegmentRows.{payload_in, IsHeld, framed_at, sender_of, IsInRow}
 use Rattle.segment_writer.specs.OpenRows.{written_in, IsLonger, IsRow, IsSideOf}
 use Rattle.segment_writer.specs.declared.framed.Framed.{Framed}
 use Rattle.segment_writer.specs.declared.payloads.Payload.{Payload}
@@ -47,69 +47,49 @@ pub held_grows : (gathered more : List ℕ) (p : Payload) → IsHeld gathered p 
 held_grows gathered more (Lent bytes) held = tt
 held_grows gathered more (Gathered start len) held = omega (arith, held, length-append gathered more)
 
--- ---- more connections
-
-pub client_stays : (clients : List Sender) (more : List Sender) (n : ℕ) → n < length clients → slice_index_or (clients ++ more) n no_sender ≡ slice_index_or clients n no_sender
-client_stays clients more n within = get_or_append_left clients more no_sender n within
-
 -- ---- a segment stays as it is
 
-module _ (clients more : List Sender) (gathered bytes : List ℕ) where
-  module _ (s : RowSegment) (is : IsInRow clients gathered s) where
-    same_client : client_of (clients ++ more) s ≡ client_of clients s
-    same_client = client_stays clients more s.client is.client
-
+module _ (gathered bytes : List ℕ) where
+  module _ (s : RowSegment) (is : IsInRow gathered s) where
     same_payload : payload_in (gathered ++ bytes) s.payload ≡ payload_in gathered s.payload
     same_payload = payload_grows gathered bytes s.payload is.held
 
-    pub framed_stays : framed_at (clients ++ more) (gathered ++ bytes) s ≡ framed_at clients gathered s
+    pub framed_stays : framed_at (gathered ++ bytes) s ≡ framed_at gathered s
     framed_stays = λ i. record {
-      key = record { moment = s.moment; conn = (same_client i).conn; turn = s.turn; place = s.place };
-      bytes = record_bytes (ticks_of (side_sender (same_client i) s.is_server).unit) s.moment (frame_with (header_with (side_sender (same_client i) s.is_server) s.seq s.ack s.flags) (same_payload i));
+      key = record { moment = s.moment; conn = s.client.now.conn; turn = s.turn; place = s.place };
+      bytes = record_bytes (ticks_of (sender_of s).unit) s.moment (frame_with (header_with (sender_of s) s.seq s.ack s.flags) (same_payload i));
     }
 
-    pub is_stays : IsInRow (clients ++ more) (gathered ++ bytes) s
+    pub is_stays : IsInRow (gathered ++ bytes) s
     is_stays = record {
-      client = omega (arith, is.client, length-append clients more);
-      early = subst (λ (c : Sender). s.moment < Rattle.pcap_records.specs.Instants.horizon (ticks_of (side_sender c s.is_server).unit)) (sym same_client) is.early;
+      early = is.early;
       held = held_grows gathered bytes s.payload is.held;
       small = subst (λ xs. length xs ≤ payload_limit) (sym same_payload) is.small;
     }
 
-  pub row_stays : (ss : List RowSegment) → AllByRecursion (IsInRow clients gathered) ss → map (framed_at (clients ++ more) (gathered ++ bytes)) ss ≡ map (framed_at clients gathered) ss
-  row_stays ss all = map_same (IsInRow clients gathered) (framed_at (clients ++ more) (gathered ++ bytes)) (framed_at clients gathered) framed_stays ss all
+  pub row_stays : (ss : List RowSegment) → AllByRecursion (IsInRow gathered) ss → map (framed_at (gathered ++ bytes)) ss ≡ map (framed_at gathered) ss
+  row_stays ss all = map_same (IsInRow gathered) (framed_at (gathered ++ bytes)) (framed_at gathered) framed_stays ss all
 
-  pub all_stay : (ss : List RowSegment) → AllByRecursion (IsInRow clients gathered) ss → AllByRecursion (IsInRow (clients ++ more) (gathered ++ bytes)) ss
-  all_stay ss all = all_weaker (IsInRow clients gathered) (IsInRow (clients ++ more) (gathered ++ bytes)) is_stays ss all
+  pub all_stay : (ss : List RowSegment) → AllByRecursion (IsInRow gathered) ss → AllByRecursion (IsInRow (gathered ++ bytes)) ss
+  all_stay ss all = all_weaker (IsInRow gathered) (IsInRow (gathered ++ bytes)) is_stays ss all
 
 -- ---- a row that grows
 
-pub row_grows : (clients all more : List Sender) (gathered now bytes : List ℕ) → all ≡ clients ++ more → now ≡ gathered ++ bytes → (ss : List RowSegment) → AllByRecursion (IsInRow clients gathered) ss
-    → (map (framed_at all now) ss ≡ map (framed_at clients gathered) ss) × AllByRecursion (IsInRow all now) ss
-row_grows clients all more gathered now bytes all_is now_is ss rows =
-    rw (all_is, now_is) (row_stays clients more gathered bytes ss rows, all_stay clients more gathered bytes ss rows)
+pub row_grows : (gathered now bytes : List ℕ) → now ≡ gathered ++ bytes → (ss : List RowSegment) → AllByRecursion (IsInRow gathered) ss
+    → (map (framed_at now) ss ≡ map (framed_at gathered) ss) × AllByRecursion (IsInRow now) ss
+row_grows gathered now bytes now_is ss rows = rw now_is (row_stays gathered bytes ss rows, all_stay gathered bytes ss rows)
 
 -- by one segment
-pub segment_put : (before now : OpenRow) (bytes : List ℕ) (s : RowSegment) (x : Framed) → now.clients.items ≡ before.clients.items → now.gathered.items ≡ before.gathered.items ++ bytes
-    → now.segments.items ≡ before.segments.items ++ s ∷ [] → framed_at now.clients.items now.gathered.items s ≡ x → IsInRow now.clients.items now.gathered.items s → IsRow before → IsLonger before (x ∷ []) now
-segment_put before now bytes s x clients_are gathered_is segments_are framed in_row rows =
-    let written : RowSegment → Framed = framed_at now.clients.items now.gathered.items in
-    let grown = row_grows before.clients.items now.clients.items [] before.gathered.items now.gathered.items bytes (clients_are ∙ sym (append-nil before.clients.items)) gathered_is before.segments.items rows in
+pub segment_put : (before now : OpenRow) (bytes : List ℕ) (s : RowSegment) (x : Framed) → now.gathered.items ≡ before.gathered.items ++ bytes
+    → now.segments.items ≡ before.segments.items ++ s ∷ [] → framed_at now.gathered.items s ≡ x → IsInRow now.gathered.items s → IsRow before → IsLonger before (x ∷ []) now
+segment_put before now bytes s x gathered_is segments_are framed in_row rows =
+    let written : RowSegment → Framed = framed_at now.gathered.items in
+    let grown = row_grows before.gathered.items now.gathered.items bytes gathered_is before.segments.items rows in
     record {
       written = ap (map written) segments_are
           ∙ map-append written before.segments.items (s ∷ [])
           ∙ ap₂ (λ (xs : List Framed) (y : Framed). xs ++ y ∷ []) grown.0 framed;
-      row = subst (AllByRecursion (IsInRow now.clients.items now.gathered.items)) (sym segments_are) (all_push (IsInRow now.clients.items now.gathered.items) before.segments.items s grown.1 in_row);
-    }
-
--- by none: a client alone
-pub client_put : (before now : OpenRow) (more : List Sender) → now.clients.items ≡ before.clients.items ++ more → now.gathered.items ≡ before.gathered.items → now.segments.items ≡ before.segments.items
-    → IsRow before → IsLonger before [] now
-client_put before now more clients_are gathered_is segments_are rows =
-    let grown = row_grows before.clients.items now.clients.items more before.gathered.items now.gathered.items [] clients_are (gathered_is ∙ sym (append-nil before.gathered.items)) before.segments.items rows in
-    record {
-      written = ap (map (framed_at now.clients.items now.gathered.items)) segments_are ∙ grown.0 ∙ sym (append-nil (written_in before));
-      row = subst (AllByRecursion (IsInRow now.clients.items now.gathered.items)) (sym segments_are) grown.1;
+      row = subst (AllByRecursion (IsInRow now.gathered.items)) (sym segments_are) (all_push (IsInRow now.gathered.items) before.segments.items s grown.1 in_row);
     }
 
 pub longer_not : (row : OpenRow) → IsRow row → IsLonger row [] row
@@ -121,20 +101,15 @@ longer_on a b c xs ys first next = record {
   row = next.row;
 }
 
--- ---- who sends in a turn
-
-pub same_side : (clients now : List Sender) (number : ℕ) (s : Sender) → now ≡ clients → IsSideOf clients number s → IsSideOf now number s
-same_side clients now number s are side = subst (λ all. IsSideOf all number s) (sym are) side
-
 -- ---- the outline of a segment that is sent in a turn
 
-module _ (clients : List Sender) (number : ℕ) (s : Sender) (own : List LinePart) (l : SegmentOutline) (side : IsSideOf clients number s) (outline : IsOutline s own l) where
+module _ (client s : Sender) (own : List LinePart) (l : SegmentOutline) (side : IsSideOf client s) (outline : IsOutline s own l) where
   -- who sends it, in that turn
   abbrev pub sender_now : Sender
-  sender_now = side_sender (slice_index_or clients number no_sender) l.is_server
+  sender_now = side_sender client l.is_server
 
   sent_by : in_turn sender_now s.turn ≡ s
-  sent_by = ap (λ (b : Bool). in_turn (side_sender (slice_index_or clients number no_sender) b) s.turn) outline.side ∙ side.side
+  sent_by = ap (λ (b : Bool). in_turn (side_sender client b) s.turn) outline.side ∙ side
 
   pub side_framed : framed_of sender_now own l ≡ framed_of s own l
   side_framed = ap (λ (t : Sender). framed_of t own l) sent_by

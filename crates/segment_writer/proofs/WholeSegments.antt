@@ -8,6 +8,8 @@ use Rattle.reassembly.specs.LineView.{bytes_of_parts, end_view, line_of}
 use Rattle.reassembly.specs.declared.line_parts.LinePart.{LinePart}
 use Rattle.reassembly.specs.declared.line_parts.End as code
 use Rattle.reassembly.specs.LineLaws.{IsInChunks, GoesOn, IsNotBefore, last_instant}
+use Rattle.toxic_defs.specs.DeliveredLines.{DeliveredConnection}
+use Rattle.segment_writer.specs.Endpoints.{connection_between, endpoints_by, IsClient}
 use Rattle.segment_writer.specs.WrittenSegments.{WrittenConnection, frame_bytes, sorted_by_key, opening_turn, up_turn, down_turn, segments_before_horizon, written_segments}
 use Rattle.segment_writer.specs.TimelyLines.{Climbs, LinesAreTimely}
 use Rattle.segment_writer.specs.Senders.{client_in, peer_in, line_written, opening_by, opening_written, connection_written}
@@ -34,6 +36,23 @@ opening_is : (unit : Unit) (refused : Bool) (c : WrittenConnection) → opening_
 unfolding frame_bytes
 opening_is unit true c = refl
 opening_is unit false c = refl
+
+-- ---- the client that sends in the opening is that of the connection between its endpoints
+
+pub client_is : (s : Sender) (opened : ℕ) (d : DeliveredConnection) → IsClient s → s ≡ client_in s.unit (connection_between (endpoints_by s opened) d) Opening
+client_is s opened d is = λ i. record {
+  unit = s.unit;
+  conn = s.conn;
+  turn = is.turn i;
+  is_server = is.side i;
+  mac_from = s.mac_from;
+  mac_to = s.mac_to;
+  vlan = s.vlan;
+  from = s.from;
+  to = s.to;
+  base = s.base;
+  peer_base = s.peer_base;
+}
 
 -- ---- the three turns, by a client of a unit of so many ticks
 

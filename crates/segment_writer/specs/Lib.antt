@@ -11,3 +11,4 @@ pub mod KeyLaws
 pub mod SentRows
 pub mod SegmentRows
 pub mod OpenRows
+pub mod Endpoints

@@ -1,8 +1,7 @@
 -- What is written of segments that stand in a row, side by side.
-use Rattle.std.specs.Prelude.{◌≤◌, ◌<◌, ℕ, ◌+◌, false, List, [], None, drop, length, slice_index_or, take}
+use Rattle.std.specs.Prelude.{◌≤◌, ◌<◌, ℕ, ◌+◌, List, [], drop, length, take}
 use Rattle.pcap_records.specs.Instants.{horizon, ticks_of}
 use Rattle.pcap_records.specs.Writing.{record_bytes}
-use Rattle.pcap_records.specs.declared.unit.Unit.TheVariants.{Micros}
 use Rattle.frame_headers.specs.Layout.{payload_limit}
 use Rattle.segment_writer.specs.Senders.{frame_with, header_with}
 use Rattle.segment_writer.specs.SegmentOutlines.{side_sender}
@@ -11,7 +10,6 @@ use Rattle.segment_writer.specs.declared.payloads.Payload.{Payload}
 use Rattle.segment_writer.specs.declared.payloads.Payload.TheVariants.{Lent, Gathered}
 use Rattle.segment_writer.specs.declared.open_rows.RowSegment.{RowSegment}
 use Rattle.segment_writer.specs.declared.senders.Sender.{Sender}
-use Rattle.segment_writer.specs.declared.senders.Turn.TheVariants.{Opening}
 
 -- ---- payloads
 
@@ -32,38 +30,18 @@ gathered_for bytes (Gathered start len) = bytes
 
 -- ---- segments
 
-abbrev pub no_sender : Sender
-no_sender = record {
-  unit = Micros;
-  conn = 0;
-  turn = Opening;
-  is_server = false;
-  mac_from = [];
-  mac_to = [];
-  vlan = None;
-  from = record { addr = 0; port = 0 };
-  to = record { addr = 0; port = 0 };
-  base = 0;
-  peer_base = 0;
-}
-
--- the client of a segment's connection, of the clients of all
-abbrev pub client_of : List Sender → RowSegment → Sender
-client_of clients s = slice_index_or clients s.client no_sender
-
 -- who sends it
-abbrev pub sender_of : List Sender → RowSegment → Sender
-sender_of clients s = side_sender (client_of clients s) s.is_server
+abbrev pub sender_of : RowSegment → Sender
+sender_of s = side_sender s.client.now s.is_server
 
-abbrev pub framed_at : List Sender → List ℕ → RowSegment → Framed
-framed_at clients gathered s = record {
-  key = record { moment = s.moment; conn = (client_of clients s).conn; turn = s.turn; place = s.place };
-  bytes = record_bytes (ticks_of (sender_of clients s).unit) s.moment (frame_with (header_with (sender_of clients s) s.seq s.ack s.flags) (payload_in gathered s.payload));
+abbrev pub framed_at : List ℕ → RowSegment → Framed
+framed_at gathered s = record {
+  key = record { moment = s.moment; conn = s.client.now.conn; turn = s.turn; place = s.place };
+  bytes = record_bytes (ticks_of (sender_of s).unit) s.moment (frame_with (header_with (sender_of s) s.seq s.ack s.flags) (payload_in gathered s.payload));
 }
 
--- its client is one of these, it is before the horizon, and its payload is there and fits
-pub record IsInRow (clients : List Sender) (gathered : List ℕ) (s : RowSegment) : Type 0 where
-  pub client : s.client < length clients
-  pub early : s.moment < horizon (ticks_of (sender_of clients s).unit)
+-- it is before the horizon, and its payload is there and fits
+pub record IsInRow (gathered : List ℕ) (s : RowSegment) : Type 0 where
+  pub early : s.moment < horizon (ticks_of (sender_of s).unit)
   pub held : IsHeld gathered s.payload
   pub small : length (payload_in gathered s.payload) ≤ payload_limit

@@ -1,20 +1,23 @@
 //! All segments of a connection as they are written.
 ghost use Rattle.std.specs.Prelude.{◌≡◌, ◌++◌, false, IfOk, OnOk};
+ghost use Rattle.pcap_records.specs.Instants.{ticks_of};
 ghost use Rattle.reassembly.specs.LineLaws.{IsLine};
 ghost use Rattle.reassembly.specs.LineView.{line_of};
 ghost use Rattle.reassembly.specs.RecordedView.{recorded_view};
 ghost use Rattle.toxic_defs.specs.DeliveredLines.{delivered_view};
-ghost use Rattle.segment_writer.specs.OpenRows.{IsLonger, IsRow, IsSideOf};
+ghost use Rattle.segment_writer.specs.Endpoints.{connection_between, endpoints_by, IsClient};
+ghost use Rattle.segment_writer.specs.OpenRows.{IsLonger, IsRow};
 ghost use Rattle.segment_writer.specs.WrittenConnections.{written_connection};
 ghost use Rattle.segment_writer.specs.WrittenSegments.{written_segments};
 ghost use Rattle.segment_writer.specs.Senders.{peer_in, connection_written, opening_written, turns_written};
 ghost use Rattle.segment_writer.specs.declared.senders.Turn.TheVariants.{Opening};
 ghost use Rattle.segment_writer.specs.TimelyLines.{IsTimely};
 
+use crate::endpoints::Endpoints;
 use crate::framed::SegList;
 use crate::open_rows::{OpenRow, put_bare, sort_from};
 use crate::segment_rows::SegmentRow;
-use crate::senders::{Numbers, Sender, Turn, client_in, in_turn, peer_in};
+use crate::senders::{Numbers, Sender, Turn, in_turn, peer_in};
 use crate::turns::put_line;
 use conn_table::Conn;
 use frame_headers::Flags;
@@ -49,28 +52,28 @@ pub fn segments(
         up,
         down,
     };
-    let row = SegmentRow::none(alloc).with_connection(conn, recorded, copy)?;
+    let endpoints = Endpoints::of(conn, recorded);
+    let row = SegmentRow::none(alloc).with_connection(&endpoints, copy)?;
     row.written(alloc)
 }
 
-/// Puts the segments of a connection, as [`segments`] gives them, after those of a row.
+/// Puts the segments of a connection, as [`segments`] gives them, after those of a row. Its client is that of the opening.
 ///
 /// # Errors
 /// Where a growth is refused; what was delivered is then dropped.
-pub(crate) fn put_connection<'a>(
-    row: &mut OpenRow<'a>,
-    conn: &Conn,
-    recorded: &Recorded<'_>,
+pub(crate) fn put_connection<'w, 'a>(
+    row: &mut OpenRow<'w, 'a>,
+    client: &'w Sender,
+    opened: Moment,
     delivered: Delivered<'a>,
 ) -> Result<(), AllocError>
+    requires client { IsClient client.now }
     requires up { IsLine delivered.up.line }
     requires down { IsLine delivered.down.line }
     requires row { IsRow row.old }
-    ensures { OnOk result (IsLonger row.old (written_segments recorded.now.up.ticks
-        (written_connection conn.now.number conn.now.vlan conn.now.client conn.now.server (recorded_view recorded.now)
-        (delivered_view delivered.entry))) row.new) }
+    ensures { OnOk result (IsLonger row.old (written_segments (ticks_of client.now.unit)
+        (connection_between (endpoints_by client.now opened) (delivered_view delivered.entry))) row.new) }
 {
-    let client = client_in(conn, recorded, Turn::Opening);
     let Delivered {
         proxy: _,
         refused,
@@ -82,21 +85,14 @@ pub(crate) fn put_connection<'a>(
     let ups = up.into_parts();
     let downs = down.into_parts();
     put_in_order(
-        row,
-        &client,
-        recorded.opened,
-        refused,
-        &ups,
-        &up_end,
-        &downs,
-        &down_end,
+        row, client, opened, refused, &ups, &up_end, &downs, &down_end,
     )
 }
 
 // Puts the segments of a connection, of its client in the opening and the parts and ends of what is delivered, in order of key.
-fn put_in_order<'a>(
-    row: &mut OpenRow<'a>,
-    client: &Sender,
+fn put_in_order<'w, 'a>(
+    row: &mut OpenRow<'w, 'a>,
+    client: &'w Sender,
     at: Moment,
     refused: bool,
     up: &[LinePart<'a>],
@@ -104,8 +100,7 @@ fn put_in_order<'a>(
     down: &[LinePart<'a>],
     down_end: &End,
 ) -> Result<(), AllocError>
-    requires client { client.now.is_server ≡ false }
-    requires turn { client.now.turn ≡ Opening }
+    requires client { IsClient client.now }
     requires up { IsTimely (line_of up.now up_end.now) }
     requires down { IsTimely (line_of down.now down_end.now) }
     requires row { IsRow row.old }
@@ -118,10 +113,10 @@ fn put_in_order<'a>(
     Ok(())
 }
 
-// Puts the segments of a connection, turn by turn, and its client.
-fn put_turns<'a>(
-    row: &mut OpenRow<'a>,
-    client: &Sender,
+// Puts the segments of a connection, turn by turn.
+fn put_turns<'w, 'a>(
+    row: &mut OpenRow<'w, 'a>,
+    client: &'w Sender,
     at: Moment,
     refused: bool,
     up: &[LinePart<'a>],
@@ -136,52 +131,47 @@ fn put_turns<'a>(
     ensures { OnOk result (IsLonger row.old
         (turns_written refused client.now at (line_of up.now up_end.now) (line_of down.now down_end.now)) row.new) }
 {
-    let number = row.clients.len();
-    row.clients.push(*client)?;
-    put_opening(row, number, client, at, refused)?;
+    put_opening(row, client, at, refused)?;
     let upward = in_turn(client, Turn::ClientLine);
-    put_line(row, number, &upward, up, up_end, down, down_end)?;
+    put_line(row, client, &upward, up, up_end, down, down_end)?;
     let downward = peer_in(client, Turn::ServerLine);
-    put_line(row, number, &downward, down, down_end, up, up_end)
+    put_line(row, client, &downward, down, down_end, up, up_end)
 }
 
 // Puts SYN, SYN ACK and ACK (RFC 9293 section 3.5), or SYN and RST ACK where the connection is refused. At the horizon there are none.
-fn put_opening(
-    row: &mut OpenRow<'_>,
-    number: usize,
-    client: &Sender,
+fn put_opening<'w>(
+    row: &mut OpenRow<'w, '_>,
+    client: &'w Sender,
     at: Moment,
     refused: bool,
 ) -> Result<(), AllocError>
     requires client { client.now.is_server ≡ false }
-    requires side { IsSideOf row.old.clients.items number client.now }
     requires row { IsRow row.old }
-    ensures longer { OnOk result (IsLonger row.old (opening_written refused client.now (peer_in client.now Opening) at) row.new) }
-    ensures clients { OnOk result (row.new.clients.items ≡ row.old.clients.items) }
+    ensures { OnOk result (IsLonger row.old (opening_written refused client.now (peer_in client.now Opening) at) row.new) }
 {
     let server = peer_in(client, Turn::Opening);
     if !at.is_before_horizon(client.unit) {
         return Ok(());
     }
     let syn = numbers(client.base, 0, 0);
-    put_bare(row, number, client, at, syn, Flags::SYN)?;
+    put_bare(row, client, client, at, syn, Flags::SYN)?;
     let client_next = client.base.wrapping_add(1);
     if refused {
         let refusal = numbers(0, client_next, 1);
         let flags = Flags::RST.with(Flags::ACK);
-        return put_bare(row, number, &server, at, refusal, flags);
+        return put_bare(row, client, &server, at, refusal, flags);
     }
     let answer = numbers(server.base, client_next, 1);
     put_bare(
         row,
-        number,
+        client,
         &server,
         at,
         answer,
         Flags::SYN.with(Flags::ACK),
     )?;
     let third = numbers(client_next, server.base.wrapping_add(1), 2);
-    put_bare(row, number, client, at, third, Flags::ACK)
+    put_bare(row, client, client, at, third, Flags::ACK)
 }
 
 // The numbers of a segment of the opening.

@@ -2,6 +2,7 @@
 #![tactic(auto)]
 
 mod connection_segments;
+mod endpoints;
 mod framed;
 mod keyed;
 pub mod laws;
@@ -15,5 +16,6 @@ mod senders;
 mod turns;
 
 pub use connection_segments::segments;
+pub use endpoints::Endpoints;
 pub use framed::{Framed, Keys, RecordBytes, SegKey, SegList};
 pub use segment_rows::SegmentRow;

@@ -1,15 +1,14 @@
 //! Rows of written segments whose fields are open, and how segments are put into them.
-ghost use Rattle.std.specs.Prelude.{◌≡◌, ◌<◌, ◌≤◌, ◌++◌, [], ◌∷◌, ℕ, List, OnOk, drop, length, slice_index_or, take};
+ghost use Rattle.std.specs.Prelude.{◌≡◌, ◌<◌, ◌≤◌, ◌++◌, [], ◌∷◌, ℕ, List, OnOk, drop, length, take};
 ghost use Rattle.std.specs.List.Sorted.{IsPermutation};
 ghost use Rattle.pcap_records.specs.Instants.{horizon, ticks_of};
 ghost use Rattle.reassembly.specs.declared.line_parts.LinePart.{LinePart};
 ghost use Rattle.segment_writer.specs.OrderedLists.{Ordered};
 ghost use Rattle.segment_writer.specs.SegmentOutlines.{framed_of, outlined_payload, side_sender, IsOutline};
-ghost use Rattle.segment_writer.specs.SegmentRows.{framed_at, no_sender, payload_in, IsHeld, IsInRow};
+ghost use Rattle.segment_writer.specs.SegmentRows.{framed_at, payload_in, IsHeld, IsInRow};
 ghost use Rattle.segment_writer.specs.OpenRows.{row_key, IsLonger, IsRow, IsSideOf};
 ghost use Rattle.segment_writer.specs.Senders.{framed_by};
 ghost use Rattle.segment_writer.specs.WrittenSegments.{has_lower_key, opening_segment};
-ghost use Rattle.segment_writer.specs.declared.senders.Sender.{Sender};
 
 use crate::framed::SegKey;
 use crate::payloads::{Payload, payload_of};
@@ -21,12 +20,12 @@ use pcap_records::Moment;
 use reassembly::LinePart;
 use std::alloc::AllocError;
 
-/// A segment in a row: all of it but the bytes of its headers. `client` is the number of its connection's client among those of the row.
+/// A segment in a row: all of it but the bytes of its headers. `client` is that of its connection, in the opening.
 #[derive(Clone, Copy, Debug)]
-pub(crate) struct RowSegment<'a> {
+pub(crate) struct RowSegment<'w, 'a> {
     pub(crate) moment: Moment,
     pub(crate) payload: Payload<'a>,
-    pub(crate) client: usize,
+    pub(crate) client: &'w Sender,
     pub(crate) place: u32,
     pub(crate) seq: u32,
     pub(crate) ack: u32,
@@ -37,82 +36,75 @@ pub(crate) struct RowSegment<'a> {
 
 /// A row of written segments that is put together.
 #[derive(Debug, Drop)]
-pub(crate) struct OpenRow<'a> {
-    /// Of each connection.
-    pub(crate) clients: Vec<Sender>,
+pub(crate) struct OpenRow<'w, 'a> {
     /// The payloads that no single slice of the capture has.
     pub(crate) gathered: Vec<u8>,
     /// The segments, one connection after another.
-    pub(crate) segments: Vec<RowSegment<'a>>,
+    pub(crate) segments: Vec<RowSegment<'w, 'a>>,
 }
 
-/// Puts the segment of an outline after the others. Its sender is the client with this number, or that client's server.
+/// Puts the segment of an outline after the others. Its sender is this client, or the client's server.
 ///
 /// # Errors
 /// Where a growth is refused.
-pub(crate) fn put_segment<'a>(
-    row: &mut OpenRow<'a>,
-    number: usize,
+pub(crate) fn put_segment<'w, 'a>(
+    row: &mut OpenRow<'w, 'a>,
+    client: &'w Sender,
     own: &[LinePart<'a>],
     outline: &SegmentOutline,
 ) -> Result<(), AllocError>
-    requires client { number < length row.old.clients.items }
-    requires outline { IsOutline (side_sender (slice_index_or row.old.clients.items number no_sender) outline.now.is_server) own.now outline.now }
+    requires outline { IsOutline (side_sender client.now outline.now.is_server) own.now outline.now }
     requires row { IsRow row.old }
-    ensures longer { OnOk result (IsLonger row.old
-        (framed_of (side_sender (slice_index_or row.old.clients.items number no_sender) outline.now.is_server) own.now outline.now ∷ []) row.new) }
-    ensures clients { OnOk result (row.new.clients.items ≡ row.old.clients.items) }
+    ensures { OnOk result (IsLonger row.old (framed_of (side_sender client.now outline.now.is_server) own.now outline.now ∷ []) row.new) }
 {
     let payload = payload_of(&mut row.gathered, own, outline)?;
-    let segment = segment_in_row(number, outline, payload);
+    let segment = segment_in_row(client, outline, payload);
     row.segments.extend_from_slice(&[segment])?;
     Ok(())
 }
 
-/// Puts a segment without payload after the others, which the client with this number sends, or that client's server.
+/// Puts a segment without payload after the others, which this client sends, or the client's server.
 ///
 /// # Errors
 /// Where a growth is refused.
-pub(crate) fn put_bare(
-    row: &mut OpenRow<'_>,
-    number: usize,
+pub(crate) fn put_bare<'w>(
+    row: &mut OpenRow<'w, '_>,
+    client: &'w Sender,
     sender: &Sender,
     at: Moment,
     numbers: Numbers,
     flags: Flags,
 ) -> Result<(), AllocError>
     requires early { at < horizon (ticks_of sender.now.unit) }
-    requires side { IsSideOf row.old.clients.items number sender.now }
+    requires side { IsSideOf client.now sender.now }
     requires row { IsRow row.old }
-    ensures longer { OnOk result (IsLonger row.old
+    ensures { OnOk result (IsLonger row.old
         (framed_by sender.now (numbers.place, opening_segment at numbers.seq numbers.ack flags) ∷ []) row.new) }
-    ensures clients { OnOk result (row.new.clients.items ≡ row.old.clients.items) }
 {
     let outline = bare_outline(sender, at, numbers, flags);
-    put_segment(row, number, &[], &outline)
+    put_segment(row, client, &[], &outline)
 }
 
-// The segment of an outline, of the connection whose client has this number, with its payload.
-fn segment_in_row<'a>(
-    number: usize,
+// The segment of an outline, of the connection of this client, with its payload.
+fn segment_in_row<'w, 'a>(
+    client: &'w Sender,
     outline: &SegmentOutline,
     payload: Payload<'a>,
-) -> RowSegment<'a>
-    ensures framed { (clients : List Sender) (own : List LinePart) (gathered : List ℕ)
-        → IsOutline (side_sender (slice_index_or clients number no_sender) outline.now.is_server) own outline.now
+) -> RowSegment<'w, 'a>
+    ensures framed { (own : List LinePart) (gathered : List ℕ)
+        → IsOutline (side_sender client.now outline.now.is_server) own outline.now
         → payload_in gathered payload.entry ≡ outlined_payload own outline.now
-        → framed_at clients gathered result ≡ framed_of (side_sender (slice_index_or clients number no_sender) outline.now.is_server) own outline.now }
-    ensures row { (clients : List Sender) (own : List LinePart) (gathered : List ℕ)
-        → IsOutline (side_sender (slice_index_or clients number no_sender) outline.now.is_server) own outline.now
-        → number < length clients
+        → framed_at gathered result ≡ framed_of (side_sender client.now outline.now.is_server) own outline.now }
+    ensures row { (own : List LinePart) (gathered : List ℕ)
+        → IsOutline (side_sender client.now outline.now.is_server) own outline.now
         → payload_in gathered payload.entry ≡ outlined_payload own outline.now
         → IsHeld gathered payload.entry
-        → IsInRow clients gathered result }
+        → IsInRow gathered result }
 {
     RowSegment {
         moment: outline.key.moment,
         payload,
-        client: number,
+        client,
         place: outline.key.place,
         seq: outline.seq,
         ack: outline.ack,
@@ -123,7 +115,7 @@ fn segment_in_row<'a>(
 }
 
 /// Puts the segments from `start` on in order of key, those of the connection with this number.
-pub(crate) fn sort_from(segments: &mut Vec<RowSegment<'_>>, start: usize, conn: u32)
+pub(crate) fn sort_from(segments: &mut Vec<RowSegment<'_, '_>>, start: usize, conn: u32)
     requires { start ≤ length segments.old.items }
     ensures first { take start segments.new.items ≡ take start segments.old.items }
     ensures moved { IsPermutation (drop start segments.old.items) (drop start segments.new.items) }
@@ -133,7 +125,7 @@ pub(crate) fn sort_from(segments: &mut Vec<RowSegment<'_>>, start: usize, conn: 
 }
 
 // Puts segments of the connection with this number in order of key.
-fn sort_segments(segments: &mut [RowSegment<'_>], conn: u32)
+fn sort_segments(segments: &mut [RowSegment<'_, '_>], conn: u32)
     ensures moved { IsPermutation segments.old segments.new }
     ensures count { length segments.new ≡ length segments.old }
     ensures ordered { Ordered (has_lower_key (row_key conn)) segments.new }

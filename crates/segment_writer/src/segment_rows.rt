@@ -2,34 +2,33 @@
 ghost use Rattle.std.specs.Prelude.{◌≡◌, ◌++◌, [], ℕ, Bool, IfOk, length, min};
 ghost use Rattle.pcap_records.specs.Writing.{record_bytes};
 ghost use Rattle.reassembly.specs.LineLaws.{IsLine};
-ghost use Rattle.reassembly.specs.RecordedView.{recorded_view};
 ghost use Rattle.toxic_defs.specs.DeliveredLines.{delivered_view};
+ghost use Rattle.segment_writer.specs.Endpoints.{connection_between};
 ghost use Rattle.segment_writer.specs.SegmentOutlines.{side_sender};
 ghost use Rattle.segment_writer.specs.Senders.{frame_with, header_with};
-ghost use Rattle.segment_writer.specs.WrittenConnections.{written_connection};
 ghost use Rattle.segment_writer.specs.WrittenSegments.{written_segments};
 
 use crate::connection_segments::put_connection;
+use crate::endpoints::Endpoints;
 use crate::framed::{Framed, Keys, SegKey, SegList};
 use crate::open_rows::OpenRow;
 use crate::payloads::payload_bytes;
 use crate::records::{put_record, record_len};
 use crate::segment_outline::side_sender;
 use crate::senders::{Sender, header_with};
-use conn_table::Conn;
 use pcap_records::Values;
-use reassembly::Recorded;
 use std::alloc::{AllocError, Global};
 use std::marker::Model;
 use toxic_defs::Delivered;
 
-/// The written segments of connections, one connection after another. Contracts see them as they are written.
+/// The written segments of connections, one connection after another, whose endpoints and payloads are borrowed. Contracts see them as
+/// they are written.
 #[derive(Debug, Drop)]
-pub struct SegmentRow<'a> {
-    row: OpenRow<'a>,
+pub struct SegmentRow<'w, 'a> {
+    row: OpenRow<'w, 'a>,
 }
 
-impl<'a> Model for SegmentRow<'a> {
+impl<'w, 'a> Model for SegmentRow<'w, 'a> {
     ghost use Rattle.std.specs.Prelude.{List};
     ghost use Rattle.segment_writer.specs.declared.framed.Framed.{Framed};
     ghost use Rattle.segment_writer.specs.OpenRows.{written_in, IsRow};
@@ -41,38 +40,35 @@ impl<'a> Model for SegmentRow<'a> {
     ghost invariant = { λ r. IsRow r.row };
 }
 
-impl<'a> SegmentRow<'a> {
+impl<'w, 'a> SegmentRow<'w, 'a> {
     /// No segments.
-    pub fn none(alloc: Global) -> SegmentRow<'a>
+    pub fn none(alloc: Global) -> SegmentRow<'w, 'a>
         ensures { result ≡ [] }
     {
         SegmentRow {
             row: OpenRow {
-                clients: Vec::new(alloc),
                 gathered: Vec::new(alloc),
                 segments: Vec::new(alloc),
             },
         }
     }
 
-    /// The same with the segments of a connection after them, as [`segments`](crate::segments) gives them.
+    /// The same with the segments of a connection between these endpoints after them, as [`segments`](crate::segments) gives them.
     ///
     /// # Errors
     /// Where a growth is refused; both are then dropped.
     pub fn with_connection(
         self,
-        conn: &Conn,
-        recorded: &Recorded<'_>,
+        endpoints: &'w Endpoints,
         delivered: Delivered<'a>,
-    ) -> Result<SegmentRow<'a>, AllocError>
+    ) -> Result<SegmentRow<'w, 'a>, AllocError>
         requires up { IsLine delivered.up.line }
         requires down { IsLine delivered.down.line }
-        ensures { IfOk result (λ row. row ≡ self.entry ++ written_segments recorded.now.up.ticks
-            (written_connection conn.now.number conn.now.vlan conn.now.client conn.now.server (recorded_view recorded.now)
-            (delivered_view delivered.entry))) }
+        ensures { IfOk result (λ row. row ≡ self.entry
+            ++ written_segments endpoints.now.ticks (connection_between endpoints.now (delivered_view delivered.entry))) }
     {
         let SegmentRow { mut row } = self;
-        put_connection(&mut row, conn, recorded, delivered)?;
+        put_connection(&mut row, &endpoints.client, endpoints.opened, delivered)?;
         Ok(SegmentRow { row })
     }
 
@@ -96,7 +92,7 @@ impl<'a> SegmentRow<'a> {
     }
 }
 
-impl Keys for SegmentRow<'_> {
+impl Keys for SegmentRow<'_, '_> {
     ghost segments = { λ l. l };
 
     fn count(&self) -> usize {
@@ -107,7 +103,7 @@ impl Keys for SegmentRow<'_> {
         let segment = &self.row.segments[index];
         SegKey {
             moment: segment.moment,
-            conn: self.row.clients[segment.client].conn,
+            conn: segment.client.conn,
             turn: segment.turn,
             place: segment.place,
         }
@@ -116,7 +112,7 @@ impl Keys for SegmentRow<'_> {
     fn record_len(&self, index: usize) -> usize {
         let segment = &self.row.segments[index];
         let payload = payload_bytes(&self.row.gathered, &segment.payload);
-        sent_len(&self.row.clients[segment.client], payload)
+        sent_len(segment.client, payload)
     }
 
     fn written_len(&self) -> usize {
@@ -129,7 +125,7 @@ impl Keys for SegmentRow<'_> {
 
     fn put(&self, index: usize, out: &mut Vec<u8>) -> Result<(), AllocError> {
         let segment = &self.row.segments[index];
-        let sender = side_sender(&self.row.clients[segment.client], segment.is_server);
+        let sender = side_sender(segment.client, segment.is_server);
         let header = header_with(&sender, segment.seq, segment.ack, segment.flags);
         let payload = payload_bytes(&self.row.gathered, &segment.payload);
         put_record(out, sender.unit, segment.moment, &header, payload)

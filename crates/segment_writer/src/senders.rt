@@ -1,16 +1,10 @@
 //! Who sends segments, and what the headers of these say.
 ghost use Rattle.std.specs.Prelude.{◌≡◌};
-ghost use Rattle.pcap_records.specs.Instants.{ticks_of};
-ghost use Rattle.reassembly.specs.RecordedView.{recorded_view};
-ghost use Rattle.toxic_defs.specs.DeliveredLines.{DeliveredConnection};
-ghost use Rattle.segment_writer.specs.WrittenConnections.{written_connection};
-ghost use Rattle.segment_writer.specs.Senders.{client_in, peer_in, in_turn, header_with, turn_number};
+ghost use Rattle.segment_writer.specs.Senders.{peer_in, in_turn, header_with, turn_number};
 
 use crate::framed::SegKey;
-use conn_table::Conn;
 use frame_headers::{Flags, Header, Peer};
 use pcap_records::{Moment, Unit};
-use reassembly::Recorded;
 
 /// Whose turn it is to write. At one instant a connection's turns write in this order.
 #[derive(Clone, Copy, Debug)]
@@ -61,29 +55,6 @@ pub(crate) struct Numbers {
     pub seq: u32,
     pub ack: u32,
     pub place: u32,
-}
-
-/// The client of a connection, in a turn.
-pub(crate) fn client_in(conn: &Conn, recorded: &Recorded<'_>, turn: Turn) -> Sender
-    ensures ticks { ticks_of result.unit ≡ recorded.now.up.ticks }
-    ensures sender { (d : DeliveredConnection) → result ≡ client_in result.unit
-        (written_connection conn.now.number conn.now.vlan conn.now.client conn.now.server (recorded_view recorded.now) d) turn }
-{
-    let mac_from = recorded.mac_client;
-    let mac_to = recorded.mac_server;
-    Sender {
-        unit: recorded.up.unit(),
-        conn: conn.number,
-        turn,
-        is_server: false,
-        mac_from,
-        mac_to,
-        vlan: conn.vlan,
-        from: conn.client,
-        to: conn.server,
-        base: recorded.client_base,
-        peer_base: recorded.server_base.unwrap_or(0),
-    }
 }
 
 /// Who answers a sender, in a turn.

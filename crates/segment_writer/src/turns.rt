@@ -20,13 +20,14 @@ use pcap_records::{Moment, Unit};
 use reassembly::{End, LinePart};
 use std::alloc::AllocError;
 
-/// Puts the segments of a line, which the peer's line goes with. Nothing is written at the horizon.
+/// Puts the segments of a line that this client sends, or the client's server, and which the peer's line goes with. Nothing is written at the
+/// horizon.
 ///
 /// # Errors
 /// Where a growth is refused.
-pub(crate) fn put_line<'a>(
-    row: &mut OpenRow<'a>,
-    number: usize,
+pub(crate) fn put_line<'w, 'a>(
+    row: &mut OpenRow<'w, 'a>,
+    client: &'w Sender,
     sender: &Sender,
     own: &[LinePart<'a>],
     own_end: &End,
@@ -35,11 +36,10 @@ pub(crate) fn put_line<'a>(
 ) -> Result<(), AllocError>
     requires own { IsTimely (line_of own.now own_end.now) }
     requires peer { IsTimely (line_of peer.now peer_end.now) }
-    requires side { IsSideOf row.old.clients.items number sender.now }
+    requires side { IsSideOf client.now sender.now }
     requires row { IsRow row.old }
-    ensures longer { OnOk result (IsLonger row.old
+    ensures { OnOk result (IsLonger row.old
         (line_written sender.now (line_of own.now own_end.now) (line_of peer.now peer_end.now)) row.new) }
-    ensures clients { OnOk result (row.new.clients.items ≡ row.old.clients.items) }
 {
     let mut from = Cursor {
         part: next_filled(own, 0),
@@ -57,7 +57,7 @@ pub(crate) fn put_line<'a>(
         let numbers = numbers_at(sender, sent, acknowledged, peer_end, at, place);
         let len = piece_len(own, from);
         let (outline, after) = piece_outline(sender, own, from, len, numbers);
-        put_segment(row, number, own, &outline)?;
+        put_segment(row, client, own, &outline)?;
         from = after;
         sent += len as u32;
         place += 1;
@@ -70,7 +70,7 @@ pub(crate) fn put_line<'a>(
     }
     let all = acknowledge(peer, acknowledged, ending.at);
     let numbers = numbers_at(sender, sent, all, peer_end, ending.at, place);
-    put_bare(row, number, sender, ending.at, numbers, ending.flags)
+    put_bare(row, client, sender, ending.at, numbers, ending.flags)
 }
 
 // Whether an instant is a unit's horizon.

@@ -1,21 +1,15 @@
-use Rattle.std.proofs.Common.{◌∙◌, OnOk, sym, ap, subst}
+use Rattle.std.proofs.Common.{◌∙◌, OnOk, refl, sym, ap, subst}
+use Rattle.pcap_records.specs.Instants.{ticks_of}
 use Rattle.reassembly.specs.LineView.{bytes_of_parts, line_of}
 use Rattle.reassembly.specs.RecordedLines.{Line}
-use Rattle.reassembly.specs.RecordedView.{recorded_view}
 use Rattle.toxic_defs.specs.DeliveredLines.{DeliveredConnection, delivered_view}
+use Rattle.segment_writer.specs.Endpoints.{connection_between, endpoints_by}
 use Rattle.segment_writer.specs.OpenRows.{IsLonger}
-use Rattle.segment_writer.specs.WrittenConnections.{written_connection}
 use Rattle.segment_writer.specs.WrittenSegments.{WrittenConnection}
 use Rattle.segment_writer.specs.TimelyLines.{IsTimely}
 use Rattle.segment_writer.specs.declared.senders.Sender.{Sender}
-use Rattle.segment_writer.proofs.WholeSegments.{lines_are_timely, connection_is, line_is}
+use Rattle.segment_writer.proofs.WholeSegments.{client_is, lines_are_timely, connection_is, line_is}
 use Rattle.segment_writer.proofs.connection_segments.put_connection.Goals as goal
-
-pub put_in_order-requires-clause-client : goal.put_in_order-requires-clause-client
-put_in_order-requires-clause-client c = ap (λ (s : Sender). s.is_server) (c.client_in-client.ensures.sender (delivered_view c.args.delivered))
-
-pub put_in_order-requires-clause-turn : goal.put_in_order-requires-clause-turn
-put_in_order-requires-clause-turn c = ap (λ (s : Sender). s.turn) (c.client_in-client.ensures.sender (delivered_view c.args.delivered))
 
 pub put_in_order-requires-clause-up : goal.put_in_order-requires-clause-up
 put_in_order-requires-clause-up c =
@@ -30,9 +24,9 @@ put_in_order-requires-clause-down c =
 pub returns : goal.returns
 returns c =
     let d : DeliveredConnection = delivered_view c.args.delivered in
-    let w : WrittenConnection = written_connection c.args.conn.now.number c.args.conn.now.vlan c.args.conn.now.client c.args.conn.now.server (recorded_view c.args.recorded.now) d in
-    let client : Sender = c.client_in-client.result in
+    let client : Sender = c.args.client.now in
+    let w : WrittenConnection = connection_between (endpoints_by client c.args.opened) d in
     let up = line_is c.deref.result.now c.end-up_end.result d.up (ap bytes_of_parts c.deref.ensures.value ∙ c.into_parts-ups.ensures) c.end-up_end.ensures in
     let down = line_is c.deref-2.result.now c.end-down_end.result d.down (ap bytes_of_parts c.deref-2.ensures.value ∙ c.into_parts-downs.ensures) c.end-down_end.ensures in
-    let is = connection_is client client.unit c.args.recorded.now.up.ticks w (line_of c.deref.result.now c.end-up_end.result) (line_of c.deref-2.result.now c.end-down_end.result) (c.client_in-client.ensures.sender d) c.client_in-client.ensures.ticks up down in
+    let is = connection_is client client.unit (ticks_of client.unit) w (line_of c.deref.result.now c.end-up_end.result) (line_of c.deref-2.result.now c.end-down_end.result) (client_is client c.args.opened d c.requires.client) refl up down in
     subst (λ xs. OnOk c.put_in_order.result (IsLonger c.args.row.now xs c.put_in_order.new.row)) is c.put_in_order.ensures

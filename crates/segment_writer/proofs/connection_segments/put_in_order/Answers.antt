@@ -17,8 +17,8 @@ returns c =
     let down = line_of c.args.down.now c.args.down_end.now in
     let turns : List Framed = turns_written c.args.refused c.args.client.now c.args.at up down in
     let start_is : c.len-start.result ≡ length before.segments.items = omega (arith, c.len-start.ensures) in
-    let once = client_once c.args.refused c.args.client.now c.args.at up down c.requires.turn in
-    let conns = client_conns c.args.refused c.args.client.now c.args.at up down c.requires.turn in
+    let once = client_once c.args.refused c.args.client.now c.args.at up down c.requires.client.turn in
+    let conns = client_conns c.args.refused c.args.client.now c.args.at up down c.requires.client.turn in
     record {
       written = written_sorted before now sorted c.len-start.result c.args.client.now.conn turns start_is c.in_ok-put_turns.ensures c.sort_from.ensures.first c.sort_from.ensures.moved c.sort_from.ensures.ordered conns once;
       row = rows_stay before now sorted c.len-start.result c.args.client.now.conn turns start_is c.in_ok-put_turns.ensures c.sort_from.ensures.first c.sort_from.ensures.moved;

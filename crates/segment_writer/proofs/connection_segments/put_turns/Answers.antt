@@ -1,4 +1,4 @@
-use Rattle.std.proofs.Common.{◌++◌, [], ◌∷◌, List, refl, subst}
+use Rattle.std.proofs.Common.{◌++◌, List, subst}
 use Rattle.std.proofs.lemmas.Result.{on_ok_weaker}
 use Rattle.reassembly.specs.LineView.{line_of}
 use Rattle.segment_writer.specs.OpenRows.{IsLonger}
@@ -7,7 +7,7 @@ use Rattle.segment_writer.specs.declared.framed.Framed.{Framed}
 use Rattle.segment_writer.specs.declared.open_rows.OpenRow.{OpenRow}
 use Rattle.segment_writer.specs.declared.senders.Sender.{Sender}
 use Rattle.segment_writer.specs.declared.senders.Turn.TheVariants.{Opening, ClientLine, ServerLine}
-use Rattle.segment_writer.proofs.RowSteps.{client_put, longer_on}
+use Rattle.segment_writer.proofs.RowSteps.{longer_on}
 use Rattle.segment_writer.proofs.connection_segments.put_turns.Goals as goal
 
 pub returns : goal.returns
@@ -16,16 +16,14 @@ returns c =
     let up = line_of c.args.up.now c.args.up_end.now in
     let down = line_of c.args.down.now c.args.down_end.now in
     let before : OpenRow = c.args.row.now in
-    let begun : OpenRow = record { clients = c.push.new.self; gathered = before.gathered; segments = before.segments } in
     let opened : OpenRow = c.put_opening.new.row in
     let gone_up : OpenRow = c.put_line.new.row in
     let now : OpenRow = c.put_line-2.new.row in
     let opening : List Framed = opening_written c.args.refused client (peer_in client Opening) c.args.at in
     let ups : List Framed = line_written (in_turn client ClientLine) up down in
     let downs : List Framed = line_written (peer_in client ServerLine) down up in
-    let first : IsLonger before opening opened = longer_on before begun opened [] opening (client_put before begun (client ∷ []) c.in_ok-push.ensures.items refl refl c.requires.row) c.in_ok-put_opening.ensures.longer in
-    let then_up : IsLonger opened ups gone_up = subst (λ (s : Sender). IsLonger opened (line_written s up down) gone_up) c.in_turn-upward.ensures c.in_ok-put_line.ensures.longer in
-    let both : IsLonger before (opening ++ ups) gone_up = longer_on before opened gone_up opening ups first then_up in
+    let then_up : IsLonger opened ups gone_up = subst (λ (s : Sender). IsLonger opened (line_written s up down) gone_up) c.in_turn-upward.ensures c.in_ok-put_line.ensures in
+    let both : IsLonger before (opening ++ ups) gone_up = longer_on before opened gone_up opening ups c.in_ok-put_opening.ensures then_up in
     on_ok_weaker c.put_line-2.result
     (λ longer. longer_on before gone_up now (opening ++ ups) downs both (subst (λ (s : Sender). IsLonger gone_up (line_written s down up) now) c.peer_in-downward.ensures longer))
-    c.put_line-2.ensures.longer
+    c.put_line-2.ensures

@@ -7,10 +7,12 @@ use Rattle.conn_table.specs.Tables.{conn_in}
 use Rattle.conn_table.specs.declared.conns.Conn.{Conn}
 use Rattle.reassembly.specs.LineLaws.{IsLine}
 use Rattle.reassembly.specs.RecordedLines.{RecordedConnection, recorded_connection}
+use Rattle.reassembly.specs.RecordedView.{recorded_view}
 use Rattle.reassembly.specs.declared.recordings.Recorded.{Recorded}
 use Rattle.conn_workers.specs.CaptureTables.{whole_connections}
 use Rattle.std.specs.List.{enumerate_from}
 use Rattle.toxic_defs.specs.DeliveredLines.{DeliveredConnection, delivered_connection}
+use Rattle.segment_writer.specs.Endpoints.{EndpointsView, endpoints_of}
 use Rattle.segment_writer.specs.WrittenSegments.{written_segments}
 use Rattle.segment_writer.specs.WrittenConnections.{written_connection}
 use Rattle.report.specs.ReportText.{connection_text}
@@ -32,11 +34,12 @@ recording_in c x = record { ticks = c.ticks; conn = conn_in c x; recorded = reco
 abbrev pub recordings_of : CaptureView → List RecordingView
 recordings_of c = map (recording_in c) (whole_connections c)
 
--- what is recorded of both sides are lines, with as many ticks a second
-pub record HasLines (r : Recorded) : Type 0 where
+-- what is recorded of both sides of a connection are lines, with as many ticks a second, and its endpoints are those of what is recorded
+pub record IsRecording (conn : Conn) (r : Recorded) (e : EndpointsView) : Type 0 where
   pub up : IsLine r.up.line
   pub down : IsLine r.down.line
   pub one_unit : r.down.ticks ≡ r.up.ticks
+  pub endpoints : e ≡ endpoints_of r.up.ticks conn (recorded_view r)
 
 -- ---- what they contribute to scenarios
 

@@ -50,9 +50,9 @@ impl<'w, 'v, 'a> Work for ContributionJobs<'w, 'v, 'a> {
 
 /// Job r makes what the connections of range r contribute to the scenario.
 #[derive(Drop)]
-pub(crate) struct ShareJobs<'w, 'v, 'a> {
+pub(crate) struct ShareJobs<'s, 'w, 'v, 'a> {
     /// The scenario.
-    pub(crate) under: UnderScenario<'w>,
+    pub(crate) under: UnderScenario<'s>,
     /// The connections with what is recorded of them.
     pub(crate) recordings: &'w [Recording<'v, 'a>],
     /// The ranges.
@@ -60,15 +60,15 @@ pub(crate) struct ShareJobs<'w, 'v, 'a> {
     ghost all: { ranges.all ≡ length recordings.now },
 }
 
-impl<'w, 'v, 'a> Work for ShareJobs<'w, 'v, 'a> {
-    type Out = RowShare<'a>;
+impl<'s, 'w, 'v, 'a> Work for ShareJobs<'s, 'w, 'v, 'a> {
+    type Out = RowShare<'w, 'a>;
 
     ghost use Rattle.std.specs.Prelude.{◌≡◌, ◌<◌, length, get_or, IfOk};
     ghost use Rattle.conn_workers.specs.RowShares.{row_shares};
 
     ghost values = { λ w. row_shares w.ranges.size w.ranges.count w.under.seed (w.under.number, w.under.scenario.now) w.recordings.now };
 
-    fn value(&self, job: u64) -> Result<RowShare<'a>, AllocError> {
+    fn value(&self, job: u64) -> Result<RowShare<'w, 'a>, AllocError> {
         self.under.share(self.ranges.range(self.recordings, job))
     }
 }

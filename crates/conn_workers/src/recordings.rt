@@ -8,22 +8,25 @@ use job_matrix::{Gate, Phase, Plan, Through, Values, Work, work_all, work_alone}
 use pcap_records::Capture;
 use reassembly::laws::{connections_are_of_capture, conns_are_of_capture};
 use reassembly::{Recorded, lines};
+use segment_writer::Endpoints;
 use std::alloc::{AllocError, Global};
 use std::marker::Model;
 use std::thread::Threads;
 
-/// A connection of a table, with what is recorded of it.
+/// A connection of a table, with what is recorded of it, and its endpoints as its segments name them in each scenario.
 #[derive(Drop)]
 pub struct Recording<'w, 'a> {
     /// What the table shows of the connection.
     pub(crate) conn: &'w Conn,
     /// What its two sides sent.
     pub(crate) recorded: Recorded<'a>,
+    /// Its endpoints.
+    pub(crate) endpoints: Endpoints,
 }
 
 impl<'w, 'a> Model for Recording<'w, 'a> {
     ghost use Rattle.reassembly.specs.RecordedView.{recorded_view};
-    ghost use Rattle.conn_workers.specs.Recordings.{RecordingView, HasLines};
+    ghost use Rattle.conn_workers.specs.Recordings.{RecordingView, IsRecording};
 
     ghost Value = { RecordingView };
 
@@ -33,25 +36,25 @@ impl<'w, 'a> Model for Recording<'w, 'a> {
       recorded = recorded_view r.recorded;
     } };
 
-    ghost invariant = { λ r. HasLines r.recorded };
+    ghost invariant = { λ r. IsRecording r.conn.now r.recorded r.endpoints };
 }
 
 /// The connections of a capture's table: job c makes the recorded lines of connection c.
 #[derive(Drop)]
-pub(crate) struct LineJobs<'w, 'a> {
+pub(crate) struct LineJobs<'c, 'w, 'a> {
     /// Where lines are kept.
     pub(crate) alloc: Global,
     /// The capture.
-    pub(crate) capture: &'w Capture<'a>,
+    pub(crate) capture: &'c Capture<'a>,
     /// The connections of its table.
     pub(crate) conns: &'w [Conn],
     ghost shown: { conns.now ≡ (whole_table capture.now).conns },
     ghost each: { length conns.now ≡ length (recordings_of capture.now) },
 }
 
-impl<'w, 'a> LineJobs<'w, 'a> {
+impl<'c, 'w, 'a> LineJobs<'c, 'w, 'a> {
     /// Those of a capture and its table.
-    pub(crate) fn of(alloc: Global, capture: &'w Capture<'a>, table: &'w Table) -> Self
+    pub(crate) fn of(alloc: Global, capture: &'c Capture<'a>, table: &'w Table) -> Self
         requires { table.now ≡ whole_table capture.now }
         ensures { result.capture.now ≡ capture.now }
     {
@@ -63,7 +66,7 @@ impl<'w, 'a> LineJobs<'w, 'a> {
     }
 }
 
-impl<'w, 'a> LineJobs<'w, 'a> {
+impl<'c, 'w, 'a> LineJobs<'c, 'w, 'a> {
     ghost use Rattle.std.specs.Prelude.{◌≡◌, ◌≤◌, IfOk, drop, length, take};
     ghost use Rattle.conn_workers.specs.Recordings.{recordings_of};
 
@@ -89,7 +92,7 @@ impl<'w, 'a> LineJobs<'w, 'a> {
     }
 }
 
-impl<'w, 'a> Work for LineJobs<'w, 'a> {
+impl<'c, 'w, 'a> Work for LineJobs<'c, 'w, 'a> {
     type Out = Recording<'w, 'a>;
 
     ghost use Rattle.std.specs.Prelude.{◌≡◌, ◌<◌, length, get_or, IfOk};
@@ -102,7 +105,12 @@ impl<'w, 'a> Work for LineJobs<'w, 'a> {
         conns_are_of_capture();
         let conn = &self.conns[job as usize];
         let recorded = lines(self.alloc, conn, self.capture)?;
-        Ok(Recording { conn, recorded })
+        let endpoints = Endpoints::of(conn, &recorded);
+        Ok(Recording {
+            conn,
+            recorded,
+            endpoints,
+        })
     }
 }
 
@@ -112,14 +120,15 @@ pub type Recordings<'w, 'a> = Values<Recording<'w, 'a>>;
 /// What is recorded of each connection of a capture. Workers make it in phase `Lines`, with one job for each connection. The
 /// answer is the same whatever the plan and the gate.
 ///
-/// The table is that of all records of the capture, however it was made.
+/// The table is that of all records of the capture, however it was made. What is answered needs the table and the file's bytes, and the
+/// capture's records no more.
 ///
 /// # Errors
 /// A growth was refused.
 pub fn record<'w, 'a, R: Threads + Sync, G: Gate>(
     rt: &R,
     alloc: Global,
-    capture: &'w Capture<'a>,
+    capture: &Capture<'a>,
     table: &'w Table,
     plan: Plan,
     gate: &G,
@@ -139,7 +148,7 @@ pub fn record<'w, 'a, R: Threads + Sync, G: Gate>(
 /// A growth was refused.
 pub fn record_alone<'w, 'a>(
     alloc: Global,
-    capture: &'w Capture<'a>,
+    capture: &Capture<'a>,
     table: &'w Table,
 ) -> Result<Recordings<'w, 'a>, AllocError>
     requires table { table.now ≡ whole_table capture.now }

@@ -3,16 +3,16 @@ use report::ReportText;
 use segment_writer::{Keys, SegKey, SegmentRow};
 use std::alloc::AllocError;
 
-/// What some connections, one after another, contribute to one scenario.
+/// What some connections, one after another, contribute to one scenario. It borrows what is recorded of them.
 #[derive(Drop)]
-pub struct RowShare<'a> {
+pub struct RowShare<'w, 'a> {
     /// The segments that are written of them, each connection's in order of key.
-    pub segments: SegmentRow<'a>,
+    pub segments: SegmentRow<'w, 'a>,
     /// Their lines of the report, each with its line feed.
     pub lines: ReportText,
 }
 
-impl Keys for RowShare<'_> {
+impl Keys for RowShare<'_, '_> {
     ghost segments = { λ s. s.segments };
 
     fn count(&self) -> usize {

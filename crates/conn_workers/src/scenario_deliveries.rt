@@ -48,7 +48,7 @@ pub(crate) fn delivery_in(
     let recorded = &recording.recorded;
     let delivered = delivered_in(alloc, recording, number, scenario, seed)?;
     let line = line(alloc, conn, recorded, &delivered)?;
-    let row = SegmentRow::none(alloc).with_connection(conn, recorded, delivered)?;
+    let row = SegmentRow::none(alloc).with_connection(&recording.endpoints, delivered)?;
     let segments = row.written(alloc)?;
     Ok(Delivery {
         scenario: number,

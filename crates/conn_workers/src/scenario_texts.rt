@@ -25,9 +25,9 @@ const RANGE_LIMIT: usize = 4096;
 
 /// Job r makes the lines of the connections of range r in the report of each scenario.
 #[derive(Drop)]
-pub(crate) struct TextJobs<'w, 'a> {
+pub(crate) struct TextJobs<'c, 'w, 'a> {
     /// The capture and the connections of its table.
-    pub(crate) lines: LineJobs<'w, 'a>,
+    pub(crate) lines: LineJobs<'c, 'w, 'a>,
     /// The scenarios.
     pub(crate) scenarios: &'w [Scenario],
     /// The seed of the random words.
@@ -38,13 +38,13 @@ pub(crate) struct TextJobs<'w, 'a> {
     ghost few: { length scenarios.now ≤ scenario_limit },
 }
 
-impl<'w, 'a> TextJobs<'w, 'a> {
+impl<'c, 'w, 'a> TextJobs<'c, 'w, 'a> {
     ghost use Rattle.std.specs.Prelude.{◌≡◌, ◌≤◌, length};
 
     /// Those of a capture and its table, for the workers of a plan.
     fn of(
         alloc: Global,
-        capture: &'w Capture<'a>,
+        capture: &'c Capture<'a>,
         table: &'w Table,
         scenarios: &'w [Scenario],
         seed: u64,
@@ -67,7 +67,7 @@ impl<'w, 'a> TextJobs<'w, 'a> {
     }
 }
 
-impl<'w, 'a> Work for TextJobs<'w, 'a> {
+impl<'c, 'w, 'a> Work for TextJobs<'c, 'w, 'a> {
     type Out = ShareTexts;
 
     ghost use Rattle.std.specs.Prelude.{◌≡◌, ◌<◌, length, get_or, IfOk};

@@ -3,7 +3,7 @@ ghost use Rattle.std.specs.Prelude.{◌≡◌, ◌++◌, IfOk, OnOk};
 ghost use Rattle.reassembly.specs.LineLaws.{IsLine};
 ghost use Rattle.toxic_defs.specs.DeliveredLines.{delivered_view};
 ghost use Rattle.conn_workers.specs.Recordings.{recorded_delivered, recorded_delivery};
-ghost use Rattle.conn_workers.specs.RowShares.{row_share, row_text};
+ghost use Rattle.conn_workers.specs.RowShares.{row_segments, row_share, row_text};
 
 use crate::recordings::Recording;
 use crate::row_shares::RowShare;
@@ -58,19 +58,33 @@ impl<'w> UnderScenario<'w> {
         Ok(delivered)
     }
 
-    /// What connections contribute, one after another. Room is not asked for ahead.
-    pub(crate) fn share<'a>(
+    /// What connections contribute, one after another.
+    pub(crate) fn share<'r, 'a>(
         &self,
-        recordings: &[Recording<'_, 'a>],
-    ) -> Result<RowShare<'a>, AllocError>
+        recordings: &'r [Recording<'_, 'a>],
+    ) -> Result<RowShare<'r, 'a>, AllocError>
         ensures { IfOk result (λ share. share
             ≡ row_share self.now.seed (self.now.number, self.now.scenario.now) recordings.now) }
     {
-        let mut segments = SegmentRow::none(self.alloc);
+        self.share_after(SegmentRow::none(self.alloc), recordings)
+    }
+
+    /// The same with their segments after those of a row. Room is not asked for ahead.
+    pub(crate) fn share_after<'r, 'a>(
+        &self,
+        row: SegmentRow<'r, 'a>,
+        recordings: &'r [Recording<'_, 'a>],
+    ) -> Result<RowShare<'r, 'a>, AllocError>
+        ensures segments { IfOk result (λ share. share.segments
+            ≡ row.entry ++ row_segments self.now.seed (self.now.number, self.now.scenario.now) recordings.now) }
+        ensures lines { IfOk result (λ share. share.lines
+            ≡ row_text self.now.seed (self.now.number, self.now.scenario.now) recordings.now) }
+    {
+        let mut segments = row;
         let mut lines = Vec::new(self.alloc);
         for recording in recordings {
             let delivered = self.put_line_of(&mut lines, recording)?;
-            segments = segments.with_connection(recording.conn, &recording.recorded, delivered)?;
+            segments = segments.with_connection(&recording.endpoints, delivered)?;
         }
         let lines = ReportText::of(lines);
         Ok(RowShare { segments, lines })

@@ -6,11 +6,12 @@ use super::checks::check;
 use conn_table::laws::tables_agree;
 use conn_table::{Partial, Table, finish};
 use conn_workers::{
-    Delivery, Recordings, RowShares, deliver, deliver_row, deliver_row_alone, record,
+    Delivery, Recordings, RowShares, deliver, deliver_after, deliver_row, deliver_row_alone, record,
 };
 use job_matrix::{Gate, Phase, Plan, Through};
 use pcap_records::{Capture, Moment, read_capture};
 use scenarios::{Hosts, Scenario, read_scenario};
+use segment_writer::SegmentRow;
 use std::alloc::{AllocError, Global};
 use std::process::Abort;
 use std::thread::Threads;
@@ -130,7 +131,7 @@ fn a_row_for_each_scenario(rt: HostRuntime) {
 }
 
 // Whether what the shares of a row hold together is the row of the second scenario.
-fn is_second_row(rt: &impl Abort, alloc: Global, row: RowShares<'_>) -> bool {
+fn is_second_row(rt: &impl Abort, alloc: Global, row: RowShares<'_, '_>) -> bool {
     let mut segments = 0usize;
     let mut lines = Vec::new(alloc);
     for share in row.as_slice() {
@@ -160,6 +161,22 @@ fn check_second_row<R: Abort + Threads + Sync>(
     check(rt, "by workers", by_workers);
 }
 
+// That what the second connection contributes to the second row stands after what the first one does.
+fn check_after(rt: &impl Abort, alloc: Global, recordings: &Recordings<'_, '_>) {
+    let scenario = scenario(rt, alloc, &[DISABLED]);
+    let all = recordings.as_slice();
+    let (first, second) = all.split_at(all.len().min(1));
+    let none = SegmentRow::none(alloc);
+    let share = deliver_after(alloc, none, first, 1, &scenario, 42).expect(rt, "memory");
+    let mut good = share.lines.as_slice() == FIRST_LINE.as_bytes();
+    let row = share.segments;
+    let share = deliver_after(alloc, row, second, 1, &scenario, 42).expect(rt, "memory");
+    let written = share.segments.written(alloc).expect(rt, "memory");
+    good = good && written.as_slice().len() == 5;
+    good = good && share.lines.as_slice() == REFUSED_LINE.as_bytes();
+    check(rt, "one after another", good);
+}
+
 // The same of what is recorded of a file, by so many workers.
 fn check_recorded_row<R: Abort + Threads + Sync>(rt: &R, alloc: Global, workers: u32) {
     let bytes = file(alloc, true, &segments()).expect(rt, "memory");
@@ -171,6 +188,7 @@ fn check_recorded_row<R: Abort + Threads + Sync>(rt: &R, alloc: Global, workers:
         rt.panic("not two recordings");
     }
     check_second_row(rt, alloc, &recordings, plan);
+    check_after(rt, alloc, &recordings);
 }
 
 #[test]

@@ -5,20 +5,19 @@ use Rattle.std.specs.List.{flat_map, range_with_len}
 use Rattle.std.proofs.lemmas.List.{get_or-map, length-map}
 use Rattle.std.proofs.lemmas.List.Concat.{flat_map-append}
 use Rattle.std.proofs.lemmas.List.Folds.{flat_map-map}
-use Rattle.std.proofs.lemmas.List.FromFn.{fill_by_all, get_or-map-range_with_len, length-map-range_with_len, map-range_with_len_more}
+use Rattle.std.proofs.lemmas.List.FromFn.{fill_by_all, length-map-range_with_len, map-range_with_len_more}
 use Rattle.pcap_records.specs.CaptureView.{CaptureView}
-use Rattle.conn_table.specs.Tables.{TableView}
 use Rattle.scenarios.specs.declared.proxies.Proxy.{Proxy}
-use Rattle.conn_workers.specs.CaptureTables.{whole_table}
 use Rattle.conn_workers.specs.DeliveryLaws.{LinesAreContributed}
 use Rattle.conn_workers.specs.Recordings.{recordings_of}
 use Rattle.conn_workers.specs.ReportTexts.{HoldLines, text_of}
 use Rattle.run_files.specs.Streams.{joined}
 use Rattle.run_files.specs.declared.outputs.Output.{Output}
 use Rattle.run_files.specs.WrittenOutputs.{reports_of}
-use Rattle.toxicap.specs.CaptureOutputs.{head_of, no_output, outputs_for}
+use Rattle.toxicap.specs.OutputParts.{head_of, heads_of}
+use Rattle.toxicap.specs.CaptureOutputs.{no_output, outputs_for}
 use Rattle.toxicap.specs.HeldReports.{report_at, reports_below, reports_held}
-use Rattle.toxicap.proofs.OutputSteps.{as_many_for, report_is}
+use Rattle.toxicap.proofs.OutputSteps.{as_many_for, head_at, report_is}
 
 -- one report more
 pub below_more : (heads : List (List ℕ)) (shares : List (List (List ℕ))) (number : ℕ) → reports_below heads shares number ++ report_at heads shares number ≡ reports_below heads shares (number + 1)
@@ -35,11 +34,11 @@ joined_more texts text = flat_map-append (λ (t : Bor (List ℕ)). t.now) texts 
 pub of_one : (text : List ℕ) → reports_held (text ∷ []) [] ≡ text
 of_one text = append-nil (text ++ []) ∙ append-nil text
 
-module _ (capture : CaptureView) (table : TableView) (table_is : table ≡ whole_table capture) (scenarios : List (List Proxy)) (seed : ℕ) (contributed : LinesAreContributed)
-    (heads : List (List ℕ)) (heads_are : heads ≡ map (head_of capture table) (range_with_len 0 (length scenarios)))
+module _ (capture : CaptureView) (scenarios : List (List Proxy)) (seed : ℕ) (contributed : LinesAreContributed)
+    (heads : List (List ℕ)) (heads_are : heads ≡ heads_of capture (length scenarios))
     (shares : List (List (List ℕ))) (hold : HoldLines seed scenarios (recordings_of capture) shares) where
   pub as_many_heads : length heads ≡ length scenarios
-  as_many_heads = ap length heads_are ∙ length-map-range_with_len (head_of capture table) 0 (length scenarios)
+  as_many_heads = ap length heads_are ∙ length-map-range_with_len (head_of capture) 0 (length scenarios)
 
   abbrev pub outputs : List Output
   outputs = outputs_for capture scenarios seed
@@ -47,10 +46,9 @@ module _ (capture : CaptureView) (table : TableView) (table_is : table ≡ whole
   each : (number : ℕ) → number < length scenarios → get_or (map (λ (o : Output). o.report) outputs) number [] ≡ report_at heads shares number
   each number within =
       let inside : number < length outputs = omega (arith, within, as_many_for capture scenarios seed) in
-      let head : get_or heads number [] ≡ head_of capture table number =
-      ap (λ hs. get_or hs number []) heads_are ∙ get_or-map-range_with_len (head_of capture table) 0 (length scenarios) number number [] within (omega arith) in
+      let head = head_at capture heads (length scenarios) heads_are number within in
       get_or-map (λ (o : Output). o.report) outputs number no_output [] inside
-      ∙ sym (report_is capture scenarios seed table table_is contributed number within (text_of number shares) (hold.lines number within))
+      ∙ sym (report_is capture scenarios seed contributed number within (text_of number shares) (hold.lines number within))
       ∙ ap (λ (h : List ℕ). h ++ text_of number shares) (sym head)
 
   pub held_are : reports_held heads shares ≡ reports_of outputs

@@ -15,6 +15,7 @@ mod WholeTables
 mod RowSteps
 mod GatheredRows
 mod OutputSteps
+mod ReportedRows
 mod HeldReportSteps
 mod ReadyDrafts
 mod PrintedSteps

@@ -1,14 +1,13 @@
--- Outputs that are made of sources, one of them or some from a number on.
-use Rattle.std.proofs.Common.{◌≡◌, ◌<◌, ℕ, ◌+◌, List, [], ◌++◌, length, map, get_or, sym, ap, ap₂, ◌∙◌, arith, append_assoc}
+-- The outputs of a capture, and of the sources that are made of it.
+use Rattle.std.proofs.Common.{◌≡◌, ◌<◌, ℕ, suc, ◌+◌, List, [], ◌∷◌, ◌++◌, length, map, get_or, refl, sym, ap, ap₂, subst, ◌∙◌, arith, append_assoc}
 use Rattle.std.specs.List.{enumerate_from, flat_map}
-use Rattle.std.proofs.lemmas.List.{get_or-map, get_or_default, length-map}
+use Rattle.std.proofs.lemmas.List.{get_or-map, length-map}
 use Rattle.std.proofs.lemmas.List.Folds.{flat_map-map}
-use Rattle.std.proofs.lemmas.List.FromFn.{get_or-enumerate_from, length-enumerate_from}
+use Rattle.std.proofs.lemmas.List.FromFn.{get_or-enumerate_from, get_or-map-range_with_len, length-enumerate_from}
 use Rattle.pcap_records.specs.CaptureView.{CaptureView, contents_of}
 use Rattle.conn_table.specs.SeenCapture.{SeenCapture, seen_capture}
-use Rattle.conn_table.specs.Tables.{TableView}
 use Rattle.segment_writer.specs.declared.framed.Framed.{Framed}
-use Rattle.segment_writer.specs.KeyLaws.{HasNoKeyTwice, KeysStandOnce}
+use Rattle.segment_writer.specs.KeyLaws.{KeysStandOnce}
 use Rattle.time_merge.specs.MergedCapture.{all_segments, capture_of}
 use Rattle.report.specs.ReportText.{connections_text, counts_text, report_text}
 use Rattle.scenarios.specs.declared.proxies.Proxy.{Proxy}
@@ -20,84 +19,141 @@ use Rattle.conn_workers.specs.Recordings.{RecordingView, recorded_delivery, reco
 use Rattle.run_files.specs.declared.outputs.Output.{Output}
 use Rattle.toxicap.specs.declared.sources.Sources.{Sources}
 use Rattle.toxicap.specs.Rehearsal.{scenario_output, outputs_of}
-use Rattle.toxicap.specs.CaptureOutputs.{head_from, head_of, no_output, outputs_for, outputs_from, scenario_at}
+use Rattle.toxicap.specs.OutputParts.{head_of, heads_of, RowsHaveNoKeyTwice}
+use Rattle.toxicap.specs.CaptureOutputs.{no_output, output_from, outputs_for, outputs_from}
 use Rattle.toxicap.specs.GatheredOutputs.{segments_in}
 use Rattle.toxicap.proofs.WholeTables.{as_many_recorded, unopened_is}
 use Rattle.toxicap.proofs.GatheredRows.{parts_segments, row_stands_once}
 
--- ---- outputs
+-- ---- an output for each scenario
+
+module _ (made : ℕ × List Proxy → Output) (scenarios : List (List Proxy)) where
+  as_many : length (map made (enumerate_from 0 scenarios)) ≡ length scenarios
+  as_many = length-map (enumerate_from 0 scenarios) made ∙ length-enumerate_from 0 scenarios
+
+  -- that of the scenario of a number, whatever would stand past the last
+  at_number : (number : ℕ) → number < length scenarios → (other : List Proxy)
+      → made (number, get_or scenarios number other) ≡ get_or (map made (enumerate_from 0 scenarios)) number no_output
+  at_number number within other =
+      let inside : number < length (enumerate_from 0 scenarios) = omega (arith, within, length-enumerate_from 0 scenarios) in
+      let zero_on : 0 + number ≡ number = omega arith in
+      let numbered = get_or-enumerate_from 0 scenarios number (0, other) within ∙ ap (λ (n : ℕ). let p : ℕ × List Proxy = (n, get_or scenarios number other) in p) zero_on in
+      ap made (sym numbered) ∙ sym (get_or-map made (enumerate_from 0 scenarios) number (0, other) no_output inside)
+
+-- two ways to make them that agree on each scenario give the same
+same_from : (one other : ℕ × List Proxy → Output) (scenarios : List (List Proxy)) (first : ℕ)
+    → ((k : ℕ) → k < length scenarios → (s : List Proxy) → one (first + k, s) ≡ other (first + k, s))
+    → map one (enumerate_from first scenarios) ≡ map other (enumerate_from first scenarios)
+same_from one other [] first each = refl
+same_from one other (s ∷ scenarios) first each =
+    let P : ℕ → Type 0 = λ n. one (n, s) ≡ other (n, s) in
+    let here : first + 0 ≡ first = omega arith in
+    let this : one (first, s) ≡ other (first, s) = subst P here (each 0 (omega arith) s) in
+    let rest = same_from one other scenarios (first + 1) (λ k below next. let on : first + suc k ≡ first + 1 + k = omega arith in
+    subst (λ n. one (n, next) ≡ other (n, next)) on (each (suc k) (omega (arith, below)) next)) in
+    ap₂ (λ (o : Output) (os : List Output). o ∷ os) this rest
+
+-- ---- of a capture
 
 module _ (capture : CaptureView) (scenarios : List (List Proxy)) (seed : ℕ) where
   -- there is one for each scenario
   pub as_many_for : length (outputs_for capture scenarios seed) ≡ length scenarios
   unfolding outputs_of
-  as_many_for = length-map (enumerate_from 0 scenarios) _ ∙ length-enumerate_from 0 scenarios
+  as_many_for = as_many (scenario_output (seen_capture (contents_of capture)) seed) scenarios
 
-  -- that of the scenario of a number
   output_at : (number : ℕ) → number < length scenarios
       → scenario_output (seen_capture (contents_of capture)) seed (number, get_or scenarios number []) ≡ get_or (outputs_for capture scenarios seed) number no_output
   unfolding outputs_of
-  output_at number within =
-      let made : ℕ × List Proxy → Output = scenario_output (seen_capture (contents_of capture)) seed in
-      let inside : number < length (enumerate_from 0 scenarios) = omega (arith, within, length-enumerate_from 0 scenarios) in
-      let zero_on : 0 + number ≡ number = omega arith in
-      let numbered = get_or-enumerate_from 0 scenarios number (0, []) within ∙ ap (λ (n : ℕ). let p : ℕ × List Proxy = (n, get_or scenarios number []) in p) zero_on in
-      ap made (sym numbered) ∙ sym (get_or-map made (enumerate_from 0 scenarios) number (0, []) no_output inside)
+  output_at number within = at_number (scenario_output (seen_capture (contents_of capture)) seed) scenarios number within []
 
-  -- its report is the first two lines, and then the lines that are recorded, which are as many as the connections of the table
-  module _ (table : TableView) (table_is : table ≡ whole_table capture) (contributed : LinesAreContributed) where
-    pub report_is : (number : ℕ) → number < length scenarios → (lines : List ℕ)
-        → lines ≡ flat_map (λ (line : List ℕ). line) (recorded_lines seed (number, get_or scenarios number []) (recordings_of capture))
-        → head_of capture table number ++ lines ≡ (get_or (outputs_for capture scenarios seed) number no_output).report
-    unfolding scenario_output report_text
-    report_is number within lines are =
-        let seen : SeenCapture = seen_capture (contents_of capture) in
-        let s : ℕ × List Proxy = (number, get_or scenarios number []) in
-        let told : List (List ℕ) = recorded_lines seed s (recordings_of capture) in
-        let as_many : length table.conns ≡ length told =
-        ap (λ t. length t.conns) table_is ∙ sym (as_many_recorded capture) ∙ sym (length-map (recordings_of capture) _) in
-        append_assoc (counts_text number seen) (connections_text (length table.conns) table.unopened) lines
-        ∙ ap₂ (λ (n : ℕ) (ls : List ℕ). counts_text number seen ++ (connections_text n table.unopened ++ ls)) as_many are
-        ∙ ap₂ (report_text number seen) (ap (λ t. t.unopened) table_is ∙ unopened_is capture) (contributed seed capture s)
-        ∙ ap (λ (o : Output). o.report) (output_at number within)
+-- the first two lines of one of so many reports
+pub head_at : (capture : CaptureView) (heads : List (List ℕ)) (count : ℕ) → heads ≡ heads_of capture count → (number : ℕ) → number < count → get_or heads number [] ≡ head_of capture number
+head_at capture heads count are number within =
+    ap (λ (hs : List (List ℕ)). get_or hs number []) are ∙ get_or-map-range_with_len (head_of capture) 0 count number number [] within (omega arith)
+
+module _ (capture : CaptureView) (seed : ℕ) (s : ℕ × List Proxy) where
+  -- the report of a scenario is the first two lines, and then the lines that are recorded, which are as many as the connections of the table
+  report_lines : LinesAreContributed → (lines : List ℕ) → lines ≡ flat_map (λ (line : List ℕ). line) (recorded_lines seed s (recordings_of capture))
+      → head_of capture s.0 ++ lines ≡ (scenario_output (seen_capture (contents_of capture)) seed s).report
+  unfolding scenario_output report_text
+  report_lines contributed lines are =
+      let seen : SeenCapture = seen_capture (contents_of capture) in
+      let told : List (List ℕ) = recorded_lines seed s (recordings_of capture) in
+      let as_many_lines : length (whole_table capture).conns ≡ length told = sym (as_many_recorded capture) ∙ sym (length-map (recordings_of capture) _) in
+      append_assoc (counts_text s.0 seen) (connections_text (length (whole_table capture).conns) (whole_table capture).unopened) lines
+      ∙ ap₂ (λ (n : ℕ) (ls : List ℕ). counts_text s.0 seen ++ (connections_text n (whole_table capture).unopened ++ ls)) as_many_lines are
+      ∙ ap₂ (report_text s.0 seen) (unopened_is capture) (contributed seed capture s)
+
+  -- the segments of its row are what the connections contribute
+  row_segments : RowsAreContributed
+      → flat_map (λ (d : Delivery). d.segments) (recorded_row seed s (recordings_of capture))
+      ≡ all_segments (segments_in (map (delivery_of capture.ticks seed s) (connections_of (seen_capture (contents_of capture)))))
+  row_segments contributed =
+      ap (flat_map (λ (d : Delivery). d.segments)) (contributed seed capture s)
+      ∙ sym (flat_map-map (λ (list : List Framed). list) (λ (d : Delivery). d.segments) (map (delivery_of capture.ticks seed s) (connections_of (seen_capture (contents_of capture)))))
+
+  -- of which its capture is made
+  capture_is : RowsAreContributed
+      → capture_of capture.ticks (flat_map (λ (d : Delivery). d.segments) (recorded_row seed s (recordings_of capture)))
+      ≡ (scenario_output (seen_capture (contents_of capture)) seed s).capture
+  unfolding scenario_output
+  capture_is contributed =
+      ap (capture_of capture.ticks) (row_segments contributed ∙ parts_segments capture.ticks seed s (connections_of (seen_capture (contents_of capture))))
+
+-- the report of the scenario of a number
+pub report_is : (capture : CaptureView) (scenarios : List (List Proxy)) (seed : ℕ) → LinesAreContributed → (number : ℕ) → number < length scenarios → (lines : List ℕ)
+    → lines ≡ flat_map (λ (line : List ℕ). line) (recorded_lines seed (number, get_or scenarios number []) (recordings_of capture))
+    → head_of capture number ++ lines ≡ (get_or (outputs_for capture scenarios seed) number no_output).report
+report_is capture scenarios seed contributed number within lines are =
+    report_lines capture seed (number, get_or scenarios number []) contributed lines are ∙ ap (λ (o : Output). o.report) (output_at capture scenarios seed number within)
+
+-- no key stands twice in any row
+pub stand_once : (capture : CaptureView) (seed : ℕ) (recordings : List RecordingView) → recordings ≡ recordings_of capture → RowsAreContributed → KeysStandOnce
+    → RowsHaveNoKeyTwice seed recordings
+stand_once capture seed recordings are contributed once = λ s.
+    rw are (rw (row_segments capture seed s contributed) (row_stands_once capture.ticks seed s once (seen_capture (contents_of capture))))
+
+-- ---- of sources
 
 pub as_many_outputs : (own : Sources) → length (outputs_from own) ≡ length own.scenarios.now
-as_many_outputs own = as_many_for own.capture.now own.scenarios.now own.seed
+as_many_outputs own = as_many (output_from own) own.scenarios.now
 
--- ---- what is made of sources for a scenario
+-- that of the scenario of a number, whatever would stand past the last
+pub output_is : (own : Sources) (number : ℕ) → number < length own.scenarios.now → (other : List Proxy)
+    → output_from own (number, get_or own.scenarios.now number other) ≡ get_or (outputs_from own) number no_output
+output_is own number within other = at_number (output_from own) own.scenarios.now number within other
 
-module _ (own : Sources) (number : ℕ) (within : number < length own.scenarios.now) where
-  -- the scenario, whatever would stand past the last
-  pub scenario_is : (other : List Proxy) → (let s : ℕ × List Proxy = (number, get_or own.scenarios.now number other) in s) ≡ scenario_at own number
-  scenario_is other = ap (λ (proxies : List Proxy). let s : ℕ × List Proxy = (number, proxies) in s) (get_or_default own.scenarios.now number other [] within)
+-- what sources have that are made of a capture
+module _ (capture : CaptureView) (scenarios : List (List Proxy)) (seed ticks : ℕ) (heads : List (List ℕ)) (recordings : List RecordingView)
+    (ticks_are : ticks ≡ capture.ticks) (heads_are : heads ≡ heads_of capture (length scenarios)) (recordings_are : recordings ≡ recordings_of capture)
+    (rows : RowsAreContributed) (lines : LinesAreContributed) where
+  abbrev pub made_of : ℕ × List Proxy → Output
+  made_of s = record {
+    capture = capture_of ticks (flat_map (λ d. d.segments) (recorded_row seed s recordings));
+    report = get_or heads s.0 [] ++ flat_map (λ d. d.line) (recorded_row seed s recordings);
+  }
 
-  -- the segments of its row are what the connections contribute, among which no key stands twice
-  module _ (contributed : RowsAreContributed) (segments : List Framed)
-      (are : segments ≡ flat_map (λ (d : Delivery). d.segments) (recorded_row own.seed (scenario_at own number) own.recordings.now)) where
-    contributed_row : recorded_row own.seed (scenario_at own number) own.recordings.now ≡ map (delivery_of own.capture.now.ticks own.seed (scenario_at own number)) (connections_of (seen_capture (contents_of own.capture.now)))
-    contributed_row = ap (recorded_row own.seed (scenario_at own number)) own.recordings_are ∙ contributed own.seed own.capture.now (scenario_at own number)
+  lines_are : (s : ℕ × List Proxy)
+      → flat_map (λ (d : Delivery). d.line) (recorded_row seed s recordings) ≡ flat_map (λ (line : List ℕ). line) (recorded_lines seed s (recordings_of capture))
+  lines_are s =
+      flat_map-map (λ (d : Delivery). d.line) (recorded_delivery seed s) recordings
+      ∙ sym (flat_map-map (λ (line : List ℕ). line) (λ (r : RecordingView). (recorded_delivery seed s r).line) recordings)
+      ∙ ap (λ (rs : List RecordingView). flat_map (λ (line : List ℕ). line) (recorded_lines seed s rs)) recordings_are
 
-    segments_are : segments ≡ all_segments (segments_in (map (delivery_of own.capture.now.ticks own.seed (scenario_at own number)) (connections_of (seen_capture (contents_of own.capture.now)))))
-    segments_are =
-        are ∙ ap (flat_map (λ (d : Delivery). d.segments)) contributed_row
-        ∙ sym (flat_map-map (λ (list : List Framed). list) (λ (d : Delivery). d.segments) (map (delivery_of own.capture.now.ticks own.seed (scenario_at own number)) (connections_of (seen_capture (contents_of own.capture.now)))))
+  each_is : (number : ℕ) → number < length scenarios → (proxies : List Proxy) → made_of (number, proxies) ≡ scenario_output (seen_capture (contents_of capture)) seed (number, proxies)
+  unfolding scenario_output
+  each_is number within proxies =
+      let s : ℕ × List Proxy = (number, proxies) in
+      let of_row : (made_of s).capture ≡ (scenario_output (seen_capture (contents_of capture)) seed s).capture =
+      ap₂ (λ (t : ℕ) (rs : List RecordingView). capture_of t (flat_map (λ (d : Delivery). d.segments) (recorded_row seed s rs))) ticks_are recordings_are
+      ∙ capture_is capture seed s rows in
+      let of_lines : (made_of s).report ≡ (scenario_output (seen_capture (contents_of capture)) seed s).report =
+      ap (λ (head : List ℕ). head ++ flat_map (λ (d : Delivery). d.line) (recorded_row seed s recordings)) (head_at capture heads (length scenarios) heads_are number within)
+      ∙ report_lines capture seed s lines _ (lines_are s) in
+      ap₂ (λ (a b : List ℕ). let o : Output = record { capture = a; report = b } in o) of_row of_lines
 
-    pub stand_once : KeysStandOnce → HasNoKeyTwice segments
-    stand_once once = rw segments_are (row_stands_once own.capture.now.ticks own.seed (scenario_at own number) once (seen_capture (contents_of own.capture.now)))
-
-    -- and of which its capture is made
-    pub capture_is : capture_of own.capture.now.ticks segments ≡ (get_or (outputs_from own) number no_output).capture
-    unfolding scenario_output
-    capture_is =
-        ap (capture_of own.capture.now.ticks) (segments_are ∙ parts_segments own.capture.now.ticks own.seed (scenario_at own number) (connections_of (seen_capture (contents_of own.capture.now))))
-        ∙ ap (λ (o : Output). o.capture) (output_at own.capture.now own.scenarios.now own.seed number within)
-
-  -- its report is the first two lines, and then those of its deliveries
-  pub row_report_is : LinesAreContributed → (lines : List ℕ) → lines ≡ flat_map (λ (d : Delivery). d.line) (recorded_row own.seed (scenario_at own number) own.recordings.now)
-      → head_from own number ++ lines ≡ (get_or (outputs_from own) number no_output).report
-  row_report_is contributed lines are =
-      let s : ℕ × List Proxy = scenario_at own number in
-      report_is own.capture.now own.scenarios.now own.seed own.table.now own.table_is contributed number within lines
-      (are ∙ flat_map-map (λ (d : Delivery). d.line) (recorded_delivery own.seed s) own.recordings.now
-      ∙ sym (flat_map-map (λ (line : List ℕ). line) (λ (r : RecordingView). (recorded_delivery own.seed s r).line) own.recordings.now)
-      ∙ ap (λ rs. flat_map (λ (line : List ℕ). line) (recorded_lines own.seed s rs)) own.recordings_are)
+  pub outputs_are : map made_of (enumerate_from 0 scenarios) ≡ outputs_for capture scenarios seed
+  unfolding outputs_of
+  outputs_are =
+      same_from made_of (scenario_output (seen_capture (contents_of capture)) seed) scenarios 0
+      (λ k below proxies. each_is (0 + k) (omega (arith, below)) proxies)

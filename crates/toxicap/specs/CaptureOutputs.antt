@@ -1,10 +1,13 @@
--- What each scenario answers to a capture that was read.
-use Rattle.std.specs.Prelude.{ℕ, List, [], ◌++◌, get_or, length}
+-- What each scenario answers to a capture that was read, and to the sources that are made of it.
+use Rattle.std.specs.Prelude.{ℕ, List, [], ◌++◌, get_or, map}
+use Rattle.std.specs.List.{enumerate_from, flat_map}
 use Rattle.pcap_records.specs.CaptureView.{CaptureView, contents_of}
+use Rattle.pcap_records.specs.Instants.{ticks_of}
 use Rattle.conn_table.specs.SeenCapture.{seen_capture}
-use Rattle.conn_table.specs.Tables.{TableView}
-use Rattle.report.specs.ReportText.{counts_text, connections_text}
+use Rattle.time_merge.specs.MergedCapture.{capture_of}
 use Rattle.scenarios.specs.declared.proxies.Proxy.{Proxy}
+use Rattle.conn_workers.specs.declared.deliveries.Delivery.{Delivery}
+use Rattle.conn_workers.specs.Recordings.{recorded_row}
 use Rattle.run_files.specs.declared.outputs.Output.{Output}
 use Rattle.toxicap.specs.Rehearsal.{outputs_of}
 use Rattle.toxicap.specs.declared.sources.Sources.{Sources}
@@ -12,21 +15,23 @@ use Rattle.toxicap.specs.declared.sources.Sources.{Sources}
 abbrev pub outputs_for : CaptureView → List (List Proxy) → ℕ → List Output
 outputs_for capture scenarios seed = outputs_of (seen_capture (contents_of capture)) scenarios seed
 
--- what they are, of what they are made of
-abbrev pub outputs_from : Sources → List Output
-outputs_from sources = outputs_for sources.capture.now sources.scenarios.now sources.seed
-
--- a scenario of them, with its number
-abbrev pub scenario_at : Sources → ℕ → ℕ × List Proxy
-scenario_at sources number = (number, get_or sources.scenarios.now number [])
-
--- the first two lines of the report of a scenario with its number
-abbrev pub head_of : CaptureView → TableView → ℕ → List ℕ
-head_of capture table number = counts_text number (seen_capture (contents_of capture)) ++ connections_text (length table.conns) table.unopened
-
-abbrev pub head_from : Sources → ℕ → List ℕ
-head_from sources number = head_of sources.capture.now sources.table.now number
-
 -- what stands past the last output
 abbrev pub no_output : Output
 no_output = record { capture = []; report = [] }
+
+-- ---- of sources
+
+-- what the connections contribute to a scenario with its number
+abbrev pub row_from : Sources → ℕ × List Proxy → List Delivery
+row_from own s = recorded_row own.seed s own.recordings.now
+
+-- the output of that scenario: their segments in a capture, and their lines after the first two
+abbrev pub output_from : Sources → ℕ × List Proxy → Output
+output_from own s = record {
+  capture = capture_of (ticks_of own.unit) (flat_map (λ d. d.segments) (row_from own s));
+  report = get_or own.heads.now s.0 [] ++ flat_map (λ d. d.line) (row_from own s);
+}
+
+-- the outputs of all scenarios
+abbrev pub outputs_from : Sources → List Output
+outputs_from own = map (output_from own) (enumerate_from 0 own.scenarios.now)

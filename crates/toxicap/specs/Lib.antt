@@ -1,5 +1,6 @@
 pub mod Rehearsal
 pub mod GatheredOutputs
+pub mod OutputParts
 pub mod CaptureOutputs
 pub mod DraftPlaces
 pub mod SoundOutputs

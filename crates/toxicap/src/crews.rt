@@ -39,7 +39,7 @@ pub(crate) trait Crew {
     fn record<'w, 'a>(
         &self,
         alloc: Global,
-        capture: &'w Capture<'a>,
+        capture: &Capture<'a>,
         table: &'w Table,
     ) -> Result<Recordings<'w, 'a>, AllocError>
         requires shares { shares self.now }
@@ -67,14 +67,14 @@ pub(crate) trait Crew {
     ///
     /// # Errors
     /// A growth was refused.
-    fn deliver_row<'a>(
+    fn deliver_row<'w, 'a>(
         &self,
         alloc: Global,
-        recordings: &Recordings<'_, 'a>,
+        recordings: &'w Recordings<'_, 'a>,
         number: u32,
         scenario: &Scenario,
         seed: u64,
-    ) -> Result<RowShares<'a>, AllocError>
+    ) -> Result<RowShares<'w, 'a>, AllocError>
         requires { shares self.now }
         ensures segments { IfOk result (λ v. flat_map (λ s. s.segments) v
             ≡ flat_map (λ d. d.segments) (recorded_row seed (number, scenario.now) recordings.now)) }
@@ -96,7 +96,7 @@ impl Crew for Alone {
     fn record<'w, 'a>(
         &self,
         alloc: Global,
-        capture: &'w Capture<'a>,
+        capture: &Capture<'a>,
         table: &'w Table,
     ) -> Result<Recordings<'w, 'a>, AllocError> {
         record_alone(alloc, capture, table)
@@ -113,14 +113,14 @@ impl Crew for Alone {
         report_texts_alone(alloc, capture, table, scenarios, seed)
     }
 
-    fn deliver_row<'a>(
+    fn deliver_row<'w, 'a>(
         &self,
         alloc: Global,
-        recordings: &Recordings<'_, 'a>,
+        recordings: &'w Recordings<'_, 'a>,
         number: u32,
         scenario: &Scenario,
         seed: u64,
-    ) -> Result<RowShares<'a>, AllocError> {
+    ) -> Result<RowShares<'w, 'a>, AllocError> {
         deliver_row_alone(alloc, recordings, number, scenario, seed)
     }
 }
@@ -146,7 +146,7 @@ impl<'r, R: Threads + Sync> Crew for Workers<'r, R> {
     fn record<'w, 'a>(
         &self,
         alloc: Global,
-        capture: &'w Capture<'a>,
+        capture: &Capture<'a>,
         table: &'w Table,
     ) -> Result<Recordings<'w, 'a>, AllocError> {
         record(self.rt, alloc, capture, table, self.plan, &Through)
@@ -165,14 +165,14 @@ impl<'r, R: Threads + Sync> Crew for Workers<'r, R> {
         )
     }
 
-    fn deliver_row<'a>(
+    fn deliver_row<'w, 'a>(
         &self,
         alloc: Global,
-        recordings: &Recordings<'_, 'a>,
+        recordings: &'w Recordings<'_, 'a>,
         number: u32,
         scenario: &Scenario,
         seed: u64,
-    ) -> Result<RowShares<'a>, AllocError> {
+    ) -> Result<RowShares<'w, 'a>, AllocError> {
         deliver_row(
             self.rt, alloc, recordings, number, scenario, seed, self.plan, &Through,
         )

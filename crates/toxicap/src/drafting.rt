@@ -1,10 +1,11 @@
 //! Drafts of outputs, made by workers in rounds: in each those of a few scenarios, of which a worker makes one after another.
 ghost use Rattle.std.specs.Prelude.{◌≡◌, ◌≢◌, ◌+◌, ◌<◌, ◌≤◌, IfOk, drop, get_or, length, take};
 ghost use Rattle.std.specs.List.{AllPairs};
+ghost use Rattle.run_files.specs.DraftedOutputs.{IsDraftOf};
 ghost use Rattle.toxicap.specs.CaptureOutputs.{no_output, outputs_from};
-ghost use Rattle.toxicap.specs.DraftPlaces.{paths_in, placed_from};
+ghost use Rattle.toxicap.specs.DraftPlaces.{AreAtPlace, paths_in, placed_from};
 
-use crate::crews::{Alone, Workers};
+use crate::crews::Workers;
 use crate::sources::Sources;
 use disks::Disk;
 use job_matrix::{Phase, Through, Work, work_all};
@@ -83,7 +84,7 @@ impl<'j, 'f, 's, 'w, 'v, 'a, D: Disk + Sync> Work for DraftJobs<'j, 'f, 's, 'w, 
         let place = job as usize;
         let drafted = self
             .sources
-            .drafted(&Alone, number, self.folder, self.disk, place)?;
+            .drafted_alone(number, self.folder, self.disk, place)?;
         Ok(OutputDraft {
             sources: self.sources,
             number,
@@ -139,7 +140,7 @@ where
     Ok(drafts.into_vec())
 }
 
-// Drafts of the output of one scenario, whose connections are spread over the workers.
+// Drafts of the output of one scenario, by all workers.
 fn draft_by_workers<'s, 'w, 'v, 'a, R: Threads + Sync, D: Disk>(
     crew: &Workers<'_, R>,
     sources: &'s Sources<'w, 'v, 'a>,
@@ -152,7 +153,7 @@ fn draft_by_workers<'s, 'w, 'v, 'a, R: Threads + Sync, D: Disk>(
     ensures next { IfOk result (λ v. v.items ≡ placed_from folder.now.folder 0 (take (length v.items) (drop number
         (outputs_from sources.now)))) }
 {
-    let drafted = sources.drafted(crew, number, folder, disk, 0)?;
+    let drafted = drafted_by(crew, sources, number, folder, disk)?;
     let mut drafts = Vec::with_capacity(sources.alloc, 1)?;
     drafts.push(OutputDraft {
         sources,
@@ -160,4 +161,22 @@ fn draft_by_workers<'s, 'w, 'v, 'a, R: Threads + Sync, D: Disk>(
         drafted,
     })?;
     Ok(drafts)
+}
+
+// The same, in the first place: by one worker alone, or else its connections are spread over the workers.
+fn drafted_by<R: Threads + Sync, D: Disk>(
+    crew: &Workers<'_, R>,
+    sources: &Sources<'_, '_, '_>,
+    number: usize,
+    folder: &Folder<'_>,
+    disk: &D,
+) -> Result<DraftedOutput<D::Draft>, AllocError>
+    requires { number < length sources.now.scenarios.now }
+    ensures drafts { IfOk result (IsDraftOf D.holds (get_or (outputs_from sources.now) number no_output)) }
+    ensures places { IfOk result (AreAtPlace D.path_of folder.now.folder 0) }
+{
+    if crew.plan.workers() == 1 {
+        return sources.drafted_alone(number, folder, disk, 0);
+    }
+    sources.drafted(crew, number, folder, disk, 0)
 }

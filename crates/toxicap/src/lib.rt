@@ -17,6 +17,7 @@ pub mod laws;
 mod one_thread;
 mod reading;
 mod rehearsal;
+mod report_heads;
 mod reports;
 mod row_captures;
 mod row_reports;

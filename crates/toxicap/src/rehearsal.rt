@@ -9,6 +9,7 @@ ghost use Rattle.std.specs.Prelude.{◌≡◌, ◌≤◌, IfOk, length};
 use crate::crews::Crew;
 use crate::gathering::{gathered_output, take_row};
 use crate::reading::read_rehearsed;
+use crate::report_heads::report_heads;
 use crate::sources::Sources;
 use conn_table::laws::indexed_connections_agree;
 use conn_workers::deliver;
@@ -93,35 +94,29 @@ pub(crate) fn rehearse_by<C: Crew>(
     ensures { Agrees run_refusal (λ outputs. outputs) result (answer (bytes_of capture.entry) scenarios.now seed) }
 {
     let capture = read_rehearsed(alloc, capture, scenarios)?;
-    let outputs = outputs_by(crew, alloc, &capture, scenarios, seed)?;
+    let outputs = outputs_by(crew, alloc, capture, scenarios, seed)?;
     Ok(outputs)
 }
 
 // What each scenario answers. The crew makes the table of the capture and what is recorded of each connection; then for one scenario after
-// another what each connection contributes to it, which is written and let go.
+// another what each connection contributes to it, which is written and let go. The capture's records are let go before the first.
 //
 // # Errors
 // A growth was refused.
 fn outputs_by<C: Crew>(
     crew: &C,
     alloc: Global,
-    capture: &Capture<'_>,
+    capture: Capture<'_>,
     scenarios: &[Scenario],
     seed: u64,
 ) -> Result<Outputs, AllocError>
     requires crew { C.shares crew.now }
     requires few { length scenarios.now ≤ scenario_limit }
-    ensures { IfOk result (λ outputs. outputs ≡ outputs_for capture.now scenarios.now seed) }
+    ensures { IfOk result (λ outputs. outputs ≡ outputs_for capture.entry scenarios.now seed) }
 {
-    let table = crew.table(alloc, capture)?;
-    let recordings = crew.record(alloc, capture, &table)?;
-    let sources = Sources {
-        alloc,
-        capture,
-        table: &table,
-        recordings: &recordings,
-        scenarios,
-        seed,
-    };
+    let table = crew.table(alloc, &capture)?;
+    let heads = report_heads(alloc, &capture, &table, scenarios.len())?;
+    let recordings = crew.record(alloc, &capture, &table)?;
+    let sources = Sources::of(alloc, capture, &heads, &recordings, scenarios, seed);
     sources.outputs(crew)
 }

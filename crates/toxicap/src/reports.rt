@@ -8,19 +8,16 @@ ghost use Rattle.run_files.specs.RunFault.{run_refusal};
 ghost use Rattle.run_files.specs.SeenTexts.{IsSeenOf};
 ghost use Rattle.run_files.specs.WrittenOutputs.{reports_of};
 ghost use Rattle.toxicap.specs.Answering.{called_for};
-ghost use Rattle.conn_workers.specs.CaptureTables.{whole_table};
-ghost use Rattle.std.specs.List.{range_with_len};
-ghost use Rattle.toxicap.specs.CaptureOutputs.{head_of, outputs_for};
+ghost use Rattle.toxicap.specs.CaptureOutputs.{outputs_for};
 ghost use Rattle.toxicap.specs.PrintedReports.{reports_in};
 ghost use Rattle.toxicap.specs.Rehearsal.{answer, scenario_limit};
 
 use crate::crews::Crew;
 use crate::held_reports::HeldReports;
 use crate::reading::{SCENARIO_LIMIT, read_inputs, read_rehearsed, read_texts};
-use conn_table::Table;
+use crate::report_heads::report_heads;
 use conn_workers::laws::lines_are_contributed;
 use pcap_records::{Capture, CaptureFault, FileBytes, KeptHeads};
-use report::{ReportText, report_head};
 use report_laws::laws::report_sees_heads;
 use run_files::{RunFault, SeenText, Text};
 use scenarios::{Hosts, Scenario};
@@ -138,26 +135,4 @@ fn made_reports<C: Crew>(
     let shares = crew.report_texts(alloc, capture, &table, scenarios, seed)?;
     let heads = report_heads(alloc, capture, &table, scenarios.len())?;
     Ok(HeldReports::of(heads, shares))
-}
-
-// The first two lines of so many reports.
-//
-// # Errors
-// A growth was refused.
-fn report_heads(
-    alloc: Global,
-    capture: &Capture<'_>,
-    table: &Table,
-    count: usize,
-) -> Result<Vec<ReportText>, AllocError>
-    requires table { table.now ≡ whole_table capture.now }
-    requires few { count ≤ scenario_limit }
-    ensures { IfOk result (λ heads. heads.items ≡ map (head_of capture.now table.now) (range_with_len 0 count)) }
-{
-    let mut heads = Vec::with_capacity(alloc, count)?;
-    for number in 0..count {
-        let head = report_head(alloc, number as u32, capture, table)?;
-        heads.push(head)?;
-    }
-    Ok(heads)
 }

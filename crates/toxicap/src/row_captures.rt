@@ -38,10 +38,10 @@ impl<D: Disk> CaptureSink for DraftSink<D> {
 //
 // # Errors
 // A growth was refused.
-pub(crate) fn segments_alone<'a>(
+pub(crate) fn segments_alone<'w, 'a>(
     alloc: Global,
-    row: RowShares<'a>,
-) -> Result<Vec<SegmentRow<'a>>, AllocError>
+    row: RowShares<'w, 'a>,
+) -> Result<Vec<SegmentRow<'w, 'a>>, AllocError>
     ensures { IfOk result (λ rows. rows.items ≡ map (λ s. s.segments) row.entry) }
 {
     let shares = row.into_vec();
@@ -58,7 +58,7 @@ pub(crate) fn segments_alone<'a>(
 // A growth was refused.
 pub(crate) fn written_draft<D: Disk>(
     alloc: Global,
-    rows: &[SegmentRow<'_>],
+    rows: &[SegmentRow<'_, '_>],
     unit: Unit,
     draft: D::Draft,
 ) -> Result<D::Draft, AllocError>

@@ -9,6 +9,7 @@ ghost use Rattle.toxicap.specs.StoredOutputs.{StoresOf, TakenOf, failed_stores};
 use crate::crews::{Crew, Workers};
 use crate::drafting::drafts_from;
 use crate::reading::read_rehearsed;
+use crate::report_heads::report_heads;
 use crate::sources::Sources;
 use disks::Disk;
 use pcap_records::{Capture, FileBytes};
@@ -43,14 +44,15 @@ where
     ensures faults { D.faults disk.new ≡ D.faults disk.old + failed_stores folder.old.folder result }
 {
     let capture = read_rehearsed(alloc, capture, scenarios)?;
-    store_outputs(crew, alloc, &capture, scenarios, seed, folder, disk)
+    store_outputs(crew, alloc, capture, scenarios, seed, folder, disk)
 }
 
-// Stores what each scenario answers. Workers make the table of the capture, range by range, and what is recorded of each connection.
+// Stores what each scenario answers. Workers make the table of the capture, range by range, and what is recorded of each connection. Then the
+// capture's records are let go.
 fn store_outputs<R: Threads + Sync, D: Disk + Sync>(
     crew: &Workers<'_, R>,
     alloc: Global,
-    capture: &Capture<'_>,
+    capture: Capture<'_>,
     scenarios: &[Scenario],
     seed: u64,
     folder: &mut Folder<'_>,
@@ -61,21 +63,15 @@ where
     requires few { length scenarios.now ≤ scenario_limit }
     requires failures { folder.old.failed < 2 ^ 64 - 1 }
     requires faults { D.faults disk.old < 2 ^ 64 - 1 }
-    ensures ends { StoresOf result (Ok (outputs_for capture.now scenarios.now seed)) }
-    ensures taken { TakenOf result (Ok (outputs_for capture.now scenarios.now seed))
+    ensures ends { StoresOf result (Ok (outputs_for capture.entry scenarios.now seed)) }
+    ensures taken { TakenOf result (Ok (outputs_for capture.entry scenarios.now seed))
         (TakesIn folder.old.folder (D.history disk.old) (D.history disk.new)) folder.old.failed folder.new.failed }
     ensures faults { D.faults disk.new ≡ D.faults disk.old + failed_stores folder.old.folder result }
 {
-    let table = crew.table(alloc, capture)?;
-    let recordings = crew.record(alloc, capture, &table)?;
-    let sources = Sources {
-        alloc,
-        capture,
-        table: &table,
-        recordings: &recordings,
-        scenarios,
-        seed,
-    };
+    let table = crew.table(alloc, &capture)?;
+    let heads = report_heads(alloc, &capture, &table, scenarios.len())?;
+    let recordings = crew.record(alloc, &capture, &table)?;
+    let sources = Sources::of(alloc, capture, &heads, &recordings, scenarios, seed);
     store_each(crew, &sources, folder, disk)
 }
 

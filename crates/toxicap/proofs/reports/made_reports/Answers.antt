@@ -7,7 +7,7 @@ pub of-requires : goal.of-requires
 of-requires g c =
     let scenarios = c.args.scenarios.now in
     let hold = c.in_ok-shares.ensures in
-    let as_many = as_many_heads c.args.capture.now c.in_ok-table.table c.in_ok-table.ensures scenarios c.args.seed c.lines_are_contributed.ensures
+    let as_many = as_many_heads c.args.capture.now scenarios c.args.seed c.lines_are_contributed.ensures
     c.in_ok-heads.heads.items c.in_ok-heads.ensures c.in_ok-shares.shares hold in
     All-weaker (λ (share : List (List ℕ)). length share ≡ length scenarios) (λ share. length share ≡ length c.in_ok-heads.heads.items) (λ share is. is ∙ sym as_many)
     c.in_ok-shares.shares hold.each
@@ -15,5 +15,5 @@ of-requires g c =
 pub returns : goal.returns
 returns g c =
     c.of.ensures
-    ∙ held_are c.args.capture.now c.in_ok-table.table c.in_ok-table.ensures c.args.scenarios.now c.args.seed c.lines_are_contributed.ensures
+    ∙ held_are c.args.capture.now c.args.scenarios.now c.args.seed c.lines_are_contributed.ensures
     c.in_ok-heads.heads.items c.in_ok-heads.ensures c.in_ok-shares.shares c.in_ok-shares.ensures

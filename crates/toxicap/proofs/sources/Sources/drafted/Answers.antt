@@ -1,5 +1,6 @@
-use Rattle.std.proofs.Common.{ap, ◌∙◌, rules}
+use Rattle.std.proofs.Common.{◌<◌, [], length, ap, ◌∙◌, arith}
 use Rattle.std.specs.List.{flat_map}
+use Rattle.std.proofs.lemmas.List.{get_or_default}
 use Rattle.std.proofs.lemmas.List.Folds.{flat_map-map}
 use Rattle.toxicap.proofs.sources.Sources.drafted.Goals as goal
 
@@ -11,5 +12,9 @@ written_draft-requires-clause-once g c =
 pub returns-clause-drafts : goal.returns-clause-drafts
 returns-clause-drafts g c =
     let same = ap (flat_map (λ r. r)) (c.deref.ensures.value ∙ c.in_ok-rows.ensures) ∙ flat_map-map (λ r. r) (λ s. s.segments) c.in_ok-row.row in
-    let capture = rw (same, c.unit.ensures, c.in_ok-row.ensures.capture) at c.in_ok-capture.ensures.holds in
-    (capture, search rules)
+    let capture = rw (same, c.in_ok-row.ensures.capture) at c.in_ok-capture.ensures.holds in
+    let own = c.args.self.now in
+    let within : c.args.number < length own.heads.now = omega (arith, own.each, c.requires.within) in
+    let head = get_or_default own.heads.now c.args.number c.index-self-number.result [] within in
+    let report = rw (c.as_slice.ensures, head, c.in_ok-row.ensures.report) at c.reported_draft-report.ensures.holds in
+    (capture, report)

@@ -2,7 +2,8 @@
 # The events that the helpers of examples/suites and examples/c read from output captures: put together they are what tshark follows of each
 # connection, with each byte's instant, and what the reports count, over the samples and two real captures under all scenarios of examples/, in
 # microseconds and in nanoseconds with a VLAN tag; of the captures of tests/rows they are what the reports count. The helpers of Python, Go, Rust and C
-# give the same events, and refuse captures that toxicap did not write, each for its fault. It wants python3.
+# give the same events, and refuse captures that toxicap did not write, each for its fault; 30,000 connections of one pair take none of them long. It
+# wants python3.
 set -euo pipefail
 cd "$(dirname "$0")/.."
 . tests/lib.sh
@@ -24,9 +25,12 @@ rehearsed() {
     verdict "$1" "$(well)"
 }
 
-# read_by LANGUAGE NAME COMMAND..: the events of all captures by one helper, which are those of Python, and its refusals.
+# read_by LANGUAGE NAME SECONDS COMMAND..: the events of all captures by one helper, in at most so many processor seconds, are those of Python; and
+# its refusals.
 read_by() {
-    verdict "$1" "$({ "${@:3}" "$outputs"/*/*.pcap > "$work/$2.dump" && "${@:3}" "${broken[@]}" > "$work/$2.broken"; } 2>&1 || echo "  status $?")"
+    verdict "$1" "$({
+        (ulimit -t "$3"; "${@:4}" "$outputs"/*/*.pcap) > "$work/$2.dump" && "${@:4}" "${broken[@]}" > "$work/$2.broken"
+    } 2>&1 || echo "  status $?")"
     verdict "$1, the same events" "$(byte_difference "$work/python.dump" "$work/$2.dump")"
     verdict "$1, refusals" "$(difference "$work/refusals" "$work/$2.broken")"
 }
@@ -62,13 +66,27 @@ printf '[{"name":"web","upstream":"10.0.0.2:80","toxics":[{"type":"latency","att
 awk -f tests/capture.awk tests/events/same-port > "$work/same-port.dump"
 rehearsed worked-same-port "$work/same-port.dump" --scenario "$work/late.json"
 
+# 30,000 connections of one pair, ten of them open at once
+awk 'BEGIN {
+    for (i = 0; i < 30000; i++) {
+        time = sprintf("%d.%02d", 1 + i / 100, i % 100); c = 1000 + 100 * i; s = 5000 + 100 * i
+        print time "0000 c>s SYN " c " 0"
+        print time "0100 s>c SYN ACK " s " " c + 1
+        print time "0200 c>s PSH ACK " c + 1 " " s + 1 " \"one\""
+        print time "0300 s>c PSH ACK " s + 1 " " c + 4 " \"ONE\""
+        print time "0400 s>c FIN ACK " s + 4 " " c + 4
+        print time "0500 c>s FIN ACK " c + 4 " " s + 5
+    }
+}' | awk -f tests/capture.awk > "$work/one-pair.dump"
+rehearsed worked-one-pair "$work/one-pair.dump" --scenario "$work/late.json"
+
 mkdir "$work/broken"
 last=$(printf '%04d' $((${#scenarios[@]} / 2 - 1)))
 python3 -B tests/events/broken.py "$outputs/http-get/$last.pcap" samples/http-get.pcap "$work/broken" > "$work/refusals"
 mapfile -t broken < <(sed -n 's/^== //p' "$work/refusals")
 verdict "broken captures" "$([ ${#broken[@]} -gt 900 ] || echo "  ${#broken[@]}")"
 
-read_by Python python env PYTHONPATH=examples/suites/python python3 -B tests/events/dump.py
+read_by Python python 30 env PYTHONPATH=examples/suites/python python3 -B tests/events/dump.py
 verdict "the same port" "$(
     sed -n '/same-port/,/delivered/p' "$work/python.dump" | sed '1d; $d' > "$work/found"
     difference tests/events/same-port.events "$work/found"
@@ -84,14 +102,14 @@ if can "Go" go; then
     cp tests/events/dump.go "$work/dump/main.go"
     printf 'module dump\n\ngo 1.18\n\nrequire toxicap v0.0.0\n\nreplace toxicap => %s\n' "$PWD/examples/suites/go" > "$work/dump/go.mod"
     verdict "Go, compiled" "$(cd "$work/dump" && GOFLAGS=-mod=mod GOPROXY=off GO111MODULE=on go build -o ../dump-go . 2>&1)"
-    read_by Go go "$work/dump-go"
+    read_by Go go 5 "$work/dump-go"
 fi
 if can "Rust" rustc cc; then
     verdict "Rust, compiled" "$(rustc --edition 2021 -O -o "$work/dump-rust" tests/events/dump.rs 2>&1)"
-    read_by Rust rust "$work/dump-rust"
+    read_by Rust rust 5 "$work/dump-rust"
 fi
 if can "C" gcc; then
     verdict "C, compiled" "$(gcc -std=gnu99 -Wall -Wextra -Werror -O1 -o "$work/dump-c" tests/events/dump.c 2>&1)"
-    read_by C c "$work/dump-c"
+    read_by C c 5 "$work/dump-c"
 fi
 close

@@ -8,8 +8,7 @@
  *     events_free(&events);
  *
  * An output capture has its segments in order, without repeats and gaps, so nothing is reassembled. A capture that toxicap did not write (a
- * recording, pcapng, an output that was cut or put in another order) is refused. Checksums are not looked at. The time that it takes grows
- * with the records times the connections. */
+ * recording, pcapng, an output that was cut or put in another order) is refused. Checksums are not looked at. */
 #ifndef EVENTS_H
 #define EVENTS_H
 
@@ -58,6 +57,14 @@ typedef struct {
     uint8_t *begun[2];
     size_t begun_len[2];
 } EventConnection;
+
+/* The connections that have begun, and lists of their sides that have not ended, by a hash of what the next record of a side has. `links` has
+   `room` places for the beginnings of lists, and then two for each connection, for what comes after each of its sides. A link is the place of a
+   side, or 0. */
+typedef struct {
+    EventConnection *all;
+    size_t count, room, *links;
+} EventConnections;
 
 static uint32_t events_little(const uint8_t *at) { return at[0] | (uint32_t)at[1] << 8 | (uint32_t)at[2] << 16 | (uint32_t)at[3] << 24; }
 static uint32_t events_big(const uint8_t *at) { return (uint32_t)at[0] << 24 | (uint32_t)at[1] << 16 | (uint32_t)at[2] << 8 | at[3]; }
@@ -157,56 +164,80 @@ static const char *events_take(Events *events, EventConnection *of, size_t numbe
     return NULL;
 }
 
-/* Finds the connections that a record may go on with: its bytes are the next ones, and it acknowledges what was sent. How many there are; `number` and
-   `side` are those of the last one. */
-static size_t events_find(const EventConnection *connections, size_t count, const EventRecord *record, size_t *number, int *side)
+/* The list of the sides whose next record may have these fields: its place, by the hash FNV-1a. */
+static size_t events_list(const EventConnections *of, const uint8_t *tag, const uint8_t *sender, const uint8_t *receiver, uint32_t seq)
 {
-    size_t able = 0;
-    for (size_t i = 0; i < 2 * count; i++) {
-        const EventConnection *of = &connections[i / 2];
-        int way = i % 2;
-        if (memcmp(of->tag, record->tag, 5) == 0 && memcmp(of->peers[way], record->peers[0], 6) == 0 &&
-            memcmp(of->peers[!way], record->peers[1], 6) == 0 && of->next[!way] - record->ack <= of->sent[!way] &&
-            record->seq == of->next[way] && !of->is_ended[way]) {
+    uint64_t hash = UINT64_C(14695981039346656037) ^ seq;
+    for (int i = 0; i < 17; i++)
+        hash = (hash ^ (i < 5 ? tag[i] : i < 11 ? sender[i - 5] : receiver[i - 11])) * UINT64_C(1099511628211);
+    return (hash ^ hash >> 32) % of->room;
+}
+
+/* Puts a side of a connection into its list, unless it has ended. */
+static void events_wait(const EventConnections *of, size_t number, int side)
+{
+    const EventConnection *it = &of->all[number];
+    if (it->is_ended[side])
+        return;
+    size_t list = events_list(of, it->tag, it->peers[side], it->peers[!side], it->next[side]), place = of->room + 2 * number + side;
+    of->links[place] = of->links[list];
+    of->links[list] = place;
+}
+
+/* Finds the sides that a record may go on with: it is as they await it, and acknowledges what was sent. How many there are; `link` is the place
+   that leads to the last one. */
+static size_t events_find(const EventConnections *of, const EventRecord *record, size_t *link)
+{
+    size_t able = 0, before = events_list(of, record->tag, record->peers[0], record->peers[1], record->seq);
+    for (size_t place; (place = of->links[before]) != 0; before = place) {
+        const EventConnection *it = &of->all[(place - of->room) / 2];
+        int side = (place - of->room) % 2;
+        if (memcmp(it->tag, record->tag, 5) == 0 && memcmp(it->peers[side], record->peers[0], 6) == 0 &&
+            memcmp(it->peers[!side], record->peers[1], 6) == 0 && it->next[!side] - record->ack <= it->sent[!side] &&
+            record->seq == it->next[side]) {
             able++;
-            *number = i / 2;
-            *side = way;
+            *link = before;
         }
     }
     return able;
 }
 
 /* Puts the events of records into a list that has room for them; 0 where toxicap did not write them. */
-static int events_add_all(Events *events, const EventRecord *records, size_t count, EventConnection *connections, size_t *open)
+static int events_add_all(Events *events, const EventRecord *records, size_t count, EventConnections *of)
 {
-    size_t number = 0, len;
-    int side = 0;
+    size_t link = 0, len;
     for (size_t at = 0; at < count; at += len) {
         const EventRecord *record = &records[at];
         len = 1;
         if (record->flags == 2 && record->len == 0) {
-            EventConnection *begun = &connections[*open];
-            if ((len = events_open(record, count - at, begun)) == 0)
+            if ((len = events_open(record, count - at, &of->all[of->count])) == 0)
                 return events_fault(events, at, "no opening follows its SYN");
-            for (side = 0; len == 2 && side < 2; side++)
-                events_add(events, begun, *open, record->time, side, EVENT_REFUSED);
-            ++*open;
+            for (int side = 0; side < 2; side++) {
+                if (len == 2)
+                    events_add(events, &of->all[of->count], of->count, record->time, side, EVENT_REFUSED);
+                events_wait(of, of->count, side);
+            }
+            of->count++;
             continue;
         }
-        size_t able = events_find(connections, *open, record, &number, &side);
+        size_t able = events_find(of, record, &link);
         const char *why = NULL;
         char text[48];
-        if (able == 1)
-            why = events_take(events, &connections[number], number, side, record);
-        else {
+        if (able == 1) {
+            size_t place = of->links[link], number = (place - of->room) / 2;
+            int side = (place - of->room) % 2;
+            of->links[link] = of->links[place];
+            why = events_take(events, &of->all[number], number, side, record);
+            events_wait(of, number, side);
+        } else {
             snprintf(text, sizeof text, "%zu connections go on with it", able);
             why = text;
         }
         if (why != NULL)
             return events_fault(events, at, why);
     }
-    for (size_t i = 0; i < *open; i++)
-        if (connections[i].begun_len[0] + connections[i].begun_len[1] > 0)
+    for (size_t i = 0; i < of->count; i++)
+        if (of->all[i].begun_len[0] + of->all[i].begun_len[1] > 0)
             return events_fault(events, count, "the end is missing");
     return 1;
 }
@@ -227,7 +258,7 @@ static int events_of(const uint8_t *capture, size_t capture_len, Events *events)
 {
     static const char header[] = "\2\0\4\0\0\0\0\0\0\0\0\0\xff\xff\0\0\1\0\0\0";
     uint64_t tick = 0;
-    size_t count = 0, room = capture_len / 70 + 1, open = 0; /* a record has 70 bytes at least */
+    size_t count = 0, room = capture_len / 70 + 1; /* a record has 70 bytes at least */
     *events = (Events){0};
     if (capture_len >= 24)
         tick = memcmp(capture, "\xd4\xc3\xb2\xa1", 4) == 0 ? 1000 : memcmp(capture, "\x4d\x3c\xb2\xa1", 4) == 0 ? 1 : 0;
@@ -236,9 +267,9 @@ static int events_of(const uint8_t *capture, size_t capture_len, Events *events)
         return 0;
     }
     EventRecord *records = malloc(room * sizeof *records);
-    EventConnection *connections = malloc(room * sizeof *connections);
+    EventConnections connections = {malloc(room * sizeof *connections.all), 0, room, calloc(room, 3 * sizeof *connections.links)};
     events->all = malloc(room * sizeof *events->all);
-    int is_right = records != NULL && connections != NULL && events->all != NULL;
+    int is_right = records != NULL && connections.all != NULL && connections.links != NULL && events->all != NULL;
     if (!is_right)
         events_fault(events, 0, "lack of memory");
     for (size_t place = 24, held; is_right && place < capture_len; place += 16 + held, count++) {
@@ -255,14 +286,15 @@ static int events_of(const uint8_t *capture, size_t capture_len, Events *events)
         }
         is_right = why == NULL || events_fault(events, count, why);
     }
-    is_right = is_right && events_add_all(events, records, count, connections, &open);
-    events->connections = is_right ? open : 0;
-    for (size_t i = 0; i < open; i++) {
-        free(connections[i].begun[0]);
-        free(connections[i].begun[1]);
+    is_right = is_right && events_add_all(events, records, count, &connections);
+    events->connections = is_right ? connections.count : 0;
+    for (size_t i = 0; i < connections.count; i++) {
+        free(connections.all[i].begun[0]);
+        free(connections.all[i].begun[1]);
     }
     free(records);
-    free(connections);
+    free(connections.all);
+    free(connections.links);
     if (!is_right)
         events_free(events);
     return is_right;

@@ -57,6 +57,15 @@ func texts(scenarios [][]byte) ([]byte, []C.size_t) {
 	return bytes.Join(scenarios, nil), lens
 }
 
+// reportRoom is a first guess: a connection takes some 120 bytes of a report, and mostly 1,000 or more of the capture; 256 KiB at most.
+func reportRoom(capture []byte, count int) C.size_t {
+	each := len(capture) / 8
+	if each > 262144 {
+		each = 262144
+	}
+	return C.size_t(count * (1024 + each))
+}
+
 // Rehearse gives the output of each scenario, made in this process: the bytes that `toxicap --out` stores. The capture is a classic pcap or a dump of
 // one in hexadecimal, scenarios are JSON in Toxiproxy's populate form, hosts are lines NAME=ADDR, and all drawing depends on the seed. Any goroutine
 // may call. A refusal is an error of the type *Refusal.
@@ -66,7 +75,7 @@ func Rehearse(capture []byte, scenarios [][]byte, hosts []byte, seed uint64) ([]
 	var lens []C.size_t
 	count := len(scenarios)
 	room := count*(len(capture)+len(capture)/4) + 4096
-	sizes := C.ToxicapSizes{captures: C.size_t(room), reports: C.size_t(1024 * count), lens: C.size_t(2 * count)}
+	sizes := C.ToxicapSizes{captures: C.size_t(room), reports: reportRoom(capture, count), lens: C.size_t(2 * count)}
 	status := C.uint8_t(C.TOXICAP_NO_ROOM)
 	for status == C.TOXICAP_NO_ROOM {
 		captures, reports, lens = make([]byte, sizes.captures), make([]byte, sizes.reports), make([]C.size_t, sizes.lens)
@@ -93,7 +102,7 @@ func Rehearse(capture []byte, scenarios [][]byte, hosts []byte, seed uint64) ([]
 func Reports(capture []byte, scenarios [][]byte, hosts []byte, seed uint64) ([]byte, error) {
 	text, scenarioLens := texts(scenarios)
 	var reports []byte
-	sizes := C.ToxicapSizes{reports: C.size_t(1024 * len(scenarios))}
+	sizes := C.ToxicapSizes{reports: reportRoom(capture, len(scenarios))}
 	status := C.uint8_t(C.TOXICAP_NO_ROOM)
 	for status == C.TOXICAP_NO_ROOM {
 		reports = make([]byte, sizes.reports)

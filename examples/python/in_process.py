@@ -110,6 +110,11 @@ def room_for(size: int) -> "ctypes.Array[ctypes.c_char]":
     return ctypes.create_string_buffer(size)
 
 
+def report_room(capture_len: int, count: int) -> int:
+    """A first guess: a connection takes some 120 bytes of a report, and mostly 1,000 or more of the capture; 256 KiB at most."""
+    return count * (1024 + min(capture_len // 8, 262144))
+
+
 def part(room: "ctypes.Array[ctypes.c_char]", place: int, size: int) -> bytes:
     """So many bytes of a buffer, from a place on."""
     return memoryview(room)[place : place + size].tobytes()
@@ -136,7 +141,7 @@ def rehearse(capture: bytes, scenarios: Sequence[bytes], hosts: bytes = b"", see
     is made, and RuntimeError is raised."""
     inputs = inputs_of(capture, scenarios, hosts, seed)
     capture_len, count = inputs[1], inputs[5]
-    status, sizes = NO_ROOM, Sizes(count * (capture_len + capture_len // 4) + 4096, 1024 * count, 2 * count)
+    status, sizes = NO_ROOM, Sizes(count * (capture_len + capture_len // 4) + 4096, report_room(capture_len, count), 2 * count)
     while status == NO_ROOM:
         captures, reports, lens = room_for(sizes.captures), room_for(sizes.reports), (ctypes.c_size_t * sizes.lens)()
         status = library().toxicap_rehearse(*inputs, captures, len(captures), reports, len(reports), lens, len(lens), sizes)
@@ -151,7 +156,7 @@ def rehearse(capture: bytes, scenarios: Sequence[bytes], hosts: bytes = b"", see
 def reports(capture: bytes, scenarios: Sequence[bytes], hosts: bytes = b"", seed: int = 0) -> List[bytes]:
     """The reports alone, the same bytes as of `rehearse`, in less time and memory. Arguments and errors are those of `rehearse`."""
     inputs = inputs_of(capture, scenarios, hosts, seed)
-    status, sizes = NO_ROOM, Sizes(0, 1024 * inputs[5], 0)
+    status, sizes = NO_ROOM, Sizes(0, report_room(inputs[1], inputs[5]), 0)
     while status == NO_ROOM:
         texts = room_for(sizes.reports)
         status = library().toxicap_reports(*inputs, texts, len(texts), sizes)

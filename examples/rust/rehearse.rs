@@ -77,6 +77,11 @@ fn texts(scenarios: &[impl AsRef<[u8]>]) -> (Vec<u8>, Vec<usize>) {
     )
 }
 
+/// A first guess: a connection takes some 120 bytes of a report, and mostly 1,000 or more of the capture; 256 KiB at most.
+fn report_room(capture: &[u8], count: usize) -> usize {
+    count * (1024 + (capture.len() / 8).min(262_144))
+}
+
 /// The capture and the report of each scenario, in their order: the bytes that `toxicap --out` stores.
 ///
 /// The capture is a classic pcap of Ethernet frames, or a dump of one in hexadecimal; scenarios are JSON in Toxiproxy's populate form, with the field
@@ -91,7 +96,7 @@ fn texts(scenarios: &[impl AsRef<[u8]>]) -> (Vec<u8>, Vec<usize>) {
 pub fn rehearse(capture: &[u8], scenarios: &[impl AsRef<[u8]>], hosts: &str, seed: u64) -> Result<Vec<Output>, Refusal> {
     let ((text, scenario_lens), count) = (texts(scenarios), scenarios.len());
     let room = count * (capture.len() + capture.len() / 4) + 4096;
-    let mut sizes = Sizes { captures: room, reports: 1024 * count, lens: 2 * count };
+    let mut sizes = Sizes { captures: room, reports: report_room(capture, count), lens: 2 * count };
     loop {
         let (mut captures, mut reports) = (vec![0; sizes.captures], vec![0; sizes.reports]);
         let mut lens = vec![0; sizes.lens];
@@ -121,7 +126,7 @@ pub fn rehearse(capture: &[u8], scenarios: &[impl AsRef<[u8]>], hosts: &str, see
 #[rustfmt::skip]
 pub fn reports(capture: &[u8], scenarios: &[impl AsRef<[u8]>], hosts: &str, seed: u64) -> Result<Vec<u8>, Refusal> {
     let (text, scenario_lens) = texts(scenarios);
-    let mut sizes = Sizes { captures: 0, reports: 1024 * scenarios.len(), lens: 0 };
+    let mut sizes = Sizes { captures: 0, reports: report_room(capture, scenarios.len()), lens: 0 };
     loop {
         let mut reports = vec![0; sizes.reports];
         // SAFETY: each pointer goes with its own slice's length, and the outputs are apart from all else.

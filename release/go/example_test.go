@@ -2,6 +2,7 @@ package toxicap_test
 
 import (
 	"bufio"
+	"encoding/binary"
 	"errors"
 	"fmt"
 	"io"
@@ -94,20 +95,28 @@ func ExampleDelivered() {
 	// one read: 50 bytes; net/http: "Hello from the sample server.\n", <nil>
 }
 
-// The reports alone are those of the outputs, and each refusal is its line.
+// The reports alone are those of the outputs, also of a hundred openings, for which the first room is too small, and each refusal is its line.
 func TestReports(t *testing.T) {
 	capture, err := os.ReadFile("share/toxicap/samples/http-get.pcap")
 	if err != nil {
 		t.Fatal(err)
 	}
 	scenarios := [][]byte{[]byte("[]"), []byte(limit)}
-	outputs, err := toxicap.Rehearse(capture, scenarios, nil, 0)
-	if err != nil {
-		t.Fatal(err)
+	opening := capture[24 : 40+binary.LittleEndian.Uint32(capture[32:])]
+	openings := append([]byte{}, capture[:24]...)
+	for port := byte(0); port < 100; port++ {
+		openings = append(openings, opening...)
+		openings[len(openings)-len(opening)+51] = port
 	}
-	reports, err := toxicap.Reports(capture, scenarios, nil, 0)
-	if err != nil || string(reports) != string(outputs[0].Report)+string(outputs[1].Report) {
-		t.Errorf("%v, %s", err, reports)
+	for _, capture := range [][]byte{capture, openings} {
+		outputs, err := toxicap.Rehearse(capture, scenarios, nil, 0)
+		if err != nil {
+			t.Fatal(err)
+		}
+		reports, err := toxicap.Reports(capture, scenarios, nil, 0)
+		if err != nil || string(reports) != string(outputs[0].Report)+string(outputs[1].Report) {
+			t.Errorf("%v, %s", err, reports)
+		}
 	}
 	if _, err := toxicap.Rehearse(nil, scenarios, nil, 0); err == nil || err.Error() != "refused 1 ShortHeader" {
 		t.Error(err)

@@ -4,30 +4,25 @@
 
 static const char *ways[] = {"up", "down"}, *ends[] = {"", "fin", "reset", "refused"};
 
-/* Prints the events of a connection. */
-static void print_events(const Events *events, size_t number)
+/* The order of events by connection; those of one connection stay as they stand in the list. */
+static int order(const void *one, const void *other)
 {
-    for (const Event *event = events->all; event < events->all + events->count; event++) {
-        if (event->connection != number)
-            continue;
-        printf("%zu %llu %s ", number, (unsigned long long)event->time, ways[event->is_down]);
-        for (size_t i = 0; i < event->len; i++)
-            printf("%02x", event->bytes[i]);
-        puts(ends[event->kind]);
-    }
+    const Event *a = *(Event *const *)one, *b = *(Event *const *)other;
+    return a->connection != b->connection ? (a->connection < b->connection ? -1 : 1) : (a > b) - (a < b);
 }
 
-/* Prints what one direction of a connection delivered. */
-static void print_line(const Events *events, size_t number, int is_down)
+/* Prints what one direction of a connection delivered, of all its events. */
+static void print_line(Event **events, size_t count, size_t number, int is_down)
 {
     char end[48] = "open";
     size_t len = 0;
-    char *chunks = calloc(events->count + 1, 48);
+    char *chunks = calloc(count + 1, 48);
     if (chunks == NULL)
         err(1, "calloc");
-    for (const Event *event = events->all; event < events->all + events->count; event++) {
+    for (size_t i = 0; i < count; i++) {
+        const Event *event = events[i];
         unsigned long long time = event->time;
-        if (event->connection != number || event->is_down != is_down)
+        if (event->is_down != is_down)
             continue;
         if (event->kind == EVENT_CHUNK)
             len += sprintf(chunks + len, "%s%llu:%zu", len > 0 ? " " : "", time, event->len);
@@ -45,11 +40,26 @@ static void dump(const uint8_t *capture, size_t len)
         puts(events.fault);
         return;
     }
-    for (size_t number = 0; number < events.connections; number++)
-        print_events(&events, number);
-    for (size_t number = 0; number < events.connections; number++)
+    Event **ordered = malloc((events.count + 1) * sizeof *ordered);
+    if (ordered == NULL)
+        err(1, "malloc");
+    for (size_t i = 0; i < events.count; i++)
+        ordered[i] = &events.all[i];
+    qsort(ordered, events.count, sizeof *ordered, order);
+    for (size_t i = 0; i < events.count; i++) {
+        const Event *event = ordered[i];
+        printf("%zu %llu %s ", event->connection, (unsigned long long)event->time, ways[event->is_down]);
+        for (size_t byte = 0; byte < event->len; byte++)
+            printf("%02x", event->bytes[byte]);
+        puts(ends[event->kind]);
+    }
+    for (size_t number = 0, from = 0, to = 0; number < events.connections; number++, from = to) {
+        while (to < events.count && ordered[to]->connection == number)
+            to++;
         for (int is_down = 0; is_down < 2; is_down++)
-            print_line(&events, number, is_down);
+            print_line(ordered + from, to - from, number, is_down);
+    }
+    free(ordered);
     events_free(&events);
 }
 

@@ -4,6 +4,7 @@ import mmap
 import os
 import pathlib
 import pickle
+import struct
 import sys
 import tempfile
 import threading
@@ -66,6 +67,15 @@ def refusals(capture):
         told(f"a wrong type, {words[1:]}", type(raised(toxicap.rehearse, *words)), TypeError)
     for seed in -1, 2**64:
         told(f"seed {seed}", str(raised(toxicap.rehearse, capture, [], b"", seed)), f"the seed {seed} is not from 0 to 2^64 - 1")
+
+
+def many_connections(capture):
+    """A hundred openings that nobody answers: reports and captures want more room than is guessed at first."""
+    end = 40 + struct.unpack_from("<I", capture, 32)[0]
+    openings = b"".join(capture[24:74] + struct.pack(">H", port) + capture[76:end] for port in range(1, 101))
+    found = toxicap.reports(capture[:24] + openings, [b"[]", b"[]"])
+    told("reports of many connections", [len(report.splitlines()) for report in found], [102, 102])
+    told("outputs of many connections", [output.report for output in toxicap.rehearse(capture[:24] + openings, [b"[]", b"[]"])], found)
 
 
 def kinds_of_bytes(capture, scenario):
@@ -147,6 +157,7 @@ def modules():
 
 forks((FOLDER / "http-get.pcap").read_bytes())
 refusals((FOLDER / "http-get.pcap").read_bytes())
+many_connections((FOLDER / "http-get.pcap").read_bytes())
 kinds_of_bytes((FOLDER / "shop.pcap").read_bytes(), (FOLDER / "bandwidth.json").read_bytes())
 modules()
 print(outputs(), "outputs")

@@ -37,6 +37,7 @@ type record struct {
 // A connection while it is read; arrays have the client's before the server's.
 type connection struct {
 	opened time.Duration
+	pairs  [2][3]string
 	next   [2]uint32
 	sent   [2]uint32
 	ended  [2]bool
@@ -44,13 +45,28 @@ type connection struct {
 	events []Event
 }
 
+// What the next record of a side has.
+type awaited struct {
+	pair [3]string
+	seq  uint32
+}
+
+// A side of a connection: 0 is the client's.
+type side struct {
+	of     *connection
+	number int
+}
+
+// The sides that have not ended.
+type waiting map[awaited][]side
+
 // Events gives the events of each connection of an output capture, in order of time, connections in the order of the report's lines. An output
 // capture has its segments in order, without repeats and gaps, so nothing is reassembled. A capture that toxicap did not write (a recording, pcapng,
 // an output that was cut or put in another order) is refused: the error tells why, and the number of the record, from 0. Checksums are not looked
 // at.
 func Events(capture []byte) ([][]Event, error) {
 	found, err := records(capture)
-	connections, ofPair := []*connection{}, map[[3]string][]*connection{}
+	connections, sides := []*connection{}, waiting{}
 	for number := 0; err == nil && number < len(found); {
 		r, length := found[number], 1
 		if r.flags == syn && len(r.payload) == 0 {
@@ -58,9 +74,11 @@ func Events(capture []byte) ([][]Event, error) {
 			if begun, length = opening(found[number:]); begun == nil {
 				return nil, refusal(number, "no opening follows its SYN")
 			}
-			connections, ofPair[r.pair] = append(connections, begun), append(ofPair[r.pair], begun)
+			connections = append(connections, begun)
+			sides.add(side{begun, 0})
+			sides.add(side{begun, 1})
 		} else {
-			err = goOn(ofPair, number, r)
+			err = sides.goOn(number, r)
 		}
 		number += length
 	}
@@ -153,9 +171,6 @@ func read(frame []byte) (r record, why string) {
 	return r, ""
 }
 
-// turned is a pair with the receiver first.
-func turned(pair [3]string) [3]string { return [3]string{pair[0], pair[2], pair[1]} }
-
 // opening gives the connection that the first record begins, by a SYN, and how many records its opening has; nil where toxicap writes none such.
 func opening(found []record) (*connection, int) {
 	begin := found[0]
@@ -166,33 +181,44 @@ func opening(found []record) (*connection, int) {
 		r := found[place]
 		return r.time == begin.time && r.pair == pair && r.seq == seq && r.ack == acked && r.flags == flags && len(r.payload) == 0
 	}
-	back := turned(begin.pair)
+	back := [3]string{begin.pair[0], begin.pair[2], begin.pair[1]}
 	if is(1, back, 0, begin.seq+1, rst|ack) {
 		return &connection{ended: [2]bool{true, true}, events: []Event{{0, "up", nil, "refused"}, {0, "down", nil, "refused"}}}, 2
 	}
 	if len(found) < 3 || !is(1, back, found[1].seq, begin.seq+1, syn|ack) || !is(2, begin.pair, begin.seq+1, found[1].seq+1, ack) {
 		return nil, 0
 	}
-	return &connection{opened: begin.time, next: [2]uint32{begin.seq + 1, found[1].seq + 1}}, 3
+	return &connection{opened: begin.time, pairs: [2][3]string{begin.pair, back}, next: [2]uint32{begin.seq + 1, found[1].seq + 1}}, 3
 }
 
-// goOn finds the connection that a record goes on with, and takes it there.
-func goOn(ofPair map[[3]string][]*connection, number int, r record) error {
-	var with *connection
-	way, able := 0, 0
-	for side, pair := range [][3]string{r.pair, turned(r.pair)} {
-		for _, c := range ofPair[pair] {
-			if heard := c.next[1-side] - r.ack; heard <= c.sent[1-side] && r.seq == c.next[side] && !c.ended[side] {
-				with, way, able = c, side, able+1
-			}
+// add adds a side, unless it has ended.
+func (sides waiting) add(s side) {
+	if !s.of.ended[s.number] {
+		what := awaited{s.of.pairs[s.number], s.of.next[s.number]}
+		sides[what] = append(sides[what], s)
+	}
+}
+
+// goOn finds the side that a record goes on with, which awaits it as it is, and takes it there. It acknowledges what the other side sent.
+func (sides waiting) goOn(number int, r record) error {
+	what, able, others := awaited{r.pair, r.seq}, []side{}, []side{}
+	for _, s := range sides[what] {
+		if heard := s.of.next[1-s.number] - r.ack; heard <= s.of.sent[1-s.number] {
+			able = append(able, s)
+		} else {
+			others = append(others, s)
 		}
 	}
-	if able != 1 {
-		return refusal(number, fmt.Sprintf("%d connections go on with it", able))
+	if len(able) != 1 {
+		return refusal(number, fmt.Sprintf("%d connections go on with it", len(able)))
 	}
-	if !with.take(way, r) {
+	if sides[what] = others; len(others) == 0 {
+		delete(sides, what)
+	}
+	if !able[0].of.take(able[0].number, r) {
 		return refusal(number, "toxicap writes no such segment")
 	}
+	sides.add(able[0])
 	return nil
 }
 

@@ -84,6 +84,8 @@ const WAYS: [Direction; 2] = [Direction::Up, Direction::Down];
 
 /// VLAN, sender and receiver.
 type Pair<'a> = (&'a [u8], [&'a [u8]; 2], [&'a [u8]; 2]);
+/// The sides that have not ended (a connection's number, and 0 for the client's), by what their next records have: pair and sequence number.
+type Awaited<'a> = HashMap<(Pair<'a>, u32), Vec<(usize, usize)>>;
 
 #[derive(Clone, Copy, PartialEq)]
 struct Record<'a> {
@@ -97,8 +99,9 @@ struct Record<'a> {
 
 /// A connection while it is read; arrays have the client's before the server's.
 #[derive(Default)]
-struct Connection {
+struct Connection<'a> {
     opened: u64,
+    pairs: [Pair<'a>; 2],
     next: [u32; 2],
     sent: [u32; 2],
     ended: [bool; 2],
@@ -113,20 +116,19 @@ struct Connection {
 /// Why toxicap did not write this capture.
 pub fn events(capture: &[u8]) -> Result<Vec<Vec<Event>>, NotOutput> {
     let found = records(capture)?;
-    let (mut connections, mut of_pair, mut number) = (Vec::new(), HashMap::new(), 0);
+    let (mut connections, mut awaited, mut number) = (Vec::new(), HashMap::new(), 0);
     while number < found.len() {
         let record = &found[number];
         if record.flags == SYN && record.payload.is_empty() {
             let (begun, length) = opening(&found[number..])
                 .ok_or_else(|| refusal(number, "no opening follows its SYN"))?;
-            of_pair
-                .entry(record.pair)
-                .or_insert_with(Vec::new)
-                .push(connections.len());
+            for side in [0, 1] {
+                begun.wait(&mut awaited, connections.len(), side);
+            }
             connections.push(begun);
             number += length;
         } else {
-            go_on(&mut connections, &of_pair, record).map_err(|why| refusal(number, &why))?;
+            go_on(&mut connections, &mut awaited, record).map_err(|why| refusal(number, &why))?;
             number += 1;
         }
     }
@@ -245,7 +247,7 @@ fn read(frame: &[u8]) -> Result<Record<'_>, &'static str> {
 }
 
 /// The connection that the first record begins, by a SYN, and how many records its opening has; `None` where toxicap writes none such.
-fn opening(found: &[Record]) -> Option<(Connection, usize)> {
+fn opening<'a>(found: &[Record<'a>]) -> Option<(Connection<'a>, usize)> {
     let (begin, answer) = (found[0], *found.get(1)?);
     let (vlan, client, server) = begin.pair;
     let first = begin.seq.wrapping_add(1);
@@ -292,6 +294,7 @@ fn opening(found: &[Record]) -> Option<(Connection, usize)> {
     opens.then_some((
         Connection {
             opened: begin.time,
+            pairs: [begin.pair, back.pair],
             next,
             ..Connection::default()
         },
@@ -299,37 +302,42 @@ fn opening(found: &[Record]) -> Option<(Connection, usize)> {
     ))
 }
 
-/// Finds the connection that a record goes on with, and takes it there.
-fn go_on(
-    connections: &mut [Connection],
-    of_pair: &HashMap<Pair, Vec<usize>>,
-    record: &Record,
+/// Finds the side that a record goes on with, and takes it there.
+fn go_on<'a>(
+    connections: &mut [Connection<'a>],
+    awaited: &mut Awaited<'a>,
+    record: &Record<'a>,
 ) -> Result<(), String> {
-    let (vlan, sender, receiver) = record.pair;
-    let ways = [(0, record.pair), (1, (vlan, receiver, sender))];
-    let able: Vec<(usize, usize)> = ways
-        .iter()
-        .flat_map(|(side, pair)| {
-            of_pair
-                .get(pair)
-                .into_iter()
-                .flatten()
-                .map(move |number| (*number, *side))
-        })
-        .filter(|(number, side)| connections[*number].goes_on(*side, record))
-        .collect();
+    let what = (record.pair, record.seq);
+    let sides = awaited.remove(&what).unwrap_or_default();
+    let (able, others): (Vec<_>, Vec<_>) = sides
+        .into_iter()
+        .partition(|(number, side)| connections[*number].goes_on(*side, record));
+    if !others.is_empty() {
+        awaited.insert(what, others);
+    }
     match able[..] {
-        [(number, side)] if connections[number].take(side, record) => Ok(()),
+        [(number, side)] if connections[number].take(side, record) => {
+            connections[number].wait(awaited, number, side);
+            Ok(())
+        }
         [_] => Err("toxicap writes no such segment".to_string()),
         _ => Err(format!("{} connections go on with it", able.len())),
     }
 }
 
-impl Connection {
-    /// Whether a record may be of this connection: its bytes are the next ones, and it acknowledges what was sent.
+impl<'a> Connection<'a> {
+    /// Adds a side of this connection, which has this number, unless it has ended.
+    fn wait(&self, awaited: &mut Awaited<'a>, number: usize, side: usize) {
+        if !self.ended[side] {
+            let what = (self.pairs[side], self.next[side]);
+            awaited.entry(what).or_default().push((number, side));
+        }
+    }
+
+    /// Whether a record as a side awaits it may be of this connection: it acknowledges what was sent.
     fn goes_on(&self, side: usize, record: &Record) -> bool {
-        let heard = self.next[1 - side].wrapping_sub(record.ack) <= self.sent[1 - side];
-        heard && record.seq == self.next[side] && !self.ended[side]
+        self.next[1 - side].wrapping_sub(record.ack) <= self.sent[1 - side]
     }
 
     /// Takes a record of this connection; false where toxicap writes none such. The pieces of a chunk are joined up to its PSH.

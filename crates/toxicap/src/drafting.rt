@@ -94,8 +94,8 @@ impl<'j, 'f, 's, 'w, 'v, 'a, D: Disk + Sync> Work for DraftJobs<'j, 'f, 's, 'w, 
 }
 
 /// Drafts of the outputs of some scenarios from a number on, one at least: each is made by one of the workers; or, where one scenario is
-/// left or one worker is asked for, its connections are spread over the workers. In a folder that has a path no two of the drafts have the
-/// same one.
+/// left, its connections are spread over the workers. One worker alone makes those of one scenario. In a folder that has a path no two of
+/// the drafts have the same one.
 ///
 /// # Errors
 /// A growth was refused.

@@ -1,7 +1,8 @@
 #!/usr/bin/env bash
 # Each growth of memory refused in turn: the built program, and the calls `rehearse` and `answers` of its library, answer as with ample
-# memory (where a thread could not be made, by fewer workers), or they are refused for want of memory. The program then prints nothing and
-# has stored a first part of the files; the next call of the library, with the same values, answers in full. There is no third answer.
+# memory (where a thread could not be made, by fewer workers), or they are refused for want of memory. The program then prints nothing, or whole
+# reports that have more than 2^20 bytes together, and has stored a first part of the files; the next call of the library, with the same values,
+# answers in full. There is no third answer.
 set -euo pipefail
 cd "$(dirname "$0")/.."
 . tests/lib.sh
@@ -72,6 +73,33 @@ each "three scenarios stored by 2 workers" samples/http-get.pcap --scenario exam
 perl tests/capture.pl 7000 > "$work/blocks.pcap"
 each "a capture of two blocks by 2 workers" /dev/null --capture "$work/blocks.pcap" --scenario examples/latency.json --workers 2
 each "--help" /dev/null --help
+
+# Five reports of 320 KB are printed as they are made: four of them once they are more than 2^20 bytes. Forty growths from the first to the last are
+# refused: nothing was printed then, or these four.
+# first_reports: what is at fault with what the last run has printed, with `wanting`.
+first_reports() {
+    [ -s "$work/faults" ] && told faults $'refused 40 Memory\n'
+    fault 1
+    grep -c '^scenario ' "$work/output" | grep -vx '[04]'
+    [ ! -s "$work/output" ] || head -c "$four" "$work/ample" | byte_difference - "$work/output"
+}
+five=() bad=""
+for scenario in latency limit_data slow_close timeout bandwidth; do five+=(--scenario "examples/$scenario.json"); done
+perl tests/capture.pl 4000x3 > "$work/pairs.pcap"
+run_with "" "$work/pairs.pcap" "${five[@]}"
+if can_count "reports of more than 2^20 bytes"; then
+    cp "$work/output" "$work/ample"
+    bad=$(well)
+    four=$(sed '/^scenario 4 /,$d' "$work/ample" | wc -c)
+    all=$(count growth) none=0 some=0
+    for ((number = 1; number <= 40; number++)); do
+        run_with "FAIL=growth:$((all * number / 40))" "$work/pairs.pcap" "${five[@]}"
+        cmp -s "$work/ample" "$work/output" || bad+=$(first_reports)
+        if [ ! -s "$work/output" ]; then none=$((none + 1)); elif [ "$status" = 1 ]; then some=$((some + 1)); fi
+    done
+    [ "$some" -gt 1 ] && [ "$none" -gt 20 ] || bad+="  printed nothing: $none times, some: $some times"
+    verdict "reports of more than 2^20 bytes" "$bad"
+fi
 echo "$growths growths refused of the program"
 
 # The library's calls: each test of the module `again` makes them twice and compares what they answer. It stops with the words `no memory

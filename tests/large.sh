@@ -265,6 +265,22 @@ status=0
 dd if="$work/six.pcap" bs=997 status=none | "$program" > "$work/output" 2> "$work/faults" || status=$?
 verdict "45 MB printed in parts of 997 bytes" "$(well; byte_difference "$work/six.report" "$work/output")"
 
+# Reports are printed as they are made, so 64 of them, with 22 MB together, take no more than 16 MB of addresses with all else. Each is as it is alone,
+# but for its number.
+perl tests/capture.pl 4000x3 > "$work/pairs.few"
+run "$work/pairs.few" --scenario examples/latency.json
+many=()
+for ((number = 0; number < 64; number++)); do
+    many+=(--scenario examples/latency.json)
+    sed "s/^scenario 0 /scenario $number /" "$work/output"
+done > "$work/wanted"
+for workers in 1 2; do
+    ulimit -S -v 16000
+    run_with GLIBC_TUNABLES=glibc.malloc.arena_max=1 "$work/pairs.few" "${many[@]}" --workers $workers
+    ulimit -S -v "$limit"
+    verdict "22 MB of reports printed in little memory by $workers workers" "$(well; byte_difference "$work/wanted" "$work/output")"
+done
+
 # A capture of 45 MB, loaded in six blocks and stored, takes 74 MB of addresses, and half of what it would take with the capture or its output in memory
 # once more is granted. What is written goes out in batches of 256 KiB, of which there are 172, and a report. glibc has one arena: a second one, which
 # the other worker would get if it starts early enough, takes 64 MB of addresses.

@@ -82,22 +82,20 @@ module _ (seed : ℕ) (s : ℕ × List Proxy) (recordings : List RecordingView) 
 -- ---- texts of all scenarios
 
 -- a text for each
-pub length-texts_under : (seed : ℕ) (scenarios : List (List Proxy)) (recordings : List RecordingView) → length (texts_under seed scenarios recordings) ≡ length scenarios
+pub length-texts_under : (seed first : ℕ) (scenarios : List (List Proxy)) (recordings : List RecordingView) → length (texts_under seed first scenarios recordings) ≡ length scenarios
 unfolding texts_under
-length-texts_under seed scenarios recordings = length-map (enumerate_from 0 scenarios) (λ s. row_text seed s recordings) ∙ length-enumerate_from 0 scenarios
+length-texts_under seed first scenarios recordings = length-map (enumerate_from first scenarios) (λ s. row_text seed s recordings) ∙ length-enumerate_from first scenarios
 
--- that of the scenario of a number
-pub text_at : (seed : ℕ) (scenarios : List (List Proxy)) (recordings : List RecordingView) (number : ℕ) (other : List Proxy) → number < length scenarios
-    → row_text seed (number, get_or scenarios number other) recordings ≡ get_or (texts_under seed scenarios recordings) number []
+-- that of the scenario at a place
+pub text_at : (seed first : ℕ) (scenarios : List (List Proxy)) (recordings : List RecordingView) (place : ℕ) (other : List Proxy) → place < length scenarios
+    → row_text seed (first + place, get_or scenarios place other) recordings ≡ get_or (texts_under seed first scenarios recordings) place []
 unfolding texts_under
-text_at seed scenarios recordings number other within =
+text_at seed first scenarios recordings place other within =
     let text : ℕ × List Proxy → List ℕ = λ s. row_text seed s recordings in
-    let inside : number < length (enumerate_from 0 scenarios) = omega (arith, within, length-enumerate_from 0 scenarios) in
-    let zero_on : 0 + number ≡ number = omega arith in
-    let numbered = get_or-enumerate_from 0 scenarios number (0, other) within ∙ ap (λ (n : ℕ). let p : ℕ × List Proxy = (n, get_or scenarios number other) in p) zero_on in
-    ap text (sym numbered) ∙ sym (get_or-map text (enumerate_from 0 scenarios) number (0, other) [] inside)
+    let inside : place < length (enumerate_from first scenarios) = omega (arith, within, length-enumerate_from first scenarios) in
+    ap text (sym (get_or-enumerate_from first scenarios place (0, other) within)) ∙ sym (get_or-map text (enumerate_from first scenarios) place (0, other) [] inside)
 
-module _ (seed : ℕ) (scenarios : List (List Proxy)) where
+module _ (seed first : ℕ) (scenarios : List (List Proxy)) where
   -- what holds of all
   each_has : {X : Type 0} {P : X → Type 0} → ((x : X) → P x) → (xs : List X) → All P xs
   each_has {X} {P} has [] = All-nil P
@@ -109,13 +107,13 @@ module _ (seed : ℕ) (scenarios : List (List Proxy)) where
   read_alike f g alike (x ∷ xs) = ap₂ (λ (a b : List ℕ). a ++ b) (alike x) (read_alike f g alike xs)
 
   pub texts_together : (size count : ℕ) (recordings : List RecordingView) → length recordings ≤ count * size
-      → HoldLines seed scenarios recordings (text_shares size count seed scenarios recordings)
+      → HoldLines seed first scenarios recordings (text_shares size count seed first scenarios recordings)
   texts_together size count recordings whole = record {
-    each = All-map (λ (share : List (List ℕ)). length share ≡ length scenarios) (texts_under seed scenarios) (ranges_of size count recordings)
-        (each_has (length-texts_under seed scenarios) (ranges_of size count recordings));
-    lines = λ number within.
-        let s : ℕ × List Proxy = (number, get_or scenarios number []) in
-        flat_map-map (λ (share : List (List ℕ)). get_or share number []) (texts_under seed scenarios) (ranges_of size count recordings)
-        ∙ read_alike (λ rs. get_or (texts_under seed scenarios rs) number []) (row_text seed s) (λ rs. sym (text_at seed scenarios rs number [] within)) (ranges_of size count recordings)
+    each = All-map (λ (share : List (List ℕ)). length share ≡ length scenarios) (texts_under seed first scenarios) (ranges_of size count recordings)
+        (each_has (length-texts_under seed first scenarios) (ranges_of size count recordings));
+    lines = λ place within.
+        let s : ℕ × List Proxy = (first + place, get_or scenarios place []) in
+        flat_map-map (λ (share : List (List ℕ)). get_or share place []) (texts_under seed first scenarios) (ranges_of size count recordings)
+        ∙ read_alike (λ rs. get_or (texts_under seed first scenarios rs) place []) (row_text seed s) (λ rs. sym (text_at seed first scenarios rs place [] within)) (ranges_of size count recordings)
         ∙ together (λ r. (recorded_delivery seed s r).line) size count recordings whole ∙ text_in_lines seed s recordings;
   }

@@ -5,7 +5,8 @@
 //! and `specs/DeliveryRows.antt` in what order; `laws` has the theorems that nothing else of a capture or a scenario
 //! changes it, and that a connection meets the first proxy for its server. `deliver_row` gives the same for one scenario, in shares: what
 //! a range of connections contributes stands together (`specs/RowShares.antt`); `deliver_after` gives it for some connections after others.
-//! `report_texts` gives the lines alone, for all scenarios at once (`specs/ReportTexts.antt`). The program calls these three.
+//! `report_texts` gives the lines alone, for scenarios that follow one another at once (`specs/ReportTexts.antt`). The program calls these
+//! three.
 #![tactic(auto)]
 
 mod deliveries;

@@ -1,6 +1,6 @@
-//! The lines of connections in the reports of all scenarios, made by workers. What is recorded of a connection is let go once its lines
-//! are made, so that no more of it is in memory than that of some thousand connections.
-ghost use Rattle.std.specs.Prelude.{◌≡◌, ◌≤◌, ◌<◌, [], IfOk, get_or, length};
+//! The lines of connections in the reports of scenarios that follow one another, made by workers. What is recorded of a connection is let go
+//! once its lines are made, so that no more of it is in memory than that of some thousand connections.
+ghost use Rattle.std.specs.Prelude.{◌≡◌, ◌+◌, ◌≤◌, ◌<◌, [], IfOk, get_or, length};
 ghost use Rattle.conn_workers.specs.CaptureTables.{whole_table};
 ghost use Rattle.conn_workers.specs.DeliveryRows.{scenario_limit};
 ghost use Rattle.conn_workers.specs.Recordings.{recordings_of};
@@ -17,17 +17,22 @@ use scenarios::Scenario;
 use std::alloc::{AllocError, Global};
 use std::thread::Threads;
 
-/// The lines of some connections in the report of each scenario: a text for each scenario.
+/// The lines of some connections in the reports of scenarios that follow one another: a text for each scenario.
 pub type ShareTexts = Values<ReportText>;
 
-// How many connections a range has at most.
-const RANGE_LIMIT: usize = 4096;
+// How many lines of connections are made of a range at most, in all reports, so that of many reports less is recorded at once; and how many
+// connections a range may have all the same.
+const LINES_LIMIT: usize = 4096;
 
-/// Job r makes the lines of the connections of range r in the report of each scenario.
+const RANGE_LEAST: usize = 256;
+
+/// Job r makes the lines of the connections of range r in the report of each of the scenarios.
 #[derive(Drop)]
 pub(crate) struct TextJobs<'c, 'w, 'a> {
     /// The capture and the connections of its table.
     pub(crate) lines: LineJobs<'c, 'w, 'a>,
+    /// The number of the first scenario.
+    pub(crate) first: usize,
     /// The scenarios.
     pub(crate) scenarios: &'w [Scenario],
     /// The seed of the random words.
@@ -35,31 +40,35 @@ pub(crate) struct TextJobs<'c, 'w, 'a> {
     /// The ranges.
     pub(crate) ranges: RowRanges,
     ghost all: { ranges.all ≡ length lines.conns.now },
-    ghost few: { length scenarios.now ≤ scenario_limit },
+    ghost few: { first + length scenarios.now ≤ scenario_limit },
 }
 
 impl<'c, 'w, 'a> TextJobs<'c, 'w, 'a> {
-    ghost use Rattle.std.specs.Prelude.{◌≡◌, ◌≤◌, length};
+    ghost use Rattle.std.specs.Prelude.{◌≡◌, ◌+◌, ◌≤◌, length};
 
     /// Those of a capture and its table, for the workers of a plan.
     fn of(
         alloc: Global,
         capture: &'c Capture<'a>,
         table: &'w Table,
+        first: usize,
         scenarios: &'w [Scenario],
         seed: u64,
         plan: Plan,
     ) -> Self
         requires table { table.now ≡ whole_table capture.now }
-        requires few { length scenarios.now ≤ scenario_limit }
+        requires few { first + length scenarios.now ≤ scenario_limit }
         ensures capture { result.lines.capture.now ≡ capture.now }
+        ensures first { result.first ≡ first }
         ensures scenarios { result.scenarios.now ≡ scenarios.now }
         ensures seed { result.seed ≡ seed }
     {
         let lines = LineJobs::of(alloc, capture, table);
-        let ranges = RowRanges::of_at_most(lines.conns.len(), RANGE_LIMIT, plan);
+        let most = (LINES_LIMIT / scenarios.len().max(1)).max(RANGE_LEAST);
+        let ranges = RowRanges::of_at_most(lines.conns.len(), most, plan);
         TextJobs {
             lines,
+            first,
             scenarios,
             seed,
             ranges,
@@ -74,60 +83,70 @@ impl<'c, 'w, 'a> Work for TextJobs<'c, 'w, 'a> {
     ghost use Rattle.conn_workers.specs.Recordings.{recordings_of};
     ghost use Rattle.conn_workers.specs.ReportTexts.{text_shares};
 
-    ghost values = { λ w. text_shares w.ranges.size w.ranges.count w.seed w.scenarios.now (recordings_of w.lines.capture.now) };
+    ghost values = { λ w. text_shares w.ranges.size w.ranges.count w.seed w.first w.scenarios.now (recordings_of w.lines.capture.now) };
 
     fn value(&self, job: u64) -> Result<ShareTexts, AllocError> {
         let first = self.ranges.first(job);
         let recordings = self.lines.recorded(first, self.ranges.size)?;
-        texts_under(self.lines.alloc, &recordings, self.scenarios, self.seed)
+        texts_under(
+            self.lines.alloc,
+            &recordings,
+            self.first,
+            self.scenarios,
+            self.seed,
+        )
     }
 }
 
-// The lines of some connections in the report of each scenario.
+// The lines of some connections in the report of each of the scenarios, of which the first has this number.
 //
 // # Errors
 // A growth was refused.
 fn texts_under(
     alloc: Global,
     recordings: &[Recording<'_, '_>],
+    first: usize,
     scenarios: &[Scenario],
     seed: u64,
 ) -> Result<ShareTexts, AllocError>
-    requires { length scenarios.now ≤ scenario_limit }
-    ensures { IfOk result (λ v. v ≡ texts_under seed scenarios.now recordings.now) }
+    requires { first + length scenarios.now ≤ scenario_limit }
+    ensures { IfOk result (λ v. v ≡ texts_under seed first scenarios.now recordings.now) }
 {
     let mut texts = Vec::with_capacity(alloc, scenarios.len())?;
-    for number in 0..scenarios.len() {
-        let text = text_under(alloc, recordings, scenarios, number, seed)?;
+    for place in 0..scenarios.len() {
+        let text = text_under(alloc, recordings, first, scenarios, place, seed)?;
         texts.push(text)?;
     }
     Ok(Values::of(texts))
 }
 
-// Those in the report of the scenario of a number.
+// Those in the report of the scenario at a place.
 //
 // # Errors
 // A growth was refused.
 fn text_under(
     alloc: Global,
     recordings: &[Recording<'_, '_>],
+    first: usize,
     scenarios: &[Scenario],
-    number: usize,
+    place: usize,
     seed: u64,
 ) -> Result<ReportText, AllocError>
-    requires few { length scenarios.now ≤ scenario_limit }
-    requires within { number < length scenarios.now }
-    ensures { IfOk result (λ text. text ≡ get_or (texts_under seed scenarios.now recordings.now) number []) }
+    requires few { first + length scenarios.now ≤ scenario_limit }
+    requires within { place < length scenarios.now }
+    ensures { IfOk result (λ text. text ≡ get_or (texts_under seed first scenarios.now recordings.now) place []) }
 {
-    let under = UnderScenario::of(alloc, number as u32, &scenarios[number], seed);
+    let number = (first + place) as u32;
+    let under = UnderScenario::of(alloc, number, &scenarios[place], seed);
     under.text(recordings)
 }
 
-/// The lines of all connections in the report of each scenario, in shares: each share has those of some connections, one after
-/// another, as a text for each scenario. Workers make them in phase `Jobs`, with one job for each range of connections, which makes what
-/// is recorded of these first. What the texts of a scenario hold together is the same whatever the plan and the gate.
+/// The lines of all connections in the reports of scenarios that follow one another, of which the first has the number `first`, in shares:
+/// each share has those of some connections, one after another, as a text for each scenario. Workers make them in phase `Jobs`, with one
+/// job for each range of connections, which makes what is recorded of these first. What the texts of a scenario hold together is the same
+/// whatever the plan and the gate.
 ///
-/// The table is that of all records of the capture, and there are at most 256 scenarios.
+/// The table is that of all records of the capture, and the numbers of scenarios are below 256.
 ///
 /// # Errors
 /// A growth was refused.
@@ -136,16 +155,17 @@ pub fn report_texts<R: Threads + Sync, G: Gate>(
     alloc: Global,
     capture: &Capture<'_>,
     table: &Table,
+    first: usize,
     scenarios: &[Scenario],
     seed: u64,
     plan: Plan,
     gate: &G,
 ) -> Result<Values<ShareTexts>, AllocError>
     requires table { table.now ≡ whole_table capture.now }
-    requires few { length scenarios.now ≤ scenario_limit }
-    ensures { IfOk result (HoldLines seed scenarios.now (recordings_of capture.now)) }
+    requires few { first + length scenarios.now ≤ scenario_limit }
+    ensures { IfOk result (HoldLines seed first scenarios.now (recordings_of capture.now)) }
 {
-    let jobs = TextJobs::of(alloc, capture, table, scenarios, seed, plan);
+    let jobs = TextJobs::of(alloc, capture, table, first, scenarios, seed, plan);
     let workers = plan.workers() as u64;
     work_all(
         rt,
@@ -158,7 +178,7 @@ pub fn report_texts<R: Threads + Sync, G: Gate>(
     )
 }
 
-/// The lines of all connections in the report of each scenario, as [`report_texts`] gives them, made by this thread alone.
+/// The lines of all connections in the reports of scenarios, as [`report_texts`] gives them, made by this thread alone.
 ///
 /// # Errors
 /// A growth was refused.
@@ -166,14 +186,15 @@ pub fn report_texts_alone(
     alloc: Global,
     capture: &Capture<'_>,
     table: &Table,
+    first: usize,
     scenarios: &[Scenario],
     seed: u64,
 ) -> Result<Values<ShareTexts>, AllocError>
     requires table { table.now ≡ whole_table capture.now }
-    requires few { length scenarios.now ≤ scenario_limit }
-    ensures { IfOk result (HoldLines seed scenarios.now (recordings_of capture.now)) }
+    requires few { first + length scenarios.now ≤ scenario_limit }
+    ensures { IfOk result (HoldLines seed first scenarios.now (recordings_of capture.now)) }
 {
     let one = Plan::new(1, 1).unwrap();
-    let jobs = TextJobs::of(alloc, capture, table, scenarios, seed, one);
+    let jobs = TextJobs::of(alloc, capture, table, first, scenarios, seed, one);
     work_alone(alloc, jobs.ranges.count, Phase::Jobs, &Through, &jobs)
 }

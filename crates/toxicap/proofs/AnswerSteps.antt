@@ -67,7 +67,7 @@ of_numbered : (number : ℕ) (r : Result (List Proxy) Refusal) → IfErr (number
 of_numbered number (Ok proxies) = tt
 of_numbered number (Err refusal) = tt
 
-of_scenarios : (hosts : List KnownHost) (earlier : List (List Proxy)) (texts : List (List ℕ)) → IfErr (scenarios_from hosts earlier texts) IsOfText
+pub of_scenarios : (hosts : List KnownHost) (earlier : List (List Proxy)) (texts : List (List ℕ)) → IfErr (scenarios_from hosts earlier texts) IsOfText
 unfolding scenarios_from
 of_scenarios hosts earlier [] = tt
 of_scenarios hosts earlier (text ∷ texts) =
@@ -90,7 +90,7 @@ module _ (hosts : List KnownHost) (texts : List (List ℕ)) (seed : ℕ) where
   stopped Memory text old new AtEnd h = h.0
   stopped _ text old new AtEnd h = absurd h
 
-  of_called : (text : List ℕ) → IfErr (called_for hosts texts seed text) IsOfText
+  pub of_called : (text : List ℕ) → IfErr (called_for hosts texts seed text) IsOfText
   unfolding called_for
   of_called text = by (nat_lt capture_limit (length text))
     where

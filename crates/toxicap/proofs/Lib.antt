@@ -19,4 +19,5 @@ mod ReportedRows
 mod HeldReportSteps
 mod ReadyDrafts
 mod PrintedSteps
+mod PrintingSteps
 mod SeenReports

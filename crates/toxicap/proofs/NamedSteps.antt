@@ -64,13 +64,13 @@ unread : (held : Held) (path : Option (Bor (List ℕ))) (s : Streams) → s.Read
 unread held None s read = (Ok [], read)
 unread held (Some path) s read = (text_at held path.now, refl)
 
-module _ (whole : NamesLeaveWhole) (told : Option History) (asked : Asked) (fault : RunFault) (s : Streams) (read : s.Read [] 0) where
+module _ (whole : NamesLeaveWhole) (told : Option History) (asked : Asked) (fault : RunFault) (s : Streams) (read : s.Read [] 0) (unwritten : s.Unwritten) where
   over : (h : History) → told ≡ Some h → IsOfInput fault → ((capture : Result (List ℕ) RunFault) → IfSome (run_refusal fault) (λ refused. outputs_asked (held_now h) asked capture ≡ Err refused))
       → RunsOver h asked (Err fault) s told
   over h at_h own is =
       let c = unread (held_now h) asked.capture s read in
       let wanted = outputs_asked (held_now h) asked c.0 in
-      (c.0, c.1, ends_refused asked.out fault wanted s.Wrote own (is c.0), disk_refused whole asked.out fault wanted h told at_h own)
+      (c.0, c.1, ends_refused asked.out fault wanted s.Unwritten s.Wrote own (is c.0) unwritten, disk_refused whole asked.out fault wanted h told at_h own)
 
   -- a host is refused
   pub host_refused : IsOfHost fault → IfSome (run_refusal fault) (λ refused. hosts_asked asked ≡ Err refused)
@@ -98,13 +98,13 @@ module _ (whole : NamesLeaveWhole) (told : Option History) (asked : Asked) (host
   pub loaded_over : (result : Result (Unit {0}) RunFault) (text : List ℕ) (Lost : List ℕ → Type 0) (old new : ℕ)
       → ((text : List ℕ) (n : ℕ) → Lost text → new ≡ old + n → s.Read text n) → IfNone asked.capture (Lost text × s.AtEnd × (new ≡ old))
       → IfSome asked.capture (λ path. IfSome told (λ h. text_at (held_now h) path.now ≡ Ok text))
-      → EndsOf asked.out result (called_for hosts texts asked.seed text) s.Wrote
+      → EndsOf asked.out result (called_for hosts texts asked.seed text) s.Unwritten s.Wrote
       → (left : Option History) → IfSome told (λ h. LeavesDisk asked.out result (called_for hosts texts asked.seed text) h left) → IfSome told (λ h. RunsOver h asked result s left)
   loaded_over result text Lost old new reads input file is left leaves = by_history _ told (λ h at_h.
       let calls = asked_of h at_h (Ok text) in (
         Ok text,
         from h at_h asked.capture input file,
-        subst (λ (wanted : Result (List Output) RunFault). EndsOf asked.out result wanted s.Wrote) (sym calls) is,
+        subst (λ (wanted : Result (List Output) RunFault). EndsOf asked.out result wanted s.Unwritten s.Wrote) (sym calls) is,
         subst (λ (wanted : Result (List Output) RunFault). LeavesDisk asked.out result wanted h left) (sym calls) (at _ told h at_h leaves),
       ))
     where
@@ -114,11 +114,11 @@ module _ (whole : NamesLeaveWhole) (told : Option History) (asked : Asked) (host
       from h at_h (Some path) input file = sym (at _ told h at_h file)
 
   -- or it is refused
-  pub stopped_over : (fault : RunFault) (Lost : List ℕ → Type 0) (old new : ℕ) → ((text : List ℕ) (n : ℕ) → Lost text → new ≡ old + n → s.Read text n)
+  pub stopped_over : s.Unwritten → (fault : RunFault) (Lost : List ℕ → Type 0) (old new : ℕ) → ((text : List ℕ) (n : ℕ) → Lost text → new ≡ old + n → s.Read text n)
       → IfNone asked.capture ((text : List ℕ) × Lost text × StopsLoading fault (length text) old new)
       → IfSome asked.capture (λ path. IsOfFile fault × IfSome told (λ h. IfSome (run_refusal fault) (λ refused. text_at (held_now h) path.now ≡ Err refused)))
       → IfSome told (λ h. RunsOver h asked (Err fault) s told)
-  stopped_over fault Lost old new reads input file = by_history _ told (λ h at_h. over_capture h at_h (from h at_h fault asked.capture input file))
+  stopped_over unwritten fault Lost old new reads input file = by_history _ told (λ h at_h. over_capture h at_h (from h at_h fault asked.capture input file))
     where
       over_capture : (h : History) → told ≡ Some h
           → (capture : Result (List ℕ) RunFault) × ReadsCapture (held_now h) asked.capture capture s × IsOfInput fault
@@ -127,8 +127,8 @@ module _ (whole : NamesLeaveWhole) (told : Option History) (asked : Asked) (host
       over_capture h at_h c = (
         c.0,
         c.1,
-        ends_refused asked.out fault (outputs_asked (held_now h) asked c.0) s.Wrote c.2
-            (IfSome_then (run_refusal fault) c.3 (λ refused e. asked_of h at_h c.0 ∙ e)),
+        ends_refused asked.out fault (outputs_asked (held_now h) asked c.0) s.Unwritten s.Wrote c.2
+            (IfSome_then (run_refusal fault) c.3 (λ refused e. asked_of h at_h c.0 ∙ e)) unwritten,
         disk_refused whole asked.out fault (outputs_asked (held_now h) asked c.0) h told at_h c.2,
       )
 

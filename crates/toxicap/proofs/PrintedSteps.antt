@@ -1,6 +1,6 @@
 -- How a run ends that prints, by how the text of its capture was loaded.
-use Rattle.std.proofs.Common.{◌≡◌, ◌≢◌, ℕ, ◌+◌, ◌<◌, ◌≤◌, List, length, take, map, [], Option, Some, None, Result, Ok, Err, refl, sym, ap, subst}
-use Rattle.std.specs.Prelude.{IfErr, IfNone, IfOk, IfSome, OnErr, OnOk}
+use Rattle.std.proofs.Common.{◌≡◌, ℕ, ◌+◌, ◌<◌, ◌≤◌, List, length, take, map, [], Option, Some, None, Result, Ok, Err, refl, sym, ap, subst}
+use Rattle.std.specs.Prelude.{IfNone, IfOk, IfSome}
 use Rattle.std.specs.Borrow.{Bor}
 use Rattle.std.proofs.lemmas.Option.{IfSome_then}
 use Rattle.pcap_records.specs.Reading.{capture_limit}
@@ -19,41 +19,24 @@ use Rattle.toxicap.specs.Answering.{called_for}
 use Rattle.toxicap.specs.Commands.{RunsBy, Streams}
 use Rattle.toxicap.specs.Inputs.{TakesInputs, hosts_asked, texts_or_bare}
 use Rattle.toxicap.specs.NamedFiles.{LoadsFile, RunsOver, texts_from}
-use Rattle.toxicap.specs.PrintedReports.{PrintsLoaded, PrintsOf, reports_in}
+use Rattle.toxicap.specs.PrintedReports.{PrintsLoaded, PrintsOf}
 use Rattle.toxicap.proofs.DiskSteps.{disk_kept}
 use Rattle.toxicap.proofs.NamedSteps.{loaded_over, stopped_over}
 use Rattle.toxicap.proofs.RunSteps.{IsOfInput, of_input, runs_loaded, runs_stopped}
 
 -- ---- what is printed
 
--- the reports are there, and are written
-pub prints_reports : (Wrote : List ℕ → Type 0) (result : Result (Unit {0}) RunFault) (bytes : List ℕ) (wanted : Result (List Output) RunFault) → reports_in wanted ≡ Ok bytes
-    → OnOk result (Wrote bytes) → IfErr result (λ fault. fault ≡ WriteFailed) → OnErr result ((n : ℕ) × (n < length bytes) × Wrote (take n bytes)) → PrintsOf result wanted Wrote
-prints_reports Wrote result bytes (Err fault) is wrote cause part = absurd cc
-prints_reports Wrote (Ok u) bytes (Ok outputs) is wrote cause part =
-    let same : reports_of outputs ≡ bytes = cc in
-    (outputs, refl, subst Wrote (sym same) wrote)
-prints_reports Wrote (Err fault) bytes (Ok outputs) is wrote cause part =
-    let same : reports_of outputs ≡ bytes = cc in
-    rw cause (outputs, part.0, refl, subst (λ b. part.0 < length b) (sym same) part.1, subst (λ b. Wrote (take part.0 b)) (sym same) part.2)
-
-module _ (called : List ℕ → Result (List Output) RunFault) (Wrote : List ℕ → Type 0) where
+module _ (called : List ℕ → Result (List Output) RunFault) (Unwritten : Type 0) (Wrote : List ℕ → Type 0) where
   -- no text was loaded
-  pub prints_none : (fault : RunFault) (loaded : Result (List ℕ) RunFault) → SeesAs (Err fault) loaded → PrintsLoaded (Err fault) loaded called Wrote
-  prints_none fault (Ok text) sees = absurd sees
-  prints_none fault (Err cause) sees = ap Err sees
+  pub prints_none : (fault : RunFault) (loaded : Result (List ℕ) RunFault) → SeesAs (Err fault) loaded → Unwritten → PrintsLoaded (Err fault) loaded called Unwritten Wrote
+  prints_none fault (Ok text) sees unwritten = absurd sees
+  prints_none fault (Err cause) sees unwritten = (ap Err sees, unwritten)
 
   -- a text was loaded, and this was seen of it
   pub prints_seen : (seen : SeenText) (loaded : Result (List ℕ) RunFault) → SeesAs (Ok seen) loaded → IfOk loaded (λ text. length text ≤ capture_limit) → (result : Result (Unit {0}) RunFault)
-      → ((text : List ℕ) → length text ≤ capture_limit → IsSeenOf seen text → PrintsOf result (called text) Wrote) → PrintsLoaded result loaded called Wrote
+      → ((text : List ℕ) → length text ≤ capture_limit → IsSeenOf seen text → PrintsOf result (called text) Unwritten Wrote) → PrintsLoaded result loaded called Unwritten Wrote
   prints_seen seen (Ok text) sees within result prints = prints text within sees
   prints_seen seen (Err cause) sees within result prints = absurd sees
-
--- what is refused whatever text was loaded is no failed write
-pub none_refused : (seen : SeenText) (loaded : Result (List ℕ) RunFault) → SeesAs (Ok seen) loaded → IfOk loaded (λ text. length text ≤ capture_limit) → (fault : RunFault)
-    → ((text : List ℕ) → length text ≤ capture_limit → IsSeenOf seen text → IsOfInput fault) → IsOfInput fault
-none_refused seen (Ok text) sees within fault own = own text within sees
-none_refused seen (Err cause) sees within fault own = absurd sees
 
 -- ---- loading that stopped
 
@@ -71,30 +54,25 @@ module _ (path : Option (Bor (List ℕ))) (Lost : List ℕ → Type 0) (AtEnd Un
   none_sees fault (Ok text) sees input file = absurd sees
   none_sees fault (Err cause) sees input file = subst IsOfInput (sym sees) (stopped_input cause input file)
 
-no_write : IsOfInput WriteFailed → ⊥
-no_write own = own
-
 -- ---- how the run ends
 
 module _ (asked : Asked) (hosts : List KnownHost) (texts : List (List ℕ)) (s : Streams) (Lost : List ℕ → Type 0) (old new : ℕ)
     (reads : (text : List ℕ) (n : ℕ) → Lost text → new ≡ old + n → s.Read text n) (told : Option History) (none : asked.out ≡ None) where
   pub runs_printed : TakesInputs asked hosts texts → (result : Result (Unit {0}) RunFault) (loaded : Result (List ℕ) RunFault) → IfOk loaded (λ text. length text ≤ capture_limit)
-      → PrintsLoaded result loaded (called_for hosts texts asked.seed) s.Wrote → IfNone asked.capture (LoadsInput (λ text. text) loaded Lost s.AtEnd old new)
-      → IfSome asked.capture (λ path. LoadsFile (λ text. text) loaded told path.now s.Unread) → IfErr result (λ fault. fault ≢ WriteFailed → s.Unwritten) → RunsBy asked result s
-  runs_printed takes result (Ok text) within printed input file untouched =
+      → PrintsLoaded result loaded (called_for hosts texts asked.seed) s.Unwritten s.Wrote → IfNone asked.capture (LoadsInput (λ text. text) loaded Lost s.AtEnd old new)
+      → IfSome asked.capture (λ path. LoadsFile (λ text. text) loaded told path.now s.Unread) → RunsBy asked result s
+  runs_printed takes result (Ok text) within printed input file =
       runs_loaded asked hosts texts takes s Lost old new reads result text within (rw none tt) input (IfSome_then asked.capture file (λ path of. of.0)) (rw none printed)
-  runs_printed takes result (Err cause) within printed input file untouched =
-      let own = stopped_input asked.capture Lost s.AtEnd s.Unread old new told cause input file in
-      let unwritten = (rw printed at untouched) (λ is. no_write (subst IsOfInput is own)) in
-      rw printed (runs_stopped asked hosts texts takes s Lost old new reads cause unwritten input (IfSome_then asked.capture file (λ path of. (of.0, of.1))))
+  runs_printed takes result (Err cause) within (is, unwritten) input file =
+      rw is (runs_stopped asked hosts texts takes s Lost old new reads cause unwritten input (IfSome_then asked.capture file (λ path of. (of.0, of.1))))
 
   pub printed_over : NamesLeaveWhole → (files : List (List ℕ)) → hosts_asked asked ≡ Ok hosts → texts ≡ texts_or_bare files
       → IfSome told (λ h. texts_from (held_now h) [] (map (λ path. path.now) asked.scenarios.items) ≡ Ok files)
-      → (result : Result (Unit {0}) RunFault) (loaded : Result (List ℕ) RunFault) → PrintsLoaded result loaded (called_for hosts texts asked.seed) s.Wrote
+      → (result : Result (Unit {0}) RunFault) (loaded : Result (List ℕ) RunFault) → PrintsLoaded result loaded (called_for hosts texts asked.seed) s.Unwritten s.Wrote
       → IfNone asked.capture (LoadsInput (λ text. text) loaded Lost s.AtEnd old new) → IfSome asked.capture (λ path. LoadsFile (λ text. text) loaded told path.now s.Unread)
       → IfSome told (λ h. RunsOver h asked result s told)
   printed_over whole files known are read result (Ok text) printed input file =
       loaded_over whole told asked hosts files texts known are read s result text Lost old new reads input (IfSome_then asked.capture file (λ path of. of.2)) (rw none printed)
       told (rw none (disk_kept result (called_for hosts texts asked.seed text) told))
-  printed_over whole files known are read result (Err cause) printed input file =
-      rw printed (stopped_over whole told asked hosts files texts known are read s cause Lost old new reads input (IfSome_then asked.capture file (λ path of. (of.1, of.2))))
+  printed_over whole files known are read result (Err cause) (is, unwritten) input file =
+      rw is (stopped_over whole told asked hosts files texts known are read s unwritten cause Lost old new reads input (IfSome_then asked.capture file (λ path of. (of.1, of.2))))

@@ -1,5 +1,5 @@
 -- How a run ends, by how its capture was loaded and what its text calls for.
-use Rattle.std.proofs.Common.{◌≡◌, ℕ, ◌+◌, ◌<◌, ◌≤◌, List, [], length, replicate, Option, Some, None, inr, Result, Ok, Err, refl, arith}
+use Rattle.std.proofs.Common.{◌≡◌, ℕ, ◌+◌, ◌<◌, ◌≤◌, List, [], length, replicate, Option, Some, None, inl, inr, Result, Ok, Err, refl, arith}
 use Rattle.std.specs.Prelude.{IfNone, IfSome, OnSome}
 use Rattle.std.specs.Borrow.{Bor}
 use Rattle.std.proofs.lemmas.List.{length-replicate}
@@ -36,12 +36,13 @@ of_input Own no_write no_shelf WriteFailed own = no_write own
 of_input Own no_write no_shelf (ShelfFailed after) own = no_shelf after own
 of_input Own no_write no_shelf fault own = tt
 
-pub ends_refused : (out : Option (Bor (List ℕ))) (fault : RunFault) (wanted : Result (List Output) RunFault) (Wrote : List ℕ → Type 0) → IsOfInput fault
-    → IfSome (run_refusal fault) (λ refused. wanted ≡ Err refused) → EndsOf out (Err fault) wanted Wrote
-ends_refused None WriteFailed wanted Wrote own is = absurd own
-ends_refused None fault wanted Wrote own is = is
-ends_refused (Some folder) (ShelfFailed after) wanted Wrote own is = absurd own
-ends_refused (Some folder) fault wanted Wrote own is = is
+pub ends_refused : (out : Option (Bor (List ℕ))) (fault : RunFault) (wanted : Result (List Output) RunFault) (Unwritten : Type 0) (Wrote : List ℕ → Type 0) → IsOfInput fault
+    → IfSome (run_refusal fault) (λ refused. wanted ≡ Err refused) → Unwritten → EndsOf out (Err fault) wanted Unwritten Wrote
+ends_refused None WriteFailed wanted Unwritten Wrote own is unwritten = absurd own
+ends_refused None Memory wanted Unwritten Wrote own is unwritten = inl unwritten
+ends_refused None fault wanted Unwritten Wrote own is unwritten = (is, unwritten)
+ends_refused (Some folder) (ShelfFailed after) wanted Unwritten Wrote own is unwritten = absurd own
+ends_refused (Some folder) fault wanted Unwritten Wrote own is unwritten = is
 
 pub none_written : (fault : RunFault) → IsOfInput fault → failed_writes (let r : Result (Unit {0}) RunFault = Err fault in r) ≡ 0
 none_written WriteFailed own = absurd own
@@ -65,7 +66,7 @@ stop_counts CaptureTooLong given old new is = omega (arith, is.1)
 stop_counts Memory given old new is = omega (arith, is.1)
 stop_counts _ given old new is = absurd is
 
-module _ (hosts : List KnownHost) (texts : List (List ℕ)) (seed : ℕ) (Wrote : List ℕ → Type 0) where
+module _ (hosts : List KnownHost) (texts : List (List ℕ)) (seed : ℕ) (Unwritten : Type 0) (Wrote : List ℕ → Type 0) where
   -- ---- what a text calls for, printed or stored
 
   pub input_fault : (fault : RunFault) (text : List ℕ) → AgreesUnlessMemory run_refusal (λ (outputs : List Output). outputs) (Err fault) (called_for hosts texts seed text) → IsOfInput fault
@@ -74,19 +75,11 @@ module _ (hosts : List KnownHost) (texts : List (List ℕ)) (seed : ℕ) (Wrote 
       (λ own. never hosts texts seed text own (λ e. e)) (λ after own. never hosts texts seed text own (λ e. e)) fault is
 
   pub refused : (out : Option (Bor (List ℕ))) (fault : RunFault) (text : List ℕ)
-      → AgreesUnlessMemory run_refusal (λ (outputs : List Output). outputs) (Err fault) (called_for hosts texts seed text)
-      → EndsOf out (Err fault) (called_for hosts texts seed text) Wrote × (failed_writes (let r : Result (Unit {0}) RunFault = Err fault in r) ≡ 0)
-  refused out fault text is =
+      → AgreesUnlessMemory run_refusal (λ (outputs : List Output). outputs) (Err fault) (called_for hosts texts seed text) → Unwritten
+      → EndsOf out (Err fault) (called_for hosts texts seed text) Unwritten Wrote × (failed_writes (let r : Result (Unit {0}) RunFault = Err fault in r) ≡ 0)
+  refused out fault text is unwritten =
       let own = input_fault fault text is in
-      (ends_refused out fault (called_for hosts texts seed text) Wrote own is, none_written fault own)
-
-  -- the reports of the rehearsal that is called for are refused
-  pub reports_refused : (out : Option (Bor (List ℕ))) (fault : RunFault) (text : List ℕ) (wanted : Result (List Output) RunFault) → called_for hosts texts seed text ≡ wanted
-      → Agrees run_refusal (λ (reports : List ℕ). reports) (Err fault) (reports_in wanted)
-      → EndsOf out (Err fault) (called_for hosts texts seed text) Wrote × (failed_writes (let r : Result (Unit {0}) RunFault = Err fault in r) ≡ 0)
-  reports_refused out fault text wanted taken is =
-      let told = agrees_unless_memory run_refusal (λ (reports : List ℕ). reports) (Err fault) (reports_in wanted) is in
-      refused out fault text (rw taken (of_fault fault wanted told))
+      (ends_refused out fault (called_for hosts texts seed text) Unwritten Wrote own is unwritten, none_written fault own)
 
   -- storing writes nothing to standard output
   pub none_printed : (result : Result (Unit {0}) RunFault) (text : List ℕ) → StoresUnlessMemory result (called_for hosts texts seed text) → failed_writes result ≡ 0
@@ -97,32 +90,35 @@ module _ (hosts : List KnownHost) (texts : List (List ℕ)) (seed : ℕ) (Wrote 
   -- ---- where the text was read
 
   prints_by : (result : Result (Unit {0}) RunFault) (text : List ℕ) (AtEnd : Type 0) → length text ≤ capture_limit → AtEnd
-      → PrintsOf result (called_for hosts texts seed text) Wrote → PrintsBy result (called_for hosts texts seed text) text AtEnd Wrote
+      → PrintsOf result (called_for hosts texts seed text) Unwritten Wrote → PrintsBy result (called_for hosts texts seed text) text AtEnd Unwritten Wrote
   prints_by (Ok u) text AtEnd within at_end is = (at_end, is)
   prints_by (Err WriteFailed) text AtEnd within at_end is = (at_end, is)
-  prints_by (Err fault) text AtEnd within at_end is = answered hosts texts seed (Err fault) text AtEnd within at_end is
+  prints_by (Err Memory) text AtEnd within at_end (inl unwritten) = (within, inl unwritten)
+  prints_by (Err Memory) text AtEnd within at_end (inr first) = (within, inr (at_end, first))
+  prints_by (Err fault) text AtEnd within at_end is = (answered hosts texts seed (Err fault) text AtEnd within at_end is.0, is.1)
 
-  answers_into : (out : Option (Bor (List ℕ))) (result : Result (Unit {0}) RunFault) (text : List ℕ) (AtEnd Unwritten : Type 0) → length text ≤ capture_limit → AtEnd
-      → OnSome out Unwritten → EndsOf out result (called_for hosts texts seed text) Wrote
+  answers_into : (out : Option (Bor (List ℕ))) (result : Result (Unit {0}) RunFault) (text : List ℕ) (AtEnd : Type 0) → length text ≤ capture_limit → AtEnd
+      → OnSome out Unwritten → EndsOf out result (called_for hosts texts seed text) Unwritten Wrote
       → AnswersInto out result (called_for hosts texts seed text) text AtEnd Unwritten Wrote
-  answers_into None result text AtEnd Unwritten within at_end unwritten is = prints_by result text AtEnd within at_end is
-  answers_into (Some folder) result text AtEnd Unwritten within at_end unwritten is = (stores_by hosts texts seed result text AtEnd within at_end is, unwritten)
+  answers_into None result text AtEnd within at_end unwritten is = prints_by result text AtEnd within at_end is
+  answers_into (Some folder) result text AtEnd within at_end unwritten is = (stores_by hosts texts seed result text AtEnd within at_end is, unwritten)
 
   none_read_into : (out : Option (Bor (List ℕ))) (result : Result (Unit {0}) RunFault) (text : List ℕ)
-      → EndsOf out result (called_for hosts texts seed text) Wrote → failed_reads result ≡ 0
+      → EndsOf out result (called_for hosts texts seed text) Unwritten Wrote → failed_reads result ≡ 0
   none_read_into (Some folder) result text is = none_failed hosts texts seed result text is
   none_read_into None (Ok u) text is = refl
-  none_read_into None (Err ReadFailed) text is = never hosts texts seed text is (λ own. own)
+  none_read_into None (Err ReadFailed) text is = never hosts texts seed text is.0 (λ own. own)
   none_read_into None (Err _) text is = refl
 
   -- ---- where loading it stopped
 
-  stops_into : (out : Option (Bor (List ℕ))) (fault : RunFault) (text : List ℕ) (old new : ℕ) (AtEnd Unwritten : Type 0) → StopsLoading fault (length text) old new → Unwritten
+  stops_into : (out : Option (Bor (List ℕ))) (fault : RunFault) (text : List ℕ) (old new : ℕ) (AtEnd : Type 0) → StopsLoading fault (length text) old new → Unwritten
       → AnswersInto out (Err fault) (called_for hosts texts seed text) text AtEnd Unwritten Wrote
-  stops_into None WriteFailed text old new AtEnd Unwritten is unwritten = absurd is
-  stops_into None fault text old new AtEnd Unwritten is unwritten = stopped hosts texts seed fault text old new AtEnd is
-  stops_into (Some folder) (ShelfFailed after) text old new AtEnd Unwritten is unwritten = absurd is
-  stops_into (Some folder) fault text old new AtEnd Unwritten is unwritten = (stopped hosts texts seed fault text old new AtEnd is, unwritten)
+  stops_into None WriteFailed text old new AtEnd is unwritten = absurd is
+  stops_into None Memory text old new AtEnd is unwritten = (stopped hosts texts seed Memory text old new AtEnd is, inl unwritten)
+  stops_into None fault text old new AtEnd is unwritten = (stopped hosts texts seed fault text old new AtEnd is, unwritten)
+  stops_into (Some folder) (ShelfFailed after) text old new AtEnd is unwritten = absurd is
+  stops_into (Some folder) fault text old new AtEnd is unwritten = (stopped hosts texts seed fault text old new AtEnd is, unwritten)
 
 -- ---- from standard input or a file
 
@@ -130,15 +126,15 @@ module _ (asked : Asked) (hosts : List KnownHost) (texts : List (List ℕ)) (tak
     (Lost : List ℕ → Type 0) (old new : ℕ) (reads : (text : List ℕ) (n : ℕ) → Lost text → new ≡ old + n → s.Read text n) where
   pub runs_loaded : (result : Result (Unit {0}) RunFault) (text : List ℕ) → length text ≤ capture_limit → OnSome asked.out s.Unwritten
       → IfNone asked.capture (Lost text × s.AtEnd × (new ≡ old)) → OnSome asked.capture s.Unread
-      → EndsOf asked.out result (called_for hosts texts asked.seed text) s.Wrote → RunsBy asked result s
+      → EndsOf asked.out result (called_for hosts texts asked.seed text) s.Unwritten s.Wrote → RunsBy asked result s
   runs_loaded result text within unwritten input file is = inr (hosts, texts, takes, from asked.capture input file)
     where
       from : (path : Option (Bor (List ℕ))) → IfNone path (Lost text × s.AtEnd × (new ≡ old)) → OnSome path s.Unread
           → AnswersFrom path result (λ text AtEnd. AnswersInto asked.out result (called_for hosts texts asked.seed text) text AtEnd s.Unwritten s.Wrote) s
       from None input file =
-          let none = none_read_into hosts texts asked.seed s.Wrote asked.out result text is in
-          (text, reads text (failed_reads result) input.0 (omega (arith, input.2, none)), answers_into hosts texts asked.seed s.Wrote asked.out result text s.AtEnd s.Unwritten within input.1 unwritten is)
-      from (Some path) input file = (text, file, answers_into hosts texts asked.seed s.Wrote asked.out result text (Unit {0}) s.Unwritten within tt unwritten is)
+          let none = none_read_into hosts texts asked.seed s.Unwritten s.Wrote asked.out result text is in
+          (text, reads text (failed_reads result) input.0 (omega (arith, input.2, none)), answers_into hosts texts asked.seed s.Unwritten s.Wrote asked.out result text s.AtEnd within input.1 unwritten is)
+      from (Some path) input file = (text, file, answers_into hosts texts asked.seed s.Unwritten s.Wrote asked.out result text (Unit {0}) within tt unwritten is)
 
   pub runs_stopped : (fault : RunFault) → s.Unwritten → IfNone asked.capture ((text : List ℕ) × Lost text × StopsLoading fault (length text) old new)
       → OnSome asked.capture (s.Unread × IsOfFile fault) → RunsBy asked (Err fault) s
@@ -149,8 +145,8 @@ module _ (asked : Asked) (hosts : List KnownHost) (texts : List (List ℕ)) (tak
       from None input file = (
         input.0,
         reads input.0 _ input.1 (stop_counts fault (length input.0) old new input.2),
-        stops_into hosts texts asked.seed s.Wrote asked.out fault input.0 old new s.AtEnd s.Unwritten input.2 unwritten,
+        stops_into hosts texts asked.seed s.Unwritten s.Wrote asked.out fault input.0 old new s.AtEnd input.2 unwritten,
       )
       from (Some path) input file =
           let stop = some_stop fault file.1 in
-          (stop.0, file.0, stops_into hosts texts asked.seed s.Wrote asked.out fault stop.0 0 stop.1 (Unit {0}) s.Unwritten stop.2 unwritten)
+          (stop.0, file.0, stops_into hosts texts asked.seed s.Unwritten s.Wrote asked.out fault stop.0 0 stop.1 (Unit {0}) stop.2 unwritten)

@@ -17,7 +17,7 @@ use Rattle.toxicap.specs.PrintedReports.{reports_in}
 use Rattle.toxicap.specs.Rehearsal.{answer}
 
 -- who tells want of memory only where nothing is refused, tells it where it may
-told_refusal : {G B : Type 0} (refusal : Option G) (wanted : Result B G) → Refuses refusal wanted → IfSome refusal (λ refused. wanted ≡ Err refused)
+pub told_refusal : {G B : Type 0} (refusal : Option G) (wanted : Result B G) → Refuses refusal wanted → IfSome refusal (λ refused. wanted ≡ Err refused)
 told_refusal (Some fault) wanted is = is
 told_refusal None wanted is = tt
 

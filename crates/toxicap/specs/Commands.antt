@@ -12,7 +12,7 @@
 --   9. a write of the reports, or a file of the folder, fails (`PrintsBy` and `StoresBy`, in RunEnds).
 -- Want of memory comes where a growth was refused, anywhere among them. Nothing is said here of what a named file holds: `NamedFiles`
 -- does, and there 3 is the first scenario file that is at fault, and comes before 4 where the capture is a file too.
-use Rattle.std.specs.Prelude.{◌≡◌, ◌≢◌, IfErr, ℕ, ◌+◌, ◌<◌, ◌⊎◌, List, length, take, Option, Some, None, Result, Ok, Err}
+use Rattle.std.specs.Prelude.{◌≡◌, ℕ, ◌+◌, ◌<◌, ◌⊎◌, List, length, take, Option, Some, None, Result, Ok, Err}
 use Rattle.std.specs.Borrow.{Bor}
 use Rattle.std.specs.Io.KnownBytes.{Appends, Consumes, IsAtEnd}
 use Rattle.std.specs.String.{string_bytes}
@@ -69,7 +69,7 @@ fault_stream contents w x = record {
 -- the answers to a text are printed on standard output, or they are stored in a folder and nothing is printed
 abbrev pub AnswersInto : Option (Bor (List ℕ)) → Result (Unit {0}) RunFault → Result (List Output) RunFault → List ℕ → Type 0 → Type 0
     → (List ℕ → Type 0) → Type 0
-AnswersInto None outcome wanted text AtEnd Unwritten Wrote = PrintsBy outcome wanted text AtEnd Wrote
+AnswersInto None outcome wanted text AtEnd Unwritten Wrote = PrintsBy outcome wanted text AtEnd Unwritten Wrote
 AnswersInto (Some folder) outcome wanted text AtEnd Unwritten Wrote = StoresBy outcome wanted text AtEnd × Unwritten
 
 -- the text is read of standard input, or of a file, of which it is not said what it holds, and input is not read
@@ -100,12 +100,10 @@ CommandEnds (Err (stop.Usage text)) outcome s = ⊥
 CommandEnds (Err stop.Memory) outcome s = (outcome ≡ Err Memory) × s.Unread × s.Unwritten
 
 -- How the program ends with a status. With a fault of the command line nothing is read or written but what tells it. Else there is an
--- outcome, which says what was read and written, the status, and what was told; only a run that ends well or whose write fails
--- has written anything.
+-- outcome, which says what was read and written, the status, and what was told.
 abbrev pub ProgramEnds : Result Asked Stop → ℕ → Streams → FaultStream → Type 0
 ProgramEnds (Err (stop.Usage text)) status s t =
     (status ≡ usage_status) × WrittenSoFar (string_bytes text) t.Told t.before t.now × s.Unread × s.Unwritten
 ProgramEnds line status s t =
     (outcome : Result (Unit {0}) RunFault) × CommandEnds line outcome s
-    × s.WritesFailed (failed_writes outcome) × IfErr outcome (λ fault. fault ≢ WriteFailed → s.Unwritten)
-    × (status ≡ status_of outcome) × Tells outcome t.Untold t.Told t.before t.now
+    × s.WritesFailed (failed_writes outcome) × (status ≡ status_of outcome) × Tells outcome t.Untold t.Told t.before t.now

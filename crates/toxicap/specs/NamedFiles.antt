@@ -46,9 +46,9 @@ outputs_asked held asked capture =
     and_then (hosts_asked asked) (λ hosts. and_then (texts_asked held asked) (λ texts. and_then capture (called_for hosts texts asked.seed)))
 
 -- how a run ends by what is called for, printed on standard output or stored in a folder
-abbrev pub EndsOf : Option (Bor (List ℕ)) → Result (Unit {0}) RunFault → Result (List Output) RunFault → (List ℕ → Type 0) → Type 0
-EndsOf None outcome wanted Wrote = PrintsOf outcome wanted Wrote
-EndsOf (Some folder) outcome wanted Wrote = StoresUnlessMemory outcome wanted
+abbrev pub EndsOf : Option (Bor (List ℕ)) → Result (Unit {0}) RunFault → Result (List Output) RunFault → Type 0 → (List ℕ → Type 0) → Type 0
+EndsOf None outcome wanted Unwritten Wrote = PrintsOf outcome wanted Unwritten Wrote
+EndsOf (Some folder) outcome wanted Unwritten Wrote = StoresUnlessMemory outcome wanted
 
 -- how the capture was read: of its file what the path holds; of standard input a text, unless a read failed
 abbrev pub ReadsCapture : Held → Option (Bor (List ℕ)) → Result (List ℕ) RunFault → Streams → Type 0
@@ -69,7 +69,7 @@ LeavesDisk (Some folder) outcome wanted old new =
 abbrev pub RunsOver : History → Asked → Result (Unit {0}) RunFault → Streams → Option History → Type 0
 RunsOver h asked outcome s new =
     (capture : Result (List ℕ) RunFault) × ReadsCapture (held_now h) asked.capture capture s
-    × EndsOf asked.out outcome (outputs_asked (held_now h) asked capture) s.Wrote
+    × EndsOf asked.out outcome (outputs_asked (held_now h) asked capture) s.Unwritten s.Wrote
     × LeavesDisk asked.out outcome (outputs_asked (held_now h) asked capture) h new
 
 -- how many calls of the disk have failed where a run ended so: without a folder none

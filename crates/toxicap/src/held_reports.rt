@@ -1,5 +1,5 @@
-//! The reports of all scenarios, held in the texts that they are made in, which are printed one after another without being put together.
-ghost use Rattle.std.specs.Prelude.{◌≡◌, ◌++◌, ◌<◌, All, IfOk, OnOk, length};
+//! The reports of some scenarios, held in the texts that they are made in, which are printed one after another without being put together.
+ghost use Rattle.std.specs.Prelude.{◌≡◌, ◌≤◌, ◌++◌, ◌<◌, All, IfOk, OnOk, length};
 ghost use Rattle.conn_workers.specs.ReportTexts.{text_of};
 ghost use Rattle.run_files.specs.Streams.{joined};
 ghost use Rattle.toxicap.specs.HeldReports.{reports_held};
@@ -10,7 +10,7 @@ use report::ReportText;
 use std::alloc::{AllocError, Global};
 use std::marker::Model;
 
-/// The reports of all scenarios, held in the texts that they are made in. Contracts see them one after another.
+/// The reports of some scenarios, held in the texts that they are made in. Contracts see them one after another.
 #[derive(Drop)]
 pub(crate) struct HeldReports {
     // The first two lines of each.
@@ -29,9 +29,6 @@ impl Model for HeldReports {
 
     ghost invariant = { λ r. All (λ share. length share ≡ length r.heads.items) r.shares };
 }
-
-// How many bytes of reports are put together before they are printed, so that short ones take one write.
-const TOGETHER: usize = 1 << 20;
 
 impl HeldReports {
     ghost use Rattle.std.specs.Prelude.{◌≡◌, All, IfOk, length};
@@ -67,33 +64,6 @@ impl HeldReports {
         let text = put_together(alloc, &texts)?;
         Ok(ReportText::of(text))
     }
-
-    /// The same reports, put together into one text where they are short.
-    ///
-    /// # Errors
-    /// A growth was refused.
-    pub(crate) fn compact(self, alloc: Global) -> Result<HeldReports, AllocError>
-        ensures { IfOk result (λ reports. reports ≡ self) }
-    {
-        if self.len(alloc)? > TOGETHER {
-            return Ok(self);
-        }
-        let text = self.text(alloc)?;
-        let heads = vec![in alloc; text]?;
-        Ok(HeldReports {
-            heads,
-            shares: Values::of(Vec::new(alloc)),
-        })
-    }
-
-    // How many bytes they have, or the greatest number where they are more.
-    //
-    // # Errors
-    // A growth was refused.
-    fn len(&self, alloc: Global) -> Result<usize, AllocError> {
-        let texts = self.texts(alloc)?;
-        Ok(texts_len(&texts))
-    }
 }
 
 // The texts of reports, one after another: the first two lines of each, and after them the scenario's text of each share.
@@ -117,7 +87,7 @@ fn texts_in_turn<'t>(
     Ok(texts)
 }
 
-// Appends the texts of the scenario of a number, share after share.
+// Appends the texts of the scenario at a place, share after share.
 //
 // # Errors
 // A growth was refused.
@@ -143,14 +113,27 @@ fn put_together(alloc: Global, texts: &[&[u8]]) -> Result<Vec<u8>, AllocError>
     ensures { IfOk result (λ whole. whole.items ≡ joined texts.now) }
 {
     let mut whole = Vec::with_capacity(alloc, texts_len(texts))?;
-    for text in texts {
-        whole.extend_from_slice(text)?;
-    }
+    put_after(&mut whole, texts)?;
     Ok(whole)
 }
 
-// How many bytes texts have together, or the greatest number where they are more.
-fn texts_len(texts: &[&[u8]]) -> usize {
+/// Appends texts, one after another.
+///
+/// # Errors
+/// A growth was refused.
+pub(crate) fn put_after(whole: &mut Vec<u8>, texts: &[&[u8]]) -> Result<(), AllocError>
+    ensures { OnOk result (whole.new.items ≡ whole.old.items ++ joined texts.now) }
+{
+    for text in texts {
+        whole.extend_from_slice(text)?;
+    }
+    Ok(())
+}
+
+/// How many bytes texts have together, or the greatest number where they are more.
+pub(crate) fn texts_len(texts: &[&[u8]]) -> usize
+    ensures { result ≤ length (joined texts.now) }
+{
     let mut len = 0usize;
     for text in texts {
         len = len.saturating_add(text.len());

@@ -1,11 +1,8 @@
-//! The reports of a rehearsal alone: no segment is written, and no capture made.
-ghost use Rattle.std.specs.Prelude.{◌≡◌, ◌≤◌, ℕ, List, IfOk, length, map};
+//! The reports of a rehearsal alone, held in memory: no segment is written, and no capture made.
+ghost use Rattle.std.specs.Prelude.{◌≡◌, ◌≤◌, IfOk, length, map};
 ghost use Rattle.lists.specs.Agreement.{Agrees, AgreesUnlessMemory};
-ghost use Rattle.pcap_records.specs.Heads.{heads_in};
-ghost use Rattle.pcap_records.specs.CaptureView.{bytes_of, capture_refusal};
-ghost use Rattle.pcap_records.specs.Reading.{capture_limit, reading};
+ghost use Rattle.pcap_records.specs.CaptureView.{bytes_of};
 ghost use Rattle.run_files.specs.RunFault.{run_refusal};
-ghost use Rattle.run_files.specs.SeenTexts.{IsSeenOf};
 ghost use Rattle.run_files.specs.WrittenOutputs.{reports_of};
 ghost use Rattle.toxicap.specs.Answering.{called_for};
 ghost use Rattle.toxicap.specs.CaptureOutputs.{outputs_for};
@@ -14,44 +11,17 @@ ghost use Rattle.toxicap.specs.Rehearsal.{answer, scenario_limit};
 
 use crate::crews::Crew;
 use crate::held_reports::HeldReports;
-use crate::reading::{SCENARIO_LIMIT, read_inputs, read_rehearsed, read_texts};
-use crate::report_heads::report_heads;
-use conn_workers::laws::lines_are_contributed;
-use pcap_records::{Capture, CaptureFault, FileBytes, KeptHeads};
-use report_laws::laws::report_sees_heads;
-use run_files::{RunFault, SeenText, Text};
+use crate::reading::{read_inputs, read_rehearsed};
+use crate::report_sources::ReportSources;
+use pcap_records::{Capture, FileBytes};
+use run_files::{RunFault, Text};
 use scenarios::{Hosts, Scenario};
 use std::alloc::{AllocError, Global};
 
-/// The reports that a capture's text and the texts of scenarios call for, one after another, of what was seen of the capture's text.
+/// The reports that a capture's text and the texts of scenarios call for, one after another.
 ///
 /// # Errors
 /// What they call for, or `Memory`, where a growth was refused.
-pub(crate) fn seen_reports<C: Crew>(
-    crew: &C,
-    alloc: Global,
-    seen: SeenText,
-    texts: &[&[u8]],
-    hosts: &Hosts,
-    seed: u64,
-) -> Result<HeldReports, RunFault>
-    requires { C.shares crew.now }
-    ensures { (text : List ℕ) → length text ≤ capture_limit → IsSeenOf seen text → AgreesUnlessMemory run_refusal (λ reports. reports) result
-        (reports_in (called_for hosts.now (map (λ t. t.now) texts.now) seed text)) }
-{
-    match seen {
-        SeenText::Dump(text) => text_reports(crew, alloc, text, texts, hosts, seed),
-        SeenText::Heads(heads) => {
-            let scenarios = read_texts(alloc, texts, hosts)?;
-            head_reports(crew, alloc, heads, &scenarios, seed)
-        }
-    }
-}
-
-/// The same of the whole text of a capture.
-///
-/// # Errors
-/// Those of [`seen_reports`].
 pub(crate) fn text_reports<C: Crew>(
     crew: &C,
     alloc: Global,
@@ -88,32 +58,6 @@ pub(crate) fn rehearse_reports<C: Crew>(
     Ok(reports)
 }
 
-// The same of a capture of which the heads of its packets were kept, or its first fault: reports see no more of it.
-//
-// # Errors
-// Those of `rehearse`.
-fn head_reports<C: Crew>(
-    crew: &C,
-    alloc: Global,
-    heads: Result<KeptHeads, CaptureFault>,
-    scenarios: &[Scenario],
-    seed: u64,
-) -> Result<HeldReports, RunFault>
-    requires { C.shares crew.now }
-    ensures { (bytes : List ℕ) → AgreesUnlessMemory capture_refusal (λ h. h) heads (heads_in (reading bytes))
-        → AgreesUnlessMemory run_refusal (λ text. text) result (reports_in (answer bytes scenarios.now seed)) }
-{
-    report_sees_heads();
-    if scenarios.len() > SCENARIO_LIMIT {
-        return Err(RunFault::TooManyScenarios);
-    }
-    let heads = heads?;
-    let (bytes, records) = heads.split();
-    let capture = records.over(&bytes);
-    let reports = made_reports(crew, alloc, &capture, scenarios, seed)?;
-    Ok(reports)
-}
-
 // The reports of all scenarios, one after another. The crew makes the table of the capture, and then the lines of its connections in all
 // reports.
 //
@@ -130,9 +74,13 @@ fn made_reports<C: Crew>(
     requires few { length scenarios.now ≤ scenario_limit }
     ensures { IfOk result (λ reports. reports ≡ reports_of (outputs_for capture.now scenarios.now seed)) }
 {
-    lines_are_contributed();
     let table = crew.table(alloc, capture)?;
-    let shares = crew.report_texts(alloc, capture, &table, scenarios, seed)?;
-    let heads = report_heads(alloc, capture, &table, scenarios.len())?;
-    Ok(HeldReports::of(heads, shares))
+    let sources = ReportSources {
+        alloc,
+        capture,
+        table: &table,
+        scenarios,
+        seed,
+    };
+    sources.reports(crew, 0, scenarios.len())
 }

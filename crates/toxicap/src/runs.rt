@@ -1,5 +1,5 @@
 //! A run that a command line asks for: the hosts and files that it names are read, and the answers printed or stored.
-ghost use Rattle.std.specs.Prelude.{◌≡◌, ◌≢◌, ◌+◌, ◌-◌, ◌^◌, ◌<◌, ◌≤◌, ℕ, List, Result, map, IfErr, [], length, IfNone, IfOk, IfSome, Some};
+ghost use Rattle.std.specs.Prelude.{◌≡◌, ◌+◌, ◌-◌, ◌^◌, ◌<◌, ◌≤◌, ℕ, List, Result, map, IfErr, [], length, IfNone, IfOk, IfSome, Some};
 ghost use Rattle.std.specs.Io.KnownBytes.{Appends, Consumes, IsAtEnd};
 ghost use Rattle.command_line.specs.Asking.{IsPlanInRange};
 ghost use Rattle.run_files.specs.declared.error.RunFault.{RunFault};
@@ -19,8 +19,8 @@ ghost use Rattle.run_files.specs.RunFault.{run_refusal};
 use crate::answering::Options;
 use crate::crews::Workers;
 use crate::host_lines::read_hosts;
+use crate::printing::print_seen;
 use crate::reading::read_inputs;
-use crate::reports::seen_reports;
 use crate::storing::store_rehearsal;
 use command_line::Asked;
 use disks::laws::names_leave_whole;
@@ -28,7 +28,7 @@ use disks::{Disk, ReadDisk};
 use job_matrix::Plan;
 use run_files::{
     Counted, Folder, RunFault, SeenText, Text, load, load_by_workers, load_file, see_file,
-    see_input, write_texts,
+    see_input,
 };
 use std::alloc::{AllocError, Global};
 use std::io::{Read, Write};
@@ -56,7 +56,6 @@ where
     ensures named { IfSome (D.history disk.old) (λ h. RunsOver h asked.now result (streams R.remaining reader.old reader.new W.contents writer.old writer.new) (D.history disk.new)) }
     ensures failed_calls { D.faults disk.new ≡ D.faults disk.old + failed_calls asked.now.out result }
     ensures failed_writes { writer.new.failed ≡ writer.old.failed + failed_writes result }
-    ensures untouched { IfErr result (λ fault. fault ≢ RunFault.WriteFailed → writer.new ≡ writer.old) }
 {
     names_leave_whole();
     let hosts = read_hosts(alloc, &asked.hosts)?;
@@ -74,8 +73,7 @@ where
     store_answers(rt, disk, alloc, text, folder, asked, &texts, &options)
 }
 
-// The reports of the answers to the capture that a command line names, printed. Nothing is printed before all reports are whole, so
-// every refusal but a failed write leaves the writer as it was.
+// The reports of the answers to the capture that a command line names, printed as they are made.
 fn print_answers<H: Threads + Wait + Sync, D: ReadDisk, R: Read, W: Write>(
     rt: &H,
     disk: &D,
@@ -89,24 +87,28 @@ fn print_answers<H: Threads + Wait + Sync, D: ReadDisk, R: Read, W: Write>(
     requires reads { reader.old.failed < 2 ^ 64 - 1 }
     requires writes { writer.old.failed < 2 ^ 64 - 1 }
     ensures printed { (loaded : Result (List ℕ) RunFault) × IfOk loaded (λ text. length text ≤ capture_limit)
-        × PrintsLoaded result loaded (called_for options.now.hosts (map (λ t. t.now) texts.now) options.now.seed)
+        × PrintsLoaded result loaded (called_for options.now.hosts (map (λ t. t.now) texts.now) options.now.seed) (writer.new ≡ writer.old)
         (Appends (W.contents writer.old.inner) (W.contents writer.new.inner))
         × IfNone asked.now.capture (LoadsInput (λ text. text) loaded
         (Consumes (R.remaining reader.old.inner) (R.remaining reader.new.inner)) (IsAtEnd (R.remaining reader.new.inner))
         reader.old.failed reader.new.failed)
         × IfSome asked.now.capture (λ path. LoadsFile (λ text. text) loaded (D.history disk.now) path.now (reader.new ≡ reader.old)) }
     ensures failed_writes { writer.new.failed ≡ writer.old.failed + failed_writes result }
-    ensures untouched { IfErr result (λ fault. fault ≢ RunFault.WriteFailed → writer.new ≡ writer.old) }
 {
     let seen = see_capture(alloc, disk, asked, reader)?;
     let crew = Workers {
         rt,
         plan: options.plan,
     };
-    let reports = seen_reports(&crew, alloc, seen, texts, &options.hosts, options.seed)?;
-    let reports = reports.compact(alloc)?;
-    let report_texts = reports.texts(alloc)?;
-    write_texts(writer, &report_texts)
+    print_seen(
+        &crew,
+        alloc,
+        seen,
+        texts,
+        &options.hosts,
+        options.seed,
+        writer,
+    )
 }
 
 // What reports see of the capture, from the file that a command line names, or without one from a reader.

@@ -11,17 +11,17 @@ use std::thread::Threads;
 use worked_sessions::gates::Holding;
 use worked_sessions::sessions::file;
 
-// That the texts of the scenario of a number are these two lines, share after share.
+// That the texts of the scenario at a place are these two lines, share after share.
 fn check_lines(
     rt: &impl Abort,
     alloc: Global,
     shares: &[ShareTexts],
-    number: usize,
+    place: usize,
     (first, second): (&str, &str),
 ) {
     let mut lines = Vec::new(alloc);
     for share in shares {
-        let text = share.as_slice().get(number).expect(rt, "a text");
+        let text = share.as_slice().get(place).expect(rt, "a text");
         lines
             .extend_from_slice(text.as_slice())
             .expect(rt, "memory");
@@ -37,6 +37,7 @@ fn check_shares(rt: &impl Abort, alloc: Global, shares: &[ShareTexts], count: us
     check_lines(rt, alloc, shares, 1, (FIRST_LINE, REFUSED_LINE));
 }
 
+// The last two scenarios that there may be.
 #[test]
 fn texts_by_one_thread(rt: HostRuntime) {
     let alloc = rt.alloc();
@@ -44,7 +45,9 @@ fn texts_by_one_thread(rt: HostRuntime) {
     let capture = read_capture(alloc, &bytes).expect(&rt, "a capture");
     let table = table_alone(alloc, &capture).expect(&rt, "memory");
     let scenarios = [scenario(&rt, alloc, &[]), scenario(&rt, alloc, &[DISABLED])];
-    let shares = report_texts_alone(alloc, &capture, &table, &scenarios, 42).expect(&rt, "memory");
+    let shares = report_texts_alone(alloc, &capture, &table, 254, &scenarios, 42).expect(
+        &rt, "memory",
+    );
     check_shares(&rt, alloc, shares.as_slice(), 1);
 }
 
@@ -61,7 +64,7 @@ fn check_workers<R: Abort + Threads + Sync, G: Gate>(
     let table = table_alone(alloc, &capture).expect(rt, "memory");
     let scenarios = [scenario(rt, alloc, &[]), scenario(rt, alloc, &[DISABLED])];
     let plan = Plan::new(workers, 4096).expect(rt, "a plan");
-    let made = report_texts(rt, alloc, &capture, &table, &scenarios, 42, plan, gate);
+    let made = report_texts(rt, alloc, &capture, &table, 0, &scenarios, 42, plan, gate);
     check_shares(rt, alloc, made.expect(rt, "memory").as_slice(), count);
 }
 

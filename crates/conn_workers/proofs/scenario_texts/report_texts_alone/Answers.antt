@@ -14,7 +14,7 @@ returns c =
     let is = c.of-jobs.ensures in
     let recordings = recordings_of jobs.lines.capture.now in
     let whole : length recordings ≤ jobs.ranges.count * jobs.ranges.size = omega (arith, jobs.all, jobs.ranges.whole, jobs.lines.each) in
-    rw (← is.seed, ← is.scenarios, ← is.capture)
+    rw (← is.seed, ← is.first, ← is.scenarios, ← is.capture)
     (IfOk-weaker c.work_alone.result _ _
-    (λ v e. subst (HoldLines jobs.seed jobs.scenarios.now recordings) (sym e) (texts_together jobs.seed jobs.scenarios.now jobs.ranges.size jobs.ranges.count recordings whole))
+    (λ v e. subst (HoldLines jobs.seed jobs.first jobs.scenarios.now recordings) (sym e) (texts_together jobs.seed jobs.first jobs.scenarios.now jobs.ranges.size jobs.ranges.count recordings whole))
     c.work_alone.ensures)

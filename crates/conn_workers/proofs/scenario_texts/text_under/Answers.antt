@@ -12,6 +12,6 @@ returns c =
     let recordings = c.args.recordings.now in
     let own =
     ap (λ (seed : ℕ). row_text seed (under.number, under.scenario.now) recordings) is.seed
-    ∙ ap₂ (λ (number : ℕ) (proxies : List Proxy). row_text c.args.seed (number, proxies) recordings) is.number (is.scenario ∙ c.index-scenarios-number.is) in
-    let at = text_at c.args.seed c.args.scenarios.now recordings c.args.number c.index-scenarios-number.result c.requires.within in
+    ∙ ap₂ (λ (number : ℕ) (proxies : List Proxy). row_text c.args.seed (number, proxies) recordings) is.number (is.scenario ∙ c.index-scenarios-place.is) in
+    let at = text_at c.args.seed c.args.first c.args.scenarios.now recordings c.args.place c.index-scenarios-place.result c.requires.within in
     IfOk-weaker c.text.result _ _ (λ v e. e ∙ own ∙ at) c.text.ensures

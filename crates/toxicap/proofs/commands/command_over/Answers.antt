@@ -11,7 +11,7 @@ returns-in-Ok-clause-ends g c =
       Ok c.in-Ok.asked,
       c.in-Ok.ensures,
       (
-        (outcome, ran.runs, ran.failed_writes, ran.untouched, told.status, told.told),
+        (outcome, ran.runs, ran.failed_writes, told.status, told.told),
         IfSome_then (g.D.Disk.history c.args.disk.now) ran.named (λ h over. (outcome, over, ran.failed_calls, told.status, told.told)),
       ),
     )

@@ -16,7 +16,7 @@ pub returns-in_err-hosts-clause-named : goal.returns-in_err-hosts-clause-named
 returns-in_err-hosts-clause-named g c =
     let fault = err_from_is_err_and c.from_residual.result c.from_residual.ensures.1 in
     let is = rw c.deref.ensures.value at c.in_err-hosts.ensures.exact in
-    rw (fault.1, fault.2) (host_refused c.names_leave_whole.ensures (g.D.Disk.history c.args.disk.now) c.args.asked.now _ _ (none_consumed _, omega arith) c.in_err-hosts.ensures.of_host is)
+    rw (fault.1, fault.2) (host_refused c.names_leave_whole.ensures (g.D.Disk.history c.args.disk.now) c.args.asked.now _ _ (none_consumed _, omega arith) refl c.in_err-hosts.ensures.of_host is)
 
 -- a scenario file is refused
 pub returns-in_err-files-clause-named : goal.returns-in_err-files-clause-named
@@ -24,14 +24,14 @@ returns-in_err-files-clause-named g c =
     let fault = err_from_is_err_and c.from_residual-in_err-files.result c.from_residual-in_err-files.ensures.1 in
     let known = rw c.deref.ensures.value at c.in_ok-hosts.ensures.exact in
     let is = rw c.deref-2.ensures.value at c.in_err-files.ensures.told in
-    rw (fault.1, fault.2) (file_refused c.names_leave_whole.ensures (g.D.Disk.history c.args.disk.now) c.args.asked.now _ _ (none_consumed _, omega arith)
+    rw (fault.1, fault.2) (file_refused c.names_leave_whole.ensures (g.D.Disk.history c.args.disk.now) c.args.asked.now _ _ (none_consumed _, omega arith) refl
     c.in_ok-hosts.hosts known _ c.in_err-files.ensures.of_file is)
 
 -- there is no memory for the list of their texts
 pub returns-in_err-texts-clause-named : goal.returns-in_err-texts-clause-named
 returns-in_err-texts-clause-named g c =
     let fault = err_from_is_err_and c.from_residual-in_err-texts.result c.from_residual-in_err-texts.ensures.1 in
-    rw (fault.1, fault.2) (host_refused c.names_leave_whole.ensures (g.D.Disk.history c.args.disk.now) c.args.asked.now Memory _ (none_consumed _, omega arith) tt tt)
+    rw (fault.1, fault.2) (host_refused c.names_leave_whole.ensures (g.D.Disk.history c.args.disk.now) c.args.asked.now Memory _ (none_consumed _, omega arith) refl tt tt)
 
 -- the capture is refused
 pub returns-in_err-text-clause-runs : goal.returns-in_err-text-clause-runs
@@ -58,7 +58,7 @@ returns-in_err-text-clause-named g c =
     let loaded = rw c.deref-2.ensures.value at c.in_ok-files.ensures.told in
     let fault = err_from_is_err_and c.from_residual-in_err-text.result c.from_residual-in_err-text.ensures.1 in
     let stop = c.in_err-text.ensures in
-    rw (fault.1, fault.2) (stopped_over c.names_leave_whole.ensures (g.D.Disk.history c.args.disk.now) c.args.asked.now c.in_ok-hosts.hosts files texts known are loaded _ _
+    rw (fault.1, fault.2) (stopped_over c.names_leave_whole.ensures (g.D.Disk.history c.args.disk.now) c.args.asked.now c.in_ok-hosts.hosts files texts known are loaded _ refl _
     (Consumes (g.R.Read.remaining c.args.reader.now.inner) (g.R.Read.remaining c.load_capture.new.reader.inner)) c.args.reader.now.failed c.load_capture.new.reader.failed
     (λ text n lost count. (lost, count)) stop.input (IfSome_then c.args.asked.now.capture stop.file (λ path of. (of.1, of.2))))
 
@@ -74,7 +74,7 @@ returns-in_default-clause-runs g c =
     ) in
     let (loaded, within, printed, input, file) = rw c.deref-in_default.ensures.value at c.print_answers.ensures.printed in
     runs_printed c.args.asked.now hosts texts _ (Consumes (g.R.Read.remaining c.args.reader.now.inner) (g.R.Read.remaining c.print_answers.new.reader.inner)) c.args.reader.now.failed c.print_answers.new.reader.failed
-    (λ text n lost count. (lost, count)) (g.D.Disk.history c.args.disk.now) c.in_default.is takes c.print_answers.result loaded within printed input file c.print_answers.ensures.untouched
+    (λ text n lost count. (lost, count)) (g.D.Disk.history c.args.disk.now) c.in_default.is takes c.print_answers.result loaded within printed input file
 
 pub returns-in_default-clause-named : goal.returns-in_default-clause-named
 returns-in_default-clause-named g c =

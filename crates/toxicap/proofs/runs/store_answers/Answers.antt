@@ -14,20 +14,20 @@ pub returns-in_err-inputs-clause-ends : goal.returns-in_err-inputs-clause-ends
 returns-in_err-inputs-clause-ends g c =
     let own = c.args.options.now in
     let fault = err_from_is_err_and c.from_residual.result c.from_residual.ensures.1 in
-    rw (fault.1, fault.2) (refused own.hosts (map (λ t. t.now) c.args.texts.now) own.seed (λ written. Unit {0}) (Some c.args.folder) _ c.args.text (c.in_err-inputs.ensures.refused own.seed)).0
+    rw (fault.1, fault.2) (refused own.hosts (map (λ t. t.now) c.args.texts.now) own.seed (Unit {0}) (λ written. Unit {0}) (Some c.args.folder) _ c.args.text (c.in_err-inputs.ensures.refused own.seed) tt).0
 
 pub returns-in_err-inputs-clause-none_printed : goal.returns-in_err-inputs-clause-none_printed
 returns-in_err-inputs-clause-none_printed g c =
     let own = c.args.options.now in
     let fault = err_from_is_err_and c.from_residual.result c.from_residual.ensures.1 in
-    rw (fault.1, fault.2) (refused own.hosts (map (λ t. t.now) c.args.texts.now) own.seed (λ written. Unit {0}) (Some c.args.folder) _ c.args.text (c.in_err-inputs.ensures.refused own.seed)).1
+    rw (fault.1, fault.2) (refused own.hosts (map (λ t. t.now) c.args.texts.now) own.seed (Unit {0}) (λ written. Unit {0}) (Some c.args.folder) _ c.args.text (c.in_err-inputs.ensures.refused own.seed) tt).1
 
 pub returns-clause-none_printed : goal.returns-clause-none_printed
 returns-clause-none_printed g c =
     let own = c.args.options.now in
     let taken = c.in_ok-inputs.ensures.taken own.seed in
     let ends = stores_unless_memory c.store_rehearsal.result _ (rw (c.bytes.ensures, c.deref.ensures.value) at c.store_rehearsal.ensures.ends) in
-    none_printed own.hosts (map (λ t. t.now) c.args.texts.now) own.seed (λ written. Unit {0}) c.store_rehearsal.result c.args.text (rw taken ends)
+    none_printed own.hosts (map (λ t. t.now) c.args.texts.now) own.seed (Unit {0}) (λ written. Unit {0}) c.store_rehearsal.result c.args.text (rw taken ends)
 
 pub returns-clause-ends : goal.returns-clause-ends
 returns-clause-ends g c =
@@ -43,7 +43,7 @@ returns-in_err-inputs-clause-faults g c =
     rw (fault.1, fault.2) (omega (
       arith,
       none_asked c.args.folder.now _
-          (input_fault own.hosts (map (λ t. t.now) c.args.texts.now) own.seed (λ written. Unit {0}) _ c.args.text (c.in_err-inputs.ensures.refused own.seed)),
+          (input_fault own.hosts (map (λ t. t.now) c.args.texts.now) own.seed (Unit {0}) (λ written. Unit {0}) _ c.args.text (c.in_err-inputs.ensures.refused own.seed)),
     ))
 
 -- ---- what is left of the disk
@@ -53,7 +53,7 @@ returns-in_err-inputs-clause-disk g c =
     let own = c.args.options.now in
     let fault = err_from_is_err_and c.from_residual.result c.from_residual.ensures.1 in
     rw (fault.1, fault.2) (disk_unused c.names_leave_whole.ensures (Some c.args.folder) _ _ (g.D.Disk.history c.args.disk.now)
-    (input_fault own.hosts (map (λ t. t.now) c.args.texts.now) own.seed (λ written. Unit {0}) _ c.args.text (c.in_err-inputs.ensures.refused own.seed)))
+    (input_fault own.hosts (map (λ t. t.now) c.args.texts.now) own.seed (Unit {0}) (λ written. Unit {0}) _ c.args.text (c.in_err-inputs.ensures.refused own.seed)))
 
 pub returns-in_err-folder-clause-disk : goal.returns-in_err-folder-clause-disk
 returns-in_err-folder-clause-disk g c =

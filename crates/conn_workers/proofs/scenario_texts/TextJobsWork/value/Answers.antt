@@ -8,12 +8,12 @@ use Rattle.conn_workers.proofs.scenario_texts.TextJobsWork.value.Goals as goal
 pub first-first-requires : goal.first-first-requires
 first-first-requires c =
     let work = c.args.self.now in
-    omega (arith, c.requires, length-by_range (texts_under work.seed work.scenarios.now) work.ranges.size work.ranges.count (recordings_of work.lines.capture.now))
+    omega (arith, c.requires, length-by_range (texts_under work.seed work.first work.scenarios.now) work.ranges.size work.ranges.count (recordings_of work.lines.capture.now))
 
 pub returns : goal.returns
 returns c =
     let work = c.args.self.now in
-    let made = texts_under work.seed work.scenarios.now in
+    let made = texts_under work.seed work.first work.scenarios.now in
     IfOk-weaker c.texts_under.result _ _
     (λ v e other. e ∙ ap made (c.deref.ensures.value ∙ c.in_ok-recordings.ensures) ∙ rw c.first-first.ensures.first (by_range made work.ranges.size work.ranges.count (recordings_of work.lines.capture.now) c.args.job other c.requires))
     c.texts_under.ensures

@@ -144,7 +144,7 @@ const HELD_LIMIT: usize = 1 << 20;
 
 // About how many bytes of reports are made at once, where one has no more. What is recorded of connections is made again for the next
 // ones, in place of being kept.
-const MADE_LEN: usize = 3 << 20;
+const MADE_LEN: usize = 2 << 20;
 
 // The reports of all scenarios.
 //

@@ -265,7 +265,7 @@ status=0
 dd if="$work/six.pcap" bs=997 status=none | "$program" > "$work/output" 2> "$work/faults" || status=$?
 verdict "45 MB printed in parts of 997 bytes" "$(well; byte_difference "$work/six.report" "$work/output")"
 
-# Reports are printed as they are made, so 64 of them, with 22 MB together, take no more than 16 MB of addresses with all else. Each is as it is alone,
+# Reports are printed as they are made, so 64 of them, with 22 MB together, take no more than 20 MB of addresses with all else. Each is as it is alone,
 # but for its number.
 perl tests/capture.pl 4000x3 > "$work/pairs.few"
 run "$work/pairs.few" --scenario examples/latency.json
@@ -275,7 +275,7 @@ for ((number = 0; number < 64; number++)); do
     sed "s/^scenario 0 /scenario $number /" "$work/output"
 done > "$work/wanted"
 for workers in 1 2; do
-    ulimit -S -v 16000
+    ulimit -S -v 20000
     run_with GLIBC_TUNABLES=glibc.malloc.arena_max=1 "$work/pairs.few" "${many[@]}" --workers $workers
     ulimit -S -v "$limit"
     verdict "22 MB of reports printed in little memory by $workers workers" "$(well; byte_difference "$work/wanted" "$work/output")"

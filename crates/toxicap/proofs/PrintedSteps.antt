@@ -1,5 +1,5 @@
 -- How a run ends that prints, by how the text of its capture was loaded.
-use Rattle.std.proofs.Common.{◌≡◌, ℕ, ◌+◌, ◌<◌, ◌≤◌, List, length, take, map, [], Option, Some, None, Result, Ok, Err, refl, sym, ap, subst}
+use Rattle.std.proofs.Common.{◌≡◌, ℕ, ◌+◌, ◌≤◌, List, length, map, [], Option, Some, None, Result, Ok, Err, sym, ap, subst}
 use Rattle.std.specs.Prelude.{IfNone, IfOk, IfSome}
 use Rattle.std.specs.Borrow.{Bor}
 use Rattle.std.proofs.lemmas.Option.{IfSome_then}
@@ -8,13 +8,11 @@ use Rattle.scenarios.specs.declared.hosts.KnownHost.{KnownHost}
 use Rattle.command_line.specs.declared.asked.Asked.{Asked}
 use Rattle.disks.specs.Histories.{History, NamesLeaveWhole, held_now}
 use Rattle.run_files.specs.declared.error.RunFault.{RunFault}
-use Rattle.run_files.specs.declared.error.RunFault.TheVariants.{WriteFailed}
 use Rattle.run_files.specs.declared.outputs.Output.{Output}
 use Rattle.run_files.specs.declared.seen_parts.SeenText.{SeenText}
 use Rattle.run_files.specs.Paths.{IsOfFile}
 use Rattle.run_files.specs.SeenTexts.{IsSeenOf, LoadsInput, SeesAs}
 use Rattle.run_files.specs.Streams.{StopsLoading}
-use Rattle.run_files.specs.WrittenOutputs.{reports_of}
 use Rattle.toxicap.specs.Answering.{called_for}
 use Rattle.toxicap.specs.Commands.{RunsBy, Streams}
 use Rattle.toxicap.specs.Inputs.{TakesInputs, hosts_asked, texts_or_bare}

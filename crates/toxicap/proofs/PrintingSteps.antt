@@ -1,20 +1,19 @@
 -- Reports that are printed as they are made: how far that came, and how it ends.
-use Rattle.std.proofs.Common.{◌≡◌, ◌<◌, ◌≤◌, ◌⊎◌, ℕ, ◌+◌, Option, List, [], ◌++◌, length, map, take, drop, inl, inr, Result, Ok, Err, refl, sym, ap, subst, ◌∙◌, arith, append-nil, append_assoc, length-append, take-add}
+use Rattle.std.proofs.Common.{◌≡◌, ◌<◌, ◌≤◌, ◌⊎◌, ℕ, ◌+◌, Option, List, [], ◌++◌, length, take, drop, inl, inr, Result, Ok, Err, refl, sym, ap, subst, ◌∙◌, arith, append-nil, append_assoc, length-append, take-add}
 use Rattle.std.specs.Io.KnownBytes.{Appends}
-use Rattle.std.specs.List.{flat_map}
 use Rattle.std.specs.Prelude.{IfErr, IfSome, OnErr, OnOk}
 use Rattle.std.proofs.KnownBytes.{Appends-nil, Appends-trans}
 use Rattle.std.proofs.lemmas.List.{drop_at, take-append-drop, take-append-le, take_all, take_at}
 use Rattle.std.proofs.lemmas.List.Concat.{flat_map-append}
 use Rattle.run_files.specs.declared.error.RunFault.{RunFault}
-use Rattle.run_files.specs.declared.error.RunFault.TheVariants.{Memory, ShelfFailed, WriteFailed}
+use Rattle.run_files.specs.declared.error.RunFault.TheVariants.{Memory, WriteFailed}
 use Rattle.run_files.specs.declared.outputs.Output.{Output}
 use Rattle.run_files.specs.RunFault.{run_refusal}
 use Rattle.run_files.specs.Streams.{CountedView}
 use Rattle.run_files.specs.WrittenOutputs.{reports_of}
 use Rattle.toxicap.specs.Answering.{IsOfText}
 use Rattle.toxicap.specs.HeldReports.{HoldsOrWrites, StopsWriting}
-use Rattle.toxicap.specs.PrintedReports.{PrintsFirst, PrintsOf, held_limit}
+use Rattle.toxicap.specs.PrintedReports.{PrintsOf, held_limit}
 use Rattle.toxicap.specs.RunEnds.{failed_writes}
 use Rattle.toxicap.proofs.RunSteps.{IsOfInput, none_written, of_input}
 

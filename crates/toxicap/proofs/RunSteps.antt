@@ -3,7 +3,7 @@ use Rattle.std.proofs.Common.{◌≡◌, ℕ, ◌+◌, ◌<◌, ◌≤◌, List,
 use Rattle.std.specs.Prelude.{IfNone, IfSome, OnSome}
 use Rattle.std.specs.Borrow.{Bor}
 use Rattle.std.proofs.lemmas.List.{length-replicate}
-use Rattle.lists.specs.Agreement.{Agrees, AgreesUnlessMemory}
+use Rattle.lists.specs.Agreement.{AgreesUnlessMemory}
 use Rattle.pcap_records.specs.Reading.{capture_limit}
 use Rattle.scenarios.specs.declared.hosts.KnownHost.{KnownHost}
 use Rattle.command_line.specs.declared.asked.Asked.{Asked}
@@ -17,12 +17,11 @@ use Rattle.toxicap.specs.Answering.{called_for}
 use Rattle.toxicap.specs.Commands.{AnswersFrom, AnswersInto, RunsBy, Streams}
 use Rattle.toxicap.specs.Inputs.{TakesInputs}
 use Rattle.toxicap.specs.NamedFiles.{EndsOf}
-use Rattle.toxicap.specs.PrintedReports.{PrintsOf, reports_in}
+use Rattle.toxicap.specs.PrintedReports.{PrintsOf}
 use Rattle.toxicap.specs.RunEnds.{PrintsBy, failed_reads, failed_writes}
 use Rattle.toxicap.specs.StoredOutputs.{StoresUnlessMemory}
 use Rattle.toxicap.proofs.AnswerSteps.{answered, never, stopped}
 use Rattle.toxicap.proofs.StoringEnds.{stores_by, none_failed}
-use Rattle.toxicap.proofs.TextsTaken.{agrees_unless_memory, of_fault}
 
 -- ---- faults that are no failed write and no failed shelf
 

@@ -1,4 +1,4 @@
-use Rattle.std.proofs.Common.{◌≡◌, ◌∷◌, [], ◌++◌, length, append_assoc, ap, sym, ◌∙◌, subst, arith}
+use Rattle.std.proofs.Common.{◌∷◌, [], ◌++◌, length, append_assoc, ap, sym, ◌∙◌, subst, arith}
 use Rattle.conn_table.specs.Entries.{all_of}
 use Rattle.conn_table.specs.Growing.{HasGrown}
 use Rattle.conn_table.proofs.Growths.{all_of-longer, all_of-push}

@@ -1,7 +1,5 @@
-use Rattle.std.proofs.Common.{◌≡◌, ◌<◌, ◌≤◌, ◌-◌, List, ℕ, length, arith}
+use Rattle.std.proofs.Common.{◌-◌, arith}
 use Rattle.std.proofs.lemmas.Result.{err_from_is_err_and}
-use Rattle.run_files.specs.declared.outputs.Output.{Output}
-use Rattle.toxicap.specs.CaptureOutputs.{outputs_for}
 use Rattle.toxicap.proofs.OutputSteps.{as_many_for}
 use Rattle.toxicap.proofs.PrintingSteps.{prints_all, prints_first, prints_more, prints_stopped}
 use Rattle.toxicap.proofs.printing.print_all.Goals as goal

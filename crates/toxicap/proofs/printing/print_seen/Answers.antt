@@ -1,7 +1,6 @@
 use Rattle.std.proofs.Common.{[], map, subst, arith, refl}
 use Rattle.std.proofs.lemmas.Result.{err_from_is_err_and}
 use Rattle.run_files.specs.SeenTexts.{IsSeenOf}
-use Rattle.toxicap.specs.Answering.{called_for}
 use Rattle.toxicap.proofs.AnswerSteps.{of_called, of_scenarios}
 use Rattle.toxicap.proofs.PrintingSteps.{none_failed, prints_refused}
 use Rattle.toxicap.proofs.TextsTaken.{called_rehearsal, not_dumped, refused_scenarios}

@@ -1,7 +1,5 @@
-use Rattle.std.proofs.Common.{◌≡◌, ◌∙◌, Ok, map, arith, refl}
+use Rattle.std.proofs.Common.{◌∙◌, map, arith, refl}
 use Rattle.std.proofs.lemmas.Result.{err_from_is_err_and}
-use Rattle.run_files.specs.RunFault.{run_refusal}
-use Rattle.toxicap.specs.Answering.{called_for}
 use Rattle.toxicap.proofs.AnswerSteps.{of_answer, of_called}
 use Rattle.toxicap.proofs.PrintingSteps.{none_failed, prints_refused, prints_wanted}
 use Rattle.toxicap.proofs.TextsTaken.{told_refusal}

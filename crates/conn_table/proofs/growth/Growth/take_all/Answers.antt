@@ -1,4 +1,4 @@
-use Rattle.std.proofs.Common.{length, ◌++◌, take, append_assoc, length-append, length-take, ap, sym, ◌∙◌, subst, arith}
+use Rattle.std.proofs.Common.{◌++◌, take, length-append, length-take, sym, subst, arith}
 use Rattle.conn_table.specs.Growing.{HasGrown}
 use Rattle.conn_table.proofs.Growths.{grown-next, ready, taken-next}
 use Rattle.conn_table.proofs.growth.Growth.take_all.Goals as goal

@@ -21,3 +21,4 @@ mod ReadyDrafts
 mod PrintedSteps
 mod PrintingSteps
 mod SeenReports
+mod GatheredTexts

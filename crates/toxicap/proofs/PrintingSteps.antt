@@ -19,7 +19,7 @@ use Rattle.toxicap.proofs.RunSteps.{IsOfInput, none_written, of_input}
 
 -- ---- a first part of a text, which ends in its middle
 
-part : (all base middle rest : List ℕ) (written : ℕ) → all ≡ base ++ (middle ++ rest) → written < length middle
+pub part : (all base middle rest : List ℕ) (written : ℕ) → all ≡ base ++ (middle ++ rest) → written < length middle
     → (length base + written < length all) × (base ++ take written middle ≡ take (length base + written) all)
 part all base middle rest written are less =
     let whole : List ℕ = base ++ (middle ++ rest) in (
@@ -39,7 +39,7 @@ module _ (outputs : List Output) where
 
   module _ {W : Type 0} (contents : W → Option (List ℕ)) (old : CountedView W) where
     -- So many reports were made. The first of them were written, and what is held are the others; where any were written, they are longer
-    -- than what is held.
+    -- than may be held.
     pub record Printing (made : ℕ) (held : List ℕ) (now : CountedView W) : Type 0 where
       pub printed : ℕ
       pub before : printed ≤ made

@@ -22,7 +22,7 @@ reports_held heads shares = reports_below heads shares (length heads)
 -- ---- until they are printed
 
 -- What becomes of a text that comes after what is held, given what it is to have written nothing, and to have written some bytes: it is
--- held too; or both together are longer than what is held, and were written.
+-- held too; or both together are longer than may be held, and were written.
 abbrev pub HoldsOrWrites : List ℕ → List ℕ → List ℕ → Type 0 → (List ℕ → Type 0) → Type 0
 HoldsOrWrites old text new Unwritten Wrote =
     ((new ≡ old ++ text) × Unwritten) ⊎ ((new ≡ []) × (held_limit < length (old ++ text)) × Wrote (old ++ text))

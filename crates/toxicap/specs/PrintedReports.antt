@@ -23,7 +23,7 @@ PrintsFirst wanted Wrote =
 
 -- How printing ends, by what is called for, given what it is to have written nothing, and to have written some bytes: the reports were
 -- written, whole and once; or a write failed, and a first part of them was, not all. Where memory is wanting, nothing was written, or whole
--- reports that are longer together than what is held. Any other refusal is what is called for, and nothing was written.
+-- reports that are longer together than may be held. Any other refusal is what is called for, and nothing was written.
 abbrev pub PrintsOf : Result (Unit {0}) RunFault → Result (List Output) RunFault → Type 0 → (List ℕ → Type 0) → Type 0
 PrintsOf (Ok _) wanted Unwritten Wrote = (outputs : List Output) × (wanted ≡ Ok outputs) × Wrote (reports_of outputs)
 PrintsOf (Err WriteFailed) wanted Unwritten Wrote =

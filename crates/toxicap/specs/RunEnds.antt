@@ -13,7 +13,7 @@ use Rattle.toxicap.specs.PrintedReports.{PrintsFirst}
 -- and to have written some bytes. On Ok the reader is at its end, and the reports that were called for were written, whole and once. A failed
 -- write comes after all was read, and a first part of the reports was written, not all of them. Any other refusal is what was called for, or
 -- came while the text was read, and nothing was written; but where memory was wanting once all was read, whole reports may have been
--- written, of the first scenarios, if they are longer together than what is held.
+-- written, of the first scenarios, if they are longer together than may be held.
 abbrev pub PrintsBy : Result (Unit {0}) RunFault → Result (List Output) RunFault → List ℕ → Type 0 → Type 0 → (List ℕ → Type 0) → Type 0
 PrintsBy (Ok _) wanted text AtEnd Unwritten Wrote = AtEnd × ((outputs : List Output) × (wanted ≡ Ok outputs) × Wrote (reports_of outputs))
 PrintsBy (Err WriteFailed) wanted text AtEnd Unwritten Wrote =

@@ -30,8 +30,8 @@ const NO_TEXT: &[u8] = b"error: a word of the command line is not text in UTF-8"
 /// The status is 0, 1 for a refusal, whose line is written with a line feed, and 2 for a fault of the command line, whose text is
 /// written; nothing is read then. `--help` and `--version` are written on `output`. Refusals come in this order: hosts, scenario
 /// files as bytes, the capture's bytes, its dump, the scenarios, their number, the capture's own faults, and last a write or a file
-/// that fails; want of memory comes where it happens. Where there is no memory for a refusal's line, nothing is written; a write on
-/// `faults` that fails ends it early and leaves the status as it is. It waits for the threads of the rehearsal: its clauses
+/// that fails; want of memory comes where it happens. Where there is no memory for a refusal's line, the line is not written; a
+/// write on `faults` that fails ends it early and leaves the status as it is. It waits for the threads of the rehearsal: its clauses
 /// hold if it returns.
 pub fn command<H: Files + Threads + Wait + Sync, S: AsStr, I: Read, O: Write, E: Write>(
     rt: &H,
@@ -65,9 +65,9 @@ where
 ///
 /// Where the disk tells its history, the outcome follows from it: each scenario is the text at its own path, and the capture that at
 /// its path; of several files that are at fault the first counts, in the order of the scenarios, and then the capture. After a run of
-/// status 0 the files of the outputs have got their names in the folder, and no others have; where the folder fails or memory is wanting, a first part of
-/// them has; at any other refusal, and without `--out`, the disk is as it was. A call of the disk has failed exactly where a file could not be
-/// stored in a folder that has a path. Whenever the run is cut off, each path holds what it held
+/// status 0 the files of the outputs have got their names in the folder, and no others have; where the folder fails or memory is
+/// wanting, a first part of them has; at any other refusal, and without `--out`, the disk is as it was. A call of the disk has failed
+/// exactly where a file could not be stored in a folder that has a path. Whenever the run is cut off, each path holds what it held
 /// before it, or the whole file that it was to get.
 pub fn command_over<
     H: Threads + Wait + Sync,

@@ -27,6 +27,7 @@ mod rows;
 mod runs;
 mod sources;
 mod storing;
+mod written_texts;
 
 pub use answering::{Options, answers};
 pub use commands::{command, command_over, refuse_words};

@@ -7,7 +7,6 @@ ghost use Rattle.pcap_records.specs.CaptureView.{capture_refusal};
 ghost use Rattle.pcap_records.specs.Heads.{heads_in};
 ghost use Rattle.pcap_records.specs.Reading.{capture_limit, reading};
 ghost use Rattle.run_files.specs.SeenTexts.{IsSeenOf};
-ghost use Rattle.run_files.specs.Streams.{joined};
 ghost use Rattle.toxicap.specs.Answering.{called_for};
 ghost use Rattle.toxicap.specs.CaptureOutputs.{outputs_for};
 ghost use Rattle.toxicap.specs.HeldReports.{HoldsOrWrites, StopsWriting};
@@ -19,11 +18,12 @@ use crate::crews::Crew;
 use crate::held_reports::{HeldReports, put_after, texts_len};
 use crate::reading::{SCENARIO_LIMIT, read_inputs, read_rehearsed, read_texts};
 use crate::report_sources::ReportSources;
+use crate::written_texts::write_after;
 use pcap_records::{Capture, CaptureFault, KeptHeads};
 use report_laws::laws::report_sees_heads;
-use run_files::{Counted, RunFault, SeenText, Text, write_bytes, write_texts};
+use run_files::{Counted, RunFault, SeenText, Text, write_bytes};
 use scenarios::{Hosts, Scenario};
-use std::alloc::{AllocError, Global};
+use std::alloc::Global;
 use std::io::Write;
 
 /// Prints the reports that a capture's text and the texts of scenarios call for, of what was seen of the capture's text.
@@ -139,7 +139,7 @@ fn print_made<C: Crew, W: Write>(
     print_all(crew, &sources, writer)
 }
 
-// How many bytes of reports are held before they are printed: no fewer are written at once, but at the end.
+// How many bytes of reports may be held before they are printed.
 const HELD_LIMIT: usize = 1 << 20;
 
 // About how many bytes of reports are made at once, where one has no more. What is recorded of connections is made again for the next
@@ -173,7 +173,7 @@ fn print_all<C: Crew, W: Write>(
     write_bytes(writer, &held)
 }
 
-// Holds some reports after what is held, or writes both, where they are longer together than what is held.
+// Holds some reports after those that are held, or writes both, where they are longer together than may be held.
 //
 // # Errors
 // `WriteFailed` after a first part; `Memory`, and nothing was written.
@@ -198,41 +198,4 @@ fn hold_or_write<W: Write>(
     write_after(alloc, held, &texts, writer)?;
     held.clear();
     Ok(())
-}
-
-// Writes a text, and others after it.
-//
-// # Errors
-// `WriteFailed` after a first part; `Memory`, and nothing was written.
-fn write_after<W: Write>(
-    alloc: Global,
-    first: &[u8],
-    texts: &[&[u8]],
-    writer: &mut Counted<W>,
-) -> Result<(), RunFault>
-    requires { writer.old.failed < 2 ^ 64 - 1 }
-    ensures whole { OnOk result (Appends (W.contents writer.old.inner) (W.contents writer.new.inner) (first.now ++ joined texts.now)) }
-    ensures stopped { IfErr result (λ fault. StopsWriting fault (first.now ++ joined texts.now) (writer.new ≡ writer.old)
-        (Appends (W.contents writer.old.inner) (W.contents writer.new.inner))) }
-    ensures failed_writes { writer.new.failed ≡ writer.old.failed + failed_writes result }
-{
-    let all = texts_after(alloc, first, texts)?;
-    write_texts(writer, &all)
-}
-
-// A text, and others after it.
-//
-// # Errors
-// A growth was refused.
-fn texts_after<'t>(
-    alloc: Global,
-    first: &'t [u8],
-    texts: &[&'t [u8]],
-) -> Result<Vec<&'t [u8]>, AllocError>
-    ensures { IfOk result (λ all. joined all.items ≡ first.now ++ joined texts.now) }
-{
-    let mut all = Vec::with_capacity(alloc, texts.len().saturating_add(1))?;
-    all.push(first)?;
-    all.extend_from_slice(texts)?;
-    Ok(all)
 }

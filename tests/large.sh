@@ -1,6 +1,6 @@
 #!/usr/bin/env bash
 # The built program at its limits and past the sizes of other tests, where a body could give up with want of memory and be right by every
-# clause: each answer is compared with that of a plainer run, with what tests/capture.pl works out, or with the refusal that is due. And what two
+# clause: each answer is compared with that of a plainer run, with what tests/capture.pl works out, or with the refusal that is due. And what some
 # large runs may take: of time, of memory, and of writes.
 set -euo pipefail
 cd "$(dirname "$0")/.."
@@ -280,6 +280,27 @@ for workers in 1 2; do
     ulimit -S -v "$limit"
     verdict "22 MB of reports printed in little memory by $workers workers" "$(well; byte_difference "$work/wanted" "$work/output")"
 done
+
+# Two reports of 980 KB, of which the first is held until the second is made.
+perl tests/capture.pl 11000x3 > "$work/pairs.few"
+run "$work/pairs.few" --scenario examples/latency.json
+{ cat "$work/output"; sed 's/^scenario 0 /scenario 1 /' "$work/output"; } > "$work/wanted"
+same "two reports of 980 KB" "$work/pairs.few" "${many[@]:0:4}"
+
+# 256 reports of 12 KB, which 16 workers make in texts of 90 bytes, are printed by few writes.
+perl tests/capture.pl 127x3 > "$work/pairs.few"
+run "$work/pairs.few" --scenario examples/latency.json
+many=()
+for ((number = 0; number < 256; number++)); do
+    many+=(--scenario examples/latency.json)
+    sed "s/^scenario 0 /scenario $number /" "$work/output"
+done > "$work/wanted"
+same "256 reports" "$work/pairs.few" "${many[@]}"
+run_with "" "$work/pairs.few" "${many[@]}" --workers 16
+verdict "256 reports by 16 workers" "$(well; byte_difference "$work/wanted" "$work/output")"
+if can_count "256 reports printed by few writes"; then
+    verdict "256 reports printed by few writes" "$([ "$(count write)" -le 200 ] || echo "  writes: $(count write)")"
+fi
 
 # A capture of 45 MB, loaded in six blocks and stored, takes 74 MB of addresses, and half of what it would take with the capture or its output in memory
 # once more is granted. What is written goes out in batches of 256 KiB, of which there are 172, and a report. glibc has one arena: a second one, which

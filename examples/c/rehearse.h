@@ -26,7 +26,7 @@ static Answer rehearse(Text capture, Text scenarios, const size_t *lens, size_t 
 {
     /* a first guess: a connection takes some 120 bytes of a report, and mostly 1,000 or more of the capture; 256 KiB at most */
     size_t each = 1024 + (capture.len < 2097152 ? capture.len / 8 : 262144);
-    Answer it = {.status = TOXICAP_NO_ROOM, .sizes = {count * (capture.len + capture.len / 4) + 4096, count * each, 2 * count}};
+    Answer it = {.status = TOXICAP_NO_ROOM, .sizes = {count * (capture.len + capture.len / 2) + 4096, count * each, 2 * count}};
     while (it.status == TOXICAP_NO_ROOM) {
         ToxicapSizes room = it.sizes;
         free(it.lens);

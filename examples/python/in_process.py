@@ -141,7 +141,7 @@ def rehearse(capture: bytes, scenarios: Sequence[bytes], hosts: bytes = b"", see
     is made, and RuntimeError is raised."""
     inputs = inputs_of(capture, scenarios, hosts, seed)
     capture_len, count = inputs[1], inputs[5]
-    status, sizes = NO_ROOM, Sizes(count * (capture_len + capture_len // 4) + 4096, report_room(capture_len, count), 2 * count)
+    status, sizes = NO_ROOM, Sizes(count * (capture_len + capture_len // 2) + 4096, report_room(capture_len, count), 2 * count)
     while status == NO_ROOM:
         captures, reports, lens = room_for(sizes.captures), room_for(sizes.reports), (ctypes.c_size_t * sizes.lens)()
         status = library().toxicap_rehearse(*inputs, captures, len(captures), reports, len(reports), lens, len(lens), sizes)

@@ -95,7 +95,7 @@ fn report_room(capture: &[u8], count: usize) -> usize {
 #[rustfmt::skip]
 pub fn rehearse(capture: &[u8], scenarios: &[impl AsRef<[u8]>], hosts: &str, seed: u64) -> Result<Vec<Output>, Refusal> {
     let ((text, scenario_lens), count) = (texts(scenarios), scenarios.len());
-    let room = count * (capture.len() + capture.len() / 4) + 4096;
+    let room = count * (capture.len() + capture.len() / 2) + 4096;
     let mut sizes = Sizes { captures: room, reports: report_room(capture, count), lens: 2 * count };
     loop {
         let (mut captures, mut reports) = (vec![0; sizes.captures], vec![0; sizes.reports]);

@@ -111,6 +111,7 @@ long "eleven reports, of which five are made at once" "$work/pairs.pcap" "5 10" 
 [ ! -e "$work/calls" ] || verdict "nothing or some reports are printed" "$([ $none -gt 9 ] && [ $some -gt 9 ] || echo "  printed nothing: $none times, some reports: $some times")"
 perl tests/capture.pl 11000x3 > "$work/pairs.pcap"
 long "two reports, of which the first is held" "$work/pairs.pcap" "" "${eleven[@]:0:4}"
+[ ! -e "$work/calls" ] || verdict "nothing is printed of two reports" "$([ $none -gt 9 ] || echo "  printed nothing: $none times")"
 echo "$growths growths refused of the program"
 
 # The library's calls: each test of the module `again` makes them twice and compares what they answer. It stops with the words `no memory

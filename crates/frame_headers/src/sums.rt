@@ -1,9 +1,9 @@
 //! Internet checksums.
-ghost use Rattle.std.specs.Prelude.{◌≡◌, ◌+◌, ◌≤◌, length};
+ghost use Rattle.std.specs.Prelude.{◌≡◌, ◌+◌, ◌^◌, ◌≤◌, length};
 ghost use Rattle.frame_headers.specs.Sum.{folded_sum, words_sum, sum16, tcp_sum};
 
 use crate::layout::TCP_PROTOCOL;
-use byteorder::{BigEndian, ByteOrder};
+use byteorder::{BigEndian, ByteOrder, LittleEndian};
 
 /// The Internet checksum of the bytes as they stand (RFC 1071): the complement of the one's complement sum of their
 /// 16-bit words, the high byte of each first. An odd last byte is padded with a zero byte. Of bytes that hold their own
@@ -24,7 +24,25 @@ pub fn tcp_checksum(from: u32, to: u32, tcp: &[u8]) -> u16
     ensures { result ≡ tcp_sum from to tcp.now }
 {
     let pseudo = u64::from(from) + u64::from(to) + u64::from(TCP_PROTOCOL) + tcp.len() as u64;
-    !add_words(pseudo, tcp)
+    !add_few_words(pseudo, tcp)
+}
+
+// The same as [`add_words`] of bytes that are few enough for a sum of 64 bits.
+//
+// The words are added with the low byte first, as most processors read them, and several at once. Modulo 65535 such a word times 2^8 is the word
+// with the high byte first (RFC 1071 section 2), and so is the sum.
+fn add_few_words(start: u64, bytes: &[u8]) -> u16
+    requires start { start ≤ 2 ^ 40 }
+    requires few { length bytes.now ≤ 65535 }
+    ensures { result ≡ folded_sum (start + words_sum bytes.now) }
+{
+    let mut swapped = 0u64;
+    let mut rest = bytes;
+    'wide: while rest.len() >= 4 {
+        swapped += u64::from(LittleEndian::read_u32(rest));
+        rest = &rest[4..];
+    }
+    add_words(start + 256 * swapped, rest)
 }
 
 // A number and the 16-bit words of the bytes, added in one's complement of 16 bits.

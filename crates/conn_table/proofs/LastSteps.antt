@@ -23,9 +23,9 @@ none_taken n i r at =
     slice_get-get_or (replicate n None) i None (omega (arith, length-replicate n none)) ∙ ap (λ (y : Option Recent). Some y) (get_or-replicate n i None None within) in
     absurd cc
 
-pub lasts-none : (lasts : Lasts) (n : ℕ) → n ≡ 4096 → lasts.recent.items ≡ replicate n None → IsLasts lasts
-lasts-none lasts n is items = record {
-  room = ap (λ (xs : List (Option Recent)). length xs) items ∙ (length-replicate n None ∙ is);
+pub lasts-none : (lasts : Lasts) (n : ℕ) → 0 < n → lasts.recent.items ≡ replicate n None → IsLasts lasts
+lasts-none lasts n some items = record {
+  some = subst (λ k. 0 < k) (sym (ap (λ (xs : List (Option Recent)). length xs) items ∙ length-replicate n None)) some;
   slots = λ i r at. absurd (none_taken n i r (ap (λ (xs : List (Option Recent)). slice_get xs i) (sym items) ∙ at));
 }
 
@@ -39,25 +39,36 @@ last-recent lasts p i (Some r) c is at found = by_pair (same_pair r.pair p) refl
     by_pair true same some = sym some ∙ sym (ap (λ (q : Pair). get same_pair lasts.map q) (sym (same_pair-is r.pair p same)) ∙ (is.slots i r at).current)
     by_pair false other some = absurd cc
 
-pub last-found : (lasts : Lasts) (p : Pair) (i : ℕ) (o : Option Recent) (x : Option Current) → IsLasts lasts → i < 4096 → o ≡ get_or lasts.recent.items i o → x ≡ current_in o p → is_some x ≡ true → x ≡ get same_pair lasts.map p
+pub last-found : (lasts : Lasts) (p : Pair) (i : ℕ) (o : Option Recent) (x : Option Current) → IsLasts lasts → i < length lasts.recent.items → o ≡ get_or lasts.recent.items i o → x ≡ current_in o p → is_some x ≡ true → x ≡ get same_pair lasts.map p
 last-found lasts p i o None is within at found some = absurd cc
-last-found lasts p i o (Some c) is within at found some = last-recent lasts p i o c is (slice_get_read lasts.recent.items 4096 i o (sym is.room) within at) (sym found)
+last-found lasts p i o (Some c) is within at found some = last-recent lasts p i o c is (slice_get_read lasts.recent.items (length lasts.recent.items) i o refl within at) (sym found)
 
 -- its slot is taken by it
-pub lasts-set : (old new : Lasts) (p : Pair) (c : Current) → IsLasts old → new.recent.items ≡ set old.recent.items (slot_of p) (Some (record { pair = p; current = c })) → slot_of p < 4096
+pub lasts-set : (old new : Lasts) (n : ℕ) (p : Pair) (c : Current) → IsLasts old → n ≡ length old.recent.items → slot_of n p < n
+    → new.recent.items ≡ set old.recent.items (slot_of n p) (Some (record { pair = p; current = c }))
     → get same_pair new.map p ≡ Some c → ((q : Pair) → same_pair p q ≡ false → get same_pair new.map q ≡ get same_pair old.map q) → IsLasts new
-lasts-set old new p c is items within last others = record {
-  room = ap (λ (xs : List (Option Recent)). length xs) items ∙ (length-set old.recent.items (slot_of p) _ ∙ is.room);
-  slots = λ i r at. by_slot i r (ap (λ (xs : List (Option Recent)). slice_get xs i) (sym items) ∙ at) (cases_eq i (slot_of p));
+lasts-set old new n p c is count within items last others = record {
+  some = subst (λ k. 0 < k) (count ∙ sym len) (subst (λ k. 0 < k) (sym count) is.some);
+  slots = λ i r at. by_slot i r (ap (λ (xs : List (Option Recent)). slice_get xs i) (sym items) ∙ at) (cases_eq i (slot_of n p));
 }
   where
-    by_slot : (i : ℕ) (r : Recent) → slice_get (set old.recent.items (slot_of p) (Some (record { pair = p; current = c }))) i ≡ Some (Some r) → (i ≡ slot_of p) ⊎ (i ≡ slot_of p → ⊥) → IsSlot new i r
+    taking : Option Recent
+    taking = Some (record { pair = p; current = c })
+
+    len : length new.recent.items ≡ length old.recent.items
+    len = ap (λ (xs : List (Option Recent)). length xs) items ∙ length-set old.recent.items (slot_of n p) taking
+
+    slot_is : (q : Pair) → slot_of (length new.recent.items) q ≡ slot_of n q
+    slot_is q = ap (λ k. slot_of k q) (len ∙ sym count)
+
+    by_slot : (i : ℕ) (r : Recent) → slice_get (set old.recent.items (slot_of n p) taking) i ≡ Some (Some r) → (i ≡ slot_of n p) ⊎ (i ≡ slot_of n p → ⊥) → IsSlot new i r
     by_slot i r at (inl here) =
-        let there = ap (slice_get (set old.recent.items (slot_of p) (Some (record { pair = p; current = c })))) (sym here) ∙ at in
-        let taken = slice_get-set_same old.recent.items (slot_of p) (Some (record { pair = p; current = c })) (omega (arith, is.room)) in
+        let there = ap (slice_get (set old.recent.items (slot_of n p) taking)) (sym here) ∙ at in
+        let taken = slice_get-set_same old.recent.items (slot_of n p) taking (omega (arith, count, within)) in
         let same : record { pair = p; current = c } ≡ r = same_Some _ _ (same_Some _ _ (sym taken ∙ there)) in
-        subst (IsSlot new i) same (record { slot = sym here; current = last })
+        subst (IsSlot new i) same (record { slot = slot_is p ∙ sym here; current = last })
     by_slot i r at (inr other) =
-        let was : IsSlot old i r = is.slots i r (sym (slice_get-set_other old.recent.items (slot_of p) i _ other) ∙ at) in
-        let apart : same_pair p r.pair ≡ false = false_from_ne_true (same_pair p r.pair) (λ same. other (sym (ap slot_of (same_pair-is p r.pair same) ∙ was.slot))) in
-        record { slot = was.slot; current = others r.pair apart ∙ was.current }
+        let was : IsSlot old i r = is.slots i r (sym (slice_get-set_other old.recent.items (slot_of n p) i _ other) ∙ at) in
+        let slot : slot_of n r.pair ≡ i = ap (λ k. slot_of k r.pair) count ∙ was.slot in
+        let apart : same_pair p r.pair ≡ false = false_from_ne_true (same_pair p r.pair) (λ same. other (sym (ap (slot_of n) (same_pair-is p r.pair same) ∙ slot))) in
+        record { slot = slot_is r.pair ∙ slot; current = others r.pair apart ∙ was.current }

@@ -1,5 +1,5 @@
 -- The last connection of each pair, and the slots of the pairs that were looked up last.
-use Rattle.std.specs.Prelude.{◌≡◌, ℕ, ◌+◌, ◌*◌, ◌/◌, ◌%◌, ◌^◌, length, Option, Some, None, slice_get, if◌then◌else◌}
+use Rattle.std.specs.Prelude.{◌≡◌, ◌<◌, ℕ, ◌+◌, ◌-◌, ◌*◌, ◌/◌, ◌%◌, ◌^◌, bit_and, length, Option, Some, None, slice_get, if◌then◌else◌}
 use Rattle.indexmap.specs.IndexMap.{get}
 use Rattle.conn_table.specs.declared.conns.Pair.{Pair}
 use Rattle.conn_table.specs.declared.lasts.Current.{Current}
@@ -8,9 +8,9 @@ use Rattle.conn_table.specs.declared.lasts.Lasts.{Lasts}
 use Rattle.conn_table.specs.IndexedSegments.{same_pair}
 use Rattle.conn_table.specs.PairWords.{addrs_word, ports_word}
 
--- no proof asks more of a slot than that a pair has one
-unfoldable pub slot_of : Pair → ℕ
-slot_of p = ((addrs_word p + ports_word p) % 2 ^ 64 * 0x9e37_79b9_7f4a_7c15) % 2 ^ 64 / 2 ^ 32 % 4096
+-- the slot of a pair among n; no proof asks more of it than that a pair has one
+unfoldable pub slot_of : ℕ → Pair → ℕ
+slot_of n p = bit_and (((addrs_word p + ports_word p) % 2 ^ 64 * 0x9e37_79b9_7f4a_7c15) % 2 ^ 64 / 2 ^ 32) (n - 1)
 
 -- what a slot has of a pair
 abbrev pub current_in : Option Recent → Pair → Option Current
@@ -19,9 +19,9 @@ current_in (Some r) p = if same_pair r.pair p then Some r.current else None
 
 -- a slot is that of the pair in it, with the connection that the map has for the pair
 pub record IsSlot (lasts : Lasts) (i : ℕ) (r : Recent) : Type 0 where
-  pub slot : slot_of r.pair ≡ i
+  pub slot : slot_of (length lasts.recent.items) r.pair ≡ i
   pub current : get same_pair lasts.map r.pair ≡ Some r.current
 
 pub record IsLasts (lasts : Lasts) : Type 0 where
-  pub room : length lasts.recent.items ≡ 4096
+  pub some : 0 < length lasts.recent.items
   pub slots : (i : ℕ) (r : Recent) → slice_get lasts.recent.items i ≡ Some (Some r) → IsSlot lasts i r

@@ -25,8 +25,8 @@ pub(crate) struct Recent {
     pub(crate) current: Current,
 }
 
-/// How many pairs that were looked up have a slot.
-const SLOTS: usize = 4096;
+/// At most so many pairs that were looked up have a slot.
+const MOST_SLOTS: usize = 4096;
 
 /// For each pair its last connection.
 #[derive(Drop)]
@@ -35,16 +35,24 @@ pub(crate) struct Lasts {
     pub(crate) recent: Vec<Option<Recent>>,
 }
 
-// The slot of a pair. No answer depends on it, and where pairs share one, more of them are looked up in the map.
+// How many slots pairs get that have so many openings: a power of two, so that a mask tells a slot, and few where a capture is short.
+fn slots_for(openings: usize) -> usize
+    ensures { 0 < result }
+{
+    (4 * openings.min(MOST_SLOTS / 4)).next_power_of_two()
+}
+
+// The slot of a pair, of so many slots. No answer depends on it, and where pairs share one, more of them are looked up in the map.
 #[tactic(auto, unfolding(crate::specs::LastConnections::slot_of))]
-fn slot_of(pair: Pair) -> usize
-    ensures slot { result ≡ slot_of pair }
-    ensures within { result < 4096 }
+fn slot_of(slots: usize, pair: Pair) -> usize
+    requires { 0 < slots }
+    ensures slot { result ≡ slot_of slots pair }
+    ensures within { result < slots }
 {
     let mixed = addrs_word(pair)
         .wrapping_add(ports_word(pair))
         .wrapping_mul(0x9e37_79b9_7f4a_7c15);
-    (mixed >> 32) as usize % SLOTS
+    (mixed >> 32) as usize & (slots - 1)
 }
 
 // The last connection of the pair in a slot, where it is this pair.
@@ -69,14 +77,18 @@ impl Lasts {
     ghost use Rattle.conn_table.specs.IndexedSegments.{same_pair};
     ghost use Rattle.conn_table.specs.LastConnections.{IsLasts};
 
-    // No pair has a connection, and there is room for so many.
-    pub(crate) fn with_room(alloc: Global, keys: PairKeys, room: usize) -> Result<Lasts, AllocError>
+    // No pair has a connection, and there is room for those of so many openings.
+    pub(crate) fn with_room(
+        alloc: Global,
+        keys: PairKeys,
+        openings: usize,
+    ) -> Result<Lasts, AllocError>
         ensures lasts { IfOk result IsLasts }
         ensures empty { IfOk result (λ lasts. (p : _) → get same_pair lasts.map p ≡ None) }
     {
         Ok(Lasts {
-            map: IndexMap::with_capacity_and_hasher(alloc, room, keys)?,
-            recent: vec![in alloc; None; SLOTS]?,
+            map: IndexMap::with_capacity_and_hasher(alloc, openings, keys)?,
+            recent: vec![in alloc; None; slots_for(openings)]?,
         })
     }
 
@@ -87,7 +99,7 @@ impl Lasts {
         ensures map { self.new.map ≡ self.old.map }
         ensures last { result ≡ get same_pair self.old.map pair }
     {
-        let slot = slot_of(pair);
+        let slot = slot_of(self.recent.len(), pair);
         let recent = current_in(self.recent[slot], pair);
         if recent.is_some() {
             return recent;
@@ -111,7 +123,8 @@ impl Lasts {
         ensures map { OnOk result (Updates same_pair self.old.map self.new.map pair (Some current)) }
     {
         let last = self.map.insert(pair, current)?;
-        self.recent[slot_of(pair)] = Some(Recent { pair, current });
+        let slot = slot_of(self.recent.len(), pair);
+        self.recent[slot] = Some(Recent { pair, current });
         Ok(last)
     }
 }

@@ -2,20 +2,24 @@ use Rattle.std.proofs.Common.{◌∙◌, ◌<◌, Some, set, refl, sym, ap, subs
 use Rattle.conn_table.proofs.LastSteps.{last-found, lasts-set}
 use Rattle.conn_table.proofs.lasts.Lasts.last_of.Goals as goal
 
+pub slot_of-slot-requires : goal.slot_of-slot-requires
+slot_of-slot-requires c = omega (arith, c.len.ensures, c.requires.some)
+
 pub index-requires : goal.index-requires
-index-requires c = omega (arith, c.slot_of-slot.ensures.within, c.requires.room, c.args.self.now.recent.ok.0)
+index-requires c = omega (arith, c.slot_of-slot.ensures.within, c.len.ensures)
 
 pub returns-then-is_some-clause-last : goal.returns-then-is_some-clause-last
-returns-then-is_some-clause-last c = last-found c.args.self.now c.args.pair c.slot_of-slot.result c.index.result.now _ c.requires c.slot_of-slot.ensures.within c.index.ensures c.current_in-recent.ensures (sym c.is_some.ensures ∙ c.if-is_some.true)
+returns-then-is_some-clause-last c =
+    last-found c.args.self.now c.args.pair c.slot_of-slot.result c.index.result.now _ c.requires (omega (arith, c.slot_of-slot.ensures.within, c.len.ensures)) c.index.ensures c.current_in-recent.ensures (sym c.is_some.ensures ∙ c.if-is_some.true)
 
 pub index_mut-requires : goal.index_mut-requires
-index_mut-requires c = omega (arith, c.slot_of-slot.ensures.within, c.requires.room, c.args.self.now.recent.ok.0)
+index_mut-requires c = omega (arith, c.slot_of-slot.ensures.within, c.len.ensures)
 
 pub returns-in-Some-clause-lasts : goal.returns-in-Some-clause-lasts
 returns-in-Some-clause-lasts c =
     let slot = c.slot_of-slot.ensures.slot in
     let last = sym (c.copied-last.ensures ∙ c.get.ensures.value) ∙ c.in-Some.is in
-    lasts-set c.args.self.now _ c.args.pair c.in-Some.current c.requires (ap (λ i. set c.args.self.now.recent.items i (Some (record { pair = c.args.pair; current = c.in-Some.current }))) slot) (subst (λ i. i < 4096) slot c.slot_of-slot.ensures.within) last (λ q apart. refl)
+    lasts-set c.args.self.now _ c.len.result c.args.pair c.in-Some.current c.requires (omega (arith, c.len.ensures, c.args.self.now.recent.ok.0)) (subst (λ i. i < c.len.result) slot c.slot_of-slot.ensures.within) (ap (λ i. set c.args.self.now.recent.items i (Some (record { pair = c.args.pair; current = c.in-Some.current }))) slot) last (λ q apart. refl)
 
 pub returns-in_default-clause-lasts : goal.returns-in_default-clause-lasts
 returns-in_default-clause-lasts c = c.requires

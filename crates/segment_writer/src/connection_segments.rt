@@ -15,7 +15,7 @@ ghost use Rattle.segment_writer.specs.TimelyLines.{IsTimely};
 
 use crate::endpoints::Endpoints;
 use crate::framed::SegList;
-use crate::open_rows::{OpenRow, put_bare, sort_from};
+use crate::open_rows::{OpenRow, make_room, put_bare, sort_from};
 use crate::segment_rows::SegmentRow;
 use crate::senders::{Numbers, Sender, Turn, in_turn, peer_in};
 use crate::turns::put_line;
@@ -84,6 +84,7 @@ pub(crate) fn put_connection<'w, 'a>(
     let down_end = down.end();
     let ups = up.into_parts();
     let downs = down.into_parts();
+    make_room(row, ups.len().saturating_add(downs.len()))?;
     put_in_order(
         row, client, opened, refused, &ups, &up_end, &downs, &down_end,
     )

@@ -43,10 +43,28 @@ pub(crate) struct OpenRow<'w, 'a> {
     pub(crate) segments: Vec<RowSegment<'w, 'a>>,
 }
 
+// A connection has at most so many segments without payload: the opening, and the end of each line.
+const BARE_SEGMENTS: usize = 5;
+
+// For at most so many other segments is room made at once: many parts of a line that come at one instant are few segments.
+const ROOM_LIMIT: usize = 1024;
+
+/// Makes room after the others for the segments of a connection whose lines have so many parts.
+///
+/// # Errors
+/// Where a growth is refused.
+pub(crate) fn make_room(row: &mut OpenRow<'_, '_>, parts: usize) -> Result<(), AllocError>
+    ensures gathered { row.new.gathered ≡ row.old.gathered }
+    ensures segments { row.new.segments.items ≡ row.old.segments.items }
+{
+    row.segments.reserve(parts.min(ROOM_LIMIT) + BARE_SEGMENTS)
+}
+
 /// Puts the segment of an outline after the others. Its sender is this client, or the client's server.
 ///
 /// # Errors
 /// Where a growth is refused.
+#[inline(always)]
 pub(crate) fn put_segment<'w, 'a>(
     row: &mut OpenRow<'w, 'a>,
     client: &'w Sender,

@@ -1,5 +1,5 @@
 //! The lines of connections in the reports of scenarios that follow one another, made by workers. What is recorded of a connection is let go
-//! once its lines are made, so that no more of it is in memory than that of some thousand connections.
+//! once its lines are made, so that no more of it is in memory than that of some thousand connections a worker.
 ghost use Rattle.std.specs.Prelude.{◌≡◌, ◌+◌, ◌≤◌, ◌<◌, [], IfOk, get_or, length};
 ghost use Rattle.conn_workers.specs.CaptureTables.{whole_table};
 ghost use Rattle.conn_workers.specs.DeliveryRows.{scenario_limit};

@@ -1,15 +1,19 @@
 # Writes a large capture to standard output, or with a second word what is to come of it, worked out by docs/RULES.md apart from the program:
 #     perl tests/capture.pl SEGMENTS           one connection, whose client sends so many segments of 1,250 bytes, each with bytes of its own
 #                                              and in a second of its own; a record has 1,320 bytes
+#     perl tests/capture.pl SEGMENTS+STEP      the same segments in another order: at place P the one of number STEP * P modulo SEGMENTS
+#     perl tests/capture.pl SEGMENTS*STEP      the same, and each goes on into the next one by three bytes that are not the next one's
 #     perl tests/capture.pl CONNECTIONSxROUNDS so many connections, each of a client of its own: all openings, in a second round all answers to
 #                                              them, and in a third a byte of each client, the last one's first; records have 70, 70 and 71 bytes
 #     perl tests/capture.pl WHICH delivered    the capture that is stored of it without a scenario
 #     perl tests/capture.pl WHICH report       its report
+#     perl tests/capture.pl WHICH sent         what the client sent, if it sent segments in another order: of what two of them have, the first one's
 use strict;
 use warnings;
 
 my ($which, $what) = (@ARGV, 'recorded');
-my ($count, $rounds) = $which =~ /^(\d+)(?:x([123]))?$/ or die "no such capture: $which\n";
+my ($count, $goes_on, $step, $rounds) = $which =~ /^(\d+)(?:([+*])(\d+)|x([123]))?$/ or die "no such capture: $which\n";
+my $more = ($goes_on // '') eq '*' ? 'xyz' : '';
 my $is_delivered = $what eq 'delivered';
 my ($syn, $ack, $push) = (2, 16, 8);
 my $server = "\x0a\x4d\x00\x02";
@@ -54,6 +58,28 @@ sub report {
     }
 }
 
+# body: the 1,250 bytes of a segment.
+sub body { return pack('N', shift) x 312 . 'ab' }
+
+# order: the numbers of the segments at each place, and the places of the numbers.
+sub order {
+    my (@numbers, @places);
+    for my $place (0 .. $count - 1) {
+        $numbers[$place] = $step * $place % $count;
+        $places[$numbers[$place]] = $place;
+    }
+    return \@numbers, \@places;
+}
+
+if ($what eq 'sent') {
+    my (undef, $places) = order();
+    for my $number (0 .. $count - 1) {
+        my $body = body($number);
+        substr($body, 0, length $more) = $more if $number && $places->[$number - 1] < $places->[$number];
+        print $body;
+    }
+    exit;
+}
 if ($what eq 'report') {
     if ($rounds) { report($rounds * $count, $count, $rounds == 3 ? 1 : 0) } else { report($count + 2, 1, 1250 * $count) }
     exit;
@@ -74,5 +100,14 @@ if ($rounds) {
     opening(0, 0, $client);
     answer(0, 0, $client);
     segment(0, 0, $client, 0, 1, 1, $ack, '') if $is_delivered;
-    segment($_ + 1, 0, $client, 0, 1 + 1250 * $_, 1, $push | $ack, pack('N', $_) x 312 . 'ab') for 0 .. $count - 1;
+    if ($step) {
+        my ($numbers) = order();
+        for my $place (0 .. $count - 1) {
+            my $number = $numbers->[$place];
+            my $body = body($number) . ($number < $count - 1 ? $more : '');
+            segment($place + 1, 0, $client, 0, 1 + 1250 * $number, 1, $push | $ack, $body);
+        }
+        exit;
+    }
+    segment($_ + 1, 0, $client, 0, 1 + 1250 * $_, 1, $push | $ack, body($_)) for 0 .. $count - 1;
 }

@@ -182,6 +182,30 @@ same "150,000 slices, printed" "$work/dump" --scenario "$work/sliced.json"
 printf '%b' "$(tr -d ' \n' < "$work/dump" | sed 's/../\\x&/g')" > "$work/bytes.pcap"
 same "a capture of over 64 KiB that is named" /dev/null --capture "$work/bytes.pcap" --scenario "$work/sliced.json"
 
+# payloads FILE: those of all segments of a stored capture, one after another.
+payloads() {
+    perl -0777 -ne 'for (my $at = 24; $at < length; ) {
+        my $len = unpack "x8 V", substr $_, $at, 16;
+        print substr $_, $at + 70, $len - 54;
+        $at += 16 + $len;
+    }' "$1"
+}
+
+# 3,000 segments of a connection in other orders, backwards among them, apart and each going on into the next one: what is delivered is what was
+# sent, and none of it later than it was recorded.
+perl tests/capture.pl 3000 report > "$work/wanted"
+for order in 3000{+,*}{1,2999,1009}; do
+    perl tests/capture.pl "$order" > "$work/ordered.pcap"
+    same "segments in the order $order, printed" "$work/ordered.pcap"
+    rm -rf "$work/stored"
+    mkdir "$work/stored"
+    run "$work/ordered.pcap" --out "$work/stored"
+    verdict "segments in the order $order, stored" "$(
+        well
+        payloads "$work/stored/0000.pcap" | byte_difference <(perl tests/capture.pl "$order" sent) -
+    )"
+done
+
 # A named capture of three blocks, which several threads load side by side, gives what it gives as standard input, which one thread loads;
 # so do one whose last block is whole and one with a byte more, and its dump. A folder is no capture.
 perl tests/capture.pl 14000 > "$work/three.pcap"

@@ -35,7 +35,7 @@ pub(crate) struct Lasts {
     pub(crate) recent: Vec<Option<Recent>>,
 }
 
-// How many slots pairs get that have so many openings: a power of two, so that a mask tells a slot, and few where a capture is short.
+// How many slots pairs get that have so many openings: a power of two, so that a mask gives a slot, and few where a capture is short.
 fn slots_for(openings: usize) -> usize
     ensures { 0 < result }
 {

@@ -1,5 +1,6 @@
 pub mod SpanBytes
 pub mod Merging
+pub mod Reordered
 pub mod Walks
 pub mod Taking
 pub mod Counting

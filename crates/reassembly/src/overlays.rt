@@ -1,5 +1,6 @@
 //! Ordered lists of patches, of which no two overlap: one laid over another, and one made of patches in any order.
-ghost use Rattle.std.specs.Prelude.{◌≡◌, ◌≤◌, ◌<◌, ◌++◌, true, false, ℕ, length, drop, IfOk, OnOk};
+ghost use Rattle.std.specs.Prelude.{◌≡◌, ◌≤◌, ◌<◌, ◌++◌, None, true, false, ℕ, length, drop, IfOk, IfSome, OnOk};
+ghost use Rattle.std.specs.List.Sorted.{IsPermutation};
 ghost use Rattle.reassembly.specs.Spans.{spans, limit, first_byte, layered_byte, AreOrdered, AreNear, spans_from};
 
 use crate::patches::{Patch, add, back, end, front, keep, patch_at};
@@ -16,7 +17,7 @@ pub(crate) fn overlay<'a>(
     ensures same { IfOk result (λ merged. (x : ℕ) → first_byte (spans merged.items) x ≡ layered_byte (spans left.now) (spans right.now) x) }
     ensures ordered { IfOk result (λ merged. AreOrdered 0 (spans merged.items) limit) }
 {
-    let mut merged = Vec::new(alloc);
+    let mut merged = Vec::with_capacity(alloc, left.len().saturating_add(right.len()))?;
     let mut i = 0;
     let mut j = 0;
     let mut floor = 0;
@@ -67,19 +68,62 @@ fn add_rest<'a>(
     Ok(())
 }
 
-/// Orders patches: where several cover a position, the first in the list counts.
+/// Orders patches: where several cover a position, the first in the list counts. Where no two overlap, they are only sorted.
 pub(crate) fn gather<'a>(alloc: Global, patches: &[Patch<'a>]) -> Result<Vec<Patch<'a>>, AllocError>
     requires { AreNear (spans patches.now) }
     ensures same { IfOk result (λ gathered. (x : ℕ) → first_byte (spans gathered.items) x ≡ first_byte (spans patches.now) x) }
     ensures ordered { IfOk result (λ gathered. AreOrdered 0 (spans gathered.items) limit) }
 {
-    if is_in_order(patches) {
-        return Vec::from_slice(alloc, patches);
+    if let Some(sorted) = sorted_apart(alloc, patches)? {
+        return Ok(sorted);
+    }
+    layered(alloc, patches)
+}
+
+// Where some patches overlap, parts of them with so many at most are sorted: longer ones seldom have none that overlap.
+const FEW: usize = 512;
+
+// Orders patches: the earlier half is laid over the later one, each of them ordered so. Few patches of which no two overlap are only sorted.
+fn layered<'a>(alloc: Global, patches: &[Patch<'a>]) -> Result<Vec<Patch<'a>>, AllocError>
+    requires { AreNear (spans patches.now) }
+    ensures same { IfOk result (λ gathered. (x : ℕ) → first_byte (spans gathered.items) x ≡ first_byte (spans patches.now) x) }
+    ensures ordered { IfOk result (λ gathered. AreOrdered 0 (spans gathered.items) limit) }
+{
+    if patches.len() <= FEW {
+        if let Some(sorted) = sorted_apart(alloc, patches)? {
+            return Ok(sorted);
+        }
     }
     let (earlier, later) = patches.split_at(patches.len() / 2);
-    let left = gather(alloc, earlier)?;
-    let right = gather(alloc, later)?;
+    let left = layered(alloc, earlier)?;
+    let right = layered(alloc, later)?;
     overlay(alloc, &left, &right)
+}
+
+// Patches in order of position, unless some overlap. One patch alone is in order.
+fn sorted_apart<'a>(
+    alloc: Global,
+    patches: &[Patch<'a>],
+) -> Result<Option<Vec<Patch<'a>>>, AllocError>
+    requires { AreNear (spans patches.now) }
+    ensures same { IfOk result (λ found. IfSome found (λ v. (x : ℕ) → first_byte (spans v.items) x ≡ first_byte (spans patches.now) x)) }
+    ensures ordered { IfOk result (λ found. IfSome found (λ v. AreOrdered 0 (spans v.items) limit)) }
+    ensures several { IfOk result (λ found. found ≡ None → 1 < length patches.now) }
+{
+    let sorted = by_position(alloc, patches)?;
+    if is_in_order(&sorted) {
+        return Ok(Some(sorted));
+    }
+    Ok(None)
+}
+
+// Patches sorted by their positions.
+fn by_position<'a>(alloc: Global, patches: &[Patch<'a>]) -> Result<Vec<Patch<'a>>, AllocError>
+    ensures { IfOk result (λ sorted. IsPermutation patches.now sorted.items) }
+{
+    let mut sorted = Vec::from_slice(alloc, patches)?;
+    sorted.sort_unstable_by_key(|patch| patch.from);
+    Ok(sorted)
 }
 
 // Whether each patch begins at the end of the one before or after it. One patch alone does.

@@ -1,2 +1,3 @@
 pub mod ByteRuns
+pub mod QuietSides
 pub mod SeenCounts

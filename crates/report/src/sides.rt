@@ -1,12 +1,16 @@
 //! What a report says of one direction of a connection.
-ghost use Rattle.std.specs.Prelude.{◌≡◌, ◌++◌, ◌+◌, ◌-◌, ◌<◌, ◌≤◌, ◌==◌, ◌^◌, max, length, if◌then◌else◌, OnOk};
+ghost use Rattle.std.specs.Prelude.{◌≡◌, ◌++◌, ◌+◌, ◌-◌, ◌<◌, ◌≤◌, ◌==◌, ◌^◌, [], true, max, length, if◌then◌else◌, OnOk};
 ghost use Rattle.reassembly.specs.LineView.{bytes_of_parts, end_view};
+ghost use Rattle.reassembly.specs.RecordedLines.{live};
 ghost use Rattle.report.specs.ReportText.{end_text, end_word, longest_delay, side_text};
 
 use crate::texts::{push, push_char, push_char_number, push_number, push_told};
 use pcap_records::Moment;
 use reassembly::{End, Line, LinePart};
 use std::alloc::AllocError;
+
+// What a report says of a direction that has no bytes and stays open, as each direction of an opening without an answer does.
+const QUIET: &str = "0/0/0 open max 0";
 
 /// Appends the number of delivered, of recorded and of lost bytes of a direction, how it ends, and the longest delay. Instants are
 /// given in ticks since the connection was opened.
@@ -23,6 +27,9 @@ pub(crate) fn push_side(
     ensures { OnOk result (text.new.items ≡ text.old.items
         ++ side_text opened refused (record { line = recorded.now.line; lost = lost }) delivered.now.line) }
 {
+    if !refused && is_quiet(recorded, lost, delivered) {
+        return push(text, QUIET);
+    }
     let sent = recorded.parts();
     let came = delivered.parts();
     push_number(text, byte_count(came))?;
@@ -31,6 +38,19 @@ pub(crate) fn push_side(
     push_char(text, b' ')?;
     push_end_word(text, refused, opened, &delivered.end())?;
     push_told(text, " max ", longest_delay(sent, came))
+}
+
+// Whether a direction has no bytes and stays open.
+fn is_quiet(recorded: &Line<'_>, lost: u64, delivered: &Line<'_>) -> bool
+    ensures recorded { result ≡ true → recorded.now.line.bytes ≡ [] }
+    ensures lost { result ≡ true → lost ≡ 0 }
+    ensures delivered { result ≡ true → delivered.now.line.bytes ≡ [] }
+    ensures end { result ≡ true → delivered.now.line.end ≡ live }
+{
+    recorded.parts().is_empty()
+        && lost == 0
+        && delivered.parts().is_empty()
+        && delivered.end() == End::Live
 }
 
 // Appends how a direction ends, or that it was refused.

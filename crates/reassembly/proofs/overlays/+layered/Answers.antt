@@ -1,13 +1,13 @@
 use Rattle.std.proofs.Common.{rules, ◌∙◌}
 use Rattle.std.proofs.lemmas.Result.{IfOk-weaker}
 use Rattle.reassembly.proofs.Merging.{near_take, near_drop, gathered_same}
-use Rattle.reassembly.proofs.overlays.+gather.Goals as goal
+use Rattle.reassembly.proofs.overlays.+layered.Goals as goal
 
-pub gather-requires : goal.gather-requires
-gather-requires t c = (search rules, rw c.split_at.ensures.front (near_take _ _ c.requires))
+pub layered-requires : goal.layered-requires
+layered-requires t c = (search rules, rw c.split_at.ensures.front (near_take _ _ c.requires))
 
-pub gather-requires-2 : goal.gather-requires-2
-gather-requires-2 t c = (search rules, rw c.split_at.ensures.back (near_drop _ _ c.requires))
+pub layered-requires-2 : goal.layered-requires-2
+layered-requires-2 t c = (search rules, rw c.split_at.ensures.back (near_drop _ _ c.requires))
 
 pub returns-clause-same : goal.returns-clause-same
 returns-clause-same t c =

@@ -5,6 +5,12 @@
 # has `program` (the program's path) and `work` (a folder of its own, removed when it ends) then, tells each comparison by `verdict`, and
 # ends with `close`. It may say anew what `clean_up` does. The program is the one that TOXICAP names, by a path, from the folder where the
 # script was called, or as a command of the path; without TOXICAP it is the one of this tree, which is proved and built first if need be.
+# With `--help` it prints what stands at its top.
+
+if [ "${1-}" = --help ]; then
+    sed -n '2,/^[^#]/s/^# \{0,1\}//p' "tests/${0##*/}"
+    exit
+fi
 
 clean_up() { :; }
 work=$(mktemp -d)

@@ -1,5 +1,5 @@
 -- What a disk tells of one file, and what reading it gives.
-use Rattle.std.specs.Prelude.{◌≡◌, ◌<◌, ◌≤◌, ℕ, ◌+◌, ◌-◌, List, length, take, drop, Option, Some, None, Result, Ok, Err}
+use Rattle.std.specs.Prelude.{◌≡◌, ◌<◌, ◌≤◌, ℕ, ◌+◌, ◌-◌, List, length, take, drop, Option, Some, None, IsSome, Result, Ok, Err}
 use Rattle.disks.specs.declared.disk.DiskFault.{DiskFault}
 use Rattle.disks.specs.declared.disk.DiskFault.TheVariants as fault
 
@@ -24,11 +24,11 @@ abbrev pub IsFileAt : Option ToldFile → Option ToldFile → Type 0
 IsFileAt None told = ⊥
 IsFileAt (Some file) told = told ≡ Some file
 
--- how opening a file ends, given what is told of the file that was opened, by what its path holds
+-- How opening a file ends, by what is told of the file that was opened and by what its path holds. Memory is refused only where a file is.
 abbrev pub Opens : {File : Type 0} → (File → Option ToldFile) → Option ToldFile → Result File DiskFault → Type 0
 Opens told held (Ok file) = IsFileAt held (told file)
 Opens told held (Err fault.Failed) = held ≡ None
-Opens told held (Err fault.Memory) = Unit {0}
+Opens told held (Err fault.Memory) = IsSome held
 
 -- one read put so many bytes into a room: those of the file from a place on; and none only at the file's end
 pub record Gives (file : ToldFile) (place : ℕ) (room : List ℕ) (n : ℕ) : Type 0 where

@@ -1,6 +1,7 @@
 //! What is asked of a disk: to open files and read them, and to keep drafts of files until they get their names.
 ghost use Rattle.std.specs.Prelude.{◌≡◌};
 
+use crate::read_files::ReadFiles;
 use std::alloc::{AllocError, Global};
 use std::io;
 use thiserror::Error;
@@ -36,7 +37,7 @@ impl From<AllocError> for DiskFault {
     }
 }
 
-/// What sets a file of a disk apart from all its others, whatever its paths: on Linux the device that it is on, and its inode number there.
+/// What sets a file of a disk apart from all its others, whatever its paths: on Linux its device, and its inode number there.
 #[derive(Clone, Copy, Debug, PartialEq, Eq)]
 pub struct FileId {
     /// The device.
@@ -57,6 +58,12 @@ pub trait DiskFile {
     ghost told: { Self → Option ToldFile };
 
     ghost place: { Self → ℕ };
+
+    /// What sets the file apart from all others, whatever path it was opened at; nothing where no path leads to it.
+    ///
+    /// # Errors
+    /// [`DiskFault::Failed`] where that cannot be known.
+    fn id(&self) -> Result<Option<FileId>, DiskFault>;
 
     /// How many bytes it has; nothing where that is not known, as of a pipe.
     fn len(&self) -> Option<u64>
@@ -89,16 +96,16 @@ pub trait DiskFile {
 /// Where files are written: each as a draft, beside the others and by any thread where the disk is `Sync`, which gets its name when it is whole.
 ///
 /// Contracts see four things. `history` is what the paths held at first and the files that got names since, or `None` where the disk
-/// does not tell that; `faults` is the number of its failed calls; a draft `holds` some bytes, unless it has failed; and `path_of` is the
-/// path that it was begun at. A draft is no part of the history, so it has no path that a file may get as its name. Two drafts at one path
-/// are not refused: whoever begins drafts side by side gives each a path of its own.
+/// does not tell that; `faults` is the number of its failed calls; a draft `holds` some bytes, and one that has failed holds whatever is
+/// asked; and `path_of` is the path that it was begun at. A draft is no part of the history, so it has no path that a file may get as its
+/// name. Whoever begins drafts side by side gives each a path of its own.
 pub trait Disk {
-    ghost use Rattle.std.specs.Prelude.{◌≡◌, ℕ, ◌+◌, ◌-◌, ◌^◌, ◌<◌, [], ◌∷◌, ◌++◌, List, Option, OnErr, OnOk, is_ok, if◌then◌else◌};
+    ghost use Rattle.std.specs.Prelude.{◌≡◌, ℕ, ◌+◌, ◌-◌, ◌^◌, ◌<◌, [], ◌∷◌, ◌++◌, List, Option, OnErr, OnOk, is_ok, if◌then◌else◌, IfSome, IsSome};
     ghost use Rattle.std.specs.String.{string_bytes};
     ghost use Rattle.disks.specs.DraftPaths.{IsDraftPath};
-    ghost use Rattle.disks.specs.Histories.{History, Names, named_file};
+    ghost use Rattle.disks.specs.Histories.{History, Names, held_now, named_file};
 
-    /// A file that is written and has no name yet. One that is let go leaves nothing.
+    /// A file that is written and has no name yet. One that is dropped leaves nothing.
     type Draft: Drop;
 
     ghost history: { Self → Option History };
@@ -109,11 +116,29 @@ pub trait Disk {
 
     ghost path_of: { Self.Draft → List ℕ };
 
-    /// Begins a draft without bytes at a path. It may have failed.
+    /// Holds a folder for the drafts of this run alone, until the disk is dropped.
+    ///
+    /// # Errors
+    /// The folder cannot be opened, another run holds it, or not all files that this run has read are known. The disk's files are as they
+    /// were.
+    fn hold(&mut self, folder: &str, read: &ReadFiles) -> Result<(), DiskFault>
+        requires { faults self.old < 2 ^ 64 - 1 }
+        ensures as_before { history self.new ≡ history self.old }
+        ensures counted { faults self.new ≡ (if is_ok result then faults self.old else faults self.old + 1) };
+
+    /// Removes the drafts that runs that are over have left in a folder that is held, except files that this run has read. A draft that
+    /// cannot be removed stays.
+    ///
+    /// # Errors
+    /// A growth was refused. Some of the drafts may stay then.
+    fn sweep(&self, alloc: Global, folder: &str, read: &ReadFiles) -> Result<(), AllocError>;
+
+    /// Begins a draft without bytes at a path. It may have failed; it has where something stands at the path.
     fn draft(&self, path: String) -> Self::Draft
         requires { IsDraftPath (string_bytes path) }
         ensures empty { holds result [] }
-        ensures path { path_of result ≡ string_bytes path };
+        ensures path { path_of result ≡ string_bytes path }
+        ensures taken { IfSome (history self.now) (λ h. IsSome (held_now h (string_bytes path)) → (bytes : List ℕ) → holds result bytes) };
 
     /// Appends bytes to a draft. A draft that fails stays so, and gets no name.
     fn append(draft: &mut Self::Draft, bytes: &[u8])
@@ -121,11 +146,11 @@ pub trait Disk {
         ensures path { path_of draft.new ≡ path_of draft.old };
 
     /// Looks whether a file may get this name: not where something else than a file stands (a folder, a pipe), or a file that may not
-    /// be written, or one of those that are spared.
+    /// be written, or one that this run has read.
     ///
     /// # Errors
     /// It may not, or the disk failed. Its files are as they were.
-    fn allow_name(&mut self, path: &str, spared: &[FileId]) -> Result<(), DiskFault>
+    fn allow_name(&mut self, path: &str, read: &ReadFiles) -> Result<(), DiskFault>
         requires { faults self.old < 2 ^ 64 - 1 }
         ensures as_before { history self.new ≡ history self.old }
         ensures counted { faults self.new ≡ (if is_ok result then faults self.old else faults self.old + 1) };
@@ -141,8 +166,11 @@ pub trait Disk {
         ensures as_before { OnErr result (history self.new ≡ history self.old) }
         ensures counted { faults self.new ≡ (if is_ok result then faults self.old else faults self.old + 1) };
 
-    /// What sets the file at a path apart from all others; nothing where none is there, or none can be seen.
-    fn file_id(&self, path: &str) -> Option<FileId>;
+    /// What sets the file apart that standard input is read from; nothing where it is no file of the disk.
+    ///
+    /// # Errors
+    /// [`DiskFault::Failed`] where that cannot be known.
+    fn input_id(&self) -> Result<Option<FileId>, DiskFault>;
 }
 
 /// A disk whose files can be read.

@@ -2,16 +2,34 @@
 ghost use Rattle.std.specs.Prelude.{None};
 
 use crate::disk::{Disk, DiskFault, DiskFile, FileId, ReadDisk};
-use std::alloc::Global;
-use std::fs::{self, Metadata, OpenFile, OpenOptions};
-use std::io::{self, ErrorKind, Read, Write};
+use crate::read_files::ReadFiles;
+use std::alloc::{AllocError, Global};
+use std::fs::{self, DirEntry, File, Metadata, OpenFile, OpenOptions, TryLockError};
+use std::io::{Error, ErrorKind, Read, Write};
 use std::os::unix::fs::{FileExt, MetadataExt};
 use std::rt::Files;
+
+/// A file that one process can hold, as long as it has the file open.
+pub trait Lockable {
+    /// Tries to hold it, and waits for nobody.
+    ///
+    /// # Errors
+    /// [`TryLockError::WouldBlock`] where another process holds it; any other where its file system has no locks.
+    fn try_hold(&self) -> Result<(), TryLockError>;
+}
+
+impl Lockable for File {
+    fn try_hold(&self) -> Result<(), TryLockError> {
+        self.try_lock()
+    }
+}
 
 /// The file system that a runtime opens files of.
 #[derive(Drop)]
 pub struct HostDisk<'a, F: Files> {
     files: &'a F,
+    // The folder that is held.
+    held: Option<F::File>,
     failed: u64,
 }
 
@@ -22,22 +40,64 @@ impl<'a, F: Files> HostDisk<'a, F> {
     pub fn new(files: &'a F) -> Self
         ensures { result.failed ≡ 0 }
     {
-        HostDisk { files, failed: 0 }
+        HostDisk {
+            files,
+            held: None,
+            failed: 0,
+        }
     }
 
-    // Refuses a name that stands for anything but a file, for a file that may not be written, or for one that is spared. Nothing
-    // but a file is opened: a pipe would wait.
-    fn look_at_name(&self, path: &str, spared: &[FileId]) -> Result<(), DiskFault> {
-        if let Ok(metadata) = fs::metadata(self.files, path)
-            && (!metadata.is_file() || spared.contains(&id_of(&metadata)))
+    // Refuses a name that stands for anything but a file, for a file that may not be written, or for one that was read. Nothing but a
+    // file is opened: a pipe would wait.
+    fn look_at_name(&self, path: &str, read: &ReadFiles) -> Result<(), DiskFault> {
+        match fs::metadata(self.files, path) {
+            Ok(metadata) if metadata.is_file() && !read.contains(id_of(&metadata)) => {
+                OpenOptions::new().write(true).open(self.files, path)?;
+                Ok(())
+            }
+            Err(error) if error.kind() == ErrorKind::NotFound => Ok(()),
+            _ => Err(DiskFault::Failed),
+        }
+    }
+
+    // Removes an entry of a folder where it is a draft that was left. Only a file is: a run leaves no link, pipe or folder.
+    fn remove_left(&self, entry: &DirEntry<(&'a F, Global), Global>, read: &ReadFiles) {
+        if is_draft_name(entry.file_name().as_bytes())
+            && let Ok(metadata) = entry.metadata()
+            && metadata.is_file()
+            && !read.contains(id_of(&metadata))
         {
+            let _ = fs::remove_file(self.files, entry.path());
+        }
+    }
+}
+
+impl<'a, F: Files> HostDisk<'a, F>
+where
+    F::File: Lockable,
+{
+    // A folder that is held, where its file system has locks. Without locks drafts of other runs may be there, so none is removed.
+    fn held_folder(&self, folder: &str, read: &ReadFiles) -> Result<Option<F::File>, DiskFault> {
+        if !read.are_known() {
             return Err(DiskFault::Failed);
         }
-        match OpenOptions::new().write(true).open(self.files, path) {
-            Ok(_) => Ok(()),
-            Err(error) if error.kind() == ErrorKind::NotFound => Ok(()),
-            Err(_) => Err(DiskFault::Failed),
+        let opened = fs::open(self.files, folder)?;
+        match opened.try_hold() {
+            Ok(()) => Ok(Some(opened)),
+            Err(TryLockError::WouldBlock) => Err(DiskFault::Failed),
+            Err(TryLockError::Error(_)) => Ok(None),
         }
+    }
+}
+
+// What the name of each draft begins with; a number follows.
+const DRAFT_NAME: &[u8] = b"toxicap.unfinished-";
+
+// Whether a name is that of a draft.
+fn is_draft_name(name: &[u8]) -> bool {
+    match name.strip_prefix(DRAFT_NAME) {
+        Some(number) => !number.is_empty() && number.iter().all(|digit| digit.is_ascii_digit()),
+        None => false,
     }
 }
 
@@ -46,19 +106,6 @@ fn id_of(metadata: &Metadata) -> FileId {
     FileId {
         device: metadata.dev(),
         inode: metadata.ino(),
-    }
-}
-
-// Makes a file at a path. What a killed run left there is removed first, and so is a link: it is not followed.
-fn create_anew<F: Files>(files: &F, path: &str) -> io::Result<F::File> {
-    let mut options = OpenOptions::new();
-    options.write(true).create_new(true);
-    match options.open(files, path) {
-        Err(error) if error.kind() == ErrorKind::AlreadyExists => {
-            fs::remove_file(files, path)?;
-            options.open(files, path)
-        }
-        opened => opened,
     }
 }
 
@@ -75,11 +122,15 @@ pub struct HostDraft<'a, F: Files> {
 impl<'a, F: Files> HostDraft<'a, F> {
     ghost use Rattle.std.specs.Prelude.{◌≡◌};
 
-    // A draft without bytes at a path.
+    // A draft without bytes at a path where nothing stands; a link there is not followed.
     fn begun(files: &'a F, path: String) -> HostDraft<'a, F>
         ensures { result.path ≡ path }
     {
-        match create_anew(files, &path) {
+        match OpenOptions::new()
+            .write(true)
+            .create_new(true)
+            .open(files, &path)
+        {
             Ok(file) => HostDraft {
                 files,
                 path,
@@ -120,7 +171,13 @@ impl<F: Files> Drop for HostDraft<'_, F> {
     }
 }
 
-impl<'a, F: Files> Disk for HostDisk<'a, F> {
+// The path of the file that standard input is read from, where it is one.
+const STANDARD_INPUT: &str = "/dev/stdin";
+
+impl<'a, F: Files> Disk for HostDisk<'a, F>
+where
+    F::File: Lockable,
+{
     ghost use Rattle.std.specs.String.{string_bytes};
 
     type Draft = HostDraft<'a, F>;
@@ -132,6 +189,36 @@ impl<'a, F: Files> Disk for HostDisk<'a, F> {
     ghost holds = { λ _ _. Unit {0} };
 
     ghost path_of = { λ d. string_bytes d.path };
+
+    fn hold(&mut self, folder: &str, read: &ReadFiles) -> Result<(), DiskFault> {
+        match self.held_folder(folder, read) {
+            Ok(held) => {
+                self.held = held;
+                Ok(())
+            }
+            Err(fault) => {
+                self.failed += 1;
+                Err(fault)
+            }
+        }
+    }
+
+    fn sweep(&self, alloc: Global, folder: &str, read: &ReadFiles) -> Result<(), AllocError> {
+        if self.held.is_none() {
+            return Ok(());
+        }
+        let entries = match fs::read_dir(&(self.files, alloc), folder) {
+            Ok(entries) => entries,
+            Err(error) => return unless_memory(error),
+        };
+        for entry in entries {
+            match entry {
+                Ok(entry) => self.remove_left(&entry, read),
+                Err(error) => unless_memory(error)?,
+            }
+        }
+        Ok(())
+    }
 
     fn draft(&self, path: String) -> HostDraft<'a, F> {
         HostDraft::begun(self.files, path)
@@ -146,8 +233,8 @@ impl<'a, F: Files> Disk for HostDisk<'a, F> {
         }
     }
 
-    fn allow_name(&mut self, path: &str, spared: &[FileId]) -> Result<(), DiskFault> {
-        let allowed = self.look_at_name(path, spared);
+    fn allow_name(&mut self, path: &str, read: &ReadFiles) -> Result<(), DiskFault> {
+        let allowed = self.look_at_name(path, read);
         if allowed.is_err() {
             self.failed += 1;
         }
@@ -162,11 +249,17 @@ impl<'a, F: Files> Disk for HostDisk<'a, F> {
         named
     }
 
-    fn file_id(&self, path: &str) -> Option<FileId> {
-        match fs::metadata(self.files, path) {
-            Ok(metadata) => Some(id_of(&metadata)),
-            Err(_) => None,
-        }
+    fn input_id(&self) -> Result<Option<FileId>, DiskFault> {
+        let metadata = fs::metadata(self.files, STANDARD_INPUT)?;
+        Ok(Some(id_of(&metadata)))
+    }
+}
+
+// Passes over an error, except that memory was refused.
+fn unless_memory(error: Error) -> Result<(), AllocError> {
+    match error.kind() {
+        ErrorKind::OutOfMemory => Err(AllocError),
+        _ => Ok(()),
     }
 }
 
@@ -180,6 +273,11 @@ impl<F: OpenFile + FileExt + Read + Drop> DiskFile for HostFile<F> {
     ghost told = { λ _. None };
 
     ghost place = { λ _. 0 };
+
+    fn id(&self) -> Result<Option<FileId>, DiskFault> {
+        let metadata = self.file.metadata()?;
+        Ok(Some(id_of(&metadata)))
+    }
 
     fn len(&self) -> Option<u64> {
         match self.file.metadata() {
@@ -199,7 +297,7 @@ impl<F: OpenFile + FileExt + Read + Drop> DiskFile for HostFile<F> {
 
 impl<'a, F: Files> ReadDisk for HostDisk<'a, F>
 where
-    F::File: FileExt,
+    F::File: FileExt + Lockable,
 {
     type File = HostFile<F::File>;
 

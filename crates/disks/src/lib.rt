@@ -7,8 +7,10 @@ mod host;
 pub mod laws;
 mod memory;
 mod memory_files;
+mod read_files;
 
 pub use disk::{Disk, DiskFault, DiskFile, FileId, ReadDisk};
-pub use host::{HostDisk, HostDraft, HostFile};
+pub use host::{HostDisk, HostDraft, HostFile, Lockable};
 pub use memory::{MemoryDisk, MemoryDraft};
 pub use memory_files::MemoryDiskFile;
+pub use read_files::ReadFiles;

@@ -3,6 +3,7 @@ ghost use Rattle.std.specs.Prelude.{◌≡◌, ◌+◌, ◌-◌, ◌^◌, ◌<�
 
 use crate::disk::{Disk, DiskFault, FileId, ReadDisk};
 use crate::memory_files::MemoryDiskFile;
+use crate::read_files::ReadFiles;
 use std::alloc::{AllocError, Global};
 use std::marker::Model;
 
@@ -41,7 +42,7 @@ impl Model for WholeFile {
 
 /// A disk in memory. Contracts see its history and how many of its calls have failed.
 ///
-/// It fails where memory is refused, and where it is told to: at one of its calls, of which [`name`](Disk::name) and
+/// It fails where memory is refused, and where it is told to: at one of its calls, of which [`hold`](Disk::hold), [`name`](Disk::name) and
 /// [`allow_name`](Disk::allow_name) count; where bytes of a file are lost; and where a draft would have more bytes than there is room for.
 #[derive(Drop)]
 pub struct MemoryDisk {
@@ -109,7 +110,7 @@ impl MemoryDisk {
         Ok(())
     }
 
-    /// Of its calls of [`name`](Disk::name) and [`allow_name`](Disk::allow_name) the one after so many others fails, and none later.
+    /// Of its calls of [`hold`](Disk::hold), [`name`](Disk::name) and [`allow_name`](Disk::allow_name) one fails, after this number of others.
     pub fn fail_after(&mut self, calls: u64)
         ensures { self.new ≡ self.old }
     {
@@ -233,11 +234,27 @@ impl Disk for MemoryDisk {
 
     ghost path_of = { λ d. string_bytes d.path };
 
+    fn hold(&mut self, _folder: &str, read: &ReadFiles) -> Result<(), DiskFault> {
+        let held = if self.fails_now() || !read.are_known() {
+            Err(DiskFault::Failed)
+        } else {
+            Ok(())
+        };
+        count_failure(&held, &mut self.failed);
+        held
+    }
+
+    // Drafts are no files of this disk, so none is left.
+    fn sweep(&self, _alloc: Global, _folder: &str, _read: &ReadFiles) -> Result<(), AllocError> {
+        Ok(())
+    }
+
     fn draft(&self, path: String) -> MemoryDraft {
+        let has_failed = self.find(&path).is_some();
         MemoryDraft {
             path,
             bytes: Vec::new(self.alloc),
-            has_failed: false,
+            has_failed,
             room: self.draft_room,
         }
     }
@@ -249,8 +266,8 @@ impl Disk for MemoryDisk {
         }
     }
 
-    fn allow_name(&mut self, path: &str, spared: &[FileId]) -> Result<(), DiskFault> {
-        let allowed = self.look_at_name(path, spared);
+    fn allow_name(&mut self, path: &str, read: &ReadFiles) -> Result<(), DiskFault> {
+        let allowed = self.look_at_name(path, read);
         count_failure(&allowed, &mut self.failed);
         allowed
     }
@@ -261,8 +278,8 @@ impl Disk for MemoryDisk {
         named
     }
 
-    fn file_id(&self, path: &str) -> Option<FileId> {
-        self.id_of(path)
+    fn input_id(&self) -> Result<Option<FileId>, DiskFault> {
+        Ok(None)
     }
 }
 
@@ -291,15 +308,15 @@ impl MemoryDisk {
         })
     }
 
-    // Refuses a name that stands for a file that is spared.
-    fn look_at_name(&mut self, path: &str, spared: &[FileId]) -> Result<(), DiskFault>
+    // Refuses a name that stands for a file that the run has read.
+    fn look_at_name(&mut self, path: &str, read: &ReadFiles) -> Result<(), DiskFault>
         ensures { self.new ≡ self.old }
     {
         if self.fails_now() {
             return Err(DiskFault::Failed);
         }
         match self.id_of(path) {
-            Some(id) if spared.contains(&id) => Err(DiskFault::Failed),
+            Some(id) if read.contains(id) => Err(DiskFault::Failed),
             _ => Ok(()),
         }
     }
@@ -313,6 +330,7 @@ impl ReadDisk for MemoryDisk {
             return Err(DiskFault::Failed);
         };
         Ok(MemoryDiskFile {
+            id: self.id_of(path),
             bytes: Vec::from_slice(alloc, bytes)?,
             lost,
             place: 0,

@@ -1,9 +1,10 @@
 //! Files of a disk in memory as they are read.
-use crate::disk::{DiskFault, DiskFile};
+use crate::disk::{DiskFault, DiskFile, FileId};
 
 /// A file of a disk in memory, which is open to be read.
 #[derive(Drop)]
 pub struct MemoryDiskFile {
+    pub(crate) id: Option<FileId>,
     pub(crate) bytes: Vec<u8>,
     // How many bytes after these are lost.
     pub(crate) lost: u32,
@@ -19,6 +20,10 @@ impl DiskFile for MemoryDiskFile {
     ghost told = { λ f. Some (record { bytes = f.bytes.items; lost = f.lost }) };
 
     ghost place = { λ f. f.place };
+
+    fn id(&self) -> Result<Option<FileId>, DiskFault> {
+        Ok(self.id)
+    }
 
     fn len(&self) -> Option<u64> {
         Some(self.bytes.len() as u64 + u64::from(self.lost))

@@ -1,9 +1,9 @@
 -- Folders of a disk: which names they refuse, where their drafts are, and what contracts see of them.
-use Rattle.std.specs.Prelude.{◌≡◌, ◌<◌, ◌^◌, ℕ, ◌+◌, nat_lt, ◌==◌, Bool, ◌||◌, if◌then◌else◌, List, [], ◌++◌, codes, length, map, drop, Option, option_map, Result, Err}
+use Rattle.std.specs.Prelude.{◌≡◌, ◌<◌, ◌^◌, ℕ, ◌+◌, nat_lt, ◌==◌, Bool, ◌||◌, if◌then◌else◌, List, [], ◌++◌, codes, length, map, Option, Result, Err}
 use Rattle.std.specs.Fmt.{decimal}
 use Rattle.disks.specs.DraftPaths.{has_slash, is_draft_name, path_in, unfinished}
 use Rattle.disks.specs.Histories.{History, NamedFile, named_file, Names}
-use Rattle.run_files.specs.Shelves.{StoredFile, stored_file}
+use Rattle.run_files.specs.Shelves.{StoredFile}
 use Rattle.run_files.specs.declared.error.StoreFault.{StoreFault}
 use Rattle.run_files.specs.declared.error.StoreFault.TheVariants.{ShelfFailed}
 
@@ -46,7 +46,3 @@ in_folder folder file = named_file (path_in folder file.name) file.bytes
 -- a folder has taken some files, and its disk named no other, given the disk's history before and after
 abbrev pub TakesIn : List ℕ → Option History → Option History → List StoredFile → Type 0
 TakesIn folder old new files = Names old new (map (in_folder folder) files)
-
--- the files that got names on a disk, by their names in a folder
-abbrev pub shelved : List ℕ → Option History → Option (List StoredFile)
-shelved folder history = option_map (λ h. map (λ file. stored_file (drop (length folder + 1) file.path) file.bytes) h.names) history

@@ -3,11 +3,10 @@ ghost use Rattle.std.specs.Prelude.{◌≡◌, ◌+◌, ◌≤◌, length, IsOk,
 ghost use Rattle.std.specs.String.{string_bytes, string_capacity};
 ghost use Rattle.disks.specs.DraftPaths.{path_in};
 
-use crate::error::ShelfError;
-use crate::shelves::Shelf;
+use crate::error::{ShelfError, StoreFault};
 use crate::streams::count_failure;
 use disks::laws::drafts_are_named;
-use disks::{Disk, FileId};
+use disks::{Disk, ReadFiles};
 use std::alloc::{AllocError, Global};
 use std::marker::Model;
 
@@ -21,17 +20,17 @@ const UNFINISHED: &str = "toxicap.unfinished";
 /// follows from the disk's history.
 ///
 /// A file is written as a draft beside the others, `toxicap.unfinished-0` where its place is 0, and gets its name when it is whole: at any
-/// time the file of a name is the old one whole or the new one whole, also where the program is killed or the disk is full. What a killed
-/// program leaves of a draft is replaced by the next draft of that place, and so is a link, which is not followed.
+/// time the file of a name is the old one whole or the new one whole, also where the program is killed or the disk is full. A run
+/// [holds](Folder::hold) the folder first, and takes away what killed runs left of their drafts.
 ///
 /// A file that cannot be made or written whole is a failure, and so is any file in a folder that is not there, and a name that stands
-/// for something else than a file, or for a file that may not be written or is [spared](Folder::spare). A name with a slash, of more than
+/// for something else than a file, or for a file that may not be written or that the run has read. A name with a slash, of more than
 /// 255 bytes, or that begins as those of drafts do, is a failure too.
 #[derive(Drop)]
 pub struct Folder<'a> {
     folder: &'a str,
     path: String,
-    spared: Vec<FileId>,
+    read: ReadFiles,
     failed: u64,
 }
 
@@ -49,37 +48,51 @@ impl<'a> Model for Folder<'a> {
 }
 
 impl<'a> Folder<'a> {
-    ghost use Rattle.std.specs.Prelude.{◌≡◌, ◌||◌, ℕ, List, ◌+◌, ◌-◌, ◌^◌, ◌<◌, ◌∷◌, [], false, IfOk, OnErr, OnOk, is_ok, if◌then◌else◌};
+    ghost use Rattle.std.specs.Prelude.{◌≡◌, ◌||◌, ℕ, List, length, ◌+◌, ◌-◌, ◌^◌, ◌<◌, ◌∷◌, [], false, IfOk, OnErr, OnOk, is_ok, if◌then◌else◌};
     ghost use Rattle.std.specs.String.{string_bytes};
     ghost use Rattle.disks.specs.DraftPaths.{IsDraftPath, path_in};
     ghost use Rattle.disks.specs.Histories.{named_file, Names};
-    ghost use Rattle.run_files.specs.Folders.{draft_path, is_refused};
+    ghost use Rattle.run_files.specs.Folders.{disk_failures, draft_path, is_refused};
+    ghost use Rattle.run_files.specs.WrittenOutputs.{PutsAfter};
 
-    /// The folder at a path, of which no call has failed yet. Whether it exists shows at the first file.
-    pub fn new(alloc: Global, folder: &'a str) -> Result<Self, AllocError>
+    /// The folder at a path, of which no call has failed yet, for a run that has read these files: it replaces none of them.
+    pub fn new(alloc: Global, folder: &'a str, read: ReadFiles) -> Result<Self, AllocError>
         ensures { IfOk result (λ f. f ≡ record { folder = folder.now; failed = 0 }) }
     {
         let path = String::with_capacity(alloc, folder.len() + 1 + NAME_LIMIT)?;
         Ok(Folder {
             folder,
             path,
-            spared: Vec::new(alloc),
+            read,
             failed: 0,
         })
     }
 
-    /// The folder will not replace the file that is at a path now, under any of its names: to put one there is a failure. Where no file is
-    /// at the path, or none can be seen there, nothing is spared.
+    /// Holds the folder for the drafts of this run alone, and removes those that runs that are over have left there.
     ///
     /// # Errors
-    /// A growth was refused.
-    pub fn spare<D: Disk>(&mut self, disk: &D, path: &str) -> Result<(), AllocError>
-        ensures { self.new ≡ self.old }
+    /// The folder has no path, it is not there or cannot be opened, another run holds it, or not all files are known that this run has read;
+    /// or memory was refused. No file of an output is there then.
+    pub fn hold<D: Disk>(&mut self, alloc: Global, disk: &mut D) -> Result<(), StoreFault>
+        requires failures { self.old.failed < 2 ^ 64 - 1 }
+        requires faults { D.faults disk.old < 2 ^ 64 - 1 }
+        ensures folder { self.new.folder ≡ self.old.folder }
+        ensures as_before { D.history disk.new ≡ D.history disk.old }
+        ensures faults { D.faults disk.new ≡ D.faults disk.old + disk_failures self.old.folder result }
+        ensures holds { PutsAfter 0 (0 < length self.old.folder) (Unit {0}) self.old.failed self.new.failed result }
     {
-        if let Some(id) = disk.file_id(path) {
-            self.spared.push(id)?;
+        if self.folder.is_empty() {
+            self.count_failure();
+            return Err(StoreFault::ShelfFailed { after: 0 });
         }
-        Ok(())
+        if disk.hold(self.folder, &self.read).is_err() {
+            self.count_failure();
+            return Err(StoreFault::ShelfFailed { after: 0 });
+        }
+        match disk.sweep(alloc, self.folder, &self.read) {
+            Ok(()) => Ok(()),
+            Err(_) => Err(StoreFault::Memory { after: 0 }),
+        }
     }
 
     /// How many calls have failed.
@@ -149,7 +162,7 @@ impl<'a> Folder<'a> {
         }
         // The path has room for it.
         set_path(&mut self.path, self.folder, name).unwrap();
-        let named = match disk.allow_name(&self.path, &self.spared) {
+        let named = match disk.allow_name(&self.path, &self.read) {
             Ok(()) => disk.name(draft, &self.path),
             refused => refused,
         };
@@ -188,73 +201,4 @@ fn set_path(path: &mut String, folder: &str, name: &str) -> Result<(), AllocErro
     path.push_str(folder)?;
     path.push_str("/")?;
     path.push_str(name)
-}
-
-/// A folder of a disk, as a shelf. Its files are those that got names on the disk, where the disk tells them.
-#[derive(Drop)]
-pub struct FolderShelf<'a, D: Disk + Drop> {
-    alloc: Global,
-    folder: Folder<'a>,
-    disk: D,
-    ghost counted: { D.faults disk ≤ folder.failed },
-}
-
-impl<'a, D: Disk + Drop> FolderShelf<'a, D> {
-    ghost use Rattle.std.specs.Prelude.{◌≡◌, IfOk};
-
-    /// The folder at a path of a disk of which no call has failed. Whether it exists shows at the first file.
-    pub fn new(alloc: Global, disk: D, folder: &'a str) -> Result<Self, AllocError>
-        requires { D.faults disk ≡ 0 }
-        ensures disk { IfOk result (λ s. s.disk ≡ disk) }
-        ensures folder { IfOk result (λ s. s.folder ≡ record { folder = folder.now; failed = 0 }) }
-    {
-        let folder = Folder::new(alloc, folder)?;
-        Ok(FolderShelf {
-            alloc,
-            folder,
-            disk,
-        })
-    }
-
-    /// The folder will not replace the file that is at a path now, as [`Folder::spare`] says.
-    ///
-    /// # Errors
-    /// A growth was refused.
-    pub fn spare(&mut self, path: &str) -> Result<(), AllocError>
-        ensures disk { self.new.disk ≡ self.old.disk }
-        ensures folder { self.new.folder ≡ self.old.folder }
-    {
-        self.folder.spare(&self.disk, path)
-    }
-
-    /// How many calls have failed.
-    pub fn failed(&self) -> u64
-        ensures { result ≡ self.now.folder.failed }
-    {
-        self.folder.failed()
-    }
-
-    /// The disk.
-    pub fn into_disk(self) -> D
-        ensures { result ≡ self.entry.disk }
-    {
-        self.disk
-    }
-}
-
-impl<'a, D: Disk + Drop> Shelf for FolderShelf<'a, D> {
-    ghost use Rattle.run_files.specs.Folders.{shelved};
-
-    ghost files = { λ s. shelved s.folder.folder (D.history s.disk) };
-
-    ghost failures = { λ s. s.folder.failed };
-
-    fn put(&mut self, name: &str, bytes: &[u8]) -> Result<(), ShelfError> {
-        let Ok(mut draft) = self.folder.draft(self.alloc, &self.disk, 0) else {
-            self.folder.count_failure();
-            return Err(ShelfError);
-        };
-        D::append(&mut draft, bytes);
-        self.folder.take(&mut self.disk, name, draft)
-    }
 }

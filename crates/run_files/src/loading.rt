@@ -11,24 +11,30 @@ use crate::block_loading::text_in_blocks;
 use crate::error::RunFault;
 use crate::streams::room_to_read;
 use crate::texts::Text;
-use disks::{DiskFault, DiskFile, ReadDisk};
+use disks::{DiskFault, DiskFile, ReadDisk, ReadFiles};
 use job_matrix::Plan;
 use pcap_records::CAPTURE_LIMIT;
 use std::alloc::Global;
 use std::thread::Threads;
 
-/// Loads all bytes of the file at a path.
+/// Loads all bytes of the file at a path, and adds it to those that were read.
 ///
 /// # Errors
 /// [`RunFault::ReadFailed`] where no file can be opened and read there, [`RunFault::CaptureTooLong`] where it has more than 2^30 bytes,
 /// and [`RunFault::Memory`].
-pub fn load_file<D: ReadDisk>(alloc: Global, disk: &D, path: &str) -> Result<Vec<u8>, RunFault>
+pub fn load_file<D: ReadDisk>(
+    alloc: Global,
+    disk: &D,
+    path: &str,
+    read: &mut ReadFiles,
+) -> Result<Vec<u8>, RunFault>
     ensures told { IfSome (D.history disk.now) (λ h.
         AgreesUnlessMemory run_refusal (λ bytes. bytes.items) result (text_at (held_now h) path.now)) }
     ensures within { IfOk result (λ bytes. length bytes.items ≤ capture_limit) }
     ensures of_file { IfErr result IsOfFile }
 {
     let mut file = opened(alloc, disk, path)?;
+    read.add(file.id())?;
     load_whole(alloc, &mut file)
 }
 
@@ -42,6 +48,7 @@ pub fn load_by_workers<R: Threads + Sync, D: ReadDisk>(
     disk: &D,
     path: &str,
     plan: Plan,
+    read: &mut ReadFiles,
 ) -> Result<Text<'static>, RunFault>
 where
     D::File: Sync,
@@ -51,6 +58,7 @@ where
     ensures of_file { IfErr result IsOfFile }
 {
     let mut file = opened(alloc, disk, path)?;
+    read.add(file.id())?;
     if let Some(text) = text_in_blocks(rt, alloc, &file, plan)? {
         return Ok(text);
     }

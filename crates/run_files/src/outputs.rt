@@ -65,12 +65,9 @@ pub fn store_all<S: Shelf>(
     store_from(alloc, 0, outputs.as_slice(), shelf)
 }
 
-/// Puts the files of some outputs on a shelf, of which the first has this number, as [`store_all`] does.
-///
-/// # Errors
-/// The first file that cannot be stored ends it; none is tried again. The shelf then has the files before that one and no other;
-/// `after` says how many they are, with those of the outputs before the first number.
-pub fn store_from<S: Shelf>(
+// Puts the files of some outputs on a shelf, of which the first has this number, as [`store_all`] does. `after` counts the files of the
+// outputs before the first number too.
+fn store_from<S: Shelf>(
     alloc: Global,
     first: usize,
     outputs: &[Output],

@@ -1,5 +1,5 @@
 -- How storing ends, by what a text calls for.
-use Rattle.std.proofs.Common.{◌≡◌, ℕ, ◌+◌, ◌<◌, ◌≤◌, List, [], length, Option, Some, None, Result, Ok, Err, IfErr, refl, sym, ap, ◌∙◌, subst, append-nil, arith}
+use Rattle.std.proofs.Common.{◌≡◌, ℕ, ◌+◌, ◌<◌, ◌≤◌, List, [], ◌∷◌, length, Option, Some, None, Result, Ok, Err, IfErr, refl, sym, ap, ◌∙◌, subst, append-nil, arith}
 use Rattle.std.specs.Io.KnownBytes.{Consumes}
 use Rattle.lists.specs.Agreement.{Refuses}
 use Rattle.pcap_records.specs.Reading.{capture_limit}
@@ -13,7 +13,7 @@ use Rattle.run_files.specs.declared.outputs.Output.{Output}
 use Rattle.run_files.specs.RunFault.{run_fault_of_storing, run_refusal}
 use Rattle.disks.specs.Histories.{History, NamedFile}
 use Rattle.run_files.specs.Folders.{TakesIn, disk_failures}
-use Rattle.run_files.specs.WrittenOutputs.{files_from}
+use Rattle.run_files.specs.WrittenOutputs.{PutsAfter, files_from}
 use Rattle.toxicap.specs.Answering.{IsOfText, called_for}
 use Rattle.toxicap.specs.Rehearsal.{answer}
 use Rattle.toxicap.specs.RunEnds.{StoresBy, failed_reads}
@@ -43,6 +43,19 @@ pub none_stored : (fault : RunFault) (bytes : List ℕ) (scenarios : List (List 
 none_stored Memory bytes scenarios seed folder had failures is = (is, ((0, nothing_taken folder had), refl))
 none_stored (ShelfFailed after) bytes scenarios seed folder had failures is = absurd (subst (λ wanted. IfErr wanted IsOfText) is (of_answer bytes scenarios seed))
 none_stored fault bytes scenarios seed folder had failures is = (is, (nothing_taken folder had, refl))
+
+-- nor where the folder could not be held for the files of some outputs
+some_files : (outputs : List Output) → 0 < length outputs → 0 < length (files_from 0 outputs)
+some_files [] some = absurd (omega (arith, some))
+some_files (o ∷ outputs) some = omega arith
+
+pub not_held : (folder : List ℕ) (outputs : List Output) (fault : StoreFault) (had now : Option History) (old new : ℕ) → now ≡ had
+    → PutsAfter 0 (Unit {0}) (0 < length outputs) old new (Err fault)
+    → StoresOf (Err (run_fault_of_storing fault)) (Ok outputs) × TakenOf (Err (run_fault_of_storing fault)) (Ok outputs) (TakesIn folder had now) old new
+not_held folder outputs (store.ShelfFailed after) had now old new same puts =
+    rw puts.0 (some_files outputs puts.1, (subst (λ h. TakesIn folder had h []) (sym same) (nothing_taken folder had), puts.2))
+not_held folder outputs (store.Memory after) had now old new same puts =
+    (refl, ((0, subst (λ h. TakesIn folder had h []) (sym same) (nothing_taken folder had)), puts.2))
 
 module _ (hosts : List KnownHost) (texts : List (List ℕ)) (seed : ℕ) where
   -- how storing ends, by the text that was read

@@ -11,7 +11,7 @@ ghost use Rattle.toxicap.specs.RunEnds.{no_text, status_of, text_with_line_feed,
 
 use crate::runs::run_asked;
 use command_line::{Stop, read_arguments};
-use disks::{HostDisk, ReadDisk};
+use disks::{HostDisk, Lockable, ReadDisk};
 use run_files::{Counted, RunFault, fault_line, write_bytes};
 use std::alloc::Global;
 use std::convert::AsStr;
@@ -42,7 +42,7 @@ pub fn command<H: Files + Threads + Wait + Sync, S: AsStr, I: Read, O: Write, E:
     faults: &mut Counted<E>,
 ) -> u8
 where
-    H::File: FileExt + Send + Sync,
+    H::File: FileExt + Lockable + Send + Sync,
     H::Dir: Send,
     requires reads { input.old.failed < 2 ^ 64 - 1 }
     requires writes { output.old.failed < 2 ^ 64 - 1 }

@@ -24,7 +24,7 @@ use crate::reading::read_inputs;
 use crate::storing::store_rehearsal;
 use command_line::Asked;
 use disks::laws::names_leave_whole;
-use disks::{Disk, ReadDisk};
+use disks::{Disk, ReadDisk, ReadFiles};
 use job_matrix::Plan;
 use run_files::{
     Counted, Folder, RunFault, SeenText, Text, load, load_by_workers, load_file, see_file,
@@ -59,7 +59,8 @@ where
 {
     names_leave_whole();
     let hosts = read_hosts(alloc, &asked.hosts)?;
-    let files = load_files(alloc, disk, &asked.scenarios)?;
+    let mut read = ReadFiles::new(alloc);
+    let files = load_files(alloc, disk, &asked.scenarios, &mut read)?;
     let texts = texts_of(alloc, &files)?;
     let options = Options {
         hosts,
@@ -69,8 +70,8 @@ where
     let Some(folder) = asked.out else {
         return print_answers(rt, disk, alloc, asked, reader, writer, &texts, &options);
     };
-    let text = load_capture(rt, alloc, disk, asked, options.plan, reader)?;
-    store_answers(rt, disk, alloc, text, folder, asked, &texts, &options)
+    let text = load_capture(rt, alloc, disk, asked, options.plan, reader, &mut read)?;
+    store_answers(rt, disk, alloc, text, folder, read, &texts, &options)
 }
 
 // The reports of the answers to the capture that a command line names, printed as they are made.
@@ -138,7 +139,7 @@ fn store_answers<H: Threads + Wait + Sync, D: Disk + Sync>(
     alloc: Global,
     text: Text<'_>,
     folder: &str,
-    asked: &Asked<'_>,
+    read: ReadFiles,
     texts: &[&[u8]],
     options: &Options,
 ) -> Result<(), RunFault>
@@ -157,8 +158,7 @@ where
         rt,
         plan: options.plan,
     };
-    let mut folder = Folder::new(alloc, folder)?;
-    spare_inputs(asked, disk, &mut folder)?;
+    let mut folder = Folder::new(alloc, folder, read)?;
     store_rehearsal(
         &crew,
         alloc,
@@ -170,28 +170,10 @@ where
     )
 }
 
-// The path of the file that standard input is read from, where it is one.
-const STANDARD_INPUT: &str = "/dev/stdin";
-
-// The folder will replace no file that the run has read: neither a scenario's, nor the capture's.
-fn spare_inputs<D: Disk>(
-    asked: &Asked<'_>,
-    disk: &D,
-    folder: &mut Folder<'_>,
-) -> Result<(), AllocError>
-    ensures { folder.new ≡ folder.old }
-{
-    folder.spare(disk, asked.capture.unwrap_or(STANDARD_INPUT))?;
-    for path in &asked.scenarios {
-        folder.spare(disk, path)?;
-    }
-    Ok(())
-}
-
 // A scenario without proxies.
 const BARE: &[u8] = b"[]";
 
-// The texts of the files at some paths, in order.
+// The texts of the files at some paths, in order, which are added to those that were read.
 //
 // # Errors
 // [`RunFault::ReadFailed`] for the first that cannot be opened or read, [`RunFault::CaptureTooLong`] for one that is longer than
@@ -201,6 +183,7 @@ fn load_files<D: ReadDisk>(
     alloc: Global,
     disk: &D,
     named: &[&str],
+    read: &mut ReadFiles,
 ) -> Result<Vec<Vec<u8>>, RunFault>
     ensures told { IfSome (D.history disk.now) (λ h. AgreesUnlessMemory run_refusal (λ files. map (λ f. f.items) files.items) result
         (texts_from (held_now h) [] (map (λ path. path.now) named.now))) }
@@ -209,13 +192,14 @@ fn load_files<D: ReadDisk>(
 {
     let mut files = Vec::new(alloc);
     for path in named {
-        let file = load_file(alloc, disk, path)?;
+        let file = load_file(alloc, disk, path, read)?;
         files.push(file).map_err(AllocError::from)?;
     }
     Ok(files)
 }
 
-// The text of the capture, from the file that a command line names, or without one from a reader.
+// The text of the capture, from the file that a command line names, or without one from a reader. That file, or the one that standard
+// input is read from, is added to those that were read.
 fn load_capture<H: Threads + Sync, D: ReadDisk, R: Read>(
     rt: &H,
     alloc: Global,
@@ -223,6 +207,7 @@ fn load_capture<H: Threads + Sync, D: ReadDisk, R: Read>(
     asked: &Asked<'_>,
     plan: Plan,
     reader: &mut Counted<R>,
+    read: &mut ReadFiles,
 ) -> Result<Text<'static>, RunFault>
 where
     D::File: Sync,
@@ -235,11 +220,11 @@ where
         (reader.new ≡ reader.old)) }
 {
     match asked.capture {
-        Some(path) => load_by_workers(rt, alloc, disk, path, plan),
-        None => match load(alloc, reader) {
-            Ok(bytes) => Ok(Text::of(bytes)),
-            Err(fault) => Err(fault),
-        },
+        Some(path) => load_by_workers(rt, alloc, disk, path, plan, read),
+        None => {
+            read.add(disk.input_id())?;
+            Ok(Text::of(load(alloc, reader)?))
+        }
     }
 }
 

@@ -1,7 +1,8 @@
 //! Outputs that are stored as they are made: drafts of those of a few scenarios are made, stored and let go, and then those of the next.
 ghost use Rattle.std.specs.Prelude.{◌≡◌, ◌+◌, ◌-◌, ◌^◌, ◌<◌, ◌≤◌, Ok, length};
 ghost use Rattle.pcap_records.specs.CaptureView.{bytes_of};
-ghost use Rattle.run_files.specs.Folders.{TakesIn};
+ghost use Rattle.run_files.specs.Folders.{TakesIn, disk_failures};
+ghost use Rattle.run_files.specs.WrittenOutputs.{PutsAfter};
 ghost use Rattle.toxicap.specs.CaptureOutputs.{outputs_for, outputs_from};
 ghost use Rattle.toxicap.specs.Rehearsal.{answer, scenario_limit};
 ghost use Rattle.toxicap.specs.StoredOutputs.{StoresOf, TakenOf, failed_stores};
@@ -13,13 +14,13 @@ use crate::report_heads::report_heads;
 use crate::sources::Sources;
 use disks::Disk;
 use pcap_records::{Capture, FileBytes};
-use run_files::{Folder, RunFault, store_draft};
+use run_files::{Folder, RunFault, StoreFault, store_draft};
 use scenarios::Scenario;
 use std::alloc::Global;
 use std::thread::Threads;
 
 /// Rehearses a capture under each of the scenarios and puts the files of their outputs into a folder, in order: those that `store_all`
-/// puts of what `rehearse` answers. Rows are made of no more scenarios at once than there are workers, and there are drafts of at most twice
+/// puts of what `rehearse` answers. The folder is held first, if there is a scenario. Rows are made of no more scenarios at once than there are workers, and there are drafts of at most twice
 /// as many.
 ///
 /// # Errors
@@ -47,7 +48,7 @@ where
     store_outputs(crew, alloc, capture, scenarios, seed, folder, disk)
 }
 
-// Stores what each scenario answers. Workers make the table of the capture, range by range, and what is recorded of each connection. Then the
+// Stores what each scenario answers. The folder is held first, if there is one. Workers make the table of the capture, range by range, and what is recorded of each connection. Then the
 // capture's records are let go.
 fn store_outputs<R: Threads + Sync, D: Disk + Sync>(
     crew: &Workers<'_, R>,
@@ -68,11 +69,32 @@ where
         (TakesIn folder.old.folder (D.history disk.old) (D.history disk.new)) folder.old.failed folder.new.failed }
     ensures faults { D.faults disk.new ≡ D.faults disk.old + failed_stores folder.old.folder result }
 {
+    hold_for(alloc, scenarios, folder, disk)?;
     let table = crew.table(alloc, &capture)?;
     let heads = report_heads(alloc, &capture, &table, 0, scenarios.len())?;
     let recordings = crew.record(alloc, &capture, &table)?;
     let sources = Sources::of(alloc, capture, &heads, &recordings, scenarios, seed);
     store_each(crew, &sources, folder, disk)
+}
+
+// Holds the folder for the outputs of some scenarios; where there is none, it is not looked at.
+fn hold_for<D: Disk>(
+    alloc: Global,
+    scenarios: &[Scenario],
+    folder: &mut Folder<'_>,
+    disk: &mut D,
+) -> Result<(), StoreFault>
+    requires failures { folder.old.failed < 2 ^ 64 - 1 }
+    requires faults { D.faults disk.old < 2 ^ 64 - 1 }
+    ensures folder { folder.new.folder ≡ folder.old.folder }
+    ensures as_before { D.history disk.new ≡ D.history disk.old }
+    ensures faults { D.faults disk.new ≡ D.faults disk.old + disk_failures folder.old.folder result }
+    ensures holds { PutsAfter 0 (Unit {0}) (0 < length scenarios.now) folder.old.failed folder.new.failed result }
+{
+    if scenarios.is_empty() {
+        return Ok(());
+    }
+    folder.hold(alloc, disk)
 }
 
 // Stores the output of each scenario: drafts of some are made, given their names, and then those of the next.

@@ -60,18 +60,13 @@ returns-in_err-folder-clause-disk g c =
     let fault = err_from_is_err_and c.from_residual-in_err-folder.result c.from_residual-in_err-folder.ensures.1 in
     rw (fault.1, fault.2) (disk_unused c.names_leave_whole.ensures (Some c.args.folder) Memory _ (g.D.Disk.history c.args.disk.now) tt)
 
-pub returns-in_err-spare_inputs-clause-disk : goal.returns-in_err-spare_inputs-clause-disk
-returns-in_err-spare_inputs-clause-disk g c =
-    let fault = err_from_is_err_and c.from_residual-in_err-spare_inputs.result c.from_residual-in_err-spare_inputs.ensures.1 in
-    rw (fault.1, fault.2) (disk_unused c.names_leave_whole.ensures (Some c.args.folder) Memory _ (g.D.Disk.history c.args.disk.now) tt)
-
 pub returns-clause-disk : goal.returns-clause-disk
 returns-clause-disk g c =
     let taken = c.in_ok-inputs.ensures.taken c.args.options.now.seed in
     let wanted = answer c.in_ok-inputs.inputs.capture c.in_ok-inputs.inputs.scenarios.items c.args.options.now.seed in
     let old = g.D.Disk.history c.args.disk.now in
     let left = g.D.Disk.history c.store_rehearsal.new.disk in
-    let here : c.spare_inputs.new.folder.folder ≡ c.args.folder.now = search rules in
+    let here : c.in_ok-folder.folder.folder ≡ c.args.folder.now = search rules in
     let stored = rw (c.bytes.ensures, c.deref.ensures.value) at c.store_rehearsal.ensures.taken in
-    rw taken (disk_stored c.names_leave_whole.ensures c.args.folder c.store_rehearsal.result wanted old left c.spare_inputs.new.folder.failed c.store_rehearsal.new.folder.failed
-    (subst (λ f. TakenOf c.store_rehearsal.result wanted (TakesIn f old left) c.spare_inputs.new.folder.failed c.store_rehearsal.new.folder.failed) here stored))
+    rw taken (disk_stored c.names_leave_whole.ensures c.args.folder c.store_rehearsal.result wanted old left c.in_ok-folder.folder.failed c.store_rehearsal.new.folder.failed
+    (subst (λ f. TakenOf c.store_rehearsal.result wanted (TakesIn f old left) c.in_ok-folder.folder.failed c.store_rehearsal.new.folder.failed) here stored))

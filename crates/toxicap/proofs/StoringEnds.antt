@@ -25,6 +25,10 @@ pub nothing_taken : (folder : List ℕ) (had : Option History) → TakesIn folde
 nothing_taken folder None = tt
 nothing_taken folder (Some h) = ap (λ (names : List NamedFile). Some (record { first = h.first; names = names })) (sym (append-nil h.names))
 
+-- nor did it since, where the disk's history is the same
+pub still_none : (folder : List ℕ) (had now : Option History) → now ≡ had → TakesIn folder had now []
+still_none folder had now same = subst (λ h. TakesIn folder had h []) (sym same) (nothing_taken folder had)
+
 -- no byte was read
 pub none_consumed : (left : Option (List ℕ)) → Consumes left left []
 none_consumed None = tt
@@ -53,9 +57,16 @@ pub not_held : (folder : List ℕ) (outputs : List Output) (fault : StoreFault) 
     → PutsAfter 0 (Unit {0}) (0 < length outputs) old new (Err fault)
     → StoresOf (Err (run_fault_of_storing fault)) (Ok outputs) × TakenOf (Err (run_fault_of_storing fault)) (Ok outputs) (TakesIn folder had now) old new
 not_held folder outputs (store.ShelfFailed after) had now old new same puts =
-    rw puts.0 (some_files outputs puts.1, (subst (λ h. TakesIn folder had h []) (sym same) (nothing_taken folder had), puts.2))
+    rw puts.0 (some_files outputs puts.1, (still_none folder had now same, puts.2))
 not_held folder outputs (store.Memory after) had now old new same puts =
-    (refl, ((0, subst (λ h. TakesIn folder had h []) (sym same) (nothing_taken folder had)), puts.2))
+    (refl, ((0, still_none folder had now same), puts.2))
+
+-- what was taken since the folder was held
+pub held_taken : (result : Result (Unit {0}) RunFault) (wanted : Result (List Output) RunFault) (folder held : List ℕ) (had since now : Option History) (old between new : ℕ)
+    → held ≡ folder → since ≡ had → between ≡ old → TakenOf result wanted (TakesIn held since now) between new → TakenOf result wanted (TakesIn folder had now) old new
+held_taken result wanted folder held had since now old between new one same none taken =
+    subst (λ f. TakenOf result wanted (TakesIn f had now) old new) one
+    (subst (λ h. TakenOf result wanted (TakesIn held h now) old new) same (subst (λ n. TakenOf result wanted (TakesIn held since now) n new) none taken))
 
 module _ (hosts : List KnownHost) (texts : List (List ℕ)) (seed : ℕ) where
   -- how storing ends, by the text that was read

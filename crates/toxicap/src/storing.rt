@@ -45,36 +45,8 @@ where
     ensures faults { D.faults disk.new ≡ D.faults disk.old + failed_stores folder.old.folder result }
 {
     let capture = read_rehearsed(alloc, capture, scenarios)?;
-    store_outputs(crew, alloc, capture, scenarios, seed, folder, disk)
-}
-
-// Stores what each scenario answers. The folder is held first, if there is one. Workers make the table of the capture, range by range, and what is recorded of each connection. Then the
-// capture's records are let go.
-fn store_outputs<R: Threads + Sync, D: Disk + Sync>(
-    crew: &Workers<'_, R>,
-    alloc: Global,
-    capture: Capture<'_>,
-    scenarios: &[Scenario],
-    seed: u64,
-    folder: &mut Folder<'_>,
-    disk: &mut D,
-) -> Result<(), RunFault>
-where
-    D::Draft: Send,
-    requires few { length scenarios.now ≤ scenario_limit }
-    requires failures { folder.old.failed < 2 ^ 64 - 1 }
-    requires faults { D.faults disk.old < 2 ^ 64 - 1 }
-    ensures ends { StoresOf result (Ok (outputs_for capture.entry scenarios.now seed)) }
-    ensures taken { TakenOf result (Ok (outputs_for capture.entry scenarios.now seed))
-        (TakesIn folder.old.folder (D.history disk.old) (D.history disk.new)) folder.old.failed folder.new.failed }
-    ensures faults { D.faults disk.new ≡ D.faults disk.old + failed_stores folder.old.folder result }
-{
     hold_for(alloc, scenarios, folder, disk)?;
-    let table = crew.table(alloc, &capture)?;
-    let heads = report_heads(alloc, &capture, &table, 0, scenarios.len())?;
-    let recordings = crew.record(alloc, &capture, &table)?;
-    let sources = Sources::of(alloc, capture, &heads, &recordings, scenarios, seed);
-    store_each(crew, &sources, folder, disk)
+    store_outputs(crew, alloc, capture, scenarios, seed, folder, disk)
 }
 
 // Holds the folder for the outputs of some scenarios; where there is none, it is not looked at.
@@ -95,6 +67,34 @@ fn hold_for<D: Disk>(
         return Ok(());
     }
     folder.hold(alloc, disk)
+}
+
+// Stores what each scenario answers. Workers make the table of the capture, range by range, and what is recorded of each connection. Then the
+// capture's records are let go.
+fn store_outputs<R: Threads + Sync, D: Disk + Sync>(
+    crew: &Workers<'_, R>,
+    alloc: Global,
+    capture: Capture<'_>,
+    scenarios: &[Scenario],
+    seed: u64,
+    folder: &mut Folder<'_>,
+    disk: &mut D,
+) -> Result<(), RunFault>
+where
+    D::Draft: Send,
+    requires few { length scenarios.now ≤ scenario_limit }
+    requires failures { folder.old.failed < 2 ^ 64 - 1 }
+    requires faults { D.faults disk.old < 2 ^ 64 - 1 }
+    ensures ends { StoresOf result (Ok (outputs_for capture.entry scenarios.now seed)) }
+    ensures taken { TakenOf result (Ok (outputs_for capture.entry scenarios.now seed))
+        (TakesIn folder.old.folder (D.history disk.old) (D.history disk.new)) folder.old.failed folder.new.failed }
+    ensures faults { D.faults disk.new ≡ D.faults disk.old + failed_stores folder.old.folder result }
+{
+    let table = crew.table(alloc, &capture)?;
+    let heads = report_heads(alloc, &capture, &table, 0, scenarios.len())?;
+    let recordings = crew.record(alloc, &capture, &table)?;
+    let sources = Sources::of(alloc, capture, &heads, &recordings, scenarios, seed);
+    store_each(crew, &sources, folder, disk)
 }
 
 // Stores the output of each scenario: drafts of some are made, given their names, and then those of the next.

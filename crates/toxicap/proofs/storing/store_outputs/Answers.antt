@@ -1,16 +1,7 @@
-use Rattle.std.proofs.Common.{refl, subst, sym}
+use Rattle.std.proofs.Common.{refl}
 use Rattle.std.proofs.lemmas.Result.{err_from_is_err_and}
-use Rattle.run_files.specs.WrittenOutputs.{PutsAfter}
-use Rattle.toxicap.proofs.OutputSteps.{as_many_for}
-use Rattle.toxicap.proofs.StoringEnds.{not_held, nothing_taken, stopped_faults}
+use Rattle.toxicap.proofs.StoringEnds.{nothing_taken}
 use Rattle.toxicap.proofs.storing.store_outputs.Goals as goal
-
--- the folder could not be held
-pub returns-in_err-hold_for-clause-ends : goal.returns-in_err-hold_for-clause-ends
-returns-in_err-hold_for-clause-ends g c = ?
-
-pub returns-in_err-hold_for-clause-taken : goal.returns-in_err-hold_for-clause-taken
-returns-in_err-hold_for-clause-taken g c = ?
 
 pub returns-in_err-heads-clause-taken : goal.returns-in_err-heads-clause-taken
 returns-in_err-heads-clause-taken g c =

@@ -1,12 +1,14 @@
-//! Drafts of outputs: on a disk in memory, which fails or has little room, and in folders of the host's.
+//! Drafts of outputs: on a disk in memory, which fails or has little room, and in folders of the host's, which one run holds.
 ghost use Rattle.std.specs.Prelude.{◌≡◌, ◌-◌, ◌<◌, ◌^◌};
 
-use super::shelves::{check_files, files_in};
 use std::alloc::{AllocError, AllocGlobal, Global};
-use std::fs;
+use std::fs::{self, Metadata};
+use std::os::unix::fs::{MetadataExt, symlink};
 use std::process::Abort;
+use std::rt::Files;
 use toxicap::{
-    Disk, DraftedOutput, Folder, HostDisk, MemoryDisk, ShelfError, StoreFault, store_draft,
+    Disk, DiskFault, DraftedOutput, FileId, Folder, HostDisk, Lockable, MemoryDisk, ReadFiles,
+    ShelfError, StoreFault, store_draft,
 };
 
 // The files of two outputs with the numbers 7 and 8, in the order in which they are stored.
@@ -16,6 +18,43 @@ const FILES: [(&str, &[u8]); 4] = [
     ("0008.pcap", b""),
     ("0008.txt", b"\x00\xff\r\n\x80"),
 ];
+
+// The folder at a path, for a run that has read no file.
+fn folder_at<'a>(rt: &(impl Abort + AllocGlobal), path: &'a str) -> Folder<'a>
+    ensures { result.failed ≡ 0 }
+{
+    Folder::new(rt.alloc(), path, ReadFiles::new(rt.alloc())).expect(rt, "memory")
+}
+
+// Whether a folder has a file of this name with these bytes.
+fn has_file(
+    rt: &(impl Abort + AllocGlobal + Files),
+    path: &str,
+    (name, bytes): (&str, &[u8]),
+) -> bool {
+    let file = format!(in rt.alloc(); "{path}/{name}").expect(rt, "memory");
+    match fs::read(rt, file.as_str()) {
+        Ok(found) => found.as_slice() == bytes,
+        Err(_) => false,
+    }
+}
+
+// A folder has these four files, and no other.
+fn check_files(
+    rt: &(impl Abort + AllocGlobal + Files + Clone),
+    path: &str,
+    [a, b, c, d]: [(&str, &[u8]); 4],
+) {
+    let captures = has_file(rt, path, a) && has_file(rt, path, c);
+    let reports = has_file(rt, path, b) && has_file(rt, path, d);
+    let many = files_in(rt, path);
+    assert!(rt; captures && reports && many == 4, "{path}");
+}
+
+// How many files a folder has.
+fn files_in(rt: &(impl Abort + AllocGlobal + Files + Clone), path: &str) -> usize {
+    fs::read_dir(rt, path).expect(rt, "a folder").count()
+}
 
 // A draft with these bytes.
 fn draft_with<D: Disk>(
@@ -81,7 +120,7 @@ fn has_first(alloc: Global, disk: &MemoryDisk, many: usize) -> Result<bool, Allo
 fn are_stored(rt: &(impl Abort + AllocGlobal), mut disk: MemoryDisk, many: u64) -> bool
     requires { disk.failed ≡ 0 }
 {
-    let mut folder = Folder::new(rt.alloc(), "drafts").expect(rt, "memory");
+    let mut folder = folder_at(rt, "drafts");
     let drafts = two_drafts(rt.alloc(), &folder, &disk).expect(rt, "memory");
     let stored = store_both(rt.alloc(), drafts, &mut folder, &mut disk);
     let wanted = match many {
@@ -138,7 +177,7 @@ fn drafts_of_little_room(rt: HostRuntime) {
 fn a_draft_that_has_failed(rt: HostRuntime) {
     let mut disk = MemoryDisk::new(rt.alloc());
     disk.limit_drafts(12);
-    let mut folder = Folder::new(rt.alloc(), "drafts").expect(&rt, "memory");
+    let mut folder = folder_at(&rt, "drafts");
     let failing = draft_with(rt.alloc(), &folder, &disk, 0, FILES[0].1);
     let mut draft = failing.expect(&rt, "memory");
     MemoryDisk::append(&mut draft, FILES[3].1);
@@ -147,16 +186,16 @@ fn a_draft_that_has_failed(rt: HostRuntime) {
     assert!(rt; refused && none && disk.failed() == 1 && folder.failed() == 1);
 }
 
-// Two drafts in a folder become its files, in place of older ones; drafts that are let go leave nothing.
+// Two drafts in a folder become its files, in place of older ones; drafts that are dropped leave nothing.
 #[test]
 fn a_folder_by_drafts(rt: HostRuntime) {
     fs::create_dir(&rt, "drafts").expect(&rt, "a folder");
     fs::write(&rt, "drafts/0008.txt", "an older file").expect(&rt, "a file");
     let mut disk = HostDisk::new(&rt);
-    let mut folder = Folder::new(rt.alloc(), "drafts").expect(&rt, "memory");
-    let let_go = two_drafts(rt.alloc(), &folder, &disk).expect(&rt, "memory");
+    let mut folder = folder_at(&rt, "drafts");
+    let dropped = two_drafts(rt.alloc(), &folder, &disk).expect(&rt, "memory");
     let begun = files_in(&rt, "drafts");
-    drop(let_go);
+    drop(dropped);
     let left = files_in(&rt, "drafts");
     assert!(rt; begun == 5 && left == 1, "{begun} {left}");
     let drafts = two_drafts(rt.alloc(), &folder, &disk).expect(&rt, "memory");
@@ -170,9 +209,156 @@ fn a_folder_by_drafts(rt: HostRuntime) {
 #[test]
 fn no_folder_by_drafts(rt: HostRuntime) {
     let mut disk = HostDisk::new(&rt);
-    let mut folder = Folder::new(rt.alloc(), "nowhere").expect(&rt, "memory");
+    let mut folder = folder_at(&rt, "nowhere");
     let drafts = two_drafts(rt.alloc(), &folder, &disk).expect(&rt, "memory");
     let stored = store_both(rt.alloc(), drafts, &mut folder, &mut disk);
     let refused = stored == Err(StoreFault::ShelfFailed { after: 14 });
     assert!(rt; refused && folder.failed() == 1);
+}
+
+// How a folder takes a file of this name with these bytes, written in place 0.
+fn put_in<D: Disk>(
+    rt: &(impl Abort + AllocGlobal),
+    folder: &mut Folder<'_>,
+    disk: &mut D,
+    name: &str,
+    bytes: &[u8],
+) -> Result<(), ShelfError>
+    requires failures { folder.old.failed < 2 ^ 64 - 1 }
+    requires faults { D.faults disk.old < 2 ^ 64 - 1 }
+{
+    let draft = draft_with(rt.alloc(), folder, disk, 0, bytes).expect(rt, "memory");
+    folder.take(disk, name, draft)
+}
+
+// No file in the folder of this path can have this name.
+fn check_no_name(rt: &(impl Abort + AllocGlobal + Files), path: &str, name: &str) {
+    let mut folder = folder_at(rt, path);
+    let mut disk = MemoryDisk::new(rt.alloc());
+    let refused = put_in(rt, &mut folder, &mut disk, name, b"") == Err(ShelfError);
+    assert!(rt; refused && folder.failed() == 1, "{name:?}");
+}
+
+#[test]
+fn names_that_a_folder_refuses(rt: HostRuntime) {
+    let long =
+        "toxicap-name-toxicap-name-toxicap-name-toxicap-name-toxicap-name-toxicap-name-toxicap-name-toxicap-name-toxicap-name-toxicap-name-toxicap-name-toxicap-name-toxicap-name-toxicap-name-toxicap-name-toxicap-name-toxicap-name-toxicap-name-toxicap-name-toxicap-name-";
+    check_no_name(&rt, ".", "../toxicap-name");
+    check_no_name(&rt, ".", long);
+    check_no_name(&rt, ".", "toxicap.unfinished");
+    check_no_name(&rt, ".", "toxicap.unfinished-name");
+    check_no_name(&rt, "", "toxicap-name");
+}
+
+// Names that a folder allows and the host's disk refuses.
+fn check_no_file<R: Abort + AllocGlobal + Files>(rt: &R, name: &str)
+where
+    R::File: Lockable,
+{
+    let mut folder = folder_at(rt, ".");
+    let mut disk = HostDisk::new(rt);
+    let refused = put_in(rt, &mut folder, &mut disk, name, b"") == Err(ShelfError);
+    assert!(rt; refused && folder.failed() == 1, "{name:?}");
+}
+
+#[test]
+fn names_that_a_disk_refuses(rt: HostRuntime) {
+    check_no_file(&rt, "");
+    check_no_file(&rt, ".");
+    check_no_file(&rt, "..");
+    check_no_file(&rt, "toxicap\0name");
+}
+
+// How the folder `spared` takes a file of this name from a run that has read the file at a path.
+fn put_after_reading<R: Abort + AllocGlobal + Files>(
+    rt: &R,
+    path: &str,
+    name: &str,
+) -> Result<(), ShelfError>
+where
+    R::File: Lockable,
+{
+    let mut disk = HostDisk::new(rt);
+    let mut read = ReadFiles::new(rt.alloc());
+    if let Ok(metadata) = fs::metadata(rt, path) {
+        read.add(Ok(Some(id_of(&metadata)))).expect(rt, "memory");
+    }
+    let mut folder = Folder::new(rt.alloc(), "spared", read).expect(rt, "memory");
+    put_in(rt, &mut folder, &mut disk, name, b"1")
+}
+
+// What sets a file apart, by its metadata.
+fn id_of(metadata: &Metadata) -> FileId {
+    FileId {
+        device: metadata.dev(),
+        inode: metadata.ino(),
+    }
+}
+
+// What the run has read stays, under its name and through a link.
+#[test]
+fn a_folder_spares_what_was_read(rt: HostRuntime) {
+    fs::create_dir(&rt, "spared").expect(&rt, "a folder");
+    fs::write(&rt, "spared/input", "as recorded").expect(&rt, "a file");
+    symlink(&rt, "input", "spared/link").expect(&rt, "a link");
+    let refused = put_after_reading(&rt, "./spared/link", "input") == Err(ShelfError);
+    let followed = put_after_reading(&rt, "spared/input", "link") == Err(ShelfError);
+    let other = put_after_reading(&rt, "spared/input", "nowhere") == Ok(());
+    let stays = has_file(&rt, "spared", ("input", b"as recorded"));
+    assert!(rt; refused && followed && other && stays);
+    fs::remove_dir_all(&rt, "spared").expect(&rt, "removed");
+}
+
+// How the folder at a path is held.
+fn held<D: Disk>(
+    rt: &(impl Abort + AllocGlobal),
+    path: &str,
+    disk: &mut D,
+) -> Result<(), StoreFault>
+    requires { D.faults disk.old < 2 ^ 64 - 1 }
+{
+    folder_at(rt, path).hold(rt.alloc(), disk)
+}
+
+// One run at once holds a folder, and removes what others have left there.
+#[test]
+fn a_folder_is_held_by_one(rt: HostRuntime) {
+    let refused = Err(StoreFault::ShelfFailed { after: 0 });
+    let nowhere = held(&rt, "held", &mut HostDisk::new(&rt)) == refused;
+    fs::create_dir(&rt, "held").expect(&rt, "a folder");
+    fs::write(&rt, "held/toxicap.unfinished-7", "left").expect(&rt, "a file");
+    fs::write(&rt, "held/toxicap.unfinished-x", "a user's").expect(&rt, "a file");
+    let mut first = HostDisk::new(&rt);
+    let once = held(&rt, "held", &mut first) == Ok(()) && files_in(&rt, "held") == 1;
+    let not_twice = held(&rt, "held", &mut HostDisk::new(&rt)) == refused;
+    drop(first);
+    let again = held(&rt, "held", &mut HostDisk::new(&rt)) == Ok(());
+    assert!(rt; nowhere && once && not_twice && again);
+    fs::remove_dir_all(&rt, "held").expect(&rt, "removed");
+}
+
+// A folder is not held where not all is known that was read, nor where it has no path.
+#[test]
+fn a_folder_that_is_not_held(rt: HostRuntime) {
+    let refused = Err(StoreFault::ShelfFailed { after: 0 });
+    let mut disk = MemoryDisk::new(rt.alloc());
+    let mut read = ReadFiles::new(rt.alloc());
+    read.add(Err(DiskFault::Failed)).expect(&rt, "memory");
+    let mut folder = Folder::new(rt.alloc(), "drafts", read).expect(&rt, "memory");
+    let unknown = folder.hold(rt.alloc(), &mut disk) == refused && disk.failed() == 1;
+    let no_path = held(&rt, "", &mut MemoryDisk::new(rt.alloc())) == refused;
+    let known = held(&rt, "drafts", &mut MemoryDisk::new(rt.alloc())) == Ok(());
+    assert!(rt; unknown && no_path && known);
+}
+
+// A draft takes no path where a file stands.
+#[test]
+fn a_path_that_is_taken(rt: HostRuntime) {
+    let path = "drafts/toxicap.unfinished-0";
+    let mut disk = MemoryDisk::new(rt.alloc());
+    disk.put_first(path, b"recorded", 0).expect(&rt, "memory");
+    let mut folder = folder_at(&rt, "drafts");
+    let refused = put_in(&rt, &mut folder, &mut disk, "0000.pcap", b"1") == Err(ShelfError);
+    let stays = disk.bytes(path) == Some(b"recorded".as_slice());
+    assert!(rt; refused && stays && disk.bytes("drafts/0000.pcap").is_none());
 }

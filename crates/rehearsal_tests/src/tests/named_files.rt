@@ -8,7 +8,9 @@ use std::io::Read;
 use std::process::Abort;
 use std::sync::Wait;
 use std::thread::Threads;
-use toxicap::{Counted, Disk, DiskFault, DiskFile, FileId, MemoryDisk, ReadDisk, command_over};
+use toxicap::{
+    Counted, Disk, DiskFault, DiskFile, FileId, MemoryDisk, ReadDisk, ReadFiles, command_over,
+};
 use worked_sessions::sessions::PLAIN_SESSION;
 
 // A proxy for the host `web` that holds the client's bytes for 100 ms.
@@ -137,13 +139,21 @@ impl Disk for Faulty {
 
     ghost path_of = { λ path. string_bytes path };
 
+    fn hold(&mut self, _folder: &str, _read: &ReadFiles) -> Result<(), DiskFault> {
+        Ok(())
+    }
+
+    fn sweep(&self, _alloc: Global, _folder: &str, _read: &ReadFiles) -> Result<(), AllocError> {
+        Ok(())
+    }
+
     fn draft(&self, path: String) -> String {
         path
     }
 
     fn append(_draft: &mut String, _bytes: &[u8]) {}
 
-    fn allow_name(&mut self, _path: &str, _spared: &[FileId]) -> Result<(), DiskFault> {
+    fn allow_name(&mut self, _path: &str, _read: &ReadFiles) -> Result<(), DiskFault> {
         Ok(())
     }
 
@@ -151,8 +161,8 @@ impl Disk for Faulty {
         Ok(())
     }
 
-    fn file_id(&self, _path: &str) -> Option<FileId> {
-        None
+    fn input_id(&self) -> Result<Option<FileId>, DiskFault> {
+        Ok(None)
     }
 }
 
@@ -182,6 +192,10 @@ impl DiskFile for FaultyFile {
     ghost told = { λ _. None };
 
     ghost place = { λ _. 0 };
+
+    fn id(&self) -> Result<Option<FileId>, DiskFault> {
+        Ok(None)
+    }
 
     fn len(&self) -> Option<u64> {
         None

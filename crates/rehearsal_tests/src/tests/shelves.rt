@@ -1,14 +1,11 @@
-//! The files of a rehearsal on shelves: one that fails, one in memory, and folders.
+//! The files of a rehearsal on shelves: one that fails, and one in memory.
 ghost use Rattle.std.specs.Prelude.{◌≡◌, ◌≤◌};
 
 use std::alloc::{AllocError, AllocGlobal, Global};
-use std::fs;
-use std::os::unix::fs::symlink;
 use std::process::Abort;
-use std::rt::Files;
 use toxicap::{
-    Disk, FolderShelf, HostDisk, MemoryDisk, MemoryFile, MemoryShelf, Output, Outputs, RunFault,
-    Shelf, ShelfError, StoreFault, Values, store_all,
+    MemoryFile, MemoryShelf, Output, Outputs, RunFault, Shelf, ShelfError, StoreFault, Values,
+    store_all,
 };
 
 // The files of two outputs, in the order in which they are stored.
@@ -142,126 +139,4 @@ fn a_shelf_in_memory(rt: HostRuntime) {
     let second = shelf.put("one", b"\x00") == Ok(());
     let good = are_files(shelf.files(), &[("one", b"1"), ("one", b"\x00")]);
     assert!(rt; first && second && good && shelf.failed() == 0);
-}
-
-// The folder `files` of a disk takes two outputs, or fails at once and counts that.
-fn check_store<R: Abort + AllocGlobal, D: Disk + Drop>(
-    rt: &R,
-    disk: D,
-    wanted: Result<(), StoreFault>,
-) -> D
-    requires { D.faults disk ≡ 0 }
-{
-    let outputs = two_outputs(rt.alloc()).expect(rt, "memory");
-    let mut folder = FolderShelf::new(rt.alloc(), disk, "files").expect(rt, "memory");
-    let stored = store_all(rt.alloc(), &outputs, &mut folder);
-    let good = stored == wanted && folder.failed() == u64::from(wanted.is_err());
-    assert!(rt; good, "{wanted:?}");
-    folder.into_disk()
-}
-
-// Whether a folder has a file of this name with these bytes.
-pub(super) fn has_file(
-    rt: &(impl Abort + AllocGlobal + Files),
-    path: &str,
-    (name, bytes): (&str, &[u8]),
-) -> bool {
-    let file = format!(in rt.alloc(); "{path}/{name}").expect(rt, "memory");
-    match fs::read(rt, file.as_str()) {
-        Ok(found) => found.as_slice() == bytes,
-        Err(_) => false,
-    }
-}
-
-// A folder has these four files, and no other.
-pub(super) fn check_files(
-    rt: &(impl Abort + AllocGlobal + Files + Clone),
-    path: &str,
-    [a, b, c, d]: [(&str, &[u8]); 4],
-) {
-    let captures = has_file(rt, path, a) && has_file(rt, path, c);
-    let reports = has_file(rt, path, b) && has_file(rt, path, d);
-    let many = files_in(rt, path);
-    assert!(rt; captures && reports && many == 4, "{path}");
-}
-
-// How many files a folder has.
-pub(super) fn files_in(rt: &(impl Abort + AllocGlobal + Files + Clone), path: &str) -> usize {
-    fs::read_dir(rt, path).expect(rt, "a folder").count()
-}
-
-// A folder with an older file in it.
-fn make_folder(rt: &(impl Abort + AllocGlobal + Files), path: &str) {
-    let older = format!(in rt.alloc(); "{path}/0001.txt").expect(rt, "memory");
-    fs::create_dir(rt, path).expect(rt, "a folder");
-    fs::write(rt, older.as_str(), "an older file, which is replaced").expect(rt, "a file");
-}
-
-// While the folder is not there, no file can be made; an older file is replaced.
-#[test]
-fn a_folder(rt: HostRuntime) {
-    let refused = Err(StoreFault::ShelfFailed { after: 0 });
-    check_store(&rt, HostDisk::new(&rt), refused);
-    make_folder(&rt, "files");
-    check_store(&rt, HostDisk::new(&rt), Ok(()));
-    check_files(&rt, "files", FILES);
-    fs::remove_dir_all(&rt, "files").expect(&rt, "removed");
-}
-
-// Whether a disk has this file of the folder `files`.
-fn has_bytes(alloc: Global, disk: &MemoryDisk, (name, bytes): (&str, &[u8])) -> bool {
-    match format!(in alloc; "files/{name}") {
-        Ok(path) => disk.bytes(&path) == Some(bytes),
-        Err(_) => false,
-    }
-}
-
-#[test]
-fn a_folder_in_memory(rt: HostRuntime) {
-    let disk = check_store(&rt, MemoryDisk::new(rt.alloc()), Ok(()));
-    let [a, b, c, d] = FILES;
-    let captures = has_bytes(rt.alloc(), &disk, a) && has_bytes(rt.alloc(), &disk, c);
-    let reports = has_bytes(rt.alloc(), &disk, b) && has_bytes(rt.alloc(), &disk, d);
-    assert!(rt; captures && reports && disk.failed() == 0);
-}
-
-// No file in the folder of this path can have this name.
-fn check_no_name(rt: &(impl Abort + AllocGlobal + Files), path: &str, name: &str) {
-    let mut folder = FolderShelf::new(rt.alloc(), HostDisk::new(rt), path).expect(rt, "memory");
-    let refused = folder.put(name, b"") == Err(ShelfError);
-    assert!(rt; refused && folder.failed() == 1, "{name:?}");
-}
-
-#[test]
-fn names_that_a_folder_refuses(rt: HostRuntime) {
-    let long =
-        "toxicap-name-toxicap-name-toxicap-name-toxicap-name-toxicap-name-toxicap-name-toxicap-name-toxicap-name-toxicap-name-toxicap-name-toxicap-name-toxicap-name-toxicap-name-toxicap-name-toxicap-name-toxicap-name-toxicap-name-toxicap-name-toxicap-name-toxicap-name-";
-    check_no_name(&rt, ".", "");
-    check_no_name(&rt, ".", ".");
-    check_no_name(&rt, ".", "..");
-    check_no_name(&rt, ".", "../toxicap-name");
-    check_no_name(&rt, ".", "toxicap\0name");
-    check_no_name(&rt, ".", long);
-    check_no_name(&rt, ".", "toxicap.unfinished");
-    check_no_name(&rt, ".", "toxicap.unfinished-name");
-    check_no_name(&rt, "", "toxicap-name");
-}
-
-// A spared file stays, under its name and through a link; a file that is not there spares nothing.
-#[test]
-fn a_folder_spares_a_file(rt: HostRuntime) {
-    fs::create_dir(&rt, "spared").expect(&rt, "a folder");
-    fs::write(&rt, "spared/input", "as recorded").expect(&rt, "a file");
-    symlink(&rt, "input", "spared/link").expect(&rt, "a link");
-    let mut folder = FolderShelf::new(rt.alloc(), HostDisk::new(&rt), "spared").expect(
-        &rt, "memory",
-    );
-    folder.spare("spared/nowhere").expect(&rt, "memory");
-    folder.spare("./spared/link").expect(&rt, "memory");
-    let refused = folder.put("input", b"1") == Err(ShelfError);
-    let followed = folder.put("link", b"2") == Err(ShelfError);
-    let others = folder.put("nowhere", b"3") == Ok(()) && folder.failed() == 2;
-    let stays = has_file(&rt, "spared", ("input", b"as recorded"));
-    assert!(rt; refused && followed && others && stays);
-    fs::remove_dir_all(&rt, "spared").expect(&rt, "removed");
 }

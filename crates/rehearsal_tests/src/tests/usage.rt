@@ -9,7 +9,7 @@ use std::process::Abort;
 use std::rt::Files;
 use std::sync::Wait;
 use std::thread::Threads;
-use toxicap::{Counted, command, refuse_words};
+use toxicap::{Counted, Lockable, command, refuse_words};
 
 // The program ends with this status, and has written and told these texts, of words and a text as its standard input, which it reads
 // none of where the words are at fault.
@@ -20,7 +20,7 @@ fn check<H: Abort + AllocGlobal + Files + Threads + Wait + Sync>(
     (status, written, told): (u8, &str, &str),
 )
 where
-    H::File: FileExt + Send + Sync,
+    H::File: FileExt + Lockable + Send + Sync,
     H::Dir: Send,
 {
     let mut input = Counted::new(text);
@@ -62,7 +62,7 @@ fn check_failing<H: Abort + AllocGlobal + Files + Threads + Wait + Sync>(
     (status, written, told, failed): (u8, usize, &str, u64),
 )
 where
-    H::File: FileExt + Send + Sync,
+    H::File: FileExt + Lockable + Send + Sync,
     H::Dir: Send,
 {
     let mut input = Counted::new(Pieces {

@@ -85,8 +85,8 @@ fn whole_runs(rt: HostRuntime) {
     check_whole(&rt, &SHOP_BY_THREE, None);
 }
 
-// A run over a disk that fails once, after so many calls, stores the files for which both calls went well; another run of the same words
-// then stores all.
+// A run over a disk that fails once, after this number of calls, stores the files for which both calls went well; the first call holds the
+// folder. Another run of the same words then stores all.
 fn check_failing(
     rt: &(impl Abort + AllocGlobal + Threads + Wait + Sync),
     files: &[MemoryFile],
@@ -95,7 +95,7 @@ fn check_failing(
 ) {
     let mut disk = disk_before(rt.alloc()).expect(rt, "memory");
     disk.fail_after(calls);
-    let many = calls / 2;
+    let many = calls.saturating_sub(1) / 2;
     let told = format!(in rt.alloc(); "refused 60 ShelfFailed after {many}\n");
     check_over(rt, &mut disk, words, (1, "", &told.expect(rt, "memory")));
     let part = has_first(rt.alloc(), &disk, files, many as usize) == Ok(true);
@@ -108,10 +108,10 @@ fn check_failing(
     );
 }
 
-// Each call of a run fails in turn: two for each file.
+// Each call of a run fails in turn: one for the folder, and two for each file.
 fn check_each(rt: &(impl Abort + AllocGlobal + Threads + Wait + Sync), run: &Run<'_>) {
     let files = files_of(rt, run).expect(rt, "memory");
-    for calls in 0..2 * files.len() as u64 {
+    for calls in 0..=2 * files.len() as u64 {
         check_failing(rt, &files, run.words, calls);
     }
 }

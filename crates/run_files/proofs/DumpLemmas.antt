@@ -1,105 +1,102 @@
--- The digits of some bytes, with blanks anywhere between them, are a dump of these bytes.
-use Rattle.std.proofs.Common.{◌≡◌, ◌+◌, ◌*◌, ◌/◌, ◌%◌, ◌<◌, Bool, true, false, not, ◌||◌, ℕ, suc, List, [], ◌∷◌, length, filter, Option, Some, None, Ok, refl, sym, ap, ◌∙◌, arith}
-use Rattle.std.specs.Prelude.{is_some, cond, count_by, position}
-use Rattle.std.specs.List.{filter_map, cons_option, list_all, position_from}
+-- A text is a dump of the bytes that hex decodes of it without its blanks.
+use Rattle.std.proofs.Common.{◌≡◌, ◌+◌, ◌*◌, Bool, true, false, not, ◌||◌, ℕ, List, [], ◌∷◌, ◌++◌, length, filter, slice_index, Option, Some, None, Result, Ok, Err, refl, ap, ◌∙◌, arith, length-append}
+use Rattle.std.specs.Prelude.{cond, count_by, position, MatchResult}
+use Rattle.std.specs.List.{list_all, position_from}
+use Rattle.std.specs.Result.{result_unwrap_or}
 use Rattle.std.proofs.lemmas.Bool.{and_parts}
-use Rattle.std.proofs.lemmas.List.Sums.{sum_by-cons}
+use Rattle.std.proofs.lemmas.List.{append-nil}
+use Rattle.std.proofs.lemmas.List.Sums.{sum_by-cons, list_all-from_AllPass}
 use Rattle.std.proofs.lemmas.Iterator.Adapters.{position_from-zero}
-use Rattle.hex.specs.Hex.{IsBytes, encode_with, hex_digit_value, is_hex_digit}
-use Rattle.hex.proofs.HexLemmas.{IsDigits}
-use Rattle.run_files.specs.Dumps.{is_blank, is_foreign, joined_pairs, dumped_bytes, dump_reading, without_blanks}
+use Rattle.hex.specs.Hex.{decode_of, decode_pairs, digit_or_error, hex_digit_value, is_hex_digit, pair_value, ◌>>=◌}
+use Rattle.hex.specs.declared.error.FromHexError.{FromHexError}
+use Rattle.hex.proofs.HexLemmas.{decode_of-even, decode_of-ok, decode_pairs-ok}
+use Rattle.hex.proofs.Pairs.{decode_pairs-ok_pair, decode_start, prepend, prepend-cons_byte}
+use Rattle.run_files.specs.Dumps.{is_blank, is_foreign, dumped_bytes, dump_reading, without_blanks}
 
 -- a blank is no digit
-blank_value : (b : ℕ) → is_blank b ≡ true → hex_digit_value b ≡ None
-blank_value b h = grind arith
+blank_digit : (b : ℕ) → is_blank b ≡ true → is_hex_digit b ≡ false
+blank_digit b h = grind arith
 
--- ---- over any test for blanks and any values of digits
+-- ---- over any tests for blanks and digits
 
-module _ (blank : ℕ → Bool) (value : ℕ → Option ℕ) where
+module _ (blank digit : ℕ → Bool) where
   -- the bytes of a text that are no blanks
   abbrev kept : List ℕ → List ℕ
   kept text = filter (λ b. not (blank b)) text
 
-  -- the values of a text are those of its bytes that are no blanks
-  values-kept : ((b : ℕ) → blank b ≡ true → value b ≡ None) → (text : List ℕ) → filter_map value (kept text) ≡ filter_map value text
-  values-kept none [] = refl
-  values-kept none (b ∷ rest) = by_test (blank b) (none b) (values-kept none rest)
-    where
-      by_test : (is_blank : Bool) → (is_blank ≡ true → value b ≡ None) → filter_map value (kept rest) ≡ filter_map value rest
-          → filter_map value (cond (not is_blank) (b ∷ kept rest) (kept rest)) ≡ cons_option (value b) (filter_map value rest)
-      by_test true no_value ih = rw (no_value refl) ih
-      by_test false no_value ih = ap (cons_option (value b)) ih
-
   -- a text whose bytes that are no blanks are digits has no other byte
-  none_foreign : (i : ℕ) (text : List ℕ) → list_all (λ b. is_some (value b)) (kept text) ≡ true
-      → position_from (λ b. not (blank b || is_some (value b))) i text ≡ None
+  none_foreign : (i : ℕ) (text : List ℕ) → list_all digit (kept text) ≡ true → position_from (λ b. not (blank b || digit b)) i text ≡ None
   none_foreign i [] h = refl
   none_foreign i (b ∷ rest) h = by_test (blank b) (none_foreign (i + 1) rest) h
     where
-      by_test : (is_blank : Bool)
-          → (list_all (λ b. is_some (value b)) (kept rest) ≡ true → position_from (λ b. not (blank b || is_some (value b))) (i + 1) rest ≡ None)
-          → list_all (λ b. is_some (value b)) (cond (not is_blank) (b ∷ kept rest) (kept rest)) ≡ true
-          → cond (not (is_blank || is_some (value b))) (Some i) (position_from (λ b. not (blank b || is_some (value b))) (i + 1) rest) ≡ None
+      by_test : (is_blank : Bool) → (list_all digit (kept rest) ≡ true → position_from (λ b. not (blank b || digit b)) (i + 1) rest ≡ None)
+          → list_all digit (cond (not is_blank) (b ∷ kept rest) (kept rest)) ≡ true
+          → cond (not (is_blank || digit b)) (Some i) (position_from (λ b. not (blank b || digit b)) (i + 1) rest) ≡ None
       by_test true ih h = ih h
-      by_test false ih h = let parts = and_parts (is_some (value b)) _ h in rw parts.0 (ih parts.1)
+      by_test false ih h = let parts = and_parts (digit b) _ h in rw parts.0 (ih parts.1)
 
--- as many bytes are digits as there are values
-count_by-values : (value : ℕ → Option ℕ) (text : List ℕ) → count_by (λ b. is_some (value b)) text ≡ length (filter_map value text)
-count_by-values value [] = refl
-count_by-values value (b ∷ rest) = sum_by-cons (λ b. cond (is_some (value b)) 1 0) b rest ∙ by_value (value b) (count_by-values value rest)
+  -- its digits are as many as its bytes that are no blanks
+  count_kept : ((b : ℕ) → blank b ≡ true → digit b ≡ false) → (text : List ℕ) → list_all digit (kept text) ≡ true
+      → count_by digit text ≡ length (kept text)
+  count_kept none [] h = refl
+  count_kept none (b ∷ rest) h = sum_by-cons (λ b. cond (digit b) 1 0) b rest ∙ by_test (blank b) (none b) (count_kept none rest) h
+    where
+      by_test : (is_blank : Bool) → (is_blank ≡ true → digit b ≡ false) → (list_all digit (kept rest) ≡ true → count_by digit rest ≡ length (kept rest))
+          → list_all digit (cond (not is_blank) (b ∷ kept rest) (kept rest)) ≡ true
+          → cond (digit b) 1 0 + count_by digit rest ≡ length (cond (not is_blank) (b ∷ kept rest) (kept rest))
+      by_test true no_digit ih h = let e = ih h in rw (no_digit refl) (omega arith)
+      by_test false no_digit ih h = let parts = and_parts (digit b) _ h in let e = ih parts.1 in rw parts.0 (omega arith)
+
+-- ---- what hex decodes, a pair at a time
+
+-- what decoding a pair into room for its byte says of the pair's value
+pub byte_told : (value : Result ℕ FromHexError) (answer : Result Unit FromHexError) (out : List ℕ)
+    → MatchResult (value >>= (λ byte. Ok (byte ∷ []))) (λ bytes. (answer ≡ Ok tt) × (out ≡ bytes)) (λ e. answer ≡ Err e)
+    → MatchResult answer (λ _. Ok (slice_index out 0) ≡ value) (λ e. Err e ≡ value)
+byte_told (Ok v) answer out h = rw h.0 (ap (λ (bytes : List ℕ). Ok (slice_index bytes 0)) h.1)
+byte_told (Err e) answer out h = rw h refl
+
+-- a pair has the same value wherever it stands
+pair_anywhere : (a b i v : ℕ) → pair_value a b 0 ≡ Ok v → pair_value a b i ≡ Ok v
+pair_anywhere a b i v h = by (hex_digit_value a) (hex_digit_value b) h
   where
-    by_value : (o : Option ℕ) → count_by (λ b. is_some (value b)) rest ≡ length (filter_map value rest)
-        → cond (is_some o) 1 0 + count_by (λ b. is_some (value b)) rest ≡ length (cons_option o (filter_map value rest))
-    by_value None ih = omega arith
-    by_value (Some v) ih = omega arith
+    by : (x y : Option ℕ) → (digit_or_error a 0 x >>= (λ high. digit_or_error b (0 + 1) y >>= (λ low. Ok (high * 16 + low)))) ≡ Ok v
+        → (digit_or_error a i x >>= (λ high. digit_or_error b (i + 1) y >>= (λ low. Ok (high * 16 + low)))) ≡ Ok v
+    by (Some x) (Some y) h = h
+    by (Some x) None h = cc h
+    by None y h = cc h
 
--- ---- the digits of some bytes
+pub decoded_none : (s bytes : List ℕ) → bytes ≡ [] → decode_pairs 0 s ≡ prepend bytes (decode_pairs (2 * length bytes) s)
+decoded_none s bytes none = rw none (decode_start s [])
 
--- the bytes after the first
-IsBytes-tail : (b : ℕ) (rest : List ℕ) → IsBytes (b ∷ rest) → IsBytes rest
-IsBytes-tail b rest h i = h (suc i)
+pub decoded_more : (s bytes rest after left : List ℕ) (a b v : ℕ) → rest ≡ a ∷ after → after ≡ b ∷ left → pair_value a b 0 ≡ Ok v
+    → decode_pairs 0 s ≡ prepend bytes (decode_pairs (2 * length bytes) rest)
+    → decode_pairs 0 s ≡ prepend (bytes ++ v ∷ []) (decode_pairs (2 * length (bytes ++ v ∷ [])) left)
+decoded_more s bytes rest after left a b v high low value inv =
+    let i : ℕ = 2 * length bytes in
+    let digits : rest ≡ a ∷ b ∷ left = high ∙ ap (λ (l : List ℕ). a ∷ l) low in
+    let pair = decode_pairs-ok_pair i a b v left (pair_anywhere a b i v value) in
+    let place : i + 2 ≡ 2 * length (bytes ++ v ∷ []) = omega (arith, length-append bytes (v ∷ [])) in
+    inv ∙ ap (λ (l : List ℕ). prepend bytes (decode_pairs i l)) digits ∙ ap (prepend bytes) pair ∙ prepend-cons_byte bytes v _
+    ∙ ap (λ (k : ℕ). prepend (bytes ++ v ∷ []) (decode_pairs k left)) place
 
-all_digits : (table bytes : List ℕ) → IsDigits table → IsBytes bytes → list_all (λ b. is_some (hex_digit_value b)) (encode_with table bytes) ≡ true
-unfolding encode_with
-all_digits table [] digits h = refl
-all_digits table (b ∷ rest) digits h =
-    let byte : b < 256 = h 0 in
-    let high = digits (b / 16) (omega arith) in
-    let low = digits (b % 16) (omega arith) in
-    rw (high, low) (all_digits table rest digits (IsBytes-tail b rest h))
+pub decoded_all : (s bytes rest : List ℕ) → rest ≡ [] → decode_pairs 0 s ≡ prepend bytes (decode_pairs (2 * length bytes) rest) → decode_of s ≡ Ok bytes
+unfolding decode_pairs
+decoded_all s bytes rest none inv =
+    let done : decode_pairs 0 s ≡ Ok bytes =
+    inv ∙ ap (λ (l : List ℕ). prepend bytes (decode_pairs (2 * length bytes) l)) none ∙ ap Ok (append-nil bytes) in
+    let len = (decode_pairs-ok 0 s bytes done).1 in
+    decode_of-even s (omega (arith, len)) ∙ done
 
-even_digits : (table bytes : List ℕ) → IsDigits table → IsBytes bytes → length (filter_map hex_digit_value (encode_with table bytes)) ≡ 2 * length bytes
-unfolding encode_with
-even_digits table [] digits h = refl
-even_digits table (b ∷ rest) digits h =
-    let byte : b < 256 = h 0 in
-    let high = digits (b / 16) (omega arith) in
-    let low = digits (b % 16) (omega arith) in
-    let ih = even_digits table rest digits (IsBytes-tail b rest h) in
-    rw (high, low) (omega arith)
+-- ---- dumps
 
-pairs_back : (table bytes : List ℕ) → IsDigits table → IsBytes bytes → joined_pairs (filter_map hex_digit_value (encode_with table bytes)) ≡ bytes
-unfolding encode_with
-pairs_back table [] digits h = refl
-pairs_back table (b ∷ rest) digits h =
-    let byte : b < 256 = h 0 in
-    let high = digits (b / 16) (omega arith) in
-    let low = digits (b % 16) (omega arith) in
-    let ih = pairs_back table rest digits (IsBytes-tail b rest h) in
-    let whole : b / 16 * 16 + b % 16 ≡ b = omega arith in
-    rw (high, low, whole, ih) refl
-
--- ---- the law
-
-pub dump_reading-encoded : (table bytes text : List ℕ) → IsDigits table → IsBytes bytes → without_blanks text ≡ encode_with table bytes → dump_reading text ≡ Ok bytes
+pub dump_reading-decoded : (text bytes : List ℕ) → decode_of (without_blanks text) ≡ Ok bytes → dump_reading text ≡ Ok bytes
 unfolding dump_reading
-dump_reading-encoded table bytes text digits h same =
-    let values : filter_map hex_digit_value text ≡ filter_map hex_digit_value (encode_with table bytes) =
-    sym (values-kept is_blank hex_digit_value blank_value text) ∙ ap (filter_map hex_digit_value) same in
+dump_reading-decoded text bytes decoded =
+    let parts = decode_of-ok (without_blanks text) bytes decoded in
+    let digits = list_all-from_AllPass is_hex_digit (without_blanks text) parts.1 in
     let none : position is_foreign text ≡ None =
-    position_from-zero is_foreign text ∙ none_foreign is_blank hex_digit_value 0 text (ap (list_all (λ b. is_some (hex_digit_value b))) same ∙ all_digits table bytes digits h) in
-    let count : count_by is_hex_digit text ≡ 2 * length bytes =
-    count_by-values hex_digit_value text ∙ ap length values ∙ even_digits table bytes digits h in
-    let back : dumped_bytes text ≡ bytes = ap joined_pairs values ∙ pairs_back table bytes digits h in
-    let even : 2 * length bytes % 2 ≡ 0 = omega arith in
-    rw none (rw (count, back) (rw even refl))
+    position_from-zero is_foreign text ∙ none_foreign is_blank is_hex_digit 0 text digits in
+    let count : count_by is_hex_digit text ≡ length (without_blanks text) = count_kept is_blank is_hex_digit blank_digit text digits in
+    let back : dumped_bytes text ≡ bytes = ap (λ r. result_unwrap_or r []) decoded in
+    rw none (rw (count, back) (rw parts.0 refl))

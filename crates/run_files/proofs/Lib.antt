@@ -1,4 +1,3 @@
-mod DumpTable
 mod DumpLemmas
 mod DraftNames
 mod OutputNames

@@ -1,8 +1,8 @@
 -- Dumps: bytes written as pairs of hexadecimal digits in either case, the higher digit first, with
 -- blanks before, after and between any two digits.
-use Rattle.std.specs.Prelude.{◌≡◌, ℕ, ◌+◌, ◌*◌, ◌%◌, ◌==◌, ◌||◌, ◌⊎◌, not, Bool, false, List, [], ◌∷◌, length, position, count_by, filter, if◌then◌else◌, Option, Some, None, unwrap_or, Result, Ok, Err}
-use Rattle.std.specs.List.{filter_map}
-use Rattle.hex.specs.Hex.{IsBytes, encode_lower, encode_upper, hex_digit_value, is_hex_digit}
+use Rattle.std.specs.Prelude.{◌≡◌, ℕ, ◌%◌, ◌==◌, ◌||◌, ◌⊎◌, not, Bool, false, List, [], ◌∷◌, length, position, count_by, filter, if◌then◌else◌, Option, Some, None, Result, Ok, Err}
+use Rattle.std.specs.Result.{result_unwrap_or}
+use Rattle.hex.specs.Hex.{IsBytes, decode_of, encode_lower, encode_upper, is_hex_digit}
 use Rattle.run_files.specs.declared.error.RunFault.{RunFault}
 use Rattle.run_files.specs.declared.error.RunFault.TheVariants.{BadDump}
 
@@ -14,19 +14,13 @@ is_blank b = b == 9 || b == 10 || b == 13 || b == 32
 abbrev pub is_foreign : ℕ → Bool
 is_foreign b = not (is_blank b || is_hex_digit b)
 
--- a digit's value, 16 for a blank and 17 for a foreign byte
-abbrev pub digit_meaning : ℕ → ℕ
-digit_meaning b = unwrap_or (hex_digit_value b) (if is_blank b then 16 else 17)
+-- a text without its blanks
+abbrev pub without_blanks : List ℕ → List ℕ
+without_blanks text = filter (λ b. not (is_blank b)) text
 
--- each two values, the higher one first, make a byte
-abbrev pub joined_pairs : List ℕ → List ℕ
-joined_pairs [] = []
-joined_pairs (high ∷ []) = []
-joined_pairs (high ∷ low ∷ rest) = (high * 16 + low) ∷ joined_pairs rest
-
--- the bytes that a text stands for, blanks and all else passed over
+-- the bytes that hex decodes of a text without its blanks
 abbrev pub dumped_bytes : List ℕ → List ℕ
-dumped_bytes text = joined_pairs (filter_map hex_digit_value text)
+dumped_bytes text = result_unwrap_or (decode_of (without_blanks text)) []
 
 -- given the place of the first foreign byte, if there is one: that place; else the text's length, where the
 -- digits are odd in number; else the bytes
@@ -37,10 +31,6 @@ dump_reading_from None text = if count_by is_hex_digit text % 2 == 1 then Err (B
 -- the bytes of a dump, or its fault
 unfoldable pub dump_reading : List ℕ → Result (List ℕ) RunFault
 dump_reading text = dump_reading_from (position is_foreign text) text
-
--- a text without its blanks
-abbrev pub without_blanks : List ℕ → List ℕ
-without_blanks text = filter (λ b. not (is_blank b)) text
 
 -- the digits of some bytes, all in lower or all in upper case, are a dump of these bytes, whatever blanks
 -- stand before, between and after them

@@ -1,4 +1,4 @@
-use Rattle.std.proofs.Common.{◌≡◌, ◌≤◌, ℕ, ◌+◌, ◌-◌, List, [], ◌++◌, length, map, take, Option, Some, None, Result, Ok, option_map, refl, sym, ap, ◌∙◌, arith, append-nil}
+use Rattle.std.proofs.Common.{◌≡◌, ◌≤◌, ℕ, ◌+◌, ◌-◌, List, [], length, map, take, Option, Some, None, Result, Ok, option_map, sym, ap, ◌∙◌, arith, append-nil}
 use Rattle.std.specs.Borrow.{Bor}
 use Rattle.std.proofs.Math.Path.{fun_ext}
 use Rattle.std.proofs.Math.Seq.{take-append-add}
@@ -24,10 +24,10 @@ module _ (named_again : NamedAgain) (old new cut mended : History) (n : ℕ) (pa
       let some : List NamedFile = take (n - length old.names) files in
       let since : n ≡ length old.names + (n - length old.names) = omega arith in
       let begun : held_now cut ≡ held_after (held_now old) some =
-          fun_ext begins ∙ ap (λ (h : History). held_at h n) all ∙ ap (held_at (with_names old files)) since
-          ∙ ap (held_after old.first) (take-append-add old.names files (n - length old.names)) ∙ fold-append _ old.first old.names some in
+      fun_ext begins ∙ ap (λ (h : History). held_at h n) all ∙ ap (held_at (with_names old files)) since
+      ∙ ap (held_after old.first) (take-append-add old.names files (n - length old.names)) ∙ fold-append _ old.first old.names some in
       let again : held_now mended ≡ held_after (held_after (held_now old) some) files =
-          ap held_now rest ∙ fold-append _ cut.first cut.names files ∙ ap (λ (held : Held). held_after held files) begun in
+      ap held_now rest ∙ fold-append _ cut.first cut.names files ∙ ap (λ (held : Held). held_after held files) begun in
       let whole : held_now new ≡ held_after (held_now old) files = ap held_now all ∙ fold-append _ old.first old.names files in
       let at : Held → Option _ = λ held. held path in
       ap at again ∙ named_again (held_now old) files (n - length old.names) path ∙ ap at (sym whole)

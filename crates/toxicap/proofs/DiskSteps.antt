@@ -13,7 +13,7 @@ use Rattle.toxicap.specs.StoredOutputs.{FilesOf, TakenOf, failed_stores, files_i
 use Rattle.toxicap.proofs.RunSteps.{IsOfInput}
 use Rattle.toxicap.proofs.StoringEnds.{nothing_taken}
 
-pub map_take : {A B : Type 0} (f : A → B) (n : ℕ) (xs : List A) → map f (take n xs) ≡ take n (map f xs)
+map_take : {A B : Type 0} (f : A → B) (n : ℕ) (xs : List A) → map f (take n xs) ≡ take n (map f xs)
 map_take f zero xs = refl
 map_take f (suc n) [] = refl
 map_take f (suc n) (x ∷ xs) = ap (λ ys. f x ∷ ys) (map_take f n xs)

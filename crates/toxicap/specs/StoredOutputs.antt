@@ -1,13 +1,10 @@
 -- Outputs that are stored as they are made: the files of each scenario before the next ones are made.
-use Rattle.std.specs.Prelude.{◌≡◌, ◌==◌, if◌then◌else◌, ℕ, ◌+◌, ◌<◌, List, [], length, map, take, Result, Ok, Err, IsOk}
-use Rattle.disks.specs.ToldFiles.{Held}
-use Rattle.disks.specs.Histories.{held_after}
+use Rattle.std.specs.Prelude.{◌≡◌, ◌==◌, if◌then◌else◌, ℕ, ◌+◌, ◌<◌, List, [], length, take, Result, Ok, Err, IsOk}
 use Rattle.lists.specs.Agreement.{Refuses}
 use Rattle.run_files.specs.declared.error.RunFault.{RunFault}
 use Rattle.run_files.specs.declared.error.RunFault.TheVariants.{Memory, ShelfFailed}
 use Rattle.run_files.specs.declared.outputs.Output.{Output}
 use Rattle.run_files.specs.RunFault.{run_refusal}
-use Rattle.run_files.specs.Folders.{in_folder}
 use Rattle.run_files.specs.Shelves.{StoredFile}
 use Rattle.run_files.specs.WrittenOutputs.{files_from}
 
@@ -50,12 +47,3 @@ TakenOf (Err fault) wanted Took old_failures new_failures = Took [] × (new_fail
 abbrev pub failed_stores : List ℕ → Result (Unit {0}) RunFault → ℕ
 failed_stores folder (Err (ShelfFailed after)) = if length folder == 0 then 0 else 1
 failed_stores folder _ = 0
-
--- ---- a run that was killed
-
--- A run that was cut off after some files, and then run again to its end over the same inputs, leaves each path with what it holds after a
--- run that was not cut off.
-abbrev pub KilledRunsAreMended : Type 0
-KilledRunsAreMended = (held : Held) (folder : List ℕ) (outputs : List Output) (stored : ℕ) (path : List ℕ)
-    → held_after (held_after held (map (in_folder folder) (take stored (files_from 0 outputs)))) (map (in_folder folder) (files_from 0 outputs)) path
-    ≡ held_after held (map (in_folder folder) (files_from 0 outputs)) path

@@ -1,10 +1,10 @@
 //! Theorems about the definitions of this crate. Each function does nothing, or names the theorems that it stands on: its
 //! contract is the theorem.
 ghost use Rattle.toxicap.specs.SoundOutputs.{OutputsAreRead};
+ghost use Rattle.toxicap.specs.KilledRuns.{KilledRunsAreMended};
 ghost use Rattle.toxicap.specs.NamedFiles.{FilesAreLoadedInOrder};
 ghost use Rattle.toxicap.specs.Rehearsal.{ByteOrderDoesNotMatter};
 ghost use Rattle.toxicap.specs.SeenLengths.{ReportsSeeLengths};
-ghost use Rattle.toxicap.specs.StoredOutputs.{KilledRunsAreMended};
 
 use disks::laws::named_again;
 use frame_headers::laws::{headers_are_sound, segments_fit};
@@ -12,6 +12,7 @@ use pcap_records::laws::{readings_split, written_is_read};
 use report_laws::laws::report_sees_lengths;
 pub use run_files::laws::{draft_paths_differ, dumps_read_back};
 use segment_writer::laws::sorted_never_falls;
+use std::io::{Read, Write};
 
 /// Two captures with the same records and rest are rehearsed alike, whichever order the bytes of their fields have.
 #[tactic(auto, unfolding(crate::specs::Rehearsal::answer))]
@@ -37,10 +38,10 @@ pub fn files_are_loaded_in_order()
     ensures { FilesAreLoadedInOrder }
 {}
 
-/// A run that is killed while it stores its files, and run again to its end over the same inputs, leaves each path with what it would hold if
-/// the run had not been killed.
-pub fn killed_runs_are_mended()
-    ensures { KilledRunsAreMended }
+/// A run that is killed at any moment, and then run again to its end with the same outputs called for, leaves each path with what it would
+/// hold if the run had not been killed.
+pub fn killed_runs_are_mended<I: Read, O: Write>()
+    ensures { KilledRunsAreMended I.remaining O.contents }
 {
     named_again();
 }

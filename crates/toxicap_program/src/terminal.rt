@@ -2,7 +2,7 @@
 use crate::looks::CaptureStart;
 use std::alloc::Allocator;
 use std::fs::{Metadata, OpenOptions};
-use std::io::{self, IsTerminal, Read, Stderr, Stdin};
+use std::io::{self, IsTerminal, Read, Stderr};
 use std::rt::Files;
 use std::sync::Wait;
 use std::sync::atomic::{AtomicU64, Ordering};
@@ -11,19 +11,20 @@ use std::thread::Threads;
 /// Standard input. Where it is a terminal, and standard error is one, standard error says so before the first read, which waits. Its first
 /// bytes are kept.
 #[derive(Drop)]
-pub struct Announced {
-    input: Stdin,
+pub struct Announced<R> {
+    input: R,
     faults: Stderr,
     is_announced: bool,
     first_bytes: CaptureStart,
 }
 
-impl Announced {
-    pub fn new(input: Stdin, faults: Stderr) -> Announced {
+impl<R: IsTerminal> Announced<R> {
+    pub fn new(input: R, faults: Stderr) -> Announced<R> {
+        let is_announced = !input.is_terminal() || !faults.is_terminal();
         Announced {
             input,
             faults,
-            is_announced: !input.is_terminal() || !faults.is_terminal(),
+            is_announced,
             first_bytes: CaptureStart::new(),
         }
     }
@@ -34,7 +35,9 @@ impl Announced {
     }
 }
 
-impl Read for Announced {
+impl<R: Read> Read for Announced<R> {
+    ghost remaining = { λ r. R.remaining r.input };
+
     fn read(&mut self, buf: &mut [u8]) -> io::Result<usize> {
         if !self.is_announced {
             self.is_announced = true;
@@ -42,11 +45,9 @@ impl Read for Announced {
                 "toxicap: reading the capture from standard input; --capture names a file"
             );
         }
-        let read = self.input.read(buf);
-        if let Ok(len) = &read {
-            self.first_bytes.add(buf.get(..*len).unwrap_or(&[]));
-        }
-        read
+        let len = self.input.read(buf)?;
+        self.first_bytes.add(&buf[..len]);
+        Ok(len)
     }
 }
 

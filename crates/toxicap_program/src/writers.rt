@@ -1,4 +1,6 @@
 //! Writers that look at what goes through them, and hand it on as it is.
+ghost use Rattle.std.specs.Prelude.{◌≡◌};
+
 use crate::first_bytes::FirstBytes;
 use crate::report_lines::ReportLines;
 use crate::summary::Summary;
@@ -31,7 +33,9 @@ impl<W> FirstLine<W> {
     }
 
     // Keeps what the next bytes have of the first line.
-    fn keep(&mut self, bytes: &[u8]) {
+    fn keep(&mut self, bytes: &[u8])
+        ensures { self.new.inner ≡ self.old.inner }
+    {
         if self.is_whole {
             return;
         }
@@ -42,12 +46,12 @@ impl<W> FirstLine<W> {
 }
 
 impl<W: Write> Write for FirstLine<W> {
+    ghost contents = { λ w. W.contents w.inner };
+
     fn write(&mut self, buf: &[u8]) -> io::Result<usize> {
-        let written = self.inner.write(buf);
-        if let Ok(len) = &written {
-            self.keep(buf.get(..*len).unwrap_or(&[]));
-        }
-        written
+        let len = self.inner.write(buf)?;
+        self.keep(&buf[..len]);
+        Ok(len)
     }
 
     fn flush(&mut self) -> io::Result<()> {
@@ -80,14 +84,14 @@ impl<W> SummedUp<W> {
 }
 
 impl<W: Write> Write for SummedUp<W> {
+    ghost contents = { λ w. W.contents w.inner };
+
     fn write(&mut self, buf: &[u8]) -> io::Result<usize> {
-        let written = self.inner.write(buf);
-        if let Ok(len) = &written
-            && self.is_wanted
-        {
-            self.lines.add(buf.get(..*len).unwrap_or(&[]));
+        let len = self.inner.write(buf)?;
+        if self.is_wanted {
+            self.lines.add(&buf[..len]);
         }
-        written
+        Ok(len)
     }
 
     fn flush(&mut self) -> io::Result<()> {

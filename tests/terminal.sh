@@ -203,7 +203,7 @@ cp "$here/shop.pcap" "$here/taken/0000.pcap"
 ln "$here/web.json" "$here/linked/0000.txt"
 helps 'refused 60 ShelfFailed after 1' 'out/0000.txt is a folder: move it, or choose another --out' '--capture shop.pcap --out out'
 helps 'refused 60 ShelfFailed after 1' 'piped/0000.txt is no file: move it, or choose another --out' '--capture shop.pcap --out piped'
-helps 'refused 60 ShelfFailed after 0' 'drafted/toxicap.unfinished-0 is a folder, where files are first written: move it, or choose another --out' \
+helps 'refused 60 ShelfFailed after 0' 'drafted/toxicap.unfinished-0 stands where files are first written: move it, or choose another --out' \
     '--capture shop.pcap --out drafted'
 helps 'refused 60 ShelfFailed after 0' 'taken/0000.pcap: the run has read it, and it is not replaced: choose another --out' '--capture taken/0000.pcap --out taken'
 helps 'refused 60 ShelfFailed after 0' 'taken/0000.pcap: the run has read it, and it is not replaced: choose another --out' '--out taken < taken/0000.pcap'

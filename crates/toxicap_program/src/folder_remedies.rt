@@ -53,31 +53,30 @@ fn file_remedy<R: Files>(
             "{name}: {cause}; choose another --out, or give the right to write it"
         );
     }
-    if let Some(draft) = folder_of_a_draft(files, alloc, folder)? {
+    if let Some(draft) = taken_path(files, alloc, folder)? {
         let draft = shown_path(alloc, &draft)?;
         return format!(in alloc;
-            "{draft} is a folder, where files are first written: move it, or choose another --out"
+            "{draft} stands where files are first written: move it, or choose another --out"
         );
     }
     format!(in alloc;
-        "{name} could not be written: look at the rights of the folder, and at the room that is left"
+        "{name} could not be written: wait for other runs of this folder, or look at its rights, and at the room that is left"
     )
 }
 
 // How many drafts a folder has at most: two of an output, and at once of two outputs for each of 16 workers.
 const DRAFT_LIMIT: u32 = 64;
 
-// The path of the first draft, if there is one, at which a folder stands. What else stands there is removed by a run.
-fn folder_of_a_draft<R: Files>(
+// The path of the first draft, if there is one, at which something stands.
+fn taken_path<R: Files>(
     files: &R,
     alloc: Global,
     folder: &str,
 ) -> Result<Option<String>, AllocError> {
     for place in 0..DRAFT_LIMIT {
         let path = format!(in alloc; "{folder}/toxicap.unfinished-{place}")?;
-        match fs::symlink_metadata(files, &path) {
-            Ok(metadata) if metadata.is_dir() => return Ok(Some(path)),
-            _ => {}
+        if fs::symlink_metadata(files, &path).is_ok() {
+            return Ok(Some(path));
         }
     }
     Ok(None)

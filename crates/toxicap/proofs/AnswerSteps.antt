@@ -28,7 +28,7 @@ of_after : {A B : Type 0} (first : Result A RunFault) (next : A → Result B Run
 of_after (Ok a) next own rest = rest a
 of_after (Err fault) next own rest = own
 
-of_capture_fault : (f : CaptureFault) → IsOfText (run_fault f)
+pub of_capture_fault : (f : CaptureFault) → IsOfText (run_fault f)
 of_capture_fault of_capture.ShortHeader = tt
 of_capture_fault f = tt
 

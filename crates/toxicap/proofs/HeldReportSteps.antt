@@ -1,8 +1,8 @@
 -- Reports held in texts, against those of the outputs.
-use Rattle.std.proofs.Common.{◌≡◌, ◌<◌, ◌≤◌, ℕ, ◌+◌, List, [], ◌∷◌, ◌++◌, length, map, take, drop, get_or, sym, ap, ◌∙◌, arith, append-nil}
+use Rattle.std.proofs.Common.{◌≡◌, ◌<◌, ℕ, ◌+◌, List, [], ◌∷◌, ◌++◌, length, map, get_or, sym, ap, ◌∙◌, arith, append-nil}
 use Rattle.std.specs.Borrow.{Bor}
 use Rattle.std.specs.List.{flat_map, range_with_len}
-use Rattle.std.proofs.lemmas.List.{get_or-drop, get_or-map, get_or-take, length-drop, length-map, length-take-le}
+use Rattle.std.proofs.lemmas.List.{get_or-map, length-map}
 use Rattle.std.proofs.lemmas.List.Concat.{flat_map-append}
 use Rattle.std.proofs.lemmas.List.Folds.{flat_map-map}
 use Rattle.std.proofs.lemmas.List.FromFn.{fill_by_all, length-map-range_with_len, map-range_with_len_more}
@@ -30,46 +30,28 @@ below_more heads shares number =
 pub joined_more : (texts : List (Bor (List ℕ))) (text : Bor (List ℕ)) → joined (texts ++ text ∷ []) ≡ joined texts ++ text.now
 joined_more texts text = flat_map-append (λ (t : Bor (List ℕ)). t.now) texts (text ∷ []) ∙ ap (λ (more : List ℕ). joined texts ++ more) (append-nil text.now)
 
--- the reports of so many scenarios, from that of a number on
-module _ (capture : CaptureView) (scenarios : List (List Proxy)) (seed : ℕ) (contributed : LinesAreContributed) (first count : ℕ) (within : first + count ≤ length scenarios) where
-  abbrev pub some : List (List Proxy)
-  some = take count (drop first scenarios)
+-- those of all scenarios
+module _ (capture : CaptureView) (scenarios : List (List Proxy)) (seed : ℕ) (contributed : LinesAreContributed)
+    (heads : List (List ℕ)) (heads_are : heads ≡ heads_of capture (length scenarios))
+    (shares : List (List (List ℕ))) (hold : HoldLines seed 0 scenarios (recordings_of capture) shares) where
+  abbrev outputs : List Output
+  outputs = outputs_for capture scenarios seed
 
-  abbrev pub outputs : List Output
-  outputs = take count (drop first (outputs_for capture scenarios seed))
+  pub as_many_heads : length heads ≡ length scenarios
+  as_many_heads = ap length heads_are ∙ length-map-range_with_len (head_of capture) 0 (length scenarios)
 
-  length_some : {X : Type 0} (xs : List X) → first + count ≤ length xs → length (take count (drop first xs)) ≡ count
-  length_some xs inside = length-take-le count (drop first xs) (omega (arith, inside, length-drop first xs))
+  each : (number : ℕ) → number < length scenarios → get_or (map (λ (o : Output). o.report) outputs) number [] ≡ report_at heads shares number
+  each number within =
+      let zero_on : 0 + number ≡ number = omega arith in
+      let lines = hold.lines number within
+      ∙ ap (λ (n : ℕ). flat_map (λ (line : List ℕ). line) (recorded_lines seed (n, get_or scenarios number []) (recordings_of capture))) zero_on in
+      get_or-map (λ (o : Output). o.report) outputs number no_output [] (omega (arith, within, as_many_for capture scenarios seed))
+      ∙ sym (report_is capture scenarios seed contributed number within (text_of number shares) lines)
+      ∙ ap (λ (h : List ℕ). h ++ text_of number shares) (sym (head_at capture heads (length scenarios) heads_are number within))
 
-  as_many_some : length some ≡ count
-  as_many_some = length_some scenarios within
-
-  as_many_outputs : length outputs ≡ count
-  as_many_outputs = length_some (outputs_for capture scenarios seed) (omega (arith, within, as_many_for capture scenarios seed))
-
-  at_place : {X : Type 0} (xs : List X) (place : ℕ) (other : X) → place < count → get_or (take count (drop first xs)) place other ≡ get_or xs (first + place) other
-  at_place xs place other below = get_or-take count (drop first xs) place other below ∙ get_or-drop first xs place other
-
-  module _ (heads : List (List ℕ)) (heads_are : heads ≡ heads_of capture first count)
-      (shares : List (List (List ℕ))) (hold : HoldLines seed first some (recordings_of capture) shares) where
-    pub as_many_heads : length heads ≡ length some
-    as_many_heads = ap length heads_are ∙ length-map-range_with_len (head_of capture) first count ∙ sym as_many_some
-
-    each : (place : ℕ) → place < count → get_or (map (λ (o : Output). o.report) outputs) place [] ≡ report_at heads shares place
-    each place below =
-        let number : ℕ = first + place in
-        let inside : number < length scenarios = omega (arith, below, within) in
-        let held : place < length outputs = omega (arith, below, as_many_outputs) in
-        let lines = hold.lines place (omega (arith, below, as_many_some))
-        ∙ ap (λ (proxies : List Proxy). flat_map (λ (line : List ℕ). line) (recorded_lines seed (number, proxies) (recordings_of capture))) (at_place scenarios place [] below) in
-        get_or-map (λ (o : Output). o.report) outputs place no_output [] held
-        ∙ ap (λ (o : Output). o.report) (at_place (outputs_for capture scenarios seed) place no_output below)
-        ∙ sym (report_is capture scenarios seed contributed number inside (text_of place shares) lines)
-        ∙ ap (λ (h : List ℕ). h ++ text_of place shares) (sym (head_at capture heads first count heads_are place below))
-
-    pub held_are : reports_held heads shares ≡ reports_of outputs
-    held_are =
-        ap (reports_below heads shares) (as_many_heads ∙ as_many_some)
-        ∙ ap (flat_map (λ (report : List ℕ). report))
-        (sym (fill_by_all (report_at heads shares) (map (λ (o : Output). o.report) outputs) count [] (length-map outputs _ ∙ as_many_outputs) each))
-        ∙ flat_map-map (λ (report : List ℕ). report) (λ (o : Output). o.report) outputs
+  pub held_are : reports_held heads shares ≡ reports_of outputs
+  held_are =
+      ap (reports_below heads shares) as_many_heads
+      ∙ ap (flat_map (λ (report : List ℕ). report))
+      (sym (fill_by_all (report_at heads shares) (map (λ (o : Output). o.report) outputs) (length scenarios) [] (length-map outputs _ ∙ as_many_for capture scenarios seed) each))
+      ∙ flat_map-map (λ (report : List ℕ). report) (λ (o : Output). o.report) outputs

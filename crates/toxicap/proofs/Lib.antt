@@ -19,6 +19,4 @@ mod ReportedRows
 mod HeldReportSteps
 mod ReadyDrafts
 mod PrintedSteps
-mod PrintingSteps
 mod SeenReports
-mod GatheredTexts

@@ -67,10 +67,10 @@ module _ (capture : CaptureView) (scenarios : List (List Proxy)) (seed : ℕ) wh
   output_at number within = at_number (scenario_output (seen_capture (contents_of capture)) seed) scenarios number within []
 
 -- the first two lines of one of so many reports
-pub head_at : (capture : CaptureView) (heads : List (List ℕ)) (first count : ℕ) → heads ≡ heads_of capture first count → (place : ℕ) → place < count
-    → get_or heads place [] ≡ head_of capture (first + place)
-head_at capture heads first count are place within =
-    ap (λ (hs : List (List ℕ)). get_or hs place []) are ∙ get_or-map-range_with_len (head_of capture) first count place (first + place) [] within (omega arith)
+pub head_at : (capture : CaptureView) (heads : List (List ℕ)) (count : ℕ) → heads ≡ heads_of capture count → (number : ℕ) → number < count
+    → get_or heads number [] ≡ head_of capture number
+head_at capture heads count are number within =
+    ap (λ (hs : List (List ℕ)). get_or hs number []) are ∙ get_or-map-range_with_len (head_of capture) 0 count number number [] within (omega arith)
 
 module _ (capture : CaptureView) (seed : ℕ) (s : ℕ × List Proxy) where
   -- the report of a scenario is the first two lines, and then the lines that are recorded, which are as many as the connections of the table
@@ -126,7 +126,7 @@ output_is own number within other = at_number (output_from own) own.scenarios.no
 
 -- what sources have that are made of a capture
 module _ (capture : CaptureView) (scenarios : List (List Proxy)) (seed ticks : ℕ) (heads : List (List ℕ)) (recordings : List RecordingView)
-    (ticks_are : ticks ≡ capture.ticks) (heads_are : heads ≡ heads_of capture 0 (length scenarios)) (recordings_are : recordings ≡ recordings_of capture)
+    (ticks_are : ticks ≡ capture.ticks) (heads_are : heads ≡ heads_of capture (length scenarios)) (recordings_are : recordings ≡ recordings_of capture)
     (rows : RowsAreContributed) (lines : LinesAreContributed) where
   abbrev pub made_of : ℕ × List Proxy → Output
   made_of s = record {
@@ -149,7 +149,7 @@ module _ (capture : CaptureView) (scenarios : List (List Proxy)) (seed ticks : �
       ap₂ (λ (t : ℕ) (rs : List RecordingView). capture_of t (flat_map (λ (d : Delivery). d.segments) (recorded_row seed s rs))) ticks_are recordings_are
       ∙ capture_is capture seed s rows in
       let of_lines : (made_of s).report ≡ (scenario_output (seen_capture (contents_of capture)) seed s).report =
-      ap (λ (head : List ℕ). head ++ flat_map (λ (d : Delivery). d.line) (recorded_row seed s recordings)) (head_at capture heads 0 (length scenarios) heads_are number within ∙ ap (head_of capture) (let on : 0 + number ≡ number = omega arith in on))
+      ap (λ (head : List ℕ). head ++ flat_map (λ (d : Delivery). d.line) (recorded_row seed s recordings)) (head_at capture heads (length scenarios) heads_are number within)
       ∙ report_lines capture seed s lines _ (lines_are s) in
       ap₂ (λ (a b : List ℕ). let o : Output = record { capture = a; report = b } in o) of_row of_lines
 

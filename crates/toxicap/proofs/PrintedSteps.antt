@@ -1,28 +1,39 @@
 -- How a run ends that prints, by how the text of its capture was loaded.
-use Rattle.std.proofs.Common.{◌≡◌, ℕ, ◌+◌, ◌≤◌, List, length, map, [], Option, Some, None, Result, Ok, Err, sym, ap, subst}
-use Rattle.std.specs.Prelude.{IfNone, IfOk, IfSome}
+use Rattle.std.proofs.Common.{◌≡◌, ℕ, ◌+◌, ◌<◌, ◌≤◌, List, length, map, take, [], Option, Some, None, Result, Ok, Err, refl, sym, ap, subst}
+use Rattle.std.specs.Prelude.{IfErr, IfNone, IfOk, IfSome, OnErr, OnOk}
 use Rattle.std.specs.Borrow.{Bor}
 use Rattle.std.proofs.lemmas.Option.{IfSome_then}
+use Rattle.lists.specs.Agreement.{AgreesUnlessMemory}
 use Rattle.pcap_records.specs.Reading.{capture_limit}
 use Rattle.scenarios.specs.declared.hosts.KnownHost.{KnownHost}
 use Rattle.command_line.specs.declared.asked.Asked.{Asked}
 use Rattle.disks.specs.Histories.{History, NamesLeaveWhole, held_now}
 use Rattle.run_files.specs.declared.error.RunFault.{RunFault}
+use Rattle.run_files.specs.declared.error.RunFault.TheVariants.{Memory, WriteFailed}
 use Rattle.run_files.specs.declared.outputs.Output.{Output}
 use Rattle.run_files.specs.declared.seen_parts.SeenText.{SeenText}
 use Rattle.run_files.specs.Paths.{IsOfFile}
+use Rattle.run_files.specs.RunFault.{run_refusal}
 use Rattle.run_files.specs.SeenTexts.{IsSeenOf, LoadsInput, SeesAs}
 use Rattle.run_files.specs.Streams.{StopsLoading}
-use Rattle.toxicap.specs.Answering.{called_for}
+use Rattle.run_files.specs.WrittenOutputs.{reports_of}
+use Rattle.toxicap.specs.Answering.{IsOfText, called_for}
 use Rattle.toxicap.specs.Commands.{RunsBy, Streams}
 use Rattle.toxicap.specs.Inputs.{TakesInputs, hosts_asked, texts_or_bare}
 use Rattle.toxicap.specs.NamedFiles.{LoadsFile, RunsOver, texts_from}
-use Rattle.toxicap.specs.PrintedReports.{PrintsLoaded, PrintsOf}
+use Rattle.toxicap.specs.PrintedReports.{PrintsLoaded, PrintsOf, reports_in}
 use Rattle.toxicap.proofs.DiskSteps.{disk_kept}
 use Rattle.toxicap.proofs.NamedSteps.{loaded_over, stopped_over}
 use Rattle.toxicap.proofs.RunSteps.{IsOfInput, of_input, runs_loaded, runs_stopped}
+use Rattle.toxicap.proofs.TextsTaken.{is_fault}
 
 -- ---- what is printed
+
+-- the outputs whose reports these are
+made_of : (wanted : Result (List Output) RunFault) (reports : List ℕ) → reports_in wanted ≡ Ok reports
+    → (outputs : List Output) × (wanted ≡ Ok outputs) × (reports ≡ reports_of outputs)
+made_of (Ok outputs) reports is = (outputs, refl, cc)
+made_of (Err fault) reports is = absurd cc
 
 module _ (called : List ℕ → Result (List Output) RunFault) (Unwritten : Type 0) (Wrote : List ℕ → Type 0) where
   -- no text was loaded
@@ -30,11 +41,35 @@ module _ (called : List ℕ → Result (List Output) RunFault) (Unwritten : Type
   prints_none fault (Ok text) sees unwritten = absurd sees
   prints_none fault (Err cause) sees unwritten = (ap Err sees, unwritten)
 
-  -- a text was loaded, and this was seen of it
-  pub prints_seen : (seen : SeenText) (loaded : Result (List ℕ) RunFault) → SeesAs (Ok seen) loaded → IfOk loaded (λ text. length text ≤ capture_limit) → (result : Result (Unit {0}) RunFault)
-      → ((text : List ℕ) → length text ≤ capture_limit → IsSeenOf seen text → PrintsOf result (called text) Unwritten Wrote) → PrintsLoaded result loaded called Unwritten Wrote
-  prints_seen seen (Ok text) sees within result prints = prints text within sees
-  prints_seen seen (Err cause) sees within result prints = absurd sees
+  -- no reports were made of what was seen of it
+  refuses : (wanted : Result (List Output) RunFault) (fault : RunFault) → AgreesUnlessMemory run_refusal (λ (reports : List ℕ). reports) (Err fault) (reports_in wanted)
+      → IsOfText fault → Unwritten → PrintsOf (Err fault) wanted Unwritten Wrote
+  refuses wanted Memory is own unwritten = unwritten
+  refuses wanted WriteFailed is own unwritten = absurd own
+  refuses wanted fault is own unwritten = (is_fault wanted fault is, unwritten)
+
+  pub prints_refused : (seen : SeenText) (loaded : Result (List ℕ) RunFault) → SeesAs (Ok seen) loaded → IfOk loaded (λ text. length text ≤ capture_limit) → (fault : RunFault)
+      → ((text : List ℕ) → length text ≤ capture_limit → IsSeenOf seen text → AgreesUnlessMemory run_refusal (λ (reports : List ℕ). reports) (Err fault) (reports_in (called text)))
+      → IsOfText fault → Unwritten → PrintsLoaded (Err fault) loaded called Unwritten Wrote
+  prints_refused seen (Ok text) sees within fault told own unwritten = refuses (called text) fault (told text within sees) own unwritten
+  prints_refused seen (Err cause) sees within fault told own unwritten = absurd sees
+
+  -- they were made, and written as far as the writes went
+  made : (wanted : Result (List Output) RunFault) (reports : List ℕ) → reports_in wanted ≡ Ok reports → (result : Result (Unit {0}) RunFault) → OnOk result (Wrote reports)
+      → IfErr result (λ fault. fault ≡ WriteFailed) → OnErr result ((written : ℕ) × (written < length reports) × Wrote (take written reports)) → PrintsOf result wanted Unwritten Wrote
+  made wanted reports is (Ok u) whole cause first =
+      let (outputs, are, same) = made_of wanted reports is in
+      (outputs, are, subst Wrote same whole)
+  made wanted reports is (Err fault) whole cause (written, less, wrote) =
+      let (outputs, are, same) = made_of wanted reports is in
+      rw cause (outputs, written, are, (rw same at less), (rw same at wrote))
+
+  pub prints_made : (seen : SeenText) (loaded : Result (List ℕ) RunFault) → SeesAs (Ok seen) loaded → IfOk loaded (λ text. length text ≤ capture_limit) → (reports : List ℕ)
+      → ((text : List ℕ) → length text ≤ capture_limit → IsSeenOf seen text → reports_in (called text) ≡ Ok reports) → (result : Result (Unit {0}) RunFault) → OnOk result (Wrote reports)
+      → IfErr result (λ fault. fault ≡ WriteFailed) → OnErr result ((written : ℕ) × (written < length reports) × Wrote (take written reports))
+      → PrintsLoaded result loaded called Unwritten Wrote
+  prints_made seen (Ok text) sees within reports told result whole cause first = made (called text) reports (told text within sees) result whole cause first
+  prints_made seen (Err cause) sees within reports told result whole refused first = absurd sees
 
 -- ---- loading that stopped
 

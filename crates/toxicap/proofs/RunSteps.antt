@@ -1,5 +1,5 @@
 -- How a run ends, by how its capture was loaded and what its text calls for.
-use Rattle.std.proofs.Common.{◌≡◌, ℕ, ◌+◌, ◌<◌, ◌≤◌, List, [], length, replicate, Option, Some, None, inl, inr, Result, Ok, Err, refl, arith}
+use Rattle.std.proofs.Common.{◌≡◌, ℕ, ◌+◌, ◌<◌, ◌≤◌, List, [], length, replicate, Option, Some, None, inr, Result, Ok, Err, refl, arith}
 use Rattle.std.specs.Prelude.{IfNone, IfSome, OnSome}
 use Rattle.std.specs.Borrow.{Bor}
 use Rattle.std.proofs.lemmas.List.{length-replicate}
@@ -38,7 +38,7 @@ of_input Own no_write no_shelf fault own = tt
 pub ends_refused : (out : Option (Bor (List ℕ))) (fault : RunFault) (wanted : Result (List Output) RunFault) (Unwritten : Type 0) (Wrote : List ℕ → Type 0) → IsOfInput fault
     → IfSome (run_refusal fault) (λ refused. wanted ≡ Err refused) → Unwritten → EndsOf out (Err fault) wanted Unwritten Wrote
 ends_refused None WriteFailed wanted Unwritten Wrote own is unwritten = absurd own
-ends_refused None Memory wanted Unwritten Wrote own is unwritten = inl unwritten
+ends_refused None Memory wanted Unwritten Wrote own is unwritten = unwritten
 ends_refused None fault wanted Unwritten Wrote own is unwritten = (is, unwritten)
 ends_refused (Some folder) (ShelfFailed after) wanted Unwritten Wrote own is unwritten = absurd own
 ends_refused (Some folder) fault wanted Unwritten Wrote own is unwritten = is
@@ -92,8 +92,7 @@ module _ (hosts : List KnownHost) (texts : List (List ℕ)) (seed : ℕ) (Unwrit
       → PrintsOf result (called_for hosts texts seed text) Unwritten Wrote → PrintsBy result (called_for hosts texts seed text) text AtEnd Unwritten Wrote
   prints_by (Ok u) text AtEnd within at_end is = (at_end, is)
   prints_by (Err WriteFailed) text AtEnd within at_end is = (at_end, is)
-  prints_by (Err Memory) text AtEnd within at_end (inl unwritten) = (within, inl unwritten)
-  prints_by (Err Memory) text AtEnd within at_end (inr first) = (within, inr (at_end, first))
+  prints_by (Err Memory) text AtEnd within at_end unwritten = (within, unwritten)
   prints_by (Err fault) text AtEnd within at_end is = (answered hosts texts seed (Err fault) text AtEnd within at_end is.0, is.1)
 
   answers_into : (out : Option (Bor (List ℕ))) (result : Result (Unit {0}) RunFault) (text : List ℕ) (AtEnd : Type 0) → length text ≤ capture_limit → AtEnd
@@ -114,7 +113,6 @@ module _ (hosts : List KnownHost) (texts : List (List ℕ)) (seed : ℕ) (Unwrit
   stops_into : (out : Option (Bor (List ℕ))) (fault : RunFault) (text : List ℕ) (old new : ℕ) (AtEnd : Type 0) → StopsLoading fault (length text) old new → Unwritten
       → AnswersInto out (Err fault) (called_for hosts texts seed text) text AtEnd Unwritten Wrote
   stops_into None WriteFailed text old new AtEnd is unwritten = absurd is
-  stops_into None Memory text old new AtEnd is unwritten = (stopped hosts texts seed Memory text old new AtEnd is, inl unwritten)
   stops_into None fault text old new AtEnd is unwritten = (stopped hosts texts seed fault text old new AtEnd is, unwritten)
   stops_into (Some folder) (ShelfFailed after) text old new AtEnd is unwritten = absurd is
   stops_into (Some folder) fault text old new AtEnd is unwritten = (stopped hosts texts seed fault text old new AtEnd is, unwritten)

@@ -1,6 +1,6 @@
 -- What texts call for, by what is read of them: a refusal, or a rehearsal.
-use Rattle.std.proofs.Common.{◌≡◌, ℕ, ◌≤◌, false, List, [], length, Option, Some, None, Result, Ok, Err, refl, ap}
-use Rattle.std.specs.Prelude.{IfSome}
+use Rattle.std.proofs.Common.{◌≡◌, ℕ, ◌≤◌, false, List, [], length, Option, Some, None, Result, Ok, Err, refl, ap, subst}
+use Rattle.std.specs.Prelude.{IfErr, IfSome}
 use Rattle.std.proofs.lemmas.Bool.{le-ltb}
 use Rattle.std.proofs.lemmas.Option.{IfSome_then}
 use Rattle.lists.specs.Agreement.{Agrees, AgreesUnlessMemory, Refuses}
@@ -12,7 +12,7 @@ use Rattle.run_files.specs.declared.error.RunFault.TheVariants.{Memory}
 use Rattle.run_files.specs.declared.outputs.Output.{Output}
 use Rattle.run_files.specs.Dumps.{is_dump}
 use Rattle.run_files.specs.RunFault.{run_refusal}
-use Rattle.toxicap.specs.Answering.{called_for, capture_bytes_of, scenarios_from}
+use Rattle.toxicap.specs.Answering.{IsOfText, called_for, capture_bytes_of, scenarios_from}
 use Rattle.toxicap.specs.PrintedReports.{reports_in}
 use Rattle.toxicap.specs.Rehearsal.{answer}
 
@@ -62,17 +62,26 @@ not_dumped text is = rw is refl
 -- ---- the reports of it
 
 -- where they are a fault, so is what is wanted
-is_fault : (wanted : Result (List Output) RunFault) (fault : RunFault) → reports_in wanted ≡ Err fault → wanted ≡ Err fault
+pub is_fault : (wanted : Result (List Output) RunFault) (fault : RunFault) → reports_in wanted ≡ Err fault → wanted ≡ Err fault
 is_fault (Ok outputs) fault is = absurd cc
 is_fault (Err other) fault is = let same : other ≡ fault = cc in ap Err same
-
-pub of_fault : (fault : RunFault) (wanted : Result (List Output) RunFault)
-    → AgreesUnlessMemory run_refusal (λ (reports : List ℕ). reports) (Err fault) (reports_in wanted)
-    → AgreesUnlessMemory run_refusal (λ (outputs : List Output). outputs) (Err fault) wanted
-of_fault fault wanted is = IfSome_then (run_refusal fault) is (λ f refused. is_fault wanted f refused)
 
 -- and where what is wanted is a fault, so are its reports
 pub of_fault_printed : (fault : RunFault) (wanted : Result (List Output) RunFault)
     → AgreesUnlessMemory run_refusal (λ (outputs : List Output). outputs) (Err fault) wanted
     → AgreesUnlessMemory run_refusal (λ (reports : List ℕ). reports) (Err fault) (reports_in wanted)
 of_fault_printed fault wanted is = IfSome_then (run_refusal fault) is (λ f refused. ap reports_in refused)
+
+pub of_reports : (wanted : Result (List Output) RunFault) → IfErr wanted IsOfText → IfErr (reports_in wanted) IsOfText
+of_reports (Ok outputs) own = tt
+of_reports (Err fault) own = own
+
+-- where what is wanted can only be a fault of the texts, so can what is told
+pub of_refused : {A : Type 0} (wanted : Result A RunFault) → IfErr wanted IsOfText → (fault : RunFault) → IfSome (run_refusal fault) (λ refused. wanted ≡ Err refused) → IsOfText fault
+of_refused wanted own Memory is = tt
+of_refused wanted own fault is = subst (λ w. IfErr w IsOfText) is own
+
+pub of_told : {A B : Type 0} (view : A → B) (result : Result A RunFault) (wanted : Result B RunFault) → IfErr wanted IsOfText
+    → AgreesUnlessMemory run_refusal view result wanted → IfErr result IsOfText
+of_told view (Ok x) wanted own is = tt
+of_told view (Err fault) wanted own is = of_refused wanted own fault is

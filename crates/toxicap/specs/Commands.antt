@@ -10,8 +10,9 @@
 --   7. there are too many scenarios (`answer`, in Rehearsal);
 --   8. the capture's own faults, in the order of `reading` (pcap_records, Reading);
 --   9. a write of the reports, or a file of the folder, fails (`PrintsBy` and `StoresBy`, in RunEnds).
--- Want of memory comes where a growth was refused, anywhere among them. Nothing is said here of what a named file holds: `NamedFiles`
--- does, and there 3 is the first scenario file that is at fault, and comes before 4 where the capture is a file too.
+-- Out of memory comes where a growth was refused, anywhere among them, but before the first byte of the reports is written. Nothing is said
+-- here of what a named file holds: `NamedFiles` does, and there 3 is the first scenario file that is at fault, and comes before 4 where the
+-- capture is a file too.
 use Rattle.std.specs.Prelude.{◌≡◌, ℕ, ◌+◌, ◌<◌, ◌⊎◌, List, length, take, Option, Some, None, Result, Ok, Err}
 use Rattle.std.specs.Borrow.{Bor}
 use Rattle.std.specs.Io.KnownBytes.{Appends, Consumes, IsAtEnd}

@@ -14,9 +14,9 @@ abbrev pub head_of : CaptureView → ℕ → List ℕ
 head_of capture number =
     counts_text number (seen_capture (contents_of capture)) ++ connections_text (length (whole_table capture).conns) (whole_table capture).unopened
 
--- those of so many scenarios, from that of a number on
-abbrev pub heads_of : CaptureView → ℕ → ℕ → List (List ℕ)
-heads_of capture first count = map (head_of capture) (range_with_len first count)
+-- those of so many scenarios
+abbrev pub heads_of : CaptureView → ℕ → List (List ℕ)
+heads_of capture count = map (head_of capture) (range_with_len 0 count)
 
 -- whatever the scenario, no key stands twice among the segments of its row
 abbrev pub RowsHaveNoKeyTwice : ℕ → List RecordingView → Type 0

@@ -2,25 +2,21 @@
 -- line that it prints on standard error.
 use Rattle.std.specs.Prelude.{◌≡◌, ℕ, ◌+◌, ◌<◌, ◌⊎◌, List, ◌++◌, length, take, codes, Result, Ok, Err, IsOk}
 use Rattle.run_files.specs.declared.error.RunFault.{RunFault}
-use Rattle.run_files.specs.declared.error.RunFault.TheVariants.{Memory, ReadFailed, ShelfFailed, WriteFailed}
+use Rattle.run_files.specs.declared.error.RunFault.TheVariants.{ReadFailed, ShelfFailed, WriteFailed}
 use Rattle.run_files.specs.declared.outputs.Output.{Output}
 use Rattle.run_files.specs.RunFault.{fault_text}
 use Rattle.run_files.specs.WrittenOutputs.{files_from, reports_of}
 use Rattle.toxicap.specs.Answering.{AnswersBy}
-use Rattle.toxicap.specs.PrintedReports.{PrintsFirst}
 
 -- How a run ends that prints, by what the text that it read calls for, given what it is to be at the reader's end, to have written nothing
 -- and to have written some bytes. On Ok the reader is at its end, and the reports that were called for were written, whole and once. A failed
--- write comes after all was read, and a first part of the reports was written, not all of them. Any other refusal is what was called for, or
--- came while the text was read, and nothing was written; but where memory was wanting once all was read, whole reports may have been
--- written, of the first scenarios, if they are longer together than may be held.
+-- write comes after all was read, and a first part of the reports was written, not all of them. On any other refusal nothing was written: it
+-- is what was called for, or came while the text was read, or is out of memory.
 abbrev pub PrintsBy : Result (Unit {0}) RunFault → Result (List Output) RunFault → List ℕ → Type 0 → Type 0 → (List ℕ → Type 0) → Type 0
 PrintsBy (Ok _) wanted text AtEnd Unwritten Wrote = AtEnd × ((outputs : List Output) × (wanted ≡ Ok outputs) × Wrote (reports_of outputs))
 PrintsBy (Err WriteFailed) wanted text AtEnd Unwritten Wrote =
     AtEnd × ((outputs : List Output) × (written : ℕ) × (wanted ≡ Ok outputs)
     × (written < length (reports_of outputs)) × Wrote (take written (reports_of outputs)))
-PrintsBy (Err Memory) wanted text AtEnd Unwritten Wrote =
-    AnswersBy (Err Memory) wanted text AtEnd × (Unwritten ⊎ (AtEnd × PrintsFirst wanted Wrote))
 PrintsBy (Err fault) wanted text AtEnd Unwritten Wrote = AnswersBy (Err fault) wanted text AtEnd × Unwritten
 
 -- How a run ends that stores: on Ok there were outputs to store; a shelf fails after fewer files than they have; any other refusal

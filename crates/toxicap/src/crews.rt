@@ -46,7 +46,7 @@ pub(crate) trait Crew {
         requires table { table.now ≡ whole_table capture.now }
         ensures { IfOk result (λ v. v ≡ recordings_of capture.now) };
 
-    /// The lines of the connections in the reports of scenarios, of which the first has this number, in some shares one after another.
+    /// The lines of the connections in the reports of all scenarios, in some shares one after another.
     ///
     /// # Errors
     /// A growth was refused.
@@ -55,14 +55,13 @@ pub(crate) trait Crew {
         alloc: Global,
         capture: &Capture<'_>,
         table: &Table,
-        first: usize,
         scenarios: &[Scenario],
         seed: u64,
     ) -> Result<Values<ShareTexts>, AllocError>
         requires shares { shares self.now }
         requires table { table.now ≡ whole_table capture.now }
-        requires few { first + length scenarios.now ≤ scenario_limit }
-        ensures { IfOk result (HoldLines seed first scenarios.now (recordings_of capture.now)) };
+        requires few { length scenarios.now ≤ scenario_limit }
+        ensures { IfOk result (HoldLines seed 0 scenarios.now (recordings_of capture.now)) };
 
     /// What the connections contribute to a scenario with its number, in some shares one after another.
     ///
@@ -108,11 +107,10 @@ impl Crew for Alone {
         alloc: Global,
         capture: &Capture<'_>,
         table: &Table,
-        first: usize,
         scenarios: &[Scenario],
         seed: u64,
     ) -> Result<Values<ShareTexts>, AllocError> {
-        report_texts_alone(alloc, capture, table, first, scenarios, seed)
+        report_texts_alone(alloc, capture, table, 0, scenarios, seed)
     }
 
     fn deliver_row<'w, 'a>(
@@ -159,12 +157,11 @@ impl<'r, R: Threads + Sync> Crew for Workers<'r, R> {
         alloc: Global,
         capture: &Capture<'_>,
         table: &Table,
-        first: usize,
         scenarios: &[Scenario],
         seed: u64,
     ) -> Result<Values<ShareTexts>, AllocError> {
         report_texts(
-            self.rt, alloc, capture, table, first, scenarios, seed, self.plan, &Through,
+            self.rt, alloc, capture, table, 0, scenarios, seed, self.plan, &Through,
         )
     }
 

@@ -1,4 +1,4 @@
-//! The reports of some scenarios, held in the texts that they are made in, which are printed one after another without being put together.
+//! The reports of all scenarios, held in the texts that they are made in, which are printed one after another without being put together.
 ghost use Rattle.std.specs.Prelude.{◌≡◌, ◌≤◌, ◌++◌, ◌<◌, All, IfOk, OnOk, length};
 ghost use Rattle.conn_workers.specs.ReportTexts.{text_of};
 ghost use Rattle.run_files.specs.Streams.{joined};
@@ -10,7 +10,7 @@ use report::ReportText;
 use std::alloc::{AllocError, Global};
 use std::marker::Model;
 
-/// The reports of some scenarios, held in the texts that they are made in. Contracts see them one after another.
+/// The reports of all scenarios, held in the texts that they are made in. Contracts see them one after another.
 #[derive(Drop)]
 pub(crate) struct HeldReports {
     // The first two lines of each.
@@ -113,27 +113,14 @@ fn put_together(alloc: Global, texts: &[&[u8]]) -> Result<Vec<u8>, AllocError>
     ensures { IfOk result (λ whole. whole.items ≡ joined texts.now) }
 {
     let mut whole = Vec::with_capacity(alloc, texts_len(texts))?;
-    put_after(&mut whole, texts)?;
-    Ok(whole)
-}
-
-/// Appends texts, one after another.
-///
-/// # Errors
-/// A growth was refused.
-pub(crate) fn put_after(whole: &mut Vec<u8>, texts: &[&[u8]]) -> Result<(), AllocError>
-    ensures { OnOk result (whole.new.items ≡ whole.old.items ++ joined texts.now) }
-{
     for text in texts {
         whole.extend_from_slice(text)?;
     }
-    Ok(())
+    Ok(whole)
 }
 
-/// How many bytes texts have together, or the greatest number where they are more.
-pub(crate) fn texts_len(texts: &[&[u8]]) -> usize
-    ensures { result ≤ length (joined texts.now) }
-{
+// How many bytes texts have together, or the greatest number where they are more.
+fn texts_len(texts: &[&[u8]]) -> usize {
     let mut len = 0usize;
     for text in texts {
         len = len.saturating_add(text.len());

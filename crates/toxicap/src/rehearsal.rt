@@ -115,7 +115,7 @@ fn outputs_by<C: Crew>(
     ensures { IfOk result (λ outputs. outputs ≡ outputs_for capture.entry scenarios.now seed) }
 {
     let table = crew.table(alloc, &capture)?;
-    let heads = report_heads(alloc, &capture, &table, 0, scenarios.len())?;
+    let heads = report_heads(alloc, &capture, &table, scenarios.len())?;
     let recordings = crew.record(alloc, &capture, &table)?;
     let sources = Sources::of(alloc, capture, &heads, &recordings, scenarios, seed);
     sources.outputs(crew)

@@ -1,5 +1,5 @@
 //! The first two lines of the reports of scenarios, which the lines of the connections follow.
-ghost use Rattle.std.specs.Prelude.{◌≡◌, ◌+◌, ◌≤◌, IfOk};
+ghost use Rattle.std.specs.Prelude.{◌≡◌, ◌≤◌, IfOk};
 ghost use Rattle.conn_workers.specs.CaptureTables.{whole_table};
 ghost use Rattle.toxicap.specs.OutputParts.{heads_of};
 ghost use Rattle.toxicap.specs.Rehearsal.{scenario_limit};
@@ -9,7 +9,7 @@ use pcap_records::Capture;
 use report::{ReportText, report_head};
 use std::alloc::{AllocError, Global};
 
-/// The first two lines of the reports of so many scenarios, from that of a number on.
+/// The first two lines of the reports of so many scenarios.
 ///
 /// # Errors
 /// A growth was refused.
@@ -17,17 +17,15 @@ pub(crate) fn report_heads(
     alloc: Global,
     capture: &Capture<'_>,
     table: &Table,
-    first: usize,
     count: usize,
 ) -> Result<Vec<ReportText>, AllocError>
     requires table { table.now ≡ whole_table capture.now }
-    requires few { first + count ≤ scenario_limit }
-    ensures { IfOk result (λ heads. heads.items ≡ heads_of capture.now first count) }
+    requires few { count ≤ scenario_limit }
+    ensures { IfOk result (λ heads. heads.items ≡ heads_of capture.now count) }
 {
     let mut heads = Vec::with_capacity(alloc, count)?;
-    for place in 0..count {
-        let number = (first + place) as u32;
-        let head = report_head(alloc, number, capture, table)?;
+    for number in 0..count {
+        let head = report_head(alloc, number as u32, capture, table)?;
         heads.push(head)?;
     }
     Ok(heads)

@@ -1,24 +1,55 @@
 //! The reports of a rehearsal alone, held in memory: no segment is written, and no capture made.
-ghost use Rattle.std.specs.Prelude.{◌≡◌, ◌≤◌, IfOk, length, map};
+ghost use Rattle.std.specs.Prelude.{◌≡◌, ◌≤◌, IfErr, IfOk, List, length, map, ℕ};
 ghost use Rattle.lists.specs.Agreement.{Agrees, AgreesUnlessMemory};
-ghost use Rattle.pcap_records.specs.CaptureView.{bytes_of};
+ghost use Rattle.pcap_records.specs.CaptureView.{bytes_of, capture_refusal};
+ghost use Rattle.pcap_records.specs.Heads.{heads_in};
+ghost use Rattle.pcap_records.specs.Reading.{capture_limit, reading};
 ghost use Rattle.run_files.specs.RunFault.{run_refusal};
+ghost use Rattle.run_files.specs.SeenTexts.{IsSeenOf};
 ghost use Rattle.run_files.specs.WrittenOutputs.{reports_of};
-ghost use Rattle.toxicap.specs.Answering.{called_for};
+ghost use Rattle.toxicap.specs.Answering.{IsOfText, called_for};
 ghost use Rattle.toxicap.specs.CaptureOutputs.{outputs_for};
 ghost use Rattle.toxicap.specs.PrintedReports.{reports_in};
 ghost use Rattle.toxicap.specs.Rehearsal.{answer, scenario_limit};
 
 use crate::crews::Crew;
 use crate::held_reports::HeldReports;
-use crate::reading::{read_inputs, read_rehearsed};
-use crate::report_sources::ReportSources;
-use pcap_records::{Capture, FileBytes};
-use run_files::{RunFault, Text};
+use crate::reading::{SCENARIO_LIMIT, read_inputs, read_rehearsed, read_texts};
+use crate::report_heads::report_heads;
+use conn_workers::laws::lines_are_contributed;
+use pcap_records::{Capture, CaptureFault, FileBytes, KeptHeads};
+use report_laws::laws::report_sees_heads;
+use run_files::{RunFault, SeenText, Text};
 use scenarios::{Hosts, Scenario};
 use std::alloc::{AllocError, Global};
 
-/// The reports that a capture's text and the texts of scenarios call for, one after another.
+/// The reports that a capture's text and the texts of scenarios call for, one after another, of what was seen of the capture's text.
+///
+/// # Errors
+/// What they call for, or `Memory`, where a growth was refused.
+pub(crate) fn seen_reports<C: Crew>(
+    crew: &C,
+    alloc: Global,
+    seen: SeenText,
+    texts: &[&[u8]],
+    hosts: &Hosts,
+    seed: u64,
+) -> Result<HeldReports, RunFault>
+    requires { C.shares crew.now }
+    ensures told { (text : List ℕ) → length text ≤ capture_limit → IsSeenOf seen text → AgreesUnlessMemory run_refusal (λ reports. reports) result
+        (reports_in (called_for hosts.now (map (λ t. t.now) texts.now) seed text)) }
+    ensures of_text { IfErr result IsOfText }
+{
+    match seen {
+        SeenText::Dump(text) => text_reports(crew, alloc, text, texts, hosts, seed),
+        SeenText::Heads(heads) => {
+            let scenarios = read_texts(alloc, texts, hosts)?;
+            head_reports(crew, alloc, heads, &scenarios, seed)
+        }
+    }
+}
+
+/// The same of the whole text of a capture.
 ///
 /// # Errors
 /// What they call for, or `Memory`, where a growth was refused.
@@ -36,6 +67,33 @@ pub(crate) fn text_reports<C: Crew>(
 {
     let inputs = read_inputs(alloc, text, texts, hosts)?;
     rehearse_reports(crew, alloc, inputs.capture.bytes(), &inputs.scenarios, seed)
+}
+
+// The reports of a capture of which the heads of its packets were kept, or its first fault: reports see no more of it.
+//
+// # Errors
+// The answer's refusal, or `Memory`, where a growth was refused.
+fn head_reports<C: Crew>(
+    crew: &C,
+    alloc: Global,
+    heads: Result<KeptHeads, CaptureFault>,
+    scenarios: &[Scenario],
+    seed: u64,
+) -> Result<HeldReports, RunFault>
+    requires { C.shares crew.now }
+    ensures told { (bytes : List ℕ) → AgreesUnlessMemory capture_refusal (λ h. h) heads (heads_in (reading bytes))
+        → AgreesUnlessMemory run_refusal (λ reports. reports) result (reports_in (answer bytes scenarios.now seed)) }
+    ensures of_text { IfErr result IsOfText }
+{
+    report_sees_heads();
+    if scenarios.len() > SCENARIO_LIMIT {
+        return Err(RunFault::TooManyScenarios);
+    }
+    let heads = heads?;
+    let (bytes, records) = heads.split();
+    let capture = records.over(&bytes);
+    let reports = made_reports(crew, alloc, &capture, scenarios, seed)?;
+    Ok(reports)
 }
 
 /// The reports of a rehearsal of a capture under each of the scenarios, one after another: those of the outputs that `rehearse` gives,
@@ -59,7 +117,7 @@ pub(crate) fn rehearse_reports<C: Crew>(
 }
 
 // The reports of all scenarios, one after another. The crew makes the table of the capture, and then the lines of its connections in all
-// reports.
+// reports at once.
 //
 // # Errors
 // A growth was refused.
@@ -74,13 +132,9 @@ fn made_reports<C: Crew>(
     requires few { length scenarios.now ≤ scenario_limit }
     ensures { IfOk result (λ reports. reports ≡ reports_of (outputs_for capture.now scenarios.now seed)) }
 {
+    lines_are_contributed();
     let table = crew.table(alloc, capture)?;
-    let sources = ReportSources {
-        alloc,
-        capture,
-        table: &table,
-        scenarios,
-        seed,
-    };
-    sources.reports(crew, 0, scenarios.len())
+    let heads = report_heads(alloc, capture, &table, scenarios.len())?;
+    let shares = crew.report_texts(alloc, capture, &table, scenarios, seed)?;
+    Ok(HeldReports::of(heads, shares))
 }

@@ -19,8 +19,8 @@ ghost use Rattle.run_files.specs.RunFault.{run_refusal};
 use crate::answering::Options;
 use crate::crews::Workers;
 use crate::host_lines::read_hosts;
-use crate::printing::print_seen;
 use crate::reading::read_inputs;
+use crate::reports::seen_reports;
 use crate::storing::store_rehearsal;
 use command_line::Asked;
 use disks::laws::names_leave_whole;
@@ -28,7 +28,7 @@ use disks::{Disk, ReadDisk};
 use job_matrix::Plan;
 use run_files::{
     Counted, Folder, RunFault, SeenText, Text, load, load_by_workers, load_file, see_file,
-    see_input,
+    see_input, write_texts,
 };
 use std::alloc::{AllocError, Global};
 use std::io::{Read, Write};
@@ -73,7 +73,7 @@ where
     store_answers(rt, disk, alloc, text, folder, asked, &texts, &options)
 }
 
-// The reports of the answers to the capture that a command line names, printed as they are made.
+// The reports of the answers to the capture that a command line names. All are made before the first byte is written.
 fn print_answers<H: Threads + Wait + Sync, D: ReadDisk, R: Read, W: Write>(
     rt: &H,
     disk: &D,
@@ -100,15 +100,9 @@ fn print_answers<H: Threads + Wait + Sync, D: ReadDisk, R: Read, W: Write>(
         rt,
         plan: options.plan,
     };
-    print_seen(
-        &crew,
-        alloc,
-        seen,
-        texts,
-        &options.hosts,
-        options.seed,
-        writer,
-    )
+    let reports = seen_reports(&crew, alloc, seen, texts, &options.hosts, options.seed)?;
+    let texts = reports.texts(alloc)?;
+    write_texts(writer, &texts)
 }
 
 // What reports see of the capture, from the file that a command line names, or without one from a reader.

@@ -54,7 +54,7 @@ impl<'w, 'v, 'a> Sources<'w, 'v, 'a> {
         scenarios: &'w [Scenario],
         seed: u64,
     ) -> Self
-        requires heads { heads.now ≡ heads_of capture 0 (length scenarios.now) }
+        requires heads { heads.now ≡ heads_of capture (length scenarios.now) }
         requires recordings { recordings.now ≡ recordings_of capture }
         requires few { length scenarios.now ≤ scenario_limit }
         ensures { outputs_from result ≡ outputs_for capture.entry scenarios.now seed }

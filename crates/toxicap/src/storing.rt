@@ -69,7 +69,7 @@ where
     ensures faults { D.faults disk.new ≡ D.faults disk.old + failed_stores folder.old.folder result }
 {
     let table = crew.table(alloc, &capture)?;
-    let heads = report_heads(alloc, &capture, &table, 0, scenarios.len())?;
+    let heads = report_heads(alloc, &capture, &table, scenarios.len())?;
     let recordings = crew.record(alloc, &capture, &table)?;
     let sources = Sources::of(alloc, capture, &heads, &recordings, scenarios, seed);
     store_each(crew, &sources, folder, disk)

@@ -1,15 +1,17 @@
-use Rattle.std.proofs.Common.{length, ap, ◌∙◌, arith}
-use Rattle.std.proofs.lemmas.List.{take_all}
-use Rattle.std.proofs.lemmas.Result.{IfOk-weaker}
-use Rattle.run_files.specs.WrittenOutputs.{reports_of}
-use Rattle.toxicap.specs.CaptureOutputs.{outputs_for}
-use Rattle.toxicap.proofs.OutputSteps.{as_many_for}
+use Rattle.std.proofs.Common.{◌≡◌, List, ℕ, length, sym, ◌∙◌}
+use Rattle.std.proofs.lemmas.List.Elements.{All-weaker}
+use Rattle.toxicap.proofs.HeldReportSteps.{as_many_heads, held_are}
 use Rattle.toxicap.proofs.reports.made_reports.Goals as goal
+
+pub of-requires : goal.of-requires
+of-requires g c =
+    let hold = c.in_ok-shares.ensures in
+    let as_many = as_many_heads c.args.capture.now c.args.scenarios.now c.args.seed c.lines_are_contributed.ensures
+    c.in_ok-heads.heads.items c.in_ok-heads.ensures c.in_ok-shares.shares hold in
+    All-weaker _ (λ (share : List (List ℕ)). length share ≡ length c.in_ok-heads.heads.items) (λ share is. is ∙ sym as_many) c.in_ok-shares.shares hold.each
 
 pub returns : goal.returns
 returns g c =
-    let capture = c.args.capture.now in
-    let scenarios = c.args.scenarios.now in
-    let outputs = outputs_for capture scenarios c.args.seed in
-    IfOk-weaker c.reports.result _ _
-    (λ reports is. is ∙ ap reports_of (take_all (length scenarios) outputs (omega (arith, as_many_for capture scenarios c.args.seed)))) c.reports.ensures
+    c.of.ensures
+    ∙ held_are c.args.capture.now c.args.scenarios.now c.args.seed c.lines_are_contributed.ensures
+    c.in_ok-heads.heads.items c.in_ok-heads.ensures c.in_ok-shares.shares c.in_ok-shares.ensures

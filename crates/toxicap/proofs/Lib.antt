@@ -22,3 +22,5 @@ mod PrintedSteps
 mod PrintingSteps
 mod SeenReports
 mod GatheredTexts
+mod ReportLines
+mod OutputsIsolated

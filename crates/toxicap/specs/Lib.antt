@@ -16,3 +16,4 @@ pub mod NamedFiles
 pub mod WrittenRows
 pub mod GroupingRows
 pub mod SeenLengths
+pub mod IsolatedOutputs

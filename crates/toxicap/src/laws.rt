@@ -1,6 +1,7 @@
 //! Theorems about the definitions of this crate. Each function does nothing, or names the theorems that it stands on: its
 //! contract is the theorem.
 ghost use Rattle.toxicap.specs.SoundOutputs.{OutputsAreRead};
+ghost use Rattle.toxicap.specs.IsolatedOutputs.{OutputsAreIsolated};
 ghost use Rattle.toxicap.specs.NamedFiles.{FilesAreLoadedInOrder};
 ghost use Rattle.toxicap.specs.Rehearsal.{ByteOrderDoesNotMatter};
 ghost use Rattle.toxicap.specs.SeenLengths.{ReportsSeeLengths};
@@ -51,4 +52,17 @@ pub fn reports_see_lengths()
     ensures { ReportsSeeLengths }
 {
     report_sees_lengths();
+}
+
+/// Two rehearsals of one capture with one seed, in which scenario s has other proxies. The line of a connection that meets the same proxy of
+/// both is the same. So are its records in the output capture, where each connection between the same two ends meets the same proxy of both.
+/// What other connections meet changes neither.
+pub fn outputs_are_isolated()
+    ensures { OutputsAreIsolated }
+{
+    readings_split();
+    written_is_read();
+    headers_are_sound();
+    segments_fit();
+    sorted_never_falls();
 }

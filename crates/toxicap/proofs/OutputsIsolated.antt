@@ -2,6 +2,7 @@
 use Rattle.std.proofs.Common.{◌≡◌, ◌≤◌, ℕ, zero, suc, ◌+◌, Bool, true, false, ◌||◌, ◌&&◌, nat_lt, cond, List, [], ◌∷◌, ◌++◌, length, map, filter, Option, Some, Ok, Err, inl, inr, refl, sym, ap, ap₂, ◌∙◌, subst, arith, if◌then◌else◌}
 use Rattle.std.specs.Prelude.{slice_get}
 use Rattle.std.specs.List.{AllByRecursion, enumerate_from, flat_map}
+use Rattle.std.proofs.Math.Bool.{or_comm}
 use Rattle.std.proofs.lemmas.Bool.{ltb-false}
 use Rattle.std.proofs.lemmas.List.Elements.{filter-append}
 use Rattle.std.proofs.lemmas.Simd.{map-map}
@@ -14,9 +15,8 @@ use Rattle.pcap_records.specs.Grammar.{ReadingsSplit}
 use Rattle.frame_headers.specs.Frame.{segment_fields}
 use Rattle.frame_headers.specs.HeaderLaws.{HeadersAreSound, SegmentsFit}
 use Rattle.conn_table.specs.SeenCapture.{SeenCapture, seen_capture}
-use Rattle.conn_table.specs.IndexedSegments.{same_peer, indexed_segments}
+use Rattle.conn_table.specs.IndexedSegments.{indexed_segments}
 use Rattle.conn_table.specs.Connections.{Connection, unopened_count}
-use Rattle.reassembly.specs.Positions.{client_of, server_of}
 use Rattle.toxic_defs.specs.DeliveredLines.{MetProxy, DeliveredConnection}
 use Rattle.segment_writer.specs.declared.framed.Framed.{Framed}
 use Rattle.segment_writer.specs.WrittenSegments.{is_key_below, below, insert_by_key, sorted_by_key}
@@ -88,36 +88,33 @@ first_inserted x [] none = refl
 first_inserted x (y ∷ ys) none = rw none.0 refl
 
 module _ (q : Framed → Bool) where
-  insert_kept : (x : Framed) (ys : List Framed) → q x ≡ true → NeverFalls (insert_by_key x ys) → filter q (insert_by_key x ys) ≡ insert_by_key x (filter q ys)
-  insert_kept x [] kept ordered = rw kept refl
-  insert_kept x (y ∷ ys) kept ordered = by (is_key_below y.key x.key) (q y) refl refl (λ h. insert_kept x ys kept h) ordered
+  inserted_filtered : (x : Framed) (ys : List Framed) → NeverFalls (insert_by_key x ys) → filter q (insert_by_key x ys) ≡ cond (q x) (insert_by_key x (filter q ys)) (filter q ys)
+  inserted_filtered x [] ordered = refl
+  inserted_filtered x (y ∷ ys) ordered = by (is_key_below y.key x.key) refl (λ h. inserted_filtered x ys h) ordered
     where
-      by : (lower keep : Bool) → is_key_below y.key x.key ≡ lower → q y ≡ keep → (NeverFalls (insert_by_key x ys) → filter q (insert_by_key x ys) ≡ insert_by_key x (filter q ys))
-          → NeverFalls (if lower then y ∷ insert_by_key x ys else x ∷ y ∷ ys)
-          → filter q (if lower then y ∷ insert_by_key x ys else x ∷ y ∷ ys) ≡ insert_by_key x (cond keep (y ∷ filter q ys) (filter q ys))
-      by true true lower keep rest ordered = rw (keep, lower, rest ordered.1) refl
-      by true false lower keep rest ordered = rw (keep, rest ordered.1) refl
-      by false keep lower test rest ordered =
-          rw (kept, test) (sym (first_inserted x (cond keep (y ∷ filter q ys) (filter q ys))
-          (subst (λ (zs : List Framed). NoneBelow below x zs) (ap (λ (k : Bool). cond k (y ∷ filter q ys) (filter q ys)) test) (each_filtered (λ z. below z x ≡ false) q (y ∷ ys) ordered.0))))
+      passed : is_key_below y.key x.key ≡ true → (kept keep : Bool)
+          → cond keep (y ∷ cond kept (insert_by_key x (filter q ys)) (filter q ys)) (cond kept (insert_by_key x (filter q ys)) (filter q ys))
+          ≡ cond kept (insert_by_key x (cond keep (y ∷ filter q ys) (filter q ys))) (cond keep (y ∷ filter q ys) (filter q ys))
+      passed lower true true = rw lower refl
+      passed lower true false = refl
+      passed lower false keep = refl
 
-  insert_left_out : (x : Framed) (ys : List Framed) → q x ≡ false → filter q (insert_by_key x ys) ≡ filter q ys
-  insert_left_out x [] out = rw out refl
-  insert_left_out x (y ∷ ys) out = by (is_key_below y.key x.key) (insert_left_out x ys out)
-    where
-      by : (lower : Bool) → filter q (insert_by_key x ys) ≡ filter q ys → filter q (if lower then y ∷ insert_by_key x ys else x ∷ y ∷ ys) ≡ filter q (y ∷ ys)
-      by true rest = ap (λ (zs : List Framed). cond (q y) (y ∷ zs) zs) rest
-      by false rest = rw out refl
+      by : (lower : Bool) → is_key_below y.key x.key ≡ lower → (NeverFalls (insert_by_key x ys) → filter q (insert_by_key x ys) ≡ cond (q x) (insert_by_key x (filter q ys)) (filter q ys))
+          → NeverFalls (if lower then y ∷ insert_by_key x ys else x ∷ y ∷ ys)
+          → filter q (if lower then y ∷ insert_by_key x ys else x ∷ y ∷ ys) ≡ cond (q x) (insert_by_key x (filter q (y ∷ ys))) (filter q (y ∷ ys))
+      by true lower rest ordered = rw (rest ordered.1) (passed lower (q x) (q y))
+      by false higher rest ordered =
+          ap (λ (zs : List Framed). cond (q x) zs (filter q (y ∷ ys))) (sym (first_inserted x (filter q (y ∷ ys)) (each_filtered (λ z. below z x ≡ false) q (y ∷ ys) ordered.0)))
 
   sorted_filtered : SortedNeverFalls → (xs : List Framed) → filter q (sorted_by_key xs) ≡ sorted_by_key (filter q xs)
   unfolding sorted_by_key
   sorted_filtered never_falls [] = refl
-  sorted_filtered never_falls (x ∷ xs) = by (q x) refl (sorted_filtered never_falls xs)
+  sorted_filtered never_falls (x ∷ xs) = inserted_filtered x (sorted_by_key xs) (never_falls (x ∷ xs)) ∙ by (q x) (sorted_filtered never_falls xs)
     where
-      by : (keep : Bool) → q x ≡ keep → filter q (sorted_by_key xs) ≡ sorted_by_key (filter q xs)
-          → filter q (insert_by_key x (sorted_by_key xs)) ≡ sorted_by_key (cond keep (x ∷ filter q xs) (filter q xs))
-      by true kept rest = insert_kept x (sorted_by_key xs) kept (never_falls (x ∷ xs)) ∙ ap (insert_by_key x) rest
-      by false out rest = insert_left_out x (sorted_by_key xs) out ∙ rest
+      by : (keep : Bool) → filter q (sorted_by_key xs) ≡ sorted_by_key (filter q xs)
+          → cond keep (insert_by_key x (filter q (sorted_by_key xs))) (filter q (sorted_by_key xs)) ≡ sorted_by_key (cond keep (x ∷ filter q xs) (filter q xs))
+      by true rest = ap (insert_by_key x) rest
+      by false rest = rest
 
 mapped_filtered : {X Y : Type 0} (p : Y → Bool) (f : X → Y) (xs : List X) → filter p (map f xs) ≡ map f (filter (λ x. p (f x)) xs)
 mapped_filtered p f [] = refl
@@ -130,11 +127,6 @@ mapped_filtered p f (x ∷ xs) = by (p (f x)) (mapped_filtered p f xs)
 
 -- ---- records between the ends of a connection
 
-either : (p q : Bool) → p || q ≡ false → q || p ≡ false
-either true q none = absurd cc
-either false true none = absurd cc
-either false false none = refl
-
 module _ (x : Connection) where
   abbrev is_kept : Framed → Bool
   is_kept z = is_between x (segment_fields (packet_of z).bytes)
@@ -146,9 +138,7 @@ module _ (x : Connection) where
     where
       by : HasEnds (written_of c d) (segment_fields is.is.frame) → is_kept z ≡ false
       by (inl goes) = rw (frame_is ticks z (written_of c d) is, goes.from, goes.to) other
-      by (inr goes) =
-          rw (frame_is ticks z (written_of c d) is, goes.from, goes.to)
-          (either (same_peer (client_of c) (client_of x) && same_peer (server_of c) (server_of x)) (same_peer (server_of c) (client_of x) && same_peer (client_of c) (server_of x)) other)
+      by (inr goes) = rw (frame_is ticks z (written_of c d) is, goes.from, goes.to, or_comm) other
 
   module _ (sound_headers : HeadersAreSound) (ticks seed s : ℕ) (a b : List Proxy) where
     same_kept : (cs : List Connection) → AllByRecursion IsSoundConnection cs → AllByRecursion (λ y. is_between x y.opening.fields ≡ true → MeetsSame a b y) cs

@@ -37,22 +37,17 @@ after whole (x ∷ xs) ys is rest = by (x == 10) (λ h. after whole xs ys h rest
     by false more is = more is
 
 glyph_is : (d : ℕ) → (digit_glyph false d == 10) ≡ false
-glyph_is d = by (nat_lt d 10)
-  where
-    by : (b : Bool) → ((if b then 48 + d else 87 + d) == 10) ≡ false
-    by true = ne_eqb (48 + d) 10 (λ q. absurd (omega arith))
-    by false = ne_eqb (87 + d) 10 (λ q. absurd (omega arith))
+glyph_is d =
+    elim (nat_lt d 10) as (λ b. ((if b then 48 + d else 87 + d) == 10) ≡ false)
+    [ true ↦ ne_eqb (48 + d) 10 (λ q. absurd (omega arith)) | false ↦ ne_eqb (87 + d) 10 (λ q. absurd (omega arith)) ]
 
 digits_are : (k n : ℕ) (acc : List ℕ) → is_line false acc ≡ true → is_line false (digits_onto k 10 false n acc) ≡ true
 digits_are zero n acc is = is
 digits_are (suc k) n acc is =
-    let more : is_line false (digit_glyph false (n % 10) ∷ acc) ≡ true = rw (glyph_is (n % 10)) is in
-    by (n / 10 == 0) more (digits_are k (n / 10) (digit_glyph false (n % 10) ∷ acc) more)
-  where
-    by : (b : Bool) → is_line false (digit_glyph false (n % 10) ∷ acc) ≡ true → is_line false (digits_onto k 10 false (n / 10) (digit_glyph false (n % 10) ∷ acc)) ≡ true
-        → is_line false (if b then digit_glyph false (n % 10) ∷ acc else digits_onto k 10 false (n / 10) (digit_glyph false (n % 10) ∷ acc)) ≡ true
-    by true here more = here
-    by false here more = more
+    let digit : ℕ = digit_glyph false (n % 10) in
+    let more : is_line false (digit ∷ acc) ≡ true = rw (glyph_is (n % 10)) is in
+    elim (n / 10 == 0) as (λ b. is_line false (if b then digit ∷ acc else digits_onto k 10 false (n / 10) (digit ∷ acc)) ≡ true)
+    [ true ↦ more | false ↦ digits_are k (n / 10) (digit ∷ acc) more ]
 
 number : (n : ℕ) → is_line false (decimal n) ≡ true
 unfolding digits

@@ -54,9 +54,9 @@ pub fn reports_see_lengths()
     report_sees_lengths();
 }
 
-/// Two rehearsals of one capture with one seed, in which scenario s has other proxies. The line of a connection that meets the same proxy of
-/// both is the same. So are its records in the output capture, where each connection between the same two ends meets the same proxy of both.
-/// What other connections meet changes neither.
+/// Scenario s of one list and of another, for one capture and one seed. A connection that meets the same proxy under both has the same line in
+/// both reports. Where each connection between its two ends does, both output captures, as they are read, have the same records between these
+/// ends, in the same order. What other connections meet changes neither.
 pub fn outputs_are_isolated()
     ensures { OutputsAreIsolated }
 {

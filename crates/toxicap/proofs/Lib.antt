@@ -20,3 +20,5 @@ mod HeldReportSteps
 mod ReadyDrafts
 mod PrintedSteps
 mod SeenReports
+mod ReportLines
+mod OutputsIsolated

@@ -1,11 +1,12 @@
 -- Output captures are read back whole.
-use Rattle.std.proofs.Common.{◌≡◌, ◌≤◌, ℕ, ◌+◌, Bool, true, false, ◌||◌, nat_lt, List, [], ◌∷◌, ◌++◌, length, map, Ok, Err, refl, sym, ap, ◌∙◌, subst, arith, if◌then◌else◌}
+use Rattle.std.proofs.Common.{◌≡◌, ◌≤◌, ℕ, ◌+◌, Bool, true, false, ◌||◌, nat_lt, List, [], ◌∷◌, ◌++◌, length, map, drop, Ok, Err, refl, sym, ap, ap₂, ◌∙◌, subst, arith, if◌then◌else◌}
 use Rattle.std.specs.List.{AllByRecursion, enumerate_from, flat_map}
 use Rattle.std.proofs.lemmas.Bool.{ltb-false}
 use Rattle.pcap_records.specs.declared.unit.Unit.{Unit}
 use Rattle.pcap_records.specs.Instants.{ticks_of}
-use Rattle.pcap_records.specs.Reading.{Packet, Contents, capture_limit}
-use Rattle.pcap_records.specs.Writing.{file_header, record_bytes, written_capture, IsWritable, WrittenIsRead}
+use Rattle.pcap_records.specs.declared.heading.Order.TheVariants.{Little}
+use Rattle.pcap_records.specs.Reading.{Packet, Contents, Reading, capture_limit, reading, record_header_len}
+use Rattle.pcap_records.specs.Writing.{file_header, record_bytes, record_header, written_capture, IsWritable, WrittenIsRead}
 use Rattle.pcap_records.specs.Grammar.{ReadingsSplit}
 use Rattle.frame_headers.specs.HeaderLaws.{HeadersAreSound, SegmentsFit}
 use Rattle.run_files.specs.declared.error.RunFault.TheVariants.{TooManyScenarios}
@@ -13,7 +14,7 @@ use Rattle.segment_writer.specs.declared.framed.Framed.{Framed}
 use Rattle.scenarios.specs.declared.proxies.Proxy.{Proxy}
 use Rattle.conn_table.specs.IndexedSegments.{indexed_segments}
 use Rattle.conn_table.specs.Connections.{Connection, connections}
-use Rattle.segment_writer.specs.WrittenSegments.{below, sorted_by_key}
+use Rattle.segment_writer.specs.WrittenSegments.{WrittenConnection, below, sorted_by_key}
 use Rattle.time_merge.specs.MergedCapture.{capture_of}
 use Rattle.reassembly.specs.Positions.{client_of, server_of, vlan_of}
 use Rattle.reassembly.specs.RecordedLines.{recorded_connection}
@@ -41,56 +42,72 @@ not_earlier a b later test = by (nat_lt a b) refl test
     by true is test = absurd cc
     by false is test = ltb-false a b is
 
+-- the packet of a record
+abbrev pub packet_of : Framed → Packet
+packet_of x = record { stamp = x.key.moment; bytes = drop record_header_len x.bytes }
+
 module _ (ticks : ℕ) where
-  packet_with : (x : Framed) → IsWritten ticks x → Packet
-  packet_with x is = record { stamp = x.key.moment; bytes = is.is.frame }
+  -- a record of some connection
+  abbrev pub IsOfSome : Framed → Type 0
+  IsOfSome x = (c : WrittenConnection) × IsWritten ticks c x
 
-  packets_of : (xs : List Framed) → AllByRecursion (IsWritten ticks) xs → List Packet
-  packets_of [] all = []
-  packets_of (x ∷ xs) all = packet_with x all.0 ∷ packets_of xs all.1
+  of_some : (c : WrittenConnection) (xs : List Framed) → AllByRecursion (IsWritten ticks c) xs → AllByRecursion IsOfSome xs
+  of_some c [] all = tt
+  of_some c (x ∷ xs) all = ((c, all.0), of_some c xs all.1)
 
-  bytes_are : (xs : List Framed) (all : AllByRecursion (IsWritten ticks) xs) → flat_map (λ x. x.bytes) xs ≡ flat_map (λ p. record_bytes ticks p.stamp p.bytes) (packets_of xs all)
-  unfolding packets_of packet_with
+  pub frame_is : (x : Framed) (c : WrittenConnection) (is : IsWritten ticks c x) → (packet_of x).bytes ≡ is.is.frame
+  unfolding record_header
+  frame_is x c is = ap (drop record_header_len) is.is.bytes
+
+  bytes_are : (xs : List Framed) → AllByRecursion IsOfSome xs → flat_map (λ x. x.bytes) xs ≡ flat_map (λ p. record_bytes ticks p.stamp p.bytes) (map packet_of xs)
   bytes_are [] all = refl
-  bytes_are (x ∷ xs) all = rw (all.0.is.bytes, bytes_are xs all.1) refl
+  bytes_are (x ∷ xs) ((c, is), all) = ap₂ (λ bs more. bs ++ more) (is.is.bytes ∙ ap (record_bytes ticks x.key.moment) (sym (frame_is x c is))) (bytes_are xs all)
 
-  writable : (xs : List Framed) (all : AllByRecursion (IsWritten ticks) xs) → AllByRecursion (IsWritable ticks) (packets_of xs all)
-  unfolding packets_of packet_with
+  writable : (xs : List Framed) → AllByRecursion IsOfSome xs → AllByRecursion (IsWritable ticks) (map packet_of xs)
   writable [] all = tt
-  writable (x ∷ xs) all = (record { stamped = all.0.in_time; limited = all.0.is.limited }, writable xs all.1)
+  writable (x ∷ xs) ((c, is), all) = (record { stamped = is.in_time; limited = rw (frame_is x c is) is.is.limited }, writable xs all)
 
-  never_fall : (x : Framed) (xs : List Framed) (all : AllByRecursion (IsWritten ticks) xs) → NoneBelow below x xs → NeverFalls xs → NeverFall x.key.moment (packets_of xs all)
-  unfolding packets_of packet_with
-  never_fall x [] all none ordered = tt
-  never_fall x (y ∷ ys) all none ordered = (not_earlier y.key.moment x.key.moment _ none.0, never_fall y ys all.1 ordered.0 ordered.1)
-
-  in_time_order : (xs : List Framed) (all : AllByRecursion (IsWritten ticks) xs) → NeverFalls xs → NeverFall 0 (packets_of xs all)
-  unfolding packets_of packet_with
-  in_time_order [] all ordered = tt
-  in_time_order (x ∷ xs) all ordered = (omega arith, never_fall x xs all.1 ordered.0 ordered.1)
-
-  sound : (xs : List Framed) (all : AllByRecursion (IsWritten ticks) xs) → AllByRecursion (λ p. IsSoundFrame p.bytes) (packets_of xs all)
-  unfolding packets_of packet_with
+  sound : (xs : List Framed) → AllByRecursion IsOfSome xs → AllByRecursion (λ p. IsSoundFrame p.bytes) (map packet_of xs)
   sound [] all = tt
-  sound (x ∷ xs) all = (all.0.is.sound, sound xs all.1)
+  sound (x ∷ xs) ((c, is), all) = (subst IsSoundFrame (sym (frame_is x c is)) is.is.sound, sound xs all)
 
-capture_read : SortedNeverFalls → WrittenIsRead → (unit : Unit) (xs : List Framed) → AllByRecursion (IsWritten (ticks_of unit)) xs
-    → length (capture_of (ticks_of unit) xs) ≤ capture_limit → IsReadWhole (ticks_of unit) (capture_of (ticks_of unit) xs)
+never_fall : (x : Framed) (xs : List Framed) → NoneBelow below x xs → NeverFalls xs → NeverFall x.key.moment (map packet_of xs)
+never_fall x [] none ordered = tt
+never_fall x (y ∷ ys) none ordered = (not_earlier y.key.moment x.key.moment _ none.0, never_fall y ys ordered.0 ordered.1)
+
+in_time_order : (xs : List Framed) → NeverFalls xs → NeverFall 0 (map packet_of xs)
+in_time_order [] ordered = tt
+in_time_order (x ∷ xs) ordered = (omega arith, never_fall x xs ordered.0 ordered.1)
+
+-- the reading of a capture: a packet for each record, in order
+abbrev pub reading_of : ℕ → List Framed → Reading
+reading_of ticks xs = record { order = Little; contents = record { ticks = ticks; packets = map packet_of (sorted_by_key xs); rest = 0 } }
+
+pub capture_reading : WrittenIsRead → (unit : Unit) (xs : List Framed) → AllByRecursion (IsOfSome (ticks_of unit)) xs
+    → length (capture_of (ticks_of unit) xs) ≤ capture_limit → reading (capture_of (ticks_of unit) xs) ≡ Ok (reading_of (ticks_of unit) xs)
 unfolding capture_of
-capture_read never_falls written_is_read unit xs written within =
+capture_reading written_is_read unit xs written within =
     let ticks : ℕ = ticks_of unit in
-    let all = all-sorted_by_key ticks xs written in
-    let packets : List Packet = packets_of ticks (sorted_by_key xs) all in
-    let bytes : file_header ticks ++ flat_map (λ x. x.bytes) (sorted_by_key xs) ≡ written_capture ticks packets = ap (λ bs. file_header ticks ++ bs) (bytes_are ticks (sorted_by_key xs) all) in (
-      packets,
-      rw bytes (written_is_read unit packets (writable ticks (sorted_by_key xs) all) (rw bytes at within)),
-      in_time_order ticks (sorted_by_key xs) all (never_falls xs),
-      sound ticks (sorted_by_key xs) all,
-    )
+    let all = all-sorted_by_key (IsOfSome ticks) xs written in
+    let bytes : file_header ticks ++ flat_map (λ x. x.bytes) (sorted_by_key xs) ≡ written_capture ticks (map packet_of (sorted_by_key xs)) =
+    ap (λ bs. file_header ticks ++ bs) (bytes_are ticks (sorted_by_key xs) all) in
+    rw bytes (written_is_read unit (map packet_of (sorted_by_key xs)) (writable ticks (sorted_by_key xs) all) (rw bytes at within))
+
+capture_read : SortedNeverFalls → WrittenIsRead → (unit : Unit) (xs : List Framed) → AllByRecursion (IsOfSome (ticks_of unit)) xs
+    → length (capture_of (ticks_of unit) xs) ≤ capture_limit → IsReadWhole (ticks_of unit) (capture_of (ticks_of unit) xs)
+capture_read never_falls written_is_read unit xs written within = (
+  map packet_of (sorted_by_key xs),
+  capture_reading written_is_read unit xs written within,
+  in_time_order (sorted_by_key xs) (never_falls xs),
+  sound (ticks_of unit) (sorted_by_key xs) (all-sorted_by_key (IsOfSome (ticks_of unit)) xs written),
+)
 
 -- ---- outputs
 
-talk_is : (c : Connection) → IsSoundConnection c → (d : DeliveredConnection) → IsSoundWritten (written_connection c.number (vlan_of c) (client_of c) (server_of c) (recorded_connection c) d)
+abbrev pub written_of : Connection → DeliveredConnection → WrittenConnection
+written_of c d = written_connection c.number (vlan_of c) (client_of c) (server_of c) (recorded_connection c) d
+
+talk_is : (c : Connection) → IsSoundConnection c → (d : DeliveredConnection) → IsSoundWritten (written_of c d)
 talk_is c is d = record {
   client = record { mac = is.opening.mac_from; addr = is.opening.from_addr; port = is.opening.from_port };
   server = record { mac = is.opening.mac_to; addr = is.opening.to_addr; port = is.opening.to_port };
@@ -100,14 +117,20 @@ talk_is c is d = record {
   vlan = is.opening.vlan;
 }
 
-parts_are : HeadersAreSound → (ticks seed : ℕ) (scenario : ℕ × List Proxy) (cs : List Connection) → AllByRecursion IsSoundConnection cs
-    → AllByRecursion (IsWritten ticks) (flat_map (λ p. p.segments) (map (contribution_of ticks seed scenario) cs))
-unfolding contribution
-parts_are sound_headers ticks seed scenario [] all = tt
-parts_are sound_headers ticks seed (number, proxies) (c ∷ cs) all =
-    each_of_both (IsWritten ticks) _ _
-    (segments_are ticks sound_headers _ (talk_is c all.0 (delivered_connection ticks seed number c.number (met_proxy (server_of c) proxies) (recorded_connection c))))
-    (parts_are sound_headers ticks seed (number, proxies) cs all.1)
+module _ (sound_headers : HeadersAreSound) (ticks seed : ℕ) where
+  pub part_is : (scenario : ℕ × List Proxy) (c : Connection) → IsSoundConnection c
+      → (d : DeliveredConnection) × AllByRecursion (IsWritten ticks (written_of c d)) (contribution_of ticks seed scenario c).segments
+  unfolding contribution
+  part_is (number, proxies) c is =
+      let d : DeliveredConnection = delivered_connection ticks seed number c.number (met_proxy (server_of c) proxies) (recorded_connection c) in
+      (d, segments_are ticks sound_headers (written_of c d) (talk_is c is d))
+
+  pub parts_are : (scenario : ℕ × List Proxy) (cs : List Connection) → AllByRecursion IsSoundConnection cs
+      → AllByRecursion (IsOfSome ticks) (flat_map (λ p. p.segments) (map (contribution_of ticks seed scenario) cs))
+  parts_are scenario [] all = tt
+  parts_are scenario (c ∷ cs) all =
+      let part = part_is scenario c all.0 in
+      each_of_both (IsOfSome ticks) _ _ (of_some ticks (written_of c part.0) _ part.1) (parts_are scenario cs all.1)
 
 outputs_read : SortedNeverFalls → WrittenIsRead → HeadersAreSound → SegmentsFit → (unit : Unit) (packets : List Packet) (rest : ℕ) → AllByRecursion HasBytes packets → (seed n : ℕ) (scenarios : List (List Proxy))
     → let c : SeenCapture = seen_capture (record { ticks = ticks_of unit; packets = packets; rest = rest }) in

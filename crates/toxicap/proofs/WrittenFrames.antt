@@ -1,11 +1,12 @@
 -- Each written segment is a record before the horizon whose frame is a TCP segment with both checksums right.
-use Rattle.std.proofs.Common.{◌≡◌, ◌≢◌, ◌<◌, ◌≤◌, ℕ, zero, suc, ◌+◌, ◌-◌, ◌^◌, ◌==◌, Bool, true, false, ◌||◌, nat_lt, Option, Some, None, List, [], ◌∷◌, ◌++◌, length, map, refl, sym, arith, length-append, if◌then◌else◌}
+use Rattle.std.proofs.Common.{◌≡◌, ◌≢◌, ◌<◌, ◌≤◌, ◌⊎◌, inl, inr, ℕ, zero, suc, ◌+◌, ◌-◌, ◌^◌, ◌==◌, Bool, true, false, ◌||◌, nat_lt, Option, Some, None, List, [], ◌∷◌, ◌++◌, length, map, refl, sym, ap, arith, length-append, if◌then◌else◌}
 use Rattle.std.specs.List.{AllByRecursion, enumerate_from}
 use Rattle.std.proofs.lemmas.Bool.{ltb-true, or_parts}
 use Rattle.pcap_records.specs.Instants.{horizon}
 use Rattle.pcap_records.specs.Reading.{packet_limit}
 use Rattle.pcap_records.specs.Writing.{record_bytes}
 use Rattle.frame_headers.specs.Flags
+use Rattle.frame_headers.specs.Frame.{SegmentFields, segment_fields}
 use Rattle.frame_headers.specs.HeaderLaws.{IsHeader, IsVlan, HeadersAreSound}
 use Rattle.frame_headers.specs.Headers.{headers}
 use Rattle.frame_headers.specs.Layout.{headers_len, payload_limit}
@@ -18,11 +19,21 @@ use Rattle.toxicap.proofs.EachElement.{each_of_both}
 
 -- ---- the record of a segment
 
--- a record with a sound frame that a file can hold
-pub record IsRecord (ticks : ℕ) (x : Framed) : Type 0 where
+-- a segment goes from one host to another
+pub record Goes (sender receiver : Host) (f : SegmentFields) : Type 0 where
+  pub from : f.from ≡ sender.peer
+  pub to : f.to ≡ receiver.peer
+
+-- it goes from one side of a connection to the other
+abbrev pub HasEnds : WrittenConnection → SegmentFields → Type 0
+HasEnds c f = Goes c.client.host c.server.host f ⊎ Goes c.server.host c.client.host f
+
+-- a record with a sound frame that a file can hold, of a connection
+pub record IsRecord (ticks : ℕ) (c : WrittenConnection) (x : Framed) : Type 0 where
   pub frame : List ℕ
   pub limited : length frame ≤ packet_limit
   pub sound : IsSoundFrame frame
+  pub ends : HasEnds c (segment_fields frame)
   pub bytes : x.bytes ≡ record_bytes ticks x.key.moment frame
 
 -- what a host and a segment have to be for headers to hold them
@@ -42,8 +53,8 @@ headers_few : (vlan : Option ℕ) → headers_len vlan ≤ headers_len (Some 0)
 headers_few None = omega arith
 headers_few (Some v) = omega arith
 
-module _ (ticks : ℕ) (sound : HeadersAreSound) (c : WrittenConnection) (vlan : IsVlan c.vlan) (from to : Host) (is_from : IsHost from) (is_to : IsHost to) (differ : from.peer ≢ to.peer) where
-  framed_is : (turn place : ℕ) (s : SentSegment) → IsSentSegment s → IsRecord ticks (framed_segment ticks c turn from to (place, s))
+module _ (ticks : ℕ) (sound : HeadersAreSound) (c : WrittenConnection) (vlan : IsVlan c.vlan) (from to : Host) (is_from : IsHost from) (is_to : IsHost to) (differ : from.peer ≢ to.peer) (ends : (f : SegmentFields) → Goes from to f → HasEnds c f) where
+  framed_is : (turn place : ℕ) (s : SentSegment) → IsSentSegment s → IsRecord ticks c (framed_segment ticks c turn from to (place, s))
   unfolding frame_bytes
   framed_is turn place s sent =
       let h : Header = header_of c from to s in
@@ -65,10 +76,11 @@ module _ (ticks : ℕ) (sound : HeadersAreSound) (c : WrittenConnection) (vlan :
         frame = frame_bytes c from to s;
         limited = omega (arith, length-append (headers h s.payload) s.payload, written.0, sent.short, headers_few c.vlan);
         sound = (read.class differ, sums.ipv4, rw read.fields sums.tcp);
+        ends = ends _ (record { from = ap (λ (f : SegmentFields). f.from) read.fields; to = ap (λ (f : SegmentFields). f.to) read.fields });
         bytes = refl;
       }
 
-  turn_is : (turn n : ℕ) (sent : List SentSegment) → AllByRecursion IsSentSegment sent → AllByRecursion (IsRecord ticks) (map (framed_segment ticks c turn from to) (enumerate_from n sent))
+  turn_is : (turn n : ℕ) (sent : List SentSegment) → AllByRecursion IsSentSegment sent → AllByRecursion (IsRecord ticks c) (map (framed_segment ticks c turn from to) (enumerate_from n sent))
   turn_is turn n [] are = tt
   turn_is turn n (s ∷ sent) are = (framed_is turn n s are.0, turn_is turn (n + 1) sent are.1)
 
@@ -141,13 +153,13 @@ pub record IsSoundWritten (t : WrittenConnection) : Type 0 where
   pub vlan : IsVlan t.vlan
 
 module _ (ticks : ℕ) (sound : HeadersAreSound) (t : WrittenConnection) (is : IsSoundWritten t) where
-  by_client_is : (turn place : ℕ) (s : SentSegment) → IsSentSegment s → IsRecord ticks (framed_by_client ticks t turn (place, s))
-  by_client_is turn place s sent = framed_is ticks sound t is.vlan t.client.host t.server.host is.client is.server is.differ turn place s sent
+  by_client_is : (turn place : ℕ) (s : SentSegment) → IsSentSegment s → IsRecord ticks t (framed_by_client ticks t turn (place, s))
+  by_client_is turn place s sent = framed_is ticks sound t is.vlan t.client.host t.server.host is.client is.server is.differ (λ f goes. inl goes) turn place s sent
 
-  by_server_is : (turn place : ℕ) (s : SentSegment) → IsSentSegment s → IsRecord ticks (framed_by_server ticks t turn (place, s))
-  by_server_is turn place s sent = framed_is ticks sound t is.vlan t.server.host t.client.host is.server is.client (λ same. is.differ (sym same)) turn place s sent
+  by_server_is : (turn place : ℕ) (s : SentSegment) → IsSentSegment s → IsRecord ticks t (framed_by_server ticks t turn (place, s))
+  by_server_is turn place s sent = framed_is ticks sound t is.vlan t.server.host t.client.host is.server is.client (λ same. is.differ (sym same)) (λ f goes. inr goes) turn place s sent
 
-  opening_is : (refused : Bool) → AllByRecursion (IsRecord ticks) (opening_turn refused ticks t)
+  opening_is : (refused : Bool) → AllByRecursion (IsRecord ticks t) (opening_turn refused ticks t)
   opening_is false = (
     by_client_is 0 0 (syn_segment t) (record { short = omega arith; seq = is.client_base; ack = omega arith; flags = omega arith }),
     (
@@ -161,37 +173,38 @@ module _ (ticks : ℕ) (sound : HeadersAreSound) (t : WrittenConnection) (is : I
   )
 
 -- a record before the horizon
-pub record IsWritten (ticks : ℕ) (x : Framed) : Type 0 where
-  pub is : IsRecord ticks x
+pub record IsWritten (ticks : ℕ) (c : WrittenConnection) (x : Framed) : Type 0 where
+  pub is : IsRecord ticks c x
   pub in_time : x.key.moment < horizon ticks
 
-kept_in_time : (ticks : ℕ) (xs : List Framed) → AllByRecursion (IsRecord ticks) xs → AllByRecursion (IsWritten ticks) (segments_before_horizon ticks xs)
-kept_in_time ticks [] all = tt
-kept_in_time ticks (x ∷ xs) all = by (nat_lt x.key.moment (horizon ticks)) refl (kept_in_time ticks xs all.1)
+kept_in_time : (ticks : ℕ) (c : WrittenConnection) (xs : List Framed) → AllByRecursion (IsRecord ticks c) xs → AllByRecursion (IsWritten ticks c) (segments_before_horizon ticks xs)
+kept_in_time ticks c [] all = tt
+kept_in_time ticks c (x ∷ xs) all = by (nat_lt x.key.moment (horizon ticks)) refl (kept_in_time ticks c xs all.1)
   where
-    by : (b : Bool) → nat_lt x.key.moment (horizon ticks) ≡ b → AllByRecursion (IsWritten ticks) (segments_before_horizon ticks xs)
-        → AllByRecursion (IsWritten ticks) (if b then x ∷ segments_before_horizon ticks xs else segments_before_horizon ticks xs)
+    by : (b : Bool) → nat_lt x.key.moment (horizon ticks) ≡ b → AllByRecursion (IsWritten ticks c) (segments_before_horizon ticks xs)
+        → AllByRecursion (IsWritten ticks c) (if b then x ∷ segments_before_horizon ticks xs else segments_before_horizon ticks xs)
     by true early rest = (record { is = all.0; in_time = ltb-true _ _ early }, rest)
     by false late rest = rest
 
-all-insert_by_key : (ticks : ℕ) (x : Framed) (ys : List Framed) → IsWritten ticks x → AllByRecursion (IsWritten ticks) ys → AllByRecursion (IsWritten ticks) (insert_by_key x ys)
-all-insert_by_key ticks x [] is all = (is, tt)
-all-insert_by_key ticks x (y ∷ ys) is all = by (is_key_below y.key x.key) (all-insert_by_key ticks x ys is all.1)
-  where
-    by : (b : Bool) → AllByRecursion (IsWritten ticks) (insert_by_key x ys) → AllByRecursion (IsWritten ticks) (if b then y ∷ insert_by_key x ys else x ∷ y ∷ ys)
-    by true rest = (all.0, rest)
-    by false rest = (is, all)
+module _ (P : Framed → Type 0) where
+  all-insert_by_key : (x : Framed) (ys : List Framed) → P x → AllByRecursion P ys → AllByRecursion P (insert_by_key x ys)
+  all-insert_by_key x [] is all = (is, tt)
+  all-insert_by_key x (y ∷ ys) is all = by (is_key_below y.key x.key) (all-insert_by_key x ys is all.1)
+    where
+      by : (b : Bool) → AllByRecursion P (insert_by_key x ys) → AllByRecursion P (if b then y ∷ insert_by_key x ys else x ∷ y ∷ ys)
+      by true rest = (all.0, rest)
+      by false rest = (is, all)
 
-pub all-sorted_by_key : (ticks : ℕ) (xs : List Framed) → AllByRecursion (IsWritten ticks) xs → AllByRecursion (IsWritten ticks) (sorted_by_key xs)
-unfolding sorted_by_key
-all-sorted_by_key ticks [] all = tt
-all-sorted_by_key ticks (x ∷ xs) all = all-insert_by_key ticks x (sorted_by_key xs) all.0 (all-sorted_by_key ticks xs all.1)
+  pub all-sorted_by_key : (xs : List Framed) → AllByRecursion P xs → AllByRecursion P (sorted_by_key xs)
+  unfolding sorted_by_key
+  all-sorted_by_key [] all = tt
+  all-sorted_by_key (x ∷ xs) all = all-insert_by_key x (sorted_by_key xs) all.0 (all-sorted_by_key xs all.1)
 
-pub segments_are : (ticks : ℕ) → HeadersAreSound → (t : WrittenConnection) → IsSoundWritten t → AllByRecursion (IsWritten ticks) (written_segments ticks t)
+pub segments_are : (ticks : ℕ) → HeadersAreSound → (t : WrittenConnection) → IsSoundWritten t → AllByRecursion (IsWritten ticks t) (written_segments ticks t)
 unfolding written_segments
 segments_are ticks sound t is =
-    let up = turn_is ticks sound t is.vlan t.client.host t.server.host is.client is.server is.differ 1 0 (segments_sent_by t.client t.server) (sent_is t.client t.server) in
-    let down = turn_is ticks sound t is.vlan t.server.host t.client.host is.server is.client (λ same. is.differ (sym same)) 2 0 (segments_sent_by t.server t.client) (sent_is t.server t.client) in
-    let lines = each_of_both (IsRecord ticks) (opening_turn t.refused ticks t ++ up_turn ticks t) (down_turn ticks t)
-    (each_of_both (IsRecord ticks) (opening_turn t.refused ticks t) (up_turn ticks t) (opening_is ticks sound t is t.refused) up) down in
-    all-sorted_by_key ticks _ (kept_in_time ticks _ lines)
+    let up = turn_is ticks sound t is.vlan t.client.host t.server.host is.client is.server is.differ (λ f goes. inl goes) 1 0 (segments_sent_by t.client t.server) (sent_is t.client t.server) in
+    let down = turn_is ticks sound t is.vlan t.server.host t.client.host is.server is.client (λ same. is.differ (sym same)) (λ f goes. inr goes) 2 0 (segments_sent_by t.server t.client) (sent_is t.server t.client) in
+    let lines = each_of_both (IsRecord ticks t) (opening_turn t.refused ticks t ++ up_turn ticks t) (down_turn ticks t)
+    (each_of_both (IsRecord ticks t) (opening_turn t.refused ticks t) (up_turn ticks t) (opening_is ticks sound t is t.refused) up) down in
+    all-sorted_by_key (IsWritten ticks t) _ (kept_in_time ticks t _ lines)

@@ -17,3 +17,4 @@ pub mod KilledRuns
 pub mod WrittenRows
 pub mod GroupingRows
 pub mod SeenLengths
+pub mod IsolatedOutputs

@@ -1,6 +1,7 @@
 //! Theorems about the definitions of this crate. Each function does nothing, or names the theorems that it stands on: its
 //! contract is the theorem.
 ghost use Rattle.toxicap.specs.SoundOutputs.{OutputsAreRead};
+ghost use Rattle.toxicap.specs.IsolatedOutputs.{OutputsAreIsolated};
 ghost use Rattle.toxicap.specs.KilledRuns.{KilledRunsAreMended};
 ghost use Rattle.toxicap.specs.NamedFiles.{FilesAreLoadedInOrder};
 ghost use Rattle.toxicap.specs.Rehearsal.{ByteOrderDoesNotMatter};
@@ -52,4 +53,17 @@ pub fn reports_see_lengths()
     ensures { ReportsSeeLengths }
 {
     report_sees_lengths();
+}
+
+/// Scenario s of one list and of another, for one capture and one seed. A connection that meets the same proxy under both has the same line in
+/// both reports. Where each connection between its two ends does, both output captures, as they are read, have the same records between these
+/// ends, in the same order. What other connections meet changes neither.
+pub fn outputs_are_isolated()
+    ensures { OutputsAreIsolated }
+{
+    readings_split();
+    written_is_read();
+    headers_are_sound();
+    segments_fit();
+    sorted_never_falls();
 }

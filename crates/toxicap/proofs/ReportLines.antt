@@ -1,0 +1,129 @@
+-- The text of a report, cut at its line feeds: each line that is written ends with one, and has no other.
+use Rattle.std.proofs.Common.{◌≡◌, ℕ, zero, suc, ◌+◌, ◌/◌, ◌%◌, ◌==◌, ◌&&◌, not, Bool, true, false, nat_lt, cond, List, [], ◌∷◌, ◌++◌, length, map, Option, Some, None, refl, ap, arith, ne_eqb, if◌then◌else◌}
+use Rattle.std.specs.Prelude.{slice_get}
+use Rattle.std.specs.List.{flat_map, slice_split, onto_first}
+use Rattle.std.specs.Fmt.{decimal, digits, digits_onto, digit_glyph}
+use Rattle.frame_headers.specs.declared.peers.Peer.{Peer}
+use Rattle.conn_table.specs.SeenCapture.{SeenCapture}
+use Rattle.conn_table.specs.declared.class_counts.Counts.{Counts}
+use Rattle.reassembly.specs.RecordedLines.{Line, End, live, fin, close, reset, RecordedSide, RecordedConnection}
+use Rattle.toxic_defs.specs.DeliveredLines.{DeliveredConnection}
+use Rattle.report.specs.ReportText.{heading_text, first_classes_text, other_classes_text, counts_text, connections_text, peer_text, proxy_text, end_word, side_text, vlan_text, met_text, peers_text, connection_text, report_text}
+use Rattle.toxicap.specs.IsolatedOutputs.{line_of}
+
+abbrev is_empty : List ℕ → Bool
+is_empty [] = true
+is_empty (x ∷ xs) = false
+
+-- no line feed stands in a text, except one at the end of a whole line
+abbrev pub is_line : Bool → List ℕ → Bool
+is_line whole [] = not whole
+is_line whole (x ∷ xs) = if x == 10 then whole && is_empty xs else is_line whole xs
+
+-- a line without its line feed
+abbrev pub line_body : List ℕ → List ℕ
+line_body [] = []
+line_body (x ∷ xs) = if x == 10 then [] else x ∷ line_body xs
+
+-- ---- what is written
+
+after : (whole : Bool) (xs ys : List ℕ) → is_line false xs ≡ true → is_line whole ys ≡ true → is_line whole (xs ++ ys) ≡ true
+after whole [] ys is rest = rest
+after whole (x ∷ xs) ys is rest = by (x == 10) (λ h. after whole xs ys h rest) is
+  where
+    by : (b : Bool) → (is_line false xs ≡ true → is_line whole (xs ++ ys) ≡ true) → (if b then false else is_line false xs) ≡ true
+        → (if b then whole && is_empty (xs ++ ys) else is_line whole (xs ++ ys)) ≡ true
+    by true more is = absurd cc
+    by false more is = more is
+
+glyph_is : (d : ℕ) → (digit_glyph false d == 10) ≡ false
+glyph_is d =
+    elim (nat_lt d 10) as (λ b. ((if b then 48 + d else 87 + d) == 10) ≡ false)
+    [ true ↦ ne_eqb (48 + d) 10 (λ q. absurd (omega arith)) | false ↦ ne_eqb (87 + d) 10 (λ q. absurd (omega arith)) ]
+
+digits_are : (k n : ℕ) (acc : List ℕ) → is_line false acc ≡ true → is_line false (digits_onto k 10 false n acc) ≡ true
+digits_are zero n acc is = is
+digits_are (suc k) n acc is =
+    let digit : ℕ = digit_glyph false (n % 10) in
+    let more : is_line false (digit ∷ acc) ≡ true = rw (glyph_is (n % 10)) is in
+    elim (n / 10 == 0) as (λ b. is_line false (if b then digit ∷ acc else digits_onto k 10 false (n / 10) (digit ∷ acc)) ≡ true)
+    [ true ↦ more | false ↦ digits_are k (n / 10) (digit ∷ acc) more ]
+
+number : (n : ℕ) → is_line false (decimal n) ≡ true
+unfolding digits
+number n = digits_are 64 n [] refl
+
+number_then : (whole : Bool) (n : ℕ) (ys : List ℕ) → is_line whole ys ≡ true → is_line whole (decimal n ++ ys) ≡ true
+number_then whole n ys rest = after whole (decimal n) ys (number n) rest
+
+peer_is : (p : Peer) → is_line false (peer_text p) ≡ true
+peer_is p = number_then false _ _ (number_then false _ _ (number_then false _ _ (number_then false _ _ (number _))))
+
+proxy_is : (p : Option ℕ) → is_line false (proxy_text p) ≡ true
+proxy_is None = refl
+proxy_is (Some n) = number n
+
+vlan_is : (v : Option ℕ) → is_line false (vlan_text v) ≡ true
+vlan_is None = refl
+vlan_is (Some n) = number n
+
+end_is : (refused : Bool) (opened : ℕ) (e : End) → is_line false (end_word refused opened e) ≡ true
+end_is true opened e = refl
+end_is false opened live = refl
+end_is false opened (fin at) = number _
+end_is false opened (close at) = number _
+end_is false opened (reset at) = number _
+
+side_is : (opened : ℕ) (refused : Bool) (s : RecordedSide) (f : Line) → is_line false (side_text opened refused s f) ≡ true
+side_is opened refused s f =
+    number_then false _ _ (number_then false _ _ (number_then false _ _ (after false (end_word refused opened f.end) _ (end_is refused opened f.end) (number _))))
+
+peers_are : (number_of : ℕ) (vlan : Option ℕ) (client server : Peer) (proxy : Option ℕ) → is_line false (peers_text number_of vlan client server proxy) ≡ true
+peers_are number_of vlan client server proxy =
+    number_then false _ _ (after false (peer_text client) _ (peer_is client) (after false (peer_text server) _ (peer_is server) (after false (vlan_text vlan) _ (vlan_is vlan) (proxy_is proxy))))
+
+pub connection_is : (number_of : ℕ) (vlan : Option ℕ) (client server : Peer) (r : RecordedConnection) (d : DeliveredConnection)
+    → is_line true (connection_text number_of vlan client server r d) ≡ true
+unfolding connection_text
+connection_is number_of vlan client server r d =
+    after true (peers_text number_of vlan client server d.proxy) _ (peers_are number_of vlan client server d.proxy)
+    (after true (side_text r.opened d.refused r.up d.up) _ (side_is r.opened d.refused r.up d.up)
+    (after true (side_text r.opened d.refused r.down d.down) _ (side_is r.opened d.refused r.down d.down) refl))
+
+counts_are : (s records rest : ℕ) (n : Counts) → is_line true (heading_text s records rest ++ (first_classes_text n ++ other_classes_text n)) ≡ true
+counts_are s records rest n =
+    after true (heading_text s records rest) _ (number_then false _ _ (number_then false _ _ (number _)))
+    (after true (first_classes_text n) _ (number_then false _ _ (number_then false _ _ (number_then false _ _ (number _))))
+    (number_then true _ _ (number_then true _ _ (number_then true _ _ (number_then true _ _ (number_then true _ _ refl))))))
+
+-- ---- what is cut
+
+empty_is : (xs : List ℕ) → is_empty xs ≡ true → xs ≡ []
+empty_is [] is = refl
+empty_is (x ∷ xs) is = absurd cc
+
+cut_line : (xs rest : List ℕ) → is_line true xs ≡ true → slice_split (λ b. b == 10) (xs ++ rest) ≡ line_body xs ∷ slice_split (λ b. b == 10) rest
+cut_line [] rest is = absurd cc
+cut_line (x ∷ xs) rest is = by (x == 10) (λ h. cut_line xs rest h) is
+  where
+    by : (b : Bool) → (is_line true xs ≡ true → slice_split (λ b. b == 10) (xs ++ rest) ≡ line_body xs ∷ slice_split (λ b. b == 10) rest)
+        → (if b then is_empty xs else is_line true xs) ≡ true
+        → cond b ([] ∷ slice_split (λ b. b == 10) (xs ++ rest)) (onto_first x (slice_split (λ b. b == 10) (xs ++ rest))) ≡ (if b then [] else x ∷ line_body xs) ∷ slice_split (λ b. b == 10) rest
+    by true more is = rw (empty_is xs is) refl
+    by false more is = rw (more is) refl
+
+module _ {X : Type 0} (line : X → List ℕ) (are : (x : X) → is_line true (line x) ≡ true) where
+  line_at : (xs : List X) (k : ℕ) (x : X) → slice_get xs k ≡ Some x → line_of (flat_map (λ l. l) (map line xs)) k ≡ Some (line_body (line x))
+  line_at [] k x is = absurd cc
+  line_at (y ∷ xs) zero x is = let same : y ≡ x = cc in rw (cut_line (line y) (flat_map (λ l. l) (map line xs)) (are y)) (ap (λ z. Some (line_body (line z))) same)
+  line_at (y ∷ xs) (suc k) x is = rw (cut_line (line y) (flat_map (λ l. l) (map line xs)) (are y)) (line_at xs k x is)
+
+  -- after the head, one line for each
+  pub line_in_report : (s : ℕ) (c : SeenCapture) (unopened : ℕ) (xs : List X) (k : ℕ) (x : X) → slice_get xs k ≡ Some x
+      → line_of (report_text s c unopened (map line xs)) (k + 2) ≡ Some (line_body (line x))
+  unfolding report_text counts_text connections_text
+  line_in_report s c unopened xs k x is =
+      let head : is_line true (counts_text s c) ≡ true = counts_are _ _ _ _ in
+      let second : is_line true (connections_text (length (map line xs)) unopened) ≡ true = number_then true _ _ (number_then true _ _ refl) in
+      let two : k + 2 ≡ suc (suc k) = omega arith in
+      rw (two, cut_line _ (connections_text (length (map line xs)) unopened ++ flat_map (λ l. l) (map line xs)) head, cut_line _ (flat_map (λ l. l) (map line xs)) second) (line_at xs k x is)

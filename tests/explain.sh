@@ -247,6 +247,15 @@ warns "a tenth cut" "1 of 10 frames are cut: recorded without their ends, their 
 warns "a tenth lost" "1 of 10 bytes are lost: they stand after a gap of the capture, or after a FIN; record again, with a larger buffer where tcpdump dropped packets (-B 65536)" lost.dump
 { echo "$opening"; echo '2.000000 c>s PSH ACK 1001 5001 "tencharact"'; echo '2.100000 c>s PSH ACK 1012 5001 "x"'; } | made found.dump
 warns "less than a tenth lost" "" found.dump
+unanswered=$'1.000000 c>s SYN 1000 0\n2.000000 c>s PSH ACK 1001 5001 "asked"\n2.100000 s>c PSH ACK 5001 1006 "answered"'
+made unanswered.dump <<< "$unanswered"
+warns "no SYN ACK" "1 of 1 connections are unanswered: the server's SYN ACK was not recorded, and its bytes are neither delivered nor lost; record both directions, from the SYN on" unanswered.dump
+server s.json '{"type": "latency", "attributes": {"latency": 5}}'
+status=0
+"$explain" --capture unanswered.dump --scenario s.json > output 2> faults || status=$?
+grep -F 'proxy 0 toxic 0 (' output > line || true
+verdict "no SYN ACK: the reason" "$(fault 1; silent faults; one_line \
+    "s.json: proxy 0 toxic 0 $(idle latency_downstream "no bytes flow downstream: the server's SYN ACK was not recorded")" line)"
 
 cd "$OLDPWD"
 for row in a-hole-that-fills bytes-after-a-reset openings-in-other-vlans; do awk -f tests/capture.awk tests/rows/$row/segments > "$work/$row.dump"; done

@@ -157,6 +157,7 @@ class Case:
             reached = [line[1] for line in lines if (line[1] == self.attributes['bytes'] if 'not passed' in text else line[1] < self.attributes['bytes'])]
             return numbers[0] == self.attributes['bytes'] and count <= len(reached) and numbers[1] in reached and (
                 other in text and any(self.none.line(n, other)[1] == numbers[2] for n in self.met))
+        if text.endswith('SYN ACK was not recorded'): return self.stream == 'downstream' and sum(line[1] == 0 for line in lines) >= count
         if text.startswith('no bytes flow') and kind == 'timeout': return sum(line[0] == 0 for line in lines) >= count
         if text.startswith('no bytes flow'):
             other = {'upstream': 'downstream', 'downstream': 'upstream'}[self.stream]

@@ -256,9 +256,11 @@ for number in 0 1; do
     cp "$capture" "$draft"
     run /dev/null --capture "$draft" "${late[@]}" --out "$work/folder"
     read_draft "the capture" $number "$capture"
+    folder
+    cp "$capture" "$draft"
     run "$draft" "${late[@]}" --out "$work/folder"
     read_draft "standard input" $number "$capture"
-    rm -f "$draft" "$work/folder"/0*
+    folder
     cp "${late[1]}" "$draft"
     run "$capture" --scenario "$draft" --out "$work/folder"
     read_draft "a scenario" $number "${late[1]}"
@@ -370,8 +372,8 @@ exec 3<&-
 verdict "a file without a name as standard input" "$(well; folder_difference "$work/new" "$work/folder")"
 
 # In a root that has the program and what it needs, and no /dev: standard input can't be looked at there, and a named capture can.
-root=$work/root
-mkdir -p "$root/folder" "$work/in-root"
+root=$work/bare-root
+mkdir -p "$root/folder"
 cp "$program" "$root/toxicap"
 for file in $(ldd "$program" 2> /dev/null | grep -o '/[^ ]*' || true); do
     mkdir -p "$root/${file%/*}"
@@ -404,6 +406,7 @@ if [ $status = 0 ]; then
         refusal "refused 60 ShelfFailed after 0"
         byte_difference "$capture" "$root/folder/0000.pcap"
     )"
+    cp "$capture" "$root/folder/0000.pcap"
     run_rooted /dev/null --capture /folder/0000.pcap --scenario /late.json --out /folder
     verdict "without /dev, a named capture of an output's name" "$(
         refusal "refused 60 ShelfFailed after 0"

@@ -38,7 +38,8 @@ begin_with() {
     return 1
 }
 
-# end_begun SIGNAL: sends the run that was begun a signal, by which it goes on or ends, and waits for it. `status`, `output` and `faults` are what came.
+# end_begun SIGNAL: sends the run that was begun a signal, by which it goes on or ends, and waits for it. `status`, `output` and `faults` are what
+# came.
 end_begun() {
     kill "-$1" "$(cat "$work/begun.process")" 2> /dev/null || true
     status=0

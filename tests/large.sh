@@ -162,6 +162,11 @@ for scenario in latency limit_data slow_close timeout bandwidth; do
     mv "$work/each/0000.pcap" "$work/alone/000$number.pcap"
     number=$((number + 1))
 done
+if can "five scenarios, worked out apart" python3; then
+    mkdir "$work/apart"
+    python3 tests/rows/expected.py --stored "$work/apart" "$capture" examples/{latency,limit_data,slow_close,timeout,bandwidth}.json
+    verdict "five scenarios, worked out apart" "$(folder_difference "$work/apart" "$work/alone")"
+fi
 same "five scenarios" "$capture" "${five[@]}"
 run "$capture" "${five[@]}" --out "$work/five"
 verdict "five scenarios, stored" "$(well; folder_difference "$work/alone" "$work/five")"
@@ -250,6 +255,15 @@ for name in three.pcap two.pcap more.pcap two.dump; do
     run "$work/$name" "${four[@]}"
     cp "$work/output" "$work/wanted"
     run "$work/$name" "${four[@]}" --out "$work/alone"
+    [ $name != three.pcap ] || verdict "$name, worked out apart" "$(
+        well
+        met=(0 0 63 0)
+        for number in 0 1 2 3; do
+            perl tests/capture.pl 14000 report "${met[number]}" $number | byte_difference - "$work/alone/000$number.txt"
+            perl tests/capture.pl 14000 delivered | byte_difference - "$work/alone/000$number.pcap"
+        done
+        cat "$work"/alone/*.txt | byte_difference - "$work/wanted"
+    )"
     for workers in 1 2 3 16; do
         same "$name by $workers workers" /dev/null --capture "$work/$name" "${four[@]}" --workers $workers
         rm -rf "$work/by$workers"

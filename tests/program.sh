@@ -197,7 +197,12 @@ placed_at() {
     mkdir "$4"
     said "${slow/scenario 1/scenario 0}" /dev/null --capture "$2" --scenario "$3" --host web=10.0.0.2
     run /dev/null --capture "$2" --scenario "$3" --host web=10.0.0.2 --out "$4"
-    verdict "stored by paths $1" "$(well; silent output; holds "$4" 0000.pcap 0000.txt; printf %s "${slow/scenario 1/scenario 0}" | byte_difference - "$4/0000.txt")"
+    verdict "stored by paths $1" "$(
+        well
+        silent output
+        holds "$4" 0000.pcap 0000.txt
+        printf '%s' "${slow/scenario 1/scenario 0}" | byte_difference - "$4/0000.txt"
+    )"
 }
 mkdir "$work/paths"
 cp "$work/bare.json" "$work/paths/scenario"
@@ -206,17 +211,16 @@ mkdir "$work/paths/there"
 far=$work/paths
 while [ ${#far} -lt 3800 ]; do far+=/$(printf '%0200d' 0); done
 mkdir -p "$far"
-repository_now=$PWD
-session_now=$repository_now/$session
+session_path=$PWD/$session
 pushd "$work/paths" > /dev/null
 for front in ' ' '   ' $'\t' $'\n'; do
-    cp "$session_now" "${front}capture"
+    cp "$session_path" "${front}capture"
     cp "$work/slow.json" "${front}scenario"
     placed_at "after $(printf %q "$front")" "${front}capture" "${front}scenario" "${front}there"
 done
 verdict "paths without blanks" "$(holds there)"
-for letters in $'\u00e4\u00d8 \u6587\u5b57' $'\U0001d11e' $'a\u0301' $'"\\\'$\n*' -o --; do
-    cp "$session_now" "./$letters.pcap"
+for letters in $'\xc3\xa4\xc3\x98 \xe6\x96\x87' $'\xf0\x9d\x84\x9e' $'a\xcc\x81' $'"\\\'$\n*' -o --; do
+    cp "$session_path" "./$letters.pcap"
     cp "$work/slow.json" "./$letters.json"
     placed_at "of $(printf %q "$letters")" "./$letters.pcap" "./$letters.json" "./$letters"
 done

@@ -4,8 +4,8 @@
                   threads were made in each phase: one begins where a thread is made while there is none but the first. FILE.failed is
                   made once a call has failed
      FAIL=KIND:N  the call of this kind with this number fails, from 1 on; with N+ it and all later ones
-     CAUSE=N      the error number that it fails with; 0 has a write take nothing, `before` ends the process in place of the call, and
-                  `after` once the call was made
+     CAUSE=N      the error number that it fails with; 0 has a write take nothing, `before` ends the process in place of the call,
+                  `after` once the call was made, and `stop` stops the process before the call, which is made once it goes on
      MOST=N       a read or a write moves at most so many bytes */
 #define _GNU_SOURCE
 #include <dlfcn.h>
@@ -24,9 +24,9 @@
 #include <sys/syscall.h>
 #include <unistd.h>
 
-enum kind { GROWTH, THREAD, READ, WRITE, OPEN, RENAME, REMOVE, STAT, CLOSE, KINDS };
+enum kind { GROWTH, THREAD, READ, WRITE, OPEN, RENAME, REMOVE, STAT, CLOSE, LOCK, LIST, KINDS };
 enum { PHASES = 64, PLACES = KINDS + PHASES };
-static const char *const names[KINDS] = {"growth", "thread", "read", "write", "open", "rename", "remove", "stat", "close"};
+static const char *const names[KINDS] = {"growth", "thread", "read", "write", "open", "rename", "remove", "stat", "close", "lock", "list"};
 
 extern void *__libc_malloc(size_t);
 extern void *__libc_calloc(size_t, size_t);
@@ -38,7 +38,7 @@ static atomic_long own_counts[PLACES], *counts = own_counts, there;
 static atomic_int phase = -1;
 static long failing[KINDS], most = 1L << 30;
 static char failed_file[4096];
-static int cause = EIO, ends_before, ends_after, and_later, is_ready;
+static int cause = EIO, ends_before, ends_after, stops, and_later, is_ready;
 static _Thread_local int is_last;
 static create_thread *next_create;
 static join_thread *next_join;
@@ -67,6 +67,7 @@ __attribute__((constructor)) static void begin(void)
         cause = atoi(number);
         ends_before = strcmp(number, "before") == 0;
         ends_after = strcmp(number, "after") == 0;
+        stops = strcmp(number, "stop") == 0;
     }
     if ((number = getenv("MOST")) != NULL)
         most = atol(number);
@@ -85,8 +86,10 @@ static int fails(enum kind kind)
     syscall(SYS_close, syscall(SYS_openat, AT_FDCWD, failed_file, O_WRONLY | O_CREAT, 0600));
     if (ends_before)
         kill(getpid(), SIGKILL);
+    if (stops)
+        kill(getpid(), SIGSTOP);
     is_last = ends_after;
-    return !ends_after;
+    return !ends_after && !stops;
 }
 
 /* What a call answers that was made; the process ends here where it was the last. */
@@ -165,6 +168,25 @@ int open(const char *path, int flags, ...)
     return fails(OPEN) ? told(cause) : (int)made(syscall(SYS_openat, AT_FDCWD, path, flags, mode));
 }
 
+int openat(int folder, const char *path, int flags, ...)
+{
+    va_list more;
+    va_start(more, flags);
+    int mode = va_arg(more, int);
+    va_end(more);
+    return fails(OPEN) ? told(cause) : (int)made(syscall(SYS_openat, folder, path, flags, mode));
+}
+
+ssize_t getdents64(int fd, void *entries, size_t len)
+{
+    return fails(LIST) ? told(cause) : made(syscall(SYS_getdents64, fd, entries, len));
+}
+
+int flock(int fd, int how)
+{
+    return fails(LOCK) ? told(cause) : (int)made(syscall(SYS_flock, fd, how));
+}
+
 int rename(const char *from, const char *to)
 {
     return fails(RENAME) ? told(cause) : (int)made(syscall(SYS_rename, from, to));
@@ -173,6 +195,11 @@ int rename(const char *from, const char *to)
 int unlink(const char *path)
 {
     return fails(REMOVE) ? told(cause) : (int)made(syscall(SYS_unlink, path));
+}
+
+int unlinkat(int folder, const char *path, int flags)
+{
+    return fails(REMOVE) ? told(cause) : (int)made(syscall(SYS_unlinkat, folder, path, flags));
 }
 
 int statx(int folder, const char *path, int flags, unsigned mask, struct statx *file)

@@ -11,8 +11,41 @@ run_with() {
     rm -f "$work/calls" "$work/calls.failed"
     status=0
     # shellcheck disable=SC2086
-    (export $settings CALLS="$work/calls" LD_PRELOAD="$work/calls.so"
-        exec "$program" "$@" < "$input" > "$work/output" 2> "$work/faults") || status=$?
+    timeout "$patience" env $settings CALLS="$work/calls" LD_PRELOAD="$work/calls.so" "$program" "$@" \
+        < "$input" > "$work/output" 2> "$work/faults" || status=$?
+}
+
+# begin_with SETTINGS INPUT [ARGUMENT..]: begins such a run, which goes on beside the script; with CAUSE=stop it stands still right before that call
+# then, or where it has no such call the answer is no. Its output and what it tells stand in `begun.output` and `begun.faults`.
+begin_with() {
+    local settings=$1 input=$2 tries
+    shift 2
+    rm -f "$work"/begun.*
+    # shellcheck disable=SC2016,SC2086
+    timeout "$patience" sh -c 'echo $$ > "$0.made"; mv "$0.made" "$0"; exec env "$@"' "$work/begun.process" \
+        $settings CALLS="$work/begun.calls" LD_PRELOAD="$work/calls.so" "$program" "$@" \
+        < "$input" > "$work/begun.output" 2> "$work/begun.faults" &
+    begun=$!
+    for ((tries = 0; tries < 1200; tries++)); do
+        if [ -e "$work/begun.process" ]; then
+            case $(sed -n 's/^State:\t//p' "/proc/$(cat "$work/begun.process")/status" 2> /dev/null) in
+                T*) return 0 ;;
+                '' | Z*) return 1 ;;
+            esac
+        fi
+        sleep 0.05
+    done
+    return 1
+}
+
+# end_begun SIGNAL: sends the run that was begun a signal, by which it goes on or ends, and waits for it. `status`, `output` and `faults` are what
+# came.
+end_begun() {
+    kill "-$1" "$(cat "$work/begun.process")" 2> /dev/null || true
+    status=0
+    wait "$begun" 2> /dev/null || status=$?
+    mv "$work/begun.output" "$work/output"
+    mv "$work/begun.faults" "$work/faults"
 }
 
 # has_failed: whether the last run had such a call as was to fail.
@@ -22,7 +55,7 @@ has_failed() { [ -e "$work/calls.failed" ]; }
 can_count() { [ -e "$work/calls" ] || { skip "$1" "no call is counted: is the program linked statically?"; return 1; }; }
 
 # count KIND: how many calls of this kind the last run has made.
-kinds=(growth thread read write open rename remove stat close)
+kinds=(growth thread read write open rename remove stat close lock list)
 count() {
     local place
     for place in "${!kinds[@]}"; do

@@ -5,14 +5,18 @@
 #     perl tests/capture.pl SEGMENTS*STEP      the same, and each goes on into the next one by three bytes that are not the next one's
 #     perl tests/capture.pl CONNECTIONSxROUNDS so many connections, each of a client of its own: all openings, in a second round all answers to
 #                                              them, and in a third a byte of each client, the last one's first; records have 70, 70 and 71 bytes
+#     perl tests/capture.pl CONNECTIONSx3xBYTES  the same with so many bytes of each client, up to 1,250, of which each client has others
 #     perl tests/capture.pl WHICH delivered    the capture that is stored of it without a scenario
-#     perl tests/capture.pl WHICH report       its report
+#     perl tests/capture.pl WHICH report [PROXY [NUMBER]]
+#                                              its report, or that of a scenario with this number whose toxics change no byte of it and no end: each
+#                                              connection meets the proxy with this number
 #     perl tests/capture.pl WHICH sent         what the client sent, if it sent segments in another order: of what two of them have, the first one's
 use strict;
 use warnings;
 
-my ($which, $what) = (@ARGV, 'recorded');
-my ($count, $goes_on, $step, $rounds) = $which =~ /^(\d+)(?:([+*])(\d+)|x([123]))?$/ or die "no such capture: $which\n";
+my ($which, $what, $proxy, $scenario) = @ARGV;
+my ($count, $goes_on, $step, $rounds, $bytes) = $which =~ /^(\d+)(?:([+*])(\d+)|x([123])(?:x(\d+))?)?$/ or die "no such capture: $which\n";
+($what, $proxy, $scenario) = ($what // 'recorded', $proxy // '-', $scenario // 0);
 my $more = ($goes_on // '') eq '*' ? 'xyz' : '';
 my $is_delivered = $what eq 'delivered';
 my ($syn, $ack, $push) = (2, 16, 8);
@@ -50,16 +54,19 @@ sub client { my $number = shift; return $rounds ? pack('CCn', 10, 128 + ($number
 # report: of so many records and connections, whose clients send so many bytes.
 sub report {
     my ($records, $conns, $bytes) = @_;
-    print "scenario 0 records $records rest 0 segment $records short 0 notipv4 0 badipv4 0 fragment 0 nottcp 0 cut 0 badtcp 0 sameends 0\n";
+    print "scenario $scenario records $records rest 0 segment $records short 0 notipv4 0 badipv4 0 fragment 0 nottcp 0 cut 0 badtcp 0 sameends 0\n";
     print "connections $conns unopened 0\n";
     for my $number (0 .. $conns - 1) {
         my $address = join '.', unpack 'C4', client($number);
-        print "$number $address:49152 > 10.77.0.2:80 proxy - up $bytes/$bytes/0 open max 0 down 0/0/0 open max 0\n";
+        print "$number $address:49152 > 10.77.0.2:80 proxy $proxy up $bytes/$bytes/0 open max 0 down 0/0/0 open max 0\n";
     }
 }
 
 # body: the 1,250 bytes of a segment.
 sub body { return pack('N', shift) x 312 . 'ab' }
+
+# sent: what a client sends in the third round.
+sub sent { return defined $bytes ? substr(body(shift), 0, $bytes) : 'x' }
 
 # order: the numbers of the segments at each place, and the places of the numbers.
 sub order {
@@ -81,7 +88,7 @@ if ($what eq 'sent') {
     exit;
 }
 if ($what eq 'report') {
-    if ($rounds) { report($rounds * $count, $count, $rounds == 3 ? 1 : 0) } else { report($count + 2, 1, 1250 * $count) }
+    if ($rounds) { report($rounds * $count, $count, $rounds == 3 ? length sent(0) : 0) } else { report($count + 2, 1, 1250 * $count) }
     exit;
 }
 print pack('VvvVVVV', 0xa1b2c3d4, 2, 4, 0, 0, 65535, 1);
@@ -94,7 +101,7 @@ if ($rounds) {
         segment(0, $number, $client, 0, 1, 1, $ack, '');
     }
     if ($rounds > 1 && !$is_delivered) { answer(1, $_, client($_)) for 0 .. $count - 1 }
-    if ($rounds > 2) { segment(2, $count - 1 - $_, client($_), 0, 1, 1, $push | $ack, 'x') for reverse 0 .. $count - 1 }
+    if ($rounds > 2) { segment(2, $count - 1 - $_, client($_), 0, 1, 1, $push | $ack, sent($_)) for reverse 0 .. $count - 1 }
 } else {
     my $client = client(0);
     opening(0, 0, $client);

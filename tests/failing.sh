@@ -15,9 +15,16 @@ run "$capture" "${both[@]}" --out "$new"
 run "$capture" "${both[@]}"
 cp "$work/output" "$work/wanted"
 od -An -v -tx1 $capture | tr -d ' ' > "$work/dump"
+verdict "the full answers are the stored examples" "$(
+    { cat examples/latency.txt; sed 's/^scenario 0 /scenario 1 /' examples/limit_data.txt; } | byte_difference - "$work/wanted"
+    cat "$new"/*.txt | byte_difference - "$work/wanted"
+    sum_difference "$(sed -n 's/  latency.pcap$//p' examples/captures.sha256)" "$new/0000.pcap"
+    sum_difference "$(sed -n 's/  limit_data.pcap$//p' examples/captures.sha256)" "$new/0001.pcap"
+)"
 
-# The causes of failures: interrupted (EINTR), a fault of the device (EIO), no room (ENOSPC), and a write that takes nothing.
-interrupted=4 device=5 room=28 nothing=0
+# The causes of failures: interrupted (EINTR), a fault of the device (EIO), no room (ENOSPC), a write that takes nothing, a folder that another run
+# holds (EAGAIN), and a disk without locks (ENOLCK, EOPNOTSUPP).
+interrupted=4 device=5 room=28 nothing=0 another=11 lockless=(37 95)
 
 # What is at fault with the last run.
 # whole: it was to print the full answer.
@@ -56,6 +63,9 @@ unstored() {
     holds "$folder" "${files[@]:0:number}"
 }
 
+# perhaps_stored: it was to store the full answer, or to be refused as `unstored` has it.
+perhaps_stored() { if [ "$status" = 0 ]; then stored; else unstored; fi; }
+
 # each WHAT KIND SETTINGS FAULT LAST INPUT [ARGUMENT..]: each call of a kind fails in turn, until a run makes no more of them: FAULT tells
 # what is at fault with a run, given the number of the call, and LAST with the last run.
 each() {
@@ -92,8 +102,8 @@ verdict "a write to standard output takes nothing" "$(unwritten 5)"
 run_with "FAIL=write:3+ MOST=4" /dev/null
 verdict "the line of a refusal cannot be written whole" "$(fault 1; told faults "refused ")"
 
-# The disk: a run that reads two scenarios and a capture by their paths, and stores four files. What cannot be told of a file, and a file that
-# is not closed, is no failure.
+# The disk: a run that reads two scenarios and a capture by their paths, and stores four files. A file that is not closed is no failure, and where
+# nothing can be told of a file it is one or not.
 named=(/dev/null --capture "$capture" "${both[@]}" --out "$folder")
 
 # unopened NUMBER: it was to be refused for this file: a scenario, the capture, or one of the folder.
@@ -105,8 +115,11 @@ each "a read of a file fails" read "CAUSE=$device" unread stored "${named[@]}"
 each "a file is not written" write "CAUSE=$room" unstored stored "${named[@]}"
 each "a file takes nothing" write "CAUSE=$nothing" unstored stored "${named[@]}"
 each "a file does not take its name" rename "CAUSE=$device" unstored stored "${named[@]}"
-each "nothing is known of a file" stat "CAUSE=$device" stored stored "${named[@]}"
+each "nothing is known of a file" stat "CAUSE=$device" perhaps_stored stored "${named[@]}"
 each "a file is not closed" close "CAUSE=$device" stored stored "${named[@]}"
+each "the folder is not listed" list "CAUSE=$device" perhaps_stored stored "${named[@]}"
+each "the folder is not held" lock "CAUSE=$device" perhaps_stored stored "${named[@]}"
+each "another holds the folder" lock "CAUSE=$another" unstored stored "${named[@]}"
 each "a file cannot be opened by a run that prints" open "CAUSE=$device" unread whole "${named[@]:0:7}"
 rm -rf "$folder"
 mkdir -p "$folder/0001.txt"
@@ -117,6 +130,39 @@ verdict "an unfinished file is not removed" "$(
     holds "$folder" "${files[@]}" toxicap.unfinished-1
 )"
 
+# A disk without locks: what was left there may be a draft of a run that goes on, so none is removed, and one where a draft is to be made is refused.
+# leave NAME: the folder anew, with a file of this name that some run has left.
+leave() {
+    rm -rf "$folder"
+    mkdir "$folder"
+    echo left > "$folder/$1"
+}
+for cause in "${lockless[@]}"; do
+    each "a disk without locks, by $cause" lock "CAUSE=$cause" stored stored "${named[@]}"
+    leave toxicap.unfinished-0
+    run_with "FAIL=lock:1+ CAUSE=$cause" "${named[@]}"
+    verdict "a draft that is there, without locks, by $cause" "$(
+        refusal "refused 60 ShelfFailed after 0"
+        holds "$folder" toxicap.unfinished-0
+        echo left | byte_difference - "$folder/toxicap.unfinished-0"
+    )"
+    leave toxicap.unfinished-1000
+    run_with "FAIL=lock:1+ CAUSE=$cause" "${named[@]}"
+    verdict "a draft of another number that is there, without locks, by $cause" "$(
+        holds "$folder" "${files[@]}" toxicap.unfinished-1000
+        echo left | byte_difference - "$folder/toxicap.unfinished-1000"
+        rm -f "$folder/toxicap.unfinished-1000"
+        stored
+    )"
+done
+leave toxicap.unfinished-1000
+run_with "FAIL=remove:1 CAUSE=$device" "${named[@]}"
+verdict "a draft that is there is not removed" "$(
+    has_failed || echo "  no file is removed"
+    [ "$status" != 0 ] || rm -f "$folder/toxicap.unfinished-1000"
+    if [ "$status" = 0 ]; then stored; else refusal "refused 60 ShelfFailed after 0"; holds "$folder" toxicap.unfinished-1000; fi
+)"
+
 # a capture of two blocks, which two threads load where it is stored, and one thread where it is printed: a read fails, and each moves less than it is
 # asked for
 perl tests/capture.pl 7000 > "$work/blocks.pcap"
@@ -124,6 +170,13 @@ run "$work/blocks.pcap" "${both[@]}"
 cp "$work/output" "$work/wanted-of-blocks"
 mkdir "$work/new-of-blocks"
 run "$work/blocks.pcap" "${both[@]}" --out "$work/new-of-blocks"
+verdict "the full answers are worked out apart" "$(
+    for number in 0 1; do
+        perl tests/capture.pl 7000 report 0 $number | byte_difference - "$work/new-of-blocks/000$number.txt"
+        perl tests/capture.pl 7000 delivered | byte_difference - "$work/new-of-blocks/000$number.pcap"
+    done
+    cat "$work"/new-of-blocks/*.txt | byte_difference - "$work/wanted-of-blocks"
+)"
 blocks=(/dev/null --capture "$work/blocks.pcap" "${both[@]}" --workers 2)
 printed_blocks() {
     well

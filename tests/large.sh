@@ -24,6 +24,31 @@ refused() {
     verdict "$what" "$(refusal "$line")"
 }
 
+# whole WHAT NAME INPUT [ARGUMENT..]: a run over a capture stores what was worked out, NAME.report and NAME.delivered, and nothing else.
+whole() {
+    local what=$1 name=$2
+    shift 2
+    rm -rf "$work/stored"
+    mkdir "$work/stored"
+    run "$@" --out "$work/stored"
+    verdict "$what, stored" "$(
+        well
+        silent output
+        holds "$work/stored" 0000.pcap 0000.txt
+        byte_difference "$work/$name.report" "$work/stored/0000.txt"
+        byte_difference "$work/$name.delivered" "$work/stored/0000.pcap"
+    )"
+    rm -r "$work/stored"
+}
+
+# printed WHAT NAME INPUT [ARGUMENT..]: a run over a capture prints NAME.report, which was worked out.
+printed() {
+    local what=$1 name=$2
+    shift 2
+    run "$@"
+    verdict "$what, printed" "$(well; byte_difference "$work/$name.report" "$work/output")"
+}
+
 # toxics COUNT LATENCY: so many latencies downstream.
 toxics() {
     local toxic all=""
@@ -74,7 +99,7 @@ refused "a host more than once among 60" "refused 23 BadHost host 59" "$capture"
 
 # 40,000 hosts
 for ((host = 0; host < 40000; host++)); do echo "--host=n$host=10.1.$((host / 256 % 256)).$((host % 256))"; done > "$work/hosts"
-(ulimit -s 65536; xargs -x -s 4000000 -n 50000 -a "$work/hosts" "$program" --capture "$capture" --scenario "$work/one.json" > "$work/output") || true
+(ulimit -s 65536; xargs -x -s 4000000 -n 50000 -a "$work/hosts" timeout "$patience" "$program" --capture "$capture" --scenario "$work/one.json" > "$work/output") || true
 verdict "40,000 hosts" "$(difference "$work/wanted" "$work/output")"
 
 # 5,000 bytes that are no JSON
@@ -137,6 +162,11 @@ for scenario in latency limit_data slow_close timeout bandwidth; do
     mv "$work/each/0000.pcap" "$work/alone/000$number.pcap"
     number=$((number + 1))
 done
+if can "five scenarios, worked out apart" python3; then
+    mkdir "$work/apart"
+    python3 tests/rows/expected.py --stored "$work/apart" "$capture" examples/{latency,limit_data,slow_close,timeout,bandwidth}.json
+    verdict "five scenarios, worked out apart" "$(folder_difference "$work/apart" "$work/alone")"
+fi
 same "five scenarios" "$capture" "${five[@]}"
 run "$capture" "${five[@]}" --out "$work/five"
 verdict "five scenarios, stored" "$(well; folder_difference "$work/alone" "$work/five")"
@@ -148,6 +178,13 @@ cp "$work/output" "$work/wanted"
 same "a scenario after 70,000 blanks" "$capture" --scenario "$work/wide.json"
 printf '[]%70000s]' '' > "$work/wide.json"
 refused "a fault after 70,000 blanks" "refused 10 NotJson scenario 0" "$capture" --scenario "$work/wide.json"
+
+# so does one of 20 MB
+{ printf '[%20000000s' ''; tail -c +2 "$work/one.json"; } > "$work/wide.json"
+same "a scenario after 20,000,000 blanks" "$capture" --scenario "$work/wide.json"
+printf '[]%20000000s]' '' > "$work/wide.json"
+refused "a fault after 20,000,000 blanks" "refused 10 NotJson scenario 0" "$capture" --scenario "$work/wide.json"
+rm "$work/wide.json"
 
 # 150,000 bytes upstream in 120 segments, as a dump; a slicer cuts them byte by byte, each at an instant of its own: a file header, three
 # segments of the handshake, and as many of one byte
@@ -218,6 +255,15 @@ for name in three.pcap two.pcap more.pcap two.dump; do
     run "$work/$name" "${four[@]}"
     cp "$work/output" "$work/wanted"
     run "$work/$name" "${four[@]}" --out "$work/alone"
+    [ $name != three.pcap ] || verdict "$name, worked out apart" "$(
+        well
+        met=(0 0 63 0)
+        for number in 0 1 2 3; do
+            perl tests/capture.pl 14000 report "${met[number]}" $number | byte_difference - "$work/alone/000$number.txt"
+            perl tests/capture.pl 14000 delivered | byte_difference - "$work/alone/000$number.pcap"
+        done
+        cat "$work"/alone/*.txt | byte_difference - "$work/wanted"
+    )"
     for workers in 1 2 3 16; do
         same "$name by $workers workers" /dev/null --capture "$work/$name" "${four[@]}" --workers $workers
         rm -rf "$work/by$workers"
@@ -232,23 +278,59 @@ refused "a folder as capture, by workers" "refused 61 ReadFailed" /dev/null --ca
 for what in recorded report delivered; do perl tests/capture.pl 100000x3 $what > "$work/pairs.$what" & done
 perl tests/capture.pl 400000x1 > "$work/openings"
 wait
-run "$work/pairs.recorded"
-verdict "100,000 pairs" "$(well; byte_difference "$work/pairs.report" "$work/output")"
-for workers in 1 4; do
-    rm -rf "$work/stored"
-    mkdir "$work/stored"
-    run /dev/null --capture "$work/pairs.recorded" --workers $workers --out "$work/stored"
-    verdict "100,000 pairs, stored by $workers workers" "$(
-        well
-        byte_difference "$work/pairs.report" "$work/stored/0000.txt"
-        byte_difference "$work/pairs.delivered" "$work/stored/0000.pcap"
-    )"
-done
+printed "100,000 pairs" pairs "$work/pairs.recorded"
+for workers in 1 4; do whole "100,000 pairs by $workers workers" pairs /dev/null --capture "$work/pairs.recorded" --workers $workers; done
+
+# Stored, they take a second of a processor, and have SECONDS. A table that is made fifty times would take WRONG.
+mkdir "$work/stored"
+status=0
+(ulimit -t 4; exec timeout "$patience" "$program" --capture "$work/pairs.recorded" --out "$work/stored" > "$work/output" 2> "$work/faults") || status=$?
+verdict "100,000 pairs stored within four seconds" "$(well; byte_difference "$work/pairs.delivered" "$work/stored/0000.pcap")"
 
 for workers in 2 4; do
     run_with "" /dev/null --capture "$work/pairs.recorded" --workers $workers
     verdict "100,000 pairs, printed by $workers workers" "$(well; byte_difference "$work/pairs.report" "$work/output")"
 done
+
+# 400,000 connections in three rounds: 84 MB, which are eleven blocks and 1,200,000 records; a report of 36 MB, and 112 MB of written segments. And
+# 110,000 with 1,250 bytes of each client: 161 MB, which are 20 blocks, and 168 MB of written segments. In ranges of up to 2^20 records.
+for what in recorded report delivered; do
+    perl tests/capture.pl 400000x3 $what > "$work/many.$what" &
+    perl tests/capture.pl 110000x3x1250 $what > "$work/wide.$what" &
+done
+wait
+whole "84 MB by 2 workers" many /dev/null --capture "$work/many.recorded" --workers 2
+whole "84 MB by 5 workers, ranges of 100,000" many /dev/null --capture "$work/many.recorded" --workers 5 --cut 100000
+whole "84 MB, range of 1,048,576" many "$work/many.recorded" --cut 1048576
+printed "84 MB" many "$work/many.recorded"
+printed "84 MB by 4 workers, range of 1,048,576" many /dev/null --capture "$work/many.recorded" --workers 4 --cut 1048576
+rm "$work"/many.*
+whole "161 MB by 2 workers" wide /dev/null --capture "$work/wide.recorded" --workers 2
+whole "161 MB by 16 workers" wide /dev/null --capture "$work/wide.recorded" --workers 16
+whole "161 MB" wide "$work/wide.recorded"
+printed "161 MB by 2 workers" wide /dev/null --capture "$work/wide.recorded" --workers 2
+rm "$work"/wide.*
+
+# Ten reports of 40,000 connections, 35 MB together: printed, and stored. What the scenarios do downstream changes nothing, since no server sends.
+perl tests/capture.pl 40000x3 > "$work/ten.recorded"
+ten=()
+for number in {0..9}; do
+    ten+=(--scenario "examples/$([ $((number % 2)) = 0 ] && echo latency || echo slicer).json")
+    perl tests/capture.pl 40000x3 report 0 "$number" > "$work/ten.$number"
+done
+cat "$work"/ten.[0-9] > "$work/ten.report"
+for workers in 1 4; do printed "ten reports by $workers workers" ten "$work/ten.recorded" "${ten[@]}" --workers $workers; done
+mkdir "$work/by-ten"
+run "$work/ten.recorded" "${ten[@]}" --workers 4 --out "$work/by-ten"
+perl tests/capture.pl 40000x3 delivered > "$work/ten.delivered"
+verdict "ten reports by 4 workers, stored" "$(
+    well
+    for number in {0..9}; do
+        byte_difference "$work/ten.$number" "$work/by-ten/000$number.txt"
+        byte_difference "$work/ten.delivered" "$work/by-ten/000$number.pcap"
+    done
+)"
+rm -r "$work"/ten.* "$work/by-ten"
 
 # Reports of more than a MB are written in parts. Each write of these 9 MB fails in turn: a first part is written then, and nothing after it.
 # cut_short BEFORE: what is at fault with a run of which a write failed, that had less written than this one, so many bytes.
@@ -273,7 +355,7 @@ fi
 
 # 400,000 openings take less than a second of a processor, and have three. A list of their pairs would take 96 seconds, and 16 lists would take six.
 status=0
-(ulimit -t 3; exec "$program" --capture "$work/openings" > "$work/output" 2> "$work/faults") || status=$?
+(ulimit -t 3; exec timeout "$patience" "$program" --capture "$work/openings" > "$work/output" 2> "$work/faults") || status=$?
 verdict "400,000 pairs within three seconds" "$(well; sed -n 2p "$work/output" | grep -vx 'connections 400000 unopened 0')"
 
 # Of a capture that is printed heads alone are kept, so its 45 MB take no more than 24 MB of addresses with all else; by its name, and through a pipe
@@ -286,8 +368,16 @@ run_with GLIBC_TUNABLES=glibc.malloc.arena_max=1 /dev/null --capture "$work/six.
 ulimit -S -v "$limit"
 verdict "45 MB printed in little memory" "$(well; byte_difference "$work/six.report" "$work/output")"
 status=0
-dd if="$work/six.pcap" bs=997 status=none | "$program" > "$work/output" 2> "$work/faults" || status=$?
+dd if="$work/six.pcap" bs=997 status=none | timeout "$patience" "$program" > "$work/output" 2> "$work/faults" || status=$?
 verdict "45 MB printed in parts of 997 bytes" "$(well; byte_difference "$work/six.report" "$work/output")"
+
+# Its dump has 90 MB.
+perl tests/capture.pl 34100 delivered > "$work/six.delivered"
+perl -0777 -ne 'print unpack "H*", $_' "$work/six.pcap" > "$work/six.dump"
+printed "a dump of 90 MB" six "$work/six.dump"
+whole "a dump of 90 MB by 2 workers" six /dev/null --capture "$work/six.dump" --workers 2
+whole "a dump of 90 MB" six "$work/six.dump"
+rm "$work/six.dump"
 
 # Reports are printed as they are made, so 64 of them, with 22 MB together, take no more than 20 MB of addresses with all else. Each is as it is alone,
 # but for its number.
@@ -329,11 +419,11 @@ fi
 # A capture of 45 MB, loaded in six blocks and stored, takes 74 MB of addresses, and half of what it would take with the capture or its output in memory
 # once more is granted. What is written goes out in batches of 256 KiB, of which there are 172, and a report. glibc has one arena: a second one, which
 # the other worker would get if it starts early enough, takes 64 MB of addresses.
-rm "$work"/stored/*
+mkdir "$work/stored"
 ulimit -S -v 95000
 run_with GLIBC_TUNABLES=glibc.malloc.arena_max=1 /dev/null --capture "$work/six.pcap" --workers 2 --out "$work/stored"
 ulimit -S -v "$limit"
-verdict "45 MB stored in little memory" "$(well; perl tests/capture.pl 34100 delivered | byte_difference - "$work/stored/0000.pcap")"
+verdict "45 MB stored in little memory" "$(well; byte_difference "$work/six.delivered" "$work/stored/0000.pcap")"
 if can_count "45 MB stored by few writes"; then
     verdict "45 MB stored by few writes" "$([ "$(count write)" -le 200 ] || echo "  writes: $(count write)")"
 fi

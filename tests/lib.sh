@@ -16,6 +16,8 @@ clean_up() { :; }
 work=$(mktemp -d)
 trap 'clean_up; rm -rf "$work"' EXIT
 passed=0 failed=0 skipped=0
+# How many seconds a run has: one that hangs is ended, and fails with status 124.
+patience=200
 
 # find_program: what `program` is, or the end of the script where there is none.
 find_program() {
@@ -77,7 +79,7 @@ run() {
     local input=$1
     shift
     status=0
-    "$program" "$@" < "$input" > "$work/output" 2> "$work/faults" || status=$?
+    timeout "$patience" "$program" "$@" < "$input" > "$work/output" 2> "$work/faults" || status=$?
 }
 
 # What is at fault with the last run; nothing where it went as it was to go.

@@ -191,6 +191,44 @@ refused "refused 61 ReadFailed" --capture "$stored "
 refused "refused 61 ReadFailed" --scenario "$work/bare.json "
 refused "refused 60 ShelfFailed after 0" --out "$work/full "
 
+# paths that begin in blanks are others too, and so are those of letters that are not ASCII; and all of a path counts that has over 3,800 bytes
+# placed_at WHAT CAPTURE SCENARIO FOLDER: files and a folder of these paths are read, and stored in; the folder is made here.
+placed_at() {
+    mkdir "$4"
+    said "${slow/scenario 1/scenario 0}" /dev/null --capture "$2" --scenario "$3" --host web=10.0.0.2
+    run /dev/null --capture "$2" --scenario "$3" --host web=10.0.0.2 --out "$4"
+    verdict "stored by paths $1" "$(
+        well
+        silent output
+        holds "$4" 0000.pcap 0000.txt
+        printf '%s' "${slow/scenario 1/scenario 0}" | byte_difference - "$4/0000.txt"
+    )"
+}
+mkdir "$work/paths"
+cp "$work/bare.json" "$work/paths/scenario"
+cp "$stored" "$work/paths/capture"
+mkdir "$work/paths/there"
+far=$work/paths
+while [ ${#far} -lt 3800 ]; do far+=/$(printf '%0200d' 0); done
+mkdir -p "$far"
+session_path=$PWD/$session
+pushd "$work/paths" > /dev/null
+for front in ' ' '   ' $'\t' $'\n'; do
+    cp "$session_path" "${front}capture"
+    cp "$work/slow.json" "${front}scenario"
+    placed_at "after $(printf %q "$front")" "${front}capture" "${front}scenario" "${front}there"
+done
+verdict "paths without blanks" "$(holds there)"
+for letters in $'\xc3\xa4\xc3\x98 \xe6\x96\x87' $'\xf0\x9d\x84\x9e' $'a\xcc\x81' $'"\\\'$\n*' -o --; do
+    cp "$session_path" "./$letters.pcap"
+    cp "$work/slow.json" "./$letters.json"
+    placed_at "of $(printf %q "$letters")" "./$letters.pcap" "./$letters.json" "./$letters"
+done
+popd > /dev/null
+cp $session "$far/capture"
+cp "$work/slow.json" "$far/scenario"
+placed_at "of ${#far} bytes" "$far/capture" "$far/scenario" "$far/there"
+
 # files of over 300 KB by their paths, whose ends count
 printf '[%400000s]' '' > "$work/wide.json"
 printf '[%400000s' '' > "$work/open.json"
@@ -200,7 +238,7 @@ unread "refused 10 NotJson scenario 1" /dev/null --capture "$work/wide.txt" --sc
 
 # a writer that cannot be written
 status=0
-"$program" < "$stored" > /dev/full 2> "$work/faults" || status=$?
+timeout "$patience" "$program" < "$stored" > /dev/full 2> "$work/faults" || status=$?
 : > "$work/output"
 verdict "toxicap > /dev/full" "$(refusal "refused 62 WriteFailed")"
 

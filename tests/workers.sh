@@ -1,7 +1,7 @@
 #!/usr/bin/env bash
 # Workers of the built program: how many threads are made in each phase of a run, by 1 to 16 workers; and that no byte depends on how many they are, in
-# what is printed and in what is stored. 40 scenarios are stored as each of them is alone, and a capture of 45 MB, whose blocks are loaded by threads
-# where it is stored, gives what it gives as standard input.
+# what is printed and in what is stored: it is what was worked out apart from the program. 40 scenarios are stored as each of them is alone, and a
+# capture of 45 MB, whose blocks are loaded by threads where it is stored, gives what it gives as standard input. One has 100,000 connections.
 set -euo pipefail
 cd "$(dirname "$0")/.."
 . tests/lib.sh
@@ -67,6 +67,21 @@ for ((number = 0; number < 40; number++)); do
     bare+=(--scenario "$work/bare.json")
 done
 
+# worked_out CAPTURE COUNT: the first scenarios, so many, over a capture, by tests/rows/expected.py, in the folder `apart`; nothing is there where
+# it can't be run.
+is_apart=yes
+can "worked out apart" python3 || is_apart=no
+worked_out() {
+    local number scenarios=()
+    anew "$work/apart"
+    [ $is_apart = yes ] || return 0
+    for ((number = 0; number < $2; number++)); do scenarios+=("$work/$number.json"); done
+    python3 tests/rows/expected.py --stored "$work/apart" "$1" "${scenarios[@]}"
+}
+
+# as_apart FOLDER: what is at fault with stored files that were to be those of the folder `apart`.
+as_apart() { [ $is_apart = no ] || folder_difference "$work/apart" "$1"; }
+
 # by_workers NAME CAPTURE RANGES CONNECTIONS: by 1 to 16 workers, in ranges of 6 records: three reports printed; one scenario stored, and seven.
 by_workers() {
     local name=$1 capture=$2 ranges=$3 connections=$4 workers
@@ -76,6 +91,13 @@ by_workers() {
     cp "$work/output" "$work/three"
     run "$capture" "${many[@]:0:2}" --out "$work/one"
     run "$capture" "${many[@]:0:14}" --out "$work/seven"
+    worked_out "$capture" 7
+    verdict "$name: worked out apart" "$(
+        well
+        as_apart "$work/seven"
+        for file in "$work"/one/*; do byte_difference "$work/seven/${file##*/}" "$file"; done
+        cat "$work"/seven/000[012].txt | byte_difference - "$work/three"
+    )"
     for ((workers = 1; workers <= 16; workers++)); do
         run_with "" "$capture" "${many[@]:0:6}" --workers $workers --cut 6
         verdict "$name: three reports by $workers workers" "$(
@@ -110,6 +132,8 @@ for ((number = 0; number < 40; number++)); do
     run "$capture" "${bare[@]:0:2*number}" "${many[@]:2*number:2}" --out "$folder"
     mv "$folder/$(printf '%04d' $number)".* "$work/forty"
 done
+worked_out "$capture" 40
+verdict "40 scenarios, worked out apart" "$(as_apart "$work/forty")"
 verdict "40 scenarios that differ" "$([ "$(sha256sum "$work"/forty/*.pcap | cut -d ' ' -f 1 | sort -u | wc -l)" = 40 ] || echo '  two have the same capture')"
 anew "$folder"
 run_with "" "$capture" "${many[@]}" --workers 16 --out "$folder"
@@ -148,5 +172,27 @@ done
 for workers in 9 16; do
     run_with "" /dev/null --capture "$work/six.pcap" --workers $workers
     verdict "45 MB by $workers workers, named" "$(well; threads 6 9 1 1 printed $workers; difference "$work/report" "$work/output")"
+done
+rm -f "$work"/six.pcap "$work"/delivered "$folder"/*
+
+# 100,000 connections, of 300,000 records in 74 ranges, which are three blocks.
+for what in recorded report delivered; do perl tests/capture.pl 100000x3 $what > "$work/$what" & done
+wait
+for workers in 1 2 4 16; do
+    run_with "" /dev/null --capture "$work/recorded" --workers $workers
+    verdict "100,000 connections by $workers workers" "$(
+        well
+        threads 0 74 100000 1 printed $workers
+        byte_difference "$work/report" "$work/output"
+    )"
+    anew "$folder"
+    run_with "" /dev/null --capture "$work/recorded" --workers $workers --out "$folder"
+    verdict "100,000 connections by $workers workers, stored" "$(
+        well
+        threads 3 74 100000 1 stored $workers
+        holds "$folder" 0000.pcap 0000.txt
+        byte_difference "$work/report" "$folder/0000.txt"
+        byte_difference "$work/delivered" "$folder/0000.pcap"
+    )"
 done
 close

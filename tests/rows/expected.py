@@ -3,8 +3,10 @@
 for time. It was written from those rules alone and shares nothing with the program's text.
 
     tests/rows/expected.py FOLDER   writes FOLDER/report and FOLDER/0000.hex, 0001.hex .. (or .sha256 for those above 4,000 bytes)
+    tests/rows/expected.py --stored FOLDER CAPTURE SCENARIO..
+                                    writes FOLDER/0000.pcap, 0000.txt and on, what --out has to store of a capture under scenario files
 
-It reads FOLDER/segments (through tests/capture.awk), FOLDER/segments.awk or FOLDER/dump, FOLDER/arguments and the scenario files that these
+The first reads FOLDER/segments (through tests/capture.awk), FOLDER/segments.awk or FOLDER/dump, FOLDER/arguments and the scenario files that these
 name. It refuses nothing: a row that is refused has its line written by hand."""
 import hashlib, json, pathlib, struct, subprocess, sys
 
@@ -278,7 +280,16 @@ def upstream(proxy, hosts):
     return '%s:%d' % (hosts.get(host, host), int(port))
 
 
+def stored(folder, capture, names):
+    folder = pathlib.Path(folder)
+    for number, name in enumerate(names):
+        report, out = rehearse(pathlib.Path(capture).read_bytes(), json.loads(pathlib.Path(name).read_text()), number, 0, {})
+        (folder / f'{number:04}.pcap').write_bytes(out)
+        (folder / f'{number:04}.txt').write_text(report)
+
+
 def main():
+    if sys.argv[1] == '--stored': return stored(sys.argv[2], sys.argv[3], sys.argv[4:])
     row = pathlib.Path(sys.argv[1])
     tests = pathlib.Path(__file__).resolve().parent.parent
     if (row / 'dump').exists(): text = (row / 'dump').read_text()

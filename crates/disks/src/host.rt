@@ -93,11 +93,11 @@ where
 // What the name of each draft begins with; a number follows.
 const DRAFT_NAME: &[u8] = b"toxicap.unfinished-";
 
-// Whether a name is that of a draft.
+// Whether a name is that of a draft: its number has no zeros in front.
 fn is_draft_name(name: &[u8]) -> bool {
     match name.strip_prefix(DRAFT_NAME) {
-        Some(number) => !number.is_empty() && number.iter().all(|digit| digit.is_ascii_digit()),
-        None => false,
+        None | Some([] | [b'0', _, ..]) => false,
+        Some(number) => number.iter().all(|digit| digit.is_ascii_digit()),
     }
 }
 

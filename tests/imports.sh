@@ -2,6 +2,7 @@
 # What crates take of one another beside contracts and definitions: lemmas of another crate's proofs. toxicap takes none, nor does any crate that it
 # does not stand on (those above it, and the tests): these stand on public contracts, on the definitions that they cite, and on laws. The crates
 # below it may share lemmas, and how many each takes is told.
+# And whether the product's code calls each library that is to do its work: a name in crates.txt, an import or a clause is no call.
 set -euo pipefail
 cd "$(dirname "$0")/.."
 TOXICAP=true # no program is run, so none need be there
@@ -40,5 +41,24 @@ for crate in "${crates[@]}"; do
     else
         verdict "$crate" "$(taken "$crate" "crates/$crate")"
     fi
+done
+
+# What a call of each library looks like in src.
+declare -A calls=(
+    [atomic_table]='\bTable::\w+\(' [byteorder]='\b(Big|Little)Endian::\w+\(' [clap]='\bCommand::new\(' [hex]='\bhex::\w+\('
+    [indexmap]='\bIndexMap::\w+\(' [itertools]='\.kmerge\(' [rand_pcg]='\bLcg64Xsh32::new\(' [serde_json]='\bValue::from_slice\('
+    [thiserror]='#\[derive\(.*\bError\b'
+)
+
+# called LIBRARY FILE..: the lines of code in these files that call it, in those files that name it; comments and ghost items are none.
+called() {
+    grep -lE "^use $1::|${calls[$1]}" "${@:2}" | xargs -r grep -hE "${calls[$1]}" | grep -vE '^ *(//|ghost |use )' || true
+}
+
+printf '%s\n' '// hex::decode(text)' 'ghost use Rattle.hex.specs.Hex.{decode_of};' 'use hex::FromHexError;' 'use hex::decode;' > "$work/named.rt"
+verdict 'planted: hex named, and not called' "$(called hex "$work/named.rt")"
+mapfile -t product < <(find crates/*/src -name '*.rt' | grep -vE '^crates/(\w+_tests|worked_sessions|library_example|old_answers)/')
+for library in "${!calls[@]}"; do
+    verdict "$library does work of the product" "$([ -n "$(called "$library" "${product[@]}")" ] || echo '  no code calls it')"
 done
 close

@@ -1,4 +1,5 @@
 pub mod ToldFiles
 pub mod DraftPaths
+pub mod ReadFiles
 pub mod Histories
 pub mod MemoryDisks

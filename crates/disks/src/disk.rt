@@ -100,7 +100,7 @@ pub trait DiskFile {
 /// asked; and `path_of` is the path that it was begun at. A draft is no part of the history, so it has no path that a file may get as its
 /// name. Whoever begins drafts side by side gives each a path of its own.
 pub trait Disk {
-    ghost use Rattle.std.specs.Prelude.{◌≡◌, ℕ, ◌+◌, ◌-◌, ◌^◌, ◌<◌, [], ◌∷◌, ◌++◌, List, Option, OnErr, OnOk, is_ok, if◌then◌else◌, IfSome, IsSome};
+    ghost use Rattle.std.specs.Prelude.{◌≡◌, ℕ, ◌+◌, ◌-◌, ◌^◌, ◌<◌, [], ◌∷◌, ◌++◌, List, Option, OnErr, OnOk, is_ok, if◌then◌else◌, IfSome, IsSome, true};
     ghost use Rattle.std.specs.String.{string_bytes};
     ghost use Rattle.disks.specs.DraftPaths.{IsDraftPath};
     ghost use Rattle.disks.specs.Histories.{History, Names, held_now, named_file};
@@ -123,6 +123,7 @@ pub trait Disk {
     /// were.
     fn hold(&mut self, folder: &str, read: &ReadFiles) -> Result<(), DiskFault>
         requires { faults self.old < 2 ^ 64 - 1 }
+        ensures known { OnOk result (read.now.are_known ≡ true) }
         ensures as_before { history self.new ≡ history self.old }
         ensures counted { faults self.new ≡ (if is_ok result then faults self.old else faults self.old + 1) };
 

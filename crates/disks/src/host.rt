@@ -76,8 +76,12 @@ impl<'a, F: Files> HostDisk<'a, F>
 where
     F::File: Lockable,
 {
+    ghost use Rattle.std.specs.Prelude.{◌≡◌, true, OnOk};
+
     // A folder that is held, where its file system has locks. Without locks drafts of other runs may be there, so none is removed.
-    fn held_folder(&self, folder: &str, read: &ReadFiles) -> Result<Option<F::File>, DiskFault> {
+    fn held_folder(&self, folder: &str, read: &ReadFiles) -> Result<Option<F::File>, DiskFault>
+        ensures { OnOk result (read.now.are_known ≡ true) }
+    {
         if !read.are_known() {
             return Err(DiskFault::Failed);
         }

@@ -1,6 +1,7 @@
 //! The files that a run has read, which no file of its own may replace.
 use crate::disk::{DiskFault, FileId};
 use std::alloc::{AllocError, Global};
+use std::marker::Model;
 
 /// The files that a run has read, each by what sets it apart from all others. Whether each of them is known is kept too.
 #[derive(Drop)]
@@ -9,9 +10,22 @@ pub struct ReadFiles {
     are_known: bool,
 }
 
+impl Model for ReadFiles {
+    ghost use Rattle.disks.specs.ReadFiles.{ReadFilesView};
+
+    ghost Value = { ReadFilesView };
+
+    ghost view = { λ r. record { ids = r.ids.items; are_known = r.are_known } };
+}
+
 impl ReadFiles {
+    ghost use Rattle.std.specs.Prelude.{◌≡◌, ◌↔◌, [], true, Contains, IsTrue, OnErr, OnOk};
+    ghost use Rattle.disks.specs.ReadFiles.{with_file};
+
     /// None yet. It takes no memory.
-    pub fn new(alloc: Global) -> ReadFiles {
+    pub fn new(alloc: Global) -> ReadFiles
+        ensures { result ≡ record { ids = []; are_known = true } }
+    {
         ReadFiles {
             ids: Vec::new(alloc),
             are_known: true,
@@ -22,7 +36,10 @@ impl ReadFiles {
     ///
     /// # Errors
     /// A growth was refused.
-    pub fn add(&mut self, id: Result<Option<FileId>, DiskFault>) -> Result<(), AllocError> {
+    pub fn add(&mut self, id: Result<Option<FileId>, DiskFault>) -> Result<(), AllocError>
+        ensures added { OnOk result (self.new ≡ with_file self.old id) }
+        ensures as_before { OnErr result (self.new ≡ self.old) }
+    {
         match id {
             Ok(Some(id)) => self.ids.push(id)?,
             Ok(None) => {}
@@ -32,12 +49,16 @@ impl ReadFiles {
     }
 
     /// Whether each file that was added is known.
-    pub fn are_known(&self) -> bool {
+    pub fn are_known(&self) -> bool
+        ensures { result ≡ self.now.are_known }
+    {
         self.are_known
     }
 
     /// Whether a file is one of them.
-    pub fn contains(&self, id: FileId) -> bool {
+    pub fn contains(&self, id: FileId) -> bool
+        ensures { IsTrue result ↔ Contains self.now.ids id }
+    {
         self.ids.contains(&id)
     }
 }

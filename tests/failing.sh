@@ -106,9 +106,10 @@ verdict "the line of a refusal cannot be written whole" "$(fault 1; told faults 
 # nothing can be told of a file it is one or not.
 named=(/dev/null --capture "$capture" "${both[@]}" --out "$folder")
 
-# unopened NUMBER: it was to be refused for this file: a scenario, the capture, or one of the folder.
+# unopened NUMBER: it was to be refused for this file: a scenario, the capture, the folder, or a file in it. The fifth lists the folder, where drafts
+# are looked for that were left: without the list they stay.
 unopened() {
-    if [ "$1" -le 3 ]; then unread; else unstored; fi
+    if [ "$1" -le 3 ]; then unread; elif [ "$1" = 5 ]; then stored; else unstored; fi
 }
 each "a file cannot be opened" open "CAUSE=$device" unopened stored "${named[@]}"
 each "a read of a file fails" read "CAUSE=$device" unread stored "${named[@]}"

@@ -74,44 +74,38 @@ perl tests/capture.pl 7000 > "$work/blocks.pcap"
 each "a capture of two blocks by 2 workers" /dev/null --capture "$work/blocks.pcap" --scenario examples/latency.json --workers 2
 each "--help" /dev/null --help
 
-# long WHAT CAPTURE PLACES [ARGUMENT..]: of a run that prints more than 2^20 bytes forty growths, from the first to the last, are refused in turn. Then
-# nothing was printed, or the reports of all scenarios before one of PLACES; `none` and `some` are how often.
+# long WHAT CAPTURE [ARGUMENT..]: of a run that prints more than 2^20 bytes forty growths, from the first to the last, are refused in turn. Then
+# nothing is printed.
 long() {
-    local what=$1 capture=$2 places=$3 sizes=0 all number size place bad
-    shift 3
-    none=0 some=0
+    local what=$1 capture=$2 all number bad refused=0
+    shift 2
     run_with "" "$capture" "$@"
     can_count "$what" || return 0
     bad=$(well)
     cp "$work/output" "$work/ample"
-    for place in $places; do sizes+=" $(sed "/^scenario $place /,\$d" "$work/ample" | wc -c)"; done
     all=$(count growth)
     for ((number = 1; number <= 40; number++)); do
         run_with "FAIL=growth:$((all * number / 40))" "$capture" "$@"
         [ "$status" != 0 ] || ! cmp -s "$work/ample" "$work/output" || continue
-        size=$(stat -c %s "$work/output")
         bad+=$(
             fault 1
             [ ! -s "$work/faults" ] || told faults $'refused 40 Memory\n'
-            [[ " $sizes " = *" $size "* ]] || echo "  bytes printed: $size"
-            head -c "$size" "$work/ample" | byte_difference - "$work/output"
+            silent output
         )
-        if [ "$size" = 0 ]; then none=$((none + 1)); else some=$((some + 1)); fi
+        refused=$((refused + 1))
     done
-    verdict "$what" "$bad"
+    verdict "$what" "$bad$([ $refused -gt 20 ] || echo "  refused: $refused times")"
 }
 
-# Reports of 330 KB are made and printed by fives, and the eleventh alone. Of two of 980 KB the first is held until the second is made.
+# reports of 330 KB, and of 980 KB
 eleven=()
 for scenario in latency limit_data slow_close timeout bandwidth latency limit_data slow_close timeout bandwidth latency; do
     eleven+=(--scenario "examples/$scenario.json")
 done
 perl tests/capture.pl 4000x3 > "$work/pairs.pcap"
-long "eleven reports, of which five are made at once" "$work/pairs.pcap" "5 10" "${eleven[@]}"
-[ ! -e "$work/calls" ] || verdict "nothing or some reports are printed" "$([ $none -gt 9 ] && [ $some -gt 9 ] || echo "  printed nothing: $none times, some reports: $some times")"
+long "eleven reports" "$work/pairs.pcap" "${eleven[@]}"
 perl tests/capture.pl 11000x3 > "$work/pairs.pcap"
-long "two reports, of which the first is held" "$work/pairs.pcap" "" "${eleven[@]:0:4}"
-[ ! -e "$work/calls" ] || verdict "nothing is printed of two reports" "$([ $none -gt 9 ] || echo "  printed nothing: $none times")"
+long "two long reports by 2 workers" "$work/pairs.pcap" "${eleven[@]:0:4}" --workers 2
 echo "$growths growths refused of the program"
 
 # The library's calls: each test of the module `again` makes them twice and compares what they answer. It stops with the words `no memory

@@ -1,17 +1,18 @@
 -- A text is a dump of the bytes that hex decodes of it without its blanks.
-use Rattle.std.proofs.Common.{◌≡◌, ◌+◌, ◌*◌, Bool, true, false, not, ◌||◌, ℕ, List, [], ◌∷◌, ◌++◌, length, filter, slice_index, Option, Some, None, Result, Ok, Err, refl, ap, ◌∙◌, arith, length-append}
-use Rattle.std.specs.Prelude.{cond, count_by, position, MatchResult}
+use Rattle.std.proofs.Common.{◌≡◌, ◌+◌, ◌*◌, Bool, true, false, not, ◌||◌, ℕ, List, [], ◌∷◌, ◌++◌, length, filter, slice_index, Option, Some, None, Result, Ok, Err, refl, sym, ap, inl, inr, zero, suc, ◌∙◌, arith, length-append}
+use Rattle.std.specs.Prelude.{cond, set, replicate, slice_get, ◌<◌, ◌≢◌, ◌⊎◌, count_by, position, MatchResult}
 use Rattle.std.specs.List.{list_all, position_from}
 use Rattle.std.specs.Result.{result_unwrap_or}
-use Rattle.std.proofs.lemmas.Bool.{and_parts}
+use Rattle.std.proofs.lemmas.Bool.{and_parts, cases_eq}
 use Rattle.std.proofs.lemmas.List.{append-nil}
 use Rattle.std.proofs.lemmas.List.Sums.{sum_by-cons, list_all-from_AllPass}
 use Rattle.std.proofs.lemmas.Iterator.Adapters.{position_from-zero}
+use Rattle.lists.proofs.Lists.{slice_get-set_other, slice_get-set_same}
 use Rattle.hex.specs.Hex.{decode_of, decode_pairs, digit_or_error, hex_digit_value, is_hex_digit, pair_value, ◌>>=◌}
 use Rattle.hex.specs.declared.error.FromHexError.{FromHexError}
 use Rattle.hex.proofs.HexLemmas.{decode_of-even, decode_of-ok, decode_pairs-ok}
 use Rattle.hex.proofs.Pairs.{decode_pairs-ok_pair, decode_start, prepend, prepend-cons_byte}
-use Rattle.run_files.specs.Dumps.{is_blank, is_foreign, dumped_bytes, dump_reading, without_blanks}
+use Rattle.run_files.specs.Dumps.{BeginsWith, HoldsPairs, is_blank, is_foreign, dumped_bytes, dump_reading, without_blanks}
 
 -- a blank is no digit
 blank_digit : (b : ℕ) → is_blank b ≡ true → is_hex_digit b ≡ false
@@ -47,6 +48,29 @@ module _ (blank digit : ℕ → Bool) where
       by_test true no_digit ih h = let e = ih h in rw (no_digit refl) (omega arith)
       by_test false no_digit ih h = let parts = and_parts (digit b) _ h in let e = ih parts.1 in rw parts.0 (omega arith)
 
+-- ---- the table of pairs
+
+none_at : (n i byte : ℕ) → slice_get (replicate n None) i ≡ Some (Some byte) → ⊥
+none_at zero i byte at = cc
+none_at (suc n) zero byte at = cc
+none_at (suc n) (suc i) byte at = none_at n i byte at
+
+pub holds-none : (n : ℕ) → HoldsPairs (replicate n None)
+holds-none n high low byte small at = absurd (none_at n (high * 256 + low) byte at)
+
+pub holds-more : (pairs : List (Option ℕ)) (a b at v : ℕ) → at ≡ a * 256 + b → b < 256 → at < length pairs → pair_value a b 0 ≡ Ok v
+    → HoldsPairs pairs → HoldsPairs (set pairs at (Some v))
+holds-more pairs a b at v place small within value held high low byte low_small found = by (cases_eq (high * 256 + low) at)
+  where
+    by : ((high * 256 + low) ≡ at) ⊎ ((high * 256 + low) ≢ at) → pair_value high low 0 ≡ Ok byte
+    by (inl here) =
+        let same_high : high ≡ a = omega arith in
+        let same_low : low ≡ b = omega arith in
+        let e : Some (Some v) ≡ Some (Some byte) = sym (slice_get-set_same pairs at (Some v) within) ∙ ap (slice_get (set pairs at (Some v))) (sym here) ∙ found in
+        let same : v ≡ byte = cc in
+        rw (same_high, same_low, ← same) value
+    by (inr other) = held high low byte low_small (sym (slice_get-set_other pairs at (high * 256 + low) (Some v) other) ∙ found)
+
 -- ---- what hex decodes, a pair at a time
 
 -- what decoding a pair into room for its byte says of the pair's value
@@ -69,16 +93,15 @@ pair_anywhere a b i v h = by (hex_digit_value a) (hex_digit_value b) h
 pub decoded_none : (s bytes : List ℕ) → bytes ≡ [] → decode_pairs 0 s ≡ prepend bytes (decode_pairs (2 * length bytes) s)
 decoded_none s bytes none = rw none (decode_start s [])
 
-pub decoded_more : (s bytes rest after left : List ℕ) (a b v : ℕ) → rest ≡ a ∷ after → after ≡ b ∷ left → pair_value a b 0 ≡ Ok v
-    → decode_pairs 0 s ≡ prepend bytes (decode_pairs (2 * length bytes) rest)
-    → decode_pairs 0 s ≡ prepend (bytes ++ v ∷ []) (decode_pairs (2 * length (bytes ++ v ∷ [])) left)
-decoded_more s bytes rest after left a b v high low value inv =
+pub decoded_more : (s bytes text left : List ℕ) (v : ℕ) → BeginsWith text v left
+    → decode_pairs 0 s ≡ prepend bytes (decode_pairs (2 * length bytes) (without_blanks text))
+    → decode_pairs 0 s ≡ prepend (bytes ++ v ∷ []) (decode_pairs (2 * length (bytes ++ v ∷ [])) (without_blanks left))
+decoded_more s bytes text left v (a, b, digits, value) inv =
     let i : ℕ = 2 * length bytes in
-    let digits : rest ≡ a ∷ b ∷ left = high ∙ ap (λ (l : List ℕ). a ∷ l) low in
-    let pair = decode_pairs-ok_pair i a b v left (pair_anywhere a b i v value) in
+    let pair = decode_pairs-ok_pair i a b v (without_blanks left) (pair_anywhere a b i v value) in
     let place : i + 2 ≡ 2 * length (bytes ++ v ∷ []) = omega (arith, length-append bytes (v ∷ [])) in
     inv ∙ ap (λ (l : List ℕ). prepend bytes (decode_pairs i l)) digits ∙ ap (prepend bytes) pair ∙ prepend-cons_byte bytes v _
-    ∙ ap (λ (k : ℕ). prepend (bytes ++ v ∷ []) (decode_pairs k left)) place
+    ∙ ap (λ (k : ℕ). prepend (bytes ++ v ∷ []) (decode_pairs k (without_blanks left))) place
 
 pub decoded_all : (s bytes rest : List ℕ) → rest ≡ [] → decode_pairs 0 s ≡ prepend bytes (decode_pairs (2 * length bytes) rest) → decode_of s ≡ Ok bytes
 unfolding decode_pairs

@@ -1,8 +1,8 @@
 -- Dumps: bytes written as pairs of hexadecimal digits in either case, the higher digit first, with
 -- blanks before, after and between any two digits.
-use Rattle.std.specs.Prelude.{◌≡◌, ℕ, ◌%◌, ◌==◌, ◌||◌, ◌⊎◌, not, Bool, false, List, [], ◌∷◌, length, position, count_by, filter, if◌then◌else◌, Option, Some, None, Result, Ok, Err}
+use Rattle.std.specs.Prelude.{◌≡◌, ℕ, ◌+◌, ◌*◌, ◌<◌, ◌%◌, ◌==◌, ◌||◌, ◌⊎◌, not, Bool, false, List, [], ◌∷◌, length, slice_get, position, count_by, filter, if◌then◌else◌, Option, Some, None, Result, Ok, Err}
 use Rattle.std.specs.Result.{result_unwrap_or}
-use Rattle.hex.specs.Hex.{IsBytes, decode_of, encode_lower, encode_upper, is_hex_digit}
+use Rattle.hex.specs.Hex.{IsBytes, decode_of, encode_lower, encode_upper, is_hex_digit, pair_value}
 use Rattle.run_files.specs.declared.error.RunFault.{RunFault}
 use Rattle.run_files.specs.declared.error.RunFault.TheVariants.{BadDump}
 
@@ -31,6 +31,14 @@ dump_reading_from None text = if count_by is_hex_digit text % 2 == 1 then Err (B
 -- the bytes of a dump, or its fault
 unfoldable pub dump_reading : List ℕ → Result (List ℕ) RunFault
 dump_reading text = dump_reading_from (position is_foreign text) text
+
+-- each byte that a table holds is the one that hex makes of its place's pair
+abbrev pub HoldsPairs : List (Option ℕ) → Type 0
+HoldsPairs pairs = (high low byte : ℕ) → low < 256 → slice_get pairs (high * 256 + low) ≡ Some (Some byte) → pair_value high low 0 ≡ Ok byte
+
+-- the first two digits of a text make a byte, and the others are those of the rest
+abbrev pub BeginsWith : List ℕ → ℕ → List ℕ → Type 0
+BeginsWith text byte left = (high : ℕ) × (low : ℕ) × (without_blanks text ≡ high ∷ low ∷ without_blanks left) × (pair_value high low 0 ≡ Ok byte)
 
 -- the digits of some bytes, all in lower or all in upper case, are a dump of these bytes, whatever blanks
 -- stand before, between and after them

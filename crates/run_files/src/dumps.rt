@@ -1,13 +1,13 @@
 //! Bytes from their hexadecimal digits.
-ghost use Rattle.std.specs.Prelude.{◌≡◌, ◌<◌, ◌∷◌, [], if◌then◌else◌, length, Ok, IfOk, IfSome, MatchOption, count_by, position};
+ghost use Rattle.std.specs.Prelude.{◌≡◌, ◌<◌, ◌+◌, ◌*◌, ◌∷◌, [], if◌then◌else◌, length, Ok, IfOk, IfSome, MatchOption, count_by, position};
 ghost use Rattle.hex.specs.Hex.{decode_of, is_hex_digit, pair_value};
 ghost use Rattle.lists.specs.Agreement.{Agrees, Refuses};
 ghost use Rattle.run_files.specs.RunFault.{run_refusal};
-ghost use Rattle.run_files.specs.Dumps.{is_blank, is_foreign, is_dump, dump_reading, without_blanks};
+ghost use Rattle.run_files.specs.Dumps.{BeginsWith, HoldsPairs, is_blank, is_foreign, is_dump, dump_reading, without_blanks};
 
 use crate::error::RunFault;
 use hex::FromHexError;
-use std::alloc::Global;
+use std::alloc::{AllocError, Global};
 
 /// Whether a text is taken for a dump: its first byte is a hexadecimal digit.
 pub fn is_dump(text: &[u8]) -> bool
@@ -39,18 +39,44 @@ pub fn undump(alloc: Global, text: &[u8]) -> Result<Vec<u8>, RunFault>
 fn decoded(alloc: Global, text: &[u8]) -> Result<Vec<u8>, FromHexError>
     ensures { IfOk result (λ bytes. decode_of (without_blanks text.now) ≡ Ok bytes.items) }
 {
+    let pairs = hex_pairs(alloc)?;
     let mut bytes = Vec::with_capacity(alloc, text.len() / 2)?;
     let mut rest = text;
-    'pairs: while let Some((high, after)) = next_digit(rest) {
-        let Some((low, left)) = next_digit(after) else {
-            return Err(FromHexError::OddLength);
-        };
-        if bytes.push(byte_of(high, low)?).is_err() {
+    'pairs: while let Some((byte, left)) = next_byte(&pairs, rest)? {
+        if bytes.push(byte).is_err() {
             return Err(FromHexError::OutOfMemory);
         }
         rest = left;
     }
     Ok(bytes)
+}
+
+// The byte of a text's next two digits, and what follows them.
+fn next_byte<'a>(
+    pairs: &[Option<u8>],
+    text: &'a [u8],
+) -> Result<Option<(u8, &'a [u8])>, FromHexError>
+    requires { HoldsPairs pairs.now }
+    ensures found { IfOk result (λ found. MatchOption found (without_blanks text.now ≡ [])
+        (λ found. BeginsWith text.now found.0 found.1.now)) }
+    ensures shorter { IfOk result (λ found. IfSome found (λ found. length found.1.now < length text.now)) }
+{
+    if let [high, low, left @ ..] = text
+        && let Some(byte) = held_byte(pairs, *high, *low)
+    {
+        return Ok(Some((byte, left)));
+    }
+    let Some((high, after)) = next_digit(text) else {
+        return Ok(None);
+    };
+    let Some((low, left)) = next_digit(after) else {
+        return Err(FromHexError::OddLength);
+    };
+    let byte = match held_byte(pairs, high, low) {
+        Some(byte) => byte,
+        None => pair_byte(high, low)?,
+    };
+    Ok(Some((byte, left)))
 }
 
 // The first byte that is no blank, and what follows it.
@@ -69,8 +95,59 @@ fn next_digit(text: &[u8]) -> Option<(u8, &[u8])>
     None
 }
 
-// The byte of two digits.
-fn byte_of(high: u8, low: u8) -> Result<u8, FromHexError>
+// The byte that the table holds for a pair.
+fn held_byte(pairs: &[Option<u8>], high: u8, low: u8) -> Option<u8>
+    requires { HoldsPairs pairs.now }
+    ensures { IfSome result (λ byte. pair_value high low 0 ≡ Ok byte) }
+{
+    match pairs.get(place(high, low)) {
+        Some(Some(byte)) => Some(*byte),
+        _ => None,
+    }
+}
+
+// The bytes of all pairs of digits. Looking a pair up is faster than decoding it, which mispredicts a branch at most digits.
+fn hex_pairs(alloc: Global) -> Result<Vec<Option<u8>>, AllocError>
+    ensures { IfOk result (λ pairs. HoldsPairs pairs.items) }
+{
+    let mut pairs = no_pairs(alloc)?;
+    'highs: for high in DIGITS {
+        'lows: for low in DIGITS {
+            keep_pair(&mut pairs, *high, *low);
+        }
+    }
+    Ok(pairs)
+}
+
+// A table that holds no pair. It stands apart so that no other proof meets a list of so many places.
+fn no_pairs(alloc: Global) -> Result<Vec<Option<u8>>, AllocError>
+    ensures { IfOk result (λ pairs. HoldsPairs pairs.items) }
+{
+    Ok(vec![in alloc; None; PLACES]?)
+}
+
+// Keeps what hex decodes of a pair at its place.
+fn keep_pair(pairs: &mut [Option<u8>], high: u8, low: u8)
+    requires { HoldsPairs pairs.old }
+    ensures { HoldsPairs pairs.new }
+{
+    let at = place(high, low);
+    if let Ok(byte) = pair_byte(high, low)
+        && at < pairs.len()
+    {
+        pairs[at] = Some(byte);
+    }
+}
+
+// The place of a pair in the table.
+fn place(high: u8, low: u8) -> usize
+    ensures { result ≡ high * 256 + low }
+{
+    usize::from(high) * 256 + usize::from(low)
+}
+
+// The byte that hex decodes of two digits.
+fn pair_byte(high: u8, low: u8) -> Result<u8, FromHexError>
     ensures { result ≡ pair_value high low 0 }
 {
     let mut byte = [0];
@@ -130,3 +207,9 @@ fn is_digit(b: u8) -> bool
 {
     b.is_ascii_hexdigit()
 }
+
+// The digits of both cases.
+const DIGITS: &[u8; 22] = b"0123456789abcdefABCDEF";
+
+// A place for each pair of bytes.
+const PLACES: usize = 256 * 256;

@@ -2,7 +2,7 @@ use Rattle.std.proofs.Common.{Err, ap, ◌∙◌}
 use Rattle.std.proofs.lemmas.Result.{err_from_is_err_and}
 use Rattle.hex.specs.Hex.{decode_pairs, pair_value}
 use Rattle.run_files.proofs.DumpLemmas.{byte_told}
-use Rattle.run_files.proofs.dumps.byte_of.Goals as goal
+use Rattle.run_files.proofs.dumps.pair_byte.Goals as goal
 
 pub returns-in_err-decode_to_slice : goal.returns-in_err-decode_to_slice
 unfolding decode_pairs

@@ -1,5 +1,5 @@
 -- What other connections meet changes no line of a report and no record between the ends of a connection.
-use Rattle.std.proofs.Common.{◌≡◌, ◌≤◌, ℕ, zero, suc, ◌+◌, Bool, true, false, ◌||◌, ◌&&◌, nat_lt, cond, List, [], ◌∷◌, ◌++◌, length, map, filter, Option, Some, Ok, Err, inl, inr, refl, sym, ap, ap₂, ◌∙◌, subst, arith, if◌then◌else◌}
+use Rattle.std.proofs.Common.{◌≡◌, ◌≤◌, ℕ, zero, suc, ◌+◌, Bool, true, false, nat_lt, cond, List, [], ◌∷◌, ◌++◌, length, map, filter, Option, Some, Ok, Err, inl, inr, refl, sym, ap, ap₂, ◌∙◌, subst, arith, if◌then◌else◌}
 use Rattle.std.specs.Prelude.{slice_get}
 use Rattle.std.specs.List.{AllByRecursion, enumerate_from, flat_map}
 use Rattle.std.proofs.Math.Bool.{or_comm}
@@ -9,7 +9,7 @@ use Rattle.std.proofs.lemmas.Simd.{map-map}
 use Rattle.pcap_records.specs.declared.fault.CaptureFault.TheVariants.{CaptureTooLong, ShortHeader}
 use Rattle.pcap_records.specs.declared.unit.Unit.{Unit}
 use Rattle.pcap_records.specs.Instants.{ticks_of}
-use Rattle.pcap_records.specs.Reading.{Heading, Packet, Reading, capture_limit, file_header_len, magic_heading, checked_heading, file_heading, reading}
+use Rattle.pcap_records.specs.Reading.{Reading, capture_limit, file_header_len, magic_heading, checked_heading, file_heading, reading}
 use Rattle.pcap_records.specs.Writing.{WrittenIsRead}
 use Rattle.pcap_records.specs.Grammar.{ReadingsSplit}
 use Rattle.frame_headers.specs.Frame.{segment_fields}

@@ -8,7 +8,7 @@ use Rattle.conn_table.specs.SeenCapture.{SeenCapture}
 use Rattle.conn_table.specs.declared.class_counts.Counts.{Counts}
 use Rattle.reassembly.specs.RecordedLines.{Line, End, live, fin, close, reset, RecordedSide, RecordedConnection}
 use Rattle.toxic_defs.specs.DeliveredLines.{DeliveredConnection}
-use Rattle.report.specs.ReportText.{heading_text, first_classes_text, other_classes_text, counts_text, connections_text, peer_text, proxy_text, end_word, side_text, vlan_text, met_text, peers_text, connection_text, report_text}
+use Rattle.report.specs.ReportText.{heading_text, first_classes_text, other_classes_text, counts_text, connections_text, peer_text, proxy_text, end_word, side_text, vlan_text, peers_text, connection_text, report_text}
 use Rattle.toxicap.specs.IsolatedOutputs.{line_of}
 
 abbrev is_empty : List ℕ → Bool

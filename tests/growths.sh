@@ -1,7 +1,7 @@
 #!/usr/bin/env bash
 # Each growth of memory refused in turn: the built program, and the calls `rehearse` and `answers` of its library, answer as with ample
-# memory (where a thread could not be made, by fewer workers), or they are refused for want of memory. The program then prints nothing, or whole
-# reports that have more than 2^20 bytes together, and has stored a first part of the files; the next call of the library, with the same values,
+# memory (where a thread could not be made, by fewer workers), or they are refused for lack of memory. The program then prints nothing, and
+# has stored a first part of the files; the next call of the library, with the same values,
 # answers in full. There is no third answer.
 set -euo pipefail
 cd "$(dirname "$0")/.."

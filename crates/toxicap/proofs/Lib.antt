@@ -15,7 +15,6 @@ mod WholeTables
 mod RowSteps
 mod GatheredRows
 mod OutputSteps
-mod ReportedRows
 mod HeldReportSteps
 mod ReadyDrafts
 mod PrintedSteps

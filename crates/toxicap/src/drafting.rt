@@ -5,7 +5,7 @@ ghost use Rattle.run_files.specs.DraftedOutputs.{IsDraftOf};
 ghost use Rattle.toxicap.specs.CaptureOutputs.{no_output, outputs_from};
 ghost use Rattle.toxicap.specs.DraftPlaces.{AreAtPlace, paths_in, placed_from};
 
-use crate::crews::Workers;
+use crate::crews::{Alone, Workers};
 use crate::sources::Sources;
 use disks::Disk;
 use job_matrix::{Phase, Through, Work, work_all};
@@ -84,7 +84,7 @@ impl<'j, 'f, 's, 'w, 'v, 'a, D: Disk + Sync> Work for DraftJobs<'j, 'f, 's, 'w, 
         let place = job as usize;
         let drafted = self
             .sources
-            .drafted_alone(number, self.folder, self.disk, place)?;
+            .drafted(&Alone, number, self.folder, self.disk, place)?;
         Ok(OutputDraft {
             sources: self.sources,
             number,
@@ -176,7 +176,7 @@ fn drafted_by<R: Threads + Sync, D: Disk>(
     ensures places { IfOk result (AreAtPlace D.path_of folder.now.folder 0) }
 {
     if crew.plan.workers() == 1 {
-        return sources.drafted_alone(number, folder, disk, 0);
+        return sources.drafted(&Alone, number, folder, disk, 0);
     }
     sources.drafted(crew, number, folder, disk, 0)
 }

@@ -5,7 +5,7 @@ ghost use Rattle.toxicap.specs.Rehearsal.{scenario_limit};
 
 use crate::crews::Crew;
 use crate::row_captures::{segments_alone, written_draft};
-use crate::row_reports::{reported_draft, reported_row, whole_report};
+use crate::row_reports::{reported_draft, whole_report};
 use conn_workers::laws::{lines_are_contributed, rows_are_contributed};
 use conn_workers::{Recordings, RowShares};
 use disks::Disk;
@@ -135,35 +135,6 @@ impl<'w, 'v, 'a> Sources<'w, 'v, 'a> {
         let rows = segments_alone(self.alloc, row)?;
         let draft = folder.draft(self.alloc, disk, 2 * place)?;
         let capture = written_draft::<D>(self.alloc, &rows, self.unit, draft)?;
-        Ok((capture, report))
-    }
-
-    /// The same drafts, made by this thread alone. The report is written while the segments are made, so that no more of its lines are held
-    /// than those of some connections.
-    pub(crate) fn drafted_alone<D: Disk>(
-        &self,
-        number: usize,
-        folder: &Folder<'_>,
-        disk: &D,
-        place: usize,
-    ) -> Result<DraftedOutput<D::Draft>, AllocError>
-        requires within { number < length self.now.scenarios.now }
-        requires place { place ≤ 2 ^ 32 }
-        ensures drafts { IfOk result (IsDraftOf D.holds (get_or (outputs_from self.now) number no_output)) }
-        ensures places { IfOk result (AreAtPlace D.path_of folder.now.folder place) }
-    {
-        let draft = folder.draft(self.alloc, disk, 2 * place + 1)?;
-        let (row, report) = reported_row::<D>(
-            self.alloc,
-            draft,
-            &self.heads[number],
-            self.recordings.as_slice(),
-            number as u32,
-            &self.scenarios[number],
-            self.seed,
-        )?;
-        let draft = folder.draft(self.alloc, disk, 2 * place)?;
-        let capture = written_draft::<D>(self.alloc, &[row], self.unit, draft)?;
         Ok((capture, report))
     }
 

@@ -13,15 +13,15 @@ overflow_add-number g c =
     let within : own.first + own.count ≤ length all = omega (arith, own.within, as_many_outputs own.sources.now) in
     omega (arith, placed_below all own.first own.count within own.folder.now.folder 0 c.args.job c.requires, own.within, own.sources.now.few)
 
-pub drafted_alone-requires-clause-within : goal.drafted_alone-requires-clause-within
-drafted_alone-requires-clause-within g c =
+pub drafted-requires-clause-within : goal.drafted-requires-clause-within
+drafted-requires-clause-within g c =
     let own = c.args.self.now in
     let all : List Output = outputs_from own.sources.now in
     let within : own.first + own.count ≤ length all = omega (arith, own.within, as_many_outputs own.sources.now) in
     omega (arith, placed_below all own.first own.count within own.folder.now.folder 0 c.args.job c.requires, own.within)
 
-pub drafted_alone-requires-clause-place : goal.drafted_alone-requires-clause-place
-drafted_alone-requires-clause-place g c =
+pub drafted-requires-clause-place : goal.drafted-requires-clause-place
+drafted-requires-clause-place g c =
     let own = c.args.self.now in
     let all : List Output = outputs_from own.sources.now in
     let within : own.first + own.count ≤ length all = omega (arith, own.within, as_many_outputs own.sources.now) in

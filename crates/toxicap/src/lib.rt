@@ -28,13 +28,15 @@ mod storing;
 
 pub use answering::{Options, answers};
 pub use commands::{command, command_over, refuse_words};
-pub use disks::{Disk, DiskFault, DiskFile, FileId, HostDisk, Lockable, MemoryDisk, ReadDisk, ReadFiles};
+pub use disks::{
+    Disk, DiskFault, DiskFile, FileId, HostDisk, Lockable, MemoryDisk, ReadDisk, ReadFiles,
+};
 pub use host_lines::read_host_lines;
 pub use job_matrix::{Gate, Phase, Plan, Through, Values};
 pub use one_thread::{answers_alone, rehearse_alone, report_answers_alone, reports_alone};
 pub use rehearsal::rehearse;
 pub use run_files::{
-    Counted, DraftedOutput, Folder, MemoryFile, MemoryShelf, Output, Outputs,
-    RunFault, Shelf, ShelfError, StoreFault, fault_line, is_dump, load, print_reports, store_all,
-    store_draft, undump, write_bytes, write_texts,
+    Counted, DraftedOutput, Folder, MemoryFile, MemoryShelf, Output, Outputs, RunFault, Shelf,
+    ShelfError, StoreFault, fault_line, is_dump, load, print_reports, store_all, store_draft,
+    undump, write_bytes, write_texts,
 };

@@ -1,9 +1,8 @@
-use Rattle.std.proofs.Common.{◌≡◌, ◌<◌, ◌+◌, Ok, Err, subst, sym, ap, ◌∙◌, refl, arith}
+use Rattle.std.proofs.Common.{◌≡◌, ◌<◌, ◌+◌, Err, subst, sym, refl, arith}
 use Rattle.std.proofs.lemmas.Result.{err_from_is_err_and}
 use Rattle.pcap_records.specs.CaptureView.{bytes_of}
-use Rattle.run_files.specs.Folders.{TakesIn}
 use Rattle.toxicap.specs.CaptureOutputs.{outputs_for}
-use Rattle.toxicap.specs.StoredOutputs.{StoresOf, TakenOf, failed_stores}
+use Rattle.toxicap.specs.StoredOutputs.{failed_stores}
 use Rattle.toxicap.proofs.OutputSteps.{as_many_for}
 use Rattle.run_files.specs.WrittenOutputs.{PutsAfter}
 use Rattle.toxicap.proofs.StoringEnds.{held_taken, none_stored, not_held, refused_faults, stopped_faults}

@@ -58,9 +58,9 @@ none_at (suc n) (suc i) byte at = none_at n i byte at
 pub holds-none : (n : ℕ) → HoldsPairs (replicate n None)
 holds-none n high low byte small at = absurd (none_at n (high * 256 + low) byte at)
 
-pub holds-more : (pairs : List (Option ℕ)) (a b at v : ℕ) → at ≡ a * 256 + b → b < 256 → at < length pairs → pair_value a b 0 ≡ Ok v
-    → HoldsPairs pairs → HoldsPairs (set pairs at (Some v))
-holds-more pairs a b at v place small within value held high low byte low_small found = by (cases_eq (high * 256 + low) at)
+pub holds-more : (pairs : List (Option ℕ)) (a b at v : ℕ) → at < length pairs → pair_value a b 0 ≡ Ok v → HoldsPairs pairs
+    → at ≡ a * 256 + b → b < 256 → HoldsPairs (set pairs at (Some v))
+holds-more pairs a b at v within value held place small high low byte low_small found = by (cases_eq (high * 256 + low) at)
   where
     by : ((high * 256 + low) ≡ at) ⊎ ((high * 256 + low) ≢ at) → pair_value high low 0 ≡ Ok byte
     by (inl here) =

@@ -487,6 +487,9 @@ fi
 
 run "$capture" --out "$work/nowhere"
 verdict "no folder" "$(refusal "refused 60 ShelfFailed after 0")"
+mkfifo "$work/pipe"
+run "$capture" --out "$work/pipe"
+verdict "a pipe in place of a folder" "$(refusal "refused 60 ShelfFailed after 0")"
 
 # A run of 64 scenarios by one to four workers is killed at many instants: each file is the old one whole, or the new one.
 many=()

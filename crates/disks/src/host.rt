@@ -78,11 +78,12 @@ where
 {
     ghost use Rattle.std.specs.Prelude.{◌≡◌, true, OnOk};
 
-    // A folder that is held, where its file system has locks. Without locks drafts of other runs may be there, so none is removed.
+    // A folder that is held, where its file system has locks. Without locks drafts of other runs may be there, so none is removed. Nothing but
+    // a folder is opened: a pipe would wait.
     fn held_folder(&self, folder: &str, read: &ReadFiles) -> Result<Option<F::File>, DiskFault>
         ensures { OnOk result (read.now.are_known ≡ true) }
     {
-        if !read.are_known() {
+        if !read.are_known() || !fs::metadata(self.files, folder)?.is_dir() {
             return Err(DiskFault::Failed);
         }
         let opened = fs::open(self.files, folder)?;
@@ -113,7 +114,7 @@ fn id_of(metadata: &Metadata) -> FileId {
     }
 }
 
-/// A draft of the host: a file, which is removed when the draft is let go and has got no name.
+/// A draft of the host: a file, which is removed where the draft is dropped without a name.
 pub struct HostDraft<'a, F: Files> {
     files: &'a F,
     path: String,

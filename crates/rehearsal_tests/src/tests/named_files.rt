@@ -123,7 +123,9 @@ fn each_file_at_its_path(rt: HostRuntime) {
 /// A disk on which one file is too long, for one memory is wanting, one cannot be opened, and all others hold `[]`. It tells nothing of
 /// them, and of a draft it keeps the path alone.
 #[derive(Drop)]
-struct Faulty;
+struct Faulty {
+    failed: u64,
+}
 
 impl Disk for Faulty {
     ghost use Rattle.std.specs.Prelude.{None};
@@ -133,14 +135,18 @@ impl Disk for Faulty {
 
     ghost history = { λ _. None };
 
-    ghost faults = { λ _. 0 };
+    ghost faults = { λ d. d.failed };
 
     ghost holds = { λ _ _. Unit {0} };
 
     ghost path_of = { λ path. string_bytes path };
 
-    fn hold(&mut self, _folder: &str, _read: &ReadFiles) -> Result<(), DiskFault> {
-        Ok(())
+    fn hold(&mut self, _folder: &str, read: &ReadFiles) -> Result<(), DiskFault> {
+        if read.are_known() {
+            return Ok(());
+        }
+        self.failed += 1;
+        Err(DiskFault::Failed)
     }
 
     fn sweep(&self, _alloc: Global, _folder: &str, _read: &ReadFiles) -> Result<(), AllocError> {
@@ -224,7 +230,7 @@ fn check_faulty(
     words: &[&str],
     told: &str,
 ) {
-    check_over(rt, &mut Faulty, words, (1, "", told));
+    check_over(rt, &mut Faulty { failed: 0 }, words, (1, "", told));
 }
 
 // Hosts come first, then scenario files in their order, then the capture, and then what the files hold.

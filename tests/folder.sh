@@ -6,6 +6,7 @@ set -euo pipefail
 cd "$(dirname "$0")/.."
 . tests/lib.sh
 . tests/calls.sh
+patience=60
 capture=samples/http-get.pcap
 late=(--scenario examples/latency.json)
 
@@ -86,7 +87,7 @@ verdict "a link, a pipe and a folder that no draft wants" "$(
 
 # Among 3,000 files, of which the name of one is no text.
 folder
-(cd "$work/folder" && touch kept-{1..3000} $'kept-\xff' && echo left | tee toxicap.unfinished-{1,2,1000} > /dev/null)
+(cd "$work/folder" && touch kept-{1..3000} $'kept-\xff' && echo left | tee toxicap.unfinished-{1,2,{1000..1039}} > /dev/null)
 run "$capture" "${late[@]}" --out "$work/folder"
 verdict "what killed runs left, among 3,000 files" "$(
     well

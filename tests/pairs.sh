@@ -6,6 +6,7 @@ set -euo pipefail
 cd "$(dirname "$0")/.."
 . tests/lib.sh
 . tests/calls.sh
+patience=60
 capture=samples/shop.pcap
 folder=$work/folder
 

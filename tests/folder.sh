@@ -6,6 +6,7 @@ set -euo pipefail
 cd "$(dirname "$0")/.."
 . tests/lib.sh
 . tests/calls.sh
+patience=60
 capture=samples/http-get.pcap
 late=(--scenario examples/latency.json)
 
@@ -58,8 +59,7 @@ verdict "what a killed run left is replaced" "$(well; folder_difference "$work/n
 
 # What killed runs left goes, also where this run has no such number; files of other names stay, and what no run has left: a folder, a link, a pipe.
 folder
-others=(my.unfinished-1 toxicap.unfinished toxicap.unfinished- toxicap.unfinished-+7 toxicap.unfinished--1 toxicap.unfinished-007 toxicap.unfinished-1x
-    toxicap.unfinished-x toxicap.unfinished.1)
+others=(my.unfinished-1 toxicap.unfinished toxicap.unfinished-{,+7,-1,007,1x,x} toxicap.unfinished.1)
 for name in toxicap.unfinished-{0,7,63,1000} "${others[@]}"; do echo "$name" > "$work/folder/$name"; done
 run "$capture" "${late[@]}" --out "$work/folder"
 verdict "what killed runs left, of all numbers" "$(
@@ -86,7 +86,7 @@ verdict "a link, a pipe and a folder that no draft wants" "$(
 
 # Among 3,000 files, of which the name of one is no text.
 folder
-(cd "$work/folder" && touch kept-{1..3000} $'kept-\xff' && echo left | tee toxicap.unfinished-{1,2,1000} > /dev/null)
+(cd "$work/folder" && touch kept-{1..3000} $'kept-\xff' && echo left | tee toxicap.unfinished-{1,2,{1000..1039}} > /dev/null)
 run "$capture" "${late[@]}" --out "$work/folder"
 verdict "what killed runs left, among 3,000 files" "$(
     well
@@ -124,7 +124,8 @@ verdict "an empty path" "$(
 folder
 echo old > "$work/folder/0000.pcap"
 status=0
-(trap '' XFSZ; ulimit -f 8; exec timeout "$patience" "$program" --capture samples/shop.pcap --out "$work/folder" > "$work/output" 2> "$work/told") || status=$?
+(trap '' XFSZ; ulimit -f 8
+    exec timeout "$patience" "$program" --capture samples/shop.pcap --out "$work/folder" > "$work/output" 2> "$work/told") || status=$?
 cp "$work/told" "$work/faults"
 verdict "no room" "$(refusal "refused 60 ShelfFailed after 0"; holds "$work/folder" 0000.pcap; echo old | byte_difference - "$work/folder/0000.pcap")"
 
@@ -249,7 +250,10 @@ verdict "a file of another number stays by itself" "$(well; holds "$work/folder"
 
 # A file that the run reads is no draft that a killed run left: it is not removed, and no draft is made at its path.
 # read_draft WHAT NUMBER FILE: the verdict on the last run, where FILE, at the path of the draft with this number, was to stay as it is.
-read_draft() { verdict "$1 at the path of draft $2" "$(part_stored "$2" "toxicap.unfinished-$2"; byte_difference "$3" "$work/folder/toxicap.unfinished-$2")"; }
+read_draft() {
+    local draft=toxicap.unfinished-$2
+    verdict "$1 at the path of draft $2" "$(part_stored "$2" "$draft"; byte_difference "$3" "$work/folder/$draft")"
+}
 for number in 0 1; do
     draft=$work/folder/toxicap.unfinished-$number
     folder
@@ -318,7 +322,10 @@ if can_count "a path that changes while a run reads"; then
     if begin_with "FAIL=read:$(count read) CAUSE=stop" /dev/null --capture "$work/named" "${late[@]}" --out "$work/folder"; then
         ln -sfn elsewhere "$work/named"
         end_begun CONT
-        verdict "a path that changes while a run reads" "$(refusal "refused 60 ShelfFailed after 0"; byte_difference "$capture" "$work/folder/0000.pcap")"
+        verdict "a path that changes while a run reads" "$(
+            refusal "refused 60 ShelfFailed after 0"
+            byte_difference "$capture" "$work/folder/0000.pcap"
+        )"
     else
         end_begun KILL
         verdict "a path that changes while a run reads" "  the run does not stand still"
@@ -433,7 +440,8 @@ fi
 # run_bound: runs the program over these inputs as one who may not write them.
 run_bound() {
     status=0
-    timeout "$patience" "${bound[@]}" --capture "$work/read-only" --scenario "$work/read-only.json" --out "$work/folder" > "$work/output" 2> "$work/faults" || status=$?
+    timeout "$patience" "${bound[@]}" --capture "$work/read-only" --scenario "$work/read-only.json" --out "$work/folder" \
+        > "$work/output" 2> "$work/faults" || status=$?
 }
 if "${bound[@]}" -V > /dev/null 2>&1; then
     run_bound
@@ -476,7 +484,10 @@ if mount -t tmpfs tmpfs "$work/one" 2> /dev/null && mount -t tmpfs tmpfs "$work/
             mount -t tmpfs tmpfs "$work/other"
             echo old > "$work/other/0000.pcap"
             run "$input" "${named[@]}" "${late[@]}" --out "$work/other"
-            verdict "a file of another disk with the inode number of ${named[*]:-standard input}" "$(well; folder_difference "$work/new" "$work/other")"
+            verdict "a file of another disk with the inode number of $([ "$input" = /dev/null ] && echo a named capture || echo standard input)" "$(
+                well
+                folder_difference "$work/new" "$work/other"
+            )"
         done
     else
         skip "files of two disks with one inode number" "the first files of two disks have others"

@@ -99,7 +99,8 @@ refused "a host more than once among 60" "refused 23 BadHost host 59" "$capture"
 
 # 40,000 hosts
 for ((host = 0; host < 40000; host++)); do echo "--host=n$host=10.1.$((host / 256 % 256)).$((host % 256))"; done > "$work/hosts"
-(ulimit -s 65536; xargs -x -s 4000000 -n 50000 -a "$work/hosts" timeout "$patience" "$program" --capture "$capture" --scenario "$work/one.json" > "$work/output") || true
+(ulimit -s 65536
+    xargs -x -s 4000000 -n 50000 -a "$work/hosts" timeout "$patience" "$program" --capture "$capture" --scenario "$work/one.json" > "$work/output") || true
 verdict "40,000 hosts" "$(difference "$work/wanted" "$work/output")"
 
 # 5,000 bytes that are no JSON
@@ -284,7 +285,8 @@ for workers in 1 4; do whole "100,000 pairs by $workers workers" pairs /dev/null
 # Stored, they take a third of a second of a processor, and have two. A table that is made fifty times would take four.
 mkdir "$work/stored"
 status=0
-(ulimit -t 2; exec timeout "$patience" "$program" --capture "$work/pairs.recorded" --out "$work/stored" > "$work/output" 2> "$work/faults") || status=$?
+(ulimit -t 2
+    exec timeout "$patience" "$program" --capture "$work/pairs.recorded" --out "$work/stored" > "$work/output" 2> "$work/faults") || status=$?
 verdict "100,000 pairs stored within two seconds" "$(well; byte_difference "$work/pairs.delivered" "$work/stored/0000.pcap")"
 
 for workers in 2 4; do

@@ -6,6 +6,7 @@ set -euo pipefail
 cd "$(dirname "$0")/.."
 . tests/lib.sh
 . tests/calls.sh
+patience=60
 capture=samples/shop.pcap
 folder=$work/folder
 
@@ -15,8 +16,8 @@ for kind in one other; do
     for number in {0..7}; do
         case $kind in one) latency=1$number ;; other) latency=5$number ;; esac
         toxics="[{\"type\":\"latency\",\"attributes\":{\"latency\":$latency,\"jitter\":3}}]"
-        echo "[{\"name\":\"web\",\"upstream\":\"10.77.0.2:80\",\"toxics\":$toxics},{\"name\":\"redis\",\"upstream\":\"10.77.0.3:6379\",\"toxics\":$toxics}]" \
-            > "$work/$kind$number.json"
+        printf '[{"name":"web","upstream":"10.77.0.2:80","toxics":%s},{"name":"redis","upstream":"10.77.0.3:6379","toxics":%s}]' \
+            "$toxics" "$toxics" > "$work/$kind$number.json"
         words[$kind]+=" --scenario $work/$kind$number.json"
     done
     mkdir "$work/$kind"
@@ -128,13 +129,14 @@ takes() {
     local kind=$1 status=0
     sleep "$3"
     # shellcheck disable=SC2086
-    timeout "$patience" "$program" --capture "$capture" ${words[$kind]} --workers "$2" --out "$folder" > "$work/$kind.output" 2> "$work/$kind.faults" || status=$?
+    timeout "$patience" "$program" --capture "$capture" ${words[$kind]} --workers "$2" --out "$folder" \
+        > "$work/$kind.output" 2> "$work/$kind.faults" || status=$?
     (cd "$folder" && sha256sum -- "${backwards[@]}") > "$work/$kind.seen" 2> "$work/$kind.missing" || true
     echo $status > "$work/$kind.status"
 }
 
-# seen KIND OTHER: what is at fault with a run of a pair. From the last file to the first there are at its end: if it has stored, its own files, and then
-# what the other one has replaced since; if it was refused, none, and then what the other one has stored.
+# seen KIND OTHER: what is at fault with a run of a pair. From the last file to the first there are at its end: if it has stored, its own files, and
+# then what the other one has replaced since; if it was refused, none, and then what the other one has stored.
 seen() {
     local kind=$1 other=$2 sum name which later=$1
     status=$(cat "$work/$kind.status")
@@ -162,7 +164,8 @@ settled() {
     for kind in one other; do
         if [ "$(cat "$work/$kind.status")" = 0 ] && [ -z "$(folder_difference "$work/$kind" "$folder")" ]; then return 0; fi
     done
-    echo "  the files are not those of one run that stored: $(cd "$folder" && sha256sum -- 0* | while read -r sum name; do printf '%s ' "${whose[$sum $name]-torn}"; done)"
+    echo "  the files are not those of one run that stored, but of:"
+    (cd "$folder" && sha256sum -- 0*) | while read -r sum name; do echo "    ${whose[$sum $name]-torn}"; done | uniq -c
 }
 both=0 bad=""
 for ((pair = 0; pair < 200; pair++)); do

@@ -192,10 +192,11 @@ refused "refused 61 ReadFailed" --scenario "$work/bare.json "
 refused "refused 60 ShelfFailed after 0" --out "$work/full "
 
 # paths that begin in blanks are others too, and so are those of letters that are not ASCII; and all of a path counts that has over 3,800 bytes
-# placed_at WHAT CAPTURE SCENARIO FOLDER: files and a folder of these paths are read, and stored in; the folder is made here.
+# placed_at WHAT CAPTURE SCENARIO FOLDER: the verdicts on runs that read files of these paths, and store in such a folder, which is made here.
 placed_at() {
     mkdir "$4"
-    said "${slow/scenario 1/scenario 0}" /dev/null --capture "$2" --scenario "$3" --host web=10.0.0.2
+    run /dev/null --capture "$2" --scenario "$3" --host web=10.0.0.2
+    verdict "read by paths $1" "$(well; told output "${slow/scenario 1/scenario 0}")"
     run /dev/null --capture "$2" --scenario "$3" --host web=10.0.0.2 --out "$4"
     verdict "stored by paths $1" "$(
         well

@@ -1,11 +1,11 @@
 # Writes a large capture to standard output, or with a second word what is to come of it, worked out by docs/RULES.md apart from the program:
-#     perl tests/capture.pl SEGMENTS           one connection, whose client sends so many segments of 1,250 bytes, each with bytes of its own
+#     perl tests/capture.pl SEGMENTS           one connection, whose client sends SEGMENTS segments of 1,250 bytes, each with bytes of its own
 #                                              and in a second of its own; a record has 1,320 bytes
 #     perl tests/capture.pl SEGMENTS+STEP      the same segments in another order: at place P the one of number STEP * P modulo SEGMENTS
 #     perl tests/capture.pl SEGMENTS*STEP      the same, and each goes on into the next one by three bytes that are not the next one's
-#     perl tests/capture.pl CONNECTIONSxROUNDS so many connections, each of a client of its own: all openings, in a second round all answers to
+#     perl tests/capture.pl CONNECTIONSxROUNDS CONNECTIONS connections, each of a client of its own: all openings, in a second round all answers to
 #                                              them, and in a third a byte of each client, the last one's first; records have 70, 70 and 71 bytes
-#     perl tests/capture.pl CONNECTIONSx3xBYTES  the same with so many bytes of each client, up to 1,250, of which each client has others
+#     perl tests/capture.pl CONNECTIONSx3xBYTES  the same with BYTES bytes of each client, up to 1,250, of which each client has others
 #     perl tests/capture.pl WHICH delivered    the capture that is stored of it without a scenario
 #     perl tests/capture.pl WHICH report [PROXY [NUMBER]]
 #                                              its report, or that of a scenario with this number whose toxics change no byte of it and no end: each

@@ -25,7 +25,7 @@ rehearsed() {
     verdict "$1" "$(well)"
 }
 
-# read_by LANGUAGE NAME SECONDS COMMAND..: the events of all captures by one helper, in at most so many processor seconds, are those of Python; and
+# read_by LANGUAGE NAME SECONDS COMMAND..: the events of all captures by one helper, in at most SECONDS of a processor, are those of Python; and
 # its refusals.
 read_by() {
     verdict "$1" "$({
@@ -35,7 +35,7 @@ read_by() {
     verdict "$1, refusals" "$(difference "$work/refusals" "$work/$2.broken")"
 }
 
-# compared WHAT LEAST OPTION.. DUMP: the comparison of a dump with tshark and reports, over at least so many connections.
+# compared WHAT LEAST OPTION.. DUMP: the comparison of a dump with tshark and reports, over at least LEAST connections.
 compared() {
     local found
     found=$(python3 -B tests/events/compare.py "${@:3}" 2> "$work/count" || echo "  status $?")

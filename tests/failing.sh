@@ -202,7 +202,7 @@ mkdir "$folder"
 run_with FAIL=thread:1+ "${blocks[@]}" --out "$folder"
 verdict "no thread can be made to load a block" "$(stored_blocks)"
 
-# Threads that cannot be made leave fewer workers. The words of a plan are handed on: each of so many workers but one has a thread of its own
+# Threads that cannot be made leave fewer workers. The words of a plan are handed on: each worker except one has a thread of its own
 # where there are ranges for all, and each range of records takes memory of its own.
 each "a thread cannot be made" thread "" whole whole "$capture" "${both[@]}" --workers 4 --cut 3
 each "a thread cannot be made, stored" thread "" stored stored "$capture" "${both[@]}" --workers 4 --cut 3 --out "$folder"

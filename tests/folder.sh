@@ -19,8 +19,8 @@ folder() {
 # sums FOLDER: the sum of each file, with its name.
 sums() { (cd "$1" && sha256sum -- *); }
 
-# part_stored MOST [NAME..]: what is at fault with the last run, which was to be refused for a file that could not be stored, after so many of its two
-# at most: the folder has those before, whole, and the ones that are named, which come after them.
+# part_stored MOST [NAME..]: what is at fault with the last run, which was to be refused for a file that could not be stored. At most MOST of its two
+# files came before: the folder has these, whole, and then the ones that are named.
 part_stored() {
     local most=$1 number=0 names=(0000.pcap 0000.txt)
     shift
@@ -183,7 +183,7 @@ run "$capture" "${late[@]}" --out "$work/folder"
 verdict "a pipe of the report's name" "$(refusal "refused 60 ShelfFailed after 1"; [ -p "$work/folder/0000.txt" ] || echo "  the pipe is gone")"
 
 # A file that the run reads is not replaced: neither the capture, nor a scenario, nor standard input, nor what a link leads to.
-# spared WHAT NUMBER FILE: the verdict on the last run, which was refused after so many files, where FILE was to stay as the capture is.
+# spared WHAT NUMBER FILE: the verdict on the last run, which was refused after NUMBER files, where FILE was to stay as the capture is.
 spared() { verdict "$1" "$(refusal "refused 60 ShelfFailed after $2"; byte_difference "$capture" "$3")"; }
 
 folder

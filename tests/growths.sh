@@ -26,7 +26,7 @@ is_whole() {
     [ ! -e "$work/files/0000.pcap" ] || diff -rq "$work/files" "$folder" > /dev/null
 }
 
-# wanting: what the last run has that is not want of memory, with a first part of the files and no other file. Where there is no memory for the
+# wanting: what the last run has that is not lack of memory, with a first part of the files and no other file. Where there is no memory for the
 # line either, nothing is told.
 wanting() {
     local file names=()

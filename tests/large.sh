@@ -1,5 +1,5 @@
 #!/usr/bin/env bash
-# The built program at its limits and past the sizes of other tests, where a body could give up with want of memory and be right by every
+# The built program at its limits and past the sizes of other tests, where a body could give up for lack of memory and be right by every
 # clause: each answer is compared with that of a plainer run, with what tests/capture.pl works out, or with the refusal that is due. And what some
 # large runs may take: of time, of memory, and of writes.
 set -euo pipefail
@@ -49,7 +49,7 @@ printed() {
     verdict "$what, printed" "$(well; byte_difference "$work/$name.report" "$work/output")"
 }
 
-# toxics COUNT LATENCY: so many latencies downstream.
+# toxics COUNT LATENCY: COUNT latencies downstream.
 toxics() {
     local toxic all=""
     for ((toxic = 0; toxic < $1; toxic++)); do
@@ -58,7 +58,7 @@ toxics() {
     printf '%s' "$all"
 }
 
-# proxies COUNT [END]: so many proxies, of which the last stands before the server of the capture, and what their names end with.
+# proxies COUNT [END]: COUNT proxies, of which the last stands before the server of the capture, and what their names end with.
 proxies() {
     local proxy
     printf '['
@@ -335,7 +335,7 @@ verdict "ten reports by 4 workers, stored" "$(
 rm -r "$work"/ten.* "$work/by-ten"
 
 # A report is written text by text. Each write of these 9 MB fails in turn: a first part is written then, and nothing after it.
-# cut_short BEFORE: what is at fault with a run of which a write failed, that had less written than this one, so many bytes.
+# cut_short BEFORE: what is at fault with a run of which a write failed. The run before, of one write fewer, has written BEFORE bytes.
 cut_short() {
     local size
     size=$(stat -c %s "$work/output")

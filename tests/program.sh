@@ -74,7 +74,7 @@ said "$bare" $session --workers 16 --cut 1048576
 said "$bare" $session --workers 1 --cut 1
 said "$bare$slow" /dev/null --capture=$session --host db=10.0.0.7 --scenario "$work/bare.json" --scenario="$work/slow.json" --host=web=10.0.0.2
 
-# seeded TIMES UP WORD: what is told of the client's line where a toxic that would take all its bytes applies at so many times in a million.
+# seeded TIMES UP WORD: what is told of the client's line where a toxic that would take all its bytes applies TIMES times in a million.
 # The first words that are drawn are 872,008 of a million with the seed 0, which is the one where none is told, and 663,470 with the seed 42.
 seeded() {
     printf '[{"name":"web","upstream":"10.0.0.2:80","toxics":[{"type":"timeout","stream":"upstream","toxicity_ppm":%s}]}]' "$1" > "$work/seeded.json"
@@ -128,7 +128,7 @@ refused "refused 10 NotJson scenario 256" "${many[@]}" --scenario "$work/broken.
 unread "refused 10 NotJson scenario 257" /dev/null "${many[@]}" --scenario "$work/bare.json" --scenario "$work/broken.json"
 
 # the line of each refusal of a scenario has its place: the scenario, its proxy, and the toxic of that where it is of one
-# toxics COUNT LAST: so many toxics of a proxy, the last one of them such.
+# toxics COUNT LAST: COUNT toxics of a proxy, the last one of them such.
 toxics() {
     local toxic
     for ((toxic = 1; toxic < $1; toxic++)); do printf '{"type":"timeout","name":"t%s","stream":"%s"},' $toxic "$([ $toxic -gt 8 ] || echo upstream)"; done

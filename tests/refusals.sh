@@ -92,7 +92,7 @@ scenario "refused 12 BadMember scenario 0 proxy 0" '[1]'
 scenario "refused 13 DuplicateProxy scenario 0 proxy 1" '[{"name":"a","upstream":"10.0.0.2:80"},{"name":"a","upstream":"nowhere"}]'
 scenario "$taken" "[{\"name\":\"a\",\"upstream\":\"10.0.0.2:80\",\"colour\":\"$(printf '%05000000d' 0)\"}]"
 
-# proxies COUNT: so many proxies.
+# proxies COUNT: COUNT proxies.
 proxies() {
     local proxy
     printf '[{"name":"p","upstream":"10.0.0.2:80"}'

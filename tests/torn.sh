@@ -42,7 +42,7 @@ refused() {
     holds "$work/folder"
 }
 
-# answered RECORDS REST: what is at fault with the last run, which was to find so many records of the session, and so many bytes after them.
+# answered RECORDS REST: what is at fault with the last run, which was to find RECORDS records of the session, and REST bytes after them.
 answered() {
     {
         counted "$1" "$2" "$1" none

@@ -67,7 +67,7 @@ for ((number = 0; number < 40; number++)); do
     bare+=(--scenario "$work/bare.json")
 done
 
-# worked_out CAPTURE COUNT: the first scenarios, so many, over a capture, by tests/rows/expected.py, in the folder `apart`; nothing is there where
+# worked_out CAPTURE COUNT: the first COUNT scenarios, over a capture, by tests/rows/expected.py, in the folder `apart`; nothing is there where
 # it can't be run.
 is_apart=yes
 can "worked out apart" python3 || is_apart=no
@@ -149,7 +149,7 @@ perl tests/capture.pl 34100 > "$work/six.pcap"
 perl tests/capture.pl 34100 report > "$work/report"
 perl tests/capture.pl 34100 delivered > "$work/delivered"
 
-# six BLOCKS WORKERS INPUT [WORD..]: the verdicts on the capture, printed and stored, of which so many blocks are loaded by workers.
+# six BLOCKS WORKERS INPUT [WORD..]: the verdicts on the capture, printed and stored, of which BLOCKS blocks are loaded by workers.
 six() {
     local blocks=$1 workers=$2 input=$3 name="45 MB by $2 workers${4:+, named}"
     shift 3

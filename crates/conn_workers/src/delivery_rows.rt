@@ -1,16 +1,15 @@
 //! What the connections of a capture contribute to one scenario, made by workers.
-ghost use Rattle.std.specs.Prelude.{◌≡◌, [], ◌∷◌, ◌++◌, IfOk};
+ghost use Rattle.std.specs.Prelude.{◌≡◌, [], ◌∷◌, IfOk};
 ghost use Rattle.std.specs.List.{flat_map};
 ghost use Rattle.conn_workers.specs.Recordings.{recorded_row};
 
 use crate::jobs::ShareJobs;
-use crate::recordings::{Recording, Recordings};
+use crate::recordings::Recordings;
 use crate::row_ranges::RowRanges;
 use crate::row_shares::RowShare;
 use crate::under_scenario::UnderScenario;
 use job_matrix::{Gate, Phase, Plan, Values, work_all};
 use scenarios::Scenario;
-use segment_writer::SegmentRow;
 use std::alloc::{AllocError, Global};
 use std::thread::Threads;
 
@@ -70,28 +69,6 @@ pub fn deliver_row_alone<'w, 'a>(
     let under = UnderScenario::of(alloc, number, scenario, seed);
     let share = under.share(recordings.as_slice())?;
     one(alloc, share)
-}
-
-/// What some connections contribute to a scenario with its number, made by this thread alone: their segments after those of a row, and
-/// their lines. Who takes the lines of some connections after another holds no more of them.
-///
-/// # Errors
-/// A growth was refused.
-pub fn deliver_after<'w, 'a>(
-    alloc: Global,
-    row: SegmentRow<'w, 'a>,
-    recordings: &'w [Recording<'_, 'a>],
-    number: u32,
-    scenario: &Scenario,
-    seed: u64,
-) -> Result<RowShare<'w, 'a>, AllocError>
-    ensures segments { IfOk result (λ share. share.segments
-        ≡ row.entry ++ flat_map (λ d. d.segments) (recorded_row seed (number, scenario.now) recordings.now)) }
-    ensures lines { IfOk result (λ share. share.lines
-        ≡ flat_map (λ d. d.line) (recorded_row seed (number, scenario.now) recordings.now)) }
-{
-    let under = UnderScenario::of(alloc, number, scenario, seed);
-    under.share_after(row, recordings)
 }
 
 // The list of one value.

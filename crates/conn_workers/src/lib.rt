@@ -4,9 +4,9 @@
 //! `deliver` gives it all at once. `specs/Contributions.antt` says what a connection contributes,
 //! and `specs/DeliveryRows.antt` in what order; `laws` has the theorems that nothing else of a capture or a scenario
 //! changes it, and that a connection meets the first proxy for its server. `deliver_row` gives the same for one scenario, in shares: what
-//! a range of connections contributes stands together (`specs/RowShares.antt`); `deliver_after` gives it for some connections after others.
+//! a range of connections contributes stands together (`specs/RowShares.antt`).
 //! `report_texts` gives the lines alone, for scenarios that follow one another at once (`specs/ReportTexts.antt`). The program calls these
-//! three.
+//! two.
 #![tactic(auto)]
 
 mod deliveries;
@@ -22,7 +22,7 @@ mod scenario_texts;
 mod under_scenario;
 
 pub use deliveries::{Deliveries, Delivery, deliver};
-pub use delivery_rows::{RowShares, deliver_after, deliver_row, deliver_row_alone};
+pub use delivery_rows::{RowShares, deliver_row, deliver_row_alone};
 pub use recordings::{Recording, Recordings, record, record_alone};
 pub use row_shares::RowShare;
 pub use scenario_texts::{ShareTexts, report_texts, report_texts_alone};

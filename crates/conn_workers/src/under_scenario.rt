@@ -1,9 +1,9 @@
 //! A scenario with its number, and what recordings of connections contribute to it together.
-ghost use Rattle.std.specs.Prelude.{◌≡◌, ◌++◌, IfOk, OnOk};
+ghost use Rattle.std.specs.Prelude.{◌≡◌, ◌++◌, [], IfOk, OnOk};
 ghost use Rattle.reassembly.specs.LineLaws.{IsLine};
 ghost use Rattle.toxic_defs.specs.DeliveredLines.{delivered_view};
 ghost use Rattle.conn_workers.specs.Recordings.{recorded_delivered, recorded_delivery};
-ghost use Rattle.conn_workers.specs.RowShares.{row_segments, row_share, row_text};
+ghost use Rattle.conn_workers.specs.RowShares.{row_share, row_text};
 
 use crate::recordings::Recording;
 use crate::row_shares::RowShare;
@@ -40,6 +40,13 @@ impl<'w> UnderScenario<'w> {
         }
     }
 
+    // An empty text with room for the lines of a number of connections.
+    fn room_for_lines(&self, count: usize) -> Result<Vec<u8>, AllocError>
+        ensures { IfOk result (λ lines. lines.items ≡ []) }
+    {
+        Vec::with_capacity(self.alloc, count.saturating_mul(LINE_ROOM))
+    }
+
     // Appends the line of a connection in the scenario's report, and gives what is delivered of it.
     fn put_line_of<'a>(
         &self,
@@ -58,7 +65,7 @@ impl<'w> UnderScenario<'w> {
         Ok(delivered)
     }
 
-    /// What connections contribute, one after another.
+    /// What connections contribute, one after another. Room is asked for ahead for their lines.
     pub(crate) fn share<'r, 'a>(
         &self,
         recordings: &'r [Recording<'_, 'a>],
@@ -66,22 +73,8 @@ impl<'w> UnderScenario<'w> {
         ensures { IfOk result (λ share. share
             ≡ row_share self.now.seed (self.now.number, self.now.scenario.now) recordings.now) }
     {
-        self.share_after(SegmentRow::none(self.alloc), recordings)
-    }
-
-    /// The same with their segments after those of a row. Room is not asked for ahead.
-    pub(crate) fn share_after<'r, 'a>(
-        &self,
-        row: SegmentRow<'r, 'a>,
-        recordings: &'r [Recording<'_, 'a>],
-    ) -> Result<RowShare<'r, 'a>, AllocError>
-        ensures segments { IfOk result (λ share. share.segments
-            ≡ row.entry ++ row_segments self.now.seed (self.now.number, self.now.scenario.now) recordings.now) }
-        ensures lines { IfOk result (λ share. share.lines
-            ≡ row_text self.now.seed (self.now.number, self.now.scenario.now) recordings.now) }
-    {
-        let mut segments = row;
-        let mut lines = Vec::new(self.alloc);
+        let mut segments = SegmentRow::none(self.alloc);
+        let mut lines = self.room_for_lines(recordings.len())?;
         for recording in recordings {
             let delivered = self.put_line_of(&mut lines, recording)?;
             segments = segments.with_connection(&recording.endpoints, delivered)?;
@@ -95,8 +88,7 @@ impl<'w> UnderScenario<'w> {
         ensures { IfOk result (λ text. text
             ≡ row_text self.now.seed (self.now.number, self.now.scenario.now) recordings.now) }
     {
-        let room = recordings.len().saturating_mul(LINE_ROOM);
-        let mut lines = Vec::with_capacity(self.alloc, room)?;
+        let mut lines = self.room_for_lines(recordings.len())?;
         for recording in recordings {
             self.put_line_of(&mut lines, recording)?;
         }

@@ -14,7 +14,7 @@ abbrev pub head_of : CaptureView → ℕ → List ℕ
 head_of capture number =
     counts_text number (seen_capture (contents_of capture)) ++ connections_text (length (whole_table capture).conns) (whole_table capture).unopened
 
--- those of so many scenarios
+-- those of a number of scenarios
 abbrev pub heads_of : CaptureView → ℕ → List (List ℕ)
 heads_of capture count = map (head_of capture) (range_with_len 0 count)
 

@@ -10,7 +10,7 @@ abbrev pub reports_in : Result (List Output) RunFault → Result (List ℕ) RunF
 reports_in (Ok outputs) = Ok (reports_of outputs)
 reports_in (Err fault) = Err fault
 
--- How printing ends, by what is called for, given what it is to have written nothing, and to have written some bytes. The reports were
+-- How printing ends, by what is called for. `Unwritten` means that nothing was written, `Wrote bytes` that these bytes were. The reports were
 -- written, whole and once; or a write failed, and a first part of them was written, not all. On any other refusal nothing was written:
 -- it is out of memory, whatever is called for, or it is what is called for.
 abbrev pub PrintsOf : Result (Unit {0}) RunFault → Result (List Output) RunFault → Type 0 → (List ℕ → Type 0) → Type 0

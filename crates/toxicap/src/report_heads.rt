@@ -9,7 +9,7 @@ use pcap_records::Capture;
 use report::{ReportText, report_head};
 use std::alloc::{AllocError, Global};
 
-/// The first two lines of the reports of so many scenarios.
+/// The first two lines of the reports of a number of scenarios.
 ///
 /// # Errors
 /// A growth was refused.

@@ -6,12 +6,11 @@ use super::checks::check;
 use conn_table::laws::tables_agree;
 use conn_table::{Partial, Table, finish};
 use conn_workers::{
-    Delivery, Recordings, RowShares, deliver, deliver_after, deliver_row, deliver_row_alone, record,
+    Delivery, Recordings, RowShares, deliver, deliver_row, deliver_row_alone, record,
 };
 use job_matrix::{Gate, Phase, Plan, Through};
 use pcap_records::{Capture, Moment, read_capture};
 use scenarios::{Hosts, Scenario, read_scenario};
-use segment_writer::SegmentRow;
 use std::alloc::{AllocError, Global};
 use std::process::Abort;
 use std::thread::Threads;
@@ -161,23 +160,7 @@ fn check_second_row<R: Abort + Threads + Sync>(
     check(rt, "by workers", by_workers);
 }
 
-// That what the second connection contributes to the second row stands after what the first one does.
-fn check_after(rt: &impl Abort, alloc: Global, recordings: &Recordings<'_, '_>) {
-    let scenario = scenario(rt, alloc, &[DISABLED]);
-    let all = recordings.as_slice();
-    let (first, second) = all.split_at(all.len().min(1));
-    let none = SegmentRow::none(alloc);
-    let share = deliver_after(alloc, none, first, 1, &scenario, 42).expect(rt, "memory");
-    let mut good = share.lines.as_slice() == FIRST_LINE.as_bytes();
-    let row = share.segments;
-    let share = deliver_after(alloc, row, second, 1, &scenario, 42).expect(rt, "memory");
-    let written = share.segments.written(alloc).expect(rt, "memory");
-    good = good && written.as_slice().len() == 5;
-    good = good && share.lines.as_slice() == REFUSED_LINE.as_bytes();
-    check(rt, "one after another", good);
-}
-
-// The same of what is recorded of a file, by so many workers.
+// The same of what is recorded of a file, by a number of workers.
 fn check_recorded_row<R: Abort + Threads + Sync>(rt: &R, alloc: Global, workers: u32) {
     let bytes = file(alloc, true, &segments()).expect(rt, "memory");
     let capture = read_capture(alloc, &bytes).expect(rt, "a capture");
@@ -188,7 +171,6 @@ fn check_recorded_row<R: Abort + Threads + Sync>(rt: &R, alloc: Global, workers:
         rt.panic("not two recordings");
     }
     check_second_row(rt, alloc, &recordings, plan);
-    check_after(rt, alloc, &recordings);
 }
 
 #[test]

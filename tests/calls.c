@@ -6,7 +6,7 @@
      FAIL=KIND:N  the call of this kind with this number fails, from 1 on; with N+ it and all later ones
      CAUSE=N      the error number that it fails with; 0 has a write take nothing, `before` ends the process in place of the call,
                   `after` once the call was made, and `stop` stops the process before the call, which is made once it goes on
-     MOST=N       a read or a write moves at most so many bytes */
+     MOST=N       a read or a write moves at most N bytes */
 #define _GNU_SOURCE
 #include <dlfcn.h>
 #include <errno.h>

@@ -51,7 +51,7 @@ sub answer { segment(@_, 1, 0, 1, $syn | $ack, '') }
 # client: the address of a connection's client.
 sub client { my $number = shift; return $rounds ? pack('CCn', 10, 128 + ($number >> 16), $number & 0xffff) : "\x0a\x4d\x00\x01" }
 
-# report: of so many records and connections, whose clients send so many bytes.
+# report: of a number of records and of connections, whose clients send a number of bytes each.
 sub report {
     my ($records, $conns, $bytes) = @_;
     print "scenario $scenario records $records rest 0 segment $records short 0 notipv4 0 badipv4 0 fragment 0 nottcp 0 cut 0 badtcp 0 sameends 0\n";

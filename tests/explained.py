@@ -144,7 +144,7 @@ class Case:
     def lines(self, run): return [run.line(n, self.stream) for n in self.met]
 
     def holds(self, count, text):
-        """Whether a reason is so for so many connections, by another way than the script's where there is one."""
+        """Whether a reason holds for `count` connections, by another way than the script's where there is one."""
         kind, numbers, lines = self.toxic['type'], list(map(int, re.findall('[0-9]+', text))), self.lines(self.none)
         if text.startswith('it is not drawn'):
             return count <= len(self.met) - len(self.drawn()) and self.run({self.number: 10**6}).bytes != self.base.bytes

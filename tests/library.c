@@ -3,8 +3,8 @@
    Without --scenario there is one scenario, `[]`. What is at fault is told on standard output, with status 3. The tasks are
      answer         stores in the folder, or tells on standard error with status 1, what the program does; before that both calls have been
                     made with each of their buffers too small, just right and too large
-     again COUNT    so many calls, none of which may leave memory; from a thousand on the process may not grow after the tenth part of them
-     threads COUNT  eight threads, each with 256 KB of stack, a seed of its own and so many calls
+     again COUNT    COUNT calls, none of which may leave memory; from a thousand on the process may not grow after the tenth part of them
+     threads COUNT  eight threads, each with 256 KB of stack, a seed of its own and COUNT calls
      growths        each growth of memory is refused in turn
      edges          a scenario's length past the end, a last host without a line feed, no scenario, a capture that is too long
    It is linked with --wrap for malloc, realloc, calloc and free, so that its growths are counted (of a static library, the library's too). */
@@ -151,7 +151,7 @@ static int starved(const struct question *asked, const struct memory *full, uint
         must(was_refused && are_equal(memory.sizes, (ToxicapSizes){0, 0, 0}), "status 3 with sizes");
     else if (status == TOXICAP_REFUSED && memory.sizes.reports == strlen(want_of_memory)
              && memcmp(memory.reports, want_of_memory, strlen(want_of_memory)) == 0)
-        must(was_refused && memory.sizes.captures == 0 && memory.sizes.lens == 0, "want of memory where no growth was refused");
+        must(was_refused && memory.sizes.captures == 0 && memory.sizes.lens == 0, "out of memory where no growth was refused");
     else
         must(status == full_status && is_same(full, &memory), "a refused growth gives a third answer");
     release(&memory);

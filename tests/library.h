@@ -111,7 +111,7 @@ static void release(struct memory *memory)
     free((uint8_t *)memory->lens - GUARD);
 }
 
-/* is_free: whether a buffer, with its guards, is as it was but for so many bytes at its start. */
+/* is_free: whether a buffer, with its guards, is as it was except for the bytes `written` at its start. */
 static int is_free(const void *buffer, size_t size, size_t written)
 {
     const uint8_t *bytes = buffer;

@@ -18,7 +18,7 @@ redact() {
     examples/redact "$@" < "$input" > "$work/output" 2> "$work/faults" || status=$?
 }
 
-# redacted WHAT COUNTS WORD..: of the capture `recorded` it was to make the capture `wanted`, to count so many matches of each pattern, to end with 1
+# redacted WHAT COUNTS WORD..: of the capture `recorded` it was to make the capture `wanted`, to count COUNTS matches of the patterns, to end with 1
 # where one has none, and toxicap was to give both the same report.
 redacted() {
     local what=$1 counts=$2 number=0 lines='' due=0 count words

@@ -14,7 +14,7 @@ def written(text):
 
 
 def wanted_of(line, ticks):
-    """The heading and the texts of both lanes of a report's line. A millisecond has so many ticks. A refused
+    """The heading and the texts of both lanes of a report's line. `ticks` is the number of ticks of a millisecond. A refused
     connection has a reset of the server at its opening."""
     yield re.sub(r' proxy .*', '', line)
     for side in 'up', 'down':

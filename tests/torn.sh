@@ -21,14 +21,14 @@ counted() {
     echo
 }
 
-# Where the header and each record end; and after so many records, how long the written capture is, and how both lines stand.
+# Where the header and each record end; and after each number of records, how long the written capture is, and how both lines stand.
 ends=(24 94 164 234 309 379 449 519)
 lens=(24 234 234 234 309 379 449 449)
 opened="up 0/0/0 open max 0 down 0/0/0 open max 0"
 both=(none "$opened" "$opened" "$opened" "up 5/5/0 open max 0 down 0/0/0 open max 0" "up 5/5/0 fin+2000 max 0 down 0/0/0 open max 0")
 both+=("up 5/5/0 fin+2000 max 0 down 0/0/0 fin+3000 max 0" "up 5/5/0 fin+2000 max 0 down 0/0/0 fin+3000 max 0")
 
-# The written capture after so many records is a first part of the whole one. After the first record alone the server has no number of its
+# The written capture after a number of records is a first part of the whole one. After the first record alone the server has no number of its
 # own: its answer has 0, and the client acknowledges 1.
 for records in 0 1 2 3 4 5 6 7; do head -c "${lens[records]}" "$written" > "$work/$records.pcap"; done
 change "$work/1.pcap" 148 '\x00\x00\x00\x00'

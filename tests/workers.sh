@@ -125,7 +125,7 @@ perl tests/capture.pl 20x3 > "$work/twenty.pcap"
 by_workers "64 records, 4 connections" "$capture" 11 4
 by_workers "60 records, 20 connections" "$work/twenty.pcap" 10 20
 
-# Each of 40 scenarios alone, after so many without proxies that it has its number, by one worker; and all of them by 16, the first eight by 4.
+# Each of 40 scenarios alone, by one worker, after as many without proxies as its number; and all of them by 16, the first eight by 4.
 anew "$work/forty"
 for ((number = 0; number < 40; number++)); do
     anew "$folder"

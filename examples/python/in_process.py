@@ -116,7 +116,7 @@ def report_room(capture_len: int, count: int) -> int:
 
 
 def part(room: "ctypes.Array[ctypes.c_char]", place: int, size: int) -> bytes:
-    """So many bytes of a buffer, from a place on."""
+    """A number of bytes of a buffer, from a place on."""
     return memoryview(room)[place : place + size].tobytes()
 
 

@@ -62,7 +62,7 @@ def refusals(capture):
             again = pickle.loads(pickle.dumps(refusal))
             told(wanted, [type(again), str(again)], [toxicap.Refusal, " ".join(["refused", *map(str, filter(None, wanted))])])
     want = toxicap.WantOfMemory("refused 40 Memory")
-    told("want of memory", [isinstance(want, kind) for kind in (MemoryError, toxicap.Refusal)], [True, True])
+    told("out of memory", [isinstance(want, kind) for kind in (MemoryError, toxicap.Refusal)], [True, True])
     for words in ("text", [b"[]"]), (capture, ["[]"]), (5, [b"[]"]), (capture, b"[]"), (capture, [b"[]"], "a=10.0.0.1"):
         told(f"a wrong type, {words[1:]}", type(raised(toxicap.rehearse, *words)), TypeError)
     for seed in -1, 2**64:

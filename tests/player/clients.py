@@ -24,7 +24,7 @@ def connect(player):
 
 
 def read(client, length=1000):
-    """The client's next bytes, so many or up to the end."""
+    """The client's next bytes: `length`, or up to the end."""
     found = b''
     while len(found) < length:
         more = client.recv(length - len(found))

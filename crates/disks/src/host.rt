@@ -11,7 +11,8 @@ use std::rt::Files;
 
 /// A file that one process can hold while it has the file open.
 pub trait Lockable {
-    /// Tries to hold the file without waiting. [`TryLockError::WouldBlock`] means that another process holds it, other errors that locks lack.
+    /// Tries to hold the file and waits for nobody. [`TryLockError::WouldBlock`] means that another process holds it.
+    /// Any other error means that its file system has no locks.
     fn try_hold(&self) -> Result<(), TryLockError>;
 }
 
@@ -249,7 +250,6 @@ where
     }
 }
 
-// Ignores an error, except out of memory.
 fn unless_memory(error: Error) -> Result<(), AllocError> {
     match error.kind() {
         ErrorKind::OutOfMemory => Err(AllocError),

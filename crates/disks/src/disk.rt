@@ -80,8 +80,8 @@ pub trait DiskFile {
 
 /// Where files are written: each as a draft, beside the others and by any thread if the disk is `Sync`, and named when it is whole.
 /// `history` is what the paths held at first and the files that got names since, or `None` if the disk does not tell that.
-/// `faults` is the number of failed calls. A draft that has failed `holds` whatever is asked. A draft is no part of the history.
-/// Each draft needs a path of its own (`path_of`), also if drafts are begun side by side.
+/// `faults` is the number of failed calls. A draft `holds` some bytes, and one that has failed holds whatever is asked.
+/// A draft begins at its `path_of`, which no file may get as its name. Drafts that are begun side by side need paths of their own.
 pub trait Disk {
     ghost use Rattle.std.specs.Prelude.{◌≡◌, ℕ, ◌+◌, ◌-◌, ◌^◌, ◌<◌, [], ◌∷◌, ◌++◌, List, Option, OnErr, OnOk, is_ok, if◌then◌else◌, IfSome, IsSome, true};
     ghost use Rattle.std.specs.String.{string_bytes};

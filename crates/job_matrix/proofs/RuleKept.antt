@@ -18,7 +18,7 @@ Each n views = (seat : ℕ) (v : SeatView) → get_elem? views seat ≡ some v �
 abbrev numbers : ℕ → SeatView → ℕ
 numbers x v = times x (jobs_of v)
 
--- a seat that is told is out or came back
+-- a seat that was told that no number is left is out or came back
 told_within : (n seat : ℕ) (v : SeatView) → Fits n seat v → told_of v ≤ out_of v + back_of v
 told_within n seat (Leads limit made back told jobs) fits = omega (arith, fits.2)
 told_within n seat (Claims limit told jobs) fits = omega (arith, fits.2)

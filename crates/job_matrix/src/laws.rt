@@ -12,7 +12,7 @@ pub fn all_done<V>()
     ensures { AllDone V }
 {}
 
-/// In that case a tray into which the values are put, in any order, has them in order of the jobs.
+/// In the case of [`all_done`] a tray into which the values are put, in any order, has them in order of the jobs.
 pub fn tray_is_filled<V>()
     ensures { TrayIsFilled V }
 {}

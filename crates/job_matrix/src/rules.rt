@@ -4,7 +4,7 @@ use std::collections::LinkedList;
 
 /// What a seat of a board knows. No value of it is made.
 pub enum SeatView {
-    /// The chief: the limit, passes made, passes back, passes back that were told that no number is left, and their numbers.
+    /// The chief: the limit, counts of passes made, back, and told that no number is left, and the numbers of passes that came back.
     Leads(u64, u64, u64, u64, LinkedList<u64>),
     /// A pass: the limit, 1 if it was told that no number is left (else 0), and its numbers.
     Claims(u64, u64, LinkedList<u64>),

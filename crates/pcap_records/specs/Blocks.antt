@@ -1,9 +1,9 @@
--- Files in blocks: the bytes that blocks hold, and how a file grows by a part that was loaded. Each block has bytes of its own, and after them the first bytes of the next block, so that a record that begins in a
--- block lies in it whole.
+-- Files in blocks: the bytes that blocks hold, and how a file grows by a part that was loaded. After its own bytes each block has the first
+-- of the next one, so that a record that begins in it lies in it whole.
 use Rattle.std.specs.Prelude.{◌≡◌, ◌<◌, ℕ, ◌+◌, ◌-◌, ◌*◌, ◌^◌, ◌++◌, nat_lt, if◌then◌else◌, List, [], ◌∷◌, length, take, drop, get_or, set}
 use Rattle.std.specs.List.{flat_map}
 
--- the number of bytes of its own of each block; the last may have fewer
+-- the number of bytes that are a block's own; the last block may have fewer
 abbrev pub block_len : ℕ
 block_len = 2 ^ 23
 

@@ -18,7 +18,7 @@ told_packet bytes r = take r.len (drop r.start bytes)
 abbrev pub kept_bytes : List ℕ → Record → List ℕ
 kept_bytes bytes r = head_bytes (told_packet bytes r)
 
--- the number of these bytes if the packet is whole
+-- the number of kept bytes if the packet is whole
 abbrev pub kept_len : List ℕ → Record → ℕ
 kept_len bytes r = min (head_len (told_packet bytes r)) r.len
 

@@ -5,13 +5,13 @@ ghost use Rattle.pcap_records.specs.Blocks.{block_len, block_limit, slice_limit,
 use std::alloc::{AllocError, Global};
 use std::marker::Model;
 
-/// The number of a file's bytes with which each block begins, its own. The last block may have fewer.
+/// The number of bytes that are a block's own. The last block may have fewer.
 pub const BLOCK_LEN: usize = 1 << 23;
 
 /// The greatest length of a slice, in bytes: that of the longest record, its header and its packet.
 pub const SLICE_LIMIT: usize = 262_160;
 
-/// A file in blocks. After its own bytes each has the first of the next block, so that a record that begins in it lies in it whole.
+/// A file in blocks. After its own bytes each block has the first of the next one, so that a record that begins in it lies in it whole.
 #[derive(Debug, Drop)]
 pub struct Blocks {
     blocks: Vec<Vec<u8>>,

@@ -30,7 +30,7 @@ pub faulty : (a : App) (arguments : List Text) (e : Error) → a ≡ program_opt
 unfolding faults_in
 faulty a arguments e is has = (rw is at has) options_are_free
 
--- a fault of clap's is shown, told, or want of memory
+-- a fault of clap's is shown, told, or out of memory
 pub stopped : (arguments : List Text) (e : Error) (stop : Stop) → HasKind (faults_in arguments) e → StopsFor (kind_of e) stop → ReadsAs arguments (Err stop)
 stopped arguments e (Shown text) (inl memory) is =
     absurd (elim (rw memory at is) [

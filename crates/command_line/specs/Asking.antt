@@ -11,7 +11,6 @@ use Rattle.command_line.specs.declared.asked.Asked.{Asked}
 use Rattle.command_line.specs.declared.error.Stop.{Stop}
 use Rattle.command_line.specs.declared.error.Stop.TheVariants.{Shown, Usage, Memory}
 
--- the numbers of a plan are in range
 abbrev pub IsPlanInRange : Asked → Type 0
 IsPlanInRange asked = (1 ≤ asked.workers) × (asked.workers ≤ most_workers) × (1 ≤ asked.cut) × (asked.cut ≤ most_cut)
 
@@ -23,19 +22,17 @@ number_below bound text =
     && nat_lt (digits_value 10 digits) bound
     then Some (digits_value 10 digits) else None
 
--- a number from 1 to `most`, and else the default
+-- a number from 1 to `most`, or else the default
 abbrev pub number_to : ℕ → ℕ → Option ℕ → ℕ
 number_to most default None = default
 number_to most default (Some n) = if nat_le 1 n && nat_le n most then n else default
 
--- what an option's matches ask for
 abbrev pub number_of : ℕ → Text → List Row → Option ℕ
 number_of bound id rows = option_and_then (number_below bound) (one_of id rows)
 
 abbrev pub option_values : Text → List Row → List Text
 option_values id rows = unwrap_or (all_of id rows) []
 
--- what the matches of all options ask for
 pub record Asks (rows : List Row) (asked : Asked) : Type 0 where
   pub capture : option_map (λ path. path.now) asked.capture ≡ first_of (codes "capture") rows
   pub scenarios : map (λ path. path.now) asked.scenarios.items ≡ option_values (codes "scenario") rows
@@ -45,26 +42,23 @@ pub record Asks (rows : List Row) (asked : Asked) : Type 0 where
   pub cut : asked.cut ≡ number_to most_cut default_cut (number_of (2 ^ 32) (codes "cut") rows)
   pub out : option_map (λ path. path.now) asked.out ≡ first_of (codes "out") rows
 
--- what a kind of fault asks for: the help or the version
+-- a kind of fault that asks for the help or the version
 abbrev pub AsksText : ErrorKind → Type 0
 AsksText kind = (kind ≡ DisplayHelp) ⊎ (kind ≡ DisplayVersion)
 
--- the kinds of fault that arguments have, and their matches
 unfoldable pub faults_in : List Text → Kinds
 faults_in arguments = fault_of program_options arguments
 
 unfoldable pub matches_in : List Text → List Row
 matches_in arguments = matches_of program_options arguments
 
--- How arguments are read. Arguments without a fault ask for what their matches do; a text is shown or a fault told
--- where clap's definition has one of that kind; memory may be wanted for any arguments.
+-- Arguments without a fault ask for what their matches do; else clap's definition has a fault of the kind. Memory may always run out.
 abbrev pub ReadsAs : List Text → Result Asked Stop → Type 0
 ReadsAs arguments (Ok asked) = IsPlanInRange asked × (faults_in arguments ≡ []) × Asks (matches_in arguments) asked
 ReadsAs arguments (Err (Shown text)) = (kind : ErrorKind) × IsAmong kind (faults_in arguments) × AsksText kind
 ReadsAs arguments (Err (Usage text)) = (kind : ErrorKind) × IsAmong kind (faults_in arguments) × (AsksText kind → ⊥)
 ReadsAs arguments (Err Memory) = Unit {0}
 
--- how a fault of clap's stops a command line
 abbrev pub StopsFor : ErrorKind → Stop → Type 0
 StopsFor kind (Shown text) = AsksText kind
 StopsFor kind (Usage text) = (kind ≢ OutOfMemory) × (AsksText kind → ⊥)

@@ -4,14 +4,13 @@ use Rattle.clap.specs.Words.{App, Rule, Text, new_app, new_rule, with_rule}
 use Rattle.clap.specs.declared.builder.ArgAction.TheVariants.{Set, Append}
 use Rattle.clap.specs.declared.builder.ValueParser.TheVariants.{Unsigned}
 
--- the greatest number of workers, and of records of a range that one worker reads
 abbrev pub most_workers : ℕ
 most_workers = 16
 
 abbrev pub most_cut : ℕ
 most_cut = 2 ^ 20
 
--- what stands for a number that is not told, and the same as clap takes it
+-- the defaults, also as clap takes them
 abbrev pub default_workers : ℕ
 default_workers = 1
 
@@ -28,16 +27,14 @@ default_cut_text = codes "4096"
 abbrev pub option_rule : Text → Rule
 option_rule name = record (new_rule name) { long = Some name; value_names = 1; action = Some Set }
 
--- one that may be repeated
 abbrev pub repeated_rule : Text → Rule
 repeated_rule name = record (option_rule name) { action = Some Append }
 
--- one whose value is a number between two bounds
 abbrev pub number_rule : Text → ℕ → ℕ → Text → Rule
 number_rule name least most default =
     record (option_rule name) { parser = Some (Unsigned least most); defaults = default ∷ [] }
 
--- a command line of the arguments after the program's name, with a version
+-- the arguments stand after the program's name
 abbrev pub bare_app : App
 bare_app =
     let bare = new_app (codes "toxicap") in

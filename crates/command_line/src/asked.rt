@@ -17,24 +17,20 @@ pub struct Asked<'a> {
     pub capture: Option<&'a str>,
     /// The paths of the scenario files, in order.
     pub scenarios: Vec<&'a str>,
-    /// The hosts as they were written, `NAME=ADDR`, in order. Nothing of them was looked at.
+    /// The hosts as they were written, `NAME=ADDR`, in order and not checked.
     pub hosts: Vec<&'a str>,
     /// What random words are drawn from.
     pub seed: u64,
-    /// How many threads work, 1 to 16.
+    /// The number of threads, 1 to 16.
     pub workers: u32,
-    /// How many records a range has that one worker reads, 1 to 2^20.
+    /// The number of records of a range that one worker reads, 1 to 2^20.
     pub cut: u32,
     /// The folder for the outputs, or `None` for the reports on standard output.
     pub out: Option<&'a str>,
 }
 
-/// Reads the arguments of a command line, which stand after the program's name.
-///
-/// # Errors
-/// [`Stop::Shown`] where the arguments ask for the help or for the version; [`Stop::Usage`] where they have a fault: an unknown
-/// option, an argument that is no option, an option without its value, one that stands twice and may not, a number that is not
-/// valid or out of range; [`Stop::Memory`].
+/// Reads the arguments after the program's name. [`Stop::Shown`] means that they ask for the help or the version.
+/// [`Stop::Usage`] means a fault: an unknown option or argument, an option without its value or given twice, or a bad number.
 pub fn read_arguments<'a, S: AsStr>(alloc: Global, arguments: &'a [S]) -> Result<Asked<'a>, Stop>
     ensures { ReadsAs (map S.text arguments.entry.now) result }
 {
@@ -44,7 +40,6 @@ pub fn read_arguments<'a, S: AsStr>(alloc: Global, arguments: &'a [S]) -> Result
     }
 }
 
-// What the arguments ask for, as clap found it.
 fn asked_in<'a>(alloc: Global, matches: &ArgMatches<'a>) -> Result<Asked<'a>, AllocError>
     ensures range { IfOk result IsPlanInRange }
     ensures asks { IfOk result (Asks (rows_of (found_of matches.now))) }
@@ -60,8 +55,7 @@ fn asked_in<'a>(alloc: Global, matches: &ArgMatches<'a>) -> Result<Asked<'a>, Al
     })
 }
 
-// A number from 1 to `most`, or the default. clap has tested the number by then; it is tested again, so that callers
-// can rely on it without a theorem about clap's tests.
+// clap has tested the number already. It is tested again, so that no theorem about clap's tests is needed.
 fn from_one(number: Option<u32>, most: u32, default: u32) -> u32
     requires { (1 ≤ default) × (default ≤ most) }
     ensures range { (1 ≤ result) × (result ≤ most) }
@@ -73,7 +67,6 @@ fn from_one(number: Option<u32>, most: u32, default: u32) -> u32
     }
 }
 
-// A copy of the values of an option that may be repeated.
 fn copy_of<'a>(alloc: Global, found: Option<&[&'a str]>) -> Result<Vec<&'a str>, AllocError>
     ensures { IfOk result (λ copy. map (λ value. value.now) copy.items
         ≡ unwrap_or (option_map (λ values. map (λ value. value.now) values.now) found.entry) []) }
@@ -85,7 +78,7 @@ fn copy_of<'a>(alloc: Global, found: Option<&[&'a str]>) -> Result<Vec<&'a str>,
     Ok(copy)
 }
 
-// What an answer of clap's is: a text that was asked for, a fault, or want of memory, also for the text.
+// If the text finds no memory, the answer is `Stop::Memory`, too.
 fn stop_of(alloc: Global, error: &Error) -> Stop
     ensures { StopsFor (kind_of error.now) result }
 {

@@ -5,13 +5,12 @@ use thiserror::Error;
 /// Why a command line asks for no run.
 #[derive(Debug, Drop, Error)]
 pub enum Stop {
-    /// It asks for a text, as `--help` does.
+    /// The arguments ask for a text, such as `--help`.
     #[error("{0}")]
     Shown(String),
-    /// It has a fault, which the text tells.
+    /// The arguments have a fault, which the text tells.
     #[error("{0}")]
     Usage(String),
-    /// Memory was refused.
     #[error("out of memory")]
     Memory,
 }

@@ -1,6 +1,4 @@
-//! The command line of `toxicap`: its options, what the arguments after the program's name ask for, and the texts of
-//! `--help`, `--version` and of a fault.
-//!
+//! The command line of `toxicap`: its options, what its arguments ask for, and the texts of `--help`, `--version` and of a fault.
 //! It stands apart from the crate `toxicap`, so that a check there need not load `clap`.
 #![tactic(auto)]
 

@@ -10,18 +10,14 @@ use clap::builder::ValueParser;
 use clap::{Arg, ArgAction, Command};
 use std::alloc::{AllocError, Global};
 
-/// The greatest number of workers.
 pub(crate) const MOST_WORKERS: u32 = 16;
 
-/// The greatest number of records of a range that one worker reads.
 pub(crate) const MOST_CUT: u32 = 1 << 20;
 
-/// How many workers there are where none are told, and the same as clap takes it.
 pub(crate) const DEFAULT_WORKERS: u32 = 1;
 
 const DEFAULT_WORKERS_TEXT: &str = "1";
 
-/// How many records a range has where no number is told, and the same as clap takes it.
 pub(crate) const DEFAULT_CUT: u32 = 4096;
 
 const DEFAULT_CUT_TEXT: &str = "4096";
@@ -50,7 +46,6 @@ fn repeated<'a>(alloc: Global, name: &'a str, value: &'a str, help: &'a str) -> 
         .action(ArgAction::Append)
 }
 
-// An option that takes a whole number from `least` to `most`, and may stand once.
 fn number<'a>(
     alloc: Global,
     name: &'a str,
@@ -71,8 +66,6 @@ fn number<'a>(
         .default_value(default)
 }
 
-// The program without its options: arguments after its name, its version, and what stands around the options in the
-// help.
 fn bare<'a>(alloc: Global) -> Command<'a>
     ensures { app_of result ≡ bare_app }
 {
@@ -85,7 +78,6 @@ fn bare<'a>(alloc: Global) -> Command<'a>
         .after_long_help(LONG_AFTER)
 }
 
-// The program with the options that name its inputs.
 fn with_inputs<'a>(alloc: Global) -> Result<Command<'a>, AllocError>
     ensures { IfOk result (λ c. app_of c ≡ path_options) }
 {
@@ -95,7 +87,6 @@ fn with_inputs<'a>(alloc: Global) -> Result<Command<'a>, AllocError>
         .arg(repeated(alloc, "host", "NAME=ADDR", HOST))
 }
 
-/// The program's command line.
 pub(crate) fn program<'a>(alloc: Global) -> Result<Command<'a>, AllocError>
     ensures { IfOk result (λ c. app_of c ≡ program_options) }
 {

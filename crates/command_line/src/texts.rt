@@ -48,7 +48,7 @@ files of these names are replaced, but none that
 was read
 [default: the reports alone, on standard output]";
 
-// Texts with the end of both forms of the help after them.
+// The given texts, and then the end that both forms of the help share.
 macro_rules! before_ending {
     ($($part:literal),*) => {
         concat!($($part,)* "\

@@ -41,7 +41,7 @@ grown-again old new k last found opened again conns current unopened =
     let plain : begins (Some last) k ≡ false = rw (opened, again) refl in
     grown-plain old new k (Some last) found plain conns current unopened
 
--- who puts what a pair had back changes nothing
+-- putting back what a pair had changes nothing
 pub put_back : (old mid new : Pair → Option Current) (p : Pair) (other own : Current) → old p ≡ Some own
     → ((q : Pair) → mid q ≡ cond (same_pair p q) (Some other) (old q)) → ((q : Pair) → new q ≡ cond (same_pair p q) (Some own) (mid q)) → (q : Pair) → new q ≡ old q
 put_back old mid new p other own had one two q = two q ∙ by (same_pair p q) refl
@@ -62,7 +62,7 @@ length-grown_at n x [] = refl
 length-grown_at zero x (c ∷ cs) = refl
 length-grown_at (suc n) x (c ∷ cs) = ap (λ (m : ℕ). suc m) (length-grown_at n x cs)
 
--- there are no more than so many connections and unopened segments, and the last connection of a pair is one of them
+-- there are at most n connections and unopened segments, and the last connection of a pair is one of them
 record IsFew (n : ℕ) (g : GrownView) : Type 0 where
   conns : length g.conns ≤ n
   unopened : g.unopened ≤ n
@@ -133,11 +133,9 @@ all_of-append rs ss = flat_map-append items_of rs ss
 pub all_of-one : (r : Vec Entry Global) → all_of (r ∷ []) ≡ r.items
 all_of-one r = append-nil r.items
 
--- those of one range more
 pub all_of-push : (rs : List (Vec Entry Global)) (r : Vec Entry Global) → all_of (rs ++ r ∷ []) ≡ all_of rs ++ r.items
 all_of-push rs r = all_of-append rs (r ∷ []) ∙ ap (λ es. all_of rs ++ es) (all_of-one r)
 
--- and of all with one range before the rest
 pub all_of-longer : (rs rest : List (Vec Entry Global)) (r : Vec Entry Global) → length (all_of rs) + length r.items ≤ length (all_of (rs ++ r ∷ rest))
 all_of-longer rs rest r =
     omega (arith, ap length (all_of-append rs (r ∷ rest)), length-append (all_of rs) (all_of (r ∷ rest)), length-append r.items (all_of rest))

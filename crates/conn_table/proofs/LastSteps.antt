@@ -43,7 +43,7 @@ pub last-found : (lasts : Lasts) (p : Pair) (i : ℕ) (o : Option Recent) (x : O
 last-found lasts p i o None is within at found some = absurd cc
 last-found lasts p i o (Some c) is within at found some = last-recent lasts p i o c is (slice_get_read lasts.recent.items (length lasts.recent.items) i o refl within at) (sym found)
 
--- its slot is taken by it
+-- the slot of a pair is taken by it
 pub lasts-set : (old new : Lasts) (n : ℕ) (p : Pair) (c : Current) → IsLasts old → n ≡ length old.recent.items → slot_of n p < n
     → new.recent.items ≡ set old.recent.items (slot_of n p) (Some (record { pair = p; current = c }))
     → get same_pair new.map p ≡ Some c → ((q : Pair) → same_pair p q ≡ false → get same_pair new.map q ≡ get same_pair old.map q) → IsLasts new

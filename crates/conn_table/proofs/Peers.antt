@@ -87,7 +87,7 @@ peers_differ frame is =
 
 -- ---- who sends
 
--- of two peers that are a pair with a and b, the sender is b where it is not a
+-- of two peers that are a pair with a and b, the sender is b if it is not a
 pub other_sender : (v w : Option ℕ) (a b from to : Peer) → same_peer a b ≡ false → same_pair (pair_of v from to) (pair_of w a b) ≡ true → same_peer from b ≡ not (same_peer from a)
 other_sender v w a b from to differ same =
     let pair = same_pair-is (pair_of v from to) (pair_of w a b) same in

@@ -75,7 +75,7 @@ further (Some x) here = Some (record { number = suc x.number; opening = x.openin
 abbrev here_of : IndexedSegment → Current
 here_of b = record { number = 0; opening = opened b }
 
--- the last of some beginnings that is of a pair: how many stand before it, and its opening
+-- the last beginning of a pair: the number of beginnings before it, and its opening
 abbrev current_in : Pair → List IndexedSegment → Option Current
 current_in p [] = None
 current_in p (b ∷ bs) = further (current_in p bs) (cond (same_pair (pair_of_segment b) p) (Some (here_of b)) None)
@@ -109,14 +109,14 @@ none_of p (b ∷ bs) none = by (same_pair (pair_of_segment b) p) (current_in p b
 abbrev conns_to : CaptureView → List IndexedSegment → List (ℕ × IndexedSegment) → List Conn
 conns_to c xs bs = map (conn_in c) (map (indexed_connection_of xs) bs)
 
--- where s belongs to o, which is there, one connection has it, and none that begins before m is that one
+-- if s belongs to o, which is there, one connection has it, and none that begins before m is that one
 record GrowsAt (c : CaptureView) (xs : List IndexedSegment) (s : IndexedSegment) (o : Option IndexedSegment) (x : Current) (k m : ℕ) (bs : List IndexedSegment) : Type 0 where
   conns : conns_to c (with_next xs s) (enumerate_from k bs) ≡ grown_at x.number (member_from x.opening.from_low (kept_in c s)) (conns_to c xs (enumerate_from k bs))
   apart : (b : IndexedSegment) → b.index < m → is_at b o ≡ false
   some : is_none o ≡ false
 
 module _ (c : CaptureView) (xs : List IndexedSegment) (s : IndexedSegment) (o : Option IndexedSegment) where
-  -- b's connection has s where b is the beginning that s belongs to
+  -- b's connection has s if b is the beginning that s belongs to
   abbrev Takes : IndexedSegment → Type 0
   Takes b = later_members (with_next xs s) b ≡ later_members xs b ++ more_of (is_at b o) s
 

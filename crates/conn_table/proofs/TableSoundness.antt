@@ -90,7 +90,7 @@ rising_filter n Q (s ∷ segs) rising = by_test (Q s) (rising_filter (s.index + 
     by_test true rest = (rising.0, rest)
     by_test false rest = rising_lower n (s.index + 1) (filter Q segs) (omega (arith, rising.0)) rest
 
--- where all stand from m on
+-- if all numbers are m at least
 rising_above : (m n : ℕ) (segs : List IndexedSegment) → AllByRecursion (λ s. m ≤ s.index) segs → IsRising n segs → IsRising m segs
 rising_above m n [] above rising = tt
 rising_above m n (s ∷ segs) above rising = (above.0, rising.1)

@@ -32,9 +32,6 @@ counts_of packets = record {
   same_ends = count_of same_ends packets;
 }
 
--- ---- one packet after another
-
--- one packet of a class more
 abbrev pub counts_with : FrameClass → Counts → Counts
 counts_with segment n = record n { segment = n.segment + 1 }
 counts_with short n = record n { short = n.short + 1 }
@@ -46,7 +43,6 @@ counts_with cut n = record n { cut = n.cut + 1 }
 counts_with bad_tcp n = record n { bad_tcp = n.bad_tcp + 1 }
 counts_with same_ends n = record n { same_ends = n.same_ends + 1 }
 
--- how many packets are of a class
 abbrev pub count_at : FrameClass → Counts → ℕ
 count_at segment n = n.segment
 count_at short n = n.short

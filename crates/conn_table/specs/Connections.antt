@@ -4,7 +4,6 @@ use Rattle.std.specs.List.{enumerate_from, last_or}
 use Rattle.frame_headers.specs.Flags.{has_flag, syn_flag, ack_flag, rst_flag}
 use Rattle.conn_table.specs.IndexedSegments.{TimedSegment, IndexedSegment, same_peer, same_pair, pair_of_segment}
 
--- the last of a list
 abbrev pub last_of : {X : Type 0} → List X → Option X
 last_of xs = last_or None xs
 
@@ -15,7 +14,7 @@ is_opening s = has_flag s.timed.fields.flags syn_flag && not (has_flag s.timed.f
 abbrev pub of_one_pair : IndexedSegment → IndexedSegment → Bool
 of_one_pair s x = same_pair (pair_of_segment x) (pair_of_segment s)
 
--- sent again: the last opening before it has the same sender and sequence number
+-- the last opening before it has the same sender and sequence number
 abbrev pub repeats : Option IndexedSegment → IndexedSegment → Bool
 repeats None s = false
 repeats (Some last) s = same_peer last.timed.fields.from s.timed.fields.from && (last.timed.fields.seq == s.timed.fields.seq)
@@ -39,11 +38,10 @@ abbrev pub is_at : IndexedSegment → Option IndexedSegment → Bool
 is_at b None = false
 is_at b (Some x) = x.index == b.index
 
--- the members of the connection that b begins, but for b
+-- the members of the connection that b begins, except b
 abbrev pub later_members : List IndexedSegment → IndexedSegment → List IndexedSegment
 later_members segs b = filter (λ s. nat_lt b.index s.index && is_at b (beginning_of segs s)) segs
 
--- a connection's number, the segment that begins it, and its later members, with their instants
 pub record Connection : Type 0 where
   pub number : ℕ
   pub opening : TimedSegment

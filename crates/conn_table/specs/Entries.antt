@@ -16,16 +16,13 @@ pair_in e = record {
   high = record { addr = e.high_addr; port = e.high_port };
 }
 
--- the segment that an entry keeps
 abbrev pub kept_by : Entry → KeptSegment
 kept_by e = record { pair = pair_in e; member = e.member }
 
--- the segments of some ranges, range after range
 abbrev pub all_of : List (Vec Entry Global) → List Entry
 all_of rs = flat_map (λ (r : Vec Entry Global). r.items) rs
 
--- what holds of the partial of a range: it has no more segments or packets of a class than the range has records, which are too
--- few for any number to pass 26 bits
+-- a range's partial has no more segments, or packets of a class, than the range has records, and record numbers have 26 bits
 pub record IsPartial (from to : ℕ) (counts : Counts) (es : List Entry) : Type 0 where
   pub ordered : from ≤ to
   pub few : to < 2 ^ 26

@@ -27,7 +27,7 @@ receiver_of k = if is_from_low k then k.pair.high else k.pair.low
 abbrev pub member_from : Bool → KeptSegment → Member
 member_from client_low k = record k.member { from_client = beq k.member.from_client client_low }
 
--- the connection of that number which k begins, with no other member yet
+-- the connection of number n that k begins, with no other member yet
 abbrev pub conn_with : ℕ → KeptSegment → Conn
 conn_with n k = record {
   number = n;
@@ -39,7 +39,6 @@ conn_with n k = record {
   members = member_from (is_from_low k) k ∷ [];
 }
 
--- one member more in the connection at a place
 abbrev pub grown_at : ℕ → Member → List Conn → List Conn
 grown_at n x [] = []
 grown_at zero x (c ∷ cs) = record c { members = c.members ++ x ∷ [] } ∷ cs
@@ -47,8 +46,7 @@ grown_at (suc n) x (c ∷ cs) = c ∷ grown_at n x cs
 
 -- ---- one segment after another
 
--- the connections of some segments, how many of these are unopened, and of each pair its last connection: its number, and the
--- opening that begins it
+-- the connections of some segments, the number of unopened segments, and the last connection of each pair
 pub record GrownView : Type 0 where
   pub conns : List Conn
   pub unopened : ℕ
@@ -57,7 +55,7 @@ pub record GrownView : Type 0 where
 abbrev pub grown_none : GrownView
 grown_none = record { conns = []; unopened = 0; current = λ p. None }
 
--- an opening begins a connection, unless it is that of its pair's last connection, sent again
+-- an opening begins a connection, unless it repeats the one that begins its pair's last connection
 abbrev pub begins : Option Current → KeptSegment → Bool
 begins last k = opens k && not (is_again (option_map (λ c. c.opening) last) (opening_of k))
 
@@ -84,12 +82,11 @@ grown_of ks = fold grown_with grown_none ks
 abbrev pub shown_by : Growth → GrownView
 shown_by g = record { conns = g.conns.items; unopened = g.unopened; current = λ p. get same_pair g.lasts.map p }
 
--- what has grown of some segments
 pub record HasGrown (done : List Entry) (g : Growth) : Type 0 where
   pub shown : shown_by g ≡ grown_of (map kept_by done)
   pub lasts : IsLasts g.lasts
 
--- one segment more may be taken
+-- one more segment may be taken
 pub record IsReady (g : Growth) : Type 0 where
   pub lasts : IsLasts g.lasts
   pub few : length g.conns.items < 2 ^ 31

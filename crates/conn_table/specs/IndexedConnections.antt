@@ -4,7 +4,6 @@ use Rattle.std.specs.List.{enumerate_from}
 use Rattle.conn_table.specs.IndexedSegments.{IndexedSegment}
 use Rattle.conn_table.specs.Connections.{Connection, beginnings, later_members, connections}
 
--- a connection's number, the segment that begins it, and its later members
 pub record IndexedConnection : Type 0 where
   pub number : ℕ
   pub opening : IndexedSegment
@@ -13,7 +12,6 @@ pub record IndexedConnection : Type 0 where
 abbrev pub indexed_connection_of : List IndexedSegment → ℕ × IndexedSegment → IndexedConnection
 indexed_connection_of segs (number, b) = record { number = number; opening = b; later = later_members segs b }
 
--- the connections, numbered in the order of their beginnings
 unfoldable pub indexed_connections : List IndexedSegment → List IndexedConnection
 indexed_connections segs = map (indexed_connection_of segs) (enumerate_from 0 (beginnings segs))
 

@@ -6,12 +6,11 @@ use Rattle.frame_headers.specs.Frame.{FrameClass, segment, SegmentFields}
 use Rattle.conn_table.specs.SeenCapture.{SeenPacket}
 use Rattle.conn_table.specs.declared.conns.Pair.{Pair}
 
--- a segment and its instant
 pub record TimedSegment : Type 0 where
   pub at : ℕ
   pub fields : SegmentFields
 
--- the same with the number of its record, of which nothing above grouping speaks
+-- with the number of its record, which is used only up to grouping
 pub record IndexedSegment : Type 0 where
   pub index : ℕ
   pub timed : TimedSegment
@@ -20,7 +19,6 @@ abbrev pub is_segment : FrameClass → Bool
 is_segment segment = true
 is_segment _ = false
 
--- the segment in a packet with its number, if there is one
 abbrev pub indexed_segment : ℕ × SeenPacket → Option IndexedSegment
 indexed_segment (i, p) =
     if is_segment p.frame.class then Some (record { index = i; timed = record { at = p.at; fields = p.frame.fields } }) else None
@@ -38,13 +36,11 @@ same_peer a b = a.addr == b.addr && a.port == b.port
 abbrev pub peer_le : Peer → Peer → Bool
 peer_le a b = nat_lt a.addr b.addr || (a.addr == b.addr && nat_le a.port b.port)
 
--- the same VLAN, or none in both
 abbrev pub same_vlan : Option ℕ → Option ℕ → Bool
 same_vlan None None = true
 same_vlan (Some v) (Some w) = v == w
 same_vlan v w = false
 
--- two peers without order, and their VLAN
 abbrev pub pair_of : Option ℕ → Peer → Peer → Pair
 pair_of vlan a b = record { vlan = vlan; low = if peer_le a b then a else b; high = if peer_le a b then b else a }
 

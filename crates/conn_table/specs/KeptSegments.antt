@@ -10,29 +10,24 @@ use Rattle.conn_table.specs.declared.conns.Pair.{Pair}
 use Rattle.conn_table.specs.declared.entries.Opening.{Opening}
 use Rattle.conn_table.specs.IndexedSegments.{IndexedSegment, peer_le, pair_of_segment}
 
--- its pair, and the member that it is where the pair's lower peer is the client
+-- its pair, and the member that it is if the pair's lower peer is the client
 pub record KeptSegment : Type 0 where
   pub pair : Pair
   pub member : Member
 
--- whether the lower peer sent it
 abbrev pub is_from_low : KeptSegment → Bool
 is_from_low k = k.member.from_client
 
--- ---- in a capture
-
--- where the packet of record i begins in the file, and its bytes
+-- the place of record i's packet in the file
 abbrev pub packet_start : CaptureView → ℕ → ℕ
 packet_start c i = option_map_or (λ r. r.start) (slice_get c.records i) 0
 
 abbrev pub frame_at : CaptureView → ℕ → List ℕ
 frame_at c i = unwrap_or (packet_at c i) []
 
--- where the payload of record i's segment begins in the file
 abbrev pub payload_start : CaptureView → ℕ → ℕ
 payload_start c i = packet_start c i + payload_offset (frame_at c i)
 
--- what is kept of a segment whose payload begins there
 abbrev pub kept_at : ℕ → IndexedSegment → KeptSegment
 kept_at start s = record {
   pair = pair_of_segment s;
@@ -47,11 +42,9 @@ kept_at start s = record {
   };
 }
 
--- the segment with these fields, which is recorded at an instant in the record of that number
 abbrev pub segment_read : ℕ → ℕ → SegmentFields → IndexedSegment
 segment_read index at fields = record { index = index; timed = record { at = at; fields = fields } }
 
--- what is kept of a capture's segment
 abbrev pub kept_in : CaptureView → IndexedSegment → KeptSegment
 kept_in c s = kept_at (payload_start c s.index) s
 
@@ -62,7 +55,7 @@ abbrev pub opens : KeptSegment → Bool
 opens k =
     has_flag k.member.flags syn_flag && not (has_flag k.member.flags ack_flag) && not (has_flag k.member.flags rst_flag)
 
--- what a repeated opening has in common with the one before: its sender and its sequence number
+-- a repeated opening has the sender and the sequence number of the one before
 abbrev pub opening_of : KeptSegment → Opening
 opening_of k = record { from_low = is_from_low k; seq = k.member.seq }
 

@@ -8,11 +8,10 @@ use Rattle.conn_table.specs.declared.lasts.Lasts.{Lasts}
 use Rattle.conn_table.specs.IndexedSegments.{same_pair}
 use Rattle.conn_table.specs.PairWords.{addrs_word, ports_word}
 
--- the slot of a pair among n; no proof asks more of it than that a pair has one
+-- the slot of a pair among n; no proof needs more of it than that a pair has one
 unfoldable pub slot_of : ℕ → Pair → ℕ
 slot_of n p = bit_and (((addrs_word p + ports_word p) % 2 ^ 64 * 0x9e37_79b9_7f4a_7c15) % 2 ^ 64 / 2 ^ 32) (n - 1)
 
--- what a slot has of a pair
 abbrev pub current_in : Option Recent → Pair → Option Current
 current_in None p = None
 current_in (Some r) p = if same_pair r.pair p then Some r.current else None

@@ -7,7 +7,7 @@ abbrev pub vlan_number : Option ℕ → ℕ
 vlan_number None = 0
 vlan_number (Some v) = v + 1
 
--- no proof asks more of a word than that equal pairs have the same
+-- no proof needs more of a word than that equal pairs have the same
 unfoldable pub addrs_word : Pair → ℕ
 addrs_word p = p.low.addr * 2 ^ 32 + p.high.addr
 

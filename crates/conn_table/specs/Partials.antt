@@ -1,5 +1,4 @@
--- What a partial stands for: what is kept of the segments of a range of records, in the order of the file, and how many packets of
--- the range are of each class.
+-- What a partial stands for: what is kept of a range's segments, in the order of the file, and the number of its packets of each class.
 use Rattle.std.specs.Prelude.{◌≡◌, ◌≤◌, ℕ, ◌+◌, max, List, ◌++◌, map, length, slice_range}
 use Rattle.pcap_records.specs.Instants.{greatest}
 use Rattle.pcap_records.specs.CaptureView.{CaptureView, contents_of, stamps_between}
@@ -11,14 +10,13 @@ use Rattle.conn_table.specs.declared.class_counts.Counts.{Counts}
 
 -- ---- the partial of a range of records
 
--- the range, how many of its packets are of each class, and its segments
 pub record PartialView : Type 0 where
   pub from : ℕ
   pub to : ℕ
   pub counts : Counts
   pub segments : List KeptSegment
 
--- the packets of a range, of which `carry` is the greatest stamp before it
+-- the packets of a range; `carry` is the greatest stamp before it
 abbrev pub packets_between : CaptureView → ℕ → ℕ → ℕ → List SeenPacket
 packets_between c from to carry = seen_packets carry (slice_range (contents_of c).packets from to)
 
@@ -48,7 +46,6 @@ counts_sum a b = record {
   same_ends = a.same_ends + b.same_ends;
 }
 
--- the right's segments after the left's
 unfoldable pub joined_partial : PartialView → PartialView → PartialView
 joined_partial left right = record {
   from = left.from;
@@ -57,12 +54,11 @@ joined_partial left right = record {
   segments = left.segments ++ right.segments;
 }
 
--- the greatest stamp before `to`, where `carry` is the greatest before `from`
+-- the greatest stamp before `to`, if `carry` is the greatest before `from`
 abbrev pub carried : CaptureView → ℕ → ℕ → ℕ → ℕ
 carried c from to carry = max carry (greatest (stamps_between c from to))
 
--- the join of the partials of two adjacent ranges is the partial of both: of a capture's ranges every cut, and every
--- grouping of adjacent ones, gives the same
+-- the join of the partials of two adjacent ranges is the partial of both, so every cut into ranges gives the same
 abbrev pub JoinsAgree : Type 0
 JoinsAgree =
     (c : CaptureView) (from mid to carry : ℕ) → from ≤ mid → mid ≤ to → to ≤ length c.records

@@ -12,7 +12,7 @@ second_client = record { addr = 0x0a000003; port = 40001 }
 abbrev pub server : Peer
 server = record { addr = 0x0a000002; port = 80 }
 
--- a segment without a payload: the number of its record, which is its instant too, its sender and receiver, flags, and sequence number
+-- a segment without a payload, whose record's number is its instant, too
 abbrev pub row_segment : ℕ → Peer → Peer → ℕ → ℕ → IndexedSegment
 row_segment index from to flags seq = record {
   index = index;

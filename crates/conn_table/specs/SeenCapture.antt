@@ -10,7 +10,7 @@ pub record SeenPacket : Type 0 where
   pub at : ℕ
   pub frame : SeenFrame
 
--- the ticks of a second, the packets in the order of the file, and how many bytes follow them
+-- the ticks of a second, the packets in the order of the file, and the number of bytes after them
 pub record SeenCapture : Type 0 where
   pub ticks : ℕ
   pub packets : List SeenPacket
@@ -19,7 +19,7 @@ pub record SeenCapture : Type 0 where
 abbrev pub seen_packet : ℕ × Packet → SeenPacket
 seen_packet (at, p) = record { at = at; frame = seen_frame p.bytes }
 
--- packets of which `carry` is the greatest stamp before them
+-- `carry` is the greatest stamp before these packets
 unfoldable pub seen_packets : ℕ → List Packet → List SeenPacket
 seen_packets carry packets = map seen_packet (zip (instants carry (map (λ p. p.stamp) packets)) packets)
 

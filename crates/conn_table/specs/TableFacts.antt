@@ -12,7 +12,7 @@ use Rattle.conn_table.specs.Tables.{table_in}
 use Rattle.conn_table.specs.declared.conns.Member.{Member}
 use Rattle.conn_table.specs.declared.conns.Conn.{Conn}
 
--- a segment's payload lies in the file where it is kept to begin
+-- a segment's payload lies in the file at the place that is kept
 pub record IsPlaced (c : CaptureView) (s : IndexedSegment) : Type 0 where
   pub within : payload_start c s.index + length s.timed.fields.payload ≤ length c.bytes
   pub bytes : slice_range c.bytes (payload_start c s.index) (payload_start c s.index + length s.timed.fields.payload)
@@ -39,9 +39,7 @@ ConnsAreSound =
     (c : CaptureView) (from to carry : ℕ) → IsSoundCapture c.ticks c.bytes c.records → from ≤ to → to ≤ length c.records
     → AllByRecursion (IsSoundConn c.bytes) (table_in c from to carry).conns
 
--- ---- who sent a member: its connection's client or its server, and never both
-
--- the segment comes from one of two peers
+-- the segment comes from exactly one of two peers
 abbrev pub HasSide : Connection → TimedSegment → Type 0
 HasSide c m = same_peer m.fields.from c.opening.fields.to ≡ not (same_peer m.fields.from c.opening.fields.from)
 

@@ -13,7 +13,7 @@ use Rattle.conn_table.specs.declared.class_counts.Counts.{Counts}
 use Rattle.conn_table.specs.declared.conns.Member.{Member}
 use Rattle.conn_table.specs.declared.conns.Conn.{Conn}
 
--- the connections in order of number, how many segments belong to none, and how many packets are of each class
+-- the connections in order of number, the number of segments that belong to none, and the counts of packets by class
 pub record TableView : Type 0 where
   pub conns : List Conn
   pub unopened : ℕ
@@ -33,7 +33,6 @@ member_in c client s = record {
   from_client = same_peer s.timed.fields.from client;
 }
 
--- what it shows of a connection: its client sent the segment that begins it
 abbrev pub conn_in : CaptureView → IndexedConnection → Conn
 conn_in c x = record {
   number = x.number;
@@ -45,7 +44,7 @@ conn_in c x = record {
   members = map (member_in c x.opening.timed.fields.from) (x.opening ∷ x.later);
 }
 
--- the table of a range of records, of which `carry` is the greatest stamp before it
+-- the table of a range of records; `carry` is the greatest stamp before it
 unfoldable pub table_in : CaptureView → ℕ → ℕ → ℕ → TableView
 table_in c from to carry = record {
   conns = map (conn_in c) (indexed_connections (segments_between c from to carry));

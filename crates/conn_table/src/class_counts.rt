@@ -1,26 +1,17 @@
 //! How many packets of a capture are of each class.
 use frame_headers::Class;
 
-/// How many packets are of each class.
+/// The number of packets of each class, by the names of `frame_headers::Class`.
 #[derive(Clone, Copy, Debug, PartialEq, Eq)]
 pub struct Counts {
-    /// TCP segments.
     pub segment: u32,
-    /// Frames with no whole Ethernet header.
     pub short: u32,
-    /// Frames of another type than IPv4's.
     pub not_ipv4: u32,
-    /// Frames with an IPv4 header that is not valid.
     pub bad_ipv4: u32,
-    /// Fragments of datagrams.
     pub fragment: u32,
-    /// Datagrams of another protocol than TCP's.
     pub not_tcp: u32,
-    /// Datagrams of which the file holds only a part.
     pub cut: u32,
-    /// Datagrams with a TCP header that is not valid.
     pub bad_tcp: u32,
-    /// Segments from a peer to itself.
     pub same_ends: u32,
 }
 
@@ -31,7 +22,6 @@ impl Counts {
     ghost use Rattle.conn_table.specs.Partials.{counts_sum};
     ghost use Rattle.conn_table.specs.ClassCounts.{counts_of, counts_with, count_at};
 
-    // The counts of no packets.
     #[tactic(auto, unfolding(crate::specs::ClassCounts::counts_of))]
     pub(crate) fn none() -> Self
         ensures { result ≡ counts_of [] }
@@ -49,7 +39,6 @@ impl Counts {
         }
     }
 
-    // Counts one packet of a class more.
     pub(crate) fn add(&mut self, class: &Class<'_>)
         requires { count_at (frame_class_of class.now) self.old + 1 < 2 ^ 32 }
         ensures { self.new ≡ counts_with (frame_class_of class.now) self.old }
@@ -67,7 +56,6 @@ impl Counts {
         }
     }
 
-    // The counts of both together.
     pub(crate) fn plus(self, more: Counts) -> Self
         requires { (k : FrameClass) → count_at k self + count_at k more < 2 ^ 32 }
         ensures { result ≡ counts_sum self more }

@@ -11,7 +11,7 @@ use std::marker::Model;
 /// neither ACK nor RST (RFC 9293 section 3.5), that does not repeat the sender and sequence number of its pair's last opening.
 #[derive(Debug, Drop)]
 pub struct Conn {
-    /// How many connections begin earlier in the file.
+    /// The number of connections that begin earlier in the file.
     pub number: u32,
     /// The number of the record of its beginning.
     pub opening: u32,
@@ -21,7 +21,6 @@ pub struct Conn {
     pub vlan: Option<u16>,
     /// The sender of its beginning.
     pub client: Peer,
-    /// The other peer.
     pub server: Peer,
     /// Its segments, the beginning first.
     pub members: Members,
@@ -34,13 +33,11 @@ pub struct Member {
     pub at: Moment,
     /// The number of its record, from 0.
     pub index: u32,
-    /// The sequence number.
     pub seq: u32,
-    /// Where the payload begins in the file.
+    /// The place of the payload in the file.
     pub start: u32,
-    /// How many bytes the payload has.
+    /// The number of bytes of the payload.
     pub len: u16,
-    /// The flags byte.
     pub flags: Flags,
     /// Whether the connection's client sent it.
     pub from_client: bool,
@@ -64,7 +61,6 @@ impl Model for Members {
 impl Members {
     ghost use Rattle.std.specs.Prelude.{◌≡◌, [], ◌∷◌, ◌++◌, IfOk, OnOk};
 
-    // A list of one member, with room for so many.
     pub(crate) fn of_first(alloc: Global, room: usize, first: Member) -> Result<Members, AllocError>
         ensures { IfOk result (λ members. members ≡ first ∷ []) }
     {
@@ -73,7 +69,6 @@ impl Members {
         Ok(Members { list })
     }
 
-    // One member more.
     pub(crate) fn push(&mut self, member: Member) -> Result<(), AllocError>
         ensures { OnOk result (self.new ≡ self.old ++ member ∷ []) }
     {
@@ -97,26 +92,21 @@ impl Members {
     }
 }
 
-/// Two peers without order, the lower one first, by address and then by port, and their VLAN: peers in another VLAN are others.
+/// Two peers without order, the lower one first, by address and then by port, and their VLAN. Peers in another VLAN are others.
 #[derive(Clone, Copy, Debug, PartialEq, Eq)]
 pub struct Pair {
-    /// The number of their VLAN, if they have one.
     pub vlan: Option<u16>,
-    /// The lower peer.
     pub low: Peer,
-    /// The higher peer.
     pub high: Peer,
 }
 
 impl Pair {
-    // The peer that sent a segment, which is the lower one or is not.
     pub(crate) fn sender(self, from_low: bool) -> Peer
         ensures { result ≡ (if from_low then self.low else self.high) }
     {
         if from_low { self.low } else { self.high }
     }
 
-    // The peer that received it.
     pub(crate) fn receiver(self, from_low: bool) -> Peer
         ensures { result ≡ (if from_low then self.high else self.low) }
     {
@@ -124,14 +114,13 @@ impl Pair {
     }
 }
 
-// Whether a peer is lower than another or the same, by address and then by port.
+// By address, and then by port.
 pub(crate) fn is_lower_or_same(a: Peer, b: Peer) -> bool
     ensures { result ≡ peer_le a b }
 {
     a.addr < b.addr || (a.addr == b.addr && a.port <= b.port)
 }
 
-// The pair of two peers in a VLAN, or in none.
 pub(crate) fn pair_of(vlan: Option<u16>, a: Peer, b: Peer) -> Pair
     ensures { result ≡ pair_of vlan a b }
 {

@@ -6,7 +6,7 @@ use crate::conns::{Member, Pair, is_lower_or_same, pair_of};
 use frame_headers::{Flags, Peer, Segment};
 use pcap_records::Moment;
 
-/// What tells a repeated opening: who of its pair sent it, and its sequence number.
+/// What makes an opening a repeat: its sender in the pair, and its sequence number.
 #[derive(Clone, Copy, Debug)]
 pub(crate) struct Opening {
     pub(crate) from_low: bool,
@@ -14,7 +14,6 @@ pub(crate) struct Opening {
 }
 
 impl Opening {
-    // Whether both have the same sender and sequence number.
     pub(crate) fn is_same(self, other: Opening) -> bool
         ensures { result ≡ (beq self.from_low other.from_low && (self.seq == other.seq)) }
     {
@@ -25,17 +24,12 @@ impl Opening {
 /// A segment of a range. It takes 40 bytes: the fields of its pair stand side by side, without the padding of two peers.
 #[derive(Clone, Copy, Debug)]
 pub(crate) struct Entry {
-    /// The member that it is where its pair's lower peer is the client.
+    /// The segment as a member, if its pair's lower peer is the client.
     pub(crate) member: Member,
-    /// The number of its pair's VLAN, if it has one.
     pub(crate) vlan: Option<u16>,
-    /// The port of the lower peer.
     pub(crate) low_port: u16,
-    /// The port of the higher peer.
     pub(crate) high_port: u16,
-    /// The address of the lower peer.
     pub(crate) low_addr: u32,
-    /// The address of the higher peer.
     pub(crate) high_addr: u32,
 }
 
@@ -46,7 +40,7 @@ impl Entry {
     ghost use Rattle.conn_table.specs.KeptSegments.{kept_at, segment_read};
     ghost use Rattle.conn_table.specs.Entries.{kept_by, pair_in};
 
-    // The segment of a packet, which begins at `start` in the file.
+    // The segment of the packet that begins at `start` in the file.
     pub(crate) fn of_segment(index: u32, at: Moment, start: u32, segment: &Segment<'_>) -> Entry
         requires within { start + segment.now.offset < 2 ^ 32 }
         requires short { length segment.now.payload.now < 2 ^ 16 }
@@ -88,7 +82,7 @@ impl Entry {
         }
     }
 
-    // Whether it is an opening: SYN, and neither ACK nor RST (RFC 9293 section 3.5).
+    // SYN, and neither ACK nor RST (RFC 9293 section 3.5).
     pub(crate) fn opens(&self) -> bool
         ensures { result ≡ (has_flag self.now.member.flags syn_flag
             && not (has_flag self.now.member.flags ack_flag) && not (has_flag self.now.member.flags rst_flag)) }
@@ -97,7 +91,6 @@ impl Entry {
         flags.has(Flags::SYN) && !flags.has(Flags::ACK) && !flags.has(Flags::RST)
     }
 
-    // What tells it where it is an opening.
     pub(crate) fn opening(&self) -> Opening
         ensures { result ≡ record { from_low = self.now.member.from_client; seq = self.now.member.seq } }
     {
@@ -107,7 +100,7 @@ impl Entry {
         }
     }
 
-    // The member that it is where the client is the lower peer, or is not.
+    // The segment as a member of a connection whose client is the lower peer, or is not.
     pub(crate) fn member_of(&self, client_low: bool) -> Member
         ensures { result ≡ record self.now.member { from_client = beq self.now.member.from_client client_low } }
     {

@@ -8,13 +8,13 @@ use crate::lasts::{Current, Lasts};
 use crate::pair_keys::PairKeys;
 use std::alloc::{AllocError, Global};
 
-/// The connections of the first segments of a capture, for each pair its last one, and how many of the segments are unopened.
+/// The connections of the first segments of a capture, the last one of each pair, and the number of unopened segments.
 #[derive(Drop)]
 pub(crate) struct Growth {
     pub(crate) conns: Vec<Conn>,
     pub(crate) lasts: Lasts,
     pub(crate) unopened: u64,
-    /// How many members a new connection gets room for.
+    /// The number of members for which a new connection gets room.
     pub(crate) room: usize,
 }
 
@@ -26,8 +26,7 @@ impl Growth {
     ghost use Rattle.conn_table.specs.KeptSegments.{opens};
     ghost use Rattle.conn_table.specs.Growing.{conn_with, grown_at, grown_with, member_from, shown_by, HasGrown, IsReady};
 
-    // No connections yet, and room for those of some segments: as many as these have openings, each with as many members as there are
-    // segments for an opening.
+    // No connections yet, but room: for a connection of each opening, with as many members as there are segments for an opening.
     pub(crate) fn of_none(alloc: Global, ranges: &[Vec<Entry>]) -> Result<Growth, AllocError>
         ensures { IfOk result (HasGrown []) }
     {
@@ -40,7 +39,6 @@ impl Growth {
         })
     }
 
-    // Takes the segments of a range more, one after another.
     pub(crate) fn take_all(&mut self, alloc: Global, range: &[Entry]) -> Result<(), AllocError>
         requires { (done : List Entry) × HasGrown done self.old × (length done + length range.now < 2 ^ 31) }
         ensures { OnOk result ((done : List Entry) → HasGrown done self.old → HasGrown (done ++ range.now) self.new) }
@@ -51,7 +49,6 @@ impl Growth {
         Ok(())
     }
 
-    // Takes one segment more.
     pub(crate) fn take(&mut self, alloc: Global, entry: &Entry) -> Result<(), AllocError>
         requires { IsReady self.old }
         ensures shown { OnOk result (shown_by self.new ≡ grown_with (shown_by self.old) (kept_by entry.now)) }
@@ -67,8 +64,7 @@ impl Growth {
         Ok(())
     }
 
-    // Takes an opening: it begins a connection, unless it repeats the one that begins its pair's last connection. Most do not, so its pair
-    // is put into the table at once, and not looked up before.
+    // Most openings begin a connection, so the pair is put into the table without a look-up. A repeat puts the last connection back.
     fn take_opening(&mut self, alloc: Global, entry: &Entry) -> Result<(), AllocError>
         requires ready { IsReady self.old }
         requires opens { opens (kept_by entry.now) ≡ true }
@@ -89,7 +85,6 @@ impl Growth {
         Ok(())
     }
 
-    // Takes a segment of its pair's last connection.
     fn take_member(&mut self, entry: &Entry, last: Current) -> Result<(), AllocError>
         requires { last.number < length self.old.conns.items }
         ensures conns { OnOk result (self.new.conns.items
@@ -101,7 +96,6 @@ impl Growth {
         add_member(&mut self.conns, last.number as usize, member)
     }
 
-    // Begins the connection of a number.
     fn begin(&mut self, alloc: Global, entry: &Entry, number: u32) -> Result<(), AllocError>
         ensures conns { OnOk result (self.new.conns.items ≡ self.old.conns.items ++ conn_with number (kept_by entry.now) ∷ []) }
         ensures lasts { OnOk result (self.new.lasts ≡ self.old.lasts) }
@@ -122,7 +116,6 @@ impl Growth {
     }
 }
 
-// How many segments some ranges have.
 fn segments_in(ranges: &[Vec<Entry>]) -> usize {
     let mut count = 0usize;
     for range in ranges {
@@ -131,7 +124,6 @@ fn segments_in(ranges: &[Vec<Entry>]) -> usize {
     count
 }
 
-// One member more in the connection of a number.
 fn add_member(conns: &mut Vec<Conn>, number: usize, member: Member) -> Result<(), AllocError>
     requires { number < length conns.old.items }
     ensures { OnOk result (conns.new.items ≡ grown_at number member conns.old.items) }

@@ -1,7 +1,5 @@
-//! The last connection of each pair.
-//!
-//! The pairs stand in a map of `indexmap`. Only a segment that begins a connection puts its pair there; all others look theirs up. The
-//! segments of a connection come in bursts, so the pairs that were looked up last stand in a small table beside the map.
+//! The last connection of each pair, in a map of `indexmap`. Only a segment that begins a connection puts its pair there.
+//! Segments of a connection come in bursts, so the pairs that were looked up last stand in a small table beside the map.
 ghost use Rattle.std.specs.Prelude.{◌≡◌, ◌<◌};
 ghost use Rattle.conn_table.specs.LastConnections.{slot_of, current_in};
 
@@ -18,31 +16,30 @@ pub(crate) struct Current {
     pub(crate) opening: Opening,
 }
 
-/// A pair that was looked up, and its last connection.
 #[derive(Clone, Copy, Debug)]
 pub(crate) struct Recent {
     pub(crate) pair: Pair,
     pub(crate) current: Current,
 }
 
-/// At most so many pairs that were looked up have a slot.
+/// Maximum number of cache slots.
 const MOST_SLOTS: usize = 4096;
 
-/// For each pair its last connection.
+/// The last connection of each pair.
 #[derive(Drop)]
 pub(crate) struct Lasts {
     pub(crate) map: IndexMap<Pair, Current, PairKeys>,
     pub(crate) recent: Vec<Option<Recent>>,
 }
 
-// How many slots pairs get that have so many openings: a power of two, so that a mask gives a slot, and few where a capture is short.
+// A power of two, so that a mask gives a slot, and few slots for a short capture.
 fn slots_for(openings: usize) -> usize
     ensures { 0 < result }
 {
     (4 * openings.min(MOST_SLOTS / 4)).next_power_of_two()
 }
 
-// The slot of a pair, of so many slots. No answer depends on it, and where pairs share one, more of them are looked up in the map.
+// No answer depends on the slot. If pairs share one, more of them are looked up in the map.
 #[tactic(auto, unfolding(crate::specs::LastConnections::slot_of))]
 fn slot_of(slots: usize, pair: Pair) -> usize
     requires { 0 < slots }
@@ -55,7 +52,6 @@ fn slot_of(slots: usize, pair: Pair) -> usize
     (mixed >> 32) as usize & (slots - 1)
 }
 
-// The last connection of the pair in a slot, where it is this pair.
 fn current_in(slot: Option<Recent>, pair: Pair) -> Option<Current>
     ensures { result ≡ current_in slot pair }
 {
@@ -77,7 +73,6 @@ impl Lasts {
     ghost use Rattle.conn_table.specs.IndexedSegments.{same_pair};
     ghost use Rattle.conn_table.specs.LastConnections.{IsLasts};
 
-    // No pair has a connection, and there is room for those of so many openings.
     pub(crate) fn with_room(
         alloc: Global,
         keys: PairKeys,
@@ -92,7 +87,6 @@ impl Lasts {
         })
     }
 
-    // The last connection of a pair.
     pub(crate) fn last_of(&mut self, pair: Pair) -> Option<Current>
         requires { IsLasts self.old }
         ensures lasts { IsLasts self.new }
@@ -111,7 +105,7 @@ impl Lasts {
         last
     }
 
-    // The last connection of a pair is this one from now on. Gives the one before it.
+    // Makes `current` the last connection of a pair, and returns the one before it.
     pub(crate) fn put(
         &mut self,
         pair: Pair,

@@ -1,5 +1,4 @@
-//! Theorems about the definitions of this crate. Each function does nothing, or names the theorem that it stands on: its
-//! contract is the theorem.
+//! Theorems about the definitions of this crate. Each function does nothing, or names a theorem that it needs: its contract is the theorem.
 ghost use Rattle.conn_table.specs.IndexedConnections.{IndexedConnectionsAgree};
 ghost use Rattle.conn_table.specs.Partials.{JoinsAgree};
 ghost use Rattle.conn_table.specs.Tables.{TablesAgree};
@@ -7,21 +6,18 @@ ghost use Rattle.conn_table.specs.TableFacts.{PayloadsArePlaced, ConnsAreSound, 
 
 use frame_headers::laws::payloads_are_in_place;
 
-/// The connections whose segments have the numbers of their records are, without these, the connections.
+/// Indexed connections without the numbers of their segments' records are the connections.
 pub fn indexed_connections_agree()
     ensures { IndexedConnectionsAgree }
 {}
 
-/// The join of the partials of two adjacent ranges of a capture's records is the partial of both together. So every cut of the
-/// records, joined in whatever grouping of adjacent ranges, gives the partial of one range, and so one table: empty ranges,
-/// openings that are sent again across a border and openings that are cut off from their segments included. The right one carries
-/// the greatest stamp before it.
+/// The join of the partials of two adjacent ranges is the partial of both, so every cut of the records gives the same table.
+/// Ranges may be empty, and a border may separate an opening from its repeat or from its segments.
 pub fn joins_agree()
     ensures { JoinsAgree }
 {}
 
-/// The table of a range's partial has the connections that filtering the range's segments gives, as many unopened segments and
-/// the same counts.
+/// The table of a range's partial has the connections that filtering its segments gives, as many unopened segments and the same counts.
 pub fn tables_agree()
     ensures { TablesAgree }
 {}
@@ -33,8 +29,7 @@ pub fn payloads_are_placed()
     payloads_are_in_place();
 }
 
-/// In every table of a capture the members of each connection stand in the order of the file, its beginning first, and their
-/// payloads lie in the file.
+/// In every table the members of a connection stand in the order of the file, its beginning first, and their payloads lie in the file.
 pub fn conns_are_sound()
     ensures { ConnsAreSound }
 {

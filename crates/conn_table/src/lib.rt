@@ -1,7 +1,5 @@
 //! Connections of a capture: its segments grouped by pairs of peers, range by range.
-//!
-//! `specs/Connections.antt` says what the connections of a list of segments are, by filtering the whole list; `laws` has the
-//! theorems that tie partials and tables to it.
+//! `specs/Connections.antt` says what the connections of a list of segments are, and `laws` ties partials and tables to it.
 #![tactic(auto)]
 
 mod class_counts;

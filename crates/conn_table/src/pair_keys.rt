@@ -1,5 +1,5 @@
-//! How pairs are hashed: by SipHash, which takes a key first that is bound to the openings of a capture. Whoever makes a capture can work out its
-//! key, and try many captures; but other pairs have another key, and SipHash is made so that no pairs are bad for more keys than others.
+//! How pairs are hashed: by SipHash, which takes a key first that is bound to the openings of a capture. Whoever makes a capture can
+//! work out its key, but other pairs have another key, and no pairs are bad for more keys of SipHash than others are.
 ghost use Rattle.std.specs.Prelude.{◌≡◌};
 ghost use Rattle.conn_table.specs.PairWords.{addrs_word, ports_word};
 
@@ -23,7 +23,6 @@ impl Hash for Pair {
     }
 }
 
-// The addresses of a pair's peers side by side.
 #[tactic(auto, unfolding(crate::specs::PairWords::addrs_word))]
 pub(crate) fn addrs_word(pair: Pair) -> u64
     ensures { result ≡ addrs_word pair }
@@ -31,7 +30,7 @@ pub(crate) fn addrs_word(pair: Pair) -> u64
     (u64::from(pair.low.addr) << 32) + u64::from(pair.high.addr)
 }
 
-// The ports of a pair's peers side by side, and beside them one more than the number of its VLAN, or 0 where it has none.
+// The ports side by side, and above them one more than the number of the VLAN, or 0 if there is none.
 #[tactic(auto, unfolding(crate::specs::PairWords::ports_word))]
 pub(crate) fn ports_word(pair: Pair) -> u64
     ensures { result ≡ ports_word pair }
@@ -50,8 +49,8 @@ pub(crate) struct PairKeys {
 }
 
 impl PairKeys {
-    // The hasher whose key is a digest of the openings' pairs in order (SHA-512, FIPS 180-4), and how many openings there are. Only
-    // openings are put into a table: who chooses other pairs for them, or another order, has another key.
+    // The key is a digest of the openings' pairs in order (SHA-512, FIPS 180-4), since only openings are put into a table.
+    // Other pairs for them, or another order, give another key. The number of openings is returned, too.
     pub(crate) fn of_openings(ranges: &[Vec<Entry>]) -> (PairKeys, usize) {
         let mut digest = Sha512::new();
         let mut openings = 0usize;

@@ -6,14 +6,13 @@ use pcap_records::{Capture, Moment};
 use std::alloc::{AllocError, Global};
 use std::marker::Model;
 
-/// What is known of a range of records: how many of its packets are of each class, and its segments. The partials of adjacent
-/// ranges are joined by [`Partial::join`].
+/// What is known of a range of records: its segments, and the number of its packets of each class. [`Partial::join`] joins adjacent ones.
 #[derive(Drop)]
 pub struct Partial {
     pub(crate) from: usize,
     pub(crate) to: usize,
     pub(crate) counts: Counts,
-    /// The segments of each range that it was joined of, range after range.
+    /// The segments of each range of which it was joined, range after range.
     pub(crate) ranges: Vec<Vec<Entry>>,
 }
 
@@ -34,11 +33,7 @@ impl Partial {
     ghost use Rattle.std.specs.Prelude.{◌≡◌, ◌≤◌, length, IfOk};
     ghost use Rattle.conn_table.specs.Partials.{partial_in, joined_partial};
 
-    /// The partial of the records from `from` to below `to`, each packet of which is classified once. `carry` is the greatest
-    /// stamp before `from`, or the least instant where there is none.
-    ///
-    /// # Errors
-    /// A growth was refused.
+    /// The partial of the records from `from` to below `to`. `carry` is the greatest stamp before `from`, or the least instant if there is none.
     pub fn of_range(
         alloc: Global,
         capture: &Capture<'_>,
@@ -73,11 +68,7 @@ impl Partial {
         })
     }
 
-    /// The partial of two adjacent ranges: the right one begins where the left one ends, and is of the same capture. It takes
-    /// time by the number of ranges that the right one was joined of: no segment is copied.
-    ///
-    /// # Errors
-    /// A growth was refused.
+    /// The partial of two adjacent ranges of a capture. No segment is copied: the time grows only with the number of ranges of the right one.
     pub fn join(left: Partial, right: Partial) -> Result<Partial, AllocError>
         requires { left.to ≡ right.from }
         ensures exact { IfOk result (λ partial. partial ≡ joined_partial left right) }

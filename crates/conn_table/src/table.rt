@@ -31,21 +31,21 @@ impl Model for Table {
 impl Table {
     ghost use Rattle.std.specs.Prelude.{◌≡◌};
 
-    /// The connections, in the order of their numbers: that of number n is at place n.
+    /// The connections: that of number n is at place n.
     pub fn conns(&self) -> &[Conn]
         ensures { result.now ≡ self.now.conns }
     {
         &self.conns
     }
 
-    /// How many segments stand before each beginning of their pair, and so belong to no connection.
+    /// The number of segments that stand before each beginning of their pair, and so belong to no connection.
     pub fn unopened(&self) -> u64
         ensures { result ≡ self.now.unopened }
     {
         self.unopened
     }
 
-    /// How many packets are of each class.
+    /// The number of packets of each class.
     pub fn counts(&self) -> Counts
         ensures { result ≡ self.now.counts }
     {
@@ -53,11 +53,8 @@ impl Table {
     }
 }
 
-/// The table of a partial, which covers all records of the capture: an opening that is not sent again begins a connection, and any
-/// other segment belongs to the last one of its pair, or to none.
-///
-/// # Errors
-/// A growth was refused.
+/// The table of a partial, which covers all records of the capture. An opening that is not sent again begins a connection.
+/// Any other segment belongs to the last connection of its pair, or to none.
 pub fn finish(alloc: Global, partial: Partial) -> Result<Table, AllocError>
     ensures { IfOk result (λ table. table ≡ finished partial) }
 {
@@ -76,7 +73,7 @@ pub fn finish(alloc: Global, partial: Partial) -> Result<Table, AllocError>
     })
 }
 
-// What grows of the segments of some ranges, range after range. A range is let go once its segments are taken.
+// The growth of some ranges' segments, range after range. A range is dropped once its segments are taken.
 fn grown_of(alloc: Global, ranges: Vec<Vec<Entry>>) -> Result<Growth, AllocError>
     requires { length (all_of ranges.items) < 2 ^ 26 }
     ensures { IfOk result (HasGrown (all_of ranges.items)) }

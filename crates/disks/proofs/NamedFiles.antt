@@ -7,14 +7,11 @@ use Rattle.std.proofs.lemmas.Slice.Eq.{bytes_eq-Decides}
 use Rattle.disks.specs.ToldFiles.{Held, ToldFile, whole_file}
 use Rattle.disks.specs.Histories.{NamedFile, held_with, held_after, History, with_names, held_at, held_now, Names, HoldsOneOf, LeavesWhole}
 
--- where a path held the same before, it holds the same after
 agrees : (one other : Held) (files : List NamedFile) (path : List ℕ) → one path ≡ other path → held_after one files path ≡ held_after other files path
 agrees one other [] path same = same
 agrees one other (f ∷ files) path same =
     agrees (held_with one f.path (whole_file f.bytes)) (held_with other f.path (whole_file f.bytes)) files path
     (ap (λ (held : Option ToldFile). if bytes_eq path f.path then Some (whole_file f.bytes) else held) same)
-
--- ---- named again
 
 module _ (held : Held) (f : NamedFile) (files : List NamedFile) (n : ℕ) (path : List ℕ) where
   abbrev once : Held
@@ -35,8 +32,6 @@ again held (f ∷ files) zero path = refl
 again held (f ∷ files) (suc n) path =
     first_again held f files n path (bytes_eq path f.path) refl (again (held_with held f.path (whole_file f.bytes)) files n path)
 
--- ---- cut off at any moment
-
 module _ (held : Held) (f : NamedFile) (files : List NamedFile) (path : List ℕ) where
   abbrev more : Held
   more = held_with held f.path (whole_file f.bytes)
@@ -47,7 +42,6 @@ module _ (held : Held) (f : NamedFile) (files : List NamedFile) (path : List ℕ
   held_or_one true is (inl same) = inr (inl (sym ((bytes_eq-Decides path f.path).0 is), same ∙ rw is refl))
   held_or_one false is (inl same) = inl (same ∙ rw is refl)
 
--- a path holds what it held, or one of the files whole
 held_or_named : (held : Held) (files : List NamedFile) (path : List ℕ) → (held_after held files path ≡ held path) ⊎ HoldsOneOf files path (held_after held files path)
 held_or_named held [] path = inl refl
 held_or_named held (f ∷ files) path = held_or_one held f files path (bytes_eq path f.path) refl (held_or_named (held_with held f.path (whole_file f.bytes)) files path)
@@ -59,7 +53,6 @@ one_of_more (f ∷ files) zero path held one = absurd one
 one_of_more (f ∷ files) (suc n) path held (inl is) = inl is
 one_of_more (f ∷ files) (suc n) path held (inr one) = inr (one_of_more files n path held one)
 
--- at a moment after n of the files
 module _ (h : History) (files : List NamedFile) (n m : ℕ) (path : List ℕ) (after : length h.names ≤ m) where
   abbrev some : List NamedFile
   some = take (m - length h.names) (take n files)

@@ -2,7 +2,6 @@
 use Rattle.std.specs.Prelude.{◌≡◌, ◌≤◌, ◌⊎◌, ⊤, ℕ, List, [], ◌∷◌, ◌++◌, length, take, fold, bytes_eq, if◌then◌else◌, Option, Some, None}
 use Rattle.disks.specs.ToldFiles.{Held, ToldFile, whole_file}
 
--- a whole file that got a name
 pub record NamedFile : Type 0 where
   pub path : List ℕ
   pub bytes : List ℕ
@@ -10,15 +9,12 @@ pub record NamedFile : Type 0 where
 abbrev pub named_file : List ℕ → List ℕ → NamedFile
 named_file path bytes = record { path = path; bytes = bytes }
 
--- what paths hold once a file is at a path
 abbrev pub held_with : Held → List ℕ → ToldFile → Held
 held_with held at file = λ path. if bytes_eq path at then Some file else held path
 
--- and once some files got their names, one after another
 abbrev pub held_after : Held → List NamedFile → Held
 held_after held files = fold (λ had file. held_with had file.path (whole_file file.bytes)) held files
 
--- The history of a disk.
 pub record History : Type 0 where
   pub first : Held
   pub names : List NamedFile
@@ -26,35 +22,31 @@ pub record History : Type 0 where
 abbrev pub with_names : History → List NamedFile → History
 with_names h files = record { first = h.first; names = h.names ++ files }
 
--- what its paths held when so many files had got names, and what they hold now
+-- what its paths held when n files had got names, and what they hold now
 abbrev pub held_at : History → ℕ → Held
 held_at h n = held_after h.first (take n h.names)
 
 abbrev pub held_now : History → Held
 held_now h = held_after h.first h.names
 
--- A disk gave names to some files, and to no other, by its history before and after. Nothing is claimed of a disk that tells none.
+-- Between two histories of a disk exactly these files got names. Nothing is claimed of a disk that tells none.
 abbrev pub Names : Option History → Option History → List NamedFile → Type 0
 Names None new files = ⊤
 Names (Some h) new files = new ≡ Some (with_names h files)
 
--- ---- at any moment
-
--- one of some files is at a path, whole
 abbrev pub HoldsOneOf : List NamedFile → List ℕ → Option ToldFile → Type 0
 HoldsOneOf [] path held = ⊥
 HoldsOneOf (file ∷ files) path held = ((file.path ≡ path) × (held ≡ Some (whole_file file.bytes))) ⊎ HoldsOneOf files path held
 
--- Whenever the disk's work was cut off, each path held what it had held before, or one of these files whole.
+-- whenever the disk's work was cut off, each path held what it had held before, or one of these files whole
 abbrev pub LeavesWhole : Option History → Option History → List NamedFile → Type 0
 LeavesWhole (Some h) (Some k) files = (n : ℕ) → length h.names ≤ n → n ≤ length k.names → (path : List ℕ)
     → (held_at k n path ≡ held_now h path) ⊎ HoldsOneOf files path (held_at k n path)
 LeavesWhole old new files = ⊤
 
--- the files that have names are whole, or as they were, whatever first part of some files got names
 abbrev pub NamesLeaveWhole : Type 0
 NamesLeaveWhole = (old new : Option History) (files : List NamedFile) (n : ℕ) → Names old new (take n files) → LeavesWhole old new files
 
--- Whoever names some first files and then, begun anew, all of them, has what he has who names them once.
+-- naming some first files, and then all of them anew, is the same as naming all of them once
 abbrev pub NamedAgain : Type 0
 NamedAgain = (held : Held) (files : List NamedFile) (n : ℕ) (path : List ℕ) → held_after (held_after held (take n files)) files path ≡ held_after held files path

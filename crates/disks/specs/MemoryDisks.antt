@@ -4,29 +4,24 @@ use Rattle.std.specs.Borrow.{Bor}
 use Rattle.disks.specs.ToldFiles.{Held, ToldFile}
 use Rattle.disks.specs.Histories.{History, NamedFile, held_with}
 
--- a file at a path
 pub record PlacedFile : Type 0 where
   pub path : List ℕ
   pub file : ToldFile
 
--- the files that stood at paths from the beginning, those that got names since, and how many calls have failed
 pub record MemoryDiskView : Type 0 where
   pub first : List PlacedFile
   pub names : List NamedFile
   pub failed : ℕ
 
--- paths that hold no file, and those of some files
 abbrev pub nothing_held : Held
 nothing_held = λ path. None
 
 abbrev pub first_held : List PlacedFile → Held
 first_held files = fold (λ had f. held_with had f.path f.file) nothing_held files
 
--- its history
 abbrev pub history_of : MemoryDiskView → History
 history_of disk = record { first = first_held disk.first; names = disk.names }
 
--- what a file is that was found: bytes, and how many are lost
 abbrev pub told_file : Option (Bor (List ℕ) × ℕ) → Option ToldFile
 told_file None = None
 told_file (Some found) = Some (record { bytes = found.0.now; lost = found.1 })

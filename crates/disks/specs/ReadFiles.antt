@@ -3,12 +3,11 @@ use Rattle.std.specs.Prelude.{Bool, false, List, [], ◌∷◌, ◌++◌, Option
 use Rattle.disks.specs.declared.disk.DiskFault.{DiskFault}
 use Rattle.disks.specs.declared.disk.FileId.{FileId}
 
--- what sets each apart, and whether each of them is known
 pub record ReadFilesView : Type 0 where
   pub ids : List FileId
   pub are_known : Bool
 
--- with one more, of which that is known or not, or to which no path leads
+-- if a file is not known, not all are; one to which no path leads adds nothing
 abbrev pub with_file : ReadFilesView → Result (Option FileId) DiskFault → ReadFilesView
 with_file read (Ok (Some id)) = record read { ids = read.ids ++ id ∷ [] }
 with_file read (Ok None) = read

@@ -9,10 +9,8 @@ use thiserror::Error;
 /// Why a disk did not do what it was asked.
 #[derive(Clone, Copy, Debug, PartialEq, Eq, Error)]
 pub enum DiskFault {
-    /// The disk failed, for whatever cause.
     #[error("the disk failed")]
     Failed,
-    /// Memory was refused.
     #[error("out of memory")]
     Memory,
 }
@@ -37,19 +35,15 @@ impl From<AllocError> for DiskFault {
     }
 }
 
-/// What sets a file of a disk apart from all its others, whatever its paths: on Linux its device, and its inode number there.
+/// Identifies a file of a disk, whatever its paths: on Linux by its device, and its inode number there.
 #[derive(Clone, Copy, Debug, PartialEq, Eq)]
 pub struct FileId {
-    /// The device.
     pub device: u64,
-    /// The inode number.
     pub inode: u64,
 }
 
-/// A file that is open to be read.
-///
-/// Contracts see two things of it. `told` is what is told of its bytes, or `None` where nothing is; `place` is how many of them
-/// [`read`](DiskFile::read) has gone past.
+/// A file that is open to be read. `told` is what is told of its bytes, or `None` if nothing is told.
+/// `place` is the number of bytes that [`read`](DiskFile::read) has gone past.
 pub trait DiskFile {
     ghost use Rattle.std.specs.Prelude.{◌≡◌, ℕ, ◌+◌, ◌≤◌, Option, length, IfErr, IfOk, IfSome, OnErr};
     ghost use Rattle.disks.specs.ToldFiles.{Reads, ToldFile, file_len};
@@ -59,30 +53,21 @@ pub trait DiskFile {
 
     ghost place: { Self → ℕ };
 
-    /// What sets the file apart from all others, whatever path it was opened at; nothing where no path leads to it.
-    ///
-    /// # Errors
-    /// [`DiskFault::Failed`] where that cannot be known.
+    /// Identifies the file, or returns `None` if no path leads to it, or [`DiskFault::Failed`] if that cannot be known.
     fn id(&self) -> Result<Option<FileId>, DiskFault>;
 
-    /// How many bytes it has; nothing where that is not known, as of a pipe.
+    /// The number of bytes, or `None` if it is not known, such as that of a pipe.
     fn len(&self) -> Option<u64>
         ensures { IfSome (told self.now) (λ file. IfSome result (λ len. len ≡ file_len file)) };
 
-    /// Reads once from a place on, at most as many bytes as `room` has; 0 of them only at the end.
-    ///
-    /// # Errors
-    /// [`DiskFault::Failed`] where the read fails.
+    /// Reads once from a place on, at most as many bytes as `room` has. It reads 0 bytes only at the end.
     fn read_at(&self, room: &mut [u8], at: usize) -> Result<usize, DiskFault>
         ensures within { IfOk result (λ n. n ≤ length room.new) }
         ensures len { length room.new ≡ length room.old }
         ensures told { IfSome (told self.now) (λ file. Reads result file at room.new) }
         ensures failed { IfErr result (λ fault. fault ≡ Failed) };
 
-    /// Reads once from where the last read ended.
-    ///
-    /// # Errors
-    /// [`DiskFault::Failed`] where the read fails. The place is then as it was.
+    /// Reads once from where the last read ended. If it fails, the place stays as it was.
     fn read(&mut self, room: &mut [u8]) -> Result<usize, DiskFault>
         ensures within { IfOk result (λ n. n ≤ length room.new) }
         ensures len { length room.new ≡ length room.old }
@@ -93,19 +78,17 @@ pub trait DiskFile {
         ensures as_before { OnErr result (place self.new ≡ place self.old) };
 }
 
-/// Where files are written: each as a draft, beside the others and by any thread where the disk is `Sync`, which gets its name when it is whole.
-///
-/// Contracts see four things. `history` is what the paths held at first and the files that got names since, or `None` where the disk
-/// does not tell that; `faults` is the number of its failed calls; a draft `holds` some bytes, and one that has failed holds whatever is
-/// asked; and `path_of` is the path that it was begun at. A draft is no part of the history, so it has no path that a file may get as its
-/// name. Whoever begins drafts side by side gives each a path of its own.
+/// Where files are written: each as a draft, beside the others and by any thread if the disk is `Sync`, and named when it is whole.
+/// `history` is what the paths held at first and the files that got names since, or `None` if the disk does not tell that.
+/// `faults` is the number of failed calls. A draft `holds` some bytes, and one that has failed holds whatever is asked.
+/// A draft begins at its `path_of`, which no file may get as its name. Drafts that are begun side by side need paths of their own.
 pub trait Disk {
     ghost use Rattle.std.specs.Prelude.{◌≡◌, ℕ, ◌+◌, ◌-◌, ◌^◌, ◌<◌, [], ◌∷◌, ◌++◌, List, Option, OnErr, OnOk, is_ok, if◌then◌else◌, IfSome, IsSome, true};
     ghost use Rattle.std.specs.String.{string_bytes};
     ghost use Rattle.disks.specs.DraftPaths.{IsDraftPath};
     ghost use Rattle.disks.specs.Histories.{History, Names, held_now, named_file};
 
-    /// A file that is written and has no name yet. One that is dropped leaves nothing.
+    /// A file that is written and has no name yet. If it is dropped, it leaves nothing.
     type Draft: Drop;
 
     ghost history: { Self → Option History };
@@ -116,25 +99,18 @@ pub trait Disk {
 
     ghost path_of: { Self.Draft → List ℕ };
 
-    /// Holds a folder for the drafts of this run alone, until the disk is dropped.
-    ///
-    /// # Errors
-    /// The folder cannot be opened, another run holds it, or not all files that this run has read are known. The disk's files are as they
-    /// were.
+    /// Holds a folder for the drafts of this run until the disk is dropped.
+    /// It fails if the folder cannot be opened, if another run holds it, or if not all files that this run has read are known.
     fn hold(&mut self, folder: &str, read: &ReadFiles) -> Result<(), DiskFault>
         requires { faults self.old < 2 ^ 64 - 1 }
         ensures known { OnOk result (read.now.are_known ≡ true) }
         ensures as_before { history self.new ≡ history self.old }
         ensures counted { faults self.new ≡ (if is_ok result then faults self.old else faults self.old + 1) };
 
-    /// Removes the drafts that runs that are over have left in a folder that is held, except files that this run has read. A draft that
-    /// cannot be removed stays.
-    ///
-    /// # Errors
-    /// A growth was refused. Some of the drafts may stay then.
+    /// Removes drafts that earlier runs left in a held folder, except files that this run has read. It may leave some of them.
     fn sweep(&self, alloc: Global, folder: &str, read: &ReadFiles) -> Result<(), AllocError>;
 
-    /// Begins a draft without bytes at a path. It may have failed; it has where something stands at the path.
+    /// Begins an empty draft at a path. It may have failed, and it has if something stands at the path.
     fn draft(&self, path: String) -> Self::Draft
         requires { IsDraftPath (string_bytes path) }
         ensures empty { holds result [] }
@@ -146,20 +122,13 @@ pub trait Disk {
         ensures appended { (had : List ℕ) → holds draft.old had → holds draft.new (had ++ bytes.now) }
         ensures path { path_of draft.new ≡ path_of draft.old };
 
-    /// Looks whether a file may get this name: not where something else than a file stands (a folder, a pipe), or a file that may not
-    /// be written, or one that this run has read.
-    ///
-    /// # Errors
-    /// It may not, or the disk failed. Its files are as they were.
+    /// Refuses a name at which something except a file stands, or a file that may not be written, or one that this run has read.
     fn allow_name(&mut self, path: &str, read: &ReadFiles) -> Result<(), DiskFault>
         requires { faults self.old < 2 ^ 64 - 1 }
         ensures as_before { history self.new ≡ history self.old }
         ensures counted { faults self.new ≡ (if is_ok result then faults self.old else faults self.old + 1) };
 
-    /// Gives a draft its name, in place of the file that had it.
-    ///
-    /// # Errors
-    /// The disk or the draft failed. The disk's files are as they were.
+    /// Gives a draft its name, in place of the file that had it. If it fails, the disk's files are as they were.
     fn name(&mut self, draft: Self::Draft, path: &str) -> Result<(), DiskFault>
         requires count { faults self.old < 2 ^ 64 - 1 }
         requires apart { IsDraftPath path.now → ⊥ }
@@ -167,10 +136,7 @@ pub trait Disk {
         ensures as_before { OnErr result (history self.new ≡ history self.old) }
         ensures counted { faults self.new ≡ (if is_ok result then faults self.old else faults self.old + 1) };
 
-    /// What sets the file apart that standard input is read from; nothing where it is no file of the disk.
-    ///
-    /// # Errors
-    /// [`DiskFault::Failed`] where that cannot be known.
+    /// Identifies the file of standard input: `None` if it is none of the disk, [`DiskFault::Failed`] if that cannot be known.
     fn input_id(&self) -> Result<Option<FileId>, DiskFault>;
 }
 
@@ -180,13 +146,10 @@ pub trait ReadDisk: Disk {
     ghost use Rattle.disks.specs.ToldFiles.{Opens};
     ghost use Rattle.disks.specs.Histories.{held_now};
 
-    /// A file that is open.
+    /// An open file.
     type File: DiskFile + Drop;
 
     /// Opens the file at a path, to be read from its first byte on.
-    ///
-    /// # Errors
-    /// [`DiskFault::Failed`] where no file can be opened there; [`DiskFault::Memory`].
     fn open(&self, alloc: Global, path: &str) -> Result<Self::File, DiskFault>
         ensures told { IfSome (Self.history self.now) (λ h. Opens Self.File.told (held_now h path.now) result) }
         ensures place { IfOk result (λ file. Self.File.place file ≡ 0) };

@@ -9,12 +9,10 @@ use std::io::{Error, ErrorKind, Read, Write};
 use std::os::unix::fs::{FileExt, MetadataExt};
 use std::rt::Files;
 
-/// A file that one process can hold, as long as it has the file open.
+/// A file that one process can hold while it has the file open.
 pub trait Lockable {
-    /// Tries to hold it, and waits for nobody.
-    ///
-    /// # Errors
-    /// [`TryLockError::WouldBlock`] where another process holds it; any other where its file system has no locks.
+    /// Tries to hold the file and waits for nobody. [`TryLockError::WouldBlock`] means that another process holds it.
+    /// Any other error means that its file system has no locks.
     fn try_hold(&self) -> Result<(), TryLockError>;
 }
 
@@ -28,7 +26,6 @@ impl Lockable for File {
 #[derive(Drop)]
 pub struct HostDisk<'a, F: Files> {
     files: &'a F,
-    // The folder that is held.
     held: Option<F::File>,
     failed: u64,
 }
@@ -36,7 +33,7 @@ pub struct HostDisk<'a, F: Files> {
 impl<'a, F: Files> HostDisk<'a, F> {
     ghost use Rattle.std.specs.Prelude.{◌≡◌};
 
-    /// The file system of a runtime, of which no call has failed yet.
+    /// A disk of a runtime's files, of which no call has failed yet.
     pub fn new(files: &'a F) -> Self
         ensures { result.failed ≡ 0 }
     {
@@ -47,8 +44,7 @@ impl<'a, F: Files> HostDisk<'a, F> {
         }
     }
 
-    // Refuses a name that stands for anything but a file, for a file that may not be written, or for one that was read. Nothing but a
-    // file is opened: a pipe would wait.
+    // Refuses a name of anything except a file, of a file that may not be written, or of one that was read. A pipe is not opened: it would wait.
     fn look_at_name(&self, path: &str, read: &ReadFiles) -> Result<(), DiskFault> {
         match fs::metadata(self.files, path) {
             Ok(metadata) if metadata.is_file() && !read.contains(id_of(&metadata)) => {
@@ -60,7 +56,7 @@ impl<'a, F: Files> HostDisk<'a, F> {
         }
     }
 
-    // Removes an entry of a folder where it is a draft that was left. Only a file is: a run leaves no link, pipe or folder.
+    // Removes an entry of a folder if it is a draft that was left. Only a file is: a run leaves no link, pipe or folder.
     fn remove_left(&self, entry: &DirEntry<(&'a F, Global), Global>, read: &ReadFiles) {
         if is_draft_name(entry.file_name().as_bytes())
             && let Ok(metadata) = entry.metadata()
@@ -78,8 +74,7 @@ where
 {
     ghost use Rattle.std.specs.Prelude.{◌≡◌, true, OnOk};
 
-    // A folder that is held, where its file system has locks. Without locks drafts of other runs may be there, so none is removed. Nothing but
-    // a folder is opened: a pipe would wait.
+    // Without locks drafts of other runs may be there, so `None` lets `sweep` remove none. Only a folder is opened: a pipe would wait.
     fn held_folder(&self, folder: &str, read: &ReadFiles) -> Result<Option<F::File>, DiskFault>
         ensures { OnOk result (read.now.are_known ≡ true) }
     {
@@ -95,10 +90,9 @@ where
     }
 }
 
-// What the name of each draft begins with; a number follows.
+// The name of each draft begins with it; a number without leading zeros follows.
 const DRAFT_NAME: &[u8] = b"toxicap.unfinished-";
 
-// Whether a name is that of a draft: its number has no zeros in front.
 fn is_draft_name(name: &[u8]) -> bool {
     match name.strip_prefix(DRAFT_NAME) {
         None | Some([] | [b'0', _, ..]) => false,
@@ -106,7 +100,6 @@ fn is_draft_name(name: &[u8]) -> bool {
     }
 }
 
-// What sets the file with these metadata apart from all others.
 fn id_of(metadata: &Metadata) -> FileId {
     FileId {
         device: metadata.dev(),
@@ -114,20 +107,19 @@ fn id_of(metadata: &Metadata) -> FileId {
     }
 }
 
-/// A draft of the host: a file, which is removed where the draft is dropped without a name.
+/// A draft of the host: a file, which is removed if the draft is dropped without a name.
 pub struct HostDraft<'a, F: Files> {
     files: &'a F,
     path: String,
-    // None once the draft has failed.
+    // `None` once the draft has failed.
     file: Option<F::File>,
-    // There is a file at the path.
     is_there: bool,
 }
 
 impl<'a, F: Files> HostDraft<'a, F> {
     ghost use Rattle.std.specs.Prelude.{◌≡◌};
 
-    // A draft without bytes at a path where nothing stands; a link there is not followed.
+    // An empty draft at a path where nothing stands; a link there is not followed.
     fn begun(files: &'a F, path: String) -> HostDraft<'a, F>
         ensures { result.path ≡ path }
     {
@@ -151,7 +143,6 @@ impl<'a, F: Files> HostDraft<'a, F> {
         }
     }
 
-    // Gives the draft a name.
     fn named(mut self, path: &str) -> Result<(), DiskFault> {
         if self.file.is_none() {
             return Err(DiskFault::Failed);
@@ -176,7 +167,6 @@ impl<F: Files> Drop for HostDraft<'_, F> {
     }
 }
 
-// The path of the file that standard input is read from, where it is one.
 const STANDARD_INPUT: &str = "/dev/stdin";
 
 impl<'a, F: Files> Disk for HostDisk<'a, F>
@@ -260,7 +250,6 @@ where
     }
 }
 
-// Passes over an error, except that memory was refused.
 fn unless_memory(error: Error) -> Result<(), AllocError> {
     match error.kind() {
         ErrorKind::OutOfMemory => Err(AllocError),

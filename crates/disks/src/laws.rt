@@ -2,7 +2,7 @@
 ghost use Rattle.disks.specs.DraftPaths.{DraftsAreNamed};
 ghost use Rattle.disks.specs.Histories.{NamedAgain, NamesLeaveWhole};
 
-/// However early the work of a disk is cut off, each path holds what it held before, or one whole file of those that were to get names.
+/// Whenever work is cut off, each path holds what it held before, or one whole file of those that were to get names.
 pub fn names_leave_whole()
     ensures { NamesLeaveWhole }
 {}
@@ -12,7 +12,7 @@ pub fn named_again()
     ensures { NamedAgain }
 {}
 
-/// The path of a file in a folder is that of a draft exactly where its name is one of a draft.
+/// The path of a file in a folder is that of a draft exactly if its name is one of a draft.
 pub fn drafts_are_named()
     ensures { DraftsAreNamed }
 {}

@@ -1,5 +1,4 @@
-//! Disks: where files are read by their paths, and written, whole, under names that they get last. The host's disk tells nothing of what it
-//! holds, since others may change it; a disk in memory tells everything.
+//! Disks: where files are read by their paths, and written, whole, under names that they get last. Only a disk in memory tells what it holds.
 #![tactic(auto)]
 
 mod disk;

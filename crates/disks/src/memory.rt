@@ -1,4 +1,4 @@
-//! A disk in memory, which tells what its paths hold, and fails where it is told to.
+//! A disk in memory, which tells what its paths hold, and fails when it is told to.
 ghost use Rattle.std.specs.Prelude.{◌≡◌, ◌+◌, ◌-◌, ◌^◌, ◌<◌, is_ok, if◌then◌else◌};
 
 use crate::disk::{Disk, DiskFault, FileId, ReadDisk};
@@ -7,7 +7,7 @@ use crate::read_files::ReadFiles;
 use std::alloc::{AllocError, Global};
 use std::marker::Model;
 
-/// A file that stood at a path from the beginning, of which some last bytes may be lost.
+/// A file that stood at a path from the beginning. Some bytes after `bytes` may be lost.
 #[derive(Drop)]
 struct FirstFile {
     path: String,
@@ -24,7 +24,6 @@ impl Model for FirstFile {
     ghost view = { λ f. record { path = string_bytes f.path; file = record { bytes = f.bytes.items; lost = f.lost } } };
 }
 
-/// A whole file that got a name.
 #[derive(Drop)]
 struct WholeFile {
     path: String,
@@ -40,10 +39,8 @@ impl Model for WholeFile {
     ghost view = { λ f. named_file (string_bytes f.path) f.bytes.items };
 }
 
-/// A disk in memory. Contracts see its history and how many of its calls have failed.
-///
-/// It fails where memory is refused, and where it is told to: at one of its calls, of which [`hold`](Disk::hold), [`name`](Disk::name) and
-/// [`allow_name`](Disk::allow_name) count; where bytes of a file are lost; and where a draft would have more bytes than there is room for.
+/// A disk in memory. Contracts see its history and the number of failed calls.
+/// It fails if it is out of memory, and as `fail_after`, `limit_drafts` and the lost bytes of `put_first` tell it.
 #[derive(Drop)]
 pub struct MemoryDisk {
     alloc: Global,
@@ -77,7 +74,7 @@ impl MemoryDisk {
     ghost use Rattle.disks.specs.Histories.{held_now, named_file};
     ghost use Rattle.disks.specs.MemoryDisks.{history_of, told_file};
 
-    /// A disk without files, of which no call has failed. It takes no memory.
+    /// A disk without files, of which no call has failed. It allocates nothing.
     pub fn new(alloc: Global) -> MemoryDisk
         ensures { result ≡ record { first = []; names = []; failed = 0 } }
     {
@@ -92,10 +89,7 @@ impl MemoryDisk {
         }
     }
 
-    /// Puts a file at a path, from the beginning on: these bytes, and after them so many that are lost.
-    ///
-    /// # Errors
-    /// A growth was refused; the disk is as it was.
+    /// Puts a file at a path from the beginning on: `bytes`, and `lost` bytes after them. If it is out of memory, the disk is as it was.
     pub fn put_first(&mut self, path: &str, bytes: &[u8], lost: u32) -> Result<(), AllocError>
         ensures put { OnOk result (self.new ≡ record {
           first = self.old.first ++ record { path = path.now; file = record { bytes = bytes.now; lost = lost } } ∷ [];
@@ -110,35 +104,35 @@ impl MemoryDisk {
         Ok(())
     }
 
-    /// Of its calls of [`hold`](Disk::hold), [`name`](Disk::name) and [`allow_name`](Disk::allow_name) one fails, after this number of others.
+    /// Makes one call of [`hold`](Disk::hold), [`name`](Disk::name) or [`allow_name`](Disk::allow_name) fail: the one after `calls` others.
     pub fn fail_after(&mut self, calls: u64)
         ensures { self.new ≡ self.old }
     {
         self.good_calls = Some(calls);
     }
 
-    /// A draft that is begun from now on fails where it is to have more bytes than this.
+    /// Makes a draft that is begun from now on fail if it would have more than `room` bytes.
     pub fn limit_drafts(&mut self, room: usize)
         ensures { self.new ≡ self.old }
     {
         self.draft_room = room;
     }
 
-    /// No read of a file that is opened from now on gives more bytes than this; one that could give some gives one at least.
+    /// Limits each read of a file that is opened from now on to `len` bytes, or to 1 if that is 0.
     pub fn limit_reads(&mut self, len: usize)
         ensures { self.new ≡ self.old }
     {
         self.read_len = len;
     }
 
-    /// How many calls have failed.
+    /// The number of failed calls.
     pub fn failed(&self) -> u64
         ensures { result ≡ self.now.failed }
     {
         self.failed
     }
 
-    /// The bytes of the file at a path, but for those that are lost; nothing where there is none.
+    /// The bytes of the file at a path without those that are lost, or `None` if there is no file.
     pub fn bytes(&self, path: &str) -> Option<&[u8]>
         ensures { option_map (λ bytes. bytes.now) result ≡ option_map (λ file. file.bytes) (held_now (history_of self.now) path.now) }
     {
@@ -148,7 +142,6 @@ impl MemoryDisk {
         }
     }
 
-    // The file at a path, its bytes and how many of them are lost.
     fn find(&self, path: &str) -> Option<(&[u8], u32)>
         ensures { told_file result ≡ held_now (history_of self.now) path.now }
     {
@@ -168,7 +161,6 @@ impl MemoryDisk {
         found
     }
 
-    // Whether this call is the one that fails.
     fn fails_now(&mut self) -> bool
         ensures { self.new ≡ self.old }
     {
@@ -185,7 +177,6 @@ impl MemoryDisk {
         }
     }
 
-    // Keeps a draft under a name.
     fn keep(&mut self, draft: MemoryDraft, path: &str) -> Result<(), DiskFault>
         ensures named { OnOk result (self.new ≡ record {
           first = self.old.first;
@@ -209,7 +200,6 @@ impl MemoryDisk {
     }
 }
 
-// Counts a call that has failed.
 fn count_failure(outcome: &Result<(), DiskFault>, failed: &mut u64)
     requires { failed.old < 2 ^ 64 - 1 }
     ensures { failed.new ≡ (if is_ok outcome.now then failed.old else failed.old + 1) }
@@ -286,7 +276,7 @@ impl Disk for MemoryDisk {
 impl MemoryDisk {
     ghost use Rattle.std.specs.Prelude.{◌≡◌};
 
-    // A file is set apart by its place among those that stand at paths, or did.
+    // A file's id is its place among the files that stand at paths, or did.
     fn id_of(&self, path: &str) -> Option<FileId> {
         let named = self
             .names
@@ -308,7 +298,6 @@ impl MemoryDisk {
         })
     }
 
-    // Refuses a name that stands for a file that the run has read.
     fn look_at_name(&mut self, path: &str, read: &ReadFiles) -> Result<(), DiskFault>
         ensures { self.new ≡ self.old }
     {

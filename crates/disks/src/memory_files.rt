@@ -6,11 +6,10 @@ use crate::disk::{DiskFault, DiskFile, FileId};
 pub struct MemoryDiskFile {
     pub(crate) id: Option<FileId>,
     pub(crate) bytes: Vec<u8>,
-    // How many bytes after these are lost.
+    // The number of lost bytes after these.
     pub(crate) lost: u32,
-    // How many bytes were read.
     pub(crate) place: usize,
-    // How many bytes a read gives at most, or one where this is 0.
+    // The most bytes that a read gives; 0 counts as 1.
     pub(crate) read_len: usize,
 }
 

@@ -3,7 +3,7 @@ use crate::disk::{DiskFault, FileId};
 use std::alloc::{AllocError, Global};
 use std::marker::Model;
 
-/// The files that a run has read, each by what sets it apart from all others. Whether each of them is known is kept too.
+/// The files that a run has read, each by its [`FileId`], and whether all of them are known.
 #[derive(Drop)]
 pub struct ReadFiles {
     ids: Vec<FileId>,
@@ -22,7 +22,7 @@ impl ReadFiles {
     ghost use Rattle.std.specs.Prelude.{◌≡◌, ◌↔◌, [], true, Contains, IsTrue, OnErr, OnOk};
     ghost use Rattle.disks.specs.ReadFiles.{with_file};
 
-    /// None yet. It takes no memory.
+    /// No files yet. It allocates nothing.
     pub fn new(alloc: Global) -> ReadFiles
         ensures { result ≡ record { ids = []; are_known = true } }
     {
@@ -32,10 +32,7 @@ impl ReadFiles {
         }
     }
 
-    /// Adds a file; nothing where no path leads to it. Once one is not known, not all are.
-    ///
-    /// # Errors
-    /// A growth was refused.
+    /// Adds a file, or nothing if no path leads to it. After one that is not known, not all are known.
     pub fn add(&mut self, id: Result<Option<FileId>, DiskFault>) -> Result<(), AllocError>
         ensures added { OnOk result (self.new ≡ with_file self.old id) }
         ensures as_before { OnErr result (self.new ≡ self.old) }

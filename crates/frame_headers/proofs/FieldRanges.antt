@@ -1,4 +1,4 @@
--- The fields of a segment fit their places in written headers, where a frame is made of bytes.
+-- The fields of a segment fit their places in written headers, if its frame is made of bytes.
 use Rattle.std.proofs.Common.{◌≡◌, ◌≢◌, ◌<◌, ◌≤◌, ℕ, zero, suc, ◌-◌, ◌%◌, ◌^◌, ◌==◌, Bool, true, false, ◌&&◌, if◌then◌else◌, Some, None, refl, List, [], ◌∷◌, length, take, drop, slice_index, sym, ◌∙◌, true≢false, arith, rules, length-take, length-drop}
 use Rattle.std.specs.List.{AllByRecursion}
 use Rattle.std.proofs.lemmas.List.Elements.{All-from_recursion, recursion_from_All, All-take, All-drop}

@@ -5,7 +5,6 @@ use Rattle.frame_headers.specs.Sum.{sum16, words_sum, folded_sum, pseudo_header,
 use Rattle.frame_headers.specs.Headers.{ipv4, ipv4_with, tcp, tcp_with}
 use Rattle.frame_headers.specs.declared.written.Header.{Header}
 
--- a sum above 0
 folded_sum-pos : (n : ℕ) → 0 < n → folded_sum n ≡ (n - 1) % 65535 + 1
 folded_sum-pos n h = let e : eqb n 0 ≡ false = ne_eqb n 0 (omega arith) in rw e refl
 
@@ -25,7 +24,6 @@ ipv4_words sum h n b = omega arith
 ipv4_above : (h : Header) (n : ℕ) → 0 < words_sum (ipv4_with 0 h n)
 ipv4_above h n = omega arith
 
--- the checksum of an IPv4 header that holds its checksum
 pub sum16-ipv4 : (h : Header) (n : ℕ) → sum16 (ipv4 h n) ≡ 0
 unfolding ipv4
 sum16-ipv4 h n =
@@ -38,7 +36,6 @@ tcp_words sum h from to n payload b = omega arith
 tcp_above : (h : Header) (from to n : ℕ) (payload : List ℕ) → 0 < words_sum (pseudo_header from to n ++ (tcp_with 0 h ++ payload))
 tcp_above h from to n payload = omega arith
 
--- the checksum of a TCP header that holds its checksum, and its payload
 pub tcp_sum-tcp : (h : Header) (payload : List ℕ) → tcp_sum h.from.addr h.to.addr (tcp h payload ++ payload) ≡ 0
 unfolding tcp tcp_sum
 tcp_sum-tcp h payload =

@@ -8,11 +8,9 @@ use Rattle.frame_headers.specs.Headers.{ethernet, headers, ipv4, tcp, tcp_with}
 use Rattle.frame_headers.specs.declared.written.Header.{Header}
 use Rattle.frame_headers.specs.Layout.{link_len, ipv4_len, headers_len}
 
--- the part of a list that is written to
 abbrev pub left_from : ℕ → List ℕ → List ℕ
 left_from a xs = take (length xs - a) (drop a xs)
 
--- what stands after the first elements
 pub left_from-append : (front rest : List ℕ) (a : ℕ) → length front ≡ a → left_from a (front ++ rest) ≡ rest
 left_from-append front rest a e =
     rw (drop_at front rest a e) (take_all (length (front ++ rest) - a) rest (omega (arith, length-append front rest)))
@@ -23,19 +21,16 @@ put_mid-append front rest new a e =
     let nothing : drop (length (front ++ rest) - a) rest ≡ [] = drop_all (length (front ++ rest) - a) rest (omega (arith, length-append front rest)) in
     rw (take_at front rest a e, drop_at front rest a e, nothing, append-nil new) refl
 
--- two addresses at the head of a frame, the first of them written before
 pub addresses_put : (to from xs : List ℕ) → length to ≡ 6 → length from ≡ 6 → put_mid 6 6 (to ++ drop 6 xs) from ≡ (to ++ from) ++ drop 12 xs
 addresses_put to from xs t f =
     rw (take_at to (drop 6 xs) 6 t, drop_at to (drop 6 xs) 6 t, drop-drop 6 6 xs) (sym (append_assoc to from (drop 12 xs)))
 
--- the Ethernet header, its addresses written before
 pub ethernet_put : (to from xs ys rest link : List ℕ) (l : ℕ) → length to ≡ 6 → length from ≡ 6 → ys ≡ put_mid 6 6 (to ++ drop 6 xs) from → rest ≡ link ++ drop l (left_from 12 ys) → put_mid 12 (length ys - 12) ys rest ≡ ((to ++ from) ++ link) ++ drop (12 + l) xs
 ethernet_put to from xs ys rest link l t f e g =
     let len : length (to ++ from) ≡ 12 = omega (arith, length-append to from) in
     rw (g, e, addresses_put to from xs t f, left_from-append (to ++ from) (drop 12 xs) 12 len, put_mid-append (to ++ from) (drop 12 xs) (link ++ drop l (drop 12 xs)) 12 len, drop-drop l 12 xs)
     (sym (append_assoc (to ++ from) link (drop (12 + l) xs)))
 
--- the TCP header, written with 0 in the place of its checksum before
 pub tcp_put : (h : Header) (xs head two : List ℕ) (sum : ℕ) → head ≡ tcp_with 0 h ++ drop 20 xs → sum ≡ tcp_sum h.from.addr h.to.addr head → two ≡ big_bytes 2 sum ++ drop 2 (left_from 16 head) → put_mid 16 (length head - 16) head two ≡ tcp h (drop 20 xs) ++ drop 20 xs
 unfolding tcp
 tcp_put h xs head two sum e s g =
@@ -47,7 +42,6 @@ length-ipv4 : (h : Header) (n : ℕ) → length (ipv4 h n) ≡ 20
 unfolding ipv4
 length-ipv4 h n = refl
 
--- the three headers, one after another, the first of them so long
 pub headers_put : (h : Header) (n l : ℕ) (xs link ip frame segment : List ℕ) → l ≡ link_len (is_some h.vlan) → headers_len h.vlan ≤ length xs → length link ≡ length xs → n ≡ length xs - (l + ipv4_len) → link ≡ ethernet h ++ drop (link_len (is_some h.vlan)) xs → ip ≡ ipv4 h n ++ drop 20 (left_from l link) → frame ≡ put_mid l (length link - l) link ip → segment ≡ tcp h (drop 20 (left_from (l + ipv4_len) frame)) ++ drop 20 (left_from (l + ipv4_len) frame) → put_mid (l + ipv4_len) (length frame - (l + ipv4_len)) frame segment ≡ headers h (drop (headers_len h.vlan) xs) ++ drop (headers_len h.vlan) xs
 unfolding headers
 headers_put h n l xs link ip frame segment is room same count e i f s =

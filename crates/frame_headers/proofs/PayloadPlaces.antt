@@ -32,7 +32,6 @@ HasWholeHeaders-segment frame is =
       offset = ltb-false (length tcp) (data_offset tcp) tcp4.1;
     }
 
--- a part of a part
 part : (d n : ℕ) (xs : List ℕ) → d ≤ n → drop d (take n xs) ≡ take (n - d) (drop d xs)
 part d n xs within =
     let whole : n ≡ d + (n - d) = omega arith in

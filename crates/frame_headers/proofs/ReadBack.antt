@@ -35,12 +35,10 @@ record Reads (vlan : Option ℕ) (to from : List ℕ) (h : Header) (bytes frame 
   segment_len : length (tcp h bytes ++ bytes) ≡ 20 + length bytes
   payload : drop 20 (tcp h bytes ++ bytes) ≡ bytes
 
--- a frame between two Ethernet addresses
 abbrev frame_between : Option ℕ → List ℕ → List ℕ → Header → List ℕ → List ℕ
 frame_between vlan to from h bytes =
     ((((to ++ from) ++ link_bytes vlan) ++ ipv4 h (20 + length bytes)) ++ tcp h bytes) ++ bytes
 
--- a list of 6 bytes is its bytes
 six : (P : List ℕ → Type 0) → ((a b c d e f : ℕ) → P (a ∷ b ∷ c ∷ d ∷ e ∷ f ∷ [])) → (xs : List ℕ) → length xs ≡ 6 → P xs
 six P p (a ∷ b ∷ c ∷ d ∷ e ∷ f ∷ []) l = p a b c d e f
 six P p [] l = absurd (omega arith)
@@ -51,7 +49,6 @@ six P p (a ∷ b ∷ c ∷ d ∷ []) l = absurd (omega arith)
 six P p (a ∷ b ∷ c ∷ d ∷ e ∷ []) l = absurd (omega arith)
 six P p (a ∷ b ∷ c ∷ d ∷ e ∷ f ∷ g ∷ xs) l = absurd (omega arith)
 
--- a VLAN's number, as the test for none tells it
 numbered : (v : ℕ) → 0 < v → v < vlan_limit → (n : ℕ) → n ≡ v → vlan_numbered (n % vlan_limit) ≡ Some v
 numbered v some limited n is =
     let same : n % vlan_limit ≡ v = omega arith in
@@ -123,7 +120,6 @@ reads h bytes r small =
     six (λ from. Reads h.vlan (a ∷ b ∷ c ∷ d ∷ e ∷ f ∷ []) from h bytes (frame_between h.vlan (a ∷ b ∷ c ∷ d ∷ e ∷ f ∷ []) from h bytes)) (λ i j k l m n.
     reads_bytes h.vlan h bytes r small a b c d e f i j k l m n) h.mac_from r.mac_from) h.mac_to r.mac_to
 
--- the TCP segment reaches to the frame's end
 carried_is : (vlan : Option ℕ) (to from : List ℕ) (h : Header) (bytes frame : List ℕ) → Reads vlan to from h bytes frame → ip_payload (datagram_in (is_some vlan) frame) ≡ tcp h bytes ++ bytes
 carried_is vlan to from h bytes frame r =
     let all : take (40 + length bytes - 20) (tcp h bytes ++ bytes) ≡ tcp h bytes ++ bytes = take_all (40 + length bytes - 20) (tcp h bytes ++ bytes) (omega (arith, r.segment_len)) in
@@ -136,17 +132,14 @@ fields_read h bytes frame r vlan =
     let all : take (length (tcp h bytes ++ bytes) - 20) bytes ≡ bytes = take_all (length (tcp h bytes ++ bytes) - 20) bytes (omega (arith, r.segment_len)) in
     rw (r.tagged, tcp_bytes, r.mac_to, r.mac_from, r.number vlan, r.source, r.destination, r.from_port, r.to_port, r.seq, r.ack, r.flags, r.offset, r.payload, all) refl
 
--- both sums of written headers
 pub sums_filled : (h : Header) (bytes : List ℕ) → IsHeader h → length bytes ≤ payload_limit → SumsToNothing h (headers h bytes ++ bytes)
 sums_filled h bytes r small =
     let at = reads h bytes r small in
     record { ipv4 = rw (at.tagged, at.ip) (sum16-ipv4 h (20 + length bytes)); tcp = rw (at.tagged, at.segment) (tcp_sum-tcp h bytes) }
 
--- equal ends, as the test of the class compares them
 same_peer : (x y : Peer) → x.addr ≡ y.addr → x.port ≡ y.port → x ≡ y
 same_peer x y a p = ap (λ n. let z : Peer = record { addr = n; port = x.port } in z) a ∙ ap (λ n. let z : Peer = record { addr = y.addr; port = n } in z) p
 
--- ends that differ, as the test of the class compares them
 differ : (x y : Peer) → x ≢ y → (eqb x.addr y.addr && eqb x.port y.port) ≡ false
 differ x y n = by_tests (eqb x.addr y.addr) (eqb x.port y.port) refl refl
   where
@@ -155,7 +148,6 @@ differ x y n = by_tests (eqb x.addr y.addr) (eqb x.port y.port) refl refl
     by_tests true false a p = refl
     by_tests false p a q = refl
 
--- the class where no test holds
 no_test : (tagged : Bool) (frame : List ℕ) → is_short tagged frame ≡ false → is_not_ipv4 tagged frame ≡ false → is_bad_ipv4 (datagram_in tagged frame) ≡ false → is_fragment (datagram_in tagged frame) ≡ false → is_not_tcp (datagram_in tagged frame) ≡ false → is_cut (datagram_in tagged frame) ≡ false → is_bad_tcp (ip_payload (datagram_in tagged frame)) ≡ false → is_same_ends (datagram_in tagged frame) ≡ false → frame_class_in tagged frame ≡ segment
 no_test tagged frame a b c d e f g h = rw (a, b, c, d, e, f, g, h) refl
 
@@ -175,13 +167,11 @@ frame_class_read h bytes frame r n =
     (rw (tcp_bytes, r.offset, le-ltb (length (tcp h bytes ++ bytes)) 20 (omega (arith, r.segment_len))) refl)
     (rw (tcp_bytes, r.source, r.destination, r.from_port, r.to_port) (differ h.from h.to n))
 
--- written headers are read back
 pub read_back : (h : Header) (bytes : List ℕ) → IsHeader h → length bytes ≤ payload_limit → IsVlan h.vlan → IsReadBack h bytes (headers h bytes ++ bytes)
 read_back h bytes r small vlan =
     let at = reads h bytes r small in
     record { fields = fields_read h bytes (headers h bytes ++ bytes) at vlan; class = frame_class_read h bytes (headers h bytes ++ bytes) at }
 
--- how many bytes of headers there are
 pub length-headers : (h : Header) (bytes : List ℕ) → IsHeader h → length bytes ≤ payload_limit → length (headers h bytes) ≡ headers_len h.vlan
 length-headers h bytes r small =
     let at = reads h bytes r small in

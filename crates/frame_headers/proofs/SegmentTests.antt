@@ -1,4 +1,4 @@
--- Of a segment none of the tests holds by which a frame has another class.
+-- None of the tests by which a frame has another class holds of a segment.
 use Rattle.std.proofs.Common.{◌≡◌, ℕ, Bool, true, false, List, refl, if◌then◌else◌}
 use Rattle.frame_headers.specs.Frame.{short, not_ipv4, bad_ipv4, fragment, not_tcp, cut, bad_tcp, same_ends, segment, is_tagged, is_short, is_not_ipv4, is_bad_ipv4, is_fragment, is_not_tcp, is_cut, is_bad_tcp, is_same_ends, frame_class, datagram, ip_payload}
 

@@ -5,7 +5,6 @@ use Rattle.frame_headers.specs.declared.classes.Class.{Class}
 use Rattle.frame_headers.specs.declared.classes.Class.TheVariants as classes
 use Rattle.frame_headers.specs.declared.classes.Segment.{Segment}
 
--- the class that an answer tells
 abbrev pub frame_class_of : Class → FrameClass
 frame_class_of classes.Short = short
 frame_class_of classes.NotIpv4 = not_ipv4
@@ -17,7 +16,6 @@ frame_class_of classes.BadTcp = bad_tcp
 frame_class_of classes.SameEnds = same_ends
 frame_class_of (classes.Segment s) = segment
 
--- the fields of a segment, its payload as the bytes themselves
 abbrev pub fields_of_segment : Segment → SegmentFields
 fields_of_segment s = record {
   mac_from = s.mac_from;
@@ -31,18 +29,16 @@ fields_of_segment s = record {
   payload = s.payload.now;
 }
 
--- a segment's payload lies in the frame at the segment's offset, and 16 bits tell how long it is
+-- a segment's payload lies in the frame at the segment's offset, and its length has 16 bits
 pub record IsPayloadIn (frame : List ℕ) (s : Segment) : Type 0 where
   pub offset : s.offset ≡ payload_offset frame
   pub within : s.offset + length s.payload.now ≤ length frame
   pub short : length s.payload.now < 2 ^ 16
 
--- a segment, where the answer is one, has its payload there
 abbrev pub HasPayloadIn : List ℕ → Class → Type 0
 HasPayloadIn frame (classes.Segment s) = IsPayloadIn frame s
 HasPayloadIn frame c = Unit {0}
 
--- a segment, where the answer is one, has these fields
 abbrev pub HasFields : Class → SegmentFields → Type 0
 HasFields (classes.Segment s) fields = fields_of_segment s ≡ fields
 HasFields c fields = Unit {0}

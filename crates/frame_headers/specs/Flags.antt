@@ -1,23 +1,18 @@
 -- The flags byte of a TCP header (RFC 9293 section 3.1), as the number of that byte.
 use Rattle.std.specs.Prelude.{ℕ, Bool, bit_and, ◌==◌}
 
--- the sender has no more bytes
 abbrev pub fin_flag : ℕ
 fin_flag = 1
 
--- a sequence number that opens a connection
 abbrev pub syn_flag : ℕ
 syn_flag = 2
 
--- the connection is reset
 abbrev pub rst_flag : ℕ
 rst_flag = 4
 
--- the receiver is to be given the bytes so far
 abbrev pub psh_flag : ℕ
 psh_flag = 8
 
--- the acknowledgment number counts
 abbrev pub ack_flag : ℕ
 ack_flag = 16
 

@@ -1,5 +1,4 @@
--- What a captured Ethernet frame is, and the fields of the TCP segment in it. A frame is the list of its bytes, and
--- each field is the number at the place where its standard puts it.
+-- What a captured Ethernet frame is, and the fields of the TCP segment in it. A frame is the list of its bytes.
 use Rattle.std.specs.Prelude.{ℕ, ◌+◌, ◌-◌, ◌*◌, ◌/◌, ◌%◌, List, length, drop, slice_index, slice_range, Bool, true, false, ◌||◌, ◌&&◌, not, nat_lt, nat_le, ◌==◌, Option, Some, None, if◌then◌else◌}
 use Rattle.byteorder.specs.Endian.{big_number}
 use Rattle.frame_headers.specs.declared.peers.Peer.{Peer}
@@ -9,38 +8,31 @@ use Rattle.frame_headers.specs.Layout.{mac_len, ethernet_len, link_len, type_len
 abbrev pub number_at : ℕ → ℕ → List ℕ → ℕ
 number_at n place bytes = big_number n (drop place bytes)
 
--- Ethernet II: the receiver's address and the sender's, 6 bytes each, a tag if there is one (IEEE 802.1Q), and the type
--- of what follows. `tagged` says whether there is a tag.
+-- Ethernet II: two addresses of 6 bytes, a tag if there is one (IEEE 802.1Q), and the type. `tagged` says whether there is a tag.
 
--- the type of what follows
 abbrev pub link_type : Bool → List ℕ → ℕ
 link_type tagged frame = number_at 2 (link_len tagged - type_len) frame
 
--- whether a frame has a tag: in place of a type it has that of a tag
 abbrev pub is_tagged : List ℕ → Bool
 is_tagged frame = nat_le ethernet_len (length frame) && link_type false frame == tag_type
 
--- the VLAN of that number; 0 stands in a tag that tells a priority alone
+-- a tag with 0 has only a priority
 abbrev pub vlan_numbered : ℕ → Option ℕ
 vlan_numbered n = if n == 0 then None else Some n
 
--- the VLAN of a frame, if it has one
 abbrev pub vlan_in : Bool → List ℕ → Option ℕ
 vlan_in false frame = None
 vlan_in true frame = vlan_numbered (number_at 2 ethernet_len frame % vlan_limit)
 
--- what follows: an IPv4 datagram, where the type says so, and whatever stands after it
 abbrev pub datagram_in : Bool → List ℕ → List ℕ
 datagram_in tagged frame = drop (link_len tagged) frame
 
 abbrev pub datagram : List ℕ → List ℕ
 datagram frame = datagram_in (is_tagged frame) frame
 
--- no whole Ethernet header
 abbrev pub is_short : Bool → List ℕ → Bool
 is_short tagged frame = nat_lt (length frame) (link_len tagged)
 
--- another type than IPv4's; a second tag has one
 abbrev pub is_not_ipv4 : Bool → List ℕ → Bool
 is_not_ipv4 tagged frame = not (link_type tagged frame == ipv4_type)
 
@@ -49,16 +41,13 @@ is_not_ipv4 tagged frame = not (link_type tagged frame == ipv4_type)
 abbrev pub version : List ℕ → ℕ
 version ip = slice_index ip 0 / 16
 
--- the bytes of the header, which tells the number of its 32-bit words
 abbrev pub header_len : List ℕ → ℕ
 header_len ip = 4 * (slice_index ip 0 % 16)
 
--- the bytes of the whole datagram
 abbrev pub total_len : List ℕ → ℕ
 total_len ip = number_at 2 total_len_at ip
 
--- the flag that more fragments follow, and the fragment's offset: all but the two highest bits of their 16, which are
--- reserved and "don't fragment"
+-- all but the two highest bits, which are reserved and "don't fragment"
 abbrev pub fragment_bits : List ℕ → ℕ
 fragment_bits ip = number_at 2 fragment_at ip % 16384
 
@@ -71,40 +60,32 @@ source ip = number_at 4 source_at ip
 abbrev pub destination : List ℕ → ℕ
 destination ip = number_at 4 destination_at ip
 
--- what the datagram carries: from the end of its header to its total length. What stands after is padding.
+-- what stands after the total length is padding
 abbrev pub ip_payload : List ℕ → List ℕ
 ip_payload ip = slice_range ip (header_len ip) (total_len ip)
 
--- no whole IPv4 header, or one that contradicts itself
 abbrev pub is_bad_ipv4 : List ℕ → Bool
 is_bad_ipv4 ip =
     nat_lt (length ip) ipv4_len || not (version ip == 4) || nat_lt (header_len ip) ipv4_len
     || nat_lt (total_len ip) (header_len ip)
 
--- more fragments follow, or the offset is not 0
 abbrev pub is_fragment : List ℕ → Bool
 is_fragment ip = not (fragment_bits ip == 0)
 
--- another protocol than TCP's
 abbrev pub is_not_tcp : List ℕ → Bool
 is_not_tcp ip = not (protocol ip == tcp_protocol)
 
--- the capture holds only a part of the datagram
 abbrev pub is_cut : List ℕ → Bool
 is_cut ip = nat_lt (length ip) (total_len ip)
 
 -- TCP (RFC 9293 section 3.1). `tcp` is what a datagram carries.
 
--- the bytes of the TCP header, which tells the number of its 32-bit words
 abbrev pub data_offset : List ℕ → ℕ
 data_offset tcp = 4 * (slice_index tcp data_offset_at / 16)
 
--- no whole TCP header, or one that contradicts itself
 abbrev pub is_bad_tcp : List ℕ → Bool
 is_bad_tcp tcp =
     nat_lt (length tcp) tcp_len || nat_lt (data_offset tcp) tcp_len || nat_lt (length tcp) (data_offset tcp)
-
--- the peers of a segment: each an IPv4 address and a TCP port
 
 abbrev pub sender : List ℕ → Peer
 sender ip = record { addr = source ip; port = number_at 2 0 (ip_payload ip) }
@@ -112,19 +93,15 @@ sender ip = record { addr = source ip; port = number_at 2 0 (ip_payload ip) }
 abbrev pub receiver : List ℕ → Peer
 receiver ip = record { addr = destination ip; port = number_at 2 to_port_at (ip_payload ip) }
 
--- a segment from a peer to itself
 abbrev pub is_same_ends : List ℕ → Bool
 is_same_ends ip = (sender ip).addr == (receiver ip).addr && (sender ip).port == (receiver ip).port
 
--- what the TCP header leaves of the TCP bytes
 abbrev pub payload_of : List ℕ → List ℕ
 payload_of tcp = slice_range tcp (data_offset tcp) (length tcp)
 
--- where the payload lies in a segment's frame: after the headers of Ethernet, IPv4 and TCP
 abbrev pub payload_offset : List ℕ → ℕ
 payload_offset frame = link_len (is_tagged frame) + header_len (datagram frame) + data_offset (ip_payload (datagram frame))
 
--- the classes of frames
 pub data FrameClass : Type 0 where
   short : FrameClass
   not_ipv4 : FrameClass
@@ -136,7 +113,7 @@ pub data FrameClass : Type 0 where
   same_ends : FrameClass
   segment : FrameClass
 
--- the class of a frame: the first whose test holds, and a segment where none does
+-- the first class whose test holds, or a segment if none does
 abbrev pub frame_class_in : Bool → List ℕ → FrameClass
 frame_class_in tagged frame =
     if is_short tagged frame then short
@@ -152,9 +129,7 @@ frame_class_in tagged frame =
 unfoldable pub frame_class : List ℕ → FrameClass
 frame_class frame = frame_class_in (is_tagged frame) frame
 
--- The fields of a TCP segment and of the headers that carry it: the Ethernet addresses, the VLAN, the two peers, the sequence and
--- acknowledgment numbers, the flags byte and the payload. Checksums are none of them: a capture of outgoing packets
--- commonly holds unfilled ones.
+-- The fields of a TCP segment and of its headers, without checksums, because captures of outgoing packets often have unfilled ones.
 pub record SegmentFields : Type 0 where
   pub mac_from : List ℕ
   pub mac_to : List ℕ
@@ -166,7 +141,6 @@ pub record SegmentFields : Type 0 where
   pub flags : ℕ
   pub payload : List ℕ
 
--- the fields of the segment in a frame of that class
 abbrev pub segment_fields_in : Bool → List ℕ → SegmentFields
 segment_fields_in tagged frame = record {
   mac_from = slice_range frame mac_len (mac_len + mac_len);
@@ -183,7 +157,7 @@ segment_fields_in tagged frame = record {
 unfoldable pub segment_fields : List ℕ → SegmentFields
 segment_fields frame = segment_fields_in (is_tagged frame) frame
 
--- a captured frame as everything above sees it: its class, and the fields that it has where it is a segment
+-- a captured frame as everything above sees it; its fields mean something only if it is a segment
 pub record SeenFrame : Type 0 where
   pub class : FrameClass
   pub fields : SegmentFields

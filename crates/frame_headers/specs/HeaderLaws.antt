@@ -7,7 +7,7 @@ use Rattle.frame_headers.specs.Headers.{headers}
 use Rattle.frame_headers.specs.Sum.{sum16, tcp_sum}
 use Rattle.frame_headers.specs.declared.written.Header.{Header}
 
--- a VLAN's number, if there is one: above 0, which tells none, and of 12 bits
+-- a VLAN's number: above 0, which is none, and of 12 bits
 pub record IsVlanNumber (n : ℕ) : Type 0 where
   pub some : 0 < n
   pub limited : n < vlan_limit
@@ -15,7 +15,6 @@ pub record IsVlanNumber (n : ℕ) : Type 0 where
 abbrev pub IsVlan : Option ℕ → Type 0
 IsVlan vlan = IfSome vlan IsVlanNumber
 
--- the fields of a header lie in the ranges of their types
 pub record IsHeader (h : Header) : Type 0 where
   pub mac_from : length h.mac_from ≡ mac_len
   pub mac_to : length h.mac_to ≡ mac_len
@@ -27,7 +26,6 @@ pub record IsHeader (h : Header) : Type 0 where
   pub ack : h.ack < 2 ^ 32
   pub flags : h.flags < 2 ^ 8
 
--- the fields of the segment that has this header and payload
 abbrev pub fields_with : Header → List ℕ → SegmentFields
 fields_with h bytes = record {
   mac_from = h.mac_from;
@@ -41,21 +39,17 @@ fields_with h bytes = record {
   payload = bytes;
 }
 
--- the checksums of the IPv4 header and of TCP in a frame with this header are right: each sum over what it covers,
--- itself among it, is all ones, so its complement is 0
+-- the sums of the IPv4 header and of TCP, their checksums included, are all ones, so the complements are 0
 pub record SumsToNothing (h : Header) (frame : List ℕ) : Type 0 where
   pub ipv4 : sum16 (slice_range (datagram frame) 0 ipv4_len) ≡ 0
   pub tcp : tcp_sum h.from.addr h.to.addr (drop ipv4_len (datagram frame)) ≡ 0
 
--- a frame is read as a segment with this header and payload; the class needs peers that differ
+-- the frame is read as a segment with this header and payload, if its peers differ
 pub record IsReadBack (h : Header) (bytes frame : List ℕ) : Type 0 where
   pub fields : segment_fields frame ≡ fields_with h bytes
   pub class : h.from ≢ h.to → frame_class frame ≡ segment
 
--- ---- laws
-
--- headers that are written before a payload: so many bytes, whose checksums are filled and whose fields are read back, where
--- the VLAN, if there is one, has a number that a tag can tell
+-- written headers have their length and filled checksums, and are read back if the VLAN's number fits a tag
 abbrev pub HeadersAreSound : Type 0
 HeadersAreSound =
     (h : Header) (bytes : List ℕ) → IsHeader h → length bytes ≤ payload_limit

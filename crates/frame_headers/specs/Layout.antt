@@ -1,5 +1,5 @@
--- Where the fields of a frame's headers stand: Ethernet II with at most one tag (IEEE 802.1Q), IPv4 (RFC 791 section 3.1) and TCP (RFC 9293 section 3.1).
--- A place is counted from the first byte of its own header.
+-- Where the fields of a frame's headers stand: Ethernet II with at most one tag (IEEE 802.1Q), IPv4 (RFC 791 section 3.1)
+-- and TCP (RFC 9293 section 3.1). A place is counted from the first byte of its own header.
 use Rattle.std.specs.Prelude.{ℕ, ◌+◌, ◌-◌, Bool, true, false, Option, is_some}
 
 -- ---- Ethernet II: the receiver's address, the sender's, and the type of what follows
@@ -7,19 +7,16 @@ use Rattle.std.specs.Prelude.{ℕ, ◌+◌, ◌-◌, Bool, true, false, Option, 
 abbrev pub mac_len : ℕ
 mac_len = 6
 
--- the bytes of the Ethernet header without a tag, which the type of what follows ends
 abbrev pub ethernet_len : ℕ
 ethernet_len = 14
 
--- the bytes of a tag, which stands before that type: a type of its own, and 16 bits, the lower 12 a VLAN's number
+-- a tag stands before that type: a type of its own, and 16 bits, the lower 12 a VLAN's number
 abbrev pub tag_len : ℕ
 tag_len = 4
 
--- the numbers of VLANs are below it
 abbrev pub vlan_limit : ℕ
 vlan_limit = 4096
 
--- the bytes of the Ethernet header, with a tag or without
 abbrev pub link_len : Bool → ℕ
 link_len true = ethernet_len + tag_len
 link_len false = ethernet_len
@@ -27,17 +24,14 @@ link_len false = ethernet_len
 abbrev pub type_len : ℕ
 type_len = 2
 
--- the type of a frame that carries an IPv4 datagram
 abbrev pub ipv4_type : ℕ
 ipv4_type = 0x0800
 
--- the type that begins a tag
 abbrev pub tag_type : ℕ
 tag_type = 0x8100
 
 -- ---- IPv4
 
--- the bytes of a header with no options: the least that one has
 abbrev pub ipv4_len : ℕ
 ipv4_len = 20
 
@@ -56,13 +50,11 @@ source_at = 12
 abbrev pub destination_at : ℕ
 destination_at = 16
 
--- the protocol number of TCP
 abbrev pub tcp_protocol : ℕ
 tcp_protocol = 6
 
 -- ---- TCP: the sender's port begins the header
 
--- the bytes of a header with no options: the least that one has
 abbrev pub tcp_len : ℕ
 tcp_len = 20
 
@@ -81,12 +73,10 @@ data_offset_at = 12
 abbrev pub flags_at : ℕ
 flags_at = 13
 
--- ---- what is written
-
--- the bytes of the headers of a written segment of a VLAN, or of none; neither IPv4's nor TCP's with options
+-- the bytes of the headers of a written segment, IPv4's and TCP's without options
 abbrev pub headers_len : Option ℕ → ℕ
 headers_len vlan = link_len (is_some vlan) + ipv4_len + tcp_len
 
--- the most bytes of payload after them, so that the datagram has at most the 1,500 bytes that an Ethernet frame carries
+-- the datagram has at most the 1,500 bytes that an Ethernet frame carries
 abbrev pub payload_limit : ℕ
 payload_limit = 1500 - ipv4_len - tcp_len

@@ -13,57 +13,46 @@ use crate::layout::{
 use crate::peers::Peer;
 use byteorder::{BigEndian, ByteOrder};
 
-/// What a captured Ethernet frame is: the first of these that holds of it. Checksums play no part, because a capture of
-/// outgoing packets commonly holds unfilled ones.
+/// What a captured frame is: the first that holds. Checksums play no part, because captures of outgoing packets often have unfilled ones.
 #[derive(Clone, Copy, Debug, PartialEq, Eq)]
 pub enum Class<'a> {
     /// Fewer than the 14 bytes of an Ethernet II header, or the 18 of one with a tag.
     Short,
-    /// The type, after the tag if there is one, is another than IPv4's, `0x0800`: a second tag's is too.
+    /// The type, after a tag if there is one, is not IPv4's `0x0800`. A second tag has another type, too.
     NotIpv4,
-    /// Fewer bytes than an IPv4 header has, or a version, a header length or a total length that cannot be (RFC 791
-    /// section 3.1).
+    /// Fewer bytes than an IPv4 header, or an impossible version, header length or total length (RFC 791 section 3.1).
     BadIpv4,
-    /// A fragment of a datagram: more follow, or its offset is not 0.
+    /// A fragment of a datagram: more fragments follow, or its offset is not 0.
     Fragment,
-    /// The protocol is another than TCP's, 6.
     NotTcp,
     /// The capture holds fewer bytes than the datagram's total length.
     Cut,
-    /// Fewer bytes than a TCP header has, or a data offset that cannot be (RFC 9293 section 3.1).
+    /// Fewer bytes than a TCP header, or an impossible data offset (RFC 9293 section 3.1).
     BadTcp,
-    /// Source and destination are the same address and port.
+    /// The source and the destination have the same address and port.
     SameEnds,
-    /// A TCP segment.
     Segment(Segment<'a>),
 }
 
-/// The fields of a captured TCP segment and of the headers that carry it.
+/// The fields of a captured TCP segment and of the headers that carry it, from a sender to a receiver.
 #[derive(Clone, Copy, Debug, PartialEq, Eq)]
 pub struct Segment<'a> {
-    /// The sender's Ethernet address.
     pub mac_from: [u8; MAC_LEN],
-    /// The receiver's Ethernet address.
     pub mac_to: [u8; MAC_LEN],
-    /// The number of its VLAN, 1 to 4095, where it has a tag that tells one (IEEE 802.1Q).
+    /// The number of its VLAN, 1 to 4095, if it has a tag with one (IEEE 802.1Q).
     pub vlan: Option<u16>,
-    /// The sender.
     pub from: Peer,
-    /// The receiver.
     pub to: Peer,
-    /// The sequence number.
     pub seq: u32,
-    /// The acknowledgment number.
     pub ack: u32,
-    /// The flags byte.
     pub flags: Flags,
     /// The bytes from the end of the TCP header to the datagram's total length, a slice of the frame.
     pub payload: &'a [u8],
-    /// Where the payload begins in the frame: how many bytes the headers of Ethernet, IPv4 and TCP take.
+    /// The place of the payload in the frame: the number of bytes of the headers of Ethernet, IPv4 and TCP.
     pub offset: u16,
 }
 
-/// The class of a captured frame, and a segment's fields. It takes no memory, and every list of bytes has a class.
+/// The class of a captured frame, and the fields of a segment. It allocates nothing.
 #[inline(always)]
 #[tactic(auto, unfolding(crate::specs::Frame::frame_class, crate::specs::Frame::segment_fields))]
 pub fn classify(packet: &[u8]) -> Class<'_>
@@ -102,7 +91,6 @@ pub fn classify(packet: &[u8]) -> Class<'_>
     Class::Segment(segment)
 }
 
-// Whether a frame has a tag.
 fn is_tagged(packet: &[u8]) -> bool
     ensures { result ≡ is_tagged packet.now }
 {
@@ -110,7 +98,6 @@ fn is_tagged(packet: &[u8]) -> bool
         && BigEndian::read_u16(&packet[ETHERNET_LEN - TYPE_LEN..]) == TAG_TYPE
 }
 
-// The VLAN of a frame that has a tag or none.
 fn vlan_in(packet: &[u8], tagged: bool) -> Option<u16>
     requires { link_len tagged ≤ length packet.now }
     ensures { result ≡ vlan_in tagged packet.now }
@@ -122,7 +109,6 @@ fn vlan_in(packet: &[u8], tagged: bool) -> Option<u16>
     if number == 0 { None } else { Some(number) }
 }
 
-// Whether the frame carries something else than an IPv4 datagram.
 fn is_not_ipv4(packet: &[u8], tagged: bool) -> bool
     requires { link_len tagged ≤ length packet.now }
     ensures { result ≡ is_not_ipv4 tagged packet.now }
@@ -130,7 +116,6 @@ fn is_not_ipv4(packet: &[u8], tagged: bool) -> bool
     BigEndian::read_u16(&packet[link_len(tagged) - TYPE_LEN..]) != IPV4_TYPE
 }
 
-// What follows the Ethernet header.
 fn after_link(packet: &[u8], tagged: bool) -> &[u8]
     requires { link_len tagged ≤ length packet.now }
     ensures { result.now ≡ datagram_in tagged packet.now }
@@ -138,7 +123,6 @@ fn after_link(packet: &[u8], tagged: bool) -> &[u8]
     &packet[link_len(tagged)..]
 }
 
-// The bytes of an IPv4 header.
 fn header_len(ip: &[u8]) -> usize
     requires { IPV4_LEN ≤ length ip.now }
     ensures { result ≡ header_len ip.now }
@@ -146,7 +130,6 @@ fn header_len(ip: &[u8]) -> usize
     4 * usize::from(ip[0] % 16)
 }
 
-// The bytes of a whole IPv4 datagram.
 fn total_len(ip: &[u8]) -> usize
     requires { IPV4_LEN ≤ length ip.now }
     ensures value { result ≡ total_len ip.now }
@@ -155,7 +138,6 @@ fn total_len(ip: &[u8]) -> usize
     usize::from(BigEndian::read_u16(&ip[TOTAL_LEN_AT..]))
 }
 
-// Whether there is no whole IPv4 header, or one that contradicts itself.
 fn is_bad_ipv4(ip: &[u8]) -> bool
     ensures { result ≡ is_bad_ipv4 ip.now }
 {
@@ -165,7 +147,7 @@ fn is_bad_ipv4(ip: &[u8]) -> bool
         || total_len(ip) < header_len(ip)
 }
 
-// Whether a datagram is a fragment: more of them follow, or its offset is not 0.
+// More fragments follow, or the offset is not 0.
 fn is_fragment(ip: &[u8]) -> bool
     requires { IPV4_LEN ≤ length ip.now }
     ensures { result ≡ is_fragment ip.now }
@@ -173,7 +155,6 @@ fn is_fragment(ip: &[u8]) -> bool
     BigEndian::read_u16(&ip[FRAGMENT_AT..]) % 0x4000 != 0
 }
 
-// The bytes of a TCP header.
 fn data_offset(tcp: &[u8]) -> usize
     requires { TCP_LEN ≤ length tcp.now }
     ensures { result ≡ data_offset tcp.now }
@@ -181,14 +162,12 @@ fn data_offset(tcp: &[u8]) -> usize
     4 * usize::from(tcp[DATA_OFFSET_AT] / 16)
 }
 
-// Whether there is no whole TCP header, or one that contradicts itself.
 fn is_bad_tcp(tcp: &[u8]) -> bool
     ensures { result ≡ is_bad_tcp tcp.now }
 {
     tcp.len() < TCP_LEN || data_offset(tcp) < TCP_LEN || tcp.len() < data_offset(tcp)
 }
 
-// The fields of the segment in a frame, whose datagram is `ip` and whose TCP bytes are `tcp`.
 #[inline(always)]
 #[tactic(auto, unfolding(crate::specs::Frame::segment_fields))]
 fn segment_in<'a>(packet: &[u8], tagged: bool, ip: &[u8], tcp: &'a [u8]) -> Segment<'a>
@@ -224,7 +203,6 @@ fn segment_in<'a>(packet: &[u8], tagged: bool, ip: &[u8], tcp: &'a [u8]) -> Segm
     }
 }
 
-// The Ethernet address at a place of a frame.
 fn mac_at(packet: &[u8], at: usize) -> [u8; 6]
     requires { at + MAC_LEN ≤ length packet.now }
     ensures { result ≡ slice_range packet.now at (at + MAC_LEN) }

@@ -4,8 +4,7 @@ ghost use Rattle.frame_headers.specs.Flags.{fin_flag, syn_flag, rst_flag, psh_fl
 
 use std::marker::Model;
 
-/// The flags byte of a TCP header (RFC 9293 section 3.1), all eight bits of it. Contracts see it as the number of that
-/// byte.
+/// The flags byte of a TCP header (RFC 9293 section 3.1), all eight bits. Contracts see it as a number.
 #[derive(Clone, Copy, Debug, PartialEq, Eq, PartialOrd, Ord, Hash)]
 pub struct Flags {
     bits: u8,
@@ -31,14 +30,14 @@ impl Flags {
     /// The acknowledgment number counts.
     pub const ACK: Flags = Flags { bits: 0x10 };
 
-    /// The flags that have a name here, from the lowest bit on: FIN, SYN, RST, PSH, ACK.
+    /// The flags that have a name here, from the lowest bit on.
     pub fn named() -> [Flags; 5]
         ensures { result ≡ fin_flag ∷ syn_flag ∷ rst_flag ∷ psh_flag ∷ ack_flag ∷ [] }
     {
         [Self::FIN, Self::SYN, Self::RST, Self::PSH, Self::ACK]
     }
 
-    /// The flags of a flags byte. Every byte is one, and none of its bits is lost.
+    /// The flags of a flags byte, of which no bit is lost.
     pub fn of(byte: u8) -> Self
         ensures { result ≡ byte }
     {

@@ -1,8 +1,7 @@
 //! Theorems about the definitions of this crate. Each function does nothing: its contract is the theorem.
 ghost use Rattle.frame_headers.specs.HeaderLaws.{HeadersAreSound, SegmentsFit, PayloadsAreInPlace};
 
-/// The headers of a segment within the payload limit have the length that is told. Both checksums are filled, the
-/// fields are read back, and the frame is a segment where the two peers differ.
+/// Written headers have the length that is told, both checksums are filled, and the fields are read back.
 pub fn headers_are_sound()
     ensures { HeadersAreSound }
 {}

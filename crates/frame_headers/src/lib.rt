@@ -1,5 +1,4 @@
-//! The headers of captured Ethernet frames: what class a frame has, the fields of the TCP segment in it, Internet
-//! checksums, and the headers of frames that are written.
+//! The headers of captured Ethernet frames: a frame's class, the fields of its TCP segment, Internet checksums, and written headers.
 #![tactic(auto)]
 
 mod classes;

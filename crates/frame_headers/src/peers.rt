@@ -5,6 +5,5 @@
 pub struct Peer {
     /// The IPv4 address, its first byte the highest.
     pub addr: u32,
-    /// The TCP port.
     pub port: u16,
 }

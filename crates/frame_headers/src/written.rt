@@ -13,31 +13,22 @@ use crate::peers::Peer;
 use crate::sums::{checksum, tcp_checksum};
 use byteorder::{BigEndian, ByteOrder};
 
-/// The fields of a TCP segment that is written, and of the headers that carry it.
+/// The fields of a TCP segment to write and of the headers that carry it, from a sender to a receiver.
 #[derive(Clone, Copy, Debug, PartialEq, Eq)]
 pub struct Header {
-    /// The sender's Ethernet address.
     pub mac_from: [u8; MAC_LEN],
-    /// The receiver's Ethernet address.
     pub mac_to: [u8; MAC_LEN],
     /// The number of its VLAN, 1 to 4095, if it has one.
     pub vlan: Option<u16>,
-    /// The sender.
     pub from: Peer,
-    /// The receiver.
     pub to: Peer,
-    /// The sequence number.
     pub seq: u32,
-    /// The acknowledgment number.
     pub ack: u32,
-    /// The flags byte.
     pub flags: Flags,
 }
 
-/// Writes the headers before a payload that is in place already: Ethernet II, with a tag where there is a VLAN (IEEE
-/// 802.1Q), IPv4 (RFC 791 section 3.1) and TCP (RFC 9293 section 3.1), neither with options, both checksums filled. A
-/// frame has at most 1,460 bytes of payload.
-/// `classify` reads the same fields back where the two peers differ and a VLAN's number is 1 to 4095.
+/// Writes the headers before a payload that is in place: Ethernet II, with a tag for a VLAN (IEEE 802.1Q), IPv4 and TCP without options.
+/// Both checksums are filled. `classify` reads the fields back if the two peers differ and the VLAN is none or 1 to 4095.
 pub fn put_headers(frame: &mut [u8], header: &Header)
     requires room { headers_len header.now.vlan ≤ length frame.old }
     requires small { length frame.old ≤ headers_len header.now.vlan + payload_limit }
@@ -50,12 +41,10 @@ pub fn put_headers(frame: &mut [u8], header: &Header)
     write_headers(frame, header);
 }
 
-// The fields of a header lie in the ranges of their types.
 fn header_fits(header: Header)
     ensures { IsHeader header }
 {}
 
-// Writes the headers one after another.
 fn write_headers(frame: &mut [u8], header: &Header)
     requires room { headers_len header.now.vlan ≤ length frame.old }
     requires small { length frame.old ≤ headers_len header.now.vlan + payload_limit }
@@ -69,7 +58,6 @@ fn write_headers(frame: &mut [u8], header: &Header)
     put_tcp(&mut frame[link + IPV4_LEN..], header);
 }
 
-// Writes the Ethernet header.
 fn put_ethernet(frame: &mut [u8], header: &Header)
     requires { link_len (is_some header.now.vlan) ≤ length frame.old }
     ensures { frame.new ≡ ethernet header.now ++ drop (link_len (is_some header.now.vlan)) frame.old }
@@ -79,7 +67,6 @@ fn put_ethernet(frame: &mut [u8], header: &Header)
     put_link(&mut frame[2 * MAC_LEN..], header.vlan);
 }
 
-// Writes what follows the two addresses: the tag of a VLAN, if there is one, and the type.
 fn put_link(rest: &mut [u8], vlan: Option<u16>)
     requires { link_len (is_some vlan) - 2 * mac_len ≤ length rest.old }
     ensures { rest.new ≡ link_bytes vlan ++ drop (link_len (is_some vlan) - 2 * mac_len) rest.old }
@@ -94,7 +81,6 @@ fn put_link(rest: &mut [u8], vlan: Option<u16>)
     }
 }
 
-// Writes the IPv4 header before a number of TCP bytes.
 #[tactic(auto, unfolding(crate::specs::Headers::ipv4))]
 fn put_ipv4(head: &mut [u8], header: &Header, segment_len: u16)
     requires room { ipv4_len ≤ length head.old }
@@ -106,7 +92,6 @@ fn put_ipv4(head: &mut [u8], header: &Header, segment_len: u16)
     BigEndian::write_u16(&mut head[IPV4_SUM_AT..], sum);
 }
 
-// Writes the IPv4 header with 0 in the place of its checksum.
 fn fill_ipv4(head: &mut [u8], header: &Header, segment_len: u16)
     requires room { ipv4_len ≤ length head.old }
     requires small { segment_len ≤ tcp_len + payload_limit }
@@ -116,7 +101,7 @@ fn fill_ipv4(head: &mut [u8], header: &Header, segment_len: u16)
     fill_route(&mut head[8..], header);
 }
 
-// Writes what IPv4 says of a datagram alone: version and lengths, no identification, "don't fragment".
+// Version 4 and 5 words of header, the total length, no identification, "don't fragment".
 fn fill_lengths(head: &mut [u8], segment_len: u16)
     requires room { 8 ≤ length head.old }
     requires small { segment_len ≤ tcp_len + payload_limit }
@@ -128,7 +113,7 @@ fn fill_lengths(head: &mut [u8], segment_len: u16)
     BigEndian::write_u16(&mut head[FRAGMENT_AT..], 0x4000);
 }
 
-// Writes what IPv4 says of a datagram's way: 64 hops and TCP's protocol number, the checksum's place, both addresses.
+// 64 hops and TCP's protocol number, 0 in place of the checksum, both addresses.
 fn fill_route(head: &mut [u8], header: &Header)
     requires { 12 ≤ length head.old }
     ensures { head.new ≡ ipv4_route 0 header.now ++ drop 12 head.old }
@@ -139,7 +124,6 @@ fn fill_route(head: &mut [u8], header: &Header)
     BigEndian::write_u32(&mut head[8..], header.to.addr);
 }
 
-// Writes the TCP header before the payload.
 #[tactic(auto, unfolding(crate::specs::Headers::tcp))]
 fn put_tcp(head: &mut [u8], header: &Header)
     requires room { tcp_len ≤ length head.old }
@@ -151,7 +135,6 @@ fn put_tcp(head: &mut [u8], header: &Header)
     BigEndian::write_u16(&mut head[TCP_SUM_AT..], sum);
 }
 
-// Writes the TCP header with 0 in the place of its checksum.
 fn fill_tcp(head: &mut [u8], header: &Header)
     requires { tcp_len ≤ length head.old }
     ensures { head.new ≡ tcp_with 0 header.now ++ drop tcp_len head.old }
@@ -160,7 +143,6 @@ fn fill_tcp(head: &mut [u8], header: &Header)
     fill_state(&mut head[DATA_OFFSET_AT..], header.flags);
 }
 
-// Writes the ports and the two numbers of a TCP header.
 fn fill_numbers(head: &mut [u8], header: &Header)
     requires { 12 ≤ length head.old }
     ensures { head.new ≡ tcp_numbers header.now ++ drop 12 head.old }
@@ -171,8 +153,7 @@ fn fill_numbers(head: &mut [u8], header: &Header)
     BigEndian::write_u32(&mut head[ACK_AT..], header.ack);
 }
 
-// Writes the rest of a TCP header: 5 words of header and the flags, the widest window, the checksum's place, and no
-// urgent bytes.
+// 5 words of header and the flags, the widest window, 0 in place of the checksum, no urgent bytes.
 fn fill_state(head: &mut [u8], flags: Flags)
     requires { 8 ≤ length head.old }
     ensures { head.new ≡ tcp_state 0 flags ++ drop 8 head.old }

@@ -17,7 +17,6 @@ use Rattle.job_matrix.proofs.Sums.{times_one, times-append}
 -- ---- slots
 
 module _ {V : Type 0} where
-  -- what is found at a slot that is not empty
   pub has_found : (slots : List (Option V)) (at : ℕ) (found : Option V) → slice_get slots at ≡ Some found → is_some found ≡ true → (v : V) × Has slots at v
   has_found slots at None is full = cc
   has_found slots at (Some v) is full = (v, is)
@@ -26,7 +25,7 @@ module _ {V : Type 0} where
   after_filled [] rest = refl
   after_filled (v ∷ values) rest = after_filled values rest
 
-  -- where each slot has a value, no slot is empty
+  -- if each slot has a value, no slot is empty
   pub nothing_missing : (slots : List (Option V)) (values : List V) (rest : List (Option V)) → map Some values ++ None ∷ rest ≡ slots
       → ((k : ℕ) → k < length slots → (v : V) × Has slots k v) → ⊥
   nothing_missing slots values rest whole filled =
@@ -56,16 +55,15 @@ module _ {V : Type 0} where
   put_each-append slots [] d = refl
   put_each-append slots (b ∷ before) d = put_each-append (put_one slots b.0 b.1) before d
 
-  -- where a value is refused, its slot is not free
+  -- if a value is refused, its slot is not free
   pub refused_not_free : (slots : List (Option V)) (job : ℕ) (value : V) (fault : PutFault V) → IsRefused slots job value fault → ¬ (IsFree slots job)
   refused_not_free slots job value (Stranger back) refused free = absurd (omega (arith, refused.0, slice_get_within slots job None free))
   refused_not_free slots job value (Twice back) refused free = let has = refused.0.1 in cc
 
-  -- a value put at a free slot lies there
   put_here : (slots : List (Option V)) (job : ℕ) (value : V) → IsFree slots job → Has (put_one slots job value) job value
   put_here slots job value free = rw free (slice_get-set_same slots job (Some value) (slice_get_within slots job None free))
 
-  -- where no job of the list is k, nothing changes at k
+  -- if no job of the list is k, nothing changes at k
   pub put_elsewhere : (slots : List (Option V)) (done : List (ℕ × V)) (k : ℕ) → times k (jobs_in done) ≡ 0 → slice_get (put_each slots done) k ≡ slice_get slots k
   put_elsewhere slots [] k none = refl
   put_elsewhere slots (d ∷ done) k none =
@@ -73,7 +71,7 @@ module _ {V : Type 0} where
       let other : k ≢ d.0 = λ e. absurd (omega (arith, one.0 e)) in
       put_elsewhere (put_one slots d.0 d.1) done k (omega (arith, one.1 other)) ∙ other_where (slice_get slots d.0) slots d.0 k d.1 other
 
-  -- where one job of the list is k, its value lies at k
+  -- if one job of the list is k, its value lies at k
   pub put_there : (P : ℕ → V → Type 0) (slots : List (Option V)) (done : List (ℕ × V)) (k : ℕ) → IsFree slots k → times k (jobs_in done) ≡ 1 → EachJob P done
       → (v : V) × P k v × Has (put_each slots done) k v
   put_there P slots [] k free once all = absurd (omega (arith, once))
@@ -92,7 +90,7 @@ module _ {V : Type 0} where
   all_free n k within =
       slice_get-get_or (replicate n None) k None (omega (arith, length-replicate {A = Option V} n None)) ∙ ap (λ (o : Option V). Some o) (get_or-replicate n k None None within)
 
-  -- the value of one job is not refused where the job did not come before
+  -- a job that did not come before finds its slot free
   pub still_free : (n job : ℕ) (value : V) (before rest : List (ℕ × V)) → CountsBelow n (λ x. times x (jobs_in (before ++ (job, value) ∷ rest))) → IsFree (put_each (replicate n None) before) job
   still_free n job value before rest counts =
       let once = counts job in
@@ -105,7 +103,7 @@ module _ {V : Type 0} where
   all_true [] = tt
   all_true (d ∷ done) = (tt, all_true done)
 
-  -- where each job below n was done once, no slot stays free
+  -- if each job below n was done once, no slot stays free
   pub all_filled : (n : ℕ) (done : List (ℕ × V)) → CountsBelow n (λ x. times x (jobs_in done)) → (k : ℕ) → ¬ (IsFree (put_each (replicate n None) done) k)
   all_filled n done counts k free =
       let within : k < n = subst (λ (m : ℕ). k < m) (length-put_each (replicate n None) done ∙ length-replicate n None) (slice_get_within (put_each (replicate n None) done) k None free) in
@@ -130,12 +128,10 @@ module _ {V : Type 0} where
   each_append P [] ys all more = more
   each_append P (x ∷ xs) ys all more = (all.0, each_append P xs ys all.1 more)
 
-  -- jobs that are done, and more of them
   pub done_append : (values : List V) (jobs others : List ℕ) (xs ys : List (ℕ × V)) → AreDone values jobs xs → AreDone values others ys → AreDone values (jobs ++ others) (xs ++ ys)
   done_append values jobs others xs ys done more =
       (map-append (λ (d : ℕ × V). d.0) xs ys ∙ ap₂ (λ (a b : List ℕ). a ++ b) done.0 more.0, each_append (λ job value. (other : V) → value ≡ get_or values job other) xs ys done.1 more.1)
 
-  -- jobs of two results, one after the other
   pub both_done : {D E : Type 0} (items : D → List (ℕ × V)) (values : List V) (jobs others : List ℕ) (P Q R : Type 0) (r first second : Result D E)
       → IfOk r (λ v. IsOkAnd first (λ a. IsOkAnd second (λ b. items v ≡ items a ++ items b)))
       → IfOk first (λ v. AreDone values jobs (items v) × P) → IfOk second (λ v. AreDone values others (items v) × Q) → (P → R)
@@ -159,7 +155,7 @@ filled_in_order V meaning n done counts right =
     get_or_from_slice_get slots k (Some (meaning k)) None (there.2 ∙ ap (λ (v : V). Some (Some v)) there.1) in
     fill_by_all (λ k. Some (meaning k)) slots n None len each ∙ map_twice meaning (range_with_len 0 n)
 
--- so it is filled with the values that all jobs are to give
+-- the tray is then filled with the values of all jobs
 filled_with : {V : Type 0} (values : List V) (jobs : List ℕ) (done : List (ℕ × V)) → CountsBelow (length values) (λ x. times x (jobs_in done)) → AreDone values jobs done
     → put_each (replicate (length values) None) done ≡ map Some values
 filled_with [] jobs done counts are = nil_from_length _ (length-put_each [] done)
@@ -167,7 +163,6 @@ filled_with {V = V} (v ∷ values) jobs done counts are =
     let all : List V = v ∷ values in
     filled_in_order V (λ job. get_or all job v) (length all) done counts (are_right all v done are.1) ∙ ap (map Some) (listed all (length all) v refl)
 
--- and so is a list that is the tray's
 pub values_in_order : {V E : Type 0} (values : List V) (count : ℕ) (jobs : List ℕ) (done : List (ℕ × V)) (r : Result (List V) E) → count ≡ length values → CountsBelow count (λ x. times x (jobs_in done)) → AreDone values jobs done
     → IfOk r (λ v. map Some v ≡ put_each (replicate count None) done) → IfOk r (λ v. v ≡ values)
 values_in_order values count jobs done (Ok v) same counts are filled =

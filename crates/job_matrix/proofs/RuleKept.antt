@@ -18,13 +18,13 @@ Each n views = (seat : ℕ) (v : SeatView) → get_elem? views seat ≡ some v �
 abbrev numbers : ℕ → SeatView → ℕ
 numbers x v = times x (jobs_of v)
 
--- a seat that is told is out or came back
+-- a seat that was told that no number is left is out or came back
 told_within : (n seat : ℕ) (v : SeatView) → Fits n seat v → told_of v ≤ out_of v + back_of v
 told_within n seat (Leads limit made back told jobs) fits = omega (arith, fits.2)
 told_within n seat (Claims limit told jobs) fits = omega (arith, fits.2)
 told_within n seat Spent fits = omega arith
 
--- so the word is small
+-- so the word does not overflow
 word_small : (n : ℕ) (words : List ℕ) (views : List SeatView) (kept : Kept n words views) → kept.next + 1 < 2 ^ 64
 word_small n words views kept =
     let below = total_below told_of out_of back_of views (λ seat v at. told_within n seat v (kept.each seat v at)) in
@@ -34,7 +34,7 @@ fits_set : (n id : ℕ) (views : List SeatView) (w : SeatView) → Each n views 
 fits_set n id views w each fits seat v at =
     ⊎_elim (λ t. subst (λ (k : ℕ). Fits n k v) (sym t.0) (subst (λ (u : SeatView). Fits n id u) t.1 fits)) (λ t. each seat v t.1) (at_set views id seat w v at)
 
--- no seat but the first is a chief's
+-- only the first seat is a chief's
 others_lead_nothing : (n seat : ℕ) (v : SeatView) → Fits n (suc seat) v → (made_of v ≡ 0) × (back_of v ≡ 0)
 others_lead_nothing n seat (Leads limit made back told jobs) fits = absurd (omega (arith, fits.0))
 others_lead_nothing n seat (Claims limit told jobs) fits = (refl, refl)
@@ -192,7 +192,7 @@ spent_counts_nothing n seat x (Leads limit made back told jobs) fits none = absu
 spent_counts_nothing n seat x (Claims limit told jobs) fits none = absurd (omega (arith, none))
 spent_counts_nothing n seat x Spent fits none = (refl, refl)
 
--- where no pass is out, the chief's numbers and tellings are all that there are
+-- if no pass is out, the chief's numbers and tellings are all that there are
 lead_alone : (n id limit made back told x : ℕ) (jobs : List ℕ) (views : List SeatView) → Each n views → get_elem? views id ≡ some (Leads limit made back told jobs) → total out_of views ≡ 0
     → (total (numbers x) views ≡ times x jobs) × (total told_of views ≡ told)
 lead_alone n zero limit made back told x jobs [] each at none = absurd (some-ne-none _ (sym at))

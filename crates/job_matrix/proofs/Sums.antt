@@ -6,7 +6,6 @@ use lib.ListN.{get_elem?}
 use Rattle.job_matrix.specs.Counting.{times, total}
 
 module _ {A : Type 0} where
-  -- the sum after a change of one element
   pub total_set : (f : A → ℕ) (l : List A) (i : ℕ) (v w : A) → get_elem? l i ≡ some v → total f (set l i w) + f v ≡ total f l + f w
   total_set f [] i v w e = absurd (some-ne-none v (sym e))
   total_set f (x ∷ xs) zero v w e = omega (arith, ap f (some-injective x v e))
@@ -22,12 +21,11 @@ module _ {A : Type 0} where
   total_at f (x ∷ xs) zero v e = omega (arith, ap f (some-injective x v e))
   total_at f (x ∷ xs) (suc i) v e = omega (arith, total_at f xs i v e)
 
-  -- where each element counts no more by f than by g and h together, so do all
+  -- if each element counts no more by f than by g and h together, so do all
   pub total_below : (f g h : A → ℕ) (l : List A) → ((i : ℕ) (v : A) → get_elem? l i ≡ some v → f v ≤ g v + h v) → total f l ≤ total g l + total h l
   total_below f g h [] each = omega arith
   total_below f g h (x ∷ xs) each = omega (arith, each 0 x refl, total_below f g h xs (λ i v e. each (suc i) v e))
 
-  -- where the others count nothing, the first counts for all
   pub total_none : (f : A → ℕ) (l : List A) → ((i : ℕ) (v : A) → get_elem? l i ≡ some v → f v ≡ 0) → total f l ≡ 0
   total_none f [] each = refl
   total_none f (x ∷ xs) each = omega (arith, each 0 x refl, total_none f xs (λ i v e. each (suc i) v e))
@@ -46,7 +44,7 @@ times-append x (y ∷ xs) ys = omega (arith, times-append x xs ys)
 pub times_one : (x y : ℕ) → (x ≡ y → times x (y ∷ []) ≡ 1) × (x ≢ y → times x (y ∷ []) ≡ 0)
 times_one x y = ((λ e. grind (arith, nat_tests)), (λ n. grind (arith, nat_tests)))
 
--- ---- the numbers that a pass claimed rise, so that it claims only so many
+-- ---- a pass claims rising numbers, each once
 
 -- the least number that is above all of a list
 abbrev pub above_all : List ℕ → ℕ
@@ -57,7 +55,7 @@ pub above_all-append : (xs : List ℕ) (y : ℕ) → y < above_all (xs ++ y ∷ 
 above_all-append [] y = omega arith
 above_all-append (x ∷ xs) y = omega (arith, above_all-append xs y)
 
--- where none from a number on stands in the list, the number is above all
+-- if no number from y on is in the list, y is above all
 pub above_all-le : (xs : List ℕ) (y : ℕ) → ((x : ℕ) → y ≤ x → times x xs ≡ 0) → above_all xs ≤ y
 above_all-le [] y none = omega arith
 above_all-le (x ∷ xs) y none =

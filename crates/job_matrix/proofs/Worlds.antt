@@ -30,7 +30,6 @@ module _ {V : Type 0} where
   jobs-append : (done : List (ℕ × V)) (job : ℕ) (value : V) → jobs_in (done ++ (job, value) ∷ []) ≡ jobs_in done ++ job ∷ []
   jobs-append done job value = map-append (λ (d : ℕ × V). d.0) done ((job, value) ∷ [])
 
-  -- a number is claimed
   claims_next : (meaning : ℕ → V) (n : ℕ) (s : World V) (w : ℕ) → slice_get s.workers w ≡ Some (worker None false false) → IsWhole meaning n s → s.next < n
       → IsWhole meaning n (record s { next = s.next + 1; workers = slice_set s.workers w (worker (Some s.next) false false) })
   claims_next meaning n s w at whole below = record {
@@ -47,7 +46,6 @@ module _ {V : Type 0} where
     within = omega arith;
   }
 
-  -- no number is left
   claims_none : (meaning : ℕ → V) (n : ℕ) (s : World V) (w : ℕ) → slice_get s.workers w ≡ Some (worker None false false) → IsWhole meaning n s
       → IsWhole meaning n (record s { workers = slice_set s.workers w (worker None true false) })
   claims_none meaning n s w at whole = record {

@@ -1,5 +1,4 @@
--- The world of a board, without threads: workers who claim numbers below n, do the jobs of these numbers, and leave, in
--- whatever order these events come.
+-- The world of a board, without threads: workers claim numbers below n, do their jobs and leave, in any order of events.
 use Rattle.std.specs.Prelude.{◌≡◌, ◌≤◌, ◌+◌, ℕ, Bool, true, false, List, [], ◌∷◌, ◌++◌, Option, Some, None, map, replicate, nat_lt, IsPermutation, slice_get, slice_set, if◌then◌else◌}
 use Rattle.std.specs.List.{range_with_len}
 use Rattle.job_matrix.specs.Counting.{times, total, CountsBelow}
@@ -11,7 +10,6 @@ pub record Worker : Type 0 where
   pub told : Bool
   pub left : Bool
 
--- the next number, the workers, the jobs that are done, with their values, and the jobs that were lost
 pub record World (V : Type 0) : Type 0 where
   pub next : ℕ
   pub workers : List Worker
@@ -36,7 +34,7 @@ held (Some job) = job ∷ []
 held None = []
 
 module _ {V : Type 0} where
-  -- a worker who is there, holds nothing and was not told has the next number, or is told that none is left
+  -- a worker who is there, holds nothing and was not told gets the next number, or is told that none is left
   abbrev pub after_claim : ℕ → World V → ℕ → Option ℕ → Bool → Bool → World V
   after_claim n s w None false false =
       if nat_lt s.next n
@@ -44,13 +42,11 @@ module _ {V : Type 0} where
       else record s { workers = slice_set s.workers w (worker None true false) }
   after_claim n s w holds told left = s
 
-  -- a worker's job is done
   abbrev pub after_finish : (ℕ → V) → World V → ℕ → Option ℕ → Bool → Bool → World V
   after_finish meaning s w (Some job) told left =
       record s { workers = slice_set s.workers w (worker None told left); done = s.done ++ (job, meaning job) ∷ [] }
   after_finish meaning s w None told left = s
 
-  -- a worker is gone, and what it held is lost
   abbrev pub after_leave : World V → ℕ → Option ℕ → Bool → Bool → World V
   after_leave s w holds told left =
       record s { workers = slice_set s.workers w (worker None told true); lost = s.lost ++ held holds }
@@ -61,7 +57,7 @@ module _ {V : Type 0} where
   event_by meaning n s (leaves w) (Some it) = after_leave s w it.holds it.told it.left
   event_by meaning n s event None = s
 
-  -- one event; that of a worker who is not there changes nothing
+  -- an event of a worker who is not there changes nothing
   abbrev pub after_event : (ℕ → V) → ℕ → World V → Event → World V
   after_event meaning n s event = event_by meaning n s event (slice_get s.workers (whose event))
 
@@ -72,12 +68,10 @@ module _ {V : Type 0} where
   abbrev pub first_world : ℕ → World V
   first_world workers = record { next = 0; workers = replicate workers (worker None false false); done = []; lost = [] }
 
-  -- how often a number is held, done or lost
   abbrev pub count_in : World V → ℕ → ℕ
   count_in s x = total (λ w. times x (held w.holds)) s.workers + times x (jobs_in s.done) + times x s.lost
 
-  -- each number below the next is in one place, once, and no other number is; each done value is the one that its job is
-  -- to give
+  -- each number below the next is in one place, once, and no other is; each value that is done is the right one
   pub record IsWhole (meaning : ℕ → V) (n : ℕ) (s : World V) : Type 0 where
     pub once : CountsBelow s.next (count_in s)
     pub right : AreRight meaning s.done
@@ -89,7 +83,7 @@ AnyOrder V =
     (meaning : ℕ → V) (n workers : ℕ) (events : List Event)
     → IsWhole meaning n (world_after meaning n (first_world workers) events)
 
--- where all numbers were given, and none is held or lost, each job is done once, with its value
+-- if all numbers were given, and none is held or lost, each job is done once, with its value
 abbrev pub AllDone : Type 0 → Type 0
 AllDone V =
     (meaning : ℕ → V) (n workers : ℕ) (events : List Event)
@@ -97,7 +91,7 @@ AllDone V =
     s.next ≡ n → ((w : ℕ) (it : Worker) → slice_get s.workers w ≡ Some it → it.holds ≡ None) → s.lost ≡ []
     → CountsBelow n (λ x. times x (jobs_in s.done)) × AreRight meaning s.done)
 
--- then a tray into which the values are put, in whatever order, has them in order of the jobs
+-- in that case a tray into which the values are put, in any order, has them in order of the jobs
 abbrev pub TrayIsFilled : Type 0 → Type 0
 TrayIsFilled V =
     (meaning : ℕ → V) (n workers : ℕ) (events : List Event) (order : List (ℕ × V))

@@ -1,5 +1,4 @@
--- Boards: what contracts see of a board, its chief and its passes, what the seats of its table know, and the rule that
--- holds of these between any two steps.
+-- Boards: what contracts see of a board, its chief and its passes, what its seats know, and the rule that they keep.
 use Rattle.std.specs.Prelude.{◌≡◌, ◌≢◌, ◌+◌, ◌<◌, ◌≤◌, ◌^◌, ℕ, min, Bool, true, false, List, [], ◌∷◌, ◌++◌}
 use mathlib.Core.Option.{some}
 use lib.ListN.{get_elem?}
@@ -9,29 +8,24 @@ use Rattle.job_matrix.specs.declared.rules.SeatView.{SeatView}
 use Rattle.job_matrix.specs.declared.rules.SeatView.TheVariants.{Leads, Claims, Spent}
 use Rattle.job_matrix.specs.Counting.{times, total, CountsBelow}
 
--- the greatest limit of a board's numbers
 abbrev pub number_limit : ℕ
 number_limit = 2 ^ 63
 
--- the most passes that a chief makes
 abbrev pub pass_limit : ℕ
 pass_limit = 65536
 
--- ---- what contracts see, and what the seats know
-
--- which board it is, and the number below which it hands out numbers
+-- which board it is, and the limit below which its numbers are
 pub record BoardView : Type 0 where
   pub name : TableId
   pub limit : ℕ
 
--- a pass: of which board, the numbers that it claimed, and whether it was told that no number is left
+-- a pass: its board, the numbers that it claimed, and whether it was told that no number is left
 pub record PassView : Type 0 where
   pub board : BoardView
   pub jobs : List ℕ
   pub told : Bool
 
--- a chief: of which board, the numbers of all passes that came back, how many passes were made, how many came back, and
--- how many of these had been told that no number is left
+-- a chief: its board, the numbers of all passes that came back, and counts of passes made, back, and told that no number is left
 pub record ChiefView : Type 0 where
   pub board : BoardView
   pub jobs : List ℕ
@@ -68,41 +62,33 @@ back_of (Leads limit made back told jobs) = back
 back_of (Claims limit told jobs) = 0
 back_of Spent = 0
 
--- the passes that are out
 abbrev pub out_of : SeatView → ℕ
 out_of (Leads limit made back told jobs) = 0
 out_of (Claims limit told jobs) = 1
 out_of Spent = 0
 
--- a chief that has made one more pass
 abbrev pub after_split : SeatView → SeatView
 after_split (Leads limit made back told jobs) = Leads limit (made + 1) back told jobs
 after_split (Claims limit told jobs) = Claims limit told jobs
 after_split Spent = Spent
 
--- the new pass of a chief
 abbrev pub new_pass : SeatView → SeatView
 new_pass chief = Claims (limit_of chief) 0 []
 
--- a chief to whom a pass came back
 abbrev pub after_join : SeatView → SeatView → SeatView
 after_join (Leads limit made back told jobs) pass =
     Leads limit made (back + 1) (told + told_of pass) (jobs ++ jobs_of pass)
 after_join (Claims limit told jobs) pass = Claims limit told jobs
 after_join Spent pass = Spent
 
--- ---- the rule
-
--- what each seat of a board of n numbers knows: the first is the chief's, and no other
+-- what a seat of a board of n numbers knows; the first seat, and no other, is the chief's
 abbrev pub Fits : ℕ → ℕ → SeatView → Type 0
 Fits n seat (Leads limit made back told jobs) = (seat ≡ 0) × (limit ≡ n) × (told ≤ back)
 Fits n seat (Claims limit told jobs) = (seat ≢ 0) × (limit ≡ n) × (told ≤ 1)
 Fits n seat Spent = seat ≢ 0
 
--- The word and what the seats know, those of dropped passes too. Three sums:
--- each number below the word and below n was claimed once, and no other number;
--- the word goes past n once for each pass that was told that no number is left;
--- the passes that are out are those that were made and did not come back
+-- The word and what all seats know, also those of dropped passes. `once`: the numbers below the word and n were claimed once, no others;
+-- `over`: the word went past n once for each pass that was told so; `passes`: a pass that was made is out or came back.
 pub record Kept (n : ℕ) (words : List ℕ) (views : List SeatView) : Type 0 where
   pub next : ℕ
   pub word : words ≡ next ∷ []
@@ -116,8 +102,7 @@ pub record Kept (n : ℕ) (words : List ℕ) (views : List SeatView) : Type 0 wh
 abbrev pub Fair : ℕ → State ℕ SeatView → Type 0
 Fair n s = Kept n s.words s.views
 
--- a number below the limit is one more of the pass, above all that it had; from the limit on the pass is told once more
--- that no number is left
+-- a number below the limit is the pass's, above all that it had; from the limit on the pass is told that none is left
 abbrev pub Claimed : Me ℕ SeatView → ℕ → Me ℕ SeatView → Type 0
 Claimed before found after =
     (found < limit_of before.0

@@ -1,12 +1,10 @@
 -- How often a number stands in a list, and sums over a list.
 use Rattle.std.specs.Prelude.{◌≡◌, ◌+◌, ◌<◌, ◌≤◌, ◌==◌, ℕ, List, [], ◌∷◌, if◌then◌else◌}
 
--- how often the number stands in the list
 abbrev pub times : ℕ → List ℕ → ℕ
 times x [] = 0
 times x (y ∷ ys) = (if x == y then 1 else 0) + times x ys
 
--- what the elements count, added up
 abbrev pub total : {A : Type 0} → (A → ℕ) → List A → ℕ
 total f [] = 0
 total f (x ∷ xs) = f x + total f xs

@@ -1,11 +1,9 @@
 -- Plans: how many workers there are, and how many records a range has.
 use Rattle.std.specs.Prelude.{ℕ, ◌^◌, nat_le, ◌&&◌, Option, Some, None, if◌then◌else◌}
 
--- the most workers
 abbrev pub worker_limit : ℕ
 worker_limit = 16
 
--- the most records of a range
 abbrev pub cut_limit : ℕ
 cut_limit = 2 ^ 20
 
@@ -13,7 +11,6 @@ pub record PlanView : Type 0 where
   pub workers : ℕ
   pub cut : ℕ
 
--- a worker at least and a record a range, within both limits
 abbrev pub plan_of : ℕ → ℕ → Option PlanView
 plan_of workers cut =
     if nat_le 1 workers && nat_le workers worker_limit && nat_le 1 cut && nat_le cut cut_limit

@@ -6,11 +6,9 @@ use Rattle.job_matrix.specs.declared.trays.PutFault.TheVariants.{Stranger, Twice
 use Rattle.job_matrix.specs.Counting.{times, CountsBelow}
 
 module _ {V : Type 0} where
-  -- the slot is there, and nothing lies in it
   abbrev pub IsFree : List (Option V) → ℕ → Type 0
   IsFree slots job = slice_get slots job ≡ Some None
 
-  -- the value lies there
   abbrev pub Has : List (Option V) → ℕ → V → Type 0
   Has slots job value = slice_get slots job ≡ Some (Some value)
 
@@ -19,38 +17,34 @@ module _ {V : Type 0} where
   put_where (Some (Some other)) slots job value = slots
   put_where None slots job value = slots
 
-  -- the value put into its slot, where that is free; else nothing changes
+  -- the value put into its slot if that is free; else nothing changes
   abbrev pub put_one : List (Option V) → ℕ → V → List (Option V)
   put_one slots job value = put_where (slice_get slots job) slots job value
 
-  -- why the value is not put, with the value
   abbrev pub IsRefused : List (Option V) → ℕ → V → PutFault V → Type 0
   IsRefused slots job value (Stranger back) = (length slots ≤ job) × (back ≡ value)
   IsRefused slots job value (Twice back) = ((other : V) × Has slots job other) × (back ≡ value)
 
-  -- the jobs of a list of jobs with values
   abbrev pub jobs_in : List (ℕ × V) → List ℕ
   jobs_in done = map (λ d. d.0) done
 
-  -- a fact holds of each job with its value
   abbrev pub EachJob : (ℕ → V → Type 0) → List (ℕ × V) → Type 0
   EachJob P [] = Unit {0}
   EachJob P (d ∷ done) = P d.0 d.1 × EachJob P done
 
-  -- each value is the one that its job is to give
+  -- each value is the one of its job
   abbrev pub AreRight : (ℕ → V) → List (ℕ × V) → Type 0
   AreRight meaning done = EachJob (λ job value. value ≡ meaning job) done
 
-  -- these jobs are done, each with its value of those that all jobs are to give
+  -- exactly these jobs are done, each with its value of `values`
   abbrev pub AreDone : List V → List ℕ → List (ℕ × V) → Type 0
   AreDone values jobs done = (jobs_in done ≡ jobs) × EachJob (λ job value. (other : V) → value ≡ get_or values job other) done
 
-  -- values put into a tray, one after another
   abbrev pub put_each : List (Option V) → List (ℕ × V) → List (Option V)
   put_each slots [] = slots
   put_each slots (d ∷ done) = put_each (put_one slots d.0 d.1) done
 
--- where each job below n was done once, in whatever order, a tray of n is filled with their values in order
+-- if each job below n was done once, in any order, a tray of n is filled with their values in order
 abbrev pub FillsInOrder : Type 0 → Type 0
 FillsInOrder V =
     (meaning : ℕ → V) (n : ℕ) (done : List (ℕ × V))

@@ -9,18 +9,16 @@ use std::alloc::{AllocError, Global};
 use std::marker::Model;
 use thiserror::Error;
 
-/// The most passes that a chief makes.
 const PASS_LIMIT: u64 = 1 << 16;
 
 /// Why no pass is made.
 #[derive(Clone, Copy, Debug, PartialEq, Eq, Drop, Error)]
 pub enum SplitFault {
-    /// The chief has made 65,536 passes already.
     #[error("65536 passes were made already")]
     TooManyPasses,
 }
 
-/// Numbers from 0 up to below a limit, of which each is claimed once. Any thread claims, and waits for no other.
+/// Hands out the numbers below a limit, each once. Any thread may claim, and none waits for another.
 #[derive(Drop)]
 pub struct Board {
     table: Table<u8, SeatView, u64, BoardRule, Global>,
@@ -39,12 +37,12 @@ impl Model for Board {
         × (b.table.shared.key ≡ b.limit) × (b.limit ≤ number_limit) };
 }
 
-/// Who makes the passes of a board and takes them back. Contracts see the numbers of all passes that came back.
+/// Makes the passes of a board and takes them back. Contracts see the numbers of all passes that came back.
 #[derive(Drop)]
 pub struct Chief {
     seat: Seat<u8, SeatView>,
     made: u64,
-    // At the greatest number it stays, though no chief gets there.
+    // It saturates, although no chief gets that far.
     back: u64,
 }
 
@@ -92,7 +90,7 @@ impl Model for Pass {
 }
 
 impl Board {
-    /// A board of the numbers below `limit`, at most 2^63, and its chief.
+    /// Opens a board of the numbers below `limit`, at most 2^63, and returns it with its chief.
     pub fn open(alloc: Global, limit: u64) -> Result<(Board, Chief), AllocError>
         requires { limit ≤ number_limit }
         ensures limit { IfOk result (λ r. r.0.limit ≡ limit) }
@@ -107,8 +105,7 @@ impl Board {
         Ok((Board { table, limit }, chief))
     }
 
-    /// The least number that nobody has claimed, or `None` where none is left. It takes one step and no memory, and waits
-    /// for nobody; a pass that was told `None` takes no step and is told `None` again.
+    /// Claims the least number that nobody has claimed, or returns `None` if none is left. It allocates nothing and waits for nobody.
     pub fn claim(&self, pass: &mut Pass) -> Option<u64>
         requires { pass.old.board ≡ self.now }
         ensures board { pass.new.board ≡ self.now }
@@ -130,13 +127,8 @@ impl Board {
         }
     }
 
-    /// Closes the board, and tells how many numbers were claimed: the chief's numbers are those below, each once, and all
-    /// where a pass was told that no number is left.
-    ///
-    /// # Errors
-    ///
-    /// The board and the chief as they were, exactly where passes are out. A pass that was dropped is out for
-    /// good.
+    /// Closes the board and returns how many numbers were claimed: the chief's numbers are those below, each once.
+    /// If a pass is out, it returns the board and the chief as they were. A dropped pass is out for good.
     pub fn close(self, chief: Chief) -> Result<u64, (Board, Chief)>
         requires { chief.board ≡ self }
         ensures back { IfOk result (λ count. chief.made ≡ chief.back) }
@@ -158,11 +150,7 @@ impl Board {
 }
 
 impl Chief {
-    /// A new pass, which has claimed nothing. It takes no memory.
-    ///
-    /// # Errors
-    ///
-    /// `TooManyPasses` exactly where 65,536 passes were made, whether or not they came back. The chief is as it was.
+    /// Makes a new pass, or returns `TooManyPasses` if 65,536 were made, whether or not they came back. It allocates nothing.
     pub fn split(&mut self, board: &Board) -> Result<Pass, SplitFault>
         requires { self.old.board ≡ board.now }
         ensures chief { IfOk result (λ p. self.new ≡ record self.old { made = self.old.made + 1 }) }
@@ -178,7 +166,7 @@ impl Chief {
         Ok(Pass { seat, told: false })
     }
 
-    /// Takes a pass back, with the numbers that it claimed. It takes no memory.
+    /// Takes a pass back, with the numbers that it claimed. It allocates nothing.
     pub fn take_back(&mut self, board: &Board, pass: Pass)
         requires chief { self.old.board ≡ board.now }
         requires pass { pass.board ≡ board.now }

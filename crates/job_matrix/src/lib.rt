@@ -1,5 +1,4 @@
-//! Jobs that are spread over workers: plans and gates, a board that hands each number out once, a tray that puts values
-//! in order, and `work_all`, whose answer is that of one worker.
+//! Jobs that are spread over workers: plans, gates, a board of numbers, a tray of values, and `work_all`, which answers as one worker does.
 #![tactic(auto)]
 
 mod boards;

@@ -4,13 +4,11 @@ ghost use Rattle.job_matrix.specs.Plans.{cut_limit, plan_of, worker_limit};
 
 use std::marker::Model;
 
-// The most workers.
 const WORKER_LIMIT: u32 = 16;
 
-// The most records of a range.
 const CUT_LIMIT: u32 = 1 << 20;
 
-/// How many workers there are, and how many records a range has that one of them reads.
+/// The number of workers, and the number of records of a range that one worker reads.
 #[derive(Clone, Copy, Debug, PartialEq, Eq)]
 pub struct Plan {
     workers: u32,
@@ -43,7 +41,7 @@ impl Plan {
         }
     }
 
-    /// How many workers there are.
+    /// The number of workers.
     pub fn workers(self) -> u32
         ensures value { result ≡ self.workers }
         ensures within { (1 ≤ result) × (result ≤ worker_limit) }
@@ -51,7 +49,7 @@ impl Plan {
         self.workers
     }
 
-    /// How many records a range has.
+    /// The number of records of a range.
     pub fn cut(self) -> u32
         ensures value { result ≡ self.cut }
         ensures within { (1 ≤ result) × (result ≤ cut_limit) }

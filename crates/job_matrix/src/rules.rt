@@ -1,20 +1,18 @@
-//! What the seats of a board's table know, its rule, and its kinds of step: a claim, a pass that is made, and a pass that
-//! comes back.
+//! What the seats of a board's table know, its rule, and its kinds of step.
 use atomic_table::{Join, Play, Split, TableRule};
 use std::collections::LinkedList;
 
 /// What a seat of a board knows. No value of it is made.
 pub enum SeatView {
-    /// The chief: the board's limit, how many passes it made and how many came back, how many of these had been told that
-    /// no number is left, and the numbers that they had claimed.
+    /// The chief: the limit, counts of passes made, back, and told that no number is left, and the numbers of passes that came back.
     Leads(u64, u64, u64, u64, LinkedList<u64>),
-    /// A pass: the board's limit, 1 where it was told that no number is left (else 0), and the numbers that it claimed.
+    /// A pass: the limit, 1 if it was told that no number is left (else 0), and its numbers.
     Claims(u64, u64, LinkedList<u64>),
     /// A pass that came back.
     Spent,
 }
 
-/// The rule of a board, of which the limit is told.
+/// The rule of a board, which is told the board's limit.
 pub struct BoardRule;
 
 impl TableRule<u8, SeatView, u64> for BoardRule {
@@ -27,7 +25,6 @@ impl TableRule<u8, SeatView, u64> for BoardRule {
     ghost first = { λ n. Leads n 0 0 0 [] };
 }
 
-// A number is claimed.
 pub(crate) struct Claim;
 
 impl Play<u8, SeatView> for Claim {
@@ -36,7 +33,6 @@ impl Play<u8, SeatView> for Claim {
     ghost then = { λ s. Claimed };
 }
 
-// The chief makes a pass.
 pub(crate) struct MakePass;
 
 impl Split<SeatView> for MakePass {
@@ -47,7 +43,6 @@ impl Split<SeatView> for MakePass {
     ghost right = { new_pass };
 }
 
-// A pass comes back to the chief.
 pub(crate) struct TakeBack;
 
 impl Join<SeatView> for TakeBack {

@@ -1,4 +1,4 @@
-//! Trays: the values of jobs, put in order however they come.
+//! Trays put the values of jobs in order, in whatever order they come.
 ghost use Rattle.std.specs.Prelude.{◌≡◌, ◌<◌, ℕ, length, map, replicate, Some, None, IfOk, IfErr, IfSome, IfNone, OnOk};
 ghost use Rattle.job_matrix.specs.Trays.{IsFree, Has, IsRefused, put_one};
 
@@ -7,18 +7,16 @@ use std::alloc::{AllocError, Global};
 use std::marker::Model;
 use thiserror::Error;
 
-/// Why a tray does not take a value, which is handed back.
+/// Why a tray did not take a value, which is returned.
 #[derive(Debug, Drop, Error)]
 pub enum PutFault<V> {
-    /// The tray has no slot for this job.
     #[error("the tray has no place for this job")]
     Stranger(V),
-    /// The job's slot has a value already.
     #[error("the job's place has a value already")]
     Twice(V),
 }
 
-/// A slot for the value of each job below a number: contracts see the slots in order.
+/// A slot for the value of each job below a number. Contracts see the slots in order.
 #[derive(Drop)]
 pub struct Tray<V: Drop> {
     slots: Vec<Option<V>>,
@@ -36,7 +34,6 @@ impl<V: Drop> Model for Tray<V> {
     ghost invariant = { λ t. (t.room.items ≡ []) × (length t.slots.items ≤ vec_capacity t.room) };
 }
 
-// The first slot in which nothing lies.
 fn first_free<V>(slots: &[Option<V>]) -> Option<usize>
     ensures some { IfSome result (λ at. IsFree slots.now at × ((k : ℕ) → k < at → (v : V) × Has slots.now k v)) }
     ensures none { IfNone result ((k : ℕ) → k < length slots.now → (v : V) × Has slots.now k v) }
@@ -50,7 +47,7 @@ fn first_free<V>(slots: &[Option<V>]) -> Option<usize>
 }
 
 impl<V: Drop> Tray<V> {
-    /// A tray for the jobs below `count`, with all the memory that `put` and `finish` need.
+    /// Opens a tray for the jobs below `count`, with all the memory that `put` and `finish` need.
     pub fn open(alloc: Global, count: u64) -> Result<Tray<V>, AllocError>
         ensures { IfOk result (λ t. t ≡ replicate count None) }
     {
@@ -63,12 +60,7 @@ impl<V: Drop> Tray<V> {
         Ok(Tray { slots, room })
     }
 
-    /// Puts the value of a job at its slot.
-    ///
-    /// # Errors
-    ///
-    /// `Stranger` exactly where the tray has no slot for the job, `Twice` exactly where a value lies there. The value is
-    /// handed back, and the tray is as it was.
+    /// Puts the value of a job into its slot. If it is refused, the value is returned, and the tray stays as it was.
     pub fn put(&mut self, job: u64, value: V) -> Result<(), PutFault<V>>
         ensures ok { OnOk result (IsFree self.old job) }
         ensures err { IfErr result (λ e. IsRefused self.old job value e × (self.new ≡ self.old)) }
@@ -83,11 +75,7 @@ impl<V: Drop> Tray<V> {
         Ok(())
     }
 
-    /// All values, in order of their jobs. It takes no memory.
-    ///
-    /// # Errors
-    ///
-    /// The tray as it was and the least job whose value is missing.
+    /// The values in order of their jobs, or, if one is missing, the tray as it was and the least job without a value.
     pub fn finish(self) -> Result<Values<V>, (Tray<V>, u64)>
         ensures ok { IfOk result (λ v. map Some v ≡ self) }
         ensures err { IfErr result (λ r.

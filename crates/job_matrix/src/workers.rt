@@ -13,7 +13,7 @@ use lists::Values;
 use std::alloc::{AllocError, Global};
 use std::thread::{Threads, join};
 
-// The jobs that one worker claims, with their values. Where memory is wanting it claims no more.
+// The jobs that one worker claims, with their values. When it is out of memory, it claims no more.
 fn do_jobs<W: Work, G: Gate>(
     alloc: Global,
     board: &Board,
@@ -45,7 +45,6 @@ where
     }
 }
 
-// The jobs of two lists, one after the other, where both have found memory.
 fn append_jobs<V: Drop>(
     first: Result<Vec<(u64, V)>, AllocError>,
     second: Result<Vec<(u64, V)>, AllocError>,
@@ -58,8 +57,7 @@ fn append_jobs<V: Drop>(
     Ok(all)
 }
 
-// The jobs that so many workers claim, with their values: this thread is one of them, and each other has a thread of its
-// own. All passes have come back.
+// The jobs that `workers` workers claim. This thread is one of them, and each other has a thread of its own.
 fn spread<W: Work, G: Gate, R: Threads + Sync>(
     rt: &R,
     alloc: Global,
@@ -107,7 +105,6 @@ where
     (chief, append_jobs(others, mine))
 }
 
-// The values of jobs that were done once each, in order of the jobs.
 fn put_in_order<V: Drop>(
     alloc: Global,
     count: u64,
@@ -128,7 +125,7 @@ fn put_in_order<V: Drop>(
     Ok(values)
 }
 
-/// The values of all jobs of a work, `n` of them, in order, made by this thread alone. It passes the gate before each job.
+/// The values of the `n` jobs of a work in order, made by this thread. It passes the gate before each job.
 pub fn work_alone<W: Work, G: Gate>(
     alloc: Global,
     n: u64,
@@ -150,8 +147,7 @@ where
     Ok(Values::of(values))
 }
 
-/// The values of all jobs of a work, `n` of them, in order. They are the same for every number of workers and in whatever order
-/// these come. No more workers start than there are jobs.
+/// The values of the `n` jobs of a work in order, made by at most `workers` threads, whose number changes no value.
 pub fn work_all<W: Work, G: Gate, R: Threads + Sync>(
     rt: &R,
     alloc: Global,

@@ -5,31 +5,30 @@ use std::alloc::AllocError;
 pub trait Work: Sync {
     ghost use Rattle.std.specs.Prelude.{◌≡◌, ◌<◌, List, length, get_or, IfOk};
 
-    /// What a job gives.
+    /// The value of a job.
     type Out;
 
-    /// What each job is to give, in order: there are so many jobs.
+    /// The value of each job, in order.
     ghost values: { Self → List Self.Out };
 
-    /// Does a job.
+    /// Does a job and returns its value.
     fn value(&self, job: u64) -> Result<Self::Out, AllocError>
         requires { job < length (values self.now) }
         ensures { IfOk result (λ v. (other : Self.Out) → v ≡ get_or (values self.now) job other) };
 }
 
-/// What the workers are doing.
+/// What the workers do.
 #[derive(Clone, Copy, Debug, PartialEq, Eq)]
 pub enum Phase {
-    /// A file is loaded, block by block, or a capture's records are read, range by range.
+    /// Blocks of a file are loaded, or ranges of a capture's records are read.
     Ranges,
     /// The recorded lines of connections are made.
     Lines,
-    /// What scenarios answer is made: what each connection contributes, the lines of a report, or drafts of whole outputs.
+    /// Answers of scenarios are made: contributions of connections, lines of a report, or drafts of whole outputs.
     Jobs,
 }
 
-/// What a worker passes after it has claimed a job and before it does it. A test may hold a worker here; no outcome
-/// depends on it.
+/// What a worker passes between the claim of a job and the job. A test may hold a worker here.
 pub trait Gate: Sync {
     /// Passes the gate for a job of a phase.
     fn pass(&self, phase: Phase, job: u64);

@@ -1,4 +1,4 @@
--- Lemmas about lists that several crates need, and that std lacks.
+-- Lemmas on lists that several crates need and std lacks.
 use Rattle.std.proofs.Common.{◌≡◌, ◌≢◌, ◌<◌, ◌≤◌, ℕ, zero, suc, ◌+◌, ◌-◌, Bool, true, false, cond, List, [], ◌∷◌, ◌++◌, length, map, take, drop, filter, set, get_or, slice_get, Option, Some, None, refl, sym, ap, arith}
 use Rattle.std.specs.List.{range_with_len, take_while, find, AllByRecursion}
 use Rattle.std.specs.Option.{option_or}
@@ -6,8 +6,6 @@ use Rattle.std.proofs.lemmas.List.{drop-take}
 use Rattle.std.proofs.lemmas.List.FromFn.{fill_by_all}
 use Rattle.std.proofs.lemmas.List.Elements.{All-from_recursion, recursion_from_All, All-get_or, All-append, All-take, All-drop, All-filter, All-weaker, All-map}
 use Rattle.std.proofs.lemmas.List.Sums.{take_while-cons}
-
--- ---- what holds of each element
 
 module _ {A : Type 0} (P : A → Type 0) where
   pub all_at : (xs : List A) (i : ℕ) (d : A) → AllByRecursion P xs → i < length xs → P (get_or xs i d)
@@ -50,13 +48,9 @@ all_weaker P Q weaker xs all = recursion_from_All Q xs (All-weaker P Q weaker xs
 pub all_map : {A B : Type 0} (P : B → Type 0) (f : A → B) (xs : List A) → AllByRecursion (λ x. P (f x)) xs → AllByRecursion P (map f xs)
 all_map P f xs all = recursion_from_All P (map f xs) (All-map P f xs (All-from_recursion (λ x. P (f x)) xs all))
 
--- ---- places
-
--- the elements at all places are the list
 pub listed : {A : Type 0} (xs : List A) (n : ℕ) (d : A) → length xs ≡ n → map (λ j. get_or xs j d) (range_with_len 0 n) ≡ xs
 listed xs n d len = sym (fill_by_all (λ j. get_or xs j d) xs n d len (λ k below. refl))
 
--- a function of the place after, at places from a on
 pub map_next : (f g : ℕ → ℕ) → ((i : ℕ) → f (i + 1) ≡ g i) → (a n : ℕ) → map f (range_with_len (a + 1) n) ≡ map g (range_with_len a n)
 map_next f g same a zero = refl
 map_next f g same a (suc n) = rw (same a, map_next f g same (a + 1) n) refl
@@ -73,7 +67,6 @@ slice_get-set_other (y ∷ xs) zero (suc k) x other = refl
 slice_get-set_other (y ∷ xs) (suc i) zero x other = refl
 slice_get-set_other (y ∷ xs) (suc i) (suc k) x other = slice_get-set_other xs i k x (λ e. other (ap suc e))
 
--- what remains of the first n elements without the first d of them
 pub drop_of_take : {A : Type 0} (d n : ℕ) (xs : List A) → d ≤ n → drop d (take n xs) ≡ take (n - d) (drop d xs)
 drop_of_take d n xs within =
     let whole : n ≡ d + (n - d) = omega arith in

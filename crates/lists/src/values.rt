@@ -1,7 +1,7 @@
 //! Lists that are handed out.
 use std::marker::Model;
 
-/// A list: contracts see it as its elements in order.
+/// A list, which contracts see as its elements in order.
 #[derive(Debug, Drop)]
 pub struct Values<V> {
     items: Vec<V>,

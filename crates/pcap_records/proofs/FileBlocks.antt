@@ -44,7 +44,7 @@ module _ (text block : List ℕ) (start len : ℕ)
   pub slice_in_block : take len (drop o block) ≡ take len (drop start text)
   slice_in_block = rw is_block (slice_of_first text from block_room o len fits ∙ ap (λ n. take len (drop n text)) place)
 
--- the k-th block of a file, where more is known of blocks than their bytes
+-- the k-th block of a file, if more is known of blocks than their bytes
 pub block_at : {A : Type 0} (bytes_of : A → List ℕ) (blocks : List A) (block : A) (k : ℕ) (text : List ℕ)
     → bytes_in (map bytes_of blocks) ≡ text → AreBlocks (map bytes_of blocks) → k < length blocks → block ≡ get_or blocks k block
     → bytes_of block ≡ take block_room (drop (k * block_len) text)
@@ -52,22 +52,17 @@ block_at bytes_of blocks block k text is_text each within is_block =
     let within_map : k < length (map bytes_of blocks) = omega (arith, within, length-map blocks bytes_of) in
     ap bytes_of is_block ∙ sym (get_or-map bytes_of blocks k block [] within) ∙ each k within_map ∙ ap (λ t. take block_room (drop (k * block_len) t)) is_text
 
--- blocks have no more bytes of their own than they have room for
 pub length_in : (blocks : List (List ℕ)) → length (bytes_in blocks) ≤ length blocks * block_len
 length_in [] = omega arith
 length_in (block ∷ blocks) = omega (arith, length_in blocks, length-append (take block_len block) (bytes_in blocks), length-take block_len block)
 
--- ---- bytes after the last block
-
--- of which more is known than their bytes
+-- blocks whose last one is extended, if more is known of blocks than their bytes
 pub extended_last : {A : Type 0} (bytes_of : A → List ℕ) (blocks : List A) (last new : A) (bytes : List ℕ) (n : ℕ)
     → n ≡ length blocks → 0 < length blocks → bytes_of last ≡ bytes_of (get_or blocks (n - 1) last) → bytes_of new ≡ bytes_of last ++ bytes
     → map bytes_of (set blocks (n - 1) new) ≡ with_last_extended (map bytes_of blocks) bytes
 extended_last bytes_of blocks last new bytes n count some is extended =
     map-set bytes_of blocks (n - 1) new
     ∙ rw (extended, is, count, length-map blocks bytes_of, get_or-map bytes_of blocks (length blocks - 1) last [] (omega arith)) refl
-
--- ---- past the last block
 
 pub none_after : (text : List ℕ) (start len : ℕ) → length text ≤ start → [] ≡ take len (drop start text)
 none_after text start len past = sym (ap (take len) (drop_of_length-le text past) ∙ take-nil len)
@@ -76,8 +71,6 @@ none_after text start len past = sym (ap (take len) (drop_of_length-le text past
 pub past_blocks : {A : Type 0} (bytes_of : A → List ℕ) (blocks : List A) (text : List ℕ) (start : ℕ)
     → bytes_in (map bytes_of blocks) ≡ text → length blocks ≤ start / block_len → length text ≤ start
 past_blocks bytes_of blocks text start is_text past = omega (arith, length_in (map bytes_of blocks), length-map blocks bytes_of, ap length is_text)
-
--- ---- how a file grows
 
 take_all : (n : ℕ) (xs : List ℕ) → length xs ≤ n → take n xs ≡ xs
 take_all n xs within =
@@ -92,7 +85,7 @@ same_bytes blocks i block same =
     ∙ ap (flat_map (λ bytes. bytes)) (map-set_same (take block_len) blocks i block [] same)
     ∙ flat_map-map (λ bytes. bytes) (take block_len) blocks
 
--- n blocks and a last one, all with as many bytes of their own as they may have, get a part
+-- n blocks and a last one, all full, get a part
 module _ (blocks : List (List ℕ)) (n : ℕ) (text part : List ℕ)
     (count : n + 1 ≡ length blocks) (each : (k : ℕ) → k < n + 1 → get_or blocks k [] ≡ take block_room (drop (k * block_len) text))
     (full : length text ≡ (n + 1) * block_len) (short : length part ≤ block_len) where
@@ -188,8 +181,6 @@ grown [] part are short =
     }
 grown (block ∷ blocks) part are short = grown_by (block ∷ blocks) (length (block ∷ blocks) - 1) part (omega arith) are short
 
--- ---- the parts that were loaded
-
 until_full : (part : List ℕ) (parts : List (List ℕ)) → block_len ≤ length part → bytes_until_short (part ∷ parts) ≡ part ++ bytes_until_short parts
 unfolding bytes_until_short
 until_full part parts long =
@@ -206,7 +197,6 @@ until_none : bytes_until_short [] ≡ []
 unfolding bytes_until_short
 until_none = refl
 
--- after a full part come the others
 module _ (old new : List (List ℕ)) (part : List ℕ) (parts : List (List ℕ)) (all : List ℕ)
     (is_grown : IsGrown old part new) (so_far : bytes_in old ++ bytes_until_short (part ∷ parts) ≡ all) where
   pub full_after : AreFull old → length part ≡ block_len → AreFull new

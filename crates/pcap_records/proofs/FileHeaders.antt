@@ -27,15 +27,11 @@ number_within o m n k bytes within =
     ∙ ap (number_in o n) (drop-take k (m - k) bytes)
     ∙ first_number o (m - k) n (drop k bytes) (omega arith)
 
--- ---- the header of a record
-
 pub packet_len_within : (h : Heading) (bytes : List ℕ) → packet_len h (take record_header_len bytes) ≡ packet_len h bytes
 packet_len_within h bytes = number_within h.order 16 4 8 bytes (omega arith)
 
 pub stamp_within : (h : Heading) (bytes : List ℕ) → stamp_of h (take record_header_len bytes) ≡ stamp_of h bytes
 stamp_within h bytes = rw (number_within h.order 16 4 0 bytes (omega arith), number_within h.order 16 4 4 bytes (omega arith)) refl
-
--- ---- the header of a file
 
 magic_within : (bytes : List ℕ) → magic_heading (take file_header_len bytes) ≡ magic_heading bytes
 magic_within bytes = rw (number_within Big 24 4 0 bytes (omega arith), number_within Little 24 4 0 bytes (omega arith)) refl
@@ -48,7 +44,7 @@ checked_within (Some h) bytes =
 pub heading_within : (bytes : List ℕ) → checked_heading (magic_heading (take file_header_len bytes)) (take file_header_len bytes) ≡ checked_heading (magic_heading bytes) bytes
 heading_within bytes = ap (λ o. checked_heading o (take file_header_len bytes)) (magic_within bytes) ∙ checked_within (magic_heading bytes) bytes
 
--- of a file that is neither too long nor too short
+-- the heading of a file that is neither too long nor too short
 pub heading_is : (bytes : List ℕ) → length bytes ≤ capture_limit → file_header_len ≤ length bytes → file_heading bytes ≡ checked_heading (magic_heading bytes) bytes
 unfolding file_heading
 heading_is bytes short long =

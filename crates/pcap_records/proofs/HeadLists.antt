@@ -15,8 +15,6 @@ use Rattle.pcap_records.specs.HeadLists.{AreKept, IsGrownBy, IsKept, heads_kept,
 use Rattle.pcap_records.proofs.HeadReading.{read_on-whole}
 use Rattle.pcap_records.proofs.PacketHeads.{head_bytes-again, head_len-append, head_len-head, head_len-least}
 
--- ---- one head
-
 -- the head of a packet that lies within some bytes is what is kept of it
 pub head_is_kept : (bytes : List ℕ) (r : Record) → r.start + r.len ≤ length bytes → head_of (packet_of bytes r) ≡ kept_head bytes r
 head_is_kept bytes r within =
@@ -31,7 +29,7 @@ kept_bytes-len bytes r within =
 abbrev IsHeld : List ℕ → Record → Type 0
 IsHeld bytes r = r.start + kept_len bytes r ≤ length bytes
 
--- what is kept of a packet of n bytes, where these bytes are there from its start on and others follow them
+-- what is kept of a packet of n bytes, if its kept bytes are there and others follow them
 first_stays : (n : ℕ) (xs more : List ℕ) → min (head_len (take n xs)) n ≤ length xs
     → (head_len (take n (xs ++ more)) ≡ head_len (take n xs)) × (head_bytes (take n (xs ++ more)) ≡ head_bytes (take n xs))
 first_stays n xs more held = by (nat_lt (length xs) n) refl
@@ -65,8 +63,6 @@ kept_len-append : (bytes more : List ℕ) (r : Record) → IsHeld bytes r → ke
 kept_len-append bytes more r held =
     rw (drop-append-le r.start bytes more (start_within bytes r held), (first_stays r.len (drop r.start bytes) more (held_from bytes r held)).0) refl
 
--- ---- heads
-
 map_same : {A B : Type 0} (f g : A → B) (xs : List A) → AllByRecursion (λ x. f x ≡ g x) xs → map f xs ≡ map g xs
 map_same f g [] all = refl
 map_same f g (x ∷ xs) all = ap₂ (λ y ys. y ∷ ys) all.0 (map_same f g xs all.1)
@@ -86,9 +82,6 @@ heads_of_packets bytes rs all = by rs (recursion_from_All (λ (r : Record). r.st
 all_held : (ticks : ℕ) (list : HeadList) → AreKept ticks list → All (IsHeld list.bytes.items) list.records.items
 all_held ticks list kept = All-weaker (IsKept ticks list.bytes.items list.need) (IsHeld list.bytes.items) (λ r is. is.held) list.records.items kept.each
 
--- ---- a list that grew by a record
-
--- the head of the record that was added
 added_packet : (bytes file : List ℕ) (r : Record) → told_packet (bytes ++ kept_bytes file r) (record { stamp = r.stamp; start = length bytes; len = r.len }) ≡ kept_bytes file r
 added_packet bytes file r =
     let packet = told_packet file r in
@@ -133,8 +126,6 @@ read_on-grown h bytes at r old new kept grown found more =
     let left : drop (16 + packet_len h rest) rest ≡ drop (at + (16 + r.len)) bytes =
     ap (λ n. drop (16 + n) rest) (sym found.len) ∙ drop-drop (16 + r.len) at bytes in
     read_on-whole h (heads_kept old) rest more found.is_whole ∙ ap₂ (λ some bytes. read_on (some_heads h some) (bytes ++ more)) heads left
-
--- ---- the capture that a list is
 
 -- the bytes that are kept, and zeros behind them up to where the packets would end
 pub record IsStretched (list : HeadList) (bytes : List ℕ) : Type 0 where

@@ -18,8 +18,6 @@ use Rattle.pcap_records.proofs.FileHeaders.{heading_is, heading_within}
 use Rattle.pcap_records.proofs.Passes.{records_after-next, reading-file_heading, reading-bad_header}
 use Rattle.pcap_records.proofs.Splitting.{NextSays, next_says, says_next, number_in-append}
 
--- ---- the next record, where more bytes follow
-
 packet_len-append : (h : Heading) (xs more : List ℕ) → 16 ≤ length xs → packet_len h (xs ++ more) ≡ packet_len h xs
 packet_len-append h xs more long = rw (drop-append-le 8 xs more (omega arith)) (number_in-append h.order 4 (drop 8 xs) more (omega (arith, length-drop 8 xs)))
 
@@ -48,8 +46,6 @@ first_packet-append : (h : Heading) (xs more : List ℕ) → next_record h xs �
 first_packet-append h xs more is =
     let says = whole_says h xs is in
     rw (stamp_of-append h xs more says.0, packet_len-append h xs more says.0, drop-append-le 16 xs more says.0, take-append-le (packet_len h xs) (drop 16 xs) more (omega (arith, length-drop 16 xs, says.2))) refl
-
--- ---- from one record to the next
 
 heads_then_past : (heads : List Head) (p : Packet) (after : Result Contents CaptureFault) → heads_then heads (contents_with_packet p after) ≡ heads_then (heads ++ head_of p ∷ []) after
 heads_then_past heads p (Ok c) = rw (append_assoc heads (head_of p ∷ []) (map head_of c.packets)) refl
@@ -80,9 +76,7 @@ pub read_on-fault : (fault : CaptureFault) (xs : List ℕ) → read_on (a_fault 
 unfolding read_on
 read_on-fault fault xs = refl
 
--- ---- the file header
-
--- a file header is read of the first 24 bytes, if the file is not too long
+-- only the first 24 bytes decide about a file header, if the file is not too long
 file_heading-first : (xs more : List ℕ) → 24 ≤ length xs → length xs + length more ≤ capture_limit → file_heading (xs ++ more) ≡ file_heading (take 24 xs)
 file_heading-first xs more long limited =
     let all = xs ++ more in
@@ -114,9 +108,6 @@ read_on-short xs short =
     let no_header : nat_lt (length xs) 24 ≡ true = grind (arith, nat_tests) in
     rw (reading-bad_header xs ShortHeader (rw (is_short, no_header) refl)) refl
 
--- ---- what a reader takes
-
--- the reader's last step, which nothing follows
 pub takes_last : (seen old new : HeadReaderView) (bytes : List ℕ) → old ≡ seen → Takes old new bytes → seen.taken + length bytes ≤ capture_limit
     → read_on seen.found bytes ≡ read_on new.found (drop (new.taken - old.taken) bytes)
 takes_last seen old new bytes is takes limited =
@@ -148,7 +139,6 @@ takes_bad_header taken fault bytes long is = record {
   same = λ more limited. read_on-bad_header fault bytes more long (omega arith) is ∙ sym (read_on-fault fault _);
 }
 
--- what is left after the header and what follows it
 pub left_after_header : (taken new : ℕ) (bytes : List ℕ) → taken + 24 ≤ new → drop (new - (taken + 24)) (drop 24 bytes) ≡ drop (new - taken) bytes
 left_after_header taken new bytes past =
     let all : 24 + (new - (taken + 24)) ≡ new - taken = omega arith in
@@ -175,7 +165,6 @@ spent_short no_header rest spent = omega arith
 spent_short (some_heads h heads) rest spent = torn_short h rest (subst (NextSays h rest) spent (next_says h rest))
 spent_short (a_fault fault) rest spent = rw spent (omega arith)
 
--- a fault tells what it refuses
 pub tells : (fault : CaptureFault) (read : Result Heads CaptureFault) → read ≡ Err fault → IfSome (capture_refusal fault) (λ refused. read ≡ Err refused)
 tells CaptureTooLong read is = is
 tells ShortHeader read is = is
@@ -184,8 +173,6 @@ tells BadVersion read is = is
 tells BadLink read is = is
 tells (RecordTooLong at) read is = is
 tells (Memory e) read is = tt
-
--- ---- the end of a file
 
 pub ends_header : (state : State) (heads : List Head) (rest : List ℕ) → state ≡ Header → IsSpent (finding state heads) rest → read_on (finding state heads) rest ≡ Err ShortHeader
 ends_header state heads rest is spent = rw is (read_on-short rest (rw is at spent))

@@ -1,4 +1,4 @@
--- How many first bytes of a packet are kept: it depends on the first 15 alone, and so is the same of what is kept.
+-- How many first bytes of a packet are kept depends only on its first 15 bytes, and so is the same of what is kept.
 use Rattle.std.proofs.Common.{◌≡◌, ◌≤◌, ℕ, Bool, true, false, ◌==◌, ◌&&◌, if◌then◌else◌, List, ◌++◌, length, take, slice_index, ap, ◌∙◌, arith}
 use Rattle.std.proofs.lemmas.List.{take-take, get_or-take, get_or_append_left}
 use Rattle.pcap_records.specs.Heads.{head_len, head_bytes, is_usual}
@@ -11,7 +11,6 @@ head_len-least xs = by (is_usual xs)
     by true = omega arith
     by false = omega arith
 
--- packets whose bytes that say so are the same
 same_len : (xs ys : List ℕ) → slice_index xs 12 ≡ slice_index ys 12 → slice_index xs 13 ≡ slice_index ys 13 → slice_index xs 14 ≡ slice_index ys 14 → head_len xs ≡ head_len ys
 unfolding head_len
 same_len xs ys x y z = λ i. if x i == 8 && (y i == 0 && z i == 69) then 48 else 98
@@ -24,7 +23,7 @@ pub head_len-append : (xs ys : List ℕ) → 48 ≤ length xs → head_len (xs +
 head_len-append xs ys long =
     same_len (xs ++ ys) xs (get_or_append_left xs ys 0 12 (omega arith)) (get_or_append_left xs ys 0 13 (omega arith)) (get_or_append_left xs ys 0 14 (omega arith))
 
--- what is kept has a head of as many bytes
+-- what is kept has a head of the same length
 pub head_len-head : (xs : List ℕ) → head_len (head_bytes xs) ≡ head_len xs
 head_len-head xs = head_len-take (head_len xs) xs (head_len-least xs)
 

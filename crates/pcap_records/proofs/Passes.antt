@@ -10,16 +10,13 @@ use Rattle.pcap_records.specs.declared.fault.CaptureFault.{CaptureFault}
 use Rattle.pcap_records.specs.declared.fault.CaptureFault.TheVariants.{RecordTooLong}
 use Rattle.lists.specs.Agreement.{Refuses}
 
--- ---- from one record to the next
-
--- the bytes of the record before are passed
 pub records_after-drop : (n : ℕ) (h : Heading) (k : ℕ) (bytes : List ℕ) → records_after n h k bytes ≡ records_after 0 h k (drop n bytes)
 unfolding records_after
 records_after-drop zero h k bytes = refl
 records_after-drop (suc n) h k [] = refl
 records_after-drop (suc n) h k (b ∷ bytes) = records_after-drop n h k bytes
 
--- what is read is told by the next record, and by what is read after it
+-- what is read depends on the next record, and on what is read after it
 pub records_after-next : (h : Heading) (k : ℕ) (bytes : List ℕ) → records_after 0 h k bytes ≡ contents_at (next_record h bytes) h k bytes (records_after 0 h (suc k) (drop (16 + packet_len h bytes) bytes))
 unfolding records_after next_record
 records_after-next h k [] = refl
@@ -28,8 +25,6 @@ records_after-next h k (b ∷ bytes) =
   where
     by_count : suc (15 + packet_len h (b ∷ bytes)) ≡ 16 + packet_len h (b ∷ bytes)
     by_count = omega arith
-
--- ---- at one place of a file the code reads what the definition reads after it
 
 next_whole : (h : Heading) (bytes : List ℕ) → 16 ≤ length bytes → packet_len h bytes ≤ packet_limit → packet_len h bytes ≤ length bytes - 16 → next_record h bytes ≡ whole
 unfolding next_record
@@ -51,8 +46,6 @@ record_stands_at h bytes at r start len stamped long limited held within_time = 
   };
 }
 
--- ---- what a record leaves to those after it
-
 -- after a whole record the file is refused as before
 pub refuses-whole : (h : Heading) (k : ℕ) (bytes : List ℕ) (o : Option CaptureFault) → next_record h bytes ≡ whole
     → Refuses o (records_after 0 h (k + 1) (drop (16 + packet_len h bytes) bytes)) → Refuses o (records_after 0 h k bytes)
@@ -71,8 +64,6 @@ refuses-torn h k bytes is_torn = rw (records_after-next h k bytes, is_torn) refl
 
 pub refuses-too_long : (h : Heading) (k : ℕ) (bytes : List ℕ) → next_record h bytes ≡ too_long → records_after 0 h k bytes ≡ Err (RecordTooLong k)
 refuses-too_long h k bytes is_too_long = rw (records_after-next h k bytes, is_too_long) refl
-
--- ---- listing
 
 -- what is read after packets that are listed already
 abbrev pub listed_before : List Packet → Result Contents CaptureFault → Result Contents CaptureFault
@@ -99,16 +90,12 @@ listed-torn h ps k bytes is_torn = rw (records_after-next h k bytes, is_torn, ap
 pub listed-too_long : (h : Heading) (ps : List Packet) (k : ℕ) (bytes : List ℕ) → next_record h bytes ≡ too_long → listed_before ps (records_after 0 h k bytes) ≡ Err (RecordTooLong k)
 listed-too_long h ps k bytes is_too_long = rw (records_after-next h k bytes, is_too_long) refl
 
--- what refuses after listed packets refuses the whole
 pub refuses-listed : (o : Option CaptureFault) (ps : List Packet) (after : Result Contents CaptureFault) → Refuses o after → Refuses o (listed_before ps after)
 refuses-listed (Some e) ps (Ok c) is = absurd cc
 refuses-listed (Some e) ps (Err f) is = is
 refuses-listed None ps (Ok c) is = refl
 refuses-listed None ps (Err f) is = is
 
--- ---- from the header and the records to the reading
-
--- a file's reading once its header is read
 pub reading-file_heading : (bytes : List ℕ) (h : Heading) → file_heading bytes ≡ Ok h → reading bytes ≡ reading_in h.order (records_after 0 h 0 (drop 24 bytes))
 unfolding reading
 reading-file_heading bytes h is = rw is refl
@@ -117,7 +104,6 @@ pub reading-bad_header : (bytes : List ℕ) (e : CaptureFault) → file_heading 
 unfolding reading
 reading-bad_header bytes e is = rw is refl
 
--- what refuses the records refuses the file
 pub reading-refused : (o : Option CaptureFault) (bytes : List ℕ) (h : Heading) → file_heading bytes ≡ Ok h → Refuses o (records_after 0 h 0 (drop 24 bytes)) → Refuses o (reading bytes)
 reading-refused o bytes h is refused = rw (reading-file_heading bytes h is) (by o (records_after 0 h 0 (drop 24 bytes)) refused)
   where
@@ -127,6 +113,5 @@ reading-refused o bytes h is refused = rw (reading-file_heading bytes h is) (by 
     by None (Ok c) is = refl
     by None (Err f) is = is
 
--- the file of records that were read
 pub reading-listed : (bytes : List ℕ) (h : Heading) (c : Contents) → file_heading bytes ≡ Ok h → records_after 0 h 0 (drop 24 bytes) ≡ Ok c → reading bytes ≡ Ok (record { order = h.order; contents = c })
 reading-listed bytes h c is read = reading-file_heading bytes h is ∙ rw read refl

@@ -50,7 +50,6 @@ over_fits : (unit : Unit) (at : ℕ) → at % ticks_of unit < 2 ^ 32
 over_fits Micros at = omega arith
 over_fits Nanos at = omega arith
 
--- seconds and ticks put together
 instant_read : (ticks at seconds over : ℕ) → at < horizon ticks → seconds ≡ at / ticks → over ≡ at % ticks → instant ticks (seconds * ticks + over) ≡ at
 instant_read ticks at seconds over before whole part =
     let sum : seconds * ticks + over ≡ at = rw (whole, part, mul_comm (at / ticks) ticks) (div-add-mod at ticks) in

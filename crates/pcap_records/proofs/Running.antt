@@ -52,7 +52,6 @@ peak_all peak records i all done so_far =
     let whole = rw (drop_all i records done) at so_far in
     omega (arith, whole)
 
--- the stamps of some records are those of their packets
 pub stamps_of_packets : (bytes : List ℕ) (records : List Record) (from to : ℕ)
     → map (λ x. x.stamp) (slice_range records from to) ≡ map (λ p. p.stamp) (slice_range (map (packet_of bytes) records) from to)
 stamps_of_packets bytes records from to =
@@ -61,8 +60,6 @@ stamps_of_packets bytes records from to =
     twice : (rs : List Record) → map (λ x. x.stamp) rs ≡ map (λ p. p.stamp) (map (packet_of bytes) rs)
     twice [] = refl
     twice (r ∷ rs) = ap (λ ns. r.stamp ∷ ns) (twice rs)
-
--- ---- a part of the instants
 
 instants-drop : (carry from : ℕ) (stamps : List ℕ) → drop from (instants carry stamps) ≡ instants (max carry (greatest (take from stamps))) (drop from stamps)
 instants-drop carry zero stamps = let none : max carry 0 ≡ carry = omega arith in rw none refl

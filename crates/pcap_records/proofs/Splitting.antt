@@ -13,8 +13,6 @@ use Rattle.pcap_records.specs.Reading.{Heading, Packet, Contents, Reading, NextR
 use Rattle.pcap_records.specs.Grammar.{RawRecord, IsRawRecord, IsRest, AnnouncesTooMuch, Splits, raw_bytes, packet_of_raw, ReadingsSplit, SplitsAreRead, RefusalsSplit, SplitsAreRefused}
 use Rattle.pcap_records.proofs.Passes.{records_after-next, listed_before, listed-whole, listed_before-none, reading-file_heading, reading-bad_header}
 
--- ---- numbers in the first bytes
-
 number_in-take : (o : Order) (n m : ℕ) (bytes : List ℕ) → n ≤ m → number_in o n (take m bytes) ≡ number_in o n bytes
 number_in-take Big n m bytes fits = big_from-take 0 n m bytes (omega arith)
 number_in-take Little n m bytes fits = little_from-take 0 n m bytes (omega arith)
@@ -22,8 +20,6 @@ number_in-take Little n m bytes fits = little_from-take 0 n m bytes (omega arith
 pub number_in-append : (o : Order) (n : ℕ) (xs ys : List ℕ) → n ≤ length xs → number_in o n (xs ++ ys) ≡ number_in o n xs
 number_in-append Big n xs ys fits = big_from-append n xs ys fits
 number_in-append Little n xs ys fits = little_from-append n xs ys fits
-
--- ---- what the next record says
 
 abbrev pub NextSays : Heading → List ℕ → NextRecord → Type 0
 NextSays h bytes torn = IsRest h bytes
@@ -48,16 +44,13 @@ says_next h bytes torn (inr cut) = grind (arith, nat_tests)
 says_next h bytes too_long says = grind (arith, nat_tests)
 says_next h bytes whole says = grind (arith, nat_tests)
 
--- ---- every file has one split
-
--- a split, with what ends it
 pub record Split (h : Heading) (bytes : List ℕ) : Type 0 where
   pub raws : List RawRecord
   pub rest : List ℕ
   pub splits : Splits h bytes raws rest
   pub ends : IsRest h rest ⊎ AnnouncesTooMuch h rest
 
--- the record at the next_record, as a piece
+-- the record with which the bytes begin, as the grammar has it
 first_raw : Heading → List ℕ → RawRecord
 first_raw h bytes = record { header = take 16 bytes; packet = take (packet_len h bytes) (drop 16 bytes) }
 
@@ -73,7 +66,7 @@ first_raw-is h bytes says =
       limited = rw held says.1;
     }
 
--- a split of what stands after a whole record
+-- a whole record, and a split of what follows it
 split_more : (h : Heading) (bytes : List ℕ) → NextSays h bytes whole → Split h (drop (16 + packet_len h bytes) bytes) → Split h bytes
 unfolding first_raw
 split_more h bytes says after = record {
@@ -104,9 +97,6 @@ split_within (suc n) h bytes fits = split_by (next_record h bytes) n h bytes ref
 pub split_of : (h : Heading) (bytes : List ℕ) → Split h bytes
 split_of h bytes = split_within (length bytes) h bytes (omega arith)
 
--- ---- a split is read
-
--- a piece's bytes, with others after them
 abbrev before : RawRecord → List ℕ → List ℕ
 before p after = (p.header ++ p.packet) ++ after
 
@@ -152,8 +142,6 @@ read_splits h (p ∷ raws) rest k each =
     rw (append_assoc (raw_bytes p) (flat_map raw_bytes raws) rest, read_raw h p (flat_map raw_bytes raws ++ rest) k each.0, read_splits h raws rest (k + 1) each.1, counts)
     (listed_before-twice (packet_of_raw h p) (map (packet_of_raw h) raws) (records_after 0 h (k + 1 + length raws) rest))
 
--- ---- the laws
-
 read_rest : (h : Heading) (k : ℕ) (rest : List ℕ) → IsRest h rest → records_after 0 h k rest ≡ Ok (record { ticks = h.ticks; packets = []; rest = length rest })
 read_rest h k rest ends = rw (records_after-next h k rest, says_next h rest torn ends) refl
 
@@ -169,7 +157,6 @@ splits_are_refused bytes h raws rest is splits ends =
     let all : 0 + length raws ≡ length raws = omega arith in
     rw (reading-file_heading bytes h is, splits.whole, read_splits h raws rest 0 splits.each, all, read_too_long h (length raws) rest ends) refl
 
--- a file that is read has a header
 headed : (bytes : List ℕ) (r : Reading) (read : Result Heading CaptureFault) → file_heading bytes ≡ read → reading bytes ≡ Ok r → (h : Heading) × (file_heading bytes ≡ Ok h)
 headed bytes r (Ok h) is is_read = (h, is)
 headed bytes r (Err e) is is_read = absurd (let no = reading-bad_header bytes e is in cc)

@@ -11,7 +11,7 @@ use Rattle.pcap_records.specs.declared.heading.Heading as code
 use Rattle.pcap_records.specs.Instants.{horizon, ticks_of}
 use Rattle.pcap_records.specs.Reading.{Packet, Contents, Heading, Reading, capture_limit, packet_limit}
 
--- the file's bytes, the ticks of a second, the order of its fields, where its records lie, and how many bytes follow
+-- the file's bytes, the ticks of a second, the order of its fields, its records, and the number of bytes after these
 pub record CaptureView : Type 0 where
   pub bytes : List ℕ
   pub ticks : ℕ
@@ -19,27 +19,22 @@ pub record CaptureView : Type 0 where
   pub records : List Record
   pub rest : ℕ
 
--- the bytes of a file, wherever they stand
 abbrev pub bytes_of : FileBytes → List ℕ
 bytes_of (Whole bytes) = bytes.now
 bytes_of (InBlocks blocks) = blocks.now
 
--- what contracts see of what the magic number tells
 abbrev pub heading_of : code.Heading → Heading
 heading_of h = record { order = h.order; ticks = ticks_of h.unit }
 
--- the packet that a record tells of
 abbrev pub packet_of : List ℕ → Record → Packet
 packet_of bytes r = record { stamp = r.stamp; bytes = take r.len (drop r.start bytes) }
 
--- what a capture holds
 abbrev pub contents_of : CaptureView → Contents
 contents_of c = record { ticks = c.ticks; packets = map (packet_of c.bytes) c.records; rest = c.rest }
 
 abbrev pub reading_of : CaptureView → Reading
 reading_of c = record { order = c.order; contents = contents_of c }
 
--- the bytes of packet i
 abbrev pub packet_at : CaptureView → ℕ → Option (List ℕ)
 packet_at c i = option_map (λ p. p.bytes) (slice_get (contents_of c).packets i)
 
@@ -47,20 +42,17 @@ packet_at c i = option_map (λ p. p.bytes) (slice_get (contents_of c).packets i)
 abbrev pub stamps_between : CaptureView → ℕ → ℕ → List ℕ
 stamps_between c from to = map (λ p. p.stamp) (slice_range (contents_of c).packets from to)
 
--- a record's packet lies within the bytes and is not too long, and its stamp is no later than the horizon
 pub record IsWithinFile (ticks : ℕ) (bytes : List ℕ) (r : Record) : Type 0 where
   pub ends : r.start + r.len ≤ length bytes
   pub limited : r.len ≤ packet_limit
   pub stamped : r.stamp ≤ horizon ticks
 
--- what holds of every capture: its records lie within the bytes, which are no more than a file may have, and are too
--- few for their numbers to pass 26 bits
+-- what holds of every capture
 pub record IsSoundCapture (ticks : ℕ) (bytes : List ℕ) (records : List Record) : Type 0 where
   pub limited : length bytes ≤ capture_limit
   pub within : All (IsWithinFile ticks bytes) records
   pub few : length records < 2 ^ 26
 
--- what a fault of reading refuses
 abbrev pub capture_refusal : CaptureFault → Option CaptureFault
 capture_refusal (Memory e) = None
 capture_refusal CaptureTooLong = Some CaptureTooLong

@@ -1,10 +1,9 @@
--- The same file format as a grammar, apart from any way of reading: which splits of the bytes it allows.
+-- The file format as a grammar, apart from any way of reading: which splits of the bytes it allows.
 use Rattle.std.specs.Prelude.{◌≡◌, ◌≤◌, ◌<◌, ◌⊎◌, ℕ, ◌+◌, List, ◌++◌, length, drop, map, Ok, Err}
 use Rattle.std.specs.List.{flat_map, AllByRecursion}
 use Rattle.pcap_records.specs.declared.fault.CaptureFault.TheVariants.{RecordTooLong}
 use Rattle.pcap_records.specs.Reading.{Heading, Packet, Reading, file_header_len, record_header_len, packet_len, packet_limit, stamp_of, file_heading, reading}
 
--- a record as it lies in the file
 pub record RawRecord : Type 0 where
   pub header : List ℕ
   pub packet : List ℕ
@@ -18,13 +17,12 @@ pub record IsRawRecord (h : Heading) (p : RawRecord) : Type 0 where
   pub announced : packet_len h p.header ≡ length p.packet
   pub limited : length p.packet ≤ packet_limit
 
--- bytes with which no record begins whole, and that do not announce too long a packet
+-- bytes that do not begin with a whole record, and do not announce too long a packet
 abbrev pub IsRest : Heading → List ℕ → Type 0
 IsRest h bytes =
     (length bytes < record_header_len)
     ⊎ ((packet_len h bytes ≤ packet_limit) × (length bytes < record_header_len + packet_len h bytes))
 
--- a whole record header that announces too long a packet
 abbrev pub AnnouncesTooMuch : Heading → List ℕ → Type 0
 AnnouncesTooMuch h bytes = (record_header_len ≤ length bytes) × (packet_limit < packet_len h bytes)
 
@@ -36,7 +34,6 @@ pub record Splits (h : Heading) (bytes : List ℕ) (raws : List RawRecord) (rest
 abbrev pub packet_of_raw : Heading → RawRecord → Packet
 packet_of_raw h p = record { stamp = stamp_of h p.header; bytes = p.packet }
 
--- the reading that such a split stands for
 abbrev pub reading_by : Heading → List RawRecord → List ℕ → Reading
 reading_by h raws rest =
     record {
@@ -52,21 +49,21 @@ ReadingsSplit =
     × ((file_heading bytes ≡ Ok h) × Splits h (drop file_header_len bytes) raws rest × IsRest h rest
     × (r ≡ reading_by h raws rest))
 
--- what has a split is read so; hence a file has one split at most
+-- what has a split is read as the split says; hence a file has at most one split
 abbrev pub SplitsAreRead : Type 0
 SplitsAreRead =
     (bytes : List ℕ) (h : Heading) (raws : List RawRecord) (rest : List ℕ)
     → file_heading bytes ≡ Ok h → Splits h (drop file_header_len bytes) raws rest → IsRest h rest
     → reading bytes ≡ Ok (reading_by h raws rest)
 
--- a refusal at record k: k whole records, and then a header that announces too much
+-- a refusal at record k means k whole records, and then a header that announces too much
 abbrev pub RefusalsSplit : Type 0
 RefusalsSplit =
     (bytes : List ℕ) (h : Heading) (k : ℕ) → file_heading bytes ≡ Ok h → reading bytes ≡ Err (RecordTooLong k)
     → (raws : List RawRecord) × (rest : List ℕ)
     × ((length raws ≡ k) × Splits h (drop file_header_len bytes) raws rest × AnnouncesTooMuch h rest)
 
--- and the other way round: such a split is refused at its number of records
+-- such a split is refused at its number of records
 abbrev pub SplitsAreRefused : Type 0
 SplitsAreRefused =
     (bytes : List ℕ) (h : Heading) (raws : List RawRecord) (rest : List ℕ)

@@ -7,7 +7,7 @@ use Rattle.pcap_records.specs.declared.reader.RecordList.{RecordList}
 use Rattle.pcap_records.specs.Reading.{Contents, Heading, next_record, whole, torn, too_long, first_packet, packet_len, record_header_len}
 use Rattle.pcap_records.specs.CaptureView.{IsWithinFile, packet_of}
 
--- the record r is the whole one that begins at `at`
+-- r is the whole record that begins at `at`
 pub record IsRecordAt (h : Heading) (bytes : List ℕ) (at : ℕ) (r : Record) : Type 0 where
   pub is_whole : next_record h (drop at bytes) ≡ whole
   pub start : r.start ≡ at + record_header_len
@@ -20,7 +20,6 @@ IsFoundAt h bytes at Torn = next_record h (drop at bytes) ≡ torn
 IsFoundAt h bytes at TooLong = next_record h (drop at bytes) ≡ too_long
 IsFoundAt h bytes at (Whole r) = IsRecordAt h bytes at r
 
--- the contents that listed records and a rest stand for
 abbrev pub listed_contents : ℕ → List ℕ → RecordList → Contents
 listed_contents ticks bytes list =
     record { ticks = ticks; packets = map (packet_of bytes) list.records.items; rest = list.rest }

@@ -7,7 +7,6 @@ use Rattle.pcap_records.specs.Instants.{nanoseconds, ticks_of, horizon}
 use Rattle.pcap_records.specs.declared.unit.Unit.{Unit}
 use Rattle.pcap_records.specs.Reading.{Packet, magic, nanosecond_magic, capture_limit, packet_limit, reading}
 
--- the magic number of files in so many ticks a second
 abbrev pub magic_of : ℕ → ℕ
 magic_of ticks = if ticks == nanoseconds then nanosecond_magic else magic
 
@@ -22,15 +21,12 @@ unfoldable pub record_header : ℕ → ℕ → ℕ → List ℕ
 record_header ticks at len =
     ((little_bytes 4 (at / ticks) ++ little_bytes 4 (at % ticks)) ++ little_bytes 4 len) ++ little_bytes 4 len
 
--- a packet's record: its header and the packet
 abbrev pub record_bytes : ℕ → ℕ → List ℕ → List ℕ
 record_bytes ticks at packet = record_header ticks at (length packet) ++ packet
 
--- a capture of some packets
 abbrev pub written_capture : ℕ → List Packet → List ℕ
 written_capture ticks packets = file_header ticks ++ flat_map (λ p. record_bytes ticks p.stamp p.bytes) packets
 
--- a packet for which there is a record: before the horizon, and no longer than the limit
 pub record IsWritable (ticks : ℕ) (p : Packet) : Type 0 where
   pub stamped : p.stamp < horizon ticks
   pub limited : length p.bytes ≤ packet_limit

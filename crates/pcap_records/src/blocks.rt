@@ -5,14 +5,13 @@ ghost use Rattle.pcap_records.specs.Blocks.{block_len, block_limit, slice_limit,
 use std::alloc::{AllocError, Global};
 use std::marker::Model;
 
-/// How many bytes of a file each block begins with: its own. The last block may have fewer.
+/// The number of bytes that are a block's own. The last block may have fewer.
 pub const BLOCK_LEN: usize = 1 << 23;
 
-/// The most bytes that a slice of a file in blocks may have: those of the longest record, its header and its packet.
+/// The greatest length of a slice, in bytes: that of the longest record, its header and its packet.
 pub const SLICE_LIMIT: usize = 262_160;
 
-/// A file in blocks of its bytes, each with the first bytes of the next one after its own, so that a record that begins in a block lies
-/// in it whole. Contracts see the file's bytes.
+/// A file in blocks. After its own bytes each block has the first of the next one, so that a record that begins in it lies in it whole.
 #[derive(Debug, Drop)]
 pub struct Blocks {
     blocks: Vec<Vec<u8>>,
@@ -31,11 +30,7 @@ impl Model for Blocks {
 }
 
 impl Blocks {
-    /// The file whose parts were loaded, in order: all up to the first that has fewer bytes than a block's own, which ends it. What
-    /// comes after that is let go.
-    ///
-    /// # Errors
-    /// A growth was refused.
+    /// Makes a file of its parts in order, up to the first with fewer than [`BLOCK_LEN`] bytes. Parts after it are dropped.
     pub fn of_parts(alloc: Global, parts: Vec<Vec<u8>>) -> Result<Blocks, AllocError>
         requires few { length parts.items ≤ block_limit }
         requires short { All (λ part. length part.items ≤ block_len) parts.items }
@@ -54,14 +49,14 @@ impl Blocks {
         Ok(Blocks { blocks, len })
     }
 
-    /// How many bytes the file has.
+    /// The number of bytes of the file.
     pub fn len(&self) -> usize
         ensures { result ≡ length self.now }
     {
         self.len
     }
 
-    /// The `len` bytes of the file from byte `start` on, a slice of a block.
+    /// The `len` bytes of the file from byte `start` on.
     pub fn slice(&self, start: usize, len: usize) -> &[u8]
         requires within { start + len ≤ length self.now }
         requires short { len ≤ slice_limit }
@@ -78,9 +73,6 @@ impl Blocks {
 }
 
 // Appends a part of a file as a block, and its first bytes to the block before it.
-//
-// # Errors
-// A growth was refused.
 fn push_part(blocks: &mut Vec<Vec<u8>>, part: Vec<u8>) -> Result<(), AllocError>
     requires full { AreFull (map (λ block. block.items) blocks.old.items) }
     requires short { length part.items ≤ block_len }
@@ -91,10 +83,6 @@ fn push_part(blocks: &mut Vec<Vec<u8>>, part: Vec<u8>) -> Result<(), AllocError>
     Ok(())
 }
 
-// Appends bytes to the last block, if there is one.
-//
-// # Errors
-// A growth was refused.
 fn extend_last(blocks: &mut Vec<Vec<u8>>, bytes: &[u8]) -> Result<(), AllocError>
     ensures { OnOk result (map (λ block. block.items) blocks.new.items
         ≡ with_last_extended (map (λ block. block.items) blocks.old.items) bytes.now) }

@@ -6,14 +6,14 @@ use crate::unit::Unit;
 use std::alloc::{AllocError, Global};
 use std::marker::Model;
 
-/// A record of a file: its stamp, and where its packet lies. It takes sixteen bytes.
+/// A record of a file, in sixteen bytes: its stamp, and where its packet lies.
 #[derive(Clone, Copy, Debug, PartialEq, Eq, Hash)]
 pub struct Record {
     /// When the packet was captured, as the record says.
     pub stamp: Moment,
-    /// Where the packet begins: how many bytes of the file stand before it.
+    /// The number of bytes of the file before the packet.
     pub start: u32,
-    /// How many bytes of the packet the file holds.
+    /// The number of bytes of the packet that the file holds.
     pub len: u32,
 }
 
@@ -49,7 +49,6 @@ impl<'a> Capture<'a> {
     ghost use Rattle.pcap_records.specs.CaptureView.{IsSoundCapture, bytes_of, packet_at, stamps_between};
     ghost use Rattle.pcap_records.specs.Instants.{greatest, instants, ticks_of};
 
-    // The capture of a file whose records were found.
     pub(crate) fn of_records(
         bytes: FileBytes<'a>,
         heading: Heading,
@@ -94,14 +93,14 @@ impl<'a> Capture<'a> {
         &self.records
     }
 
-    /// How many bytes follow the last whole record: the beginning of a record that the file does not hold whole.
+    /// The number of bytes after the last whole record, which are the beginning of a torn one.
     pub fn rest(&self) -> u32
         ensures { result ≡ self.now.rest }
     {
         self.rest
     }
 
-    /// The bytes of the packet of record `i`, a slice of the file.
+    /// The bytes of the packet of record `i`.
     pub fn packet(&self, i: usize) -> &'a [u8]
         requires { i < length self.now.records }
         ensures { packet_at self.now i ≡ Some result.now }
@@ -118,8 +117,8 @@ impl<'a> Capture<'a> {
         self.bytes
     }
 
-    /// For each record from `from` to below `to`, the greatest of `carry` and the stamps from record `from` to
-    /// that one: where `carry` is the greatest stamp before `from`, the greatest stamp of the file so far.
+    /// For each record from `from` to below `to`: the greatest of `carry` and the stamps from record `from` to this one.
+    /// If `carry` is the greatest stamp before `from`, that is the greatest stamp of the file so far.
     pub fn times(
         &self,
         alloc: Global,
@@ -141,7 +140,7 @@ impl<'a> Capture<'a> {
         Ok(times)
     }
 
-    /// The greatest stamp of the records from `from` to below `to`, 0 of none. It takes no memory.
+    /// The greatest stamp of the records from `from` to below `to`, or 0 if there are none. It allocates nothing.
     pub fn peak(&self, from: usize, to: usize) -> Moment
         requires ordered { from ≤ to }
         requires within { to ≤ length self.now.records }

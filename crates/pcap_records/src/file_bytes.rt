@@ -5,17 +5,15 @@ ghost use Rattle.pcap_records.specs.CaptureView.{bytes_of};
 
 use crate::blocks::Blocks;
 
-/// All bytes of a file, which stand elsewhere.
+/// All bytes of a file, borrowed in one piece or in blocks.
 #[derive(Clone, Copy, Debug)]
 pub enum FileBytes<'a> {
-    /// In one piece.
     Whole(&'a [u8]),
-    /// In blocks.
     InBlocks(&'a Blocks),
 }
 
 impl<'a> FileBytes<'a> {
-    /// How many they are.
+    /// The number of bytes.
     pub fn len(self) -> usize
         ensures { result ≡ length (bytes_of self.entry) }
     {

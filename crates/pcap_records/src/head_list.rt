@@ -14,31 +14,30 @@ use crate::packet_heads::head_len;
 use crate::reader::{Found, RECORD_HEADER_LEN, found_at};
 use std::alloc::AllocError;
 
-/// The heads that were kept of the first part of a file.
+/// The heads of the first part of a file.
 #[derive(Drop)]
 pub(crate) struct HeadList {
     /// The first bytes of each packet, one after another.
     pub bytes: Vec<u8>,
-    /// For each packet a record, with its full length, and its start in `bytes`.
+    /// A record for each packet, with its full length, and its start in `bytes`.
     pub records: Vec<Record>,
-    /// How many bytes it takes for each packet to lie within them at its start and with its full length.
+    /// The number of bytes that `bytes` needs for each packet to lie in it at its start with its full length.
     pub need: usize,
-    /// How many bytes of the file were taken.
+    /// The number of bytes of the file that were taken.
     pub taken: usize,
 }
 
 /// Why no further record was taken.
 #[derive(Clone, Copy)]
 pub(crate) enum Stop {
-    /// A part of a record follows at most.
+    /// At most a part of a record follows.
     Torn,
     /// A record follows that announces too long a packet.
     TooLong,
-    /// The head of the record that follows found no memory.
     NoMemory,
 }
 
-// Takes the whole records with which these bytes begin, one after another.
+// Takes the whole records with which these bytes begin.
 pub(crate) fn take_records(list: &mut HeadList, heading: Heading, bytes: &[u8]) -> Stop
     requires kept { AreKept (ticks_of heading.unit) list.old }
     requires limited { list.old.taken + length bytes.now ≤ capture_limit }
@@ -61,10 +60,7 @@ pub(crate) fn take_records(list: &mut HeadList, heading: Heading, bytes: &[u8]) 
     }
 }
 
-// Takes a record of these bytes: keeps the first bytes of its packet.
-//
-// # Errors
-// A growth was refused. The list is then as it was.
+// Takes a record of these bytes and keeps its head. If it is out of memory, the list stays as it was.
 fn push_head(list: &mut HeadList, bytes: &[u8], read: Record) -> Result<(), AllocError>
     requires within { read.start + read.len ≤ length bytes.now }
     requires kept { length list.old.bytes.items ≤ list.old.taken }

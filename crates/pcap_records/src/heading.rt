@@ -10,19 +10,17 @@ use crate::file_bytes::FileBytes;
 use crate::unit::Unit;
 use byteorder::{BigEndian, ByteOrder, LittleEndian};
 
-/// The most bytes that a file may have.
+/// The greatest length of a file, in bytes.
 pub const CAPTURE_LIMIT: usize = 1 << 30;
 
-/// The bytes of a file header.
+/// The length of a file header, in bytes.
 pub const FILE_HEADER_LEN: usize = 24;
 
-// The magic number of files in microseconds.
 const MAGIC: u32 = 0xa1b2_c3d4;
 
-// That of files in nanoseconds.
 const NANOSECOND_MAGIC: u32 = 0xa1b2_3c4d;
 
-// The link type of captures of Ethernet frames.
+// Ethernet frames without frame check sequences.
 const ETHERNET: u32 = 1;
 
 /// The order of the bytes in each field of a file.
@@ -35,7 +33,6 @@ pub enum Order {
 }
 
 impl Order {
-    // The number in the first two bytes.
     pub(crate) fn u16_of(self, bytes: &[u8]) -> u16
         requires { 2 ≤ length bytes.now }
         ensures { result ≡ number_in self 2 bytes.now }
@@ -46,7 +43,6 @@ impl Order {
         }
     }
 
-    // The number in the first four bytes.
     pub(crate) fn u32_of(self, bytes: &[u8]) -> u32
         requires { 4 ≤ length bytes.now }
         ensures { result ≡ number_in self 4 bytes.now }
@@ -58,16 +54,13 @@ impl Order {
     }
 }
 
-/// What the magic number tells.
+/// What the magic number says.
 #[derive(Clone, Copy)]
 pub(crate) struct Heading {
-    /// The order of the bytes in each field of the file.
     pub order: Order,
-    /// The unit of its stamps.
     pub unit: Unit,
 }
 
-// What the first four bytes tell, where they are a magic number.
 fn told(bytes: &[u8]) -> Option<Heading>
     requires { 4 ≤ length bytes.now }
     ensures { option_map heading_of result ≡ magic_heading bytes.now }
@@ -75,7 +68,6 @@ fn told(bytes: &[u8]) -> Option<Heading>
     told_by(MAGIC, Unit::Micros, bytes).or(told_by(NANOSECOND_MAGIC, Unit::Nanos, bytes))
 }
 
-// What the first four bytes tell, where they are the magic number of a unit.
 fn told_by(magic: u32, unit: Unit, bytes: &[u8]) -> Option<Heading>
     requires { 4 ≤ length bytes.now }
     ensures { option_map heading_of result ≡ heading_by magic (ticks_of unit) bytes.now }
@@ -91,7 +83,6 @@ fn told_by(magic: u32, unit: Unit, bytes: &[u8]) -> Option<Heading>
     }
 }
 
-// What a file's magic number tells, or the first fault of its length and header.
 #[tactic(auto, unfolding(crate::specs::Reading::file_heading))]
 pub(crate) fn read_heading(bytes: FileBytes<'_>) -> Result<Heading, CaptureFault>
     ensures exact { AgreesWithoutMemory capture_refusal heading_of result (file_heading (bytes_of bytes.entry)) }
@@ -107,7 +98,6 @@ pub(crate) fn read_heading(bytes: FileBytes<'_>) -> Result<Heading, CaptureFault
     heading_in(bytes.slice(0, FILE_HEADER_LEN))
 }
 
-// What a file header tells, or its first fault.
 fn heading_in(header: &[u8]) -> Result<Heading, CaptureFault>
     requires { file_header_len ≤ length header.now }
     ensures { AgreesWithoutMemory capture_refusal heading_of result (checked_heading (magic_heading header.now) header.now) }

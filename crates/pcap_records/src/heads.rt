@@ -20,26 +20,21 @@ use std::marker::Model;
 /// What a reader of heads has found so far.
 #[derive(Drop)]
 pub(crate) enum State {
-    /// No whole file header.
+    /// No whole file header yet.
     Header,
-    /// The file header, and whole records.
+    /// The file header and whole records.
     Records(Heading),
-    /// The file's first fault.
     Refused(CaptureFault),
 }
 
-/// How far a reader of heads has come.
 #[derive(Drop)]
 pub(crate) struct Progress {
     pub state: State,
     pub list: HeadList,
 }
 
-/// A reader of heads, which takes a file part by part. Of each packet it keeps its first bytes, as many as [`head_len`](crate::head_len)
-/// says, its length and its stamp, and of the file nothing else.
-///
-/// The bytes of a part that it did not take, which are fewer than 262,160 after an `Ok`, are to stand again at the beginning of
-/// the next part. A fault of the file is told at the end.
+/// Takes a file in parts and keeps of each packet its stamp, its length and its first bytes ([`head_len`](crate::head_len)).
+/// Pass unconsumed bytes again at the start of the next part. After an `Ok` they are fewer than 262,160.
 #[derive(Drop)]
 pub struct HeadReader {
     progress: Progress,
@@ -57,7 +52,7 @@ impl Model for HeadReader {
 }
 
 impl HeadReader {
-    /// One that has taken nothing yet.
+    /// A reader that has taken nothing yet.
     pub fn new(alloc: Global) -> HeadReader
         ensures taken { result.taken ≡ 0 }
         ensures found { result.found ≡ no_header }
@@ -74,18 +69,15 @@ impl HeadReader {
         }
     }
 
-    /// How many bytes of the file it has taken.
+    /// The number of bytes of the file that it has taken.
     pub fn taken(&self) -> usize
         ensures { result ≡ self.now.taken }
     {
         self.progress.list.taken
     }
 
-    /// Takes what can be read of these bytes, which follow those that were taken: a file header, and records whole. Of a file that
-    /// has a fault it takes all bytes.
-    ///
-    /// # Errors
-    /// A growth was refused. The records before the one that found no memory are then taken, and the reader can go on from there.
+    /// Takes a file header and whole records from the bytes after those that were taken. If the file has a fault, it takes all.
+    /// If it is out of memory, it has taken the records before the one that found none, and can go on from there.
     pub fn take(&mut self, bytes: &[u8]) -> Result<(), AllocError>
         requires { self.old.taken + length bytes.now ≤ capture_limit }
         ensures takes { Takes self.old self.new bytes.now }
@@ -95,11 +87,8 @@ impl HeadReader {
         take_part(&mut self.progress, bytes)
     }
 
-    /// The heads of the file, of which these bytes are the last: those that follow the bytes that were taken.
-    ///
-    /// # Errors
-    /// The first fault of the file, in the order of [`CaptureFault`]; or `Memory`, where a growth was refused, whatever fault the
-    /// file may have.
+    /// Takes the last bytes of the file and returns its heads, or its first fault, in the order of [`CaptureFault`].
+    /// If it is out of memory, it returns `Memory`, whatever fault the file may have.
     pub fn finish(self, bytes: &[u8]) -> Result<KeptHeads, CaptureFault>
         requires { self.taken + length bytes.now ≤ capture_limit }
         ensures { AgreesUnlessMemory capture_refusal (λ heads. heads) result (read_on self.found bytes.now) }
@@ -119,10 +108,6 @@ impl HeadReader {
     }
 }
 
-// Takes what can be read of the next bytes of a file.
-//
-// # Errors
-// A growth was refused.
 fn take_part(progress: &mut Progress, bytes: &[u8]) -> Result<(), AllocError>
     requires sound { IsSoundIn progress.old.state progress.old.list }
     requires limited { progress.old.list.taken + length bytes.now ≤ capture_limit }
@@ -141,10 +126,7 @@ fn take_part(progress: &mut Progress, bytes: &[u8]) -> Result<(), AllocError>
     }
 }
 
-// Takes the file header, if it stands in these bytes whole, and what can be read after it.
-//
-// # Errors
-// A growth was refused.
+// Takes the file header if these bytes have it whole, and what can be read after it.
 fn take_header(progress: &mut Progress, bytes: &[u8]) -> Result<(), AllocError>
     requires header { progress.old.state ≡ Header }
     requires sound { IsSoundIn Header progress.old.list }
@@ -171,10 +153,6 @@ fn take_header(progress: &mut Progress, bytes: &[u8]) -> Result<(), AllocError>
     }
 }
 
-// Takes the whole records with which these bytes begin.
-//
-// # Errors
-// A growth was refused.
 fn take_on(progress: &mut Progress, heading: Heading, bytes: &[u8]) -> Result<(), AllocError>
     requires records { progress.old.state ≡ Records heading }
     requires kept { AreKept (ticks_of heading.unit) progress.old.list }

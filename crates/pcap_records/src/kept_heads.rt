@@ -11,8 +11,7 @@ use crate::heading::Heading;
 use std::alloc::AllocError;
 use std::marker::Model;
 
-/// The heads of a file's packets. Contracts see the ticks of a second, the heads, and how many bytes of the file follow the last
-/// whole record.
+/// The heads of a file's packets. Contracts see the ticks of a second, the heads, and the number of bytes after the last whole record.
 #[derive(Drop)]
 pub struct KeptHeads {
     bytes: Vec<u8>,
@@ -39,8 +38,8 @@ impl Model for KeptHeads {
 impl KeptHeads {
     ghost use Rattle.pcap_records.specs.Heads.{AreRecordsOf};
 
-    /// The bytes in which the heads stand, and their records over these. Each record has its packet's full length, so that as
-    /// many first bytes of a packet as [`head_len`](crate::head_len) says are its own, and those after them are whatever stands there.
+    /// The bytes that hold the heads, and records over them with full lengths.
+    /// Only the first bytes of a packet ([`head_len`](crate::head_len)) are its own. Those after them may be anything.
     pub fn split(self) -> (Vec<u8>, HeadRecords)
         ensures { AreRecordsOf self result.0.items result.1 }
     {
@@ -49,7 +48,7 @@ impl KeptHeads {
     }
 }
 
-/// The records of heads: where each packet's first bytes stand in some bytes, with what else a capture has.
+/// The records of heads: where each packet's first bytes lie in some bytes, with what else a capture has.
 #[derive(Drop)]
 pub struct HeadRecords {
     heading: Heading,
@@ -74,7 +73,7 @@ impl Model for HeadRecords {
 impl HeadRecords {
     ghost use Rattle.pcap_records.specs.CaptureView.{IsSoundCapture};
 
-    /// The capture that these records and some bytes are.
+    /// The capture of these records over `bytes`.
     pub fn over<'a>(self, bytes: &'a [u8]) -> Capture<'a>
         requires { IsSoundCapture self.ticks bytes.now self.records }
         ensures { result ≡ record { bytes = bytes.now; ticks = self.ticks; order = self.order; records = self.records; rest = self.rest } }
@@ -88,10 +87,7 @@ impl HeadRecords {
     }
 }
 
-// The heads of a list, which `rest` bytes of the file follow: its bytes are made so many that each packet lies within them.
-//
-// # Errors
-// A growth was refused.
+// The heads of a list, which `rest` bytes of the file follow. Its bytes are extended so that each packet lies within them.
 pub(crate) fn heads_of_list(
     list: HeadList,
     heading: Heading,

@@ -3,17 +3,17 @@ ghost use Rattle.pcap_records.specs.Instants.{CarriedIsWhole};
 ghost use Rattle.pcap_records.specs.Writing.{WrittenIsRead};
 ghost use Rattle.pcap_records.specs.Grammar.{ReadingsSplit, SplitsAreRead, RefusalsSplit, SplitsAreRefused};
 
-/// What is read has a split by the grammar.
+/// Each reading has a split by the grammar.
 pub fn readings_split()
     ensures { ReadingsSplit }
 {}
 
-/// What has a split by the grammar is read so; hence there is one split at most.
+/// The reading of a file that has a split is that of the split, so a file has at most one split.
 pub fn splits_are_read()
     ensures { SplitsAreRead }
 {}
 
-/// A refusal at record k means k whole records, and then a header that announces too much.
+/// A file that is refused at record k has k whole records and then a header that announces too much.
 pub fn refusals_split()
     ensures { RefusalsSplit }
 {}
@@ -28,7 +28,7 @@ pub fn carried_is_whole()
     ensures { CarriedIsWhole }
 {}
 
-/// A capture of packets that have a record, written by a header and a record for each, is read back as these packets.
+/// If packets have records, the file that is written of them is read back as these packets.
 pub fn written_is_read()
     ensures { WrittenIsRead }
 {}

@@ -1,8 +1,5 @@
-//! Classic pcap files (format 2.4): an exact reading that borrows the file's bytes, a reader of heads of packets that takes a file
-//! part by part, instants, and writing.
-//!
-//! `specs/Reading.antt` says what a file holds, `specs/Grammar.antt` says the same as a grammar, and `laws`
-//! has the theorems that join the two.
+//! Classic pcap files (format 2.4): an exact reading that borrows the file's bytes, a reader of heads of packets, instants, and writing.
+//! `specs/Reading.antt` says what a file holds, `specs/Grammar.antt` says the same as a grammar, and `laws` joins the two.
 #![tactic(auto)]
 
 mod blocks;

@@ -5,7 +5,7 @@ ghost use Rattle.pcap_records.specs.Instants.{horizon, instant, ticks_of};
 use crate::unit::Unit;
 use std::marker::Model;
 
-/// An instant of a capture: whole ticks of its unit since the first second that a file can tell.
+/// An instant of a capture, in whole ticks of its unit after the first second that a file can tell.
 #[derive(Clone, Copy, Debug, PartialEq, Eq, PartialOrd, Ord, Hash)]
 pub struct Moment {
     ticks: u64,
@@ -29,7 +29,7 @@ impl Moment {
         Moment { ticks: 0 }
     }
 
-    /// The instant `ticks` ticks of a unit after the first, or the horizon where that is earlier.
+    /// The instant `ticks` ticks of a unit after the first, or the horizon if that is earlier.
     pub fn of(ticks: u64, unit: Unit) -> Moment
         ensures { result ≡ instant (ticks_of unit) ticks }
     {
@@ -45,7 +45,7 @@ impl Moment {
         self.ticks
     }
 
-    /// The instant `ticks` ticks of a unit after this one, or the horizon where that is earlier.
+    /// The instant `ticks` ticks of a unit after this one, or the horizon if that is earlier.
     pub fn later(self, ticks: u64, unit: Unit) -> Moment
         ensures { result ≡ instant (ticks_of unit) (self + ticks) }
     {

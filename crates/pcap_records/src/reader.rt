@@ -13,25 +13,21 @@ use crate::heading::{FILE_HEADER_LEN, Heading, read_heading};
 use crate::moment::Moment;
 use std::alloc::{AllocError, Global};
 
-/// The bytes of a record's header.
+/// The length of a record's header, in bytes.
 pub const RECORD_HEADER_LEN: usize = 16;
 
-/// The most bytes that a packet may have, which is libpcap's own limit.
+/// The greatest length of a packet, in bytes, which is libpcap's own limit.
 pub const PACKET_LIMIT: u32 = 262_144;
 
-/// The whole records of a file, and how many bytes follow them.
+/// The whole records of a file, and the number of bytes after them.
 #[derive(Drop)]
 pub(crate) struct RecordList {
     pub records: Vec<Record>,
     pub rest: u32,
 }
 
-/// Reads a classic pcap file (format 2.4) of at most 2^30 bytes, in one pass. Each packet of the capture is a slice of
-/// `bytes`.
-///
-/// # Errors
-/// The first fault of the file, in the order of [`CaptureFault`]; else `Memory`, where a growth was refused. So a fault
-/// of the file is told even where memory is scarce.
+/// Reads a classic pcap file (format 2.4) of at most 2^30 bytes, in one pass. Each packet is a slice of `bytes`.
+/// It returns the first fault of the file, in the order of [`CaptureFault`], even if it is out of memory.
 pub fn read_capture<'a>(alloc: Global, bytes: &'a [u8]) -> Result<Capture<'a>, CaptureFault>
     ensures exact { Agrees capture_refusal reading_of result (reading bytes.now) }
     ensures of { IfOk result (λ capture. capture.bytes ≡ bytes.now) }
@@ -39,10 +35,7 @@ pub fn read_capture<'a>(alloc: Global, bytes: &'a [u8]) -> Result<Capture<'a>, C
     read_file(alloc, FileBytes::Whole(bytes))
 }
 
-/// Reads a classic pcap file as [`read_capture`] does, wherever its bytes stand.
-///
-/// # Errors
-/// Those of [`read_capture`].
+/// Reads a classic pcap file as [`read_capture`] does, in one piece or in blocks.
 pub fn read_file<'a>(alloc: Global, bytes: FileBytes<'a>) -> Result<Capture<'a>, CaptureFault>
     ensures exact { Agrees capture_refusal reading_of result (reading (bytes_of bytes.entry)) }
     ensures of { IfOk result (λ capture. capture.bytes ≡ bytes_of bytes.entry) }
@@ -52,7 +45,6 @@ pub fn read_file<'a>(alloc: Global, bytes: FileBytes<'a>) -> Result<Capture<'a>,
     Ok(Capture::of_records(bytes, heading, list.records, list.rest))
 }
 
-// Lists the records after the file header.
 fn list_records(
     alloc: Global,
     heading: Heading,
@@ -87,8 +79,7 @@ fn list_records(
     }
 }
 
-// Why a file is refused of which a record found no memory, where `count` records stand before `at`: the fault of a
-// later record, if one has any, and else want of memory.
+// Called when record `count` - 1 finds no memory: a later record with a fault refuses the file, else it is out of memory.
 fn fault_after(heading: Heading, bytes: FileBytes<'_>, at: usize, count: u32) -> CaptureFault
     requires inside { at ≤ length (bytes_of bytes) }
     requires limited { length (bytes_of bytes) ≤ capture_limit }
@@ -109,7 +100,7 @@ fn fault_after(heading: Heading, bytes: FileBytes<'_>, at: usize, count: u32) ->
     }
 }
 
-// The stamp of a record that begins with these bytes: its seconds, and ticks however many.
+// The stamp in a record's header. Its ticks may be more than a second.
 fn stamp_of(heading: Heading, header: &[u8]) -> Moment
     requires { record_header_len ≤ length header.now }
     ensures { result ≡ stamp_of (heading_of heading) header.now }
@@ -119,18 +110,17 @@ fn stamp_of(heading: Heading, header: &[u8]) -> Moment
     Moment::of(ticks, unit)
 }
 
-/// What is found where a record may begin.
+/// What begins at a place of a file.
 #[derive(Clone, Copy)]
 pub(crate) enum Found {
-    /// A part of a record at most.
+    /// At most a part of a record.
     Torn,
     /// A header that announces too long a packet.
     TooLong,
-    /// A record and its packet.
     Whole(Record),
 }
 
-// What begins at `at`. The announced length is tested before it is asked whether the file holds so many bytes.
+// What begins at `at`. The announced length is tested before the number of bytes that are there.
 #[tactic(auto, unfolding(crate::specs::Reading::next_record))]
 pub(crate) fn found_at(heading: Heading, bytes: FileBytes<'_>, at: usize) -> Found
     requires inside { at ≤ length (bytes_of bytes) }

@@ -2,13 +2,11 @@
 ghost use Rattle.std.specs.Prelude.{◌≡◌, ◌<◌, ◌*◌, ◌/◌, ◌%◌, ◌^◌};
 ghost use Rattle.pcap_records.specs.Instants.{horizon, microsecond, millisecond, ticks_of};
 
-/// The ticks of a second that counts microseconds.
 const MICROS: u64 = 1_000_000;
 
-/// The ticks of a second that counts nanoseconds.
 const NANOS: u64 = 1_000_000_000;
 
-/// What a tick of a capture is. Its magic number tells it.
+/// What a tick of a capture is, by its magic number.
 #[derive(Clone, Copy, Debug, PartialEq, Eq, Hash)]
 pub enum Unit {
     /// A microsecond: the magic number is `a1b2c3d4`.
@@ -60,7 +58,7 @@ impl Unit {
         }
     }
 
-    /// The whole seconds of so many ticks, fewer than those of the horizon, and the ticks over these.
+    /// The whole seconds of `ticks`, and the ticks over these.
     pub fn split(self, ticks: u64) -> (u32, u32)
         requires { ticks < horizon (ticks_of self) }
         ensures seconds { result.0 ≡ ticks / ticks_of self }

@@ -19,11 +19,7 @@ const NANOSECOND_HEADER: [u8; FILE_HEADER_LEN] = [
     0x4d, 0x3c, 0xb2, 0xa1, 2, 0, 4, 0, 0, 0, 0, 0, 0, 0, 0, 0, 0xff, 0xff, 0, 0, 1, 0, 0, 0,
 ];
 
-/// Appends the header of a file (pcap 2.4): fields with the lowest byte first, stamps in `unit`, Ethernet, packets of
-/// at most 65,535 bytes.
-///
-/// # Errors
-/// Where a growth is refused; `out` is then unchanged.
+/// Appends the header of a file (pcap 2.4), or nothing if it is out of memory. It says that packets have at most 65,535 bytes.
 #[tactic(auto, unfolding(crate::specs::Writing::file_header))]
 pub fn write_header(out: &mut Vec<u8>, unit: Unit) -> Result<(), AllocError>
     ensures ok { OnOk result (out.new.items ≡ out.old.items ++ file_header (ticks_of unit)) }
@@ -35,10 +31,7 @@ pub fn write_header(out: &mut Vec<u8>, unit: Unit) -> Result<(), AllocError>
     }
 }
 
-/// Appends the record of a packet that was captured whole at the instant `at`, which lies before the unit's horizon.
-///
-/// # Errors
-/// Where a growth is refused; `out` is then unchanged.
+/// Appends the record of a packet that was captured whole at the instant `at`, or nothing if it is out of memory.
 pub fn write_record(
     out: &mut Vec<u8>,
     at: Moment,
@@ -56,8 +49,7 @@ pub fn write_record(
     out.extend_from_slice(packet)
 }
 
-/// The header of the record of a packet of `len` bytes, at an instant before the unit's horizon: its seconds, the ticks
-/// over these, and the packet's length twice.
+/// The header of the record of a packet of `len` bytes: seconds, the ticks over these, and the length twice.
 #[tactic(auto, unfolding(crate::specs::Writing::record_header))]
 pub fn record_header_bytes(at: Moment, len: u32, unit: Unit) -> [u8; RECORD_HEADER_LEN]
     requires { at < horizon (ticks_of unit) }

@@ -8,15 +8,12 @@ use Rattle.range_workers.specs.declared.ranges.Range.{Range}
 use Rattle.range_workers.specs.Ranges.{range_in, AreRanges, IsWithin, AreWithin}
 use Rattle.range_workers.specs.RangePartials.{partials_of, AreAdjacentFrom, AreAdjacent, joined_to, joined_all}
 
--- ---- ranges
-
--- one range more before others
 range_before : (c : CaptureView) (cut from : ℕ) (r : Range) (rs : List Range)
     → r ≡ range_in c from (from + cut) → from + cut < length c.records → AreRanges c cut (from + cut) rs → AreRanges c cut from (r ∷ rs)
 range_before c cut from r [] is within none = absurd none
 range_before c cut from r (s ∷ rs) is within rest = (is, within, rest)
 
--- Where ranges stand that any ranges from a record on complete, one more stands and any from the record after it complete them.
+-- if rs can be completed by any ranges from a record on, rs and one more can be completed by any ranges after that one
 pub one_more : (c : CaptureView) (cut from to : ℕ) (rs more : List Range) (r : Range)
     → ((rest : List Range) → AreRanges c cut from rest → AreRanges c cut 0 (rs ++ rest))
     → r ≡ range_in c from to → to ≡ from + cut → to < length c.records → more ≡ rs ++ r ∷ []
@@ -26,16 +23,12 @@ one_more c cut from to rs more r stand is at within all rest behind =
     subst (AreRanges c cut 0) (sym e)
     (stand (r ∷ rest) (range_before c cut from r rest (is ∙ ap (range_in c from) at) (omega (arith, at, within)) (subst (λ n. AreRanges c cut n rest) at behind)))
 
--- each range is within the records
 pub are_within : (c : CaptureView) (cut from : ℕ) (rs : List Range) → AreRanges c cut from rs → AreWithin c rs
 are_within c cut from [] none = absurd none
 are_within c cut from (r ∷ []) (is, start, end) = All-cons (IsWithin c) r [] (rw is (start, omega arith)) (All-nil (IsWithin c))
 are_within c cut from (r ∷ s ∷ rs) (is, within, rest) =
     All-cons (IsWithin c) r (s ∷ rs) (rw is (omega arith, omega (arith, within))) (are_within c cut (from + cut) (s ∷ rs) rest)
 
--- ---- partials
-
--- the partials of ranges that follow one another are adjacent
 adjacent_from : (c : CaptureView) (cut from : ℕ) (rs : List Range) → AreRanges c cut from rs → AreAdjacentFrom from (partials_of c rs)
 unfolding partial_in
 adjacent_from c cut from [] none = absurd none
@@ -46,7 +39,7 @@ pub are_adjacent : (c : CaptureView) (cut from : ℕ) (rs : List Range) → AreR
 are_adjacent c cut from [] none = absurd none
 are_adjacent c cut from (r ∷ rs) all = (adjacent_from c cut from (r ∷ rs) all).1
 
--- and joined in turn to the partial of all records before them they give that of all records
+-- joined in turn to the partial of all records before them, they give that of all records
 all_joined : JoinsAgree → (c : CaptureView) (cut from : ℕ) (rs : List Range) → AreRanges c cut from rs
     → joined_to (partial_in c 0 from 0) (partials_of c rs) ≡ partial_in c 0 (length c.records) 0
 all_joined joins c cut from [] none = absurd none
@@ -54,7 +47,6 @@ all_joined joins c cut from (r ∷ []) (is, start, end) = rw is (joins c 0 from 
 all_joined joins c cut from (r ∷ s ∷ rs) (is, within, rest) =
     rw (is, joins c 0 from (from + cut) 0 (omega arith) (omega arith) (omega (arith, within))) (all_joined joins c cut (from + cut) (s ∷ rs) rest)
 
--- the partials of the ranges of all records give that of all records
 pub whole_joined : JoinsAgree → (c : CaptureView) (cut : ℕ) (rs : List Range) → AreRanges c cut 0 rs
     → joined_all (partials_of c rs) ≡ partial_in c 0 (length c.records) 0
 whole_joined joins c cut [] none = absurd none

@@ -11,11 +11,9 @@ partial_of c r = partial_in c r.from r.to r.carry
 abbrev pub partials_of : CaptureView → List Range → List PartialView
 partials_of c rs = map (partial_of c) rs
 
--- what stands past the last of them
 abbrev pub no_partial : PartialView
 no_partial = record { from = 0; to = 0; counts = counts_of []; segments = [] }
 
--- each begins where the one before it ends, and the first at a record
 abbrev pub AreAdjacentFrom : ℕ → List PartialView → Type 0
 AreAdjacentFrom at [] = Unit {0}
 AreAdjacentFrom at (p ∷ ps) = (at ≡ p.from) × AreAdjacentFrom p.to ps
@@ -25,12 +23,10 @@ abbrev pub AreAdjacent : List PartialView → Type 0
 AreAdjacent [] = ⊥
 AreAdjacent (p ∷ ps) = AreAdjacentFrom p.to ps
 
--- others joined to one in turn
 abbrev pub joined_to : PartialView → List PartialView → PartialView
 joined_to p [] = p
 joined_to p (q ∷ qs) = joined_to (joined_partial p q) qs
 
--- all of them together
 abbrev pub joined_all : List PartialView → PartialView
 joined_all [] = no_partial
 joined_all (p ∷ ps) = joined_to p ps

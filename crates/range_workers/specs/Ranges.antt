@@ -4,12 +4,10 @@ use Rattle.pcap_records.specs.CaptureView.{CaptureView}
 use Rattle.conn_table.specs.Partials.{carried}
 use Rattle.range_workers.specs.declared.ranges.Range.{Range}
 
--- a range of records, with the greatest stamp before it
 abbrev pub range_in : CaptureView → ℕ → ℕ → Range
 range_in c from to = record { from = from; to = to; carry = carried c 0 from 0 }
 
--- The ranges of the records from one on: each has `cut` records and the next begins where it ends, but the last has all that
--- are left, at most as many.
+-- The ranges of the records from number `from` on: each has `cut` records, except the last, which has all that are left, at most `cut`.
 abbrev pub AreRanges : CaptureView → ℕ → ℕ → List Range → Type 0
 AreRanges c cut from [] = ⊥
 AreRanges c cut from (r ∷ []) =
@@ -17,7 +15,6 @@ AreRanges c cut from (r ∷ []) =
 AreRanges c cut from (r ∷ s ∷ rs) =
     (r ≡ range_in c from (from + cut)) × (from + cut < length c.records) × AreRanges c cut (from + cut) (s ∷ rs)
 
--- a range of the records that are there
 abbrev pub IsWithin : CaptureView → Range → Type 0
 IsWithin c r = (r.from ≤ r.to) × (r.to ≤ length c.records)
 

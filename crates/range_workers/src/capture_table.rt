@@ -12,12 +12,8 @@ use pcap_records::{Capture, Moment};
 use std::alloc::{AllocError, Global};
 use std::thread::Threads;
 
-/// The connection table of all records of a capture. The records are cut into ranges of the plan's number of records, the last
-/// with what is left; in phase `Ranges`, with one job for each, workers make the partials of the ranges, which are then joined in
-/// order. The answer is the same whatever the plan and the gate.
-///
-/// # Errors
-/// A growth was refused.
+/// The connection table of all records of a capture. In phase `Ranges` workers make the partials of ranges, which are joined in order.
+/// The answer does not depend on the plan or the gate.
 pub fn table<R: Threads + Sync, G: Gate>(
     rt: &R,
     alloc: Global,
@@ -41,10 +37,7 @@ pub fn table<R: Threads + Sync, G: Gate>(
     finish(alloc, join_all(partials.into_vec())?)
 }
 
-/// The connection table of all records of a capture, as [`table`] gives it, made by this thread alone: it reads them as one range.
-///
-/// # Errors
-/// A growth was refused.
+/// The connection table of all records of a capture, as [`table`] gives it, made by this thread from one range.
 pub fn table_alone(alloc: Global, capture: &Capture<'_>) -> Result<Table, AllocError>
     ensures { IfOk result (λ t. t ≡ table_in capture.now 0 (length capture.now.records) 0) }
 {

@@ -5,11 +5,7 @@ ghost use Rattle.range_workers.specs.RangePartials.{AreAdjacent, joined_all};
 use conn_table::Partial;
 use std::alloc::AllocError;
 
-/// The partial of all ranges together, of which each begins where the one before it ends. It takes time by the number of
-/// ranges: no segment is copied.
-///
-/// # Errors
-/// A growth was refused.
+/// The partial of all ranges together, which are adjacent. No segment is copied: the time grows only with the number of ranges.
 pub(crate) fn join_all(partials: Vec<Partial>) -> Result<Partial, AllocError>
     requires { AreAdjacent partials.items }
     ensures { IfOk result (λ whole. whole ≡ joined_all partials.items) }

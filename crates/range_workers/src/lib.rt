@@ -1,7 +1,5 @@
 //! The connection table of a capture, its records read range by range by workers.
-//!
-//! `table` is the call that the crate exists for: whatever the plan and the gate, its answer is the table of all records, which
-//! `conn_table` defines. `specs/Ranges.antt` says how the records are cut. `table_alone` gives the same with one thread.
+//! The answer of `table` does not depend on the plan or the gate. `specs/Ranges.antt` says how the records are cut.
 #![tactic(auto)]
 
 mod capture_table;

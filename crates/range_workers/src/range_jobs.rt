@@ -7,7 +7,7 @@ use job_matrix::Work;
 use pcap_records::Capture;
 use std::alloc::{AllocError, Global};
 
-/// The ranges of a capture's records, of which job j is that at place j.
+/// The ranges of a capture's records. Job j is the range at place j.
 #[derive(Drop)]
 pub(crate) struct RangeJobs<'w, 'a> {
     pub(crate) alloc: Global,

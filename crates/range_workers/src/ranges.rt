@@ -13,11 +13,7 @@ pub(crate) struct Range {
     pub(crate) carry: Moment,
 }
 
-/// The ranges of `cut` records, the last with what is left: one without records where the capture has none. Each stamp is looked
-/// at once.
-///
-/// # Errors
-/// A growth was refused.
+/// Ranges of `cut` records, the last with what is left, or one without records if the capture has none. Each stamp is read once.
 pub(crate) fn ranges_of(
     alloc: Global,
     capture: &Capture<'_>,

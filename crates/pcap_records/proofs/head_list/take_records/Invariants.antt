@@ -5,7 +5,7 @@ use Rattle.pcap_records.specs.Heads.{read_on, some_heads}
 use Rattle.pcap_records.specs.HeadLists.{AreKept, heads_kept}
 use Rattle.pcap_records.proofs.head_list.take_records.Given as goal
 
--- whatever follows, the file has the heads that it had
+-- whatever follows, the heads of the file stay the same
 abbrev pub invariant-records : goal.invariant-records
 invariant-records l = record {
   inside : l.at ≤ length l.bytes;

@@ -3,7 +3,6 @@ use Rattle.disks.specs.Histories.{held_after}
 use Rattle.disks.specs.MemoryDisks.{first_held, told_file}
 use Rattle.disks.proofs.memory.MemoryDisk.find.Given as goal
 
--- what was found is what the path holds once the files until now stand at their paths
 abbrev pub invariant-loop-place : goal.invariant-loop-place
 invariant-loop-place l = told_file l.found ≡ first_held (take l.place l.fn.self.first) l.fn.path
 

@@ -1,5 +1,5 @@
-//! The answers of before captures in nanoseconds and frames with a VLAN tag: how a rehearsal was defined then, word for word, in
-//! `specs/`, and the law that captures of then are answered so today. There is no call here to make.
+//! The answers before captures in nanoseconds and frames with a VLAN tag: the definitions of then, word for word, each name with `_before`,
+//! and the law that captures of then are answered so today. Words without `_before` are those of today, which both left as they were.
 #![tactic(auto)]
 
 pub mod laws;

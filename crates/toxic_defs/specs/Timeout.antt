@@ -1,4 +1,4 @@
--- A timeout: no bytes, and a close some time after the opening, or none.
+-- A timeout: no bytes, and a close after the opening, or none.
 use Rattle.std.specs.Prelude.{ℕ, zero, suc, []}
 use Rattle.reassembly.specs.RecordedLines.{Line, End, live, close}
 

@@ -87,7 +87,7 @@ side_of base members other =
       lost = covered_count base members n;
     }
 
--- the side of a sender's effective members: without a base it has no bytes, and a reset of either side ends it unless it is whole
+-- the side of a sender's effective members: without a base it has no bytes; a reset of either side ends it unless it is whole
 unfoldable pub recorded_side : List TimedSegment → Peer → Option ℕ → RecordedSide
 recorded_side members sender None = record { line = record { bytes = []; end = reset_or_live (find is_reset members) }; lost = 0 }
 recorded_side members sender (Some base) = side_of base (sent_by sender (effective_members members)) (reset_or_live (find is_reset members))

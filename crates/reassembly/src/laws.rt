@@ -18,7 +18,7 @@ pub fn conns_are_of_capture()
     ensures { ConnsAreOfCapture }
 {}
 
-/// In a recorded line the first byte starts a chunk, instants never fall, a chunk has one instant, and no end is before the last byte.
+/// A recorded line begins with a chunk, its instants never fall, a chunk has one instant, and no end is before the last byte.
 /// It has fewer than 2^32 bytes. The segments' instants must not fall in file order, and no payload may be longer than a capture.
 #[tactic(auto, using(crate::proofs::Chunks::recorded_sides_are_lines))]
 pub fn recorded_sides_are_lines()
@@ -31,7 +31,7 @@ pub fn recorded_sides_lie_between()
     ensures { RecordedSidesLieBetween }
 {}
 
-/// Each connection's segments were recorded from its opening to the horizon, in order, and no payload is longer than a capture.
+/// Each connection's segments were recorded from its opening to the horizon, at instants that never fall. No payload is longer than a capture.
 #[tactic(auto, using(crate::proofs::InTime::connections_are_in_time))]
 pub fn connections_are_in_time()
     ensures { ConnectionsAreInTime }

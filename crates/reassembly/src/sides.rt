@@ -1,4 +1,4 @@
-//! One side of a connection, from its members: its line up to the first gap or the FIN that counts, and the number of later bytes.
+//! One side of a connection, from its members: its line up to the first gap or the counted FIN, and the number of later bytes.
 ghost use Rattle.std.specs.Prelude.{◌≡◌, ◌<◌, ◌==◌, ◌||◌, not, length, drop, sum_by, IfOk, All};
 ghost use Rattle.reassembly.specs.LineView.{bytes_of_parts, end_view};
 ghost use Rattle.reassembly.specs.MemberSpans.{IsInFile, own_members};

@@ -2,8 +2,8 @@
 ghost use Rattle.report_laws.specs.SeenHeads.{FrameSeesHead, ReportSeesHeads};
 ghost use Rattle.report_laws.specs.ZeroedPayloads.{ReportSeesLengths};
 
-/// Two captures that differ only in payload bytes of TCP segments, with the same lengths, headers and stamps, have the same report of each
-/// scenario, with any seed. So a secret can be replaced by as many other bytes, and no report changes.
+/// Two captures that differ only in payload bytes of TCP segments have the same report of each scenario, with any seed.
+/// So a secret can be replaced by as many other bytes, and no report changes.
 pub fn report_sees_lengths()
     ensures { ReportSeesLengths }
 {}
@@ -15,8 +15,8 @@ pub fn frame_sees_head()
     ensures { FrameSeesHead }
 {}
 
-/// Two captures have the same report of each scenario, with any seed, if their ticks are equal, as many bytes follow their last whole record,
-/// and their packets have the same stamps, lengths and heads. So a capture of which only the heads are kept loses no report.
+/// Reports depend only on a capture's ticks, the number of bytes after its last whole record, and each packet's stamp, length and head.
+/// So a capture of which only the heads are kept loses no report.
 pub fn report_sees_heads()
     ensures { ReportSeesHeads }
 {}

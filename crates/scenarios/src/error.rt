@@ -45,7 +45,7 @@ pub enum Cause {
     BadToxicity,
 }
 
-/// A refusal and its place: the numbers of the proxy in its file and of the toxic in its proxy, from 0, if it is of one.
+/// A refusal and its place: the proxy's number in its file and the toxic's number in its proxy, from 0, if it has them.
 /// As text the place is before the cause, such as `proxy 0 toxic 1: there is no toxic of this type`.
 #[derive(Clone, Copy, Debug, PartialEq, Eq)]
 pub struct Refusal {

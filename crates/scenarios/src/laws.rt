@@ -14,7 +14,7 @@ pub fn first_is_met()
     ensures { FirstIsMet }
 {}
 
-/// A scenario has at most 64 proxies, each with its own name and a port, and at most 8 toxics in each direction, all in range.
+/// A scenario has at most 64 proxies, each with its own name, a port, and at most 8 toxics in each direction, all in range.
 pub fn scenarios_are_sound()
     ensures { ScenariosAreSound }
 {}

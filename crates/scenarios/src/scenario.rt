@@ -40,7 +40,7 @@ impl Scenario {
     ghost use Rattle.scenarios.specs.Proxies.{proxy_limit};
     ghost use Rattle.scenarios.specs.ProxyLaws.{IsSound};
 
-    /// The proxies in the order of their file: at most 64, each with a name, a port, and at most 8 toxics in each direction, all in range.
+    /// The proxies, at most 64, in the order of their file. Each has a name, a port, and at most 8 toxics in each direction, all in range.
     pub fn proxies(&self) -> &[Proxy]
         ensures list { result.now ≡ self.now }
         ensures few { length result.now ≤ proxy_limit }

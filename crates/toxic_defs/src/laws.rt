@@ -61,7 +61,7 @@ pub fn delayed_bytes_are_the_first()
     ensures { DelayedBytesAreTheFirst }
 {}
 
-/// In each direction, by any proxy or none, the first recorded bytes are delivered, none before it was recorded, no end before the opening.
+/// By any proxy or none, each direction delivers the first recorded bytes, none before it was recorded, and no end before the opening.
 /// Recorded lines have to be as those of captures are: no byte is before the opening or past the horizon.
 #[tactic(auto, using(crate::proofs::ToxicLines::delivered_is_recorded))]
 pub fn delivered_is_recorded()

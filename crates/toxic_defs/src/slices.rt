@@ -55,7 +55,7 @@ impl Sizes {
     }
 }
 
-/// The parts of a line with its chunks cut into slices: each starts a chunk, and has the next size or what is left of its chunk.
+/// The parts of a line with its chunks cut into slices. Each slice starts a chunk, and has the next size or the rest of its chunk.
 pub(crate) fn slice_parts<'a>(
     alloc: Global,
     parts: &[LinePart<'a>],

@@ -16,7 +16,7 @@ use std::alloc::Global;
 /// It returns 0 if it answers; `sizes` says how many bytes and entries it put.
 ///
 /// # Errors
-/// - 1: a refusal, of the hosts first and then as by [`toxicap::answers_alone`], or out of memory. Its line without LF is in `reports`.
+/// - 1: refused (hosts first, then as [`toxicap::answers_alone`] does) or out of memory. The line that says so, without LF, is in `reports`.
 /// - 2: a buffer is too small for the answer or for that line; `sizes` says what is needed, and the buffers are as they were.
 /// - 3: out of memory even for that line; the sizes are 0, and the buffers are as they were.
 #[unsafe(no_mangle)]

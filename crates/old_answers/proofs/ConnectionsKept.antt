@@ -11,7 +11,7 @@ use Rattle.old_answers.proofs.FramesKept.{HasNoVlan}
 one_pair_kept : (s x : IndexedSegment) → HasNoVlan s → HasNoVlan x → of_one_pair s x ≡ of_one_pair_before s x
 one_pair_kept s x s_has_none x_has_none = ap₂ (λ (v w : Option ℕ). same_vlan v w && of_one_pair_before s x) x_has_none s_has_none
 
--- tests that agree where there is no VLAN keep the same of segments that have none
+-- tests that agree on segments without a VLAN keep the same of these
 keeps_same : (test test_before : IndexedSegment → Bool) → ((x : IndexedSegment) → HasNoVlan x → test x ≡ test_before x)
     → (xs : List IndexedSegment) → AllByRecursion HasNoVlan xs → filter test xs ≡ filter test_before xs
 keeps_same test test_before agree [] none = refl

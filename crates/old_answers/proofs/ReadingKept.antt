@@ -12,7 +12,7 @@ use Rattle.old_answers.specs.OldAnswers.{HasFirstMagic}
 
 -- ---- it is read as before
 
--- where the first magic number is found, no other is asked for
+-- if the first magic number is found, no other is looked for
 found : {A : Type 0} (big little : Bool) (x y : A) (other : Option A) → (big ≡ true) ⊎ (little ≡ true)
     → option_or (if big then Some x else (if little then Some y else None)) other ≡ (if big then Some x else (if little then Some y else None))
 found true little x y other has = refl

@@ -1,5 +1,4 @@
--- The outcome of a rehearsal before captures in nanoseconds and frames with a tag: the definitions of then, word for word, each name
--- with `_before`. Words without `_before` are those of today, which both left as they were.
+-- The outcome of a rehearsal before captures in nanoseconds and frames with a tag: the definitions of then, word for word.
 use Rattle.std.specs.Prelude.{ℕ, List, ◌++◌, length, map, nat_lt, if◌then◌else◌, Option, Result, Ok, Err}
 use Rattle.std.specs.List.{enumerate_from, flat_map}
 use Rattle.pcap_records.specs.declared.fault.CaptureFault.{CaptureFault}
@@ -35,28 +34,22 @@ contribution_by_before ticks c r d = record {
   line = connection_text_before c.number (client_of c) (server_of c) r d;
 }
 
--- The contribution of a connection: of the ticks of a second, its members with their instants and its number, the
--- scenario's number, the seed, and the proxy that it meets, and of nothing else.
 unfoldable pub contribution_before : ℕ → Connection → ℕ → ℕ → Option MetProxy → Contribution
 contribution_before ticks c scenario seed met =
     contribution_by_before ticks c (recorded_connection c)
     (delivered_connection ticks seed scenario c.number met (recorded_connection c))
 
--- what a connection contributes to a scenario with its number
 abbrev pub contribution_of_before : ℕ → ℕ → ℕ × List Proxy → Connection → Contribution
 contribution_of_before ticks seed (number, proxies) c = contribution_before ticks c number seed (met_proxy (server_of c) proxies)
 
--- what each connection contributes, in order of number, under a scenario with its number; a scenario is seen as its proxies in order
 abbrev pub contributions_before : SeenCapture → ℕ → ℕ × List Proxy → List Contribution
 contributions_before c seed scenario = map (contribution_of_before c.ticks seed scenario) (connections_before (indexed_segments 0 c.packets))
 
 -- ---- an output
 
--- the capture of segments in the order in which they stand
 abbrev pub capture_in_turn_before : ℕ → List Framed → List ℕ
 capture_in_turn_before ticks segments = file_header_before ticks ++ flat_map (λ x. x.bytes) segments
 
--- the output capture of segments: in order of key
 unfoldable pub capture_of_before : ℕ → List Framed → List ℕ
 capture_of_before ticks segments = capture_in_turn_before ticks (sorted_by_key segments)
 
@@ -66,13 +59,11 @@ output_before c seed scenario = record {
   report = report_text scenario.0 c (unopened_count_before (indexed_segments 0 c.packets)) (map (λ p. p.line) (contributions_before c seed scenario));
 }
 
--- an output for each scenario; the order of the bytes of the capture's fields is no part of what is seen
 unfoldable pub outputs_of_before : SeenCapture → List (List Proxy) → ℕ → List Output
 outputs_of_before c scenarios seed = map (output_before c seed) (enumerate_from 0 scenarios)
 
 -- ---- the answer to a file
 
--- what is seen of a file
 abbrev pub seen_file_before : Result Reading CaptureFault → Result SeenCapture CaptureFault
 seen_file_before (Ok r) = Ok (seen_capture_before r.contents)
 seen_file_before (Err f) = Err f

@@ -1,7 +1,5 @@
--- The connections of a capture before frames with a tag: the definitions of then, word for word, each name with `_before`, so that
--- `openings_before_before` is the `openings_before` of then.
--- Words without `_before` are those of today, which the tag left as they were. Where a record of today has a VLAN, these words
--- say that there is none.
+-- The connections of a capture before frames with a tag: `openings_before_before`, for one, is the `openings_before` of then.
+-- Records of today have a VLAN, which is `None` here.
 use Rattle.std.specs.Prelude.{ℕ, List, length, map, filter, Option, None, is_none, Bool, ◌&&◌, not, nat_lt, nat_le, if◌then◌else◌}
 use Rattle.std.specs.List.{zip, enumerate_from}
 use Rattle.pcap_records.specs.Instants.{instants}
@@ -18,7 +16,6 @@ use Rattle.old_answers.specs.FramesBefore.{seen_frame_before}
 abbrev pub seen_packet_before : ℕ × Packet → SeenPacket
 seen_packet_before (at, p) = record { at = at; frame = seen_frame_before p.bytes }
 
--- packets of which `carry` is the greatest stamp before them
 unfoldable pub seen_packets_before : ℕ → List Packet → List SeenPacket
 seen_packets_before carry packets = map seen_packet_before (zip (instants carry (map (λ p. p.stamp) packets)) packets)
 
@@ -27,7 +24,6 @@ seen_capture_before c = record { ticks = c.ticks; packets = seen_packets_before 
 
 -- ---- peers and pairs
 
--- two peers without order
 abbrev pub pair_of_before : Peer → Peer → Pair
 pair_of_before a b = record { vlan = None; low = if peer_le a b then a else b; high = if peer_le a b then b else a }
 
@@ -42,33 +38,27 @@ of_one_pair_before s x = same_pair_before (pair_of_segment_before x) (pair_of_se
 
 -- ---- connections, by filtering the whole list
 
--- the openings of its pair that stand earlier in the file
 abbrev pub openings_before_before : List IndexedSegment → IndexedSegment → List IndexedSegment
 openings_before_before segs s = filter (λ x. is_opening x && of_one_pair_before s x && nat_lt x.index s.index) segs
 
--- an opening that is not sent again begins a connection
 abbrev pub begins_before : List IndexedSegment → IndexedSegment → Bool
 begins_before segs s = is_opening s && not (repeats (last_of (openings_before_before segs s)) s)
 
 unfoldable pub beginnings_before : List IndexedSegment → List IndexedSegment
 beginnings_before segs = filter (begins_before segs) segs
 
--- the last beginning of its pair that stands at or before it
 abbrev pub beginning_of_before : List IndexedSegment → IndexedSegment → Option IndexedSegment
 beginning_of_before segs s = last_of (filter (λ b. of_one_pair_before s b && nat_le b.index s.index) (beginnings_before segs))
 
--- the members of the connection that b begins, but for b
 abbrev pub later_members_before : List IndexedSegment → IndexedSegment → List IndexedSegment
 later_members_before segs b = filter (λ s. nat_lt b.index s.index && is_at b (beginning_of_before segs s)) segs
 
 abbrev pub connection_of_before : List IndexedSegment → ℕ × IndexedSegment → Connection
 connection_of_before segs (number, b) = record { number = number; opening = b.timed; later = map (λ s. s.timed) (later_members_before segs b) }
 
--- the connections, numbered in the order of their beginnings
 unfoldable pub connections_before : List IndexedSegment → List Connection
 connections_before segs = map (connection_of_before segs) (enumerate_from 0 (beginnings_before segs))
 
--- the segments that stand before each beginning of their pair
 abbrev pub is_unopened_before : List IndexedSegment → IndexedSegment → Bool
 is_unopened_before segs s = is_none (beginning_of_before segs s)
 

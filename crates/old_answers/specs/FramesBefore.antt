@@ -1,31 +1,23 @@
--- What a captured frame was before frames with a tag: the definitions of then, word for word, each name with `_before`.
--- Words without `_before` are those of today, which the tag left as they were. Where a record of today has a VLAN, these words
--- say that there is none.
+-- What a captured frame was before frames with a tag. Records of today have a VLAN, which is `None` here.
 use Rattle.std.specs.Prelude.{ℕ, ◌+◌, ◌-◌, List, length, drop, slice_index, slice_range, Bool, not, nat_lt, ◌==◌, None, if◌then◌else◌}
 use Rattle.frame_headers.specs.Layout.{mac_len, type_len, ipv4_type, seq_at, ack_at, flags_at}
 use Rattle.frame_headers.specs.Frame.{number_at, is_bad_ipv4, is_fragment, is_not_tcp, is_cut, ip_payload, is_bad_tcp, is_same_ends, sender, receiver, payload_of, FrameClass, short, not_ipv4, bad_ipv4, fragment, not_tcp, cut, bad_tcp, same_ends, segment, SegmentFields, SeenFrame}
 
--- the bytes of the Ethernet header, which the type of what follows ends
 abbrev pub link_len_before : ℕ
 link_len_before = 14
 
--- the type of what follows
 abbrev pub link_type_before : List ℕ → ℕ
 link_type_before frame = number_at 2 (link_len_before - type_len) frame
 
--- what follows: an IPv4 datagram, where the type says so, and whatever stands after it
 abbrev pub datagram_before : List ℕ → List ℕ
 datagram_before frame = drop link_len_before frame
 
--- no whole Ethernet header
 abbrev pub is_short_before : List ℕ → Bool
 is_short_before frame = nat_lt (length frame) link_len_before
 
--- another type than IPv4's
 abbrev pub is_not_ipv4_before : List ℕ → Bool
 is_not_ipv4_before frame = not (link_type_before frame == ipv4_type)
 
--- the class of a frame: the first whose test holds, and a segment where none does
 unfoldable pub frame_class_before : List ℕ → FrameClass
 frame_class_before frame =
     if is_short_before frame then short

@@ -10,18 +10,15 @@ use Rattle.pcap_records.specs.Reading.{Heading, Reading, capture_limit, file_hea
 abbrev pub microsecond_heading_before : Order → Heading
 microsecond_heading_before o = record { order = o; ticks = microseconds }
 
--- the heading in whose order the first four bytes are the magic number
 abbrev pub magic_heading_before : List ℕ → Option Heading
 magic_heading_before bytes =
     if number_in Big 4 bytes == magic then Some (microsecond_heading_before Big) else
     (if number_in Little 4 bytes == magic then Some (microsecond_heading_before Little) else None)
 
--- the heading, or the first fault of the file header
 unfoldable pub file_heading_before : List ℕ → Result Heading CaptureFault
 file_heading_before bytes =
     if nat_lt capture_limit (length bytes) then Err CaptureTooLong else
     (if nat_lt (length bytes) file_header_len then Err ShortHeader else checked_heading (magic_heading_before bytes) bytes)
 
--- what the file holds, or its first fault
 unfoldable pub reading_before : List ℕ → Result Reading CaptureFault
 reading_before bytes = reading_with (file_heading_before bytes) bytes

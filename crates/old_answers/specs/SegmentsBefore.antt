@@ -1,6 +1,4 @@
--- The segments of a connection as they were written before frames with a tag: the definitions of then, word for word, each name
--- with `_before`. Words without `_before` are those of today, which the tag left as they were. Where a record of today has a
--- VLAN, these words say that there is none.
+-- The segments of a connection as they were written before frames with a tag. Records of today have a VLAN, which is `None` here.
 use Rattle.std.specs.Prelude.{ℕ, ◌+◌, List, [], ◌∷◌, ◌++◌, length, map, Bool, true, false, None, unwrap_or}
 use Rattle.std.specs.List.{enumerate_from}
 use Rattle.pcap_records.specs.Writing.{record_bytes}
@@ -16,17 +14,14 @@ use Rattle.segment_writer.specs.WrittenSegments.{Host, WrittenConnection, SentSe
 
 -- ---- headers
 
--- Ethernet II: the receiver's address, the sender's, and the type IPv4
 abbrev pub ethernet_before : Header → List ℕ
 ethernet_before h = (h.mac_to ++ h.mac_from) ++ big_bytes 2 ipv4_type
 
--- the headers before a payload
 unfoldable pub headers_before : Header → List ℕ → List ℕ
 headers_before h payload = (ethernet_before h ++ ipv4 h (tcp_len + length payload)) ++ tcp h payload
 
 -- ---- frames
 
--- the headers of a segment of a connection, from one host to the other
 abbrev pub header_of_before : WrittenConnection → Host → Host → SentSegment → Header
 header_of_before c from to s = record {
   mac_from = from.mac;
@@ -42,7 +37,6 @@ header_of_before c from to s = record {
 unfoldable pub frame_bytes_before : WrittenConnection → Host → Host → SentSegment → List ℕ
 frame_bytes_before c from to s = headers_before (header_of_before c from to s) s.payload ++ s.payload
 
--- a segment in its place: the record that is written of it, with its key
 abbrev pub framed_segment_before : ℕ → WrittenConnection → ℕ → Host → Host → ℕ × SentSegment → Framed
 framed_segment_before ticks c turn from to (place, s) = record {
   key = record { moment = s.at; conn = c.number; turn = turn; place = place };
@@ -69,7 +63,6 @@ up_turn_before ticks c = map (framed_by_client_before ticks c 1) (enumerate_from
 abbrev pub down_turn_before : ℕ → WrittenConnection → List Framed
 down_turn_before ticks c = map (framed_by_server_before ticks c 2) (enumerate_from 0 (segments_sent_by c.server c.client))
 
--- all segments of a connection, in order of key
 unfoldable pub written_segments_before : ℕ → WrittenConnection → List Framed
 written_segments_before ticks c = sorted_by_key (segments_before_horizon ticks ((opening_turn_before c.refused ticks c ++ up_turn_before ticks c) ++ down_turn_before ticks c))
 

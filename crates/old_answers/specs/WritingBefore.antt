@@ -3,7 +3,7 @@ use Rattle.std.specs.Prelude.{ℕ, List, ◌++◌}
 use Rattle.pcap_records.specs.Endian.{little_bytes}
 use Rattle.pcap_records.specs.Reading.{magic}
 
--- the magic number of files in so many ticks a second: there is one so far, that of microseconds
+-- there was only the magic number of files in microseconds
 abbrev pub magic_of_before : ℕ → ℕ
 magic_of_before ticks = magic
 

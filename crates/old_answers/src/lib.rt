@@ -1,5 +1,5 @@
-//! The answers of before captures in nanoseconds and frames with a VLAN tag: how a rehearsal was defined then, word for word, in
-//! `specs/`, and the law that captures of then are answered so today. There is no call here to make.
+//! The answers before captures in nanoseconds and frames with a VLAN tag, and the law that captures of then are answered so today.
+//! The definitions are those of then, word for word, each name with `_before`. Other words are those of today, which both left as they were.
 #![tactic(auto)]
 
 pub mod laws;

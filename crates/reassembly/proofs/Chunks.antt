@@ -47,7 +47,7 @@ pub greatest-le : (limit : ℕ) (ns : List ℕ) → AllByRecursion (λ n. n ≤ 
 greatest-le limit [] all = omega arith
 greatest-le limit (n ∷ ns) all = let later = greatest-le limit ns all.1 in omega (arith, all.0, later)
 
--- what holds of no byte and of each byte of some segments holds of what they have for a position
+-- what holds of no byte, and of each byte of some segments, holds of what these have for a position
 byte_has : (P : Option TimedByte → Type 0) → P None → (base : ℕ) (ms : List TimedSegment) (x : ℕ) → AllByRecursion (λ m. (v : ℕ) → P (Some (record { value = v; at = m.at }))) ms
     → P (first_byte (map (segment_span base) ms) x)
 byte_has P none base [] x all = none

@@ -79,7 +79,6 @@ module _ (c : CaptureView) (client server : Peer) where
       by None = refl
       by (Some m) = refl
 
-  -- the peer of a side
   abbrev sender : Bool → Peer
   sender true = client
   sender false = server

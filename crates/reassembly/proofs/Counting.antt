@@ -79,7 +79,7 @@ count_is g (p ∷ ps) low k o e =
     count_is g ps (end_of p) rest (rw high at o.2) (λ x c. e x (omega arith) ∙ ap (λ q. option_or q (first_byte ps x)) (byte_in-past p x c)) in
     omega (arith, whole, none, count_split (has_byte g) p.from len rest, full, tail, sum_by-cons len_of p ps)
 
--- the bytes of ordered spans are the first n positions, which are all covered, and those from n on that are
+-- ordered spans have the first n positions, all covered, and the covered ones from n on
 pub total_is : (ps : List Span) (high n end : ℕ) → AreOrdered 0 ps high → ((x : ℕ) → x < n → has_byte (first_byte ps) x ≡ true) → n ≤ end → ((x : ℕ) → end ≤ x → first_byte ps x ≡ None)
     → sum_by len_of ps ≡ n + count_by (has_byte (first_byte ps)) (range_with_len n (end - n))
 total_is ps high n end o front within none =

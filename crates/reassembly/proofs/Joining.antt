@@ -1,4 +1,4 @@
--- The side that ordered spans make is that of other spans which have the same byte for each position.
+-- Ordered spans make the same side as other spans that have the same byte for each position.
 use Rattle.std.proofs.Common.{get_or, count_by, ◌+◌, nat_le, nat_lt, ◌&&◌, ◌==◌, ◌||◌, not, false, cond, map, length, slice_index, option_map, length-drop, ◌≡◌, ◌<◌, ◌≤◌, ◌⊎◌, inl, inr, ℕ, ◌-◌, Bool, true, List, [], ◌∷◌, Option, Some, None, is_some, Result, Ok, Err, IfOk, refl, sym, ap, ◌∙◌, arith, zero-add}
 use Rattle.std.specs.List.{range_with_len, prefix_len, sum_by}
 use Rattle.std.proofs.lemmas.Bool.{cases_lt, lt-ltb, le-ltb, le-leb, lt-leb, false≢true}
@@ -33,7 +33,7 @@ gap_passes g end x h =
     ap (has_byte g) (sym (get_or-range_with_len 0 end x 0 (omega arith) ∙ zero-add x)) ∙ prefix_len_passes (has_byte g) (range_with_len 0 end) x 0 h
 
 module _ (g : ℕ → Option TimedByte) (end : ℕ) (none : (x : ℕ) → end ≤ x → g x ≡ None) where
-  -- and its own is not
+  -- the first gap is not covered
   gap_stops : has_byte g (gap_before g end) ≡ true → ⊥
   gap_stops h =
       let gap : ℕ = gap_before g end in
@@ -70,11 +70,11 @@ module _ (g : ℕ → Option TimedByte) (end : ℕ) (none : (x : ℕ) → end �
 
 -- ---- the side of segments, by their spans
 
--- functions that agree at each position are one
+-- functions that agree at each position are equal
 ext : {A : Type 0} (g h : ℕ → A) → ((x : ℕ) → g x ≡ h x) → g ≡ h
 ext g h e = λ i x. e x i
 
--- what a payload that begins at a place has for a position
+-- the byte of position x in a payload that begins at `start`
 payload_byte : (start at : ℕ) (payload : List ℕ) (x : ℕ)
     → byte_in (span_at start at payload) x ≡ cond (nat_le start (x + origin) && nat_lt (x + origin) (start + length payload)) (Some (record { value = slice_index payload (x + origin - start); at = at })) None
 payload_byte start at payload x =
@@ -167,7 +167,7 @@ side_is ps qs counted other n o e front =
     ap (side_to g counted other n) lost ∙ ap (λ k. side_to g counted other k (count_from g end k)) len
     ∙ ap (λ h. let k = length_to counted (gap_before h end) in side_to h counted other k (count_from h end k)) (ext g (first_byte qs) e)
 
--- ---- a side from its members: what its calls say make the definition
+-- ---- a side from its members: what the calls give is the definition
 
 pub both_ok : {X Y : Type 0} (r : Result X Y) {P Q R : X → Type 0} → IfOk r P → IfOk r Q → ((x : X) → P x → Q x → R x) → IfOk r R
 both_ok (Ok x) p q f = f x p q

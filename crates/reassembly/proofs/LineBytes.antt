@@ -1,4 +1,4 @@
--- The bytes of a part, and ends: what several crates say of them.
+-- The bytes of a part, and ends: lemmas for several crates.
 use Rattle.std.proofs.Common.{◌≡◌, ◌≤◌, ℕ, suc, Bool, false, List, [], ◌∷◌, length, refl, ap, arith}
 use Rattle.std.proofs.lemmas.List.{length-map}
 use Rattle.reassembly.specs.RecordedLines.{End, live, fin, close, reset}

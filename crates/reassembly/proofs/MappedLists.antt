@@ -21,7 +21,7 @@ filter-map {A} {B} p f (x ∷ xs) = step (p (f x)) (filter p (map f xs)) (filter
     step true ys zs e = ap (λ l. f x ∷ l) e
     step false ys zs e = e
 
--- the first that passes is found alike in two lists that are made from one, where both agree on each element
+-- the first element that passes is alike in two lists made from one, if both agree on each element
 pub found_same : {A B C D : Type 0} (f : B → D) (p : B → Bool) (h : A → B) (g : C → D) (q : C → Bool) (k : A → C) (xs : List A) → AllByRecursion (λ x. (p (h x) ≡ q (k x)) × (f (h x) ≡ g (k x))) xs
     → option_map f (find p (map h xs)) ≡ option_map g (find q (map k xs))
 found_same f p h g q k [] all = refl

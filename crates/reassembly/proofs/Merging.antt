@@ -1,4 +1,4 @@
--- Ordered lists of spans, of which one is laid over the other: what each turn of `overlay` keeps, by what its calls say.
+-- Ordered lists of spans, one laid over the other: what each turn of `overlay` keeps.
 use Rattle.std.proofs.Common.{◌≡◌, ◌<◌, ◌≤◌, ◌⊎◌, inl, inr, ℕ, ◌-◌, min, List, [], ◌∷◌, ◌++◌, length, take, drop, None, refl, sym, ap, ◌∙◌, subst, arith, length-take, length-drop, append-nil, append_assoc}
 use Rattle.std.specs.Option.{option_or}
 use Rattle.std.proofs.lemmas.Bool.{cases_lt}
@@ -8,7 +8,7 @@ use Rattle.reassembly.specs.declared.patches.Patch.{Patch}
 use Rattle.reassembly.specs.Spans.{Span, limit, end_of, byte_in, first_byte, layered_byte, span_below, span_from, unless_empty, AreOrdered, IsNear, AreNear, spans_from, span_of, spans}
 use Rattle.reassembly.proofs.SpanBytes.{byte_in-before, byte_in-past, byte_in-within, front-keeps, front-hides, back-keeps, back-hides, back-all, or-none, first_byte-append, first_byte-one, first_byte-unless_empty, AreOrdered-bounds, AreOrdered-down, AreOrdered-append, AreOrdered-unless_empty, first_byte-before}
 
--- `out` is what stands merged, up to `place`; `ls` and the rest of `rs` are left
+-- `out` is merged, up to `place`; `ls` and the rest of `rs` are left
 pub record Merge (left right out ls rs : List Span) (floor : ℕ) : Type 0 where
   pub place : ℕ
   pub passed : floor ≤ place
@@ -19,7 +19,7 @@ pub record Merge (left right out ls rs : List Span) (floor : ℕ) : Type 0 where
 
 -- ---- turns
 
--- the lower span ends by the end of the upper one: what stands before the upper one is merged, the rest is hidden
+-- if the lower span ends by the end of the upper one, its front is merged, and its rest is hidden
 
 merged_part : (out : List Span) (place : ℕ) (h cur : Span) → AreOrdered 0 out place → place ≤ h.from → place ≤ cur.from
     → AreOrdered 0 (out ++ unless_empty (span_below h.from cur)) (min (end_of cur) h.from)
@@ -77,7 +77,7 @@ hidden_at left right out ls rs floor old h ls2 ls_are r rs2 rs_are cur cur_is pa
       same = λ x. ap (λ qs. option_or (first_byte (out ++ unless_empty (span_below h.from from)) x) (layered_byte (h ∷ ls2) qs x)) (spans_from-none floor (end_of from) rs2 (omega arith) rf.2) ∙ same_hidden out h ls2 from rs2 x lf.2 (omega arith) ∙ m.same x;
     })
 
--- the lower span ends after the upper one: what stands before the upper one and that one are merged, the rest is left
+-- if the lower span ends later, its front and the upper span are merged, and its rest is left
 
 same_added : (out : List Span) (h : Span) (ls : List Span) (r : Span) (rs : List Span) (floor : ℕ) (x : ℕ)
     → AreOrdered (end_of h) ls limit → AreOrdered (end_of (span_from floor r)) rs limit → floor ≤ h.from → end_of h < end_of (span_from floor r)

@@ -37,7 +37,7 @@ dropped_at zero k ps = ap (slice_get ps) (sym (zero-add k))
 dropped_at (suc n) k [] = refl
 dropped_at (suc n) k (q ∷ qs) = let e : suc n + k ≡ suc (n + k) = omega arith in dropped_at n k qs ∙ ap (slice_get (q ∷ qs)) (sym e)
 
--- segments whose numbers rise, from n on, and what holds of each
+-- segments whose numbers rise, from n on, with K of each
 abbrev Rise : (IndexedSegment → Type 0) → ℕ → List IndexedSegment → Type 0
 Rise K n [] = Unit {0}
 Rise K n (s ∷ segs) = (n ≤ s.index) × K s × Rise K (s.index + 1) segs
@@ -50,7 +50,7 @@ rise_down : (K : IndexedSegment → Type 0) (n : ℕ) (segs : List IndexedSegmen
 rise_down K n [] rise = tt
 rise_down K n (s ∷ segs) rise = (omega (arith, rise.0), rise.1, rise.2)
 
--- the segments in packets that are numbered from n on, with the instants that f gives from x on
+-- the segments in packets that are numbered from n on; f gives their instants, from x on
 seen_all : (K : IndexedSegment → Type 0) (f : ℕ → ℕ) (n x : ℕ) (ps : List Packet)
     → ((k : ℕ) (p : Packet) → slice_get ps k ≡ Some p → is_segment (frame_class p.bytes) ≡ true → K (record { index = n + k; timed = record { at = f (x + k); fields = segment_fields p.bytes } }))
     → Rise K n (filter_map indexed_segment (enumerate_from n (map seen_packet (zip (map f (range_with_len x (length (map (λ p. p.stamp) ps)))) ps))))
@@ -71,7 +71,7 @@ seen_all K f n x (p ∷ ps) each = by (is_segment (frame_class p.bytes)) refl (s
     by true is more = (le_refl n, rw (add-zero n, add-zero x) at (each 0 p refl is), more)
     by false is more = rise_down K n rest more
 
--- what is known of a segment in a range of records: where it is recorded, and that its instant is the greatest stamp so far
+-- a segment of a range is recorded, and its instant is the greatest stamp so far
 pub record IsKnown (c : CaptureView) (from carry : ℕ) (stamps : List ℕ) (s : IndexedSegment) : Type 0 where
   pub recorded : IsRecorded c s
   pub at : s.timed.at ≡ greatest_so_far carry stamps (s.index - from)
@@ -109,7 +109,7 @@ greatest-take (suc i) (suc j) (x ∷ xs) le = let h = greatest-take i j xs (omeg
 so_far-rises : (carry : ℕ) (stamps : List ℕ) (i j : ℕ) → i ≤ j → greatest_so_far carry stamps i ≤ greatest_so_far carry stamps j
 so_far-rises carry stamps i j le = let h = greatest-take (i + 1) (j + 1) stamps (omega arith) in omega arith
 
--- the instants of the segments that pass a test do not fall, where those that pass have numbers from m on
+-- the instants of segments that pass a test do not fall, if all that pass have numbers from m on
 rise_of : (c : CaptureView) (from carry : ℕ) (stamps : List ℕ) (Q : IndexedSegment → Bool) (m : ℕ) → ((s : IndexedSegment) → Q s ≡ true → m ≤ s.index) → (n t : ℕ) (segs : List IndexedSegment)
     → Rise (IsKnown c from carry stamps) n segs → ((i : ℕ) → m ≤ i → n ≤ i → t ≤ greatest_so_far carry stamps (i - from))
     → InstantsRise t (map (λ s. s.timed) (filter Q segs))
@@ -132,7 +132,6 @@ last_has P [] all y e = absurd cc
 last_has P (x ∷ []) all y e = let same : x ≡ y = cc in subst P same all.0
 last_has P (x ∷ z ∷ zs) all y e = last_has P (z ∷ zs) all.1 y e
 
--- a segment that passes a test, of the segments of the capture
 both : (P : IndexedSegment → Type 0) (p : IndexedSegment → Bool) (xs : List IndexedSegment) → AllByRecursion P xs → AllByRecursion (λ s. P s × (p s ≡ true)) (filter p xs)
 both P p xs all =
     and_both P (λ s. p s ≡ true) (λ s. P s × (p s ≡ true)) (λ s a b. (a, b)) (filter p xs) (all_filter P p xs all) (recursion_from_All (λ s. p s ≡ true) (filter p xs) (filter_passes p xs))

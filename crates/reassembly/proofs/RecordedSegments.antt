@@ -26,7 +26,6 @@ start_is c i r e = ap (λ o. option_map_or (λ (r : Record). r.start) o 0) e
 
 -- ---- a segment of a connection
 
--- what is known of a segment of a connection between two peers
 pub record IsOfPeers (c : CaptureView) (client server : Peer) (s : IndexedSegment) : Type 0 where
   pub in_file : payload_start c s.index + length s.timed.fields.payload ≤ length c.bytes
   pub payload : slice_range c.bytes (payload_start c s.index) (payload_start c s.index + length s.timed.fields.payload) ≡ s.timed.fields.payload

@@ -1,4 +1,4 @@
--- Spans in another order: where no two overlap, each position has the same byte in every order.
+-- Spans in another order: if none overlap, each position has the same byte in every order.
 use Rattle.std.proofs.Common.{◌≡◌, ◌<◌, ◌⊎◌, inl, inr, ℕ, List, [], ◌∷◌, Option, Some, None, refl, sym, ◌∙◌, subst, IsPermutation}
 use Rattle.std.specs.List.{AllByRecursion}
 use Rattle.std.specs.Option.{option_or}
@@ -10,11 +10,10 @@ use Rattle.reassembly.specs.Spans.{Span, TimedByte, limit, end_of, byte_in, firs
 use Rattle.reassembly.proofs.SpanBytes.{byte_in-past, first_byte-before}
 
 module _ (x : ℕ) where
-  -- a span does not cover the position
   abbrev Misses : Span → Type 0
   Misses p = byte_in p x ≡ None
 
-  -- where a span covers the position, it has this byte there
+  -- a span that covers the position has this byte there
   abbrev Agrees : Option TimedByte → Span → Type 0
   Agrees byte p = Misses p ⊎ (byte_in p x ≡ byte)
 
@@ -68,7 +67,6 @@ module _ (x : ℕ) where
         | inr same ↦ sym same
       ]
 
--- an order of patches, of which no two overlap
 pub reordered_same : (ps qs : List Patch) → IsPermutation ps qs → AreOrdered 0 (spans qs) limit → (x : ℕ) → first_byte (spans qs) x ≡ first_byte (spans ps) x
 reordered_same ps qs moved o x = same_reordered x (spans ps) (spans qs) limit (IsPermutation-map span_of ps qs moved) o
 

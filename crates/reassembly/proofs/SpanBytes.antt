@@ -7,7 +7,6 @@ use Rattle.std.proofs.lemmas.Option.{slice_get-get_or, slice_get_past}
 use Rattle.lists.proofs.Lists.{option_or-assoc}
 use Rattle.reassembly.specs.Spans.{Span, TimedByte, end_of, byte_in, first_byte, span_below, span_from, with_bytes, unless_empty, AreOrdered}
 
--- the byte of a span that covers position x
 abbrev pub inner_byte : Span → ℕ → TimedByte
 inner_byte p x = record { value = slice_index p.bytes (x - p.from); at = p.at }
 
@@ -59,7 +58,7 @@ back-keeps n p x h =
       ]
     ]
 
--- a span that begins at n or after it
+-- a span that begins at n or later
 pub back-all : (n : ℕ) (p : Span) → n ≤ p.from → span_from n p ≡ p
 back-all n p h =
     let none : n - p.from ≡ 0 = omega arith in

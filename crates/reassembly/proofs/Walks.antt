@@ -29,7 +29,7 @@ range_append a (suc n) k =
     let f : a + 1 + n ≡ a + suc n = omega arith in
     ap (λ m. range_with_len a m) e ∙ ap (λ l. a ∷ l) (range_append (a + 1) n k ∙ ap (λ m. range_with_len (a + 1) n ++ range_with_len m k) f)
 
--- from position x on stand these bytes, all of one instant
+-- g has these bytes from position x on, all with one instant
 abbrev pub Holds : (ℕ → Option TimedByte) → ℕ → List ℕ → ℕ → Type 0
 Holds g x bytes at = (i : ℕ) → i < length bytes → g (x + i) ≡ Some (let r : TimedByte = record { value = slice_index bytes i; at = at } in r)
 
@@ -48,7 +48,7 @@ line_byte_is g x value at now starts is after start =
     ∙ ap (λ p. let r : LineByte = record { value = value; at = p; starts = x == 0 || not (p == latest_below g x) } in r) after
     ∙ ap (λ s. let r : LineByte = record { value = value; at = now; starts = s } in r) start
 
--- with the first byte of such bytes a chunk starts where the greatest instant changes, and after it none does
+-- a chunk starts with the first of these bytes if the greatest instant changes, and with no other
 pub record Joins (g : ℕ → Option TimedByte) (x : ℕ) (bytes : List ℕ) (now : ℕ) (starts : Bool) : Type 0 where
   pub bytes_are : map (line_byte g) (range_with_len x (length bytes)) ≡ bytes_with_mark now starts bytes
   pub latest_is : latest_below g (x + length bytes) ≡ now

@@ -8,14 +8,13 @@ use Rattle.conn_table.specs.Partials.{segments_between}
 use Rattle.reassembly.specs.Positions.{members_of}
 use Rattle.reassembly.specs.LineLaws.{InstantsRise, HasShortPayload, IsBetween}
 
--- a connection whose segments were recorded from its opening on and none past the horizon, at instants that do not fall, and whose
--- payloads are no longer than a capture
+-- the instants lie between the opening and the horizon and do not fall, and no payload is longer than a capture
 pub record IsInTime (ticks : ℕ) (c : Connection) : Type 0 where
   pub between : AllByRecursion (IsBetween c.opening.at (horizon ticks)) (members_of c)
   pub rising : InstantsRise 0 (members_of c)
   pub short : AllByRecursion HasShortPayload (members_of c)
 
--- so is each connection of the segments in a range of records, of which `carry` is the greatest stamp before it
+-- this holds of each connection in a range of records; `carry` is the greatest stamp before the range
 abbrev pub ConnectionsAreInTime : Type 0
 ConnectionsAreInTime =
     (c : CaptureView) (from to carry : ℕ) → IsSoundCapture c.ticks c.bytes c.records → carry ≤ horizon c.ticks

@@ -5,7 +5,7 @@ use Rattle.frame_headers.specs.declared.peers.Peer.{Peer}
 use Rattle.conn_table.specs.IndexedSegments.{TimedSegment}
 use Rattle.reassembly.specs.RecordedLines.{LineByte, Line, End, live, fin, close, reset, recorded_side}
 
--- after a byte of this instant: instants do not fall, and where no chunk starts the instant stays
+-- the bytes after one at `last`: instants do not fall, and change only when a chunk starts
 abbrev pub GoesOn : ℕ → List LineByte → Type 0
 GoesOn last [] = Unit {0}
 GoesOn last (b ∷ bytes) = (last ≤ b.at) × (b.starts ≡ false → b.at ≡ last) × GoesOn b.at bytes
@@ -15,12 +15,11 @@ abbrev pub IsInChunks : List LineByte → Type 0
 IsInChunks [] = Unit {0}
 IsInChunks (b ∷ bytes) = (b.starts ≡ true) × GoesOn b.at bytes
 
--- the instant of the last byte
 abbrev pub last_instant : ℕ → List LineByte → ℕ
 last_instant before [] = before
 last_instant before (b ∷ bytes) = last_instant b.at bytes
 
--- an end that has an instant is not before another one
+-- the end is not before `at`, if it has an instant
 abbrev pub IsNotBefore : ℕ → End → Type 0
 IsNotBefore at live = Unit {0}
 IsNotBefore at (fin m) = at ≤ m
@@ -39,7 +38,7 @@ abbrev pub InstantsRise : ℕ → List TimedSegment → Type 0
 InstantsRise last [] = Unit {0}
 InstantsRise last (m ∷ members) = (last ≤ m.at) × InstantsRise m.at members
 
--- a payload is not longer than a capture
+-- no payload is longer than a capture
 abbrev pub HasShortPayload : TimedSegment → Type 0
 HasShortPayload m = length m.fields.payload ≤ 2 ^ 30
 
@@ -50,17 +49,16 @@ RecordedSidesAreLines =
 
 -- ---- between two instants
 
--- a segment that was recorded between them
 abbrev pub IsBetween : ℕ → ℕ → TimedSegment → Type 0
 IsBetween opened limit m = (opened ≤ m.at) × (m.at ≤ limit)
 
--- a line of which no byte is before the first or past the second, and no end before the first
+-- no byte is before `opened` or after `limit`, and no end is before `opened`
 pub record LiesBetween (opened limit : ℕ) (l : Line) : Type 0 where
   pub from : AllByRecursion (λ b. opened ≤ b.at) l.bytes
   pub to : AllByRecursion (λ b. b.at ≤ limit) l.bytes
   pub ends : IsNotBefore opened l.end
 
--- so is the line of a side of segments that were
+-- if all segments are between two instants, the line lies between them
 abbrev pub RecordedSidesLieBetween : Type 0
 RecordedSidesLieBetween =
     (members : List TimedSegment) (sender : Peer) (base : Option ℕ) (opened limit : ℕ) → AllByRecursion (IsBetween opened limit) members

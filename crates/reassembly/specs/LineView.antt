@@ -16,7 +16,7 @@ pub record LineView : Type 0 where
 abbrev pub bytes_without_mark : ℕ → List ℕ → List LineByte
 bytes_without_mark at bytes = map (λ x. record { value = x; at = at; starts = false }) bytes
 
--- bytes of one instant, and whether a chunk starts with the first
+-- bytes of one instant; `starts` says whether a chunk starts with the first
 abbrev pub bytes_with_mark : ℕ → Bool → List ℕ → List LineByte
 bytes_with_mark at starts [] = []
 bytes_with_mark at starts (b ∷ bytes) = record { value = b; at = at; starts = starts } ∷ bytes_without_mark at bytes
@@ -33,7 +33,6 @@ end_view (ends.Fin at) = fin at
 end_view (ends.Close at) = close at
 end_view (ends.Reset at) = reset at
 
--- the instant of an end, if it has one
 abbrev pub end_instant : End → Option ℕ
 end_instant live = None
 end_instant (fin at) = Some at

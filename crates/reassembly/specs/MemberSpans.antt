@@ -7,7 +7,6 @@ use Rattle.conn_table.specs.IndexedSegments.{TimedSegment}
 use Rattle.reassembly.specs.Positions.{origin, shifted_position, shifted_start}
 use Rattle.reassembly.specs.Spans.{Span}
 
--- a member's payload lies in the file
 abbrev pub IsInFile : List ℕ → Member → Type 0
 IsInFile file m = m.start + m.len ≤ length file
 
@@ -24,7 +23,6 @@ member_position base m = shifted_position base m.seq m.flags
 abbrev pub member_span : ℕ → List ℕ → Member → Span
 member_span base file m = span_at (member_position base m) m.at (payload_in file m)
 
--- the same of a segment as the definitions see it
 abbrev pub segment_span : ℕ → TimedSegment → Span
 segment_span base m = span_at (shifted_start base m) m.at m.fields.payload
 
@@ -35,7 +33,6 @@ abbrev pub same_side : Bool → Bool → Bool
 same_side true b = b
 same_side false b = not b
 
--- of the client, or of the server
 abbrev pub is_of : Bool → Member → Bool
 is_of client m = same_side client m.from_client
 

@@ -1,5 +1,4 @@
--- The positions of a connection's bytes (RFC 9293 section 3.4): from which sequence number each side's count, which segment brings
--- each, and when it was there.
+-- The positions of a connection's bytes (RFC 9293 section 3.4): the base of each side, and the segment and instant of each byte.
 use Rattle.std.specs.Prelude.{ℕ, ◌+◌, ◌-◌, ◌%◌, ◌^◌, List, ◌∷◌, map, length, find, count_by, slice_index, Option, is_some, option_map, unwrap_or, Bool, true, false, ◌&&◌, not, nat_le, nat_lt}
 use Rattle.std.specs.List.{take_while, range_with_len, prefix_len}
 use Rattle.pcap_records.specs.Instants.{greatest}
@@ -26,7 +25,7 @@ vlan_of c = c.opening.fields.vlan
 abbrev pub is_reset : TimedSegment → Bool
 is_reset m = has_flag m.fields.flags rst_flag
 
--- the members before the first reset of either side. The reset itself ends both lines, and nothing else of it counts.
+-- The members before the first reset of either side. The reset ends both lines, and nothing else of it counts.
 abbrev pub effective_members : List TimedSegment → List TimedSegment
 effective_members members = take_while (λ m. not (is_reset m)) members
 
@@ -34,21 +33,19 @@ effective_members members = take_while (λ m. not (is_reset m)) members
 abbrev pub is_answer : Peer → TimedSegment → Bool
 is_answer server m = same_peer m.fields.from server && has_flag m.fields.flags syn_flag && has_flag m.fields.flags ack_flag
 
--- the client's bytes count from the opening's sequence number
 abbrev pub client_base : Connection → ℕ
 client_base c = c.opening.fields.seq
 
--- the server's from that of its first answer, if it answers before the connection is reset
+-- the server's bytes count from the number of its first answer, if it answers before a reset
 unfoldable pub server_base : Connection → Option ℕ
 server_base c = option_map (λ m. m.fields.seq) (find (is_answer (server_of c)) (effective_members (members_of c)))
 
 -- ---- positions
 
--- sequence numbers count modulo 2^32
 abbrev pub sequence_space : ℕ
 sequence_space = 2 ^ 32
 
--- Position 0, shifted. Positions are shifted up by 2^31, so that one that is read as negative is a number too.
+-- Position 0, shifted: all positions are shifted up by 2^31, so that none is negative.
 abbrev pub origin : ℕ
 origin = 2 ^ 31
 
@@ -56,14 +53,14 @@ abbrev pub one_if : Bool → ℕ
 one_if true = 1
 one_if false = 0
 
--- the shifted position at which the payload of a segment begins. A SYN has a number of its own before it, as the base has.
+-- the shifted position at which a segment's payload begins; a SYN takes one number before it, as it does at the base
 abbrev pub shifted_position : ℕ → ℕ → ℕ → ℕ
 shifted_position base seq flags = (seq + one_if (has_flag flags syn_flag) + (origin + sequence_space) - (base + 1)) % sequence_space
 
 abbrev pub shifted_start : ℕ → TimedSegment → ℕ
 shifted_start base m = shifted_position base m.fields.seq m.fields.flags
 
--- the payload's later bytes do not wrap
+-- the later bytes of a payload do not wrap
 abbrev pub shifted_end : ℕ → TimedSegment → ℕ
 shifted_end base m = shifted_start base m + length m.fields.payload
 
@@ -78,12 +75,10 @@ bearer base members x = find (covers base x) members
 abbrev pub is_covered : ℕ → List TimedSegment → ℕ → Bool
 is_covered base members x = is_some (bearer base members x)
 
--- its byte there
 abbrev pub value_at : ℕ → List TimedSegment → ℕ → ℕ
 value_at base members x =
     unwrap_or (option_map (λ m. slice_index m.fields.payload (x + origin - shifted_start base m)) (bearer base members x)) 0
 
--- its instant
 abbrev pub arrival_at : ℕ → List TimedSegment → ℕ → ℕ
 arrival_at base members x = unwrap_or (option_map (λ m. m.at) (bearer base members x)) 0
 
@@ -95,7 +90,6 @@ available_at base members n = greatest (map (arrival_at base members) (range_wit
 abbrev pub reach : ℕ → List TimedSegment → ℕ
 reach base members = greatest (map (λ m. shifted_end base m - origin) members)
 
--- the least position that is not covered
 abbrev pub first_gap : ℕ → List TimedSegment → ℕ
 first_gap base members = prefix_len (is_covered base members) (range_with_len 0 (reach base members))
 

@@ -15,14 +15,13 @@ pub record LineByte : Type 0 where
   pub at : ℕ
   pub starts : Bool
 
--- how a direction ends: not at all, or by a FIN that was recorded, by a close or by a reset, at an instant
+-- how a direction ends: not at all, or at an instant by a recorded FIN, a close or a reset
 pub data End : Type 0 where
   live : End
   fin : ℕ → End
   close : ℕ → End
   reset : ℕ → End
 
--- the bytes of one direction, and its end
 pub record Line : Type 0 where
   pub bytes : List LineByte
   pub end : End
@@ -32,23 +31,23 @@ empty_line = record { bytes = []; end = live }
 
 -- ---- what was recorded
 
--- what a side sent, as far as it can be told, and how many of its bytes lie after the first gap or its FIN
+-- what a side sent, as far as the capture tells; `lost` counts its bytes after the first gap or its FIN
 pub record RecordedSide : Type 0 where
   pub line : Line
   pub lost : ℕ
 
--- a FIN stands after its segment's payload, and counts where that is position 0 or later
+-- a FIN stands after its segment's payload, and counts if that is position 0 or later
 abbrev pub is_counted_fin : ℕ → TimedSegment → Bool
 is_counted_fin base m = has_flag m.fields.flags fin_flag && nat_le origin (shifted_end base m)
 
--- the first of them in the file ends the line
+-- the first counted FIN in the file ends the line
 abbrev pub fin_segment : ℕ → List TimedSegment → Option TimedSegment
 fin_segment base members = find (is_counted_fin base) members
 
 abbrev pub fin_position : ℕ → TimedSegment → ℕ
 fin_position base m = shifted_end base m - origin
 
--- the bytes before the first gap, and before the FIN
+-- the number of bytes before the first gap and before the FIN
 abbrev pub length_before : ℕ → Option TimedSegment → ℕ → ℕ
 length_before base None gap = gap
 length_before base (Some m) gap = min (fin_position base m) gap
@@ -56,7 +55,7 @@ length_before base (Some m) gap = min (fin_position base m) gap
 abbrev pub line_length : ℕ → List TimedSegment → ℕ
 line_length base members = length_before base (fin_segment base members) (first_gap base members)
 
--- a byte is available when it and all before it have come; a chunk starts where that instant changes
+-- a byte is available when it and all before it have come; a chunk starts when that instant changes
 abbrev pub byte_at : ℕ → List TimedSegment → ℕ → LineByte
 byte_at base members x = record {
   value = value_at base members x;
@@ -64,7 +63,7 @@ byte_at base members x = record {
   starts = x == 0 || not (available_at base members (x + 1) == available_at base members x);
 }
 
--- by the FIN where no byte before it is missing, when it and these had come; else as the connection ends
+-- by the FIN if no byte before it is missing, when it and they have come; else by `other`
 abbrev pub end_at : ℕ → ℕ → ℕ → End → Option TimedSegment → End
 end_at base n latest other None = other
 end_at base n latest other (Some m) = if n == fin_position base m then fin (max m.at latest) else other
@@ -76,7 +75,7 @@ reset_or_live (Some m) = reset m.at
 abbrev pub sent_by : Peer → List TimedSegment → List TimedSegment
 sent_by sender members = filter (λ m. same_peer m.fields.from sender) members
 
--- the side that a sender's segments make, of a connection that else ends so
+-- the side that a sender's segments make; it ends by `other` unless it is whole
 abbrev pub side_of : ℕ → List TimedSegment → End → RecordedSide
 side_of base members other =
     let n = line_length base members in
@@ -88,8 +87,7 @@ side_of base members other =
       lost = covered_count base members n;
     }
 
--- What a sender's effective members make, counted from a base. Without a base no byte has a position. A reset of either side
--- ends the line, unless it is whole.
+-- the side of a sender's effective members: without a base it has no bytes; a reset of either side ends it unless it is whole
 unfoldable pub recorded_side : List TimedSegment → Peer → Option ℕ → RecordedSide
 recorded_side members sender None = record { line = record { bytes = []; end = reset_or_live (find is_reset members) }; lost = 0 }
 recorded_side members sender (Some base) = side_of base (sent_by sender (effective_members members)) (reset_or_live (find is_reset members))
@@ -103,8 +101,7 @@ pub record RecordedConnection : Type 0 where
   pub mac_client : List ℕ
   pub mac_server : List ℕ
 
--- the client's line goes up, the server's down; the connection is opened at the instant of its beginning, whose
--- Ethernet addresses are those of the two hosts
+-- the client's line goes up, the server's down; the opening gives the instant and the Ethernet addresses
 abbrev pub recorded_connection : Connection → RecordedConnection
 recorded_connection c = record {
   up = recorded_side (members_of c) (client_of c) (Some (client_base c));

@@ -1,4 +1,4 @@
--- Worked rows: what the definition of a recorded side gives, beside values from outside.
+-- Worked rows: what the definition of a recorded side gives, next to values from outside.
 use Rattle.std.specs.Prelude.{◌≡◌, ℕ, List, [], ◌∷◌, Some, None, true, false}
 use Rattle.conn_table.specs.IndexedSegments.{TimedSegment}
 use Rattle.conn_table.specs.RowSegments.{client, server}
@@ -50,7 +50,6 @@ GapKept =
       lost = 2;
     }
 
--- the server sent no byte
 abbrev pub NothingSent : Type 0
 NothingSent = recorded_side gapped server (Some 5000) ≡ record { line = record { bytes = []; end = live }; lost = 0 }
 
@@ -70,7 +69,7 @@ closed =
     from_client 1000000 1000 2 [] ∷ from_server 1000100 5000 18 [] ∷ from_client 1001000 1001 24 (104 ∷ 101 ∷ 108 ∷ 108 ∷ 111 ∷ [])
     ∷ from_client 1002000 1006 17 [] ∷ from_server 1003000 5001 17 [] ∷ from_server 1004000 5002 4 [] ∷ []
 
--- a whole line keeps its FIN, also where a reset came later
+-- a whole line keeps its FIN, also if a reset came later
 abbrev pub SessionClosed : Type 0
 SessionClosed =
     (recorded_side closed client (Some 1000) ≡ record { line = record { bytes = hello 1001000; end = fin 1002000 }; lost = 0 })
@@ -99,7 +98,6 @@ EarlyFinCounts =
 abbrev pub late : List TimedSegment
 late = from_client 1 1000 2 [] ∷ from_client 3 1002 17 (98 ∷ []) ∷ from_client 5 1001 16 (97 ∷ []) ∷ from_client 6 1003 16 (99 ∷ []) ∷ []
 
--- the FIN waits for the gap before it
 abbrev pub FinWaits : Type 0
 FinWaits =
     recorded_side late client (Some 1000)

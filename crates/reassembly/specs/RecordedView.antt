@@ -35,7 +35,7 @@ pub record IsRecorded (c : CaptureView) (s : IndexedSegment) : Type 0 where
   pub class : frame_class (frame_at c s.index) ≡ segment
   pub fields : s.timed.fields ≡ segment_fields (frame_at c s.index)
 
--- a connection's segments are recorded in the capture, all go between the peers of the first, and their instants do not fall
+-- the segments are recorded in the capture, go between the peers of the first, and have instants that do not fall
 pub record IsConnectionOf (c : CaptureView) (x : IndexedConnection) : Type 0 where
   pub recorded : AllByRecursion (IsRecorded c) (x.opening ∷ x.later)
   pub paired : AllByRecursion (λ s. of_one_pair x.opening s ≡ true) x.later
@@ -51,7 +51,6 @@ pub record IsConnOf (c : CaptureView) (conn : Conn) : Type 0 where
 abbrev pub ConnectionsAreOfCapture : Type 0
 ConnectionsAreOfCapture = (c : CaptureView) (from to carry : ℕ) → AllByRecursion (IsConnectionOf c) (indexed_connections (segments_between c from to carry))
 
--- what a table shows of them
 abbrev pub ConnsAreOfCapture : Type 0
 ConnsAreOfCapture = (c : CaptureView) (from to carry : ℕ) → AllByRecursion (IsConnOf c) (map (conn_in c) (indexed_connections (segments_between c from to carry)))
 
@@ -68,7 +67,7 @@ reset_end (Some at) = reset at
 abbrev pub other_end : List Member → End
 other_end members = reset_end (option_map (λ m. m.at) (find is_reset_member members))
 
--- a record of the sides that members make
+-- `r` holds the sides that the members make
 pub record IsOfMembers (file : List ℕ) (members : List Member) (r : RecordedConnection) : Type 0 where
   pub client : r.client_base ≡ first_seq members
   pub server : r.server_base ≡ option_map (λ m. m.seq) (find is_server_answer (members_before_reset members))

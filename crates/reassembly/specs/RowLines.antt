@@ -6,7 +6,6 @@ use Rattle.reassembly.specs.RecordedLines.{LineByte, Line, End, fin, RecordedCon
 abbrev pub hello : ℕ → List LineByte
 hello at = record { value = 104; at = at; starts = true } ∷ record { value = 101; at = at; starts = false } ∷ record { value = 108; at = at; starts = false } ∷ record { value = 108; at = at; starts = false } ∷ record { value = 111; at = at; starts = false } ∷ []
 
--- the first four of them
 abbrev pub four_of_hello : ℕ → List LineByte
 four_of_hello at = take 4 (hello at)
 

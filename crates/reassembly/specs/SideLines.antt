@@ -12,7 +12,7 @@ use Rattle.reassembly.specs.RecordedLines.{LineByte, End, fin, RecordedSide, fin
 use Rattle.reassembly.specs.Spans.{Span, TimedByte, limit, end_of, first_byte}
 use Rattle.reassembly.specs.MemberSpans.{member_position, member_spans, own_members, is_fin_member}
 
--- ---- bytes, where g has for each position its byte
+-- ---- bytes, of which g gives that of each position
 
 abbrev pub value_of : Option TimedByte → ℕ
 value_of o = unwrap_or (option_map (λ b. b.value) o) 0
@@ -24,7 +24,6 @@ instant_of o = unwrap_or (option_map (λ b. b.at) o) 0
 abbrev pub latest_below : (ℕ → Option TimedByte) → ℕ → ℕ
 latest_below g n = greatest (map (λ x. instant_of (g x)) (range_with_len 0 n))
 
--- a byte is available when it and all before it have come; a chunk starts where that instant changes
 abbrev pub line_byte : (ℕ → Option TimedByte) → ℕ → LineByte
 line_byte g x = record {
   value = value_of (g x);
@@ -38,11 +37,10 @@ line_bytes g n = map (line_byte g) (range_with_len 0 n)
 abbrev pub has_byte : (ℕ → Option TimedByte) → ℕ → Bool
 has_byte g x = is_some (g x)
 
--- the least position that is not covered, where none is from `end` on
+-- the least position that is not covered; none is from `end` on
 abbrev pub gap_before : (ℕ → Option TimedByte) → ℕ → ℕ
 gap_before g end = prefix_len (has_byte g) (range_with_len 0 end)
 
--- how many positions from n on to `end` are covered
 abbrev pub count_from : (ℕ → Option TimedByte) → ℕ → ℕ → ℕ
 count_from g end n = count_by (has_byte g) (range_with_len n (end - n))
 
@@ -52,25 +50,21 @@ pub record IsFront (g : ℕ → Option TimedByte) (stop n : ℕ) : Type 0 where
   pub within : n ≤ stop
   pub ends : (n ≡ stop) ⊎ (g n ≡ None)
 
--- where the first of some spans begins
 abbrev pub first_from : List Span → ℕ
 first_from [] = 0
 first_from (p ∷ ps) = p.from
 
 -- ---- the FIN
 
--- the FIN of segments that counts
 abbrev pub segment_fin : ℕ → TimedSegment → CountedFin
 segment_fin base m = record { position = fin_position base m; at = m.at }
 
 abbrev pub counted_fin : ℕ → List TimedSegment → Option CountedFin
 counted_fin base members = option_map (segment_fin base) (fin_segment base members)
 
--- where a member's FIN stands, and when it was captured
 abbrev pub fin_of : ℕ → Member → CountedFin
 fin_of base m = record { position = member_position base m + m.len - origin; at = m.at }
 
--- the first FIN of members that counts
 abbrev pub fin_of_members : ℕ → List Member → Option CountedFin
 fin_of_members base members = option_map (fin_of base) (find (is_fin_member base) members)
 
@@ -79,12 +73,10 @@ abbrev pub stop_of : Option CountedFin → ℕ
 stop_of None = limit
 stop_of (Some c) = c.position
 
--- the bytes before the first gap, and before the FIN
 abbrev pub length_to : Option CountedFin → ℕ → ℕ
 length_to None gap = gap
 length_to (Some c) gap = min c.position gap
 
--- by the FIN where no byte before it is missing, when it and these had come; else as the connection ends
 abbrev pub end_by : ℕ → ℕ → End → Option CountedFin → End
 end_by n latest other None = other
 end_by n latest other (Some c) = if n == c.position then fin (max c.at latest) else other
@@ -99,8 +91,7 @@ side_to g counted other n lost = record { line = record { bytes = line_bytes g n
 abbrev pub end_of_all : List Span → ℕ
 end_of_all ps = greatest (map end_of ps)
 
--- the side that payloads make of which the first that covers a position counts there, with the FIN that counts, of a connection
--- that else ends so
+-- the side of payloads of which the first that covers a position counts there; it ends by `other` if not by the FIN
 abbrev pub side_of_spans : List Span → Option CountedFin → End → RecordedSide
 side_of_spans ps counted other =
     let n = length_to counted (gap_before (first_byte ps) (end_of_all ps)) in
@@ -116,7 +107,7 @@ len_of p = length p.bytes
 abbrev pub side_by : List Span → Option CountedFin → End → ℕ → RecordedSide
 side_by ps counted other n = side_to (first_byte ps) counted other n (sum_by len_of ps - n)
 
--- the side that members make: without a base it has no bytes
+-- the side that members make; without a base it has no bytes
 abbrev pub IsSideOf : Option ℕ → Bool → List ℕ → List Member → End → RecordedSide → Type 0
 IsSideOf None client file members other s = s ≡ without_bytes other
 IsSideOf (Some base) client file members other s =

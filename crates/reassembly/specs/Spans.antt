@@ -1,4 +1,4 @@
--- Spans: bytes from a position on, with the instant at which they were captured; and what a list of spans has for each position.
+-- Spans: bytes from a position on, and when they were captured; and what a list of spans has for each position.
 use Rattle.std.specs.Prelude.{◌≡◌, ◌≤◌, ◌<◌, ◌^◌, ℕ, ◌+◌, ◌-◌, List, [], ◌∷◌, map, length, take, drop, Option, None, is_some, true, option_map, slice_get, nat_le, if◌then◌else◌}
 use Rattle.std.specs.List.{AllByRecursion}
 use Rattle.std.specs.Option.{option_or}
@@ -9,7 +9,6 @@ pub record Span : Type 0 where
   pub at : ℕ
   pub bytes : List ℕ
 
--- a byte and its instant
 pub record TimedByte : Type 0 where
   pub value : ℕ
   pub at : ℕ
@@ -18,7 +17,6 @@ pub record TimedByte : Type 0 where
 abbrev pub limit : ℕ
 limit = 2 ^ 33
 
--- where a span ends
 abbrev pub end_of : Span → ℕ
 end_of p = p.from + length p.bytes
 
@@ -32,18 +30,17 @@ abbrev pub first_byte : List Span → ℕ → Option TimedByte
 first_byte [] x = None
 first_byte (p ∷ ps) x = option_or (byte_in p x) (first_byte ps x)
 
--- what two lists have for position x, the first one before the second
+-- what two lists have for position x; the first one counts
 abbrev pub layered_byte : List Span → List Span → ℕ → Option TimedByte
 layered_byte upper lower x = option_or (first_byte upper x) (first_byte lower x)
 
--- the positions of a span below n, and those from n on
 abbrev pub span_below : ℕ → Span → Span
 span_below n p = record { from = p.from; at = p.at; bytes = take (n - p.from) p.bytes }
 
 abbrev pub span_from : ℕ → Span → Span
 span_from n p = record { from = p.from + (n - p.from); at = p.at; bytes = drop (n - p.from) p.bytes }
 
--- no span, where it has no bytes
+-- no span, if it has no bytes
 abbrev pub with_bytes : Span → List ℕ → List Span
 with_bytes p [] = []
 with_bytes p (b ∷ bytes) = p ∷ []
@@ -56,7 +53,7 @@ abbrev pub spans_from : ℕ → List Span → List Span
 spans_from floor [] = []
 spans_from floor (r ∷ rs) = span_from floor r ∷ rs
 
--- none is empty, the first begins at `low` or after it, each other at the end of the one before or after it, the last ends by `high`
+-- none is empty, none begins before `low` or before the end of the one before it, and the last ends by `high`
 abbrev pub AreOrdered : ℕ → List Span → ℕ → Type 0
 AreOrdered low [] high = low ≤ high
 AreOrdered low (p ∷ ps) high = (low ≤ p.from) × (0 < length p.bytes) × AreOrdered (end_of p) ps high
@@ -70,8 +67,7 @@ AreNear ps = AllByRecursion IsNear ps
 
 -- ---- a pass over a side's spans
 
--- `whole` is in order and ends by `high`; from `since` to there no position of it is missing. What came later and may fill its
--- gaps stands in `late`, all of it below `high`.
+-- `whole` is in order, ends by `high`, and has each position from `since` on; `late` may fill its gaps, and ends by `high`
 pub record Taken (whole late : List Span) (since high : ℕ) : Type 0 where
   pub ordered : AreOrdered 0 whole high
   pub placed : AreNear late

@@ -44,7 +44,7 @@ impl End {
         }
     }
 
-    /// The same end at another instant: what `f` gives for its own.
+    /// The same end, at the instant that `f` gives for its own.
     pub fn map<F: FnOnce(Moment) -> Moment>(self, f: F) -> End
         requires { F.IsAlwaysCallable f }
         ensures { IsMovedBy (F.post f) (end_view self) (end_view result) }
@@ -58,8 +58,7 @@ impl End {
     }
 }
 
-/// A line: the unit of its instants, the bytes of its parts in turn, each at its part's instant, and its end. Contracts
-/// see the bytes one by one.
+/// The bytes of one direction, in parts with their instants, and its end. Contracts see the bytes one by one.
 #[derive(Debug, Drop)]
 pub struct Line<'a> {
     unit: Unit,
@@ -79,7 +78,7 @@ impl<'a> Line<'a> {
     ghost use Rattle.reassembly.specs.LineView.{line_view, bytes_of_parts, end_view};
     ghost use Rattle.pcap_records.specs.Instants.{ticks_of};
 
-    /// The line of these parts and this end, in a unit.
+    /// The line of these parts and this end, with instants in `unit`.
     pub fn of_parts(unit: Unit, parts: Vec<LinePart<'a>>, end: End) -> Line<'a>
         ensures { result ≡ line_view unit parts.entry.items end }
     {

@@ -1,4 +1,4 @@
-//! Ordered lists of patches, of which no two overlap: one laid over another, and one made of patches in any order.
+//! Ordered lists of patches that do not overlap: one laid over another, and one made of patches in any order.
 ghost use Rattle.std.specs.Prelude.{◌≡◌, ◌≤◌, ◌<◌, ◌++◌, None, true, false, ℕ, length, drop, IfOk, IfSome, OnOk};
 ghost use Rattle.std.specs.List.Sorted.{IsPermutation};
 ghost use Rattle.reassembly.specs.Spans.{spans, limit, first_byte, layered_byte, AreOrdered, AreNear, spans_from};
@@ -6,7 +6,7 @@ ghost use Rattle.reassembly.specs.Spans.{spans, limit, first_byte, layered_byte,
 use crate::patches::{Patch, add, back, end, front, keep, patch_at};
 use std::alloc::{AllocError, Global};
 
-/// Lays ordered patches over others: where both cover a position, the left ones count.
+/// Lays ordered patches over others: if both cover a position, the left ones count.
 pub(crate) fn overlay<'a>(
     alloc: Global,
     left: &[Patch<'a>],
@@ -41,7 +41,6 @@ pub(crate) fn overlay<'a>(
     Ok(merged)
 }
 
-// Adds the patches from number `i` on.
 fn add_all<'a>(patches: &mut Vec<Patch<'a>>, more: &[Patch<'a>], i: usize) -> Result<(), AllocError>
     requires { i ≤ length more.now }
     ensures { OnOk result (spans patches.new.items ≡ spans patches.old.items ++ spans (drop i more.now)) }
@@ -50,7 +49,6 @@ fn add_all<'a>(patches: &mut Vec<Patch<'a>>, more: &[Patch<'a>], i: usize) -> Re
     Ok(())
 }
 
-// Adds the patches from number `j` on, of the first one the positions from `floor` on.
 fn add_rest<'a>(
     patches: &mut Vec<Patch<'a>>,
     more: &[Patch<'a>],
@@ -68,7 +66,7 @@ fn add_rest<'a>(
     Ok(())
 }
 
-/// Orders patches: where several cover a position, the first in the list counts. Where no two overlap, they are only sorted.
+/// Orders patches: if several cover a position, the first in the list counts. If none overlap, they are only sorted.
 pub(crate) fn gather<'a>(alloc: Global, patches: &[Patch<'a>]) -> Result<Vec<Patch<'a>>, AllocError>
     requires { AreNear (spans patches.now) }
     ensures same { IfOk result (λ gathered. (x : ℕ) → first_byte (spans gathered.items) x ≡ first_byte (spans patches.now) x) }
@@ -80,10 +78,10 @@ pub(crate) fn gather<'a>(alloc: Global, patches: &[Patch<'a>]) -> Result<Vec<Pat
     layered(alloc, patches)
 }
 
-// Where some patches overlap, parts of them with so many at most are sorted: longer ones seldom have none that overlap.
+// Longer parts of a list are not tried by sorting: they mostly have overlaps.
 const FEW: usize = 512;
 
-// Orders patches: the earlier half is laid over the later one, each of them ordered so. Few patches of which no two overlap are only sorted.
+// Orders patches: the earlier half is laid over the later one, each ordered in the same way. A short part without overlaps is only sorted.
 fn layered<'a>(alloc: Global, patches: &[Patch<'a>]) -> Result<Vec<Patch<'a>>, AllocError>
     requires { AreNear (spans patches.now) }
     ensures same { IfOk result (λ gathered. (x : ℕ) → first_byte (spans gathered.items) x ≡ first_byte (spans patches.now) x) }
@@ -100,7 +98,7 @@ fn layered<'a>(alloc: Global, patches: &[Patch<'a>]) -> Result<Vec<Patch<'a>>, A
     overlay(alloc, &left, &right)
 }
 
-// Patches in order of position, unless some overlap. One patch alone is in order.
+// The patches in order of position, or `None` if some overlap. A single patch is in order.
 fn sorted_apart<'a>(
     alloc: Global,
     patches: &[Patch<'a>],
@@ -117,7 +115,6 @@ fn sorted_apart<'a>(
     Ok(None)
 }
 
-// Patches sorted by their positions.
 fn by_position<'a>(alloc: Global, patches: &[Patch<'a>]) -> Result<Vec<Patch<'a>>, AllocError>
     ensures { IfOk result (λ sorted. IsPermutation patches.now sorted.items) }
 {
@@ -126,7 +123,7 @@ fn by_position<'a>(alloc: Global, patches: &[Patch<'a>]) -> Result<Vec<Patch<'a>
     Ok(sorted)
 }
 
-// Whether each patch begins at the end of the one before or after it. One patch alone does.
+// Whether no patch begins before the end of the one before it. A single patch is in order.
 fn is_in_order(patches: &[Patch]) -> bool
     requires { AreNear (spans patches.now) }
     ensures ordered { result ≡ true → AreOrdered 0 (spans patches.now) limit }

@@ -12,14 +12,14 @@ use conn_table::Member;
 use pcap_records::FileBytes;
 use std::alloc::{AllocError, Global};
 
-/// From `since` to `high`, the end of all patches so far, no position is missing.
+/// No position is missing from `since` to `high`, the end of all patches so far.
 #[derive(Clone, Copy)]
 struct Covered {
     since: usize,
     high: usize,
 }
 
-/// The patches of one side's members, in order: where several cover a position, the first in the file counts.
+/// The patches of one side's members, in order: if several cover a position, the first in the file counts.
 pub(crate) fn side_patches<'a>(
     alloc: Global,
     base: u32,
@@ -43,7 +43,7 @@ pub(crate) fn side_patches<'a>(
     settle(alloc, whole, &late, covered)
 }
 
-// Takes a patch in: after the others where it goes on or leaves a gap, among the late ones as far as it may fill one.
+// Puts the part from `high` on after the others; if the patch may fill an earlier gap, its part below `high` goes among the late ones.
 fn take<'a>(
     whole: &mut Vec<Patch<'a>>,
     late: &mut Vec<Patch<'a>>,
@@ -71,7 +71,6 @@ fn take<'a>(
     })
 }
 
-// From where on no position is missing after a patch that begins at a position.
 fn covered_since(from: usize, covered: Covered) -> usize
     ensures { result ≡ (if nat_lt covered.high from then from else covered.since) }
 {
@@ -82,7 +81,7 @@ fn covered_since(from: usize, covered: Covered) -> usize
     }
 }
 
-// The ordered patches with the late ones under them.
+// Lays the ordered patches over the late ones.
 #[tactic(auto, using(crate::proofs::SpanBytes::ordered_up))]
 fn settle<'a>(
     alloc: Global,

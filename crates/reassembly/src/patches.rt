@@ -6,7 +6,6 @@ use pcap_records::Moment;
 use std::alloc::AllocError;
 use std::slice;
 
-/// Bytes from a position on, and when they were captured.
 #[derive(Clone, Copy)]
 pub(crate) struct Patch<'a> {
     pub from: usize,

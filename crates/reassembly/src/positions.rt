@@ -10,7 +10,7 @@ use conn_table::Member;
 use frame_headers::Flags;
 use pcap_records::{FileBytes, Moment};
 
-/// Position 0, shifted. Positions are shifted up by 2^31, so that one that is read as negative is a number too.
+/// Position 0, shifted: all positions are shifted up by 2^31, so that none is negative.
 pub(crate) const ORIGIN: usize = 1 << 31;
 
 /// The shifted position at which a member's payload begins.
@@ -27,14 +27,13 @@ pub(crate) fn shifted_start(base: u32, member: &Member) -> usize
         .wrapping_add(ORIGIN as u32) as usize
 }
 
-/// The shifted position at which it ends, and a FIN of the member stands.
+/// The shifted position at which the payload ends, and at which a FIN of the member stands.
 pub(crate) fn shifted_end(base: u32, member: &Member) -> usize
     ensures { result ≡ member_position base member.now + member.now.len }
 {
     shifted_start(base, member) + len_of(member)
 }
 
-// How many bytes a member's payload has.
 fn len_of(member: &Member) -> usize
     ensures exact { result ≡ member.now.len }
     ensures short { result < 2 ^ 16 }
@@ -43,7 +42,7 @@ fn len_of(member: &Member) -> usize
     usize::from(len)
 }
 
-/// The patch of a member's payload, without what stands before position 0.
+/// The patch of a member's payload, without the bytes before position 0.
 pub(crate) fn patch_of<'a>(base: u32, member: &Member, file: FileBytes<'a>) -> Patch<'a>
     requires { IsInFile (bytes_of file) member.now }
     ensures exact { span_of result ≡ member_span base (bytes_of file.entry) member.now }
@@ -60,7 +59,6 @@ pub(crate) fn patch_of<'a>(base: u32, member: &Member, file: FileBytes<'a>) -> P
     }
 }
 
-/// The members before the first reset.
 pub(crate) fn effective_members(members: &[Member]) -> &[Member]
     ensures { result.now ≡ members_before_reset members.entry.now }
 {
@@ -77,7 +75,6 @@ fn first_reset(members: &[Member]) -> Option<usize>
     members.iter().position(|m| m.flags.has(Flags::RST))
 }
 
-/// When the first reset was captured.
 pub(crate) fn reset_at(members: &[Member]) -> Option<Moment>
     ensures { result ≡ option_map (λ m. m.at) (find is_reset_member members.now) }
 {
@@ -87,7 +84,7 @@ pub(crate) fn reset_at(members: &[Member]) -> Option<Moment>
         .map(|m| m.at)
 }
 
-/// The server's number in its first answer.
+/// The sequence number of the server's first SYN with ACK.
 pub(crate) fn server_base(members: &[Member]) -> Option<u32>
     ensures { result ≡ option_map (λ m. m.seq) (find is_server_answer members.now) }
 {

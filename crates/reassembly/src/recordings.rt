@@ -27,9 +27,9 @@ pub struct Recorded<'a> {
     pub up: Line<'a>,
     /// The line of the server.
     pub down: Line<'a>,
-    /// How many bytes of the client lie after a gap or its FIN.
+    /// The number of the client's bytes after a gap or its FIN.
     pub up_lost: u64,
-    /// How many bytes of the server lie after a gap or its FIN.
+    /// The number of the server's bytes after a gap or its FIN.
     pub down_lost: u64,
     /// The sequence number from which the client's bytes count.
     pub client_base: u32,
@@ -43,14 +43,13 @@ pub struct Recorded<'a> {
     pub mac_server: [u8; 6],
 }
 
-/// The Ethernet addresses of a connection's two hosts.
 #[derive(Clone, Copy)]
 struct Macs {
     client: [u8; 6],
     server: [u8; 6],
 }
 
-/// What the two sides of a connection of the capture sent. The parts' bytes are slices of the capture.
+/// The lines of both sides of a connection of the capture. The parts' bytes are slices of the capture.
 pub fn lines<'a>(
     alloc: Global,
     conn: &Conn,
@@ -70,7 +69,6 @@ pub fn lines<'a>(
     recorded_by_members(alloc, capture.unit(), conn.opened, macs, members, file)
 }
 
-// The lines of members whose payloads lie in a file, with instants in a unit.
 fn recorded_by_members<'a>(
     alloc: Global,
     unit: Unit,
@@ -109,7 +107,6 @@ fn recorded_by_members<'a>(
     })
 }
 
-// The sequence number of the first member.
 fn first_seq(members: &[Member]) -> u32
     requires { 0 < length members.now }
     ensures { result ≡ first_seq members.now }
@@ -118,7 +115,7 @@ fn first_seq(members: &[Member]) -> u32
     first.seq
 }
 
-// How a line ends that is not whole.
+// The end of a line that is not whole.
 fn end_else(members: &[Member]) -> End
     ensures { end_view result ≡ other_end members.now }
 {
@@ -128,7 +125,6 @@ fn end_else(members: &[Member]) -> End
     }
 }
 
-// The addresses in the record that opens a connection.
 fn macs_at(capture: &Capture, opening: u32) -> Macs
     requires within { opening < length capture.now.records }
     requires class { frame_class (frame_at capture.now opening) ≡ segment }

@@ -1,4 +1,4 @@
-//! One side of a connection, from its members: its line up to the first gap or to the FIN that counts, and how many bytes lie after.
+//! One side of a connection, from its members: its line up to the first gap or the counted FIN, and the number of later bytes.
 ghost use Rattle.std.specs.Prelude.{◌≡◌, ◌<◌, ◌==◌, ◌||◌, not, length, drop, sum_by, IfOk, All};
 ghost use Rattle.reassembly.specs.LineView.{bytes_of_parts, end_view};
 ghost use Rattle.reassembly.specs.MemberSpans.{IsInFile, own_members};
@@ -15,7 +15,7 @@ use frame_headers::Flags;
 use pcap_records::{FileBytes, Moment};
 use std::alloc::{AllocError, Global};
 
-/// One side's line, which ends so unless it is whole. Its bytes count from `base`; without one no byte has a position.
+/// One side's line, which ends by `other` unless it is whole. Its bytes count from `base`; without one no byte has a position.
 pub(crate) fn recorded_side<'a>(
     alloc: Global,
     base: Option<u32>,
@@ -35,7 +35,6 @@ pub(crate) fn recorded_side<'a>(
     side_line(alloc, &patches, fin, *other)
 }
 
-// The line without bytes.
 fn without_base<'a>(alloc: Global, other: End) -> SideLine<'a>
     ensures { side_view result ≡ without_bytes (end_view other) }
 {
@@ -47,14 +46,13 @@ fn without_base<'a>(alloc: Global, other: End) -> SideLine<'a>
     }
 }
 
-/// A FIN's position, and when it was captured.
 #[derive(Clone, Copy)]
 pub(crate) struct CountedFin {
     pub position: usize,
     pub at: Moment,
 }
 
-// The first FIN of one side in the file that stands at position 0 or later.
+// The side's first FIN in the file that stands at position 0 or later.
 fn first_fin(base: u32, from_client: bool, members: &[Member]) -> Option<CountedFin>
     ensures { result ≡ fin_of_members base (own_members from_client members.now) }
 {
@@ -71,7 +69,7 @@ fn first_fin(base: u32, from_client: bool, members: &[Member]) -> Option<Counted
 /// No position reaches it.
 const LIMIT: usize = 1 << 33;
 
-/// The line of one side by its parts and its end, its length, and how many bytes lie after it.
+/// One side's line: its parts, end and length, and the number of bytes after it.
 #[derive(Drop)]
 pub(crate) struct SideLine<'a> {
     pub parts: Vec<LinePart<'a>>,
@@ -80,7 +78,7 @@ pub(crate) struct SideLine<'a> {
     pub lost: u64,
 }
 
-// The line that ordered patches make, with the FIN that counts and the end that it has else.
+// The line of ordered patches: it ends by `fin` if no byte before that is missing, else by `other`.
 fn side_line<'a>(
     alloc: Global,
     patches: &[Patch<'a>],
@@ -104,7 +102,6 @@ fn side_line<'a>(
     })
 }
 
-// The position by which the line ends.
 fn stop_at(fin: &Option<CountedFin>) -> usize
     ensures { result ≡ stop_of fin.now }
 {
@@ -114,7 +111,6 @@ fn stop_at(fin: &Option<CountedFin>) -> usize
     }
 }
 
-// The end of a line of `len` bytes.
 fn end_at(len: usize, latest: Moment, fin: &Option<CountedFin>, other: &End) -> End
     ensures { end_view result ≡ end_by len latest (end_view other.now) fin.now }
 {
@@ -124,7 +120,6 @@ fn end_at(len: usize, latest: Moment, fin: &Option<CountedFin>, other: &End) -> 
     }
 }
 
-// How many bytes ordered patches have.
 fn count_bytes(patches: &[Patch]) -> usize
     requires { AreOrdered 0 (spans patches.now) limit }
     ensures { result ≡ sum_by len_of (spans patches.now) }
@@ -179,7 +174,6 @@ fn front_parts<'a>(
     Ok(Front { parts, len, latest })
 }
 
-// Where patch `i` begins.
 fn from_at(patches: &[Patch], i: usize) -> usize
     requires { i < length patches.now }
     ensures { result ≡ first_from (spans (drop i patches.now)) }
@@ -187,7 +181,7 @@ fn from_at(patches: &[Patch], i: usize) -> usize
     patch_at(patches, i).from
 }
 
-// Whether a chunk starts at a position: where the instant changes, and at the first.
+// A chunk starts at position 0, and whenever the instant changes.
 fn starts_chunk(position: usize, at: Moment, before: Moment) -> bool
     ensures { result ≡ (position == 0 || not (at == before)) }
 {

@@ -90,7 +90,6 @@ first_len (p ∷ parts) = length p.bytes.now
 abbrev pub IsWithin : List LinePart → Cursor → Type 0
 IsWithin parts q = q.offset ≤ first_len (drop q.part parts)
 
--- the cursor a run further on
 abbrev pub cursor_on : Cursor → ℕ → ℕ → Cursor
 cursor_on q len run = cond (q.offset + run == len) (record { part = q.part + 1; offset = 0 }) (record { part = q.part; offset = q.offset + run })
 

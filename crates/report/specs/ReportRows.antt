@@ -1,4 +1,4 @@
--- Worked rows of a connection's line: what is told of lines that became others, and were cut.
+-- Worked rows of a connection's line, with lines that toxics changed and the cut shortened.
 use Rattle.std.specs.Prelude.{◌≡◌, ℕ, List, [], ◌∷◌, codes, Some, None, true, false}
 use Rattle.conn_table.specs.RowSegments.{client, server}
 use Rattle.reassembly.specs.RecordedLines.{LineByte, Line, live, fin, close, reset, RecordedConnection}
@@ -7,7 +7,6 @@ use Rattle.toxic_defs.specs.DeliveredLines.{DeliveredConnection, delivered_conne
 use Rattle.toxic_defs.specs.SessionCut.{cut_line}
 use Rattle.report.specs.ReportText.{connection_text}
 
--- two chunks of a byte
 abbrev pub ho : ℕ → ℕ → List LineByte
 ho first second = record { value = 104; at = first; starts = true } ∷ record { value = 111; at = second; starts = true } ∷ []
 
@@ -15,7 +14,7 @@ ho first second = record { value = 104; at = first; starts = true } ∷ record {
 abbrev pub delivered_cut : Line → Line → DeliveredConnection
 delivered_cut up down = record { proxy = Some 0; refused = false; up = cut_line 1000000 up down up; down = cut_line 1000000 up down down }
 
--- what is told of a session where its lines became these
+-- the text of a session whose lines became these
 abbrev pub text_of : RecordedConnection → Line → Line → List ℕ
 text_of recorded up down = connection_text 0 None client server recorded (delivered_cut up down)
 

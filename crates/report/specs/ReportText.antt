@@ -17,7 +17,7 @@ abbrev pub heading_text : ℕ → ℕ → ℕ → List ℕ
 heading_text s records rest =
     codes "scenario " ++ (decimal s ++ (codes " records " ++ (decimal records ++ (codes " rest " ++ decimal rest))))
 
--- then how many packets are of each class: of the first four
+-- then the number of packets of each class: of the first four
 abbrev pub first_classes_text : Counts → List ℕ
 first_classes_text n =
     codes " segment " ++ (decimal n.segment ++ (codes " short " ++ (decimal n.short ++ (codes " notipv4 " ++ (decimal n.not_ipv4
@@ -79,11 +79,11 @@ abbrev pub vlan_text : Option ℕ → List ℕ
 vlan_text None = []
 vlan_text (Some n) = codes " vlan " ++ decimal n
 
--- proxy P, and before it vlan V where there is one
+-- proxy P, after vlan V if there is one
 abbrev pub met_text : Option ℕ → Option ℕ → List ℕ
 met_text vlan proxy = vlan_text vlan ++ (codes " proxy " ++ proxy_text proxy)
 
--- number client > server, and then that
+-- number client > server, then the VLAN and the proxy
 abbrev pub peers_text : ℕ → Option ℕ → Peer → Peer → Option ℕ → List ℕ
 peers_text number vlan client server proxy =
     decimal number ++ (codes " " ++ (peer_text client ++ (codes " > " ++ (peer_text server ++ met_text vlan proxy))))
@@ -94,7 +94,7 @@ connection_text number vlan client server r d =
     peers_text number vlan client server d.proxy
     ++ (codes " up " ++ (side_text r.opened d.refused r.up d.up ++ (codes " down " ++ (side_text r.opened d.refused r.down d.down ++ codes "\n"))))
 
--- ---- lines that a report can tell of
+-- ---- lines that a report can describe
 
 -- the lines of both directions have fewer than 2^32 bytes
 pub record AreShort (client server : Line) : Type 0 where

@@ -1,5 +1,4 @@
-//! The text of a report: `report` gives it whole, from the lines of the connections. Where these stand in texts already, `report_head`
-//! gives the two lines before them; `line` gives a connection's line, and `put_line` appends it.
+//! The text of a report: `report` makes all of it, `report_head` its first two lines, and `line` or `put_line` that of a connection.
 #![tactic(auto)]
 
 mod lines;

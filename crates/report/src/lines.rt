@@ -12,14 +12,11 @@ use reassembly::Recorded;
 use std::alloc::{AllocError, Global};
 use toxic_defs::Delivered;
 
-/// The room of a connection's line, which is seldom longer.
+/// The room that is allocated for a connection's line, in bytes. A line is seldom longer.
 pub const LINE_ROOM: usize = 136;
 
-/// Appends the line of a connection, with its line feed: its number and peers, their VLAN if they have one, the proxy that it met,
-/// and for each direction the number of delivered, recorded and lost bytes, how it ends, and the longest that a byte was held back.
-///
-/// # Errors
-/// A growth was refused. `text` then has a first part of the line, which may be empty, after what it had.
+/// Appends a connection's line with its LF: number, peers, VLAN if it has one, proxy, and each direction's bytes, end and longest delay.
+/// If an allocation fails, `text` keeps what it had, and a first part of the line may follow.
 #[tactic(auto, unfolding(crate::specs::ReportText::connection_text))]
 pub fn put_line(
     text: &mut Vec<u8>,
@@ -57,9 +54,6 @@ pub fn put_line(
 }
 
 /// The line of a connection, as [`put_line`] appends it.
-///
-/// # Errors
-/// A growth was refused.
 pub fn line(
     alloc: Global,
     conn: &Conn,
@@ -76,7 +70,6 @@ pub fn line(
     Ok(ReportText::of(text))
 }
 
-// Appends a connection's number and peers, and the proxy that it met.
 fn push_peers(text: &mut Vec<u8>, conn: &Conn, proxy: Option<u32>) -> Result<(), AllocError>
     ensures { OnOk result (text.new.items ≡ text.old.items
         ++ peers_text conn.now.number conn.now.vlan conn.now.client conn.now.server proxy) }
@@ -89,7 +82,6 @@ fn push_peers(text: &mut Vec<u8>, conn: &Conn, proxy: Option<u32>) -> Result<(),
     push_met(text, conn.vlan, proxy)
 }
 
-// Appends the VLAN, if there is one, and the proxy that was met.
 fn push_met(text: &mut Vec<u8>, vlan: Option<u16>, proxy: Option<u32>) -> Result<(), AllocError>
     ensures { OnOk result (text.new.items ≡ text.old.items ++ met_text vlan proxy) }
 {
@@ -109,7 +101,6 @@ fn push_peer(text: &mut Vec<u8>, peer: Peer) -> Result<(), AllocError>
     push_char_number(text, b':', u64::from(peer.port))
 }
 
-// Appends the number of a VLAN, if there is one.
 fn push_vlan(text: &mut Vec<u8>, vlan: Option<u16>) -> Result<(), AllocError>
     ensures { OnOk result (text.new.items ≡ text.old.items ++ vlan_text vlan) }
 {
@@ -119,7 +110,6 @@ fn push_vlan(text: &mut Vec<u8>, vlan: Option<u16>) -> Result<(), AllocError>
     }
 }
 
-// Appends the number of the proxy that was met.
 fn push_proxy(text: &mut Vec<u8>, proxy: Option<u32>) -> Result<(), AllocError>
     ensures { OnOk result (text.new.items ≡ text.old.items ++ proxy_text proxy) }
 {

@@ -11,14 +11,10 @@ use conn_table::{Counts, Table};
 use pcap_records::Capture;
 use std::alloc::{AllocError, Global};
 
-/// The room of the first two lines, which are seldom longer.
+/// The room that is allocated for the first two lines, in bytes. They are seldom longer.
 const HEAD_ROOM: usize = 256;
 
-/// The report of a scenario: the line with how many records the capture has and how many packets are of each class, the line
-/// with how many connections and unopened segments there are, and the lines of the connections in the order of their numbers.
-///
-/// # Errors
-/// A growth was refused.
+/// The report of a scenario: a line of counts of the capture, one of connections and unopened segments, and those of the connections.
 #[tactic(auto, unfolding(crate::specs::ReportText::report_text))]
 pub fn report(
     alloc: Global,
@@ -52,10 +48,7 @@ pub fn report(
     Ok(ReportText::of(text))
 }
 
-/// The first two lines of a scenario's report, which the lines of the table's connections are to follow.
-///
-/// # Errors
-/// A growth was refused.
+/// The first two lines of a scenario's report, before those of the connections.
 pub fn report_head(
     alloc: Global,
     scenario: u32,
@@ -74,7 +67,6 @@ pub fn report_head(
     Ok(ReportText::of(text))
 }
 
-// Appends the first two lines of a report of so many connections.
 fn put_head(
     text: &mut Vec<u8>,
     scenario: u32,
@@ -91,7 +83,6 @@ fn put_head(
     push_connections(text, connections, unopened)
 }
 
-// Appends the line of counts of a capture.
 #[tactic(auto, using(crate::proofs::SeenCounts::seen_count), unfolding(crate::specs::ReportText::counts_text))]
 fn put_counts(
     text: &mut Vec<u8>,
@@ -106,7 +97,6 @@ fn put_counts(
     push_counts(text, scenario, records, capture.rest(), counts)
 }
 
-// Appends the line of these counts.
 fn push_counts(
     text: &mut Vec<u8>,
     scenario: u32,
@@ -121,7 +111,6 @@ fn push_counts(
     push_other_classes(text, counts)
 }
 
-// Appends the scenario's number, and how many records and bytes after them the capture has.
 fn push_heading(
     text: &mut Vec<u8>,
     scenario: u32,
@@ -135,7 +124,6 @@ fn push_heading(
     push_told(text, " rest ", u64::from(rest))
 }
 
-// Appends how many packets are of each of the first four classes.
 fn push_first_classes(text: &mut Vec<u8>, counts: Counts) -> Result<(), AllocError>
     ensures { OnOk result (text.new.items ≡ text.old.items ++ first_classes_text counts) }
 {
@@ -145,7 +133,6 @@ fn push_first_classes(text: &mut Vec<u8>, counts: Counts) -> Result<(), AllocErr
     push_told(text, " badipv4 ", u64::from(counts.bad_ipv4))
 }
 
-// Appends how many packets are of each of the other five.
 fn push_other_classes(text: &mut Vec<u8>, counts: Counts) -> Result<(), AllocError>
     ensures { OnOk result (text.new.items ≡ text.old.items ++ other_classes_text counts) }
 {
@@ -157,7 +144,6 @@ fn push_other_classes(text: &mut Vec<u8>, counts: Counts) -> Result<(), AllocErr
     push(text, "\n")
 }
 
-// Appends how many connections and unopened segments there are.
 #[tactic(auto, unfolding(crate::specs::ReportText::connections_text))]
 fn push_connections(text: &mut Vec<u8>, connections: usize, unopened: u64) -> Result<(), AllocError>
     ensures { OnOk result (text.new.items ≡ text.old.items ++ connections_text connections unopened) }

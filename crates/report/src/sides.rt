@@ -9,11 +9,10 @@ use pcap_records::Moment;
 use reassembly::{End, Line, LinePart};
 use std::alloc::AllocError;
 
-// What a report says of a direction that has no bytes and stays open, as each direction of an opening without an answer does.
+// The text of a direction without bytes that stays open, such as both directions of an opening without an answer.
 const QUIET: &str = "0/0/0 open max 0";
 
-/// Appends the number of delivered, of recorded and of lost bytes of a direction, how it ends, and the longest delay. Instants are
-/// given in ticks since the connection was opened.
+/// Appends a direction's delivered, recorded and lost bytes, its end and its longest delay. Instants are in ticks since the opening.
 pub(crate) fn push_side(
     text: &mut Vec<u8>,
     opened: Moment,
@@ -40,7 +39,6 @@ pub(crate) fn push_side(
     push_told(text, " max ", longest_delay(sent, came))
 }
 
-// Whether a direction has no bytes and stays open.
 fn is_quiet(recorded: &Line<'_>, lost: u64, delivered: &Line<'_>) -> bool
     ensures recorded { result ≡ true → recorded.now.line.bytes ≡ [] }
     ensures lost { result ≡ true → lost ≡ 0 }
@@ -53,7 +51,6 @@ fn is_quiet(recorded: &Line<'_>, lost: u64, delivered: &Line<'_>) -> bool
         && delivered.end() == End::Live
 }
 
-// Appends how a direction ends, or that it was refused.
 fn push_end_word(
     text: &mut Vec<u8>,
     refused: bool,
@@ -68,7 +65,6 @@ fn push_end_word(
     push_end(text, opened, end)
 }
 
-// Appends an end, with its ticks since the connection was opened.
 fn push_end(text: &mut Vec<u8>, opened: Moment, end: &End) -> Result<(), AllocError>
     ensures { OnOk result (text.new.items ≡ text.old.items ++ end_text opened (end_view end.now)) }
 {
@@ -80,14 +76,12 @@ fn push_end(text: &mut Vec<u8>, opened: Moment, end: &End) -> Result<(), AllocEr
     }
 }
 
-// How many ticks an instant is after another one.
 fn ticks_since(opened: Moment, at: Moment) -> u64
     ensures { result ≡ at - opened }
 {
     at.count().saturating_sub(opened.count())
 }
 
-// How many bytes the parts of a line have.
 fn byte_count(parts: &[LinePart<'_>]) -> u64
     requires { length (bytes_of_parts parts.now) < 2 ^ 32 }
     ensures { result ≡ length (bytes_of_parts parts.now) }
@@ -99,15 +93,14 @@ fn byte_count(parts: &[LinePart<'_>]) -> u64
     count
 }
 
-// How far a pass over the parts of a line is: the number of a part, and how many of its bytes are passed.
+// A place in the parts of a line: the number of a part, and how many of its bytes are passed.
 #[derive(Clone, Copy)]
 struct Cursor {
     part: usize,
     offset: usize,
 }
 
-// The longest that a byte was held back, in ticks: each delivered byte against the recorded byte at the same position, over runs
-// of bytes that lie in one part of either line.
+// The longest delay of a byte, in ticks. Both lines are compared by runs of bytes that lie in one part of either.
 fn longest_delay(recorded: &[LinePart<'_>], delivered: &[LinePart<'_>]) -> u64
     ensures { result ≡ longest_delay (bytes_of_parts recorded.now) (bytes_of_parts delivered.now) }
 {
@@ -125,7 +118,7 @@ fn longest_delay(recorded: &[LinePart<'_>], delivered: &[LinePart<'_>]) -> u64
     longest
 }
 
-// The longest delay, where one so long was seen and then bytes, if there are any, that were sent and came at these instants.
+// The longest delay after a run of bytes that were sent and came at these instants. An empty run changes nothing.
 fn longer(longest: u64, run: usize, sent: Moment, came: Moment) -> u64
     ensures { result ≡ max longest (if run == 0 then 0 else came - sent) }
 {
@@ -135,7 +128,7 @@ fn longer(longest: u64, run: usize, sent: Moment, came: Moment) -> u64
     longest.max(came.count().saturating_sub(sent.count()))
 }
 
-// The cursor a run of bytes further on, in a part that has so many bytes: in the next part where none is left.
+// The cursor after a run, in a part of `len` bytes: in the next part if none of them is left.
 fn cursor_after(from: Cursor, len: usize, run: usize) -> Cursor
     requires within { from.offset + run ≤ len }
     requires few { from.part + 1 < 2 ^ 64 }

@@ -9,7 +9,6 @@ use std::alloc::AllocError;
 /// The text of a report, or of a part of it: ASCII, each of its lines ended by LF.
 pub type ReportText = Values<u8>;
 
-/// Appends words.
 pub(crate) fn push(text: &mut Vec<u8>, words: &str) -> Result<(), AllocError>
     ensures { OnOk result (text.new.items ≡ text.old.items ++ words.now) }
 {
@@ -17,7 +16,6 @@ pub(crate) fn push(text: &mut Vec<u8>, words: &str) -> Result<(), AllocError>
     Ok(())
 }
 
-/// Appends a number.
 #[tactic(auto, using(std::proofs::lemmas::Fmt::decimal_digit))]
 pub(crate) fn push_number(text: &mut Vec<u8>, number: u64) -> Result<(), AllocError>
     ensures { OnOk result (text.new.items ≡ text.old.items ++ decimal number) }
@@ -28,7 +26,7 @@ pub(crate) fn push_number(text: &mut Vec<u8>, number: u64) -> Result<(), AllocEr
     push(text, Buffer::new().format(number))
 }
 
-/// Appends one character: it takes less time than a word of one.
+/// Appends one character: this takes less time than a word of one.
 pub(crate) fn push_char(text: &mut Vec<u8>, byte: u8) -> Result<(), AllocError>
     ensures { OnOk result (text.new.items ≡ text.old.items ++ byte ∷ []) }
 {
@@ -36,7 +34,6 @@ pub(crate) fn push_char(text: &mut Vec<u8>, byte: u8) -> Result<(), AllocError>
     Ok(())
 }
 
-/// Appends one character and a number.
 pub(crate) fn push_char_number(text: &mut Vec<u8>, byte: u8, number: u64) -> Result<(), AllocError>
     ensures { OnOk result (text.new.items ≡ text.old.items ++ byte ∷ decimal number) }
 {
@@ -44,7 +41,6 @@ pub(crate) fn push_char_number(text: &mut Vec<u8>, byte: u8, number: u64) -> Res
     push_number(text, number)
 }
 
-/// Appends words and a number.
 pub(crate) fn push_told(text: &mut Vec<u8>, words: &str, number: u64) -> Result<(), AllocError>
     ensures { OnOk result (text.new.items ≡ text.old.items ++ (words.now ++ decimal number)) }
 {

@@ -1,4 +1,4 @@
--- Lists that are as long and begin with the same numbers.
+-- Lists of equal length that begin with the same numbers.
 use Rattle.std.proofs.Common.{◌≡◌, ◌≤◌, ◌<◌, ℕ, zero, suc, ◌+◌, ◌-◌, min, List, [], ◌∷◌, length, take, drop, slice_index, slice_range, refl, sym, ap, ap₂, ◌∙◌, arith}
 use Rattle.std.proofs.lemmas.List.{length-take, length-drop, take-take, drop-take, get_or-take}
 use Rattle.byteorder.specs.Endian.{big_number}
@@ -6,7 +6,7 @@ use Rattle.byteorder.specs.Numbers.{big_from-take}
 use Rattle.frame_headers.specs.Frame.{number_at}
 use Rattle.report_laws.specs.ZeroedPayloads.{zeroed}
 
--- two lists are as long, and begin with the same n numbers, or are the same where they have fewer
+-- two lists have equal length and the same first n numbers, or all if they have fewer
 pub record Alike (n : ℕ) (one other : List ℕ) : Type 0 where
   pub first : take n one ≡ take n other
   pub long : length one ≡ length other

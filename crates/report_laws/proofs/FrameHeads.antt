@@ -1,15 +1,15 @@
--- Frames that are as long and begin with the same bytes: the same is seen of them, but for the bytes of a payload.
+-- Frames of equal length that begin with the same bytes are seen alike, except for the bytes of a payload.
 use Rattle.std.proofs.Common.{◌≡◌, ◌≤◌, ℕ, ◌+◌, ◌-◌, ◌*◌, ◌/◌, ◌%◌, min, Bool, true, false, ◌||◌, ◌&&◌, not, nat_lt, nat_le, ◌==◌, if◌then◌else◌, List, length, refl, sym, ap, ap₂, ◌∙◌, arith}
 use Rattle.frame_headers.specs.Layout.{ethernet_len, link_len, tag_type, vlan_limit, ipv4_type, ipv4_len, total_len_at, fragment_at, protocol_at, source_at, destination_at, tcp_protocol, tcp_len, to_port_at, seq_at, ack_at, data_offset_at, flags_at}
 use Rattle.frame_headers.specs.Frame.{link_type, is_tagged, vlan_numbered, vlan_in, datagram_in, header_len, total_len, ip_payload, data_offset, payload_of, short, not_ipv4, bad_ipv4, fragment, not_tcp, cut, bad_tcp, same_ends, segment, frame_class_in, frame_class, segment_fields_in, segment_fields, SeenFrame}
 use Rattle.report_laws.specs.ZeroedPayloads.{zeroed, zeroed_frame}
 use Rattle.report_laws.proofs.AlikeLists.{Alike, range_long, zeroed_same, fewer, dropped, same_index, same_number, same_range}
 
--- So many first bytes are looked at: of Ethernet's header 18 at most, of IPv4's 60 at most, and of TCP's 14.
+-- The first bytes that are looked at: of Ethernet's header at most 18, of IPv4's at most 60, and of TCP's 14.
 abbrev looked_at : ℕ
 looked_at = 92
 
--- what is seen of a frame, where `tagged` says whether there is a tag
+-- what is seen of a frame; `tagged` says whether it has a tag
 abbrev pub seen_in : Bool → List ℕ → SeenFrame
 seen_in tagged frame = zeroed_frame (record { class = frame_class_in tagged frame; fields = segment_fields_in tagged frame })
 
@@ -29,7 +29,7 @@ module _ (a b : List ℕ) (x : Alike looked_at a b) where
   datagrams_alike true = dropped a b 18 74 x
   datagrams_alike false = dropped a b 14 74 (fewer a b 88 looked_at (omega arith) x)
 
--- datagrams, of which so many first bytes are the same
+-- datagrams whose first n bytes are the same
 module _ (a b : List ℕ) (n : ℕ) (many : 20 ≤ n) (x : Alike n a b) where
   headers_same : header_len a ≡ header_len b
   headers_same = ap (λ first. 4 * (first % 16)) (same_index a b 0 n (omega arith) x)
@@ -50,7 +50,7 @@ module _ (a b : List ℕ) (x : Alike 14 a b) where
       (range_long a (data_offset a) (length a) ∙ ap₂ (λ n offset. min (n - offset) (n - offset)) x.long offsets_same
       ∙ sym (range_long b (data_offset b) (length b)))
 
--- frames whose Ethernet headers, IPv4 headers and TCP headers as far as their flags are the same
+-- frames with the same Ethernet and IPv4 headers, and TCP headers up to their flags
 pub seen_alike : (tagged : Bool) (a b : List ℕ) (m n : ℕ) → 16 ≤ m → 20 ≤ n → Alike m a b → Alike n (datagram_in tagged a) (datagram_in tagged b)
     → Alike 14 (ip_payload (datagram_in tagged a)) (ip_payload (datagram_in tagged b)) → link_type tagged a ≡ link_type tagged b → vlan_in tagged a ≡ vlan_in tagged b
     → seen_in tagged a ≡ seen_in tagged b

@@ -59,7 +59,7 @@ pub fold_mapped : {A B C : Type 0} (h : C → B → C) (f : A → B) (c : C) (xs
 fold_mapped h f c [] = refl
 fold_mapped h f c (x ∷ xs) = fold_mapped h f (h c (f x)) xs
 
--- a function of both that is blind to what one of them becomes
+-- a function of both elements that does not see what f and g change
 pub zip_mapped : {A B C : Type 0} (f : A → A) (g : B → B) (h : A × B → C) → ((x : A) (y : B) → h (f x, g y) ≡ h (x, y))
     → (xs : List A) (ys : List B) → map h (zip (map f xs) (map g ys)) ≡ map h (zip xs ys)
 zip_mapped f g h blind [] ys = refl

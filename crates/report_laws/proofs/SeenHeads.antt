@@ -1,4 +1,4 @@
--- Captures that have the same heads: the same is seen of them, but for the bytes of payloads.
+-- Captures with the same heads are seen alike, except for the bytes of payloads.
 use Rattle.std.proofs.Common.{◌≡◌, ℕ, List, [], ◌∷◌, length, map, drop, get_or, refl, sym, ap, ap₂, ◌∙◌, arith}
 use Rattle.std.specs.List.{zip}
 use Rattle.pcap_records.specs.Instants.{instants}

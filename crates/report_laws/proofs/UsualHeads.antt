@@ -1,4 +1,4 @@
--- Packets of which the same first bytes are kept: the same is seen of them, but for the bytes of a payload.
+-- Packets of which the same first bytes are kept are seen alike, except for the bytes of a payload.
 use Rattle.std.proofs.Common.{◌≡◌, ◌≤◌, ℕ, ◌*◌, ◌%◌, Bool, true, false, ◌==◌, ◌&&◌, if◌then◌else◌, List, take, slice_index, refl, sym, ap, ◌∙◌, arith}
 use Rattle.std.proofs.lemmas.List.{take-take, get_or-drop}
 use Rattle.std.proofs.lemmas.Bool.Decides.{nat_tests}

@@ -1,4 +1,4 @@
--- Toxics on lines with zeroed bytes: they make of them what they make of the lines, with zeroed bytes.
+-- Toxics make of lines with zeroed bytes what they make of the lines, with zeroed bytes.
 use Rattle.std.proofs.Common.{◌≡◌, ℕ, ◌+◌, ◌-◌, ◌*◌, ◌==◌, min, Bool, true, false, ◌||◌, nat_le, nat_lt, if◌then◌else◌, List, [], ◌∷◌, ◌++◌, length, map, slice_index, Option, Some, None, refl, sym, ap, ap₂, ◌∙◌}
 use Rattle.std.proofs.lemmas.List.{length-map, map-append, take-map}
 use Rattle.pcap_records.specs.Instants.{horizon, millisecond, microsecond}

@@ -1,4 +1,4 @@
--- What is seen of packets of which no more than the heads are the same.
+-- What is seen of packets of which only the heads are the same.
 use Rattle.std.specs.Prelude.{◌≡◌, ℕ, List, length, take}
 use Rattle.pcap_records.specs.Reading.{Contents}
 use Rattle.pcap_records.specs.Heads.{head_len, heads_of}
@@ -7,16 +7,16 @@ use Rattle.conn_table.specs.SeenCapture.{seen_capture}
 use Rattle.scenarios.specs.declared.proxies.Proxy.{Proxy}
 use Rattle.report_laws.specs.ZeroedPayloads.{zeroed_frame, report_of}
 
--- two packets are as long, and of both the same first bytes are kept, where so many are kept of a packet
+-- two packets have equal length and the same kept first bytes
 pub record HaveSameFirst (kept : List ℕ → ℕ) (one other : List ℕ) : Type 0 where
   pub first : take (kept one) one ≡ take (kept other) other
   pub long : length one ≡ length other
 
--- such packets are seen as the same frame, but for the bytes of its payload
+-- such packets are seen as the same frame, except for the bytes of its payload
 abbrev pub FrameSeesHead : Type 0
 FrameSeesHead = (one other : List ℕ) → HaveSameFirst head_len one other → zeroed_frame (seen_frame one) ≡ zeroed_frame (seen_frame other)
 
--- two captures that have the same heads have the same report of a scenario
+-- captures with the same heads have the same report of a scenario
 abbrev pub ReportSeesHeads : Type 0
 ReportSeesHeads =
     (one other : Contents) → heads_of one ≡ heads_of other → (seed : ℕ) (scenario : ℕ × List Proxy)

@@ -8,7 +8,7 @@ use Rattle.report.specs.ReportText.{report_text}
 use Rattle.scenarios.specs.declared.proxies.Proxy.{Proxy}
 use Rattle.conn_workers.specs.Contributions.{contribution_of}
 
--- as many bytes, of which each is 0
+-- as many bytes, all of them 0
 abbrev pub zeroed : List ℕ → List ℕ
 zeroed bytes = map (λ byte. 0) bytes
 
@@ -25,7 +25,7 @@ zeroed_packet p = record p { frame = zeroed_frame p.frame }
 abbrev pub zeroed_seen : SeenCapture → SeenCapture
 zeroed_seen c = record c { packets = map zeroed_packet c.packets }
 
--- two captures differ in bytes of payloads alone, if at all
+-- two captures differ only in bytes of payloads, if at all
 abbrev pub DifferInPayloads : SeenCapture → SeenCapture → Type 0
 DifferInPayloads one other = zeroed_seen one ≡ zeroed_seen other
 

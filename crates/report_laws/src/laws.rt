@@ -2,21 +2,21 @@
 ghost use Rattle.report_laws.specs.SeenHeads.{FrameSeesHead, ReportSeesHeads};
 ghost use Rattle.report_laws.specs.ZeroedPayloads.{ReportSeesLengths};
 
-/// Two captures that differ in bytes of the payloads of TCP segments alone, with the same lengths, headers and stamps, have the same report
-/// of each scenario, whatever the seed. So who puts as many other bytes in place of a secret changes no report.
+/// Two captures that differ only in payload bytes of TCP segments have the same report of each scenario, with any seed.
+/// So a secret can be replaced by as many other bytes, and no report changes.
 pub fn report_sees_lengths()
     ensures { ReportSeesLengths }
 {}
 
-/// Two packets that are as long, and of both the same first bytes are kept (`head_len` of `pcap_records` says how many), are seen as the same frame
-/// but for the bytes of a payload. Nothing else than headers and lengths is looked at, and these bytes hold the headers: Ethernet's with at most one
-/// tag (18 bytes), IPv4's with options (60 at most), and of TCP's the first 14.
+/// Two packets of equal length with the same head (`head_len` of `pcap_records`) are seen as the same frame, except for payload bytes.
+/// Only headers and lengths are looked at. A head has Ethernet's with at most one tag (18 bytes), IPv4's with options (60 at most),
+/// and the first 14 bytes of TCP's.
 pub fn frame_sees_head()
     ensures { FrameSeesHead }
 {}
 
-/// Two captures that count the same ticks, end in as many bytes past the last whole record, and whose packets have the same stamps, lengths and first
-/// bytes, as many as are kept, have the same report of each scenario, whatever the seed. So who keeps no more of a packet than its head loses no report.
+/// Reports depend only on a capture's ticks, the number of bytes after its last whole record, and each packet's stamp, length and head.
+/// So a capture of which only the heads are kept loses no report.
 pub fn report_sees_heads()
     ensures { ReportSeesHeads }
 {}

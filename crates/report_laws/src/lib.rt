@@ -1,4 +1,4 @@
-//! What reports depend on: of packets they see the headers, and of what connections carry how much it is, and never a byte. There is no call here to make.
+//! What reports depend on: of packets the headers, of what connections carry the lengths, and never a byte. There are only laws here.
 #![tactic(auto)]
 
 pub mod laws;

@@ -1,4 +1,4 @@
--- What std reads as an IPv4 address is `address` of the text.
+-- The address that std reads in a text is `address` of it.
 use Rattle.std.proofs.Common.{◌≡◌, ℕ, List, [], ◌∷◌, length, Option, Some, None, option_map, refl, ap, ◌∙◌, append-nil, lit≤}
 use Rattle.std.proofs.Math.Dec.{eqb-suc-zero}
 use Rattle.std.specs.Int.{w32, from_be_bytes}
@@ -10,12 +10,10 @@ use Rattle.std.proofs.lemmas.Option.{none-some, same_Some}
 use Rattle.scenarios.specs.Hosts.{address}
 use Rattle.scenarios.specs.ProxyLaws.{AddressesAreDotted}
 
--- a dotted text is its address
 pub address_of_dotted : (text octets : List ℕ) → IsDotted text octets → address text ≡ Some (from_be_bytes w32 octets)
 address_of_dotted text octets h =
     ap (λ r. option_map (from_be_bytes w32) (whole_value r)) (rw append-nil at (read_ipv4_complete text octets [] h (lit≤ tt)))
 
--- what was read whole is dotted
 dotted_by_reading : (text octets : List ℕ) → read_ipv4 text ≡ Some (octets, []) → IsDotted text octets
 dotted_by_reading text octets e =
     let found = read_ipv4_sound text octets [] e in
@@ -29,7 +27,7 @@ dotted_of : (text : List ℕ) (addr : ℕ) (r : Read (List ℕ)) → read_ipv4 t
 dotted_of text addr None e value = absurd (none-some addr value)
 dotted_of text addr (Some p) e value = dotted_by_value text p.0 p.1 addr e value
 
--- where no address has the text there is none
+-- if no address has the text, there is none
 pub address_of_none : (text : List ℕ) → ((a : Ipv4Addr) → ¬ (IsIpv4Text text a)) → address text ≡ None
 address_of_none text none = by (address text) refl
   where
@@ -37,7 +35,6 @@ address_of_none text none = by (address text) refl
     by None e = e
     by (Some addr) e = let dotted = dotted_of text addr (read_ipv4 text) refl e in absurd (none (record { octets = dotted.0 }) dotted.1)
 
--- a text is an address exactly where it is dotted
 pub addresses_are_dotted : AddressesAreDotted
 addresses_are_dotted text addr = (
   λ value. dotted_of text addr (read_ipv4 text) refl value,

@@ -24,7 +24,6 @@ leads_not server p test same =
     let own : leads_to server p ≡ true = rw (ap (λ u. u.addr) same, ap (λ u. u.port) same, eq-eqb server.addr server.addr refl, eq-eqb server.port server.port refl) refl in
     cc
 
--- one further on
 next_position : (count len : ℕ) → cond (nat_lt (1 + count) (suc len)) (Some (1 + count)) None ≡ option_map suc (cond (nat_lt count len) (Some count) None)
 next_position count len = grind (arith, nat_tests)
 

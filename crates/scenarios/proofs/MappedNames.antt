@@ -1,4 +1,4 @@
--- A test of mapped elements is one of the elements; and std's test of digits is one of all bytes.
+-- A test of mapped elements is one of the elements, and std's test of digits is one of all bytes.
 use Rattle.std.proofs.Common.{◌≡◌, ℕ, ◌||◌, ◌&&◌, Bool, List, [], ◌∷◌, map, refl, ap}
 use Rattle.std.specs.Char.{is_ascii_digit}
 use Rattle.std.specs.List.{list_all, list_any}

@@ -1,4 +1,4 @@
--- What steps went through, if they gave a value.
+-- What steps passed, if they gave a value.
 use Rattle.std.proofs.Common.{◌≡◌, Bool, true, false, Option, Some, None, option_and_then, Result, Ok, Err, refl, ap}
 use Rattle.std.proofs.lemmas.Option.{none-some}
 use Rattle.scenarios.specs.Refusals.{with, and_then, unless, at_place}

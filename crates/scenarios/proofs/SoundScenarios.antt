@@ -49,7 +49,7 @@ upstreams_have_ports hosts text peer is =
 
 -- ---- proxies
 
--- a proxy that nothing refuses but its toxics has a name that is free, and a port
+-- a proxy has a free name and a port, whatever its toxics are
 SoundBefore : List Proxy → CheckedProxy → Type 0
 SoundBefore earlier c = (0 < length c.name) × (0 < c.upstream.port) × (c.upstream.port < 2 ^ 16) × (has_name earlier c.name ≡ false)
 
@@ -68,7 +68,7 @@ checked_is_sound hosts earlier d c is =
     of_with (proxy_fields d) _ _ c is₁ λ m fields_are is₂.
     (accepted_is_sound hosts earlier m c (fields_have_names d m fields_are) is₂, leb-false proxy_limit (length earlier) few)
 
--- a proxy that is accepted is sound, and its name is free
+-- an accepted proxy is sound, and its name is free
 proxy_is_sound : (hosts : List KnownHost) (earlier : List Proxy) (d : Data) (p : Proxy) → proxy_in hosts earlier d ≡ Ok p → IsSound p × (has_name earlier p.name ≡ false) × (length earlier < proxy_limit)
 unfolding proxy_in SoundBefore
 proxy_is_sound hosts earlier d p is =
@@ -78,7 +78,7 @@ proxy_is_sound hosts earlier d p is =
     let toxics = toxics_are_sound (length earlier) c.toxics t toxics_are in
     rw (← same_ok _ _ is₂) (record { named = before.0.0; port = before.0.1; port_fits = before.0.2; up_toxics = toxics.0; down_toxics = toxics.1 }, before.0.3, before.1)
 
--- what was read after those that stand earlier
+-- what was read after the earlier proxies
 Behind : List Proxy → List Proxy → Type 0
 Behind earlier proxies = (more : List Proxy) × (proxies ≡ earlier ++ more) × AllByRecursion IsSound more × NamesAreFree earlier more × (length proxies ≤ proxy_limit)
 

@@ -1,4 +1,4 @@
--- The toxics of a proxy in a file are in range, and not too many.
+-- The toxics of a proxy in a file are in range, and there are not too many.
 use Rattle.std.proofs.Common.{◌≡◌, ℕ, ◌<◌, nat_le, List, [], ◌∷◌, ◌++◌, length, Some, option_and_then, Ok, subst, arith, length-append}
 use Rattle.std.proofs.lemmas.Bool.{leb-false}
 use Rattle.std.proofs.lemmas.Option.{cond_some}

@@ -42,7 +42,6 @@ kind_is_read way n ppm (ResetPeer timeout) = refl
 kind_is_read way n ppm (Slicer average_size size_variation delay) = refl
 kind_is_read way n ppm (LimitData bytes) = refl
 
--- a text that is not empty is the name
 own_name : (text : List ℕ) (type_is : ToxicType) (way : Stream) → 0 < length text → name_of text type_is way ≡ text
 own_name [] type_is way some = absurd (omega arith)
 own_name (x ∷ text) type_is way some = refl
@@ -52,7 +51,7 @@ made_is_made t in_range = rw in_range refl
 
 -- ---- names
 
--- the numbers from the count of some names on are none of them
+-- a number that is not below the count of some names is none of them
 AreFree : List (List ℕ) → Type 0
 AreFree names = (k : ℕ) → length names ≤ k → k < 2 ^ 64 → is_name_taken names (decimal k) ≡ false
 
@@ -90,7 +89,6 @@ toxic_is_read read way n t n_is small free room in_range =
 
 -- ---- the toxics of a direction
 
--- more toxics of a direction, and all names
 with_all : Stream → List (List ℕ) → List RatedKind → ToxicsRead → ToxicsRead
 with_all Upstream names toxics read = record { names = names; up = read.up ++ toxics; down = read.down }
 with_all Downstream names toxics read = record { names = names; up = read.up; down = read.down ++ toxics }
@@ -113,7 +111,7 @@ count_behind : (read : ToxicsRead) (name : List ℕ) (way : Stream) (t : RatedKi
 count_behind read name Upstream t = omega (arith, length-append read.up (t ∷ []))
 count_behind read name Downstream t = omega (arith, length-append read.down (t ∷ []))
 
--- what reading the toxics of a direction, and then the rest, comes to
+-- the result of reading the toxics of a direction, and then the rest
 record AreReadBack (proxy : ℕ) (read : ToxicsRead) (way : Stream) (n : ℕ) (toxics : List RatedKind) (rest : List Data) : Type 0 where
   pub names : List (List ℕ)
   pub count : length names ≡ n + length toxics

@@ -1,4 +1,4 @@
--- Scenarios: a JSON array of proxies in Toxiproxy's form; and which of its proxies a connection meets.
+-- Scenarios: a JSON array of proxies in Toxiproxy's form; and the one of its proxies that a connection meets.
 use Rattle.std.specs.Prelude.{ℕ, ◌&&◌, ◌==◌, List, [], Bool, if◌then◌else◌, Option, None, position, Result}
 use Rattle.std.specs.Str.{is_utf8}
 use Rattle.serde_json.specs.Data.{Data}
@@ -12,22 +12,18 @@ use Rattle.scenarios.specs.declared.proxies.Proxy.{Proxy}
 use Rattle.scenarios.specs.declared.error.Cause.TheVariants.{NotJson, NotArray}
 use Rattle.scenarios.specs.declared.error.Refusal.{Refusal}
 
--- the tree of JSON that a text is, if it is one
 abbrev pub tree : List ℕ → Option Data
 tree text = if is_utf8 text then read text else None
 
--- the proxies that a tree stands for, or its first refusal
 abbrev pub scenario_of_tree : List KnownHost → Data → Result (List Proxy) Refusal
 scenario_of_tree hosts d = with (as_array d) (of_text NotArray) (proxies_from hosts [])
 
--- the same of a text
 abbrev pub scenario : List KnownHost → List ℕ → Result (List Proxy) Refusal
 scenario hosts text = with (tree text) (of_text NotJson) (scenario_of_tree hosts)
 
--- whether a proxy is for a server
 abbrev pub leads_to : Peer → Proxy → Bool
 leads_to server p = p.upstream.addr == server.addr && p.upstream.port == server.port
 
--- The number of the first proxy that is for a server, enabled or not. A later one for the same server is met by no connection.
+-- the first proxy that is for a server, enabled or not; no connection meets a later one for it
 abbrev pub met_number : Peer → List Proxy → Option ℕ
 met_number server proxies = position (leads_to server) proxies

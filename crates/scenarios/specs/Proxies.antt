@@ -12,18 +12,16 @@ use Rattle.scenarios.specs.declared.proxies.Proxy.{Proxy}
 use Rattle.scenarios.specs.declared.error.Cause.TheVariants.{BadMember, DuplicateProxy, TooMany}
 use Rattle.scenarios.specs.declared.error.Refusal.{Refusal}
 
--- the greatest number of proxies of a scenario
 abbrev pub proxy_limit : ℕ
 proxy_limit = 64
 
--- the fields of a proxy
 pub record ProxyFields : Type 0 where
   pub name : List ℕ
   pub upstream : List ℕ
   pub enabled : Bool
   pub toxics : Items
 
--- the fields of a proxy, if each is of its kind and its name is not empty
+-- each field is of its kind, and the name is not empty
 abbrev pub proxy_fields : Data → Option ProxyFields
 proxy_fields d =
     option_and_then (λ name.
@@ -37,38 +35,34 @@ proxy_fields d =
     (required_text (codes "upstream") d))
     (required_text (codes "name") d)
 
--- whether a proxy has the name
 abbrev pub has_name : List Proxy → List ℕ → Bool
 has_name proxies name = list_any (λ p. bytes_eq p.name name) proxies
 
--- a proxy that nothing refuses but its toxics, which are still to be read
+-- a proxy that nothing refuses so far; its toxics are still to be read
 pub record CheckedProxy : Type 0 where
   pub name : List ℕ
   pub upstream : Peer
   pub enabled : Bool
   pub toxics : Items
 
--- the proxy that fields say, after those that stand earlier
 unfoldable pub accepted_proxy : List KnownHost → List Proxy → ProxyFields → Result CheckedProxy Refusal
 accepted_proxy hosts earlier m =
     unless (has_name earlier m.name) (of_proxy (length earlier) DuplicateProxy)
     (and_then (at_place (of_proxy (length earlier)) (upstream hosts m.upstream)) (λ peer.
     Ok (record { name = m.name; upstream = peer; enabled = m.enabled; toxics = m.toxics })))
 
--- one proxy before its toxics are read, after those that stand earlier
+-- a proxy before its toxics are read, after the earlier ones
 unfoldable pub checked_proxy : List KnownHost → List Proxy → Data → Result CheckedProxy Refusal
 checked_proxy hosts earlier d =
     unless (nat_le proxy_limit (length earlier)) (of_proxy (length earlier) TooMany)
     (with (proxy_fields d) (of_proxy (length earlier) BadMember) (accepted_proxy hosts earlier))
 
--- one proxy, after those that stand earlier
 unfoldable pub proxy_in : List KnownHost → List Proxy → Data → Result Proxy Refusal
 proxy_in hosts earlier d =
     and_then (checked_proxy hosts earlier d) (λ c.
     and_then (toxics_from (length earlier) no_toxics c.toxics) (λ t.
     Ok (record { name = c.name; upstream = c.upstream; enabled = c.enabled; up = t.up; down = t.down })))
 
--- the proxies of the items, after those that stand earlier
 unfoldable pub proxies_from : List KnownHost → List Proxy → Items → Result (List Proxy) Refusal
 proxies_from hosts earlier no_items = Ok earlier
 proxies_from hosts earlier (item d ds) =

@@ -1,4 +1,4 @@
--- What holds of addresses, of the proxy that a server meets, and of proxies that are written as JSON.
+-- What holds of addresses, of the proxy that a server meets, and of proxies written as JSON.
 use Rattle.std.specs.Prelude.{◌≡◌, ◌≢◌, ◌↔◌, ℕ, ◌<◌, ◌≤◌, ◌^◌, List, [], ◌∷◌, ◌++◌, codes, map, length, false, Some, Ok, decimal, ⊤}
 use Rattle.std.specs.List.{AllByRecursion}
 use Rattle.std.specs.Option.{MatchOption}
@@ -19,7 +19,7 @@ use Rattle.scenarios.specs.Populate.{tree, scenario, met_number}
 use Rattle.scenarios.specs.declared.hosts.KnownHost.{KnownHost}
 use Rattle.scenarios.specs.declared.proxies.Proxy.{Proxy}
 
--- a text is an address exactly where it is four decimal numbers below 256 with dots between them: the address's bytes
+-- a text is an address exactly if it is its bytes as decimal numbers below 256 with dots between them
 abbrev pub AddressesAreDotted : Type 0
 AddressesAreDotted =
     (text : List ℕ) (addr : ℕ)
@@ -37,26 +37,21 @@ pub record IsFirstFor (server : Peer) (proxies : List Proxy) (number : ℕ) : Ty
   pub leads : proxy.upstream ≡ server
   pub others : AllByRecursion (λ p. p.upstream ≢ server) before
 
--- a server meets the first proxy that is for it, and none where none is
 abbrev pub FirstIsMet : Type 0
 FirstIsMet =
     (server : Peer) (proxies : List Proxy)
     → MatchOption (met_number server proxies)
     (AllByRecursion (λ p. p.upstream ≢ server) proxies) (IsFirstFor server proxies)
 
--- ---- accepted scenarios
-
--- each proxy's name is none of those that stand earlier
+-- no proxy has the name of an earlier one
 abbrev pub NamesAreFree : List Proxy → List Proxy → Type 0
 NamesAreFree earlier [] = ⊤
 NamesAreFree earlier (p ∷ proxies) = (has_name earlier p.name ≡ false) × NamesAreFree (earlier ++ p ∷ []) proxies
 
--- the toxics of a direction are in range, and not too many
 pub record AreSoundToxics (toxics : List RatedKind) : Type 0 where
   pub few : length toxics ≤ most_toxics
   pub in_range : AllByRecursion IsInRange toxics
 
--- a proxy has a name, its upstream a port, and its toxics are in range and not too many
 pub record IsSound (p : Proxy) : Type 0 where
   pub named : 0 < length p.name
   pub port : 0 < p.upstream.port
@@ -64,8 +59,6 @@ pub record IsSound (p : Proxy) : Type 0 where
   pub up_toxics : AreSoundToxics p.up
   pub down_toxics : AreSoundToxics p.down
 
--- the proxies of a scenario have names, ports and toxics in range, no two of them the same name, and there are not
--- too many
 abbrev pub ScenariosAreSound : Type 0
 ScenariosAreSound =
     (hosts : List KnownHost) (text : List ℕ) (proxies : List Proxy)
@@ -74,15 +67,14 @@ ScenariosAreSound =
 
 -- ---- proxies that are written as JSON
 
--- the upstream of a peer: its address as four decimal numbers with dots between them, a colon, and its port
+-- an address as four decimal numbers with dots between them, a colon, and a port
 abbrev pub upstream_text : Peer → List ℕ
 upstream_text peer = ipv4_text (to_be_bytes w32 peer.addr) ++ colon ∷ decimal peer.port
 
--- the toxics of a proxy: those of the way to the server, and then those of the way back, named by their numbers
+-- the toxics on the way to the server, then those on the way back, named by their numbers
 abbrev pub proxy_toxics_data : Proxy → List Data
 proxy_toxics_data p = toxics_data Upstream 0 p.up ++ toxics_data Downstream (length p.up) p.down
 
--- a proxy, and proxies, as JSON
 abbrev pub proxy_data : Proxy → Data
 proxy_data p =
     object
@@ -94,12 +86,11 @@ proxy_data p =
 abbrev pub proxies_data : List Proxy → Data
 proxies_data proxies = array (items_of (map proxy_data proxies))
 
--- a sound proxy whose address is one
+-- a sound proxy whose address has 32 bits
 pub record IsProxy (p : Proxy) : Type 0 where
   pub sound : IsSound p
   pub addr : p.upstream.addr < 2 ^ 32
 
--- a text whose tree is that of proxies, each with a name of its own, is read as these proxies, whatever hosts are known
 abbrev pub ProxiesAreReadBack : Type 0
 ProxiesAreReadBack =
     (hosts : List KnownHost) (text : List ℕ) (proxies : List Proxy)

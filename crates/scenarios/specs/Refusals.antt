@@ -1,11 +1,10 @@
--- Where a refusal stands, and how steps that may refuse stand one after another.
+-- Where a refusal stands, and steps that may refuse, one after another.
 use Rattle.std.specs.Prelude.{ℕ, Bool, true, false, Option, Some, None, Result, Ok, Err}
 use Rattle.scenarios.specs.declared.error.Cause.{Cause}
 use Rattle.scenarios.specs.declared.error.Refusal.{Refusal}
 use Rattle.scenarios.specs.declared.error.ScenarioFault.{ScenarioFault}
 use Rattle.scenarios.specs.declared.error.ScenarioFault.TheVariants.{Refused, Memory}
 
--- a refusal of the whole text, of a proxy, and of one of its toxics
 abbrev pub of_text : Cause → Refusal
 of_text cause = record { cause = cause; proxy = None; toxic = None }
 
@@ -15,7 +14,7 @@ of_proxy proxy cause = record { cause = cause; proxy = Some proxy; toxic = None 
 abbrev pub of_toxic : ℕ → ℕ → Cause → Refusal
 of_toxic proxy toxic cause = record { cause = cause; proxy = Some proxy; toxic = Some toxic }
 
--- what a fault refuses: want of memory refuses nothing
+-- what a fault refuses; out of memory is no refusal
 abbrev pub scenario_refusal : ScenarioFault → Option Refusal
 scenario_refusal (Refused r) = Some r
 scenario_refusal (Memory e) = None
@@ -30,12 +29,12 @@ abbrev pub and_then : {A B E : Type 0} → Result A E → (A → Result B E) →
 and_then (Ok x) next = next x
 and_then (Err error) next = Err error
 
--- the next step, unless a test passes
+-- the next step, unless a test holds
 abbrev pub unless : {B E : Type 0} → Bool → E → Result B E → Result B E
 unless true error next = Err error
 unless false error next = next
 
--- a refusal for the cause that a step told
+-- a refusal at a place, for the cause that a step gave
 abbrev pub at_place : {A : Type 0} → (Cause → Refusal) → Result A Cause → Result A Refusal
 at_place place (Ok x) = Ok x
 at_place place (Err cause) = Err (place cause)

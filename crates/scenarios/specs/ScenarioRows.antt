@@ -11,7 +11,6 @@ use Rattle.scenarios.specs.declared.error.Cause.TheVariants.{NotJson, NotArray, 
 
 -- ---- texts
 
--- no proxies; a text that ends too soon; an object; an item that is no object
 pub record TextsRead : Type 0 where
   pub empty : scenario [] (codes "[]") ≡ Ok []
   pub torn : scenario [] (codes "[") ≡ Err (of_text NotJson)
@@ -23,13 +22,11 @@ pub record TextsRead : Type 0 where
 abbrev pub localhost : KnownHost
 localhost = record { name = codes "localhost"; addr = 0x7f000001 }
 
--- an address; a name with a host for it; a port with zeros before it
 pub record UpstreamsRead : Type 0 where
   pub address : upstream [] (codes "10.0.0.2:80") ≡ Ok (record { addr = 0x0a000002; port = 80 })
   pub name : upstream (localhost ∷ []) (codes "localhost:6379") ≡ Ok (record { addr = 0x7f000001; port = 6379 })
   pub zeros : upstream [] (codes "10.0.0.2:00080") ≡ Ok (record { addr = 0x0a000002; port = 80 })
 
--- no port; no host; port 0; a port past 65535; an address of another kind; a port that is no number; six digits
 pub record UpstreamsRefused : Type 0 where
   pub portless : upstream [] (codes "10.0.0.2") ≡ Err BadUpstream
   pub hostless : upstream [] (codes ":80") ≡ Err BadUpstream
@@ -39,7 +36,6 @@ pub record UpstreamsRefused : Type 0 where
   pub lettered : upstream [] (codes "10.0.0.2:http") ≡ Err BadUpstream
   pub six_digits : upstream [] (codes "10.0.0.2:000080") ≡ Err BadUpstream
 
--- names that no host has, one of them near an address
 pub record HostsUnknown : Type 0 where
   pub name : upstream [] (codes "redis:80") ≡ Err UnknownHost
   pub near : upstream [] (codes "10.0.0.256:80") ≡ Err UnknownHost
@@ -63,7 +59,7 @@ proxy_named name enabled = record { name = name; upstream = server; enabled = en
 abbrev pub web : Proxy
 web = proxy_named (codes "web") true
 
--- fields may be absent, or null, or unknown; of a repeated one the last counts
+-- fields may be absent, null or unknown; of a repeated one the last counts
 pub record ProxiesTold : Type 0 where
   pub plain : scenario [] (of_one []) ≡ Ok (web ∷ [])
   pub whole : scenario [] (of_one (codes ",\"listen\":\"127.0.0.1:20080\",\"enabled\":true,\"toxics\":[]"))
@@ -73,7 +69,6 @@ pub record ProxiesTold : Type 0 where
   pub repeated : scenario [] (of_one (codes ",\"enabled\":true,\"enabled\":false"))
       ≡ Ok (proxy_named (codes "web") false ∷ [])
 
--- a flag that is a text; a name that is empty; a proxy twice; a toxic of a type; one without a type
 pub record ProxiesRefused : Type 0 where
   pub flag : scenario [] (of_one (codes ",\"enabled\":\"yes\"")) ≡ Err (of_proxy 0 BadMember)
   pub nameless : scenario [] (codes "[" ++ proxy_json [] [] ++ codes "]") ≡ Err (of_proxy 0 BadMember)
@@ -94,7 +89,6 @@ pub record FirstMet : Type 0 where
 
 -- ---- hosts
 
--- a host is added once, with a name and an address
 pub record HostsAdded : Type 0 where
   pub new : host_for [] (codes "a") (codes "10.0.0.9") ≡ Some (record { name = codes "a"; addr = 0x0a000009 })
   pub again : host_for (record { name = codes "a"; addr = 0x0a000009 } ∷ []) (codes "a") (codes "10.0.0.9") ≡ None

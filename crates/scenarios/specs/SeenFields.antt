@@ -1,4 +1,4 @@
--- What is seen of the code's fields of proxies and of toxics, and of those that nothing refuses.
+-- What is seen of the code's fields of proxies and of toxics, and of accepted ones.
 use Rattle.serde_json.specs.View.{items_view}
 use Rattle.scenarios.specs.Proxies.{ProxyFields, CheckedProxy}
 use Rattle.scenarios.specs.ToxicsInFiles.{ToxicFields, ToxicsRead, NamedToxic, with_toxic}
@@ -21,6 +21,5 @@ seen_texts m = record { type_text = m.type_text.now; name = m.name.now; stream =
 abbrev pub seen_toxic : AcceptedToxic → NamedToxic
 seen_toxic t = record { name = t.name.now; stream = t.stream; toxic = t.toxic }
 
--- the toxics that were read, and one more
 abbrev pub after_accepted : ToxicsRead → AcceptedToxic → ToxicsRead
 after_accepted read t = with_toxic read t.name.now t.stream t.toxic

@@ -13,7 +13,6 @@ use Rattle.scenarios.specs.declared.error.Refusal.{Refusal}
 
 -- ---- texts
 
--- what a file of one proxy with these toxics is read as
 abbrev pub read_toxics : List ℕ → Result (List Proxy) Refusal
 read_toxics toxics = scenario [] (of_one (codes ",\"toxics\":[" ++ toxics ++ codes "]"))
 
@@ -23,7 +22,7 @@ toxic_text type_is toxicity attributes =
     codes "{\"type\":\"" ++ type_is ++ codes "\",\"stream\":\"upstream\"" ++ toxicity
     ++ codes ",\"attributes\":{" ++ attributes ++ codes "}}"
 
--- a latency of so many milliseconds; one of 100 with a toxicity
+-- a latency of `text` milliseconds, and one of 100 with a toxicity
 abbrev pub latency : List ℕ → List ℕ
 latency text =
     toxic_text (codes "latency") (codes ",\"toxicity\":1") (codes "\"latency\":" ++ text ++ codes ",\"jitter\":0")
@@ -31,7 +30,6 @@ latency text =
 abbrev pub toxicity : List ℕ → List ℕ
 toxicity more = toxic_text (codes "latency") more (codes "\"latency\":100")
 
--- an upstream toxic with a name and further fields
 abbrev pub named_toxic : List ℕ → List ℕ → List ℕ
 named_toxic name more =
     codes "{\"type\":\"timeout\",\"stream\":\"upstream\",\"name\":\"" ++ name ++ codes "\"" ++ more ++ codes "}"
@@ -50,11 +48,11 @@ applied kind ppm = record { kind = kind; ppm = ppm }
 abbrev pub web_with : List RatedKind → List RatedKind → Result (List Proxy) Refusal
 web_with up down = Ok (record { name = codes "web"; upstream = server; enabled = true; up = up; down = down } ∷ [])
 
--- a type with these attributes is this kind, for each connection
+-- a type with these attributes is this kind, for every connection
 abbrev pub IsReadAs : List ℕ → List ℕ → Kind → Type 0
 IsReadAs type_is attributes kind = read_toxics (toxic_text type_is [] attributes) ≡ web_with (applied kind 1000000 ∷ []) []
 
--- each type with its own attributes; one that is null is 0, and those of other types are not looked at
+-- each type with its own attributes; null is 0, and attributes of other types are not looked at
 pub record KindsRead : Type 0 where
   pub latency_kind : IsReadAs (codes "latency") (codes "\"latency\":100,\"jitter\":50") (Latency 100 50)
   pub bandwidth : IsReadAs (codes "bandwidth") (codes "\"rate\":1") (Bandwidth 1)
@@ -66,7 +64,6 @@ pub record KindsRead : Type 0 where
   pub null : read_toxics (latency (codes "null")) ≡ web_with (applied (Latency 0 0) 1000000 ∷ []) []
   pub unknown : IsReadAs (codes "timeout") (codes "\"latency\":\"1\"") (Timeout 0)
 
--- a toxicity of 0, of 0 beside a million, and of a part of a million
 pub record ToxicitiesRead : Type 0 where
   pub never : read_toxics (toxicity (codes ",\"toxicity\":0")) ≡ web_with (applied (Latency 100 0) 0 ∷ []) []
   pub always : read_toxics (toxicity (codes ",\"toxicity\":0,\"toxicity_ppm\":1000000"))
@@ -74,8 +71,7 @@ pub record ToxicitiesRead : Type 0 where
   pub part : read_toxics (toxicity (codes ",\"toxicity_ppm\":250000"))
       ≡ web_with (applied (Latency 100 0) 250000 ∷ []) []
 
--- no stream, and a stream and a name that are empty or null: downstream; toxics of both directions, each in the order
--- of the file
+-- without a stream, or with an empty one or null, a toxic is downstream; each direction keeps the order of the file
 pub record StreamsRead : Type 0 where
   pub absent : read_toxics (codes "{\"type\":\"timeout\"}") ≡ web_with [] (applied (Timeout 0) 1000000 ∷ [])
   pub empty : read_toxics (codes "{\"type\":\"timeout\",\"stream\":\"\",\"name\":\"\"}")
@@ -89,7 +85,6 @@ pub record StreamsRead : Type 0 where
 
 -- ---- what is refused
 
--- an unknown type, one that is empty, and none; another stream; fields of the wrong kinds
 pub record WordsRefused : Type 0 where
   pub type_is : read_toxics (toxic_text (codes "explode") [] []) ≡ Err (of_toxic 0 0 UnknownToxic)
   pub typeless : read_toxics (toxic_text [] [] []) ≡ Err (of_toxic 0 0 UnknownToxic)
@@ -98,7 +93,6 @@ pub record WordsRefused : Type 0 where
   pub name : read_toxics (codes "{\"type\":\"latency\",\"name\":1}") ≡ Err (of_toxic 0 0 BadMember)
   pub attributes : read_toxics (codes "{\"type\":\"latency\",\"attributes\":[]}") ≡ Err (of_toxic 0 0 BadMember)
 
--- the same toxic twice without names; a name that an unnamed toxic of the same or the other direction has
 pub record NamesRefused : Type 0 where
   pub twice : read_toxics (latency (codes "1") ++ codes "," ++ latency (codes "1")) ≡ Err (of_toxic 0 1 DuplicateToxic)
   pub default : read_toxics (codes "{\"type\":\"timeout\",\"name\":\"latency_downstream\"},{\"type\":\"latency\"}")
@@ -106,8 +100,7 @@ pub record NamesRefused : Type 0 where
   pub across : read_toxics (named_toxic (codes "latency_downstream") [] ++ codes ",{\"type\":\"latency\"}")
       ≡ Err (of_toxic 0 1 DuplicateToxic)
 
--- a latency out of range, below 0, no whole number, and a text; numbers that the tree does not hold as whole ones; no
--- rate, and one that is null; a variation as great as the size
+-- whole numbers that the tree does not hold as such are refused too
 pub record AttributesRefused : Type 0 where
   pub past : read_toxics (latency (codes "1000000001")) ≡ Err (of_toxic 0 0 AttributeRange)
   pub below : read_toxics (latency (codes "-1")) ≡ Err (of_toxic 0 0 AttributeRange)
@@ -122,8 +115,7 @@ pub record AttributesRefused : Type 0 where
   pub variation : read_toxics (toxic_text (codes "slicer") [] (codes "\"average_size\":5,\"size_variation\":5"))
       ≡ Err (of_toxic 0 0 AttributeRange)
 
--- a toxicity of 2, of a half, and of 1.0; parts over a million; a toxicity of 2 beside parts in range; where an
--- attribute is out of range too, the attribute is told
+-- an attribute out of range is refused before a toxicity
 pub record ToxicitiesRefused : Type 0 where
   pub two : read_toxics (toxicity (codes ",\"toxicity\":2")) ≡ Err (of_toxic 0 0 BadToxicity)
   pub half : read_toxics (toxicity (codes ",\"toxicity\":0.5")) ≡ Err (of_toxic 0 0 BadToxicity)
@@ -133,7 +125,7 @@ pub record ToxicitiesRefused : Type 0 where
   pub attribute : read_toxics (toxic_text (codes "bandwidth") (codes ",\"toxicity\":2") [])
       ≡ Err (of_toxic 0 0 AttributeRange)
 
--- a ninth toxic upstream; the same with a toxicity that is not valid; a place counts the toxics of both directions
+-- a ninth toxic upstream; a toxicity that is not valid is refused first; a place counts the toxics of both directions
 pub record CountsRefused : Type 0 where
   pub ninth : read_toxics (eight ++ codes "," ++ named_toxic (codes "i") []) ≡ Err (of_toxic 0 8 TooMany)
   pub toxicity_first : read_toxics (eight ++ codes "," ++ named_toxic (codes "i") (codes ",\"toxicity\":2"))

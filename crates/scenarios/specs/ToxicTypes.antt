@@ -1,4 +1,4 @@
--- Types, streams and numbers of toxics, as a file tells them, and toxics that are written as JSON.
+-- Types, streams and numbers of toxics, as a file gives them, and toxics written as JSON.
 use Rattle.std.specs.Prelude.{ℕ, ◌+◌, ◌*◌, ◌&&◌, List, [], ◌∷◌, ◌++◌, codes, bytes_eq, decimal, nat_le, if◌then◌else◌, Option, Some, None}
 use Rattle.serde_json.specs.Data.{unsigned, Data, number, string, object, Members, member, no_members}
 use Rattle.toxic_defs.specs.declared.kinds.Kind.{Kind}
@@ -21,7 +21,6 @@ type_name ToxicType.ResetPeer = codes "reset_peer"
 type_name ToxicType.Slicer = codes "slicer"
 type_name ToxicType.LimitData = codes "limit_data"
 
--- the type that a text names
 abbrev pub toxic_type : List ℕ → Option ToxicType
 toxic_type text =
     if bytes_eq text (type_name ToxicType.Latency) then Some ToxicType.Latency else
@@ -36,24 +35,23 @@ abbrev pub stream_name : Stream → List ℕ
 stream_name Upstream = codes "upstream"
 stream_name Downstream = codes "downstream"
 
--- the stream that a text names; the empty text stands for downstream
+-- the stream that a text names; the empty text means downstream
 abbrev pub stream_named : List ℕ → Option Stream
 stream_named text =
     if bytes_eq text (stream_name Upstream) then Some Upstream else
     (if bytes_eq text (stream_name Downstream) then Some Downstream else
     (if bytes_eq text [] then Some Downstream else None))
 
--- the name of a toxic that has none of its own
 abbrev pub default_name : ToxicType → Stream → List ℕ
 default_name type_is way = type_name type_is ++ codes "_" ++ stream_name way
 
--- the name of a toxic: the text that stands in the file, unless it is empty
+-- the text in the file, unless it is empty
 abbrev pub name_of : List ℕ → ToxicType → Stream → List ℕ
 name_of text type_is way = if bytes_eq text [] then default_name type_is way else text
 
 -- ---- numbers
 
--- an attribute of a toxic: a whole number, which is 0 where it is absent
+-- an attribute of a toxic: a whole number, 0 if it is absent
 abbrev pub attribute : List ℕ → Data → Option ℕ
 attribute name d = absent_as (Some 0) (optional_whole 0 name) (field (codes "attributes") d)
 
@@ -84,14 +82,12 @@ kind_of ToxicType.LimitData d = do
   bytes ← attribute (codes "bytes") d
   Some (LimitData bytes)
 
--- the same, if each is in its range too
 abbrev pub kind_in_range : ToxicType → Data → Option Kind
 kind_in_range type_is d = do
   kind ← kind_of type_is d
   if fits kind then Some kind else None
 
--- to how many of a million connections a toxic applies: to all or to none by its toxicity, unless a number of them is
--- told. Both are whole numbers in their ranges, if they are there.
+-- a toxicity of 1 or 0 means all or none, unless `toxicity_ppm` gives a number; both have to be whole numbers in range
 abbrev pub ppm_of : Data → Option ℕ
 ppm_of d = do
   toxicity ← optional_whole 1 (codes "toxicity") d
@@ -100,7 +96,6 @@ ppm_of d = do
 
 -- ---- toxics that are written as JSON
 
--- the type of a kind
 abbrev pub type_of : Kind → ToxicType
 type_of (Latency latency jitter) = ToxicType.Latency
 type_of (Bandwidth rate) = ToxicType.Bandwidth
@@ -113,7 +108,7 @@ type_of (LimitData bytes) = ToxicType.LimitData
 abbrev pub whole_data : ℕ → Data
 whole_data n = number (unsigned n)
 
--- the attributes of a kind, in the order of their names
+-- in the order of their names
 abbrev pub attributes_data : Kind → Members
 attributes_data (Latency latency jitter) =
     member (codes "jitter") (whole_data jitter)
@@ -128,7 +123,7 @@ attributes_data (Slicer average_size size_variation delay) =
     (member (codes "size_variation") (whole_data size_variation) no_members))
 attributes_data (LimitData bytes) = member (codes "bytes") (whole_data bytes) no_members
 
--- a toxic of a direction, named by its number
+-- a toxic, named by its number
 abbrev pub toxic_data : Stream → ℕ → RatedKind → Data
 toxic_data way n t =
     object
@@ -138,7 +133,7 @@ toxic_data way n t =
     (member (codes "toxicity_ppm") (whole_data t.ppm)
     (member (codes "type") (string (type_name (type_of t.kind))) no_members)))))
 
--- the toxics of a direction, the first with this number
+-- the toxics of a direction; the first has number n
 abbrev pub toxics_data : Stream → ℕ → List RatedKind → List Data
 toxics_data way n [] = []
 toxics_data way n (t ∷ toxics) = toxic_data way n t ∷ toxics_data way (n + 1) toxics

@@ -16,13 +16,11 @@ use Rattle.scenarios.specs.declared.error.Refusal.{Refusal}
 
 -- ---- one toxic
 
--- the texts of a toxic
 pub record ToxicFields : Type 0 where
   pub type_text : List ℕ
   pub name : List ℕ
   pub stream : List ℕ
 
--- the texts of a toxic whose fields are of their kinds
 abbrev pub toxic_fields : Data → Option ToxicFields
 toxic_fields d = do
   type_text ← required_text (codes "type") d
@@ -31,7 +29,7 @@ toxic_fields d = do
   if is_object_or_absent (codes "attributes") d
       then Some (record { type_text = type_text; name = name; stream = stream }) else None
 
--- the toxics that were read: the names of all, in the order of the file, and the toxics of each direction
+-- the toxics that were read: all names in the order of the file, and the toxics of each direction
 pub record ToxicsRead : Type 0 where
   pub names : List (List ℕ)
   pub up : List RatedKind
@@ -40,22 +38,18 @@ pub record ToxicsRead : Type 0 where
 abbrev pub no_toxics : ToxicsRead
 no_toxics = record { names = []; up = []; down = [] }
 
--- the toxics of one direction
 abbrev pub direction : Stream → ToxicsRead → List RatedKind
 direction Upstream read = read.up
 direction Downstream read = read.down
 
--- whether a toxic of either direction has the name
 abbrev pub is_name_taken : List (List ℕ) → List ℕ → Bool
 is_name_taken names name = list_any (λ n. bytes_eq n name) names
 
--- a toxic, with its name and its direction
 pub record NamedToxic : Type 0 where
   pub name : List ℕ
   pub stream : Stream
   pub toxic : RatedKind
 
--- a toxic of a type, with its name, after those that were read
 unfoldable pub checked_toxic : ToxicsRead → List ℕ → Stream → ToxicType → Data → Result NamedToxic Cause
 checked_toxic read name way type_is d =
     unless (is_name_taken read.names name) DuplicateToxic
@@ -64,7 +58,6 @@ checked_toxic read name way type_is d =
     unless (nat_le most_toxics (length (direction way read))) TooMany
     (Ok (record { name = name; stream = way; toxic = toxic })))))
 
--- one toxic, after those that were read
 unfoldable pub toxic_in : ToxicsRead → Data → Result NamedToxic Cause
 toxic_in read d =
     with (toxic_fields d) BadMember (λ m.
@@ -80,7 +73,6 @@ with_toxic read name Upstream toxic =
 with_toxic read name Downstream toxic =
     record { names = read.names ++ name ∷ []; up = read.up; down = read.down ++ toxic ∷ [] }
 
--- the toxics of the items, after those that were read
 unfoldable pub toxics_from : ℕ → ToxicsRead → Items → Result ToxicsRead Refusal
 toxics_from proxy read no_items = Ok read
 toxics_from proxy read (item d ds) =

@@ -12,22 +12,20 @@ use Rattle.scenarios.specs.declared.error.Cause.TheVariants.{BadUpstream, Unknow
 abbrev pub colon : ℕ
 colon = 58
 
--- the greatest number of digits of a port
 abbrev pub port_digits : ℕ
 port_digits = 5
 
--- both parts of what follows x, with x put before; x itself where it is the byte and nothing after it is
+-- the cut is in what follows x, with x put before; if there is none, it is at x if that is the byte
 abbrev pub cut_after : Bool → ℕ → List ℕ → Option (List ℕ × List ℕ) → Option (List ℕ × List ℕ)
 cut_after is_byte x rest (Some parts) = Some (x ∷ parts.0, parts.1)
 cut_after true x rest None = Some ([], rest)
 cut_after false x rest None = None
 
--- what stands before the last place of a byte, and after it
+-- the parts before and after the last place of a byte
 abbrev pub cut_at_last : ℕ → List ℕ → Option (List ℕ × List ℕ)
 cut_at_last byte [] = None
 cut_at_last byte (x ∷ rest) = cut_after (x == byte) x rest (cut_at_last byte rest)
 
--- a port is from 1 to 65535
 abbrev pub is_port : ℕ → Bool
 is_port n = nat_lt 0 n && nat_lt n (2 ^ 16)
 
@@ -37,7 +35,7 @@ port text =
     && is_port (digits_value 10 text)
     then Some (digits_value 10 text) else None
 
--- the address of a host, which is written as one, or is a name
+-- the address of a host, which is written as one or is a known name
 abbrev pub address_or : Option ℕ → List KnownHost → List ℕ → Result ℕ Cause
 address_or (Some a) hosts host = Ok a
 address_or None hosts host = unless (not (is_host_name host)) BadUpstream (with (look_up hosts host) UnknownHost Ok)
@@ -45,7 +43,6 @@ address_or None hosts host = unless (not (is_host_name host)) BadUpstream (with 
 abbrev pub host_address : List KnownHost → List ℕ → Result ℕ Cause
 host_address hosts host = address_or (address host) hosts host
 
--- the peer that an upstream names
 abbrev pub upstream : List KnownHost → List ℕ → Result Peer Cause
 upstream hosts text =
     with (cut_at_last colon text) BadUpstream (λ parts.

@@ -3,8 +3,8 @@ use std::alloc::AllocError;
 use std::{error, fmt};
 use thiserror::Error;
 
-/// Why a scenario is refused. The causes are tested in the order in which they stand here, proxy by proxy and, in a
-/// proxy, toxic by toxic; but whether it is one too many is the first test of each proxy, and the last of each toxic.
+/// Why a scenario is refused. The causes are tested in this order, proxy by proxy and, in a proxy, toxic by toxic.
+/// Only `TooMany` is out of order: it is the first test of each proxy, and the last of each toxic.
 #[derive(Clone, Copy, Debug, PartialEq, Eq, Error)]
 pub enum Cause {
     /// The text is not JSON, or not UTF-8, or nests deeper than 127 levels, or has a number too large for a float.
@@ -45,15 +45,15 @@ pub enum Cause {
     BadToxicity,
 }
 
-/// A refusal, and where it stands: the numbers of the proxy in its file and of the toxic in its proxy, each from 0,
-/// where the refusal is of one. As text it has the place before the cause, as `proxy 0 toxic 1: there is no toxic of this type`.
+/// A refusal and its place: the proxy's number in its file and the toxic's number in its proxy, from 0, if it has them.
+/// As text the place is before the cause, such as `proxy 0 toxic 1: there is no toxic of this type`.
 #[derive(Clone, Copy, Debug, PartialEq, Eq)]
 pub struct Refusal {
-    /// Why.
+    /// The cause.
     pub cause: Cause,
-    /// Which proxy.
+    /// The number of the proxy.
     pub proxy: Option<usize>,
-    /// Which of its toxics.
+    /// The number of the toxic in its proxy.
     pub toxic: Option<usize>,
 }
 
@@ -61,7 +61,6 @@ impl Refusal {
     ghost use Rattle.std.specs.Prelude.{◌≡◌};
     ghost use Rattle.scenarios.specs.Refusals.{of_text, of_proxy, of_toxic};
 
-    // A refusal of the whole text.
     pub(crate) fn of_text(cause: Cause) -> Refusal
         ensures { result ≡ of_text cause }
     {
@@ -82,7 +81,6 @@ impl Refusal {
         }
     }
 
-    // A refusal of one of its toxics.
     pub(crate) fn of_toxic(proxy: usize, toxic: usize, cause: Cause) -> Refusal
         ensures { result ≡ of_toxic proxy toxic cause }
     {
@@ -113,7 +111,7 @@ pub enum ScenarioFault {
     /// The text is refused.
     #[error("{0}")]
     Refused(Refusal),
-    /// A growth of memory was refused.
+    /// An allocation failed.
     #[error("out of memory")]
     Memory(AllocError),
 }
@@ -143,10 +141,10 @@ impl From<AllocError> for ScenarioFault {
 /// Why a host is not added.
 #[derive(Debug, Drop, Error)]
 pub enum HostFault {
-    /// The name is not valid, or the address is not valid, or the name is there.
+    /// The name or the address is not valid, or the name is there already.
     #[error("a host is NAME=ADDR, each name once")]
     BadHost,
-    /// A growth of memory was refused.
+    /// An allocation failed.
     #[error("out of memory")]
     Memory(AllocError),
 }

@@ -1,4 +1,4 @@
-//! Fields of JSON objects.
+//! Fields of JSON objects. `None` means that a field is missing or of the wrong kind.
 ghost use Rattle.std.specs.Prelude.{◌≡◌, option_map};
 ghost use Rattle.serde_json.specs.View.{view, items_view};
 ghost use Rattle.scenarios.specs.Fields.{field, required_text, is_text_or_absent, is_object_or_absent, optional_text, optional_whole, optional_flag, optional_list};
@@ -15,7 +15,6 @@ pub(crate) fn field<'a>(value: &'a Value, name: &str) -> Option<&'a Value>
     }
 }
 
-// A text that has to be there.
 pub(crate) fn required_text<'a>(value: &'a Value, name: &str) -> Option<&'a str>
     ensures { option_map (λ s. s.now) result ≡ required_text name.now (view value.now) }
 {
@@ -40,7 +39,7 @@ pub(crate) fn is_object_or_absent(value: &Value, name: &str) -> bool
     }
 }
 
-// A text, which is empty where it is absent; nothing where it is no text.
+// A text, which is empty if it is absent.
 pub(crate) fn optional_text<'a>(value: &'a Value, name: &str) -> Option<&'a str>
     ensures { option_map (λ s. s.now) result ≡ optional_text name.now (view value.now) }
 {
@@ -50,7 +49,7 @@ pub(crate) fn optional_text<'a>(value: &'a Value, name: &str) -> Option<&'a str>
     }
 }
 
-// A whole number, or what it is where it is absent; nothing where it is no whole number below 2^64.
+// A whole number below 2^64, which is `absent` if it is absent.
 pub(crate) fn optional_whole(value: &Value, name: &str, absent: u64) -> Option<u64>
     ensures { result ≡ optional_whole absent name.now (view value.now) }
 {
@@ -60,7 +59,7 @@ pub(crate) fn optional_whole(value: &Value, name: &str, absent: u64) -> Option<u
     }
 }
 
-// A flag, which is true where it is absent; nothing where it is no flag.
+// A flag, which is true if it is absent.
 pub(crate) fn optional_flag(value: &Value, name: &str) -> Option<bool>
     ensures { result ≡ optional_flag name.now (view value.now) }
 {
@@ -70,7 +69,7 @@ pub(crate) fn optional_flag(value: &Value, name: &str) -> Option<bool>
     }
 }
 
-// The items of an array, which has none where it is absent; nothing where it is no array.
+// The items of an array, which has none if it is absent.
 pub(crate) fn optional_list<'a>(value: &'a Value, name: &str) -> Option<&'a [Value]>
     ensures { option_map (λ s. items_view s.now) result ≡ optional_list name.now (view value.now) }
 {

@@ -1,4 +1,4 @@
-//! Hosts that upstreams may name: their names and addresses as texts, and the list of those that are known.
+//! Hosts that upstreams may name: their names and addresses as texts, and the list of known ones.
 ghost use Rattle.std.specs.Prelude.{◌≡◌};
 ghost use Rattle.std.specs.List.{list_all};
 ghost use Rattle.scenarios.specs.Hosts.{address, is_name_byte, is_host_name};
@@ -10,10 +10,10 @@ use std::collections::BTreeMap;
 use std::marker::Model;
 use std::net::Ipv4Addr;
 
-/// The name of a host or of a proxy: contracts see its bytes, which are UTF-8.
+/// The name of a host or of a proxy, in UTF-8. Contracts see its bytes.
 pub type NameText = Values<u8>;
 
-// The address that a text writes as four decimal numbers with dots between them, if it does.
+// The address in a text of four decimal numbers with dots between them.
 pub(crate) fn address(text: &str) -> Option<u32>
     ensures { result ≡ address text.now }
 {
@@ -23,21 +23,18 @@ pub(crate) fn address(text: &str) -> Option<u32>
     Some(address.to_bits())
 }
 
-// Whether a byte may stand in a host's name.
 fn is_name_byte(byte: u8) -> bool
     ensures { result ≡ is_name_byte byte }
 {
     matches!(byte, b'a'..=b'z' | b'A'..=b'Z' | b'0'..=b'9' | b'-' | b'_' | b'.')
 }
 
-// Whether all bytes may stand in a host's name.
 fn has_name_bytes(text: &[u8]) -> bool
     ensures { result ≡ list_all is_name_byte text.now }
 {
     text.iter().all(|byte| is_name_byte(*byte))
 }
 
-// Whether a text is a host's name.
 pub(crate) fn is_host_name(text: &str) -> bool
     ensures { result ≡ is_host_name text.now }
 {
@@ -51,10 +48,8 @@ pub(crate) struct KnownHost {
     pub(crate) addr: u32,
 }
 
-/// The hosts that upstreams may name: each name once, with its address.
-///
-/// Contracts see `list`, which has them as they were added. A name is found in `index`, an ordered map, which no choice
-/// of names makes slow.
+/// The hosts that upstreams may name: each name once, with its address. Contracts see `list`, in the order of adding.
+/// Names are found in `index`, an ordered map, which no choice of names makes slow.
 #[derive(Debug, Drop)]
 pub struct Hosts {
     alloc: Global,
@@ -78,7 +73,7 @@ impl Hosts {
     ghost use Rattle.std.specs.Prelude.{◌≡◌, [], ◌∷◌, ◌++◌, OnOk, OnErr};
     ghost use Rattle.scenarios.specs.Hosts.{host_for, look_up, HostAdded};
 
-    /// A list without hosts. It takes no memory.
+    /// A list without hosts.
     pub fn new(alloc: Global) -> Hosts
         ensures { result ≡ [] }
     {
@@ -89,12 +84,8 @@ impl Hosts {
         }
     }
 
-    /// Adds a host: `name` is one or more ASCII letters, digits, `-`, `_` and `.`, and no address; `addr` is four
-    /// decimal numbers below 256 without leading zeros, with dots between them.
-    ///
-    /// # Errors
-    /// The name is not valid, the address is not valid, or the name is there; or a growth was refused. The list is then
-    /// as it was.
+    /// Adds a host. `name` has one or more ASCII letters, digits, `-`, `_` and `.`, and is no address.
+    /// `addr` is four decimal numbers below 256 without leading zeros, with dots between them. After an error the list is as it was.
     pub fn add(&mut self, name: &str, addr: &str) -> Result<(), HostFault>
         ensures { HostAdded result (host_for self.old name.now addr.now) self.old self.new }
     {
@@ -113,7 +104,7 @@ impl Hosts {
         ensures ok { OnOk result (self.new ≡ self.old ++ record { name = name.now; addr = addr } ∷ []) }
         ensures err { OnErr result (self.new ≡ self.old) }
     {
-        // What the index and the list need is there before either changes.
+        // The index and the list get their memory before either changes.
         let key = String::from_str(self.alloc, name)?;
         let name = NameText::of(name.as_bytes().to_vec(self.alloc)?);
         self.list.reserve(1)?;
@@ -122,7 +113,6 @@ impl Hosts {
         Ok(())
     }
 
-    // The address of a name, if it is there.
     pub(crate) fn look_up(&self, name: &str) -> Option<u32>
         ensures { result ≡ look_up self.now name.now }
     {

@@ -1,7 +1,4 @@
 //! Scenarios: the proxies that a capture is rehearsed under, read from files in Toxiproxy's form.
-//!
-//! `specs/Populate.antt` says which proxies a tree of JSON stands for, or why it is refused, and
-//! `specs/ToxicsInFiles.antt` the same of a proxy's toxics; `laws` has theorems about them.
 #![tactic(auto)]
 
 mod error;

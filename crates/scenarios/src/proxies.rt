@@ -15,17 +15,16 @@ use frame_headers::Peer;
 use serde_json::Value;
 use std::alloc::{AllocError, Global};
 
-// The greatest number of proxies of a scenario.
 const PROXY_LIMIT: usize = 64;
 
-/// A proxy: what it is called, which server it is for, whether it takes connections, and what it does to them.
+/// A proxy: its name, its server, whether it takes connections, and its toxics.
 #[derive(Debug, Drop)]
 pub struct Proxy {
-    /// Its name: no other proxy of the scenario has it.
+    /// Its name, which no other proxy of the scenario has.
     pub name: NameText,
     /// The server that it is for.
     pub upstream: Peer,
-    /// Whether it takes connections: one that does not refuses each.
+    /// Whether it takes connections. A disabled proxy refuses each.
     pub enabled: bool,
     /// The toxics of what the client sends.
     pub up: ToxicList,
@@ -33,7 +32,6 @@ pub struct Proxy {
     pub down: ToxicList,
 }
 
-// The fields of a proxy in its file.
 #[derive(Clone, Copy)]
 pub(crate) struct FieldsRead<'a> {
     pub(crate) name: &'a str,
@@ -42,7 +40,7 @@ pub(crate) struct FieldsRead<'a> {
     pub(crate) toxics: &'a [Value],
 }
 
-// A proxy that nothing refuses but its toxics, which are still to be read.
+// A proxy that nothing refuses so far. Its toxics are still to be read.
 #[derive(Clone, Copy)]
 pub(crate) struct Accepted<'a> {
     pub(crate) name: &'a str,
@@ -51,7 +49,6 @@ pub(crate) struct Accepted<'a> {
     pub(crate) toxics: &'a [Value],
 }
 
-// The fields of a proxy, if each is of its kind.
 fn proxy_fields(value: &Value) -> Option<FieldsRead<'_>>
     ensures { option_map seen_fields result ≡ proxy_fields (view value.now) }
 {
@@ -78,7 +75,6 @@ fn has_name(proxies: &[Proxy], name: &str) -> bool
         .any(|proxy| proxy.name.as_slice() == name.as_bytes())
 }
 
-// The proxy that fields say, if nothing but its toxics refuses it.
 #[tactic(auto, unfolding(crate::specs::Proxies::accepted_proxy))]
 fn accept<'a>(
     fields: FieldsRead<'a>,
@@ -103,7 +99,6 @@ fn accept<'a>(
     })
 }
 
-// Looks at one proxy, but not at its toxics.
 #[tactic(auto, unfolding(crate::specs::Proxies::checked_proxy))]
 fn check_proxy<'a>(
     value: &'a Value,
@@ -146,7 +141,6 @@ fn read_proxy(
     })
 }
 
-// Reads proxies, one after another.
 #[tactic(auto, unfolding(crate::specs::Proxies::proxies_from))]
 pub(crate) fn read_proxies(
     alloc: Global,

@@ -1,4 +1,4 @@
-//! A scenario, read from a text: its proxies, and the first that is for a server.
+//! A scenario, read from a text: its proxies, and the first one for a server.
 ghost use Rattle.std.specs.Prelude.{◌≡◌, ◌<◌, length, Some, None, IfSome, MatchResult};
 ghost use Rattle.serde_json.specs.View.{view};
 ghost use Rattle.lists.specs.Agreement.{AgreesUnlessMemory};
@@ -40,8 +40,7 @@ impl Scenario {
     ghost use Rattle.scenarios.specs.Proxies.{proxy_limit};
     ghost use Rattle.scenarios.specs.ProxyLaws.{IsSound};
 
-    /// The proxies, in the order of their file, at most 64. Each has a name and a port, and at most eight toxics in each
-    /// direction, all in range.
+    /// The proxies, at most 64, in the order of their file. Each has a name, a port, and at most 8 toxics in each direction, all in range.
     pub fn proxies(&self) -> &[Proxy]
         ensures list { result.now ≡ self.now }
         ensures few { length result.now ≤ proxy_limit }
@@ -50,7 +49,7 @@ impl Scenario {
         &self.proxies
     }
 
-    /// The number of the first proxy that is for a server, if one is.
+    /// The number of the first proxy that is for a server, if there is one.
     pub fn proxy_of(&self, server: Peer) -> Option<u32>
         ensures { result ≡ met_number server self.now }
     {
@@ -59,14 +58,12 @@ impl Scenario {
     }
 }
 
-// Whether a proxy is for a server.
 fn leads_to(proxy: &Proxy, server: Peer) -> bool
     ensures { result ≡ leads_to server proxy.now }
 {
     proxy.upstream == server
 }
 
-// The place of the first proxy that is for a server, if one is.
 fn first_for(proxies: &[Proxy], server: Peer) -> Option<usize>
     ensures exact { result ≡ met_number server proxies.now }
     ensures within { IfSome result (λ number. number < length proxies.now) }
@@ -74,7 +71,6 @@ fn first_for(proxies: &[Proxy], server: Peer) -> Option<usize>
     proxies.iter().position(|proxy| leads_to(proxy, server))
 }
 
-// The tree of a text of JSON.
 fn read_tree(alloc: Global, text: &[u8]) -> Result<Value, ScenarioFault>
     ensures { MatchResult result (λ v. tree text.now ≡ Some (view v))
         (λ fault. IfSome (scenario_refusal fault) (λ r. (r ≡ of_text NotJson) × (tree text.now ≡ None))) }
@@ -96,10 +92,8 @@ fn scenario_of_tree(alloc: Global, tree: &Value, hosts: &Hosts) -> Result<Scenar
     Ok(Scenario { proxies })
 }
 
-/// Reads a scenario: a JSON array of proxies in Toxiproxy's form. The hosts are those that upstreams may name.
-///
-/// # Errors
-/// The first refusal of the text, with its proxy and its toxic; or a growth was refused.
+/// Reads a scenario, a JSON array of proxies in Toxiproxy's form. `hosts` has those that upstreams may name.
+/// An error is the first refusal of the text, with its proxy and its toxic, or out of memory.
 pub fn read_scenario(alloc: Global, text: &[u8], hosts: &Hosts) -> Result<Scenario, ScenarioFault>
     ensures { AgreesUnlessMemory scenario_refusal (λ s. s) result (scenario hosts.now text.now) }
 {

@@ -1,4 +1,4 @@
-//! Types, streams and numbers of toxics, as a file tells them.
+//! Types, streams and numbers of toxics, as a file gives them.
 ghost use Rattle.std.specs.Prelude.{◌≡◌};
 ghost use Rattle.serde_json.specs.View.{view};
 ghost use Rattle.scenarios.specs.declared.toxic_types.ToxicType.TheVariants.{Slicer};
@@ -8,10 +8,9 @@ use crate::fields::{field, optional_whole};
 use serde_json::Value;
 use toxic_defs::Kind;
 
-// One million: a toxic with this `ppm` applies to each connection.
+// A toxic with this `ppm` applies to each connection.
 const MILLION: u64 = 1_000_000;
 
-// The types of toxics.
 #[derive(Clone, Copy, Debug, PartialEq, Eq)]
 pub(crate) enum ToxicType {
     Latency,
@@ -30,7 +29,6 @@ pub(crate) enum Stream {
     Downstream,
 }
 
-// The type that a text names.
 pub(crate) fn toxic_type(text: &str) -> Option<ToxicType>
     ensures { result ≡ toxic_type text.now }
 {
@@ -46,7 +44,6 @@ pub(crate) fn toxic_type(text: &str) -> Option<ToxicType>
     }
 }
 
-// The stream that a text names; the empty text stands for downstream.
 pub(crate) fn stream_named(text: &str) -> Option<Stream>
     ensures { result ≡ stream_named text.now }
 {
@@ -58,7 +55,6 @@ pub(crate) fn stream_named(text: &str) -> Option<Stream>
     }
 }
 
-// The name of a toxic that has none of its own.
 fn default_name(toxic_type: ToxicType, stream: Stream) -> &'static str
     ensures { result.now ≡ default_name toxic_type stream }
 {
@@ -80,7 +76,6 @@ fn default_name(toxic_type: ToxicType, stream: Stream) -> &'static str
     }
 }
 
-// The name of a toxic: the text that stands in the file, unless it is empty.
 pub(crate) fn name_of(text: &str, toxic_type: ToxicType, stream: Stream) -> &str
     ensures { result.now ≡ name_of text.now toxic_type stream }
 {
@@ -91,7 +86,6 @@ pub(crate) fn name_of(text: &str, toxic_type: ToxicType, stream: Stream) -> &str
     }
 }
 
-// An attribute of a toxic: a whole number, which is 0 where it is absent.
 fn attribute(toxic: &Value, name: &str) -> Option<u64>
     ensures { result ≡ attribute name.now (view toxic.now) }
 {
@@ -101,7 +95,6 @@ fn attribute(toxic: &Value, name: &str) -> Option<u64>
     }
 }
 
-// The kind that the attributes of a slicer make, if each is a whole number.
 fn slicer(toxic: &Value) -> Option<Kind>
     ensures { result ≡ kind_of Slicer (view toxic.now) }
 {
@@ -115,7 +108,6 @@ fn slicer(toxic: &Value) -> Option<Kind>
     })
 }
 
-// The kind that a type and its own attributes make, if each is a whole number.
 fn kind_of(toxic_type: ToxicType, toxic: &Value) -> Option<Kind>
     ensures { result ≡ kind_of toxic_type (view toxic.now) }
 {
@@ -149,7 +141,6 @@ fn kind_of(toxic_type: ToxicType, toxic: &Value) -> Option<Kind>
     }
 }
 
-// The same, if each is in its range too.
 pub(crate) fn kind_in_range(toxic_type: ToxicType, toxic: &Value) -> Option<Kind>
     ensures { result ≡ kind_in_range toxic_type (view toxic.now) }
 {
@@ -157,8 +148,7 @@ pub(crate) fn kind_in_range(toxic_type: ToxicType, toxic: &Value) -> Option<Kind
     if kind.fits() { Some(kind) } else { None }
 }
 
-// To how many of a million connections a toxic applies. A toxicity beside the number of connections has to be one all
-// the same.
+// To how many of a million connections a toxic applies. A toxicity has to be valid even if `toxicity_ppm` is there.
 pub(crate) fn ppm_of(toxic: &Value) -> Option<u64>
     ensures { result ≡ ppm_of (view toxic.now) }
 {

@@ -20,13 +20,11 @@ use std::alloc::{AllocError, Global};
 use std::marker::Model;
 use toxic_defs::{Kind, Toxic};
 
-// The greatest number of toxics of each direction of a proxy.
 const TOXIC_LIMIT: usize = 8;
 
 /// The toxics of one direction of a proxy, in the order of its file.
 pub type ToxicList = Values<Toxic>;
 
-// The texts of a toxic in its file.
 #[derive(Clone, Copy)]
 pub(crate) struct TextsRead<'a> {
     pub(crate) type_text: &'a str,
@@ -34,7 +32,6 @@ pub(crate) struct TextsRead<'a> {
     pub(crate) stream: &'a str,
 }
 
-// A toxic that nothing refuses.
 #[derive(Clone, Copy)]
 pub(crate) struct AcceptedToxic<'a> {
     pub(crate) name: &'a str,
@@ -42,7 +39,6 @@ pub(crate) struct AcceptedToxic<'a> {
     pub(crate) toxic: Toxic,
 }
 
-// The texts of a toxic whose fields are of their kinds.
 fn toxic_fields(value: &Value) -> Option<TextsRead<'_>>
     ensures { option_map seen_texts result ≡ toxic_fields (view value.now) }
 {
@@ -65,14 +61,13 @@ fn has_name(names: &[&str], name: &str) -> bool
     names.iter().any(|taken| *taken == name)
 }
 
-// The toxic of a kind, if it is said rightly how often it applies.
 fn rated(kind: Kind, value: &Value) -> Option<Toxic>
     ensures { result ≡ option_and_then (made_toxic kind) (ppm_of (view value.now)) }
 {
     Toxic::new(kind, ppm_of(value)?)
 }
 
-// The toxics that were read: the names of all, in the order of the file, and the toxics of each direction.
+// The toxics that were read: all names in the order of the file, and the toxics of each direction.
 #[derive(Drop)]
 pub(crate) struct ToxicsSoFar<'a> {
     names: Vec<&'a str>,
@@ -106,7 +101,6 @@ impl<'a> ToxicsSoFar<'a> {
         }
     }
 
-    // How many toxics of a direction were read.
     fn count(&self, stream: Stream) -> usize
         ensures { result ≡ length (direction stream self.now) }
     {
@@ -116,7 +110,6 @@ impl<'a> ToxicsSoFar<'a> {
         }
     }
 
-    // Whether a toxic of either direction has a name.
     #[tactic(auto, using(crate::proofs::MappedNames::any_mapped))]
     fn has_name(&self, name: &str) -> bool
         ensures { result ≡ is_name_taken self.now.names name.now }
@@ -124,7 +117,6 @@ impl<'a> ToxicsSoFar<'a> {
         has_name(&self.names, name)
     }
 
-    // The toxic of a type, with its name, after those that were read.
     #[tactic(auto, unfolding(crate::specs::ToxicsInFiles::checked_toxic))]
     fn check(
         &self,
@@ -150,7 +142,6 @@ impl<'a> ToxicsSoFar<'a> {
         })
     }
 
-    // Looks at one toxic, after those that were read.
     #[tactic(auto, unfolding(crate::specs::ToxicsInFiles::toxic_in))]
     fn look_at(&self, value: &'a Value) -> Result<AcceptedToxic<'a>, Cause>
         ensures { Agrees (λ cause. Some cause) seen_toxic result (toxic_in self.now (view value.now)) }
@@ -162,7 +153,6 @@ impl<'a> ToxicsSoFar<'a> {
         self.check(name, stream, toxic_type, value)
     }
 
-    // The toxics of each direction.
     pub(crate) fn into_lists(self) -> (ToxicList, ToxicList)
         ensures up { result.0 ≡ self.entry.up }
         ensures down { result.1 ≡ self.entry.down }
@@ -171,7 +161,6 @@ impl<'a> ToxicsSoFar<'a> {
         (ToxicList::of(up), ToxicList::of(down))
     }
 
-    // Adds a toxic to those of its direction.
     fn push(&mut self, accepted: AcceptedToxic<'a>) -> Result<(), AllocError>
         ensures { OnOk result (self.new ≡ after_accepted self.old accepted.entry) }
     {
@@ -184,7 +173,6 @@ impl<'a> ToxicsSoFar<'a> {
     }
 }
 
-// Reads the toxics of a proxy, one after another.
 #[tactic(auto, unfolding(crate::specs::ToxicsInFiles::toxics_from))]
 pub(crate) fn read_toxics(
     alloc: Global,

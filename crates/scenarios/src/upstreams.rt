@@ -8,24 +8,21 @@ use crate::error::Cause;
 use crate::hosts::{Hosts, address, is_host_name};
 use frame_headers::Peer;
 
-// What stands before the last colon of a text, and after it.
 fn cut_at_last_colon(text: &str) -> Option<(&str, &str)>
     ensures { option_map (λ parts. (parts.0.now, parts.1.now)) result ≡ cut_at_last colon text.now }
 {
     text.rsplit_once(':')
 }
 
-// Whether all bytes are decimal digits.
 fn all_digits(text: &[u8]) -> bool
     ensures { result ≡ list_all is_ascii_digit text.now }
 {
     text.iter().all(|byte| byte.is_ascii_digit())
 }
 
-// The greatest number of digits of a port.
 const PORT_DIGITS: usize = 5;
 
-// The port that a text of one to five digits writes, which is not 0.
+// The port that a text of one to five digits gives. It is not 0.
 #[tactic(auto, using(crate::proofs::MappedNames::digits_are_all))]
 fn port(text: &str) -> Option<u16>
     ensures { result ≡ port text.now }
@@ -39,7 +36,6 @@ fn port(text: &str) -> Option<u16>
     if port == 0 { None } else { Some(port) }
 }
 
-// The address of a host, which is written as one or is a name that is known.
 fn host_address(hosts: &Hosts, host: &str) -> Result<u32, Cause>
     ensures { result ≡ host_address hosts.now host.now }
 {
@@ -52,7 +48,6 @@ fn host_address(hosts: &Hosts, host: &str) -> Result<u32, Cause>
     hosts.look_up(host).ok_or(Cause::UnknownHost)
 }
 
-// The peer that an upstream names.
 pub(crate) fn upstream(hosts: &Hosts, text: &str) -> Result<Peer, Cause>
     ensures { result ≡ upstream hosts.now text.now }
 {

@@ -32,9 +32,6 @@ ceiling-max a b d some = by (cases_lt a b)
     by (inl lt) = let e : max a b ≡ b = omega arith in let m = ceiling-mono a b d some (omega arith) in rw e (omega (arith, m))
     by (inr le) = let e : max a b ≡ a = omega arith in let m = ceiling-mono b a d some le in rw e (omega (arith, m))
 
--- ---- owed
-
--- by the last of some bytes
 abbrev pub owed_of : ℕ → ℕ → List LineByte → ℕ
 owed_of rate ticks bytes = owed rate ticks 0 (instants_of bytes)
 
@@ -45,12 +42,11 @@ leaves_owed limit ticks rate (b ∷ bytes) some filled =
     latest_is_owed limit rate ticks (λ q. ceiling q rate) (λ x y. ceiling-max x y rate some) (λ at m. ceiling-add at m rate some) (length (b ∷ bytes)) b.at (instants_of bytes)
     (ap suc (length-map bytes (λ (x : LineByte). x.at)))
 
--- bytes that are there before the wire is free
+-- bytes that come before the wire is free
 owed_run : (rate ticks at busy : ℕ) (bytes : List ℕ) → rate * at ≤ busy → owed rate ticks busy (instants_of (bytes_without_mark at bytes)) ≡ busy + length bytes * ticks
 owed_run rate ticks at busy [] le = omega arith
 owed_run rate ticks at busy (b ∷ bytes) le = owed_run rate ticks at (max busy (rate * at) + ticks) bytes (omega arith) ∙ omega arith
 
--- a whole part in one step
 pub owed_part : (rate ticks at : ℕ) (s : Bool) (front : List LineByte) (bytes : List ℕ) → 0 < length bytes
     → owed_of rate ticks (front ++ bytes_with_mark at s bytes) ≡ max (owed_of rate ticks front) (rate * at) + length bytes * ticks
 owed_part rate ticks at s front [] some = absurd (omega arith)
@@ -66,8 +62,6 @@ fronts parts initial i d lt rest =
     let m : length (bytes_of_part p) ≡ length p.bytes.now = length_marked p.at p.starts p.bytes.now in
     let same : get_or parts i d ≡ p = sym (same_there parts initial i d rest) in
     rw same (omega (arith, n, m))
-
--- ---- charged
 
 charged-append : (leaves : List LineByte → ℕ) (before : List LineByte) (xs ys : List LinePart)
     → charged leaves before (xs ++ ys) ≡ charged leaves before xs ++ charged leaves (before ++ bytes_of_parts xs) ys
@@ -87,18 +81,16 @@ charged_there leaves parts initial i at d lt lt' rest done e =
     take_more_set parts i q lt ∙ ap (λ (ps : List LinePart). ps ++ q ∷ []) done ∙ ap (λ t. charged leaves [] (take i initial) ++ part_at t p ∷ []) e
     ∙ sym (charged-append leaves [] (take i initial) (p ∷ [])) ∙ ap (charged leaves []) (sym taken)
 
--- ---- numbers
-
 -- no instant and no rate is greater
 pub own_small : (rate at : ℕ) → rate ≤ 1000000 → at < 18446744073709551616 → rate * at ≤ 1000000 * 18446744073709551616
 own_small rate at le lt = let le' : at ≤ 18446744073709551616 = omega arith in mul-le-mul le le'
 
--- a millisecond has a million ticks at most
+-- a millisecond has at most a million ticks
 pub milliseconds_small : (unit : Unit) (n : ℕ) → millisecond (ticks_of unit) * n ≤ 1000000 * n
 milliseconds_small Micros n = omega arith
 milliseconds_small Nanos n = omega arith
 
--- when a part after others leaves, by what was owed before
+-- when a part leaves that comes after others, by what was owed before
 pub leaves_there : (limit ticks rate at : ℕ) (s : Bool) (front : List LineByte) (bytes : List ℕ) → 0 < rate → 0 < length bytes
     → bandwidth_leaves limit ticks rate (front ++ bytes_with_mark at s bytes) ≡ min (ceiling (max (rate * at) (owed_of rate ticks front) + ticks * length bytes) rate) limit
 leaves_there limit ticks rate at s front bytes some filled =

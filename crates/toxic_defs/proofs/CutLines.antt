@@ -39,7 +39,6 @@ first_is least None d hu hd = hd
 first_is least (Some u) None hu hd = hu
 first_is least (Some u) (Some d) hu hd = cond_both (nat_le u.0 d.0) (Some u) (Some d) (AreClosings least) (λ _. hu) (λ _. hd)
 
--- the closing that cuts both lines
 both_is : (least : ℕ) (up down : Line) → IsNotBefore least up.end → IsNotBefore least down.end → AreClosings least (first_closing (closing_end up.end) (closing_end down.end))
 both_is least up down hu hd = first_is least (closing_end up.end) (closing_end down.end) (closing_is least up.end hu) (closing_is least down.end hd)
 
@@ -78,12 +77,10 @@ cut_ends_are_not_early ticks opened up down f hu hd hf =
     let c : Option (ℕ × End) = first_closing (closing_end up.end) (closing_end down.end) in
     end_stays (horizon ticks) opened (line_up_to c f).end (up_to_not_early opened c f (both_is opened up down hu hd) hf)
 
--- ---- lines
-
 before_ends : (limit : ℕ) (bytes : List LineByte) (e : End) → IsInChunks bytes → IsNotBefore (last_instant 0 bytes) e → IsNotBefore (last_instant 0 (bytes_before limit bytes)) e
 before_ends limit bytes e g h = not_before_weaker (last_instant 0 (bytes_before limit bytes)) (last_instant 0 bytes) e (last_not_later limit 0 bytes (chunks_go_on bytes g)) h
 
--- with an end that is not before the last byte that stays
+-- the end is not before the last byte that stays
 before_is_line : (limit : ℕ) (f : Line) (end : End) → IsLine f → IsNotBefore (last_instant 0 (bytes_before limit f.bytes)) end → IsLine (record { bytes = bytes_before limit f.bytes; end = end })
 before_is_line limit f end h ends = record { chunks = before_in_chunks limit f.bytes h.chunks; ends = ends; short = let n = before_short limit f.bytes in let m = h.short in omega (arith, n, m) }
 
@@ -108,7 +105,7 @@ cut_lines_are_lines ticks up down f h =
 
 -- ---- the bytes that stay
 
--- twice cut is cut at the earlier instant
+-- a cut after a cut is one at the earlier instant
 before_twice : (a b : ℕ) (bytes : List LineByte) → bytes_before b (bytes_before a bytes) ≡ bytes_before (min a b) bytes
 before_twice a b [] = refl
 before_twice a b (x ∷ bytes) =

@@ -49,9 +49,7 @@ sliced_keeps limit size (b ∷ bytes) go =
       later = record { short = omega arith; in_time = λ up. (up.0, rest.in_time up.1); delays = λ up. (refl, le_refl b.at, rest.front) };
     })
 
--- ---- settled
-
--- when a byte leaves that is there at `at`, with those after it
+-- when a byte at `at` leaves, with those after it
 abbrev pub leaving : ℕ → List LineByte → ℕ
 leaving at [] = at
 leaving at (b ∷ bytes) = cond b.starts at b.at
@@ -60,13 +58,12 @@ pub joined_is : (b : LineByte) (bytes : List LineByte) → joined b bytes ≡ at
 joined_is b [] = refl
 joined_is b (x ∷ bytes) = cond_both x.starts b (at_instant x.at b) (λ c. c ≡ at_instant (cond x.starts b.at x.at) b) (λ s. rw s refl) (λ s. rw s refl)
 
--- a byte before settled ones: it is not earlier than it was, they go on after it, and it is not past a limit
+-- a byte before settled ones is not early, they go on after it, and it is not past a limit
 record GoesAfter (limit : ℕ) (b : LineByte) (bytes : List LineByte) : Type 0 where
   pub later : b.at ≤ leaving b.at bytes
   pub goes : GoesOn (leaving b.at bytes) bytes
   pub low : b.at ≤ limit → AreUpTo limit bytes → leaving b.at bytes ≤ limit
 
--- before a byte c, with which the slice goes on or another one starts
 before_one : (limit : ℕ) (b c : LineByte) (bytes : List LineByte) → b.at ≤ c.at → GoesOn c.at bytes → GoesAfter limit b (c ∷ bytes)
 before_one limit b c bytes later goes = by c.starts refl
   where
@@ -74,7 +71,6 @@ before_one limit b c bytes later goes = by c.starts refl
     by true s = record { later = rw s (le_refl b.at); goes = rw s (later, (λ h. absurd (cc h)), goes); low = λ h up. rw s h }
     by false s = record { later = rw s later; goes = rw s (le_refl c.at, (λ h. refl), goes); low = λ h up. rw s up.0 }
 
--- and what the settled ones are
 record Settles (limit : ℕ) (b : LineByte) (bytes : List LineByte) : Type 0 where
   pub after : GoesAfter limit b (settled bytes)
   pub same : length (settled bytes) ≡ length bytes
@@ -105,7 +101,6 @@ settled_keeps limit b bytes s never =
 
 -- ---- the toxics
 
--- chunks that leave in turn
 chunks_keep : (limit : ℕ) (f : ℕ → ℕ → ℕ → ℕ) → GivesInTurn limit f → (bytes : List LineByte) → IsInChunks bytes → KeepsBytes limit bytes (moved (λ bs. latest (f (length (begins bs))) (begins bs)) bytes)
 chunks_keep limit f gives bytes go =
     let leaves : List LineByte → ℕ = λ bs. latest (f (length (begins bs))) (begins bs) in

@@ -1,4 +1,4 @@
--- Where instants never fall, the bytes before an instant are the first ones; and the parts that have them.
+-- If instants never fall, the bytes before an instant are the first ones; and the parts that have them.
 use Rattle.std.proofs.Common.{zero, suc, sym, subst, ◌≡◌, ◌≤◌, ◌<◌, ℕ, ◌+◌, Bool, true, false, List, [], ◌∷◌, ◌++◌, length, take, filter, nat_lt, nat_le, refl, ap, arith, ◌-◌, ◌&&◌, drop, get_or, ◌∙◌, take-append-drop}
 use Rattle.std.specs.List.{AllByRecursion}
 use Rattle.std.proofs.Math.Nat.{le_trans, le_refl}
@@ -18,11 +18,9 @@ use Rattle.toxic_defs.proofs.Parts.{unmarked, front_back, last_found}
 abbrev pub bytes_before : ℕ → List LineByte → List LineByte
 bytes_before limit bytes = filter (λ b. nat_lt b.at limit) bytes
 
--- up to an instant, and before the next one
 pub up_to : (at : ℕ) (bytes : List LineByte) → filter (λ b. nat_le b.at at) bytes ≡ bytes_before (at + 1) bytes
 up_to at bytes = filter_agree (λ b. nat_le b.at at) (λ b. nat_lt b.at (at + 1)) (λ b. grind (arith, nat_tests)) bytes
 
--- none of the bytes after a limit
 none_before : (limit last : ℕ) (bytes : List LineByte) → limit ≤ last → GoesOn last bytes → bytes_before limit bytes ≡ []
 none_before limit last [] h g = refl
 none_before limit last (b ∷ bytes) h g = let le : limit ≤ b.at = le_trans h g.0 in rw (le-ltb b.at limit le) (none_before limit b.at bytes le g.2)
@@ -79,7 +77,7 @@ pub last_within : (limit last : ℕ) (bytes : List LineByte) → last < limit �
 last_within limit last [] h all = h
 last_within limit last (b ∷ bytes) h all = last_within limit b.at bytes all.0 all.1
 
--- where the last byte is before the limit, all are
+-- if the last byte is before the limit, all are
 all_stay : (limit last : ℕ) (bytes : List LineByte) → GoesOn last bytes → last_instant last bytes < limit → bytes_before limit bytes ≡ bytes
 all_stay limit last [] g h = refl
 all_stay limit last (b ∷ bytes) g h =

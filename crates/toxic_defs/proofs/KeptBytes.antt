@@ -26,8 +26,6 @@ taken (suc n) [] ys f = tt
 taken (suc n) (x ∷ xs) [] f = absurd f
 taken (suc n) (x ∷ xs) (y ∷ ys) f = (f.0, f.1, taken n xs ys f.2)
 
--- ---- instants
-
 pub from_recorded : (opened : ℕ) (xs ys : List LineByte) → DelaysFirst xs ys → AreFrom opened ys → AreFrom opened xs
 from_recorded opened [] ys f h = tt
 from_recorded opened (x ∷ xs) [] f h = absurd f
@@ -37,8 +35,6 @@ pub instant_from : (opened n : ℕ) (bytes : List LineByte) → n < length bytes
 instant_from opened n [] lt h = absurd (omega arith)
 instant_from opened zero (b ∷ bytes) lt h = h.0
 instant_from opened (suc n) (b ∷ bytes) lt h = instant_from opened n bytes (omega arith) h.1
-
--- ---- values
 
 pub the_first : DelayedBytesAreTheFirst
 the_first [] recorded f = refl
@@ -56,7 +52,6 @@ pub record KeepsBytes (limit : ℕ) (before after : List LineByte) : Type 0 wher
   pub chunks : IsInChunks after
   pub later : DelaysBytes limit before after
 
--- one after the other
 pub both_delay : (limit : ℕ) (xs ys zs : List LineByte) → DelaysBytes limit xs ys → DelaysBytes limit ys zs → DelaysBytes limit xs zs
 both_delay limit xs ys zs one two = record {
   short = le_trans two.short one.short;

@@ -9,13 +9,10 @@ latest_from-push : (f : ℕ → ℕ → ℕ) (i : ℕ) (ats : List ℕ) (at n : 
 latest_from-push f i [] at n e = let e' : n ≡ i = omega arith in rw e' (omega arith)
 latest_from-push f i (y ∷ ats) at n e = let rest = latest_from-push f (i + 1) ats at n (omega arith) in omega (arith, rest)
 
--- one more instant, at its place
 pub latest-push : (f : ℕ → ℕ → ℕ) (ats : List ℕ) (at : ℕ) → latest f (ats ++ at ∷ []) ≡ max (latest f ats) (f (length ats) at)
 latest-push f ats at = latest_from-push f 0 ats at (length ats) (omega arith)
 
--- ---- what is owed
-
--- a step after what was owed before, or after an instant
+-- each step comes after what was owed before, or after its instant
 abbrev pub owed : ℕ → ℕ → ℕ → List ℕ → ℕ
 owed rate step busy [] = busy
 owed rate step busy (at ∷ ats) = owed rate step (max busy (rate * at) + step) ats
@@ -51,8 +48,6 @@ module _ (limit rate step : ℕ) (h : ℕ → ℕ) (keeps : (a b : ℕ) → h (m
       let le : h (0 + (n - 0) * step) ≤ at + h ((n - 0) * step) = omega (arith, split, own) in
       omega (arith, all, le)
 
--- ---- bounds
-
 pub latest_low : (limit : ℕ) (f : ℕ → ℕ → ℕ) (i : ℕ) (ats : List ℕ) → ((j at : ℕ) → f j at ≤ limit) → latest_from i f ats ≤ limit
 latest_low limit f i [] low = omega arith
 latest_low limit f i (at ∷ ats) low =
@@ -60,7 +55,6 @@ latest_low limit f i (at ∷ ats) low =
     let rest = latest_low limit f (i + 1) ats low in
     omega arith
 
--- where each gives more
 latest_more : (f g : ℕ → ℕ → ℕ) (i : ℕ) (ats : List ℕ) → ((j at : ℕ) → f j at ≤ g j at) → latest_from i f ats ≤ latest_from i g ats
 latest_more f g i [] more = le_refl 0
 latest_more f g i (at ∷ ats) more =
@@ -68,13 +62,12 @@ latest_more f g i (at ∷ ats) more =
     let rest = latest_more f g (i + 1) ats more in
     omega arith
 
--- what each of n instants gives: no less where there is one more, not before the instant itself, and not past the limit
+-- each of n instants gives no less if there is one more, nothing before itself, and nothing past the limit
 pub record GivesInTurn (limit : ℕ) (f : ℕ → ℕ → ℕ → ℕ) : Type 0 where
   pub more : (n j at : ℕ) → f n j at ≤ f (n + 1) j at
   pub own : (n j at : ℕ) → at ≤ limit → at ≤ f n j at
   pub low : (n j at : ℕ) → f n j at ≤ limit
 
--- one instant more
 pub latest_rises : (limit : ℕ) (f : ℕ → ℕ → ℕ → ℕ) → GivesInTurn limit f → (n : ℕ) (ats : List ℕ) (at : ℕ) → latest (f n) ats ≤ latest (f (n + 1)) (ats ++ at ∷ [])
 latest_rises limit f gives n ats at =
     let push = latest-push (f (n + 1)) ats at in

@@ -10,8 +10,6 @@ use Rattle.reassembly.specs.declared.line_parts.LinePart.{LinePart}
 use Rattle.toxic_defs.specs.LimitData.{next_instant}
 use Rattle.toxic_defs.proofs.Parts.{unmarked, length_marked, parted}
 
--- ---- one part
-
 take-part : (n at : ℕ) (starts : Bool) (bytes : List ℕ) → take n (bytes_with_mark at starts bytes) ≡ bytes_with_mark at starts (take n bytes)
 take-part zero at starts bytes = refl
 take-part (suc n) at starts [] = refl

@@ -11,7 +11,7 @@ use Rattle.toxic_defs.proofs.KeptBytes.{DelaysBytes}
 use Rattle.toxic_defs.proofs.MovedParts.{begins-append}
 use Rattle.toxic_defs.proofs.Latest.{GivesInTurn, latest_rises, latest_own, latest_low}
 
--- when the last of some bytes leaves: not before the one before it, not past the limit, and not before its own instant where a chunk starts with it
+-- no byte leaves before the one before it or past the limit, and no first byte of a chunk before its own instant
 pub record LeavesInTurn (limit : ℕ) (leaves : List LineByte → ℕ) : Type 0 where
   pub rises : (front : List LineByte) (b : LineByte) → leaves front ≤ leaves (front ++ b ∷ [])
   pub own : (front : List LineByte) (b : LineByte) → b.starts ≡ true → b.at ≤ limit → b.at ≤ leaves (front ++ b ∷ [])
@@ -55,7 +55,6 @@ length-along : (leaves : List LineByte → ℕ) (before bytes : List LineByte) �
 length-along leaves before [] = refl
 length-along leaves before (b ∷ bytes) = ap suc (length-along leaves (before ++ b ∷ []) bytes)
 
--- instants do not fall
 abbrev pub NeverFalls : ℕ → List LineByte → Type 0
 NeverFalls last [] = Unit {0}
 NeverFalls last (b ∷ bytes) = (last ≤ b.at) × NeverFalls b.at bytes
@@ -82,7 +81,7 @@ module _ (limit : ℕ) (leaves : List LineByte → ℕ) (turn : LeavesInTurn lim
     delays = not_early [] bytes 0 (chunks_go_on bytes go) (omega arith);
   }
 
-  -- where bytes that start no chunk leave with those before, chunks stay chunks
+  -- if bytes that start no chunk leave with those before, chunks stay chunks
   pub chunks_move : ((front : List LineByte) (b : LineByte) → b.starts ≡ false → leaves (front ++ b ∷ []) ≡ leaves front) → (bytes : List LineByte) → IsInChunks bytes → IsInChunks (moved leaves bytes)
   chunks_move stays [] go = tt
   chunks_move stays (b ∷ bytes) go = (go.0, go_on (b ∷ []) bytes)

@@ -23,8 +23,6 @@ begins_unmarked : (at : ℕ) (bytes : List ℕ) → begins (bytes_without_mark a
 begins_unmarked at [] = refl
 begins_unmarked at (b ∷ bytes) = begins_unmarked at bytes
 
--- ---- moved
-
 pub along-append : (leaves : List LineByte → ℕ) (before xs ys : List LineByte) → along leaves before (xs ++ ys) ≡ along leaves before xs ++ along leaves (before ++ xs) ys
 along-append leaves before [] ys = ap (λ front. along leaves front ys) (sym (append-nil before))
 along-append leaves before (x ∷ xs) ys =
@@ -75,12 +73,10 @@ begins_part at false [] = refl
 begins_part at true (b ∷ bytes) = let some : 0 < suc (length bytes) = omega arith in rw (lt-ltb 0 (suc (length bytes)) some, begins_unmarked at bytes) refl
 begins_part at false (b ∷ bytes) = begins_unmarked at bytes
 
--- it begins a chunk
 pub begins_one_more : (front : List LineByte) (at : ℕ) (s : Bool) (bytes : List ℕ) → (s && nat_lt 0 (length bytes)) ≡ true
     → begins (front ++ bytes_with_mark at s bytes) ≡ begins front ++ at ∷ []
 begins_one_more front at s bytes h = begins-append front (bytes_with_mark at s bytes) ∙ ap (λ ats. begins front ++ ats) (begins_part at s bytes ∙ ap (λ t. cond t (at ∷ []) []) h)
 
--- or none
 pub begins_no_more : (front : List LineByte) (at : ℕ) (s : Bool) (bytes : List ℕ) → (s && nat_lt 0 (length bytes)) ≡ false
     → begins (front ++ bytes_with_mark at s bytes) ≡ begins front
 begins_no_more front at s bytes h =

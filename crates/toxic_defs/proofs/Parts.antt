@@ -35,7 +35,6 @@ pub parted : (i : ℕ) (parts : List LinePart) (d : LinePart) → i < length par
     → bytes_of_parts parts ≡ bytes_of_parts (take i parts) ++ (bytes_of_part (get_or parts i d) ++ bytes_of_parts (drop (suc i) parts))
 parted i parts d lt = ap bytes_of_parts (split_at parts i d lt) ∙ flat_map-append bytes_of_part (take i parts) (get_or parts i d ∷ drop (suc i) parts)
 
--- the same of part n - 1, where parts are passed from the end
 pub front_back : (n : ℕ) (parts : List LinePart) (d : LinePart) → 0 < n → n ≤ length parts
     → bytes_of_parts (take n parts) ≡ bytes_of_parts (take (n - 1) parts) ++ bytes_of_part (get_or parts (n - 1) d)
 front_back n parts d some within = let e : n - 1 + 1 ≡ n = omega arith in rw e at (front_more (n - 1) parts d (omega arith))
@@ -51,7 +50,6 @@ last_of_part before at s [] h = absurd (omega arith)
 last_of_part before at s (b ∷ []) h = refl
 last_of_part before at s (b ∷ c ∷ bytes) h = last_of_part at at false (c ∷ bytes) (omega arith)
 
--- up to part n - 1, which has no bytes or some
 pub none_more : (n : ℕ) (parts : List LinePart) (d : LinePart) → 0 < n → n ≤ length parts → length (get_or parts (n - 1) d).bytes.now ≡ 0
     → bytes_of_parts (take n parts) ≡ bytes_of_parts (take (n - 1) parts)
 none_more n parts d some within empty =

@@ -19,7 +19,7 @@ going_on size k at (suc n) left (b ∷ bytes) behind le le' =
     let rest = going_on size k at n (left - 1) bytes behind (omega arith) (omega arith) in
     rw (some, rest, e) refl
 
--- the next slice of a part: it begins where a chunk does or the one before is full
+-- the next slice of a part begins, since a chunk does or the one before is full
 pub begins_here : (size : ℕ → ℕ) (k at n left : ℕ) (starts : Bool) (bytes : List ℕ) (behind : List LineByte) → (starts || left == 0) ≡ true → 0 < n → n ≤ size k → n ≤ length bytes
     → sliced size k left (bytes_with_mark at starts bytes ++ behind)
     ≡ bytes_with_mark at true (take n bytes) ++ sliced size (k + 1) (size k - n) (bytes_with_mark at false (drop n bytes) ++ behind)
@@ -30,7 +30,6 @@ begins_here size k at (suc n) left starts (b ∷ bytes) behind begins some le le
     let rest = going_on size (k + 1) at n (size k - 1) bytes behind (omega arith) (omega arith) in
     rw (begins, rest, e, unmarked at (drop n bytes)) refl
 
--- or goes on
 pub goes_on_here : (size : ℕ → ℕ) (k at n left : ℕ) (starts : Bool) (bytes : List ℕ) (behind : List LineByte) → (starts || left == 0) ≡ false → n ≤ left → n ≤ length bytes
     → sliced size k left (bytes_with_mark at starts bytes ++ behind)
     ≡ bytes_with_mark at false (take n bytes) ++ sliced size k (left - n) (bytes_with_mark at false (drop n bytes) ++ behind)
@@ -38,13 +37,11 @@ goes_on_here size k at n left true bytes behind going le le' = absurd cc
 goes_on_here size k at n left false bytes behind going le le' =
     rw (← unmarked at bytes, ← unmarked at (take n bytes), ← unmarked at (drop n bytes)) (going_on size k at n left bytes behind le le')
 
--- all is cut
 pub cut_all : (size : ℕ → ℕ) (k left : ℕ) (before bytes : List LineByte) (sizes : Sizes) (more : ℕ) (now : List LineByte) (at : ℕ) (starts : Bool) (rest : List ℕ)
     → length rest ≡ 0 → CutOn size k left before bytes sizes more now (bytes_with_mark at starts rest) → CutOn size k left before bytes sizes more now []
 cut_all size k left before bytes sizes more now at starts [] none h = h
 cut_all size k left before bytes sizes more now at starts (b ∷ rest) none h = absurd (omega arith)
 
--- the front of a part's bytes, of n
 pub record Split (rest front back : List ℕ) (n : ℕ) : Type 0 where
   pub front_is : front ≡ take n rest
   pub back_is : back ≡ drop n rest
@@ -54,7 +51,6 @@ pub record Split (rest front back : List ℕ) (n : ℕ) : Type 0 where
 written : (now now' ours behind : List LineByte) → now' ≡ now ++ ours → now' ++ behind ≡ now ++ (ours ++ behind)
 written now now' ours behind e = ap (λ bs. bs ++ behind) e ∙ append_assoc now ours behind
 
--- a slice that begins
 pub cut_begun : (size : ℕ → ℕ) (k left : ℕ) (before bytes : List LineByte) (sizes sizes' : Sizes) (more full n : ℕ) (now now' : List LineByte) (at : ℕ) (starts : Bool) (rest front back : List ℕ)
     → (starts || more == 0) ≡ true → Split rest front back n → n ≤ full
     → ((number : ℕ) → GivesSizes sizes size number → (full ≡ size number) × GivesSizes sizes' size (number + 1)) → now' ≡ now ++ bytes_with_mark at true front
@@ -70,7 +66,6 @@ cut_begun size k left before bytes sizes sizes' more full n now now' at starts r
           ∙ ap (λ bs. now ++ bs) (rw (split.front_is, split.back_is, full_is) (sym step)) ∙ h.same behind;
     }
 
--- one that goes on
 pub cut_gone_on : (size : ℕ → ℕ) (k left : ℕ) (before bytes : List LineByte) (sizes : Sizes) (more n : ℕ) (now now' : List LineByte) (at : ℕ) (starts : Bool) (rest front back : List ℕ)
     → (starts || more == 0) ≡ false → Split rest front back n → n ≤ more → now' ≡ now ++ bytes_with_mark at false front
     → CutOn size k left before bytes sizes more now (bytes_with_mark at starts rest) → CutOn size k left before bytes sizes (more - n) now' (bytes_with_mark at false back)
@@ -85,13 +80,12 @@ cut_gone_on size k left before bytes sizes more n now now' at starts rest front 
 
 -- ---- all parts
 
--- of all bytes, what is cut and what is still to be cut
+-- of all bytes, what is cut and what is not yet
 pub record LeftOver (size : ℕ → ℕ) (bytes : List LineByte) (sizes : Sizes) (more : ℕ) (now rest : List LineByte) : Type 0 where
   pub number : ℕ
   pub gives : GivesSizes sizes size number
   pub same : now ++ sliced size number more rest ≡ sliced size 0 0 bytes
 
--- one part more
 pub over_more : (size : ℕ → ℕ) (bytes ours : List LineByte) (sizes sizes' : Sizes) (more more' : ℕ) (now now' rest rest' : List LineByte) → rest ≡ ours ++ rest'
     → ((k : ℕ) → GivesSizes sizes size k → CutOn size k more now ours sizes' more' now' []) → LeftOver size bytes sizes more now rest → LeftOver size bytes sizes' more' now' rest'
 over_more size bytes ours sizes sizes' more more' now now' rest rest' e cut h =

@@ -155,7 +155,6 @@ range_step t toxics toxic lt is r rs =
     let more : take (t + 1) toxics ≡ take t toxics ++ toxic ∷ [] = take_more toxics t toxic lt ∙ ap (λ (x : RatedKind). take t toxics ++ x ∷ []) (sym is) in
     subst AreInRange (sym more) (all_push IsInRange (take t toxics) toxic rs r)
 
--- and its end
 pub chain_end : (ticks opened seed s c d t : ℕ) (toxics : List RatedKind) (f whole : Line) → length toxics ≤ t → chain_from ticks opened seed s c d t (drop t toxics) f ≡ whole → f ≡ whole
 chain_end ticks opened seed s c d t toxics f whole le done = sym (ap (λ ts. chain_from ticks opened seed s c d t ts f) (drop_all t toxics le)) ∙ done
 
@@ -172,7 +171,6 @@ through : (ticks seed s c d opened : ℕ) (toxics : List RatedKind) (f : Line) �
 through ticks seed s c d opened toxics f ranges early line between =
     chains_delay ticks toxics opened seed s c d f.bytes f ranges early between.from (as_recorded ticks opened f line between)
 
--- two lines, cut
 cut : (ticks opened : ℕ) (proxy : Option ℕ) (r : RecordedConnection) (up down : Line) → Delays ticks r.opened r.up.line.bytes up → Delays ticks r.opened r.down.line.bytes down
     → DelaysRecorded ticks r (connection_by_cut ticks proxy up down)
 cut ticks opened proxy r up down is_up is_down = record {
@@ -180,7 +178,6 @@ cut ticks opened proxy r up down is_up is_down = record {
   down = cut_lines_delay ticks r.opened r.down.line.bytes up down down is_up.ends is_down.ends is_down;
 }
 
--- a line without bytes
 nothing : (ticks opened : ℕ) (recorded : List LineByte) → Delays ticks opened recorded empty_line
 nothing ticks opened recorded = record { line = record { chunks = tt; ends = tt; short = omega arith }; in_time = tt; bytes = tt; ends = tt }
 

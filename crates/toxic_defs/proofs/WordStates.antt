@@ -38,14 +38,12 @@ state_is seed i (suc k) = one_more 64 multiplier_64 i k (started 64 multiplier_6
 odd_is : (stream : ℕ) → stream < 2 ^ 63 → increment_of 64 stream ≡ 2 * stream + 1
 odd_is stream h = or_after_shift stream 2 (2 ^ 64) 1 refl (lit< tt) (omega arith) ∙ omega arith
 
--- a new generator of a key's stream that has jumped
 pub jumped : (key : Key) (stream k : ℕ) (g h : Lcg) → stream ≡ stream_of key → stream < 2 ^ 63 → g ≡ started 64 multiplier_64 key.seed (increment_of 64 stream) → h ≡ advance 64 multiplier_64 k g → StandsAt h key k
 jumped key stream k g h is small new moved =
     let odd : increment_of 64 stream ≡ increment_of_key key = odd_is stream small ∙ ap (λ n. 2 * n + 1) is in
     let e : h ≡ advance 64 multiplier_64 k (started 64 multiplier_64 key.seed (increment_of_key key)) = moved ∙ ap (advance 64 multiplier_64 k) (new ∙ ap (started 64 multiplier_64 key.seed) odd) in
     record { state = ap (λ (x : Lcg). x.state) e ∙ state_is key.seed (increment_of_key key) k; increment = ap (λ (x : Lcg). x.increment) e }
 
--- the word that one gives, and where it stands then
 pub stepped : (key : Key) (k w : ℕ) (g h : Lcg) → StandsAt g key k → (w, h) ≡ pcg32 g → (w ≡ word_of key k) × StandsAt h key (k + 1)
 unfolding word_of
 stepped key k w g h at step =

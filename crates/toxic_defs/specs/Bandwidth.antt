@@ -7,12 +7,10 @@ use Rattle.reassembly.specs.declared.line_parts.LinePart.{LinePart}
 use Rattle.toxic_defs.specs.DelayedBytes.{latest, instants_of, at_instant, moved}
 use Rattle.toxic_defs.specs.Slices.{sliced}
 
--- a quotient, rounded up
 abbrev pub ceiling : ℕ → ℕ → ℕ
 ceiling n d = (n + (d - 1)) / d
 
--- Each byte holds the wire for `ticks` / `rate` of a tick, of which a millisecond has `ticks`, from its own instant on, after those before
--- it. The sum is rounded up for each byte, never carried over rounded.
+-- Each byte holds the wire for 1/`rate` of a millisecond (of `ticks`), after its instant and the bytes before it. Only the sum is rounded up.
 abbrev pub bandwidth_leaves : ℕ → ℕ → ℕ → List LineByte → ℕ
 bandwidth_leaves limit ticks rate bytes =
     latest (λ y at. min (at + ceiling ((length bytes - y) * ticks) rate) limit) (instants_of bytes)
@@ -26,7 +24,7 @@ abbrev pub settled : List LineByte → List LineByte
 settled [] = []
 settled (b ∷ bytes) = joined b (settled bytes) ∷ settled bytes
 
--- how many milliseconds a slice takes
+-- in milliseconds
 abbrev pub slice_time : ℕ
 slice_time = 100
 
@@ -38,7 +36,6 @@ abbrev pub rated_bytes : ℕ → ℕ → List LineByte → List LineByte
 rated_bytes ticks rate bytes =
     settled (moved (bandwidth_leaves (horizon ticks) (millisecond ticks) rate) (sliced (rated_size rate) 0 0 bytes))
 
--- a line under a bandwidth
 abbrev pub rated_line : ℕ → ℕ → Line → Line
 rated_line ticks rate f = record { bytes = rated_bytes ticks rate f.bytes; end = f.end }
 
@@ -53,7 +50,7 @@ charged leaves before [] = []
 charged leaves before (p ∷ parts) =
     part_at (leaves (before ++ bytes_of_part p)) p ∷ charged leaves (before ++ bytes_of_part p) parts
 
--- the instant of the first of some parts, where no chunk starts with it
+-- the instant of the first of some parts, unless a chunk starts with it
 abbrev pub going_on : List LinePart → Option ℕ
 going_on [] = None
 going_on (p ∷ parts) = if p.starts then None else Some p.at

@@ -1,10 +1,8 @@
--- Bytes of a line that leave later, as latency, a bandwidth and a slicer make them: each at an instant that the bytes up to it decide.
+-- Bytes of a line that leave later, under latency, a bandwidth or a slicer: each at an instant that the bytes up to it decide.
 use Rattle.std.specs.Prelude.{ℕ, ◌+◌, max, if◌then◌else◌, List, [], ◌∷◌, ◌++◌, map}
 use Rattle.reassembly.specs.RecordedLines.{LineByte}
 
--- ---- when
-
--- the greatest of what f makes of some instants and their places, counted from i; 0 of none
+-- the greatest of what f gives for some instants and their places, counted from i; 0 without any
 abbrev pub latest_from : ℕ → (ℕ → ℕ → ℕ) → List ℕ → ℕ
 latest_from i f [] = 0
 latest_from i f (at ∷ ats) = max (f i at) (latest_from (i + 1) f ats)
@@ -12,12 +10,11 @@ latest_from i f (at ∷ ats) = max (f i at) (latest_from (i + 1) f ats)
 abbrev pub latest : (ℕ → ℕ → ℕ) → List ℕ → ℕ
 latest f ats = latest_from 0 f ats
 
--- the instants at which the chunks among some bytes begin
+-- the instants at which chunks begin
 abbrev pub begins : List LineByte → List ℕ
 begins [] = []
 begins (b ∷ bytes) = if b.starts then b.at ∷ begins bytes else begins bytes
 
--- the instant of each byte
 abbrev pub instants_of : List LineByte → List ℕ
 instants_of bytes = map (λ b. b.at) bytes
 
@@ -31,6 +28,5 @@ abbrev pub along : (List LineByte → ℕ) → List LineByte → List LineByte �
 along leaves before [] = []
 along leaves before (b ∷ bytes) = at_instant (leaves (before ++ b ∷ [])) b ∷ along leaves (before ++ b ∷ []) bytes
 
--- each byte at the instant that `leaves` gives for the bytes up to it
 abbrev pub moved : (List LineByte → ℕ) → List LineByte → List LineByte
 moved leaves bytes = along leaves [] bytes

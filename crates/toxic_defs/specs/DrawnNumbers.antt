@@ -13,7 +13,7 @@ abbrev pub StandsNext : Option Draws → Key → ℕ → ℕ → Type 0
 StandsNext None key spread k = spread ≡ 0
 StandsNext (Some draws) key spread k = StandsAt draws.words key k
 
--- the next number is that of word k; without a spread all are 0, and no word is drawn
+-- word k gives the next number; without a spread all are 0, and no word is drawn
 pub record GivesNext (s : Spread) (key : Key) (spread k : ℕ) : Type 0 where
   pub same : s.spread ≡ spread
   pub stands : StandsNext s.draws key spread k

@@ -3,7 +3,6 @@ use Rattle.std.specs.Prelude.{ℕ, max, Bool, false, nat_lt}
 use Rattle.reassembly.specs.RecordedLines.{Line, End, live, fin, close, reset}
 use Rattle.reassembly.specs.LineLaws.{last_instant}
 
--- whether an end comes before an instant
 abbrev pub is_before : ℕ → End → Bool
 is_before at live = false
 is_before at (fin m) = nat_lt m at
@@ -17,6 +16,5 @@ not_before at (fin m) = fin (max m at)
 not_before at (close m) = close (max m at)
 not_before at (reset m) = reset (max m at)
 
--- the line whose end is moved to the last byte's instant where it is before it
 abbrev pub ended : Line → Line
 ended l = record { bytes = l.bytes; end = not_before (last_instant 0 l.bytes) l.end }

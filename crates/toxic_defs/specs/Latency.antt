@@ -4,12 +4,11 @@ use Rattle.pcap_records.specs.Instants.{horizon, millisecond}
 use Rattle.reassembly.specs.RecordedLines.{LineByte, Line}
 use Rattle.toxic_defs.specs.DelayedBytes.{latest, begins, moved}
 
--- the delay of chunk k: some milliseconds, and up to `jitter` more or fewer as its number is drawn, but never fewer than none
+-- the delay of chunk k: `latency` milliseconds, plus or minus a drawn number up to `jitter`, but never below 0
 abbrev pub drawn_delay : ℕ → (ℕ → ℕ) → ℕ → ℕ → ℕ → ℕ
 drawn_delay ticks random latency jitter k = millisecond ticks * (latency + random (1 + k) % (2 * jitter + 1) - jitter)
 
--- A chunk's own instant and its delay, or that of a chunk before it where that is later: none overtakes another. What is past
--- the limit is at the limit.
+-- a chunk leaves after its delay, or with an earlier chunk that leaves later: none overtakes another, and none leaves past the limit
 abbrev pub latency_leaves : ℕ → (ℕ → ℕ) → List LineByte → ℕ
 latency_leaves limit delay bytes = latest (λ j at. min (at + delay j) limit) (begins bytes)
 
@@ -17,6 +16,5 @@ abbrev pub late_bytes : ℕ → (ℕ → ℕ) → ℕ → ℕ → List LineByte 
 late_bytes ticks random latency jitter bytes =
     moved (latency_leaves (horizon ticks) (drawn_delay ticks random latency jitter)) bytes
 
--- a line under latency
 abbrev pub late_line : ℕ → (ℕ → ℕ) → ℕ → ℕ → Line → Line
 late_line ticks random latency jitter f = record { bytes = late_bytes ticks random latency jitter f.bytes; end = f.end }

@@ -1,4 +1,4 @@
--- What holds of every line that toxics change or the session cut cuts, and of every connection that is delivered.
+-- What holds of every line that toxics change or the session cut cuts, and of every delivered connection.
 use Rattle.std.specs.Prelude.{◌≡◌, ◌<◌, ◌≤◌, ℕ, ◌+◌, false, List, [], ◌∷◌, length, map, take, Option, Some, None}
 use Rattle.std.specs.List.{AllByRecursion}
 use Rattle.pcap_records.specs.Instants.{horizon}
@@ -11,24 +11,22 @@ use Rattle.toxic_defs.specs.declared.words.Key.{Key}
 
 -- ---- the session cut
 
--- an end that has an instant is before another one
+-- the end is before `limit`, if it has an instant
 abbrev pub IsBefore : ℕ → End → Type 0
 IsBefore limit live = Unit {0}
 IsBefore limit (fin at) = at < limit
 IsBefore limit (close at) = at < limit
 IsBefore limit (reset at) = at < limit
 
--- a line that is cut is a line
 abbrev pub CutLinesAreLines : Type 0
 CutLinesAreLines = (ticks : ℕ) (up down f : Line) → IsLine f → IsLine (cut_line ticks up down f)
 
--- its bytes are the first of those before, each at its instant and with its mark
+-- the bytes of a cut line are the first of those before, each with its instant and its mark
 abbrev pub FirstBytesStay : Type 0
 FirstBytesStay =
     (ticks : ℕ) (up down f : Line) → IsLine f
     → (cut_line ticks up down f).bytes ≡ take (length (cut_line ticks up down f).bytes) f.bytes
 
--- all of them are before the horizon, and so is its end
 pub record IsBeforeHorizon (ticks : ℕ) (f : Line) : Type 0 where
   pub bytes : AllByRecursion (λ b. b.at < horizon ticks) f.bytes
   pub ends : IsBefore (horizon ticks) f.end
@@ -36,7 +34,7 @@ pub record IsBeforeHorizon (ticks : ℕ) (f : Line) : Type 0 where
 abbrev pub CutLinesEndInTime : Type 0
 CutLinesEndInTime = (ticks : ℕ) (up down f : Line) → IsBeforeHorizon ticks (cut_line ticks up down f)
 
--- where no end is before an instant, that of the line that is cut is not either
+-- if no end is before an instant, the end of the cut line is not either
 abbrev pub CutEndsAreNotEarly : Type 0
 CutEndsAreNotEarly =
     (ticks opened : ℕ) (up down f : Line) → IsNotBefore opened up.end → IsNotBefore opened down.end → IsNotBefore opened f.end
@@ -44,16 +42,14 @@ CutEndsAreNotEarly =
 
 -- ---- toxics
 
--- a toxic makes a line of a line
 abbrev pub ToxicsKeepLines : Type 0
 ToxicsKeepLines =
     (ticks : ℕ) (toxic : RatedKind) (key : Key) (opened : ℕ) (f : Line) → IsInRange toxic → IsLine f → IsLine (run ticks toxic key opened f)
 
--- and so does a chain
 abbrev pub ChainsKeepLines : Type 0
 ChainsKeepLines = (ticks : ℕ) (toxics : List RatedKind) (opened seed s c d : ℕ) (f : Line) → AreInRange toxics → IsLine f → IsLine (chain ticks toxics opened seed s c d f)
 
--- a chain of which no toxic applies leaves the line as it is; the first toxic has number t
+-- none of the toxics applies; the first one has number t
 abbrev pub NoneApplies : ℕ → ℕ → ℕ → ℕ → ℕ → List RatedKind → Type 0
 NoneApplies seed s c d t [] = Unit {0}
 NoneApplies seed s c d t (toxic ∷ toxics) = (applies toxic (record { seed = seed; s = s; c = c; d = d; t = t }) ≡ false) × NoneApplies seed s c d (t + 1) toxics
@@ -63,32 +59,28 @@ IdleChainsChangeNothing = (ticks : ℕ) (toxics : List RatedKind) (opened seed s
 
 -- ---- what was recorded
 
--- bytes are the first of others, and none is earlier than it was there
+-- bytes are the first of others, and none is earlier than there
 abbrev pub DelaysFirst : List LineByte → List LineByte → Type 0
 DelaysFirst [] recorded = Unit {0}
 DelaysFirst (b ∷ bytes) [] = ⊥
 DelaysFirst (b ∷ bytes) (was ∷ recorded) = (b.value ≡ was.value) × (was.at ≤ b.at) × DelaysFirst bytes recorded
 
--- no byte is past a limit
 abbrev pub AreUpTo : ℕ → List LineByte → Type 0
 AreUpTo limit bytes = AllByRecursion (λ b. b.at ≤ limit) bytes
 
--- no byte is before an instant
 abbrev pub AreFrom : ℕ → List LineByte → Type 0
 AreFrom opened bytes = AllByRecursion (λ b. opened ≤ b.at) bytes
 
--- a line that is made of recorded bytes of a connection that was opened at an instant
+-- a line is made of the recorded bytes of a connection that was opened at `opened`
 pub record Delays (ticks opened : ℕ) (recorded : List LineByte) (f : Line) : Type 0 where
   pub line : IsLine f
   pub in_time : AreUpTo (horizon ticks) f.bytes
   pub bytes : DelaysFirst f.bytes recorded
   pub ends : IsNotBefore opened f.end
 
--- the recorded line itself is one
 abbrev pub RecordedLinesDelay : Type 0
 RecordedLinesDelay = (ticks opened : ℕ) (f : Line) → IsLine f → AreUpTo (horizon ticks) f.bytes → IsNotBefore opened f.end → Delays ticks opened f.bytes f
 
--- and what a toxic makes of one
 abbrev pub ToxicsDelay : Type 0
 ToxicsDelay =
     (ticks : ℕ) (toxic : RatedKind) (key : Key) (opened : ℕ) (recorded : List LineByte) (f : Line) → IsInRange toxic → opened ≤ horizon ticks → AreFrom opened recorded
@@ -99,13 +91,11 @@ ChainsDelay =
     (ticks : ℕ) (toxics : List RatedKind) (opened seed s c d : ℕ) (recorded : List LineByte) (f : Line) → AreInRange toxics → opened ≤ horizon ticks → AreFrom opened recorded
     → Delays ticks opened recorded f → Delays ticks opened recorded (chain ticks toxics opened seed s c d f)
 
--- and what the session cut leaves of one
 abbrev pub CutLinesDelay : Type 0
 CutLinesDelay =
     (ticks opened : ℕ) (recorded : List LineByte) (up down f : Line) → IsNotBefore opened up.end → IsNotBefore opened down.end
     → Delays ticks opened recorded f → Delays ticks opened recorded (cut_line ticks up down f)
 
--- the values of such a line are the first ones that were recorded
 abbrev pub values_of : List LineByte → List ℕ
 values_of bytes = map (λ b. b.value) bytes
 
@@ -114,12 +104,11 @@ DelayedBytesAreTheFirst = (bytes recorded : List LineByte) → DelaysFirst bytes
 
 -- ---- what is delivered
 
--- the toxics of a proxy that is met, if one is
 abbrev pub MetInRange : Option MetProxy → Type 0
 MetInRange None = Unit {0}
 MetInRange (Some met) = AreInRange met.up × AreInRange met.down
 
--- a connection whose lines are as recorded ones are: none of a byte before its opening or past the horizon, no end before its opening
+-- no byte is before the opening or past the horizon, and no end is before the opening
 pub record IsRecordedInTime (ticks : ℕ) (r : RecordedConnection) : Type 0 where
   pub up : IsLine r.up.line
   pub down : IsLine r.down.line
@@ -127,12 +116,11 @@ pub record IsRecordedInTime (ticks : ℕ) (r : RecordedConnection) : Type 0 wher
   pub down_between : LiesBetween r.opened (horizon ticks) r.down.line
   pub opened : r.opened ≤ horizon ticks
 
--- what is delivered in each direction is made of the first bytes that were recorded in it
 pub record DelaysRecorded (ticks : ℕ) (r : RecordedConnection) (d : DeliveredConnection) : Type 0 where
   pub up : Delays ticks r.opened r.up.line.bytes d.up
   pub down : Delays ticks r.opened r.down.line.bytes d.down
 
--- whatever proxy is met, or none
+-- by any proxy, or none
 abbrev pub DeliveredIsRecorded : Type 0
 DeliveredIsRecorded =
     (ticks seed s c : ℕ) (met : Option MetProxy) (r : RecordedConnection) → MetInRange met → IsRecordedInTime ticks r

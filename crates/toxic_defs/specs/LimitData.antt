@@ -2,7 +2,7 @@
 use Rattle.std.specs.Prelude.{ℕ, nat_lt, if◌then◌else◌, Option, Some, None, List, length, take, map, slice_index}
 use Rattle.reassembly.specs.RecordedLines.{LineByte, Line, End, close}
 
--- the instant of byte n, where there are so many
+-- the instant of byte n, if there is one
 abbrev pub next_instant : ℕ → List LineByte → Option ℕ
 next_instant n bytes = if nat_lt n (length bytes) then Some (slice_index (map (λ b. b.at) bytes) n) else None
 

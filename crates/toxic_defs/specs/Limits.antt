@@ -13,10 +13,10 @@ greatest_rate = 1000000
 abbrev pub greatest_limit : ℕ
 greatest_limit = 1000000000000
 
--- the greatest `ppm`: of each million connections a toxic applies to all
+-- the greatest `ppm`: a toxic with it applies to every connection
 abbrev pub million : ℕ
 million = 1000000
 
--- how many toxics a direction has at most
+-- the greatest number of toxics in a direction
 abbrev pub most_toxics : ℕ
 most_toxics = 8

@@ -22,12 +22,11 @@ output x = rotate_right w32 (bit_xor (x / 2 ^ 18) x / 2 ^ 27 % 2 ^ 32) (x / 2 ^ 
 
 -- ---- words by a key
 
--- the number of a direction in a key
 abbrev pub direction_number : Direction → ℕ
 direction_number Up = 0
 direction_number Down = 1
 
--- a scenario, a connection, a direction and a toxic have a stream of their own
+-- each scenario, connection, direction and toxic has a stream of its own
 abbrev pub stream_of : Key → ℕ
 stream_of key = key.s * 2 ^ 30 + key.c * 16 + key.d * 8 + key.t
 
@@ -35,7 +34,6 @@ stream_of key = key.s * 2 ^ 30 + key.c * 16 + key.d * 8 + key.t
 abbrev pub increment_of_key : Key → ℕ
 increment_of_key key = 2 * stream_of key + 1
 
--- word k
 unfoldable pub word_of : Key → ℕ → ℕ
 word_of key k = output (state key.seed (increment_of_key key) k)
 

@@ -38,7 +38,7 @@ borders =
     Latency 0 0 ∷ Latency 1000000000 1000000000 ∷ Bandwidth 1 ∷ Bandwidth 1000000 ∷ SlowClose 0 ∷ SlowClose 1000000000 ∷ Timeout 0 ∷ Timeout 1000000000 ∷ ResetPeer 0 ∷ ResetPeer 1000000000
     ∷ Slicer 1 0 0 ∷ Slicer 1000000000 999999999 1000000000 ∷ LimitData 0 ∷ LimitData 1000000000000 ∷ []
 
--- and those next to them
+-- attributes next to these, out of range
 abbrev pub other_kinds : List Kind
 other_kinds =
     Latency 1000000001 0 ∷ Latency 0 1000000001 ∷ Bandwidth 0 ∷ Bandwidth 1000001 ∷ SlowClose 1000000001 ∷ Timeout 1000000001 ∷ ResetPeer 1000000001 ∷ Slicer 0 0 0 ∷ Slicer 1000000001 0 0
@@ -51,15 +51,13 @@ pub record RangeRows : Type 0 where
 
 -- ---- toxics
 
--- five bytes of one chunk, and a FIN
 abbrev pub hello_line : Line
 hello_line = line_with (hello 1000) (fin 2000)
 
--- chunks `a` and `b`
 abbrev pub two_chunks : ℕ → ℕ → End → Line
 two_chunks a b end = line_with (byte 97 a true ∷ byte 98 b true ∷ []) end
 
--- what a toxic that always applies makes of a line, where the connection was opened at 0
+-- what a toxic that always applies makes of a line of a connection opened at 0
 abbrev pub line_under : Line → Kind → Line
 line_under f kind = run microseconds (rated 1000000 kind) known_key 0 f
 
@@ -72,10 +70,9 @@ pub record ToxicRows : Type 0 where
   pub closes_later : line_under hello_line (SlowClose 2) ≡ line_with (hello 1000) (fin 4000)
   -- delays of 100 and 72 milliseconds are drawn; the FIN moves to the last byte
   pub delays_are_drawn : line_under (two_chunks 1000 5000 (fin 6000)) (Latency 100 50) ≡ two_chunks 101000 101000 (fin 101000)
-  -- slices of 2 and of 3 bytes
   pub sizes_are_drawn : line_under hello_line (Slicer 3 1 10)
       ≡ line_with (byte 104 1000 true ∷ byte 101 1000 false ∷ byte 108 1010 true ∷ byte 108 1010 false ∷ byte 111 1010 false ∷ []) (fin 2000)
-  -- slices of 100 bytes and more: a chunk leaves whole when its last byte does, 1000 microseconds a byte at 1 KB a second
+  -- slices of at least 100 bytes: a chunk leaves whole when its last byte does, 1000 microseconds a byte at 1 KB a second
   pub rate_delays : line_under (two_chunks 1000 1500 live) (Bandwidth 1) ≡ two_chunks 2000 3000 live
 
 -- ---- chains
@@ -91,7 +88,6 @@ pub record ChainRows : Type 0 where
 
 -- ---- toxics that delay bytes
 
--- n bytes that start no chunk
 abbrev pub others : ℕ → ℕ → List LineByte
 others zero at = []
 others (suc n) at = byte 7 at false ∷ others n at
@@ -110,24 +106,21 @@ long_first (suc zero) = 100
 long_first (suc (suc k)) = 0
 
 pub record DelayRows : Type 0 where
-  -- both chunks of a line come 100 milliseconds later
   pub latency_delays : late_bytes microseconds no_numbers 100 0 (chunk 1 1000 ++ chunk 0 5000) ≡ chunk 1 101000 ++ chunk 0 105000
-  -- delays of 100 and of 0 milliseconds by the numbers 1 and 2: the second chunk doesn't overtake the first
+  -- delays of 100 and of 0 milliseconds by the numbers 1 and 2: the second chunk does not overtake the first
   pub none_overtakes : late_bytes microseconds long_first 50 50 (chunk 0 1000 ++ chunk 0 5000 ++ chunk 0 200000) ≡ chunk 0 101000 ++ chunk 0 101000 ++ chunk 0 200000
   -- in the last second a long delay ends at the horizon
   pub latency_stops_at_horizon : late_bytes microseconds no_numbers 1000000000 0 (chunk 0 4294967295000000) ≡ chunk 0 4294967296000000
-  -- at 3 KB a second a byte takes a third of a millisecond: what is over a whole microsecond is carried on
+  -- at 3 KB a second a byte takes a third of a millisecond: fractions of a microsecond are carried on
   pub rate_is_exact : rated_bytes microseconds 3 (chunk 0 1000 ++ chunk 0 1001 ++ chunk 0 1002) ≡ chunk 0 1334 ++ chunk 0 1667 ++ chunk 0 2000
   -- at 1 KB a second slices have 100 bytes or what is left of their chunk
   pub rated_slices : rated_bytes microseconds 1 (chunk 249 1000 ++ chunk 9 2000) ≡ chunk 99 101000 ++ chunk 99 201000 ++ chunk 49 251000 ++ chunk 9 261000
-  -- slices of one byte, each 10 microseconds after the one before
   pub slices_in_turn : paced_bytes microseconds no_numbers 1 0 10 (chunk 1 1000 ++ chunk 0 1005) ≡ chunk 0 1000 ++ chunk 0 1010 ++ chunk 0 1020
   -- slices of 3 and of 2 bytes by the numbers 1 and 2; the next one ends with its chunk
   pub drawn_sizes : paced_bytes microseconds long_first 3 1 10 (chunk 5 1000 ++ chunk 0 5000) ≡ chunk 2 1000 ++ chunk 1 1010 ++ chunk 0 1020 ++ chunk 0 5000
 
 -- ---- the session cut
 
--- a chunk of three bytes at an instant
 abbrev pub hey : ℕ → List LineByte
 hey at = byte 104 at true ∷ byte 101 at false ∷ byte 121 at false ∷ []
 
@@ -135,16 +128,12 @@ abbrev pub both_cut : Line → Line → Line × Line
 both_cut up down = (cut_line microseconds up down up, cut_line microseconds up down down)
 
 pub record CutRows : Type 0 where
-  -- a close ends both directions
   pub close_ends_both : both_cut (line_with (hey 1001000) (close 1001000)) (line_with [] (fin 1003000)) ≡ (line_with (hey 1001000) (close 1001000), line_with [] (close 1001000))
-  -- a reset cuts what comes later than it
   pub earlier_reset_cuts : both_cut (line_with (hey 1101000) (reset 1101000)) (line_with [] (reset 1002000)) ≡ (line_with [] (reset 1002000), line_with [] (reset 1002000))
-  -- a line that never ends leaves the other as it is
   pub live_cuts_nothing : both_cut (line_with [] live) (line_with (hey 1001000) (fin 1003000)) ≡ (line_with [] live, line_with (hey 1001000) (fin 1003000))
   -- a close and a reset at one instant both stay
   pub tie_stays : both_cut (line_with (hey 1001000) (close 1001500)) (line_with [] (reset 1001500)) ≡ (line_with (hey 1001000) (close 1001500), line_with [] (reset 1001500))
   -- bytes and a FIN at the closing instant stay
   pub fin_stays : both_cut (line_with (hey 1001500) (fin 1001500)) (line_with [] (close 1001500)) ≡ (line_with (hey 1001500) (fin 1001500), line_with [] (close 1001500))
-  -- nothing is delivered at the horizon, and all before it is
   pub nothing_at_horizon : both_cut (line_with (hey 4294967296000000) (fin 4294967296000000)) (line_with [] (reset 4294967296000000)) ≡ (line_with [] live, line_with [] live)
   pub all_before_horizon : both_cut (line_with (hey 4294967295999999) live) (line_with [] (reset 4294967296000000)) ≡ (line_with (hey 4294967295999999) live, line_with [] live)

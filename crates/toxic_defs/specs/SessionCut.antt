@@ -6,22 +6,19 @@ use Rattle.reassembly.specs.LineView.{end_view}
 use Rattle.toxic_defs.specs.EndRule.{is_before}
 use Rattle.toxic_defs.specs.declared.session_cut.Closing.{Closing}
 
--- ---- ends
-
--- the closing that an end is: a close or a reset, and its instant
+-- the closing of an end: a close or a reset, and its instant
 abbrev pub closing_end : End → Option (ℕ × End)
 closing_end live = None
 closing_end (fin at) = None
 closing_end (close at) = Some (at, close at)
 closing_end (reset at) = Some (at, reset at)
 
--- the earlier of two
 abbrev pub first_closing : Option (ℕ × End) → Option (ℕ × End) → Option (ℕ × End)
 first_closing None d = d
 first_closing (Some u) None = Some u
 first_closing (Some u) (Some d) = if nat_le u.0 d.0 then Some u else Some d
 
--- whether an end comes after an instant, as one that never comes does
+-- whether an end comes after an instant; this holds of an end that never comes
 abbrev pub is_after : ℕ → End → Bool
 is_after c live = true
 is_after c (fin at) = nat_lt c at
@@ -45,13 +42,12 @@ line_before limit f = record {
   end = if is_before limit f.end then f.end else live;
 }
 
--- one direction, cut where either ends; where both close at one instant, neither end changes
+-- one direction, cut when either ends; if both close at one instant, neither end changes
 unfoldable pub cut_line : ℕ → Line → Line → Line → Line
 cut_line ticks up down f = line_before (horizon ticks) (line_up_to (first_closing (closing_end up.end) (closing_end down.end)) f)
 
 -- ---- what contracts see
 
--- a closing: a close or a reset, and its instant
 abbrev pub closing_view : Closing → ℕ × End
 closing_view c = (c.at, end_view c.end)
 

@@ -5,7 +5,7 @@ use Rattle.reassembly.specs.RecordedLines.{LineByte, Line}
 use Rattle.toxic_defs.specs.DelayedBytes.{latest, begins, moved}
 use Rattle.toxic_defs.specs.Slices.{sliced}
 
--- the size of slice k: some bytes, and up to `variation` more or fewer as its number is drawn
+-- the size of slice k: `average` bytes, plus or minus a drawn number up to `variation`
 abbrev pub slice_size : (ℕ → ℕ) → ℕ → ℕ → ℕ → ℕ
 slice_size random average variation k = average - variation + random (1 + k) % (2 * variation + 1)
 
@@ -20,7 +20,6 @@ abbrev pub paced_bytes : ℕ → (ℕ → ℕ) → ℕ → ℕ → ℕ → List 
 paced_bytes ticks random average variation delay bytes =
     moved (slicer_leaves (horizon ticks) (microsecond ticks * delay)) (sliced (slice_size random average variation) 0 0 bytes)
 
--- a line under a slicer
 abbrev pub paced_line : ℕ → (ℕ → ℕ) → ℕ → ℕ → ℕ → Line → Line
 paced_line ticks random average variation delay f = record {
   bytes = paced_bytes ticks random average variation delay f.bytes;

@@ -7,8 +7,7 @@ use Rattle.toxic_defs.specs.Limits.{greatest_attribute}
 use Rattle.toxic_defs.specs.declared.slices.Sizes.{Sizes}
 use Rattle.toxic_defs.specs.declared.words.Key.{Key}
 
--- Slice k has size k bytes, or what is left of its chunk. Of the slice before these bytes `left` bytes are missing, and the next one
--- has number k.
+-- slice k has size k bytes, or what is left of its chunk; the slice before these bytes lacks `left`, and the next one has number k
 abbrev pub sliced : (ℕ → ℕ) → ℕ → ℕ → List LineByte → List LineByte
 sliced size k left [] = []
 sliced size k left (b ∷ bytes) =
@@ -25,7 +24,7 @@ pub record GivesSizes (s : Sizes) (size : ℕ → ℕ) (k : ℕ) : Type 0 where
   pub next : GivesNext s.numbers key spread (1 + k)
   pub sizes : (j : ℕ) → size j ≡ s.least + drawn key spread (1 + j)
 
--- no size is 0, and none too large to be counted
+-- no size is 0 or too large to be counted
 pub record AreSized (s : Sizes) : Type 0 where
   pub some : 0 < s.least
   pub small : s.least ≤ greatest_attribute
@@ -33,15 +32,13 @@ pub record AreSized (s : Sizes) : Type 0 where
 
 -- ---- by parts
 
--- parts that all have bytes
 abbrev pub IsFilled : LinePart → Type 0
 IsFilled p = 0 < length p.bytes.now
 
 abbrev pub AreFilled : List LinePart → Type 0
 AreFilled parts = All IsFilled parts
 
--- Bytes are cut from slice k on, after those `before`; `now` has what is cut of them, `rest` is still to be cut, and the last slice
--- lacks `more` bytes. With whatever bytes come after them, the whole is the same.
+-- Bytes after `before` are cut from slice k on: `now` is cut, `rest` is not yet, the last slice lacks `more`. Any bytes may come after.
 pub record CutOn (size : ℕ → ℕ) (k left : ℕ) (before bytes : List LineByte) (sizes : Sizes) (more : ℕ) (now rest : List LineByte) : Type 0 where
   pub number : ℕ
   pub gives : GivesSizes sizes size number

@@ -9,6 +9,5 @@ slow_end limit delay (fin at) = fin (min (at + delay) limit)
 slow_end limit delay (close at) = close (min (at + delay) limit)
 slow_end limit delay (reset at) = reset at
 
--- a line that ends so
 abbrev pub slow_line : ℕ → ℕ → Line → Line
 slow_line limit delay f = record { bytes = f.bytes; end = slow_end limit delay f.end }

@@ -24,7 +24,6 @@ pub record RatedKind : Type 0 where
   pub kind : Kind
   pub ppm : ℕ
 
--- whether the attributes of a kind are in range
 abbrev pub fits : Kind → Bool
 fits (Latency latency jitter) = nat_le latency greatest_attribute && nat_le jitter greatest_attribute
 fits (Bandwidth rate) = nat_lt 0 rate && nat_le rate greatest_rate
@@ -53,11 +52,11 @@ made_toxic kind ppm = if is_in_range (record { kind = kind; ppm = ppm }) then So
 abbrev pub applies : RatedKind → Key → Bool
 applies toxic key = nat_lt (word_of key 0 % million) toxic.ppm
 
--- some milliseconds after the opening
+-- `time` milliseconds after the opening
 abbrev pub after : ℕ → ℕ → ℕ → ℕ
 after ticks opened time = instant ticks (opened + millisecond ticks * time)
 
--- what a kind of toxic makes of a line that was opened at an instant, with random words
+-- what a kind of toxic makes of a line of a connection opened at `opened`, with random words
 abbrev pub effect : ℕ → (ℕ → ℕ) → ℕ → Kind → Line → Line
 effect ticks random opened (Latency latency jitter) f = late_line ticks random latency jitter f
 effect ticks random opened (Bandwidth rate) f = rated_line ticks rate f

@@ -15,11 +15,10 @@ use pcap_records::{Moment, Unit};
 use reassembly::{Line, LinePart};
 use std::alloc::{AllocError, Global};
 
-/// How many milliseconds a slice takes.
+/// The milliseconds that a slice takes.
 const SLICE: u64 = 100;
 
-/// A line under a bandwidth of `rate` KB a second, of 1000 bytes each, which are as many bytes a millisecond: each chunk in slices of what passes in 100
-/// milliseconds, each of which leaves when its last byte has passed. The slices share the bytes.
+/// Chunks leave in slices of what passes in 100 milliseconds. A KB has 1000 bytes, so that `rate` is also in bytes a millisecond.
 pub(crate) fn run_bandwidth<'a>(
     alloc: Global,
     line: Line<'a>,
@@ -40,7 +39,6 @@ pub(crate) fn run_bandwidth<'a>(
     Ok(finished(unit, slices, &end))
 }
 
-// Moves chunks, in place, to the instants at which their last bytes have passed.
 fn pass_chunks(parts: &mut [LinePart<'_>], unit: Unit, rate: u64)
     requires some { 0 < rate }
     requires rate { rate ≤ greatest_rate }
@@ -54,8 +52,7 @@ fn pass_chunks(parts: &mut [LinePart<'_>], unit: Unit, rate: u64)
     settle_chunks(parts);
 }
 
-// Moves each part, in place, to the instant at which its last byte has passed. What the wire has to do is counted in
-// units of 1/rate tick, so that nothing is rounded on the way.
+// Moves each part to when its last byte has passed. Work is counted in units of 1/rate tick, so that nothing is rounded on the way.
 fn charge_parts(parts: &mut [LinePart<'_>], unit: Unit, rate: u64)
     requires some { 0 < rate }
     requires rate { rate ≤ greatest_rate }
@@ -73,7 +70,7 @@ fn charge_parts(parts: &mut [LinePart<'_>], unit: Unit, rate: u64)
     }
 }
 
-// The first instant at which so much is done, in units of 1/rate tick.
+// The first instant at which `busy` units of 1/rate tick are done.
 fn done_at(busy: u128, rate: u128, unit: Unit) -> Moment
     requires some { 0 < rate }
     requires fits { busy + rate < 2 ^ 128 }
@@ -83,7 +80,6 @@ fn done_at(busy: u128, rate: u128, unit: Unit) -> Moment
     Moment::of(ticks.min(u128::from(unit.horizon())) as u64, unit)
 }
 
-// Moves the parts of each chunk, in place, to the instant of its last one.
 fn settle_chunks(parts: &mut [LinePart<'_>])
     ensures { parts.new ≡ settled_parts parts.old }
 {

@@ -41,13 +41,9 @@ pub struct MetProxy<'p> {
     pub down: &'p [Toxic],
 }
 
-/// What is delivered of a connection by the proxy that it meets: each recorded line through the toxics of its
-/// direction, and then both under the session cut; the recorded lines, cut, where none is met. A disabled proxy refuses
-/// the connection, and both lines are empty. Random words are drawn by the seed and the numbers of the scenario and the
-/// connection. The parts' bytes are slices of those that were recorded.
-///
-/// # Errors
-/// A growth was refused.
+/// What is delivered of a connection: each recorded line through the toxics of its direction, and then both under the session cut.
+/// If no proxy is met, the recorded lines are only cut. A disabled proxy refuses the connection: both lines are empty.
+/// Random words are drawn by the seed and the numbers of scenario and connection. The bytes are slices of the recorded ones.
 #[tactic(auto, unfolding(crate::specs::DeliveredLines::delivered_connection))]
 pub fn delivered_by<'a>(
     alloc: Global,
@@ -80,7 +76,6 @@ pub fn delivered_by<'a>(
     }
 }
 
-// What is delivered of a connection that a disabled proxy refuses.
 fn refused<'a>(alloc: Global, unit: Unit, number: u32) -> Delivered<'a>
     ensures value { delivered_view result ≡ refused_connection number }
     ensures up { IsLine result.up.line }
@@ -96,7 +91,6 @@ fn refused<'a>(alloc: Global, unit: Unit, number: u32) -> Delivered<'a>
     }
 }
 
-// What is delivered of a connection by the toxics of a proxy.
 fn lines_through<'a>(
     alloc: Global,
     recorded: &Recorded<'a>,

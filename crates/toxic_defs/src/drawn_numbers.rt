@@ -6,8 +6,7 @@ ghost use Rattle.toxic_defs.specs.declared.words.Key.{Key as KeyOf};
 
 use crate::words::{Draws, Key};
 
-/// Numbers from 0 to twice a spread, by the words of a key in turn from word 1 on. Without a spread each is 0, and no
-/// word is drawn.
+/// Numbers from 0 to twice a spread, by the words of a key from word 1 on. Without a spread each is 0, and no word is drawn.
 #[derive(Drop)]
 pub(crate) struct Spread {
     draws: Option<Draws>,
@@ -15,7 +14,6 @@ pub(crate) struct Spread {
 }
 
 impl Spread {
-    /// The numbers of a key.
     pub(crate) fn of(key: Key, spread: u64) -> Spread
         ensures next { GivesNext result key spread 1 }
         ensures spread { result.spread ≡ spread }
@@ -29,7 +27,6 @@ impl Spread {
         }
     }
 
-    /// No numbers but 0.
     pub(crate) fn none() -> Spread
         ensures next { (key : KeyOf) (k : ℕ) → GivesNext result key 0 k }
         ensures spread { result.spread ≡ 0 }

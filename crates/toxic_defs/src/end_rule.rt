@@ -8,7 +8,7 @@ ghost use Rattle.toxic_defs.specs.EndRule.{ended, not_before};
 use pcap_records::{Moment, Unit};
 use reassembly::{End, Line, LinePart};
 
-/// The line of these parts in a unit, its end moved to the last byte's instant where it is before it.
+/// The line of these parts; an end before the last byte moves to that byte's instant.
 pub(crate) fn finished<'a>(unit: Unit, parts: Vec<LinePart<'a>>, end: &End) -> Line<'a>
     ensures line { result.line
         ≡ ended (record { bytes = bytes_of_parts parts.entry.items; end = end_view end.now }) }
@@ -18,7 +18,7 @@ pub(crate) fn finished<'a>(unit: Unit, parts: Vec<LinePart<'a>>, end: &End) -> L
     Line::of_parts(unit, parts, not_before(last, end))
 }
 
-// The instant of the last byte, or 0 where there is none. Parts without bytes are passed from the back.
+// The instant of the last byte, or 0 without bytes. It goes from the back, past parts without bytes.
 fn last_instant(parts: &[LinePart<'_>]) -> Moment
     ensures { result ≡ last_instant 0 (bytes_of_parts parts.now) }
 {
@@ -33,7 +33,6 @@ fn last_instant(parts: &[LinePart<'_>]) -> Moment
     Moment::first()
 }
 
-// An end that is not before an instant: one before it moves to it.
 fn not_before(at: Moment, end: &End) -> End
     ensures { end_view result ≡ not_before at (end_view end.now) }
 {

@@ -4,11 +4,10 @@ ghost use Rattle.toxic_defs.specs.Toxics.{fits};
 
 use crate::limits::{GREATEST_ATTRIBUTE, GREATEST_LIMIT, GREATEST_RATE};
 
-/// What a toxic does, and its attributes: numbers of any size, of which [`fits`](Kind::fits) tells whether they are in
-/// range.
+/// What a toxic does, and its attributes: numbers of any size. [`fits`](Kind::fits) says whether they are in range.
 #[derive(Clone, Copy, Debug, PartialEq, Eq)]
 pub enum Kind {
-    /// Delays each chunk by `latency` milliseconds, more or less by a random number up to `jitter`.
+    /// Delays each chunk by `latency` milliseconds, plus or minus a random number up to `jitter`.
     Latency {
         latency: u64,
         jitter: u64,
@@ -21,7 +20,7 @@ pub enum Kind {
     SlowClose {
         delay: u64,
     },
-    /// Lets nothing through, and closes `timeout` milliseconds after the opening; never where that is 0.
+    /// Lets nothing through, and closes `timeout` milliseconds after the opening, or never if that is 0.
     Timeout {
         timeout: u64,
     },
@@ -29,22 +28,20 @@ pub enum Kind {
     ResetPeer {
         timeout: u64,
     },
-    /// Cuts chunks into slices of `average_size` bytes, more or less by a random number up to `size_variation`, that
-    /// leave `delay` microseconds apart.
+    /// Cuts chunks into slices of `average_size` bytes, plus or minus a random number up to `size_variation`, sent `delay` microseconds apart.
     Slicer {
         average_size: u64,
         size_variation: u64,
         delay: u64,
     },
-    /// Closes where more than `bytes` bytes come.
+    /// Closes if more than `bytes` bytes come.
     LimitData {
         bytes: u64,
     },
 }
 
 impl Kind {
-    /// Whether each attribute is in its range: `rate` 1 to 10^6, `average_size` 1 to 10^9 and `size_variation` below
-    /// it, `bytes` 0 to 10^12, and all others 0 to 10^9.
+    /// Whether all are in range: `rate` 1 to 10^6, `average_size` 1 to 10^9, `size_variation` below it, `bytes` 0 to 10^12, others 0 to 10^9.
     pub fn fits(&self) -> bool
         ensures { result ≡ fits self.now }
     {

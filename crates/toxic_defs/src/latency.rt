@@ -13,8 +13,7 @@ use crate::words::Key;
 use pcap_records::{Moment, Unit};
 use reassembly::{Line, LinePart};
 
-/// A line under latency: each chunk comes `latency` milliseconds later, more or less by a number up to `jitter` that is
-/// drawn for it, and never before an earlier chunk. It takes no memory.
+/// Each chunk comes `latency` milliseconds later, plus or minus a drawn number up to `jitter`, and never before an earlier chunk.
 pub(crate) fn run_latency<'a>(line: Line<'a>, key: Key, latency: u64, jitter: u64) -> Line<'a>
     requires latency { latency ≤ greatest_attribute }
     requires jitter { jitter ≤ greatest_attribute }

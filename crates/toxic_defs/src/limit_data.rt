@@ -8,8 +8,7 @@ use crate::end_rule::finished;
 use pcap_records::Moment;
 use reassembly::{End, Line, LinePart};
 
-/// The first bytes of a line: one with more than `most` is closed when the next one would have come. It takes no
-/// memory.
+/// The first bytes of a line; one with more than `most` is closed when the next one would have come.
 pub(crate) fn run_limit_data<'a>(line: Line<'a>, most: u64) -> Line<'a>
     ensures line { result.line ≡ ended (limited most line.entry.line) }
     ensures ticks { result.ticks ≡ line.entry.ticks }
@@ -21,7 +20,7 @@ pub(crate) fn run_limit_data<'a>(line: Line<'a>, most: u64) -> Line<'a>
     finished(unit, parts, &limited_end(next, &end))
 }
 
-// Keeps the first bytes, and tells when the next one would have come.
+// Keeps the first bytes, and returns when the next one would have come.
 fn keep_bytes(parts: &mut Vec<LinePart<'_>>, most: u64) -> Option<Moment>
     ensures bytes { bytes_of_parts parts.new.items ≡ take most (bytes_of_parts parts.old.items) }
     ensures next { result ≡ next_instant most (bytes_of_parts parts.old.items) }
@@ -41,7 +40,6 @@ fn keep_bytes(parts: &mut Vec<LinePart<'_>>, most: u64) -> Option<Moment>
     None
 }
 
-// The end of a line whose next byte would have come at an instant: a close then.
 fn limited_end(next: Option<Moment>, end: &End) -> End
     ensures { end_view result ≡ limited_end next (end_view end.now) }
 {

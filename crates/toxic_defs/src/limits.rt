@@ -9,5 +9,5 @@ pub(crate) const GREATEST_RATE: u64 = 1_000_000;
 /// The greatest limit of bytes.
 pub(crate) const GREATEST_LIMIT: u64 = 1_000_000_000_000;
 
-/// The greatest `ppm`: of each million connections a toxic applies to all.
+/// The greatest `ppm`: a toxic with it applies to every connection.
 pub(crate) const MILLION: u64 = 1_000_000;

@@ -10,7 +10,7 @@ use crate::session_cut::kept_parts;
 use pcap_records::Moment;
 use reassembly::{End, Line};
 
-/// A line that is reset at an instant, unless it ended before: bytes from then on are lost. It takes no memory.
+/// A line that is reset at an instant, unless it ended before; the bytes from then on are lost.
 pub(crate) fn run_reset_peer<'a>(line: Line<'a>, at: Moment) -> Line<'a>
     requires { IsLine line.line }
     ensures line { result.line ≡ ended (reset_at at line.entry.line) }
@@ -24,7 +24,6 @@ pub(crate) fn run_reset_peer<'a>(line: Line<'a>, at: Moment) -> Line<'a>
     finished(unit, parts, &reset_end(at, &end))
 }
 
-// An end before an instant, or else a reset at it.
 fn reset_end(at: Moment, end: &End) -> End
     ensures { end_view result ≡ (reset_at at (record { bytes = []; end = end_view end.now })).end }
 {

@@ -20,11 +20,7 @@ use pcap_records::Moment;
 use reassembly::Line;
 use std::alloc::{AllocError, Global};
 
-/// What the toxics of a direction make of a line of a connection that was opened at an instant, each of the line that
-/// the one before gave. Toxic `t` draws the words of the key with that number.
-///
-/// # Errors
-/// A growth was refused.
+/// What the toxics of a direction make of a line, each of what the one before gave. Toxic `t` draws the words of the key with that number.
 pub fn chain<'a>(
     alloc: Global,
     toxics: &[Toxic],
@@ -56,11 +52,7 @@ pub fn chain<'a>(
     Ok(line)
 }
 
-/// What a toxic makes of a line of a connection that was opened at an instant. One that does not apply leaves it as it
-/// is.
-///
-/// # Errors
-/// A growth was refused.
+/// What a toxic makes of a line. A toxic that does not apply leaves it as it is.
 pub fn run<'a>(
     alloc: Global,
     toxic: &Toxic,
@@ -82,7 +74,6 @@ pub fn run<'a>(
     }
 }
 
-// What a kind of toxic makes of a line.
 fn effect<'a>(
     alloc: Global,
     kind: Kind,

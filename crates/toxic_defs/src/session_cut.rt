@@ -15,8 +15,8 @@ struct Closing {
     end: End,
 }
 
-/// Two lines of a connection, with instants in one unit, under the session cut: the first close or reset of either ends both, so that bytes after
-/// it are lost and an end after it becomes that one. Nothing is delivered at the horizon. It takes no memory.
+/// Two lines of a connection under the session cut: the first close or reset of either ends both. Later bytes are lost,
+/// and a later end becomes that one. Nothing is delivered at the horizon.
 pub fn cut_both<'a>(up: Line<'a>, down: Line<'a>) -> (Line<'a>, Line<'a>)
     requires up { IsLine up.line }
     requires down { IsLine down.line }
@@ -32,7 +32,6 @@ pub fn cut_both<'a>(up: Line<'a>, down: Line<'a>) -> (Line<'a>, Line<'a>)
     (up, down)
 }
 
-// A line that is cut at a closing, and at the horizon.
 fn cut_at<'a>(closing: &Option<Closing>, line: Line<'a>) -> Line<'a>
     requires { IsLine line.line }
     ensures line { result.line
@@ -51,7 +50,6 @@ fn cut_at<'a>(closing: &Option<Closing>, line: Line<'a>) -> Line<'a>
     )
 }
 
-// An end that is a close or a reset.
 fn closing_end(end: &End) -> Option<Closing>
     ensures { option_map closing_view result ≡ closing_end (end_view end.now) }
 {
@@ -61,7 +59,7 @@ fn closing_end(end: &End) -> Option<Closing>
     }
 }
 
-// The first close or reset of two ends, the first one's where both close at one instant.
+// The first close or reset of two ends; if both are at one instant, that of `up`.
 fn first_closing(up: &End, down: &End) -> Option<Closing>
     ensures { option_map closing_view result
         ≡ first_closing (closing_end (end_view up.now)) (closing_end (end_view down.now)) }
@@ -75,7 +73,6 @@ fn first_closing(up: &End, down: &End) -> Option<Closing>
     }
 }
 
-// The end of a line that is cut at a closing: an end after it becomes the closing one.
 fn end_up_to(closing: &Option<Closing>, end: &End) -> End
     ensures { end_view result
         ≡ (line_up_to (option_map closing_view closing.now) (record { bytes = []; end = end_view end.now })).end }
@@ -86,14 +83,13 @@ fn end_up_to(closing: &Option<Closing>, end: &End) -> End
     }
 }
 
-// Whether an end comes after an instant, as one that never comes does.
+// Whether an end comes after an instant; this holds of an end that never comes.
 fn is_after(at: Moment, end: &End) -> bool
     ensures { result ≡ is_after at (end_view end.now) }
 {
     end.at().is_none_or(|own| at.is_before(own))
 }
 
-// An end before the horizon; one at the horizon never comes.
 fn end_before_horizon(end: &End, unit: Unit) -> End
     ensures { end_view result
         ≡ (line_before (horizon (ticks_of unit)) (record { bytes = []; end = end_view end.now })).end }
@@ -114,8 +110,7 @@ fn cut_instant(closing: &Option<Closing>, unit: Unit) -> Moment
     }
 }
 
-/// How many parts of a line there are up to the last with a byte before an instant. The parts after it are passed from
-/// the back.
+/// The number of parts up to the last one with a byte before an instant. It goes from the back.
 pub(crate) fn kept_parts(parts: &[LinePart<'_>], limit: Moment) -> usize
     requires { IsInChunks (bytes_of_parts parts.now) }
     ensures { bytes_of_parts (take result parts.now)
@@ -128,7 +123,6 @@ pub(crate) fn kept_parts(parts: &[LinePart<'_>], limit: Moment) -> usize
     kept
 }
 
-// Whether a part has a byte before an instant.
 fn has_byte_before(part: &LinePart<'_>, limit: Moment) -> bool
     ensures { result ≡ (nat_lt 0 (length part.now.bytes.now) && nat_lt part.now.at limit) }
 {

@@ -16,8 +16,7 @@ use pcap_records::{Moment, Unit};
 use reassembly::{Line, LinePart};
 use std::alloc::{AllocError, Global};
 
-/// A line under a slicer: each chunk in slices of `average_size` bytes, more or less by a number up to `size_variation`
-/// that is drawn for each, which leave `delay` microseconds after one another. The slices share the bytes.
+/// Each chunk becomes slices of `average_size` bytes, plus or minus a drawn number up to `size_variation`, `delay` microseconds apart.
 pub(crate) fn run_slicer<'a>(
     alloc: Global,
     line: Line<'a>,
@@ -42,7 +41,7 @@ pub(crate) fn run_slicer<'a>(
     Ok(finished(unit, slices, &end))
 }
 
-// Moves chunks, in place, to instants of which each is a gap after the one before.
+// Moves the chunks in place: each leaves `gap` after the one before, or at its own instant if that is later.
 fn pace_chunks(parts: &mut [LinePart<'_>], unit: Unit, gap: u64)
     requires { AreFilled parts.old }
     ensures { bytes_of_parts parts.new ≡ moved (slicer_leaves (horizon (ticks_of unit)) gap) (bytes_of_parts parts.old) }

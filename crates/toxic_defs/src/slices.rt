@@ -12,8 +12,7 @@ use reassembly::LinePart;
 use std::alloc::{AllocError, Global};
 use std::slice;
 
-/// How many bytes the slices of a line have, one after another: a least number, and a number that is drawn for each
-/// above it.
+/// The sizes of a line's slices, one after another: a least one, and a number above it that is drawn for each.
 #[derive(Drop)]
 pub(crate) struct Sizes {
     least: usize,
@@ -21,7 +20,6 @@ pub(crate) struct Sizes {
 }
 
 impl Sizes {
-    /// All have one size.
     pub(crate) fn same(size: usize) -> Sizes
         requires some { 0 < size }
         requires small { size ≤ greatest_attribute }
@@ -34,7 +32,6 @@ impl Sizes {
         }
     }
 
-    /// Drawn sizes, about an average.
     pub(crate) fn drawn(key: Key, average: u64, variation: u64) -> Sizes
         requires some { variation < average }
         requires small { average ≤ greatest_attribute }
@@ -58,8 +55,7 @@ impl Sizes {
     }
 }
 
-/// The parts of a line with its chunks cut into slices: each starts a chunk, and has the next size or what is left of
-/// its chunk. The slices share the bytes.
+/// The parts of a line with its chunks cut into slices. Each slice starts a chunk, and has the next size or the rest of its chunk.
 pub(crate) fn slice_parts<'a>(
     alloc: Global,
     parts: &[LinePart<'a>],
@@ -79,8 +75,7 @@ pub(crate) fn slice_parts<'a>(
     Ok(slices)
 }
 
-// Cuts a part, of which the first `left` bytes may go on with the slice before, and tells how many bytes the last slice
-// lacks.
+// Cuts a part, whose first `left` bytes may go on with the slice before, and returns how many bytes the last slice lacks.
 fn slice_part<'a>(
     slices: &mut Vec<LinePart<'a>>,
     part: &LinePart<'a>,

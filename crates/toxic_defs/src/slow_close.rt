@@ -9,7 +9,7 @@ use crate::end_rule::finished;
 use pcap_records::Unit;
 use reassembly::{End, Line};
 
-/// A line whose FIN or close comes some ticks later. It takes no memory.
+/// A line whose FIN or close comes `delay` ticks later.
 pub(crate) fn run_slow_close<'a>(line: Line<'a>, delay: u64) -> Line<'a>
     ensures line { result.line ≡ ended (slow_line (horizon line.entry.ticks) delay line.entry.line) }
     ensures ticks { result.ticks ≡ line.entry.ticks }
@@ -19,7 +19,6 @@ pub(crate) fn run_slow_close<'a>(line: Line<'a>, delay: u64) -> Line<'a>
     finished(unit, line.into_parts(), &slow_end(&end, delay, unit))
 }
 
-// A FIN or a close that comes later, at the horizon at most; a reset comes when it came.
 fn slow_end(end: &End, delay: u64, unit: Unit) -> End
     ensures { end_view result ≡ slow_end (horizon (ticks_of unit)) delay (end_view end.now) }
 {

@@ -8,8 +8,7 @@ use crate::end_rule::finished;
 use pcap_records::Moment;
 use reassembly::{End, Line};
 
-/// A line without its bytes, closed at an instant; it is never closed where the time until then is 0. It takes no
-/// memory.
+/// A line without its bytes that is closed at an instant, or never if `time` is 0.
 pub(crate) fn run_timeout<'a>(line: Line<'a>, time: u64, at: Moment) -> Line<'a>
     ensures line { result.line ≡ ended (timed_out time at) }
     ensures ticks { result.ticks ≡ line.entry.ticks }
@@ -20,7 +19,6 @@ pub(crate) fn run_timeout<'a>(line: Line<'a>, time: u64, at: Moment) -> Line<'a>
     finished(unit, parts, &end_after(time, at))
 }
 
-// No end after the time 0, else a close at the instant.
 fn end_after(time: u64, at: Moment) -> End
     ensures { end_view result ≡ end_after time at }
 {

@@ -7,7 +7,7 @@ use crate::limits::MILLION;
 use crate::words::{Key, word};
 use std::marker::Model;
 
-/// A toxic whose attributes are in range, and how many of a million connections it applies to.
+/// A toxic whose attributes are in range, and to how many of a million connections it applies.
 #[derive(Clone, Copy, Debug, PartialEq, Eq)]
 pub struct Toxic {
     kind: Kind,
@@ -27,7 +27,7 @@ impl Model for Toxic {
 }
 
 impl Toxic {
-    /// The toxic, or `None` exactly where an attribute is out of range or `ppm` is over a million.
+    /// The toxic, or `None` exactly if an attribute is out of range or `ppm` is over a million.
     pub fn new(kind: Kind, ppm: u64) -> Option<Toxic>
         ensures { result ≡ made_toxic kind ppm }
     {
@@ -46,7 +46,7 @@ impl Toxic {
         self.kind
     }
 
-    /// How many of a million connections it applies to.
+    /// To how many of a million connections it applies.
     pub fn ppm(&self) -> u64
         ensures { result ≡ self.now.ppm }
     {
@@ -54,7 +54,7 @@ impl Toxic {
     }
 }
 
-/// Whether a toxic applies to a connection: where word 0 of its key, of a million, is below its `ppm`.
+/// Whether a toxic applies to a connection: word 0 of its key, modulo a million, is below its `ppm`.
 pub fn applies(toxic: &Toxic, key: Key) -> bool
     ensures { result ≡ applies toxic.now key }
 {

@@ -6,7 +6,7 @@ ghost use Rattle.toxic_defs.specs.declared.words.Key.{Key as KeyOf};
 use rand_core::utils::NextWord;
 use rand_pcg::Lcg64Xsh32;
 
-/// What the random words of a toxic are drawn by.
+/// What decides the random words of a toxic.
 #[derive(Clone, Copy, Debug, PartialEq, Eq)]
 pub struct Key {
     /// The seed of the run.
@@ -21,7 +21,6 @@ pub struct Key {
     pub t: u8,
 }
 
-/// The direction of a line.
 #[derive(Clone, Copy)]
 pub(crate) enum Direction {
     /// From the client to the server.
@@ -34,7 +33,6 @@ impl Direction {
     ghost use Rattle.std.specs.Prelude.{◌≡◌};
     ghost use Rattle.toxic_defs.specs.RandomWords.{direction_number};
 
-    /// Its number in a key.
     pub(crate) fn number(self) -> u8
         ensures { result ≡ direction_number self }
     {
@@ -45,7 +43,7 @@ impl Direction {
     }
 }
 
-/// Word `k` of a key, counted from 0: the same whatever else is drawn, and in whatever order.
+/// Word `k` of a key, counted from 0: the same whatever else is drawn, and in any order.
 pub fn word(key: Key, k: u32) -> u32
     ensures { result ≡ word_of key k }
 {
@@ -53,7 +51,6 @@ pub fn word(key: Key, k: u32) -> u32
     words.next_word()
 }
 
-// The generator of a key that gives word `k` next.
 fn generator(key: &Key, k: u64) -> Lcg64Xsh32
     ensures { StandsAt result key.now k }
 {
@@ -62,7 +59,6 @@ fn generator(key: &Key, k: u64) -> Lcg64Xsh32
     words
 }
 
-// The stream of a key: scenario, connection, direction and toxic.
 fn stream(key: &Key) -> u64
     ensures stream { result ≡ stream_of key.now }
     ensures small { result < 2 ^ 63 }
@@ -77,7 +73,6 @@ pub(crate) struct Draws {
 }
 
 impl Draws {
-    /// Draws of which the first is word 1.
     pub(crate) fn of(key: Key) -> Draws
         ensures { StandsAt result.words key 1 }
     {

@@ -9,7 +9,6 @@ use Rattle.run_files.specs.declared.outputs.Output.{Output}
 use Rattle.toxicap_c.specs.Buffers.{laid_over}
 use Rattle.toxicap_c.specs.declared.sizes.ToxicapSizes.{ToxicapSizes}
 
--- one part more
 laid_more : (done items old : List ℕ) (at : ℕ) → at ≡ length done
     → take at (laid_over done old) ++ (items ++ drop (at + length items) (laid_over done old)) ≡ laid_over (done ++ items) old
 laid_more done items old at is =
@@ -20,7 +19,6 @@ laid_more done items old at is =
     ∙ sym (append_assoc done items (drop (length done + length items) old))
     ∙ ap (λ n. (done ++ items) ++ drop n old) (sym (length-append done items))
 
--- the part of one output more
 part_more : (part : Output → List ℕ) (outputs : List Output) (i : ℕ) (d : Output) → i < length outputs
     → flat_map part (take (i + 1) outputs) ≡ flat_map part (take i outputs) ++ part (get_or outputs i d)
 part_more part outputs i d within =
@@ -28,20 +26,17 @@ part_more part outputs i d within =
     ∙ flat_map-append part (take i outputs) (get_or outputs i d ∷ [])
     ∙ ap (λ (more : List ℕ). flat_map part (take i outputs) ++ more) (append-nil (part (get_or outputs i d)))
 
--- there is room for it
 pub part_fits : (part : Output → List ℕ) (outputs : List Output) (i at n room : ℕ) (d : Output) → i < length outputs
     → at ≡ length (flat_map part (take i outputs)) → n ≡ length (part (get_or outputs i d)) → length (flat_map part outputs) ≤ room
     → at + n ≤ room
 part_fits part outputs i at n room d within is len all = omega (arith, is, len, all, length-flat_map-take part outputs i d within)
 
--- its place ends where it is put
 pub ends_at : (part : Output → List ℕ) (outputs : List Output) (i at n : ℕ) (d : Output) → i < length outputs
     → at ≡ length (flat_map part (take i outputs)) → n ≡ length (part (get_or outputs i d))
     → at + n ≡ length (flat_map part (take (i + 1) outputs))
 ends_at part outputs i at n d within is len =
     omega (arith, is, len, ap length (part_more part outputs i d within), length-append (flat_map part (take i outputs)) (part (get_or outputs i d)))
 
--- and it is laid over the buffer
 pub part_laid : (part : Output → List ℕ) (outputs : List Output) (i at : ℕ) (d : Output) (items before now old : List ℕ) → i < length outputs
     → at ≡ length (flat_map part (take i outputs)) → items ≡ part (get_or outputs i d)
     → before ≡ laid_over (flat_map part (take i outputs)) old → now ≡ take at before ++ (items ++ drop (at + length items) before)
@@ -52,8 +47,6 @@ part_laid part outputs i at d items before now old within is own was made =
     ∙ laid_more done items old at is
     ∙ ap (λ (more : List ℕ). laid_over (done ++ more) old) own
     ∙ ap (λ (all : List ℕ). laid_over all old) (sym (part_more part outputs i d within))
-
--- ---- sizes
 
 abbrev sizes : ℕ → ℕ → ℕ → ToxicapSizes
 sizes captures reports lens = record { captures = captures; reports = reports; lens = lens }

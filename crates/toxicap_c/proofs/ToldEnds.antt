@@ -1,4 +1,4 @@
--- How a call ends that tells a refusal.
+-- How a call ends that puts a refusal.
 use Rattle.std.proofs.Common.{◌≡◌, ℕ, List, Option, Some, None, Result, Err, refl, ap, inr}
 use Rattle.std.specs.Prelude.{IfSome}
 use Rattle.run_files.specs.declared.error.RunFault.{RunFault}
@@ -9,7 +9,6 @@ use Rattle.toxicap_c.specs.declared.statuses.Status.TheVariants.{Answered, Refus
 use Rattle.toxicap_c.specs.Buffers.{Buffers, put_of_fault}
 use Rattle.toxicap_c.specs.Calls.{Ends, IsTold, EndsByFault, reports_put}
 
--- a refusal of reports is one of what is to be put
 pub reports_told : (fault : RunFault) (asked : Result (List ℕ) RunFault) → IfSome (run_refusal fault) (λ refused. asked ≡ Err refused) → IsTold fault (reports_put asked)
 reports_told fault asked is = by (run_refusal fault) is
   where

@@ -1,4 +1,4 @@
--- The three buffers of a caller, what is put into them, and how much of each it takes.
+-- The three buffers of a caller, what is put into them, and how much of each that takes.
 use Rattle.std.specs.Prelude.{◌≡◌, ℕ, ◌<◌, ◌⊎◌, Bool, true, false, List, [], ◌∷◌, ◌++◌, length, drop}
 use Rattle.std.specs.List.{flat_map}
 use Rattle.run_files.specs.declared.error.RunFault.{RunFault}
@@ -7,7 +7,7 @@ use Rattle.run_files.specs.RunFault.{fault_text}
 use Rattle.run_files.specs.WrittenOutputs.{reports_of}
 use Rattle.toxicap_c.specs.declared.sizes.ToxicapSizes.{ToxicapSizes}
 
--- what stands in them: bytes of captures, bytes of reports, lengths of both
+-- bytes of captures, bytes of reports, lengths of both
 pub record Buffers : Type 0 where
   pub captures : List ℕ
   pub reports : List ℕ
@@ -16,9 +16,6 @@ pub record Buffers : Type 0 where
 abbrev pub buffers : List ℕ → List ℕ → List ℕ → Buffers
 buffers captures reports lens = record { captures = captures; reports = reports; lens = lens }
 
--- ---- what is put into them
-
--- the captures of outputs, one after another
 abbrev pub captures_of : List Output → List ℕ
 captures_of outputs = flat_map (λ o. o.capture) outputs
 
@@ -26,7 +23,6 @@ captures_of outputs = flat_map (λ o. o.capture) outputs
 abbrev pub lens_of : List Output → List ℕ
 lens_of outputs = flat_map (λ o. length o.capture ∷ length o.report ∷ []) outputs
 
--- what is put of outputs, of reports alone, and of a refusal
 abbrev pub put_of : List Output → Buffers
 put_of outputs = buffers (captures_of outputs) (reports_of outputs) (lens_of outputs)
 
@@ -36,9 +32,6 @@ put_of_reports reports = buffers [] reports []
 abbrev pub put_of_fault : RunFault → Buffers
 put_of_fault fault = buffers [] (fault_text fault) []
 
--- ---- how it is put
-
--- how much of each buffer it takes
 abbrev pub sizes_of : Buffers → ToxicapSizes
 sizes_of put = record { captures = length put.captures; reports = length put.reports; lens = length put.lens }
 
@@ -53,13 +46,12 @@ abbrev pub all_laid_over : Buffers → Buffers → Buffers
 all_laid_over put old =
     buffers (laid_over put.captures old.captures) (laid_over put.reports old.reports) (laid_over put.lens old.lens)
 
--- it takes more than there is of one of them at least
+-- it takes more than at least one of them has
 abbrev pub IsOver : Buffers → Buffers → Type 0
 IsOver put old =
     (length old.captures < length put.captures) ⊎ ((length old.reports < length put.reports) ⊎ (length old.lens < length put.lens))
 
--- It was put over the first of the buffers, by the buffers before and after; or there is too little room for it, and they are as they
--- were. The sizes are its sizes.
+-- It is put over the first of the buffers, or it does not fit and they are as they were. The sizes are its own.
 abbrev pub Puts : Buffers → Bool → Buffers → Buffers → ToxicapSizes → Type 0
 Puts put true old new sizes = (new ≡ all_laid_over put old) × (sizes ≡ sizes_of put)
 Puts put false old new sizes = IsOver put old × (new ≡ old) × (sizes ≡ sizes_of put)

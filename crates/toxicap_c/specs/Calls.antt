@@ -13,17 +13,16 @@ use Rattle.toxicap_c.specs.declared.statuses.Status.TheVariants.{Answered, Refus
 use Rattle.toxicap_c.specs.Buffers.{Buffers, put_of, put_of_reports, put_of_fault, no_sizes, Puts}
 use Rattle.toxicap_c.specs.Statuses.{code_of}
 
--- texts that stand one after another, by their lengths: each is the next so many bytes, or those that are left
+-- texts one after another: each is the next `len` bytes, or those that are left
 abbrev pub texts_in : List ℕ → List ℕ → List (List ℕ)
 texts_in bytes [] = []
 texts_in bytes (len ∷ lens) = take len bytes ∷ texts_in (drop len bytes) lens
 
--- what is called for, or the first refusal: a host, or what the texts call for
+-- the outputs, or the first refusal: of the hosts, then of what the texts call for
 abbrev pub asked_for : List ℕ → List ℕ → List ℕ → List ℕ → ℕ → Result (List Output) RunFault
 asked_for capture scenarios lens hosts seed =
     and_then (hosts_from [] (host_lines hosts)) (λ known. called_for known (texts_in scenarios lens) seed capture)
 
--- what is to be put of it, where the whole answer is asked for, and where its reports are
 abbrev pub answer_put : Result (List Output) RunFault → Result Buffers RunFault
 answer_put (Ok outputs) = Ok (put_of outputs)
 answer_put (Err fault) = Err fault
@@ -32,29 +31,23 @@ abbrev pub reports_put : Result (List ℕ) RunFault → Result Buffers RunFault
 reports_put (Ok reports) = Ok (put_of_reports reports)
 reports_put (Err fault) = Err fault
 
--- ---- how a call ends
-
--- a refusal that is told: it was called for, or it is want of memory
+-- the refusal was called for, or memory ran out
 abbrev pub IsTold : RunFault → Result Buffers RunFault → Type 0
 IsTold fault wanted = IfSome (run_refusal fault) (λ refused. wanted ≡ Err refused)
 
--- it is what is to be put, or the line of a refusal that is told
 abbrev pub IsToPut : Buffers → Result Buffers RunFault → Type 0
 IsToPut put wanted = (wanted ≡ Ok put) ⊎ ((fault : RunFault) × IsTold fault wanted × (put ≡ put_of_fault fault))
 
--- How a call ends by what is to be put, the buffers before and after, and the sizes. Answered: it was put. Refused: the line of a
--- refusal was. Little room: there is too little for either. No memory: nothing was put, and the sizes are 0.
+-- Answered: `put` was put. Refused: a refusal's line was. Little room: that does not fit. No memory: nothing was put, and the sizes are 0.
 abbrev pub Ends : Result Buffers RunFault → Status → Buffers → Buffers → ToxicapSizes → Type 0
 Ends wanted Answered old new sizes = (put : Buffers) × (wanted ≡ Ok put) × Puts put true old new sizes
 Ends wanted Refused old new sizes = (fault : RunFault) × IsTold fault wanted × Puts (put_of_fault fault) true old new sizes
 Ends wanted LittleRoom old new sizes = (put : Buffers) × IsToPut put wanted × Puts put false old new sizes
 Ends wanted NoMemory old new sizes = (new ≡ old) × (sizes ≡ no_sizes)
 
--- the same by the number that it returns
 abbrev pub EndsWith : Result Buffers RunFault → ℕ → Buffers → Buffers → ToxicapSizes → Type 0
 EndsWith wanted code old new sizes = (status : Status) × (code ≡ code_of status) × Ends wanted status old new sizes
 
--- how it ends where a refusal is to be told
 abbrev pub EndsByFault : RunFault → Status → Buffers → Buffers → ToxicapSizes → Type 0
 EndsByFault fault Answered old new sizes = ⊥
 EndsByFault fault Refused old new sizes = Puts (put_of_fault fault) true old new sizes

@@ -1,5 +1,4 @@
-//! The calls that C makes. Where the header has a pointer and a length there is a slice here, and `alloc` is no argument of C's: Rattle's
-//! `extern "C"` passes them so.
+//! The calls that C makes. Rattle's `extern "C"` passes each slice as a pointer and a length, and leaves `alloc` out.
 ghost use Rattle.std.specs.Prelude.{[], List, ℕ};
 ghost use Rattle.toxicap.specs.PrintedReports.{reports_in};
 ghost use Rattle.toxicap_c.specs.Buffers.{buffers};
@@ -12,18 +11,14 @@ use crate::statuses::{Status, code_of};
 use run_files::{RunFault, fault_line};
 use std::alloc::Global;
 
-/// Rehearses the capture that a text holds under scenarios whose texts stand one after another in `scenarios`, of `scenario_lens` bytes
-/// each, and puts the outputs at the beginnings of the buffers: the captures one after another, the reports one after another, and for each
-/// scenario the length of its capture and then of its report. `hosts` has a line `NAME=ADDR` for each host that upstreams may name. What
-/// stands after them in the buffers stays.
-///
-/// It returns 0 where it answers; `sizes` says how much was put into each buffer, in bytes and in entries.
+/// Rehearses a capture under scenarios, whose texts of `scenario_lens` bytes follow one another. `hosts` has a line `NAME=ADDR` for each host.
+/// It puts the captures, the reports, and for each scenario the lengths of both, at the beginnings of the buffers. The rest of these stays.
+/// It returns 0 if it answers; `sizes` says how many bytes and entries it put.
 ///
 /// # Errors
-/// - 1 where something is refused, the hosts first and then as [`toxicap::answers_alone`] does, or memory was: the line of the refusal,
-///   without a line feed, stands in `reports`, and `sizes.reports` is its length;
-/// - 2 where the answer or that line wants more than one of the buffers has: `sizes` says what it wants, and the buffers are as they were;
-/// - 3 where there was no memory even for that line: the sizes are 0, and the buffers are as they were.
+/// - 1: refused (hosts first, then as [`toxicap::answers_alone`] does) or out of memory. The line that says so, without LF, is in `reports`.
+/// - 2: a buffer is too small for the answer or for that line; `sizes` says what is needed, and the buffers are as they were.
+/// - 3: out of memory even for that line; the sizes are 0, and the buffers are as they were.
 #[unsafe(no_mangle)]
 pub extern "C" fn toxicap_rehearse(
     alloc: Global,
@@ -50,12 +45,7 @@ pub extern "C" fn toxicap_rehearse(
     code_of(hand_out(alloc, parameters, captures, reports, lens, sizes))
 }
 
-/// The reports that [`toxicap_rehearse`] puts, one after another at the beginning of `reports`. No segment is written.
-///
-/// It returns 0 where it answers; `sizes.reports` says how much was put, and the other sizes are 0.
-///
-/// # Errors
-/// Those of [`toxicap_rehearse`].
+/// Puts only the reports of [`toxicap_rehearse`], and returns as that does. No segment is written; the other sizes are 0.
 #[unsafe(no_mangle)]
 pub extern "C" fn toxicap_reports(
     alloc: Global,
@@ -80,7 +70,6 @@ pub extern "C" fn toxicap_reports(
     code_of(hand_out_reports(alloc, parameters, reports, sizes))
 }
 
-// Puts what the parameters call for.
 fn hand_out(
     alloc: Global,
     parameters: Parameters<'_>,
@@ -104,7 +93,6 @@ fn hand_out(
     }
 }
 
-// Puts the reports that the parameters call for.
 fn hand_out_reports(
     alloc: Global,
     parameters: Parameters<'_>,

@@ -6,7 +6,7 @@ ghost use Rattle.toxicap_c.specs.Buffers.{Puts, buffers, captures_of, laid_over,
 use crate::sizes::{ToxicapSizes, no_sizes, sizes_of_text};
 use run_files::Output;
 
-/// Puts a text over the first bytes of a buffer, if there is room for it, and answers whether there is.
+/// Puts a text over the first bytes of a buffer if it fits, and returns whether it does.
 pub(crate) fn put_text(text: &[u8], reports: &mut [u8], sizes: &mut ToxicapSizes) -> bool
     ensures { (captures lens : List ℕ)
         → Puts (put_of_reports text.now) result (buffers captures reports.old lens) (buffers captures reports.new lens) sizes.new }
@@ -19,7 +19,7 @@ pub(crate) fn put_text(text: &[u8], reports: &mut [u8], sizes: &mut ToxicapSizes
     true
 }
 
-/// Puts outputs of these sizes over the first of the buffers, if there is room for all of them, and answers whether there is.
+/// Puts outputs of these sizes over the first of the buffers if all fit, and returns whether they do.
 pub(crate) fn put_outputs(
     outputs: &[Output],
     wanted: ToxicapSizes,
@@ -42,7 +42,6 @@ pub(crate) fn put_outputs(
     true
 }
 
-// Puts outputs over the first of the buffers.
 fn put_each(outputs: &[Output], captures: &mut [u8], reports: &mut [u8], lens: &mut [usize])
     requires captures { length (captures_of outputs.now) ≤ length captures.old }
     requires reports { length (reports_of outputs.now) ≤ length reports.old }
@@ -64,7 +63,6 @@ fn put_each(outputs: &[Output], captures: &mut [u8], reports: &mut [u8], lens: &
     }
 }
 
-// Puts items into a buffer from a place on.
 fn put_at<T: Copy>(buffer: &mut [T], at: usize, items: &[T])
     requires { at + length items.now ≤ length buffer.old }
     ensures { buffer.new ≡ take at buffer.old ++ (items.now ++ drop (at + length items.now) buffer.old) }

@@ -1,4 +1,4 @@
-//! What the parameters of a call call for.
+//! The parameters of a call, and what they call for.
 ghost use Rattle.std.specs.Prelude.{◌≡◌, IfOk, map};
 ghost use Rattle.lists.specs.Agreement.{AgreesUnlessMemory};
 ghost use Rattle.run_files.specs.RunFault.{run_refusal};
@@ -12,27 +12,17 @@ use run_files::{Outputs, RunFault};
 use std::alloc::{AllocError, Global};
 use toxicap::{answers_alone, read_host_lines, report_answers_alone};
 
-/// What a caller hands over: a capture or a dump of one, the texts of scenarios one after another and their lengths, the lines of hosts,
-/// and a seed.
+/// A capture or a dump of one, the texts of scenarios one after another and their lengths, the lines of hosts, and a seed.
 #[derive(Clone, Copy, Debug)]
 pub(crate) struct Parameters<'a> {
-    /// The capture's text.
     pub(crate) capture: &'a [u8],
-    /// The texts of the scenarios, one after another.
     pub(crate) scenarios: &'a [u8],
-    /// The length of each of them.
     pub(crate) lens: &'a [usize],
-    /// A host on each line.
     pub(crate) hosts: &'a [u8],
-    /// The seed of the random words.
     pub(crate) seed: u64,
 }
 
-/// The outputs that the parameters call for, with their sizes.
-///
-/// # Errors
-/// The first refusal, of the hosts and then of the texts; or a growth was refused, or a size is 2^64 or more, which is answered as want of
-/// memory.
+/// The outputs that the parameters call for, with their sizes. A size of 2^64 or more is answered as out of memory.
 pub(crate) fn sized_outputs_for(
     alloc: Global,
     parameters: Parameters<'_>,
@@ -48,7 +38,6 @@ pub(crate) fn sized_outputs_for(
     }
 }
 
-// The outputs that the parameters call for.
 fn outputs_for(alloc: Global, parameters: Parameters<'_>) -> Result<Outputs, RunFault>
     ensures { AgreesUnlessMemory run_refusal (λ outputs. outputs) result
         (asked_for parameters.entry.capture.now parameters.entry.scenarios.now parameters.entry.lens.now parameters.entry.hosts.now parameters.entry.seed) }
@@ -58,10 +47,6 @@ fn outputs_for(alloc: Global, parameters: Parameters<'_>) -> Result<Outputs, Run
     answers_alone(alloc, parameters.capture, &texts, &hosts, parameters.seed)
 }
 
-/// The reports that the parameters call for, one after another.
-///
-/// # Errors
-/// The first refusal, of the hosts and then of the texts; or a growth was refused.
 pub(crate) fn reports_for(alloc: Global, parameters: Parameters<'_>) -> Result<ReportText, RunFault>
     ensures { AgreesUnlessMemory run_refusal (λ reports. reports) result
         (reports_in (asked_for parameters.entry.capture.now parameters.entry.scenarios.now parameters.entry.lens.now parameters.entry.hosts.now parameters.entry.seed)) }

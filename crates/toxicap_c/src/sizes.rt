@@ -1,10 +1,10 @@
-//! How much of each buffer is written, or wanted.
+//! How much of each buffer is written, or needed.
 ghost use Rattle.std.specs.Prelude.{◌≡◌, IfSome, [], length};
 ghost use Rattle.toxicap_c.specs.Buffers.{no_sizes, put_of, put_of_reports, sizes_of};
 
 use run_files::Output;
 
-/// How much of each buffer a call wrote, or wants where it found too little room.
+/// How much of each buffer a call wrote, or needs if it found too little room.
 #[repr(C)]
 #[derive(Clone, Copy, Debug, PartialEq, Eq)]
 pub struct ToxicapSizes {
@@ -16,7 +16,6 @@ pub struct ToxicapSizes {
     pub lens: usize,
 }
 
-/// The sizes of nothing.
 pub(crate) fn no_sizes() -> ToxicapSizes
     ensures { result ≡ no_sizes }
 {
@@ -27,7 +26,6 @@ pub(crate) fn no_sizes() -> ToxicapSizes
     }
 }
 
-/// The sizes of so many bytes of reports alone, or of a refusal's line.
 pub(crate) fn sizes_of_text(text: &[u8]) -> ToxicapSizes
     ensures { result ≡ sizes_of (put_of_reports text.now) }
 {
@@ -38,7 +36,7 @@ pub(crate) fn sizes_of_text(text: &[u8]) -> ToxicapSizes
     }
 }
 
-/// The sizes of outputs; `None` where one of them is 2^64 or more.
+/// The sizes of outputs, or `None` if one of them is 2^64 or more.
 pub(crate) fn sizes_of(outputs: &[Output]) -> Option<ToxicapSizes>
     ensures { IfSome result (λ sizes. sizes ≡ sizes_of (put_of outputs.now)) }
 {

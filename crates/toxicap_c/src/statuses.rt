@@ -2,7 +2,6 @@
 ghost use Rattle.std.specs.Prelude.{◌≡◌};
 ghost use Rattle.toxicap_c.specs.Statuses.{code_of};
 
-/// How a call ends.
 #[derive(Clone, Copy, Debug, PartialEq, Eq)]
 pub(crate) enum Status {
     /// The answer stands in the buffers (0).
@@ -11,11 +10,10 @@ pub(crate) enum Status {
     Refused,
     /// The buffers have too little room, and are as they were (2).
     LittleRoom,
-    /// There was no memory for the line of a refusal, and the buffers are as they were (3).
+    /// Memory ran out even for the line of a refusal, and the buffers are as they were (3).
     NoMemory,
 }
 
-/// The number that a call returns where it ends so.
 pub(crate) fn code_of(status: Status) -> u8
     ensures { result ≡ code_of status }
 {

@@ -50,7 +50,7 @@ pub const SERVER_ENDS: [u8; 54] = [
     0xff, 0xff, 0xe7, 0xc8, 0x00, 0x00,
 ];
 
-// Appends what is written of one frame: its record, stamped so many microseconds after the first second.
+// Appends what is written of one frame: its record, stamped `micros` microseconds after the first second.
 fn put_written(file: &mut Vec<u8>, micros: u32, frame: &[u8]) -> Result<(), AllocError> {
     let len = frame.len().min(1514) as u32;
     for number in [1, micros, len, len] {

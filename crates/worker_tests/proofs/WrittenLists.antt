@@ -31,7 +31,7 @@ conn_of_capture are c table is conns have i within conn read =
     let all : AllByRecursion (IsConnOf c) conns = rw shown (are c 0 (length c.records) 0) in
     rw read (all_at (IsConnOf c) conns i conn all within)
 
--- lists that are written of so many connections, numbered from 0 on, where a second has so many ticks
+-- the lists are written of `count` connections, numbered from 0 on; a second has `ticks` ticks
 pub record AreWritten (ticks : ℕ) (lists : List (List Framed)) (count : ℕ) : Type 0 where
   pub conns : List WrittenConnection
   pub numbered : AreNumbered 0 conns

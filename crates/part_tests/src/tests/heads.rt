@@ -8,7 +8,7 @@ use std::alloc::{AllocError, AllocGlobal, Global};
 use std::process::Abort;
 use worked_sessions::sessions::PLAIN_SESSION;
 
-// The heads of a file that is handed over in parts of so many bytes, after each of which comes the next with what was left.
+// The heads of a file that is handed over in parts of `part` bytes. Each part begins with what was left of the one before.
 fn heads_by(alloc: Global, file: &[u8], part: usize) -> Result<KeptHeads, CaptureFault> {
     let mut reader = HeadReader::new(alloc);
     for step in 0..file.len() {
@@ -46,7 +46,7 @@ fn has_heads(heads: &Capture<'_>, whole: &Capture<'_>) -> bool {
     alike
 }
 
-// Checks that a file in parts of so many bytes has the heads of its packets.
+// Checks that a file in parts of `part` bytes has the heads of its packets.
 fn check_heads(rt: &(impl Abort + AllocGlobal), file: &[u8], part: usize) {
     let whole = read_capture(rt.alloc(), file).expect(rt, "a capture");
     let (bytes, records) = heads_by(rt.alloc(), file, part).expect(rt, "heads").split();

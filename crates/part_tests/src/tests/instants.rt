@@ -66,12 +66,12 @@ fn stamps_that_fall_back(rt: HostRuntime) {
     check_peak(&rt, &capture, 2, 2, 0);
 }
 
-// Whether an instant of so many ticks of a unit has this count.
+// Whether the instant after `ticks` ticks of a unit has this count.
 fn counts(ticks: u64, unit: Unit, count: u64) -> bool {
     Moment::of(ticks, unit).count() == count
 }
 
-// Whether an instant of so many ticks of a unit, and so many later, has this count.
+// Whether the instant after `ticks` ticks of a unit, and `more` later, has this count.
 fn counts_later(ticks: u64, more: u64, unit: Unit, count: u64) -> bool {
     Moment::of(ticks, unit).later(more, unit).count() == count
 }

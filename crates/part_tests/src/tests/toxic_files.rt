@@ -14,7 +14,7 @@ fn with_toxics(alloc: Global, toxics: &str) -> Result<Scenario, AllocError> {
     accepted(alloc, &text, &Hosts::new(alloc))
 }
 
-// Whether a toxic is a latency of none with a jitter of 7, in so many of a million connections.
+// Whether a toxic is a latency of 0 with a jitter of 7, for `ppm` of a million connections.
 fn is_latency(toxic: &Toxic, ppm: u64) -> bool {
     let kind = matches!(
         toxic.kind(),
@@ -37,8 +37,7 @@ fn has_latency(scenario: &Scenario, ppm: u64) -> bool {
     }
 }
 
-// That a latency with these members is taken for so many of a million connections; a missing attribute is 0, another type's is not
-// looked at.
+// That a latency with these members applies to `ppm` of a million connections. A null attribute is 0, and one of another type is ignored.
 fn check_taken(rt: &(impl Abort + AllocGlobal), more: &str, ppm: u64) {
     let toxic = format!(in rt.alloc();
         "{{\"type\":\"latency\",\"stream\":\"upstream\"{more},\"attributes\":{{\"latency\":null,\"jitter\":7,\"rate\":\"x\"}}}}"

@@ -83,7 +83,7 @@ fn known_frames(rt: HostRuntime) {
     check(&rt, "FIN back", is_known(&SERVER_ENDS, &server_ends));
 }
 
-// That headers before a payload of so many bytes are written so that the frame is read back, with right sums.
+// That headers before a payload of `len` bytes are written so that the frame is read back, with right sums.
 pub(super) fn check_payload(rt: &impl Abort, vlan: Option<u16>, len: usize)
     requires { len ≤ 1460 }
 {

@@ -63,7 +63,7 @@ fn is_whole(answer: &Result<Outputs, RunFault>, sum: u32) -> bool {
     }
 }
 
-// Whether of two answers both are whole, or one is, and the other is want of memory.
+// Whether both answers are whole, or one is whole and the other out of memory.
 fn are_answered(
     first: &Result<Outputs, RunFault>,
     second: &Result<Outputs, RunFault>,
@@ -89,7 +89,7 @@ fn scenario_of(alloc: Global, text: &str) -> Result<Scenario, RunFault> {
     read_scenario(alloc, text.as_bytes(), &hosts).map_err(|_| RunFault::Memory)
 }
 
-// `rehearse`, called twice by so many workers, gives outputs of this sum.
+// `rehearse`, called twice by `workers` workers, gives outputs of this sum.
 fn check_rehearsed(
     rt: &(impl Abort + AllocGlobal + Threads + Wait + Sync),
     workers: u32,
@@ -104,7 +104,7 @@ fn check_rehearsed(
     assert!(rt; good, "rehearse by {workers} workers");
 }
 
-// `answers`, called twice by so many workers, gives outputs of this sum.
+// `answers`, called twice by `workers` workers, gives outputs of this sum.
 fn check_answers(
     rt: &(impl Abort + AllocGlobal + Threads + Wait + Sync),
     workers: u32,

@@ -8,7 +8,7 @@ use toxicap::{Plan, RunFault, Through, rehearse};
 use worked_sessions::sessions::{CLIENT, PLAIN_SESSION, PSH, SERVER, SYN, file, put, segment};
 use worked_sessions::written_frames::session_written;
 
-// How many outputs a capture has under so many scenarios, each with the plain session's capture.
+// The number of outputs of a capture under `many` scenarios, each with the plain session's capture.
 fn outputs_under<R: Threads + Wait + Sync>(
     rt: &R,
     alloc: Global,
@@ -28,7 +28,7 @@ fn outputs_under<R: Threads + Wait + Sync>(
     Ok(outputs.as_slice().len())
 }
 
-// A capture under so many scenarios has so many outputs, or is refused.
+// A capture under `many` scenarios gives what is wanted: a number of outputs, or a refusal.
 fn check_scenarios(
     rt: &(impl Abort + AllocGlobal + Threads + Wait + Sync),
     bytes: &[u8],
@@ -63,7 +63,7 @@ fn many_bytes(alloc: Global) -> Result<Vec<u8>, AllocError> {
 const SLICED: &str =
     "[{\"name\":\"web\",\"upstream\":\"10.0.0.2:80\",\"toxics\":[{\"type\":\"slicer\",\"stream\":\"upstream\",\"attributes\":{\"average_size\":1,\"delay\":1}}]}]";
 
-// Whether so many bytes are written one by one.
+// Whether these bytes are written one by one.
 fn are_sliced<R: Threads + Wait + Sync>(rt: &R, alloc: Global) -> Result<bool, RunFault> {
     let bytes = many_bytes(alloc)?;
     let scenarios = scenarios_of(alloc, &[SLICED])?;
@@ -76,7 +76,7 @@ fn are_sliced<R: Threads + Wait + Sync>(rt: &R, alloc: Global) -> Result<bool, R
     Ok(whole && output.report.as_slice().ends_with(end.as_bytes()))
 }
 
-// A body that gives up with want of memory at so many segments, or at an output of this length, keeps every clause: it fails here.
+// A body that is out of memory at this number of segments, or at an output of this length, keeps every clause: it fails here.
 #[test]
 fn ten_million_bytes_of_output(rt: HostRuntime) {
     let good = are_sliced(&rt, rt.alloc()) == Ok(true);

@@ -120,8 +120,8 @@ fn each_file_at_its_path(rt: HostRuntime) {
     check_listed(&rt, &["--capture=session", "--scenario=session"], no_json);
 }
 
-/// A disk on which one file is too long, for one memory is wanting, one cannot be opened, and all others hold `[]`. It tells nothing of
-/// them, and of a draft it keeps the path alone.
+/// A disk on which one file is too long, one is out of memory, one cannot be opened, and all others hold `[]`. It tells nothing of
+/// them, and of a draft it keeps only the path.
 #[derive(Drop)]
 struct Faulty {
     failed: u64,
@@ -185,7 +185,7 @@ impl ReadDisk for Faulty {
     }
 }
 
-/// What is left of a file: these bytes, or so many zeros.
+/// What is left of a file: these bytes, or this number of zeros.
 #[derive(Drop)]
 enum FaultyFile {
     Bytes(&'static [u8]),

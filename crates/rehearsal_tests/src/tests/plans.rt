@@ -48,7 +48,7 @@ fn outputs_past<R: Threads + Wait + Sync, G: Gate>(
     Ok(outputs.as_slice().len())
 }
 
-// So many jobs of this phase pass its gate, and their numbers have this sum.
+// `jobs` jobs of this phase pass its gate, and their numbers have the sum `numbers`.
 fn check_jobs(
     rt: &(impl Abort + AllocGlobal + Threads + Wait + Sync),
     row: &str,

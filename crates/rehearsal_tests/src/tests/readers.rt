@@ -24,7 +24,7 @@ impl Read for Pieces<'_> {
     }
 }
 
-// A reader of so many bytes a call gives all its bytes.
+// A reader that gives at most `most` bytes a call gives all its bytes.
 fn check_pieces(rt: &(impl Abort + AllocGlobal), most: usize) {
     let mut reader = Counted::new(Pieces {
         rest: b"recorded sessions",
@@ -121,7 +121,7 @@ impl Read for InterruptedOnce<'_> {
     }
 }
 
-// A reader that is interrupted after so many calls leaves so many bytes unread.
+// A reader that is interrupted after `calls_before` calls leaves `rest` bytes unread.
 fn check_interrupted(rt: &(impl Abort + AllocGlobal), calls_before: u32, rest: usize) {
     let mut reader = Counted::new(InterruptedOnce {
         rest: b"recorded",

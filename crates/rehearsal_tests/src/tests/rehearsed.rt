@@ -47,7 +47,7 @@ pub fn has_output(outputs: &[Output], capture: &[u8], report: &str) -> bool {
     }
 }
 
-// The outputs of a rehearsal by so many workers, range by range of a cut, who pass a gate.
+// The outputs of a rehearsal by `workers` workers, range by range of a cut, who pass a gate.
 pub fn rehearsed_by<R: Threads + Wait + Sync, G: Gate>(
     rt: &R,
     alloc: Global,

@@ -38,8 +38,8 @@ fn overview<R: Read, W: Write>(
     print_reports(&outputs, writer)
 }
 
-// The stored run through a reader and a writer that take so many bytes a call and so many calls: the answer, and how many bytes of
-// the report went out.
+// The stored run through a reader and a writer that take a number of bytes a call and a number of calls: the answer, and how many bytes
+// of the report went out.
 fn check_ends(
     rt: &(impl Abort + AllocGlobal + Threads + Wait + Sync),
     row: &str,

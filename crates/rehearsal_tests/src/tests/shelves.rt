@@ -38,7 +38,7 @@ fn are_files(files: &[MemoryFile], wanted: &[(&str, &[u8])]) -> bool {
     files.len() == wanted.len()
 }
 
-/// Keeps files in memory, but for the one that comes after so many calls: whoever tries again gets rid of it.
+/// Keeps files in memory, except the one that comes after `calls_before` calls: whoever tries again gets rid of it.
 #[derive(Drop)]
 struct FailsOnce {
     kept: MemoryShelf,
@@ -69,7 +69,7 @@ impl Shelf for FailsOnce {
     }
 }
 
-// Two outputs to a shelf that fails at its put after so many put the first files on it, and none after the failed one.
+// Two outputs to a shelf that fails at its put after `after` others put the first files on it, and none after the failed one.
 fn check_failing(rt: &(impl Abort + AllocGlobal), after: u64, first: &[(&str, &[u8])]) {
     let outputs = two_outputs(rt.alloc()).expect(rt, "memory");
     let mut shelf = FailsOnce {

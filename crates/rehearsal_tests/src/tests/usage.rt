@@ -44,7 +44,7 @@ fn statuses(rt: HostRuntime) {
     check(&rt, &["-V"], b"unread", (0, "toxicap 1.0.0\n", ""));
 }
 
-// A writer that takes so many bytes a call, and so many calls.
+// A writer that takes at most `most` bytes a call, in at most `calls` calls.
 fn sips(alloc: Global, (most, calls): (usize, u32)) -> Sips {
     Sips {
         taken: Vec::new(alloc),
@@ -53,8 +53,8 @@ fn sips(alloc: Global, (most, calls): (usize, u32)) -> Sips {
     }
 }
 
-// The program under these words, with a reader that fails, and with writers that take so many bytes a call and so many calls: its status, how
-// much it wrote, what it told, and how often that failed.
+// The program under these words, with a reader that fails, and with writers that take a number of bytes a call and a number of calls:
+// its status, how much it wrote, what it told, and how often that failed.
 fn check_failing<H: Abort + AllocGlobal + Files + Threads + Wait + Sync>(
     rt: &H,
     words: &[&str],

@@ -34,7 +34,7 @@ fn disk_before(alloc: Global) -> Result<MemoryDisk, AllocError>
     Ok(disk)
 }
 
-// Whether the folder has so many of these files, and in place of those after them what was there before.
+// Whether the folder has the first `many` of these files, and in place of those after them what was there before.
 fn has_first(
     alloc: Global,
     disk: &MemoryDisk,

@@ -43,7 +43,7 @@ fn is_written(
     }
 }
 
-// A text to a writer that takes so many bytes a call, and so many calls.
+// A text to a writer that takes at most `most` bytes a call, in at most `calls` calls.
 fn check_sips(
     rt: &(impl Abort + AllocGlobal),
     text: &str,
@@ -121,7 +121,7 @@ impl Write for RefusesOnce {
     }
 }
 
-// A text to a writer that refuses once, after so many calls.
+// A text to a writer that refuses once, after `calls_before` calls.
 fn check_refusing(
     rt: &(impl Abort + AllocGlobal),
     (calls_before, takes_nothing): (u32, bool),
@@ -150,7 +150,7 @@ fn a_write_that_fails_once(rt: HostRuntime) {
     check_refusing(&rt, (1, true), Err("repo"));
 }
 
-// Three texts to a writer that refuses once, after so many calls.
+// Three texts to a writer that refuses once, after `calls_before` calls.
 fn check_refused_texts(
     rt: &(impl Abort + AllocGlobal),
     calls_before: u32,

@@ -22,7 +22,7 @@ fn refuses_twice(tray: &mut Tray<char>, job: u64, value: char) -> bool {
     }
 }
 
-// Makes so many passes, each of which comes back before the next is made.
+// Makes `count` passes, each of which comes back before the next is made.
 fn make_passes(board: &Board, chief: &mut Chief, count: u64) -> Result<(), SplitFault>
     requires { chief.old.board ≡ board.now }
     ensures { OnOk result (chief.new.board ≡ board.now) }
@@ -43,7 +43,7 @@ fn check_claim(rt: &impl Abort, board: &Board, pass: &mut Pass, told: Option<u64
     check(rt, "a claim", claimed == told);
 }
 
-// That a board is closed, and so many numbers were given.
+// That a board is closed, and `given` numbers were given.
 fn check_closed(rt: &impl Abort, board: Board, chief: Chief, given: u64)
     requires { chief.board ≡ board }
 {
@@ -68,7 +68,7 @@ fn board_of_two(rt: HostRuntime) {
     check_closed(&rt, board, chief, 2);
 }
 
-// That one claim of a board of so many is told this, and so many numbers were given then.
+// That one claim of a board of `many` numbers is told this, and `given` numbers were given then.
 fn check_one_claim(rt: &(impl Abort + AllocGlobal), many: u64, told: Option<u64>, given: u64)
     requires { many ≤ 5 }
 {
@@ -128,7 +128,7 @@ fn tray_refuses_strangers_and_doubles(rt: HostRuntime) {
     check(&rt, "values", values.as_slice() == ['a', 'd'].as_slice());
 }
 
-// That there is a plan of so many workers and ranges of so many records, which tells them, or that there is none.
+// That there is a plan of `workers` workers and ranges of `cut` records, which tells them, or that there is none.
 fn check_plan(rt: &impl Abort, workers: u32, cut: u32, wanted: bool) {
     let good = match Plan::new(workers, cut) {
         Some(plan) => wanted && plan.workers() == workers && plan.cut() == cut,

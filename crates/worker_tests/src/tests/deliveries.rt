@@ -68,7 +68,7 @@ pub(super) fn whole_table(alloc: Global, capture: &Capture<'_>) -> Result<Table,
     finish(alloc, whole)
 }
 
-// The deliveries of a file by so many workers, who pass a gate, with seed 42.
+// The deliveries of a file by `workers` workers, who pass a gate, with seed 42.
 fn delivered<R: Abort + Threads + Sync, G: Gate>(
     rt: &R,
     alloc: Global,
@@ -111,7 +111,7 @@ const BARE: [WantedDelivery; 2] = [(0, 0, 3, FIRST_LINE), (0, 1, 4, SECOND_LINE)
 
 const REFUSED: [WantedDelivery; 2] = [(1, 0, 3, FIRST_LINE), (1, 1, 2, REFUSED_LINE)];
 
-// That so many workers give a row for each of two scenarios.
+// That `workers` workers give a row for each of two scenarios.
 fn check_rows<R: Abort + Threads + Sync>(rt: &R, alloc: Global, workers: u32) {
     let bytes = file(alloc, true, &segments()).expect(rt, "memory");
     let scenarios = [scenario(rt, alloc, &[]), scenario(rt, alloc, &[DISABLED])];
@@ -205,7 +205,7 @@ fn two_workers_in_each_phase(rt: HostRuntime) {
     check_held(&rt, rt.alloc(), Phase::Jobs);
 }
 
-// That so many jobs of a phase, with this sum of their numbers, are done for three scenarios.
+// That `jobs` jobs of a phase, whose numbers have the sum `numbers`, are done for three scenarios.
 fn check_jobs<R: Abort + Threads + Sync>(
     rt: &R,
     alloc: Global,

@@ -23,7 +23,7 @@ fn a_range_held_until_the_next_has_passed(rt: HostRuntime) {
     check(&rt, "held", !gate.gave_up());
 }
 
-// That ranges of so many records are so many, with this sum of their numbers, and each passes the gate once.
+// That `wanted` is the number of ranges of `cut` records and the sum of their numbers, and that each passes the gate once.
 fn check_ranges<R: Abort + Threads + Wait + Sync>(
     rt: &R,
     alloc: Global,

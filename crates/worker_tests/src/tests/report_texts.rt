@@ -30,7 +30,7 @@ fn check_lines(
     check(rt, "lines", lines.as_slice() == wanted.as_bytes());
 }
 
-// That there are so many shares, with the lines of a scenario without proxies, and after it of one whose proxy is disabled.
+// That there are `count` shares, with the lines of a scenario without proxies, and after it of one whose proxy is disabled.
 fn check_shares(rt: &impl Abort, alloc: Global, shares: &[ShareTexts], count: usize) {
     check(rt, "shares", shares.len() == count);
     check_lines(rt, alloc, shares, 0, (FIRST_LINE, SECOND_LINE));
@@ -51,7 +51,7 @@ fn texts_by_one_thread(rt: HostRuntime) {
     check_shares(&rt, alloc, shares.as_slice(), 1);
 }
 
-// That so many workers give so many shares, which hold the lines.
+// That `workers` workers give `count` shares, which hold the lines.
 fn check_workers<R: Abort + Threads + Sync, G: Gate>(
     rt: &R,
     alloc: Global,

@@ -96,7 +96,7 @@ fn is_wanted(conn: &Conn, number: u32, (client, members): &Wanted) -> bool {
         && are_members(conn.members.as_slice(), members)
 }
 
-// Whether a table has these connections, numbered in turn, and so many unopened segments.
+// Whether a table has these connections, numbered in turn, and this number of unopened segments.
 fn is_table(table: &Table, wanted: &[Wanted], unopened: u64) -> bool {
     let mut right = table.conns().len() == wanted.len() && table.unopened() == unopened;
     for ((conn, wanted), number) in table.conns().iter().zip(wanted).zip(0_u32..) {
@@ -105,7 +105,7 @@ fn is_table(table: &Table, wanted: &[Wanted], unopened: u64) -> bool {
     right
 }
 
-// That a table has these connections, numbered in turn, and so many unopened segments.
+// That a table has these connections, numbered in turn, and this number of unopened segments.
 pub(super) fn check_table(rt: &impl Abort, table: &Table, wanted: &[Wanted], unopened: u64) {
     check(rt, "a table", is_table(table, wanted, unopened));
 }
@@ -124,7 +124,7 @@ pub(super) fn repeated() -> [RecordedSegment<'static>; 6] {
 
 pub(super) const REPEATED: [Wanted; 2] = [(CLIENT, &[0, 1, 2, 3]), (CLIENT, &[4, 5])];
 
-// That ranges of so many records give this table, joined from the left and from the right.
+// That ranges of `cut` records give this table, joined from the left and from the right.
 fn check_cut(rt: &impl Abort, alloc: Global, capture: &Capture<'_>, cut: usize, wanted: &[Wanted]) {
     check_table(rt, &from_left(rt, alloc, capture, cut), wanted, 0);
     check_table(rt, &from_right(rt, alloc, capture, cut), wanted, 0);
@@ -173,7 +173,7 @@ fn a_range_alone_and_after_another(rt: HostRuntime) {
     check_ranges(&rt, rt.alloc(), &capture);
 }
 
-// Whether a member is a segment of the side, at this instant, with this sequence number and so many bytes.
+// Whether a member is a segment of the side, at this instant, with this sequence number and `len` bytes.
 fn is_member(member: &Member, from_client: bool, micros: u64, seq: u32, len: u16) -> bool {
     member.from_client == from_client
         && member.at.count() == micros

@@ -9,7 +9,7 @@ use std::sync::atomic::{AtomicU64, Ordering};
 use std::thread::Threads;
 use worked_sessions::gates::{Counting, Holding, wait_for};
 
-// So many jobs, each with three times its number and one more; but one job finds no memory.
+// `count` jobs, each with three times its number and one more. The job `refused` is out of memory.
 #[derive(Drop)]
 struct Tripled {
     count: u64,
@@ -60,7 +60,7 @@ impl Work for Meeting {
     }
 }
 
-// Whether values are those of the tripled jobs, so many of them.
+// Whether there are `count` values, which are those of the tripled jobs.
 fn are_tripled(values: &[u64], count: usize) -> bool {
     let mut right = values.len() == count;
     for (value, job) in values.iter().zip(0_u64..) {
@@ -69,7 +69,7 @@ fn are_tripled(values: &[u64], count: usize) -> bool {
     right
 }
 
-// That so many workers give the values of so many jobs.
+// That `workers` workers give the values of `count` jobs.
 fn check_tripled<R: Abort + Threads + Sync>(rt: &R, alloc: Global, workers: u64, count: u64)
     requires workers { 1 ≤ workers × workers ≤ 16 }
     requires count { count ≤ 2 ^ 32 }
@@ -91,7 +91,7 @@ fn values_by_one_two_and_sixteen_workers(rt: HostRuntime) {
     check_tripled(&rt, rt.alloc(), 2, 0);
 }
 
-// That so many workers find no memory where one of five jobs finds none, and then give the values of the three jobs before it.
+// That `workers` workers are out of memory if one of five jobs is, and then give the values of the three jobs before it.
 fn check_refused<R: Abort + Threads + Sync>(rt: &R, alloc: Global, workers: u64)
     requires { 1 ≤ workers × workers ≤ 16 }
 {
@@ -100,7 +100,7 @@ fn check_refused<R: Abort + Threads + Sync>(rt: &R, alloc: Global, workers: u64)
         refused: Some(3),
     };
     let answer = work_all(rt, alloc, 5, workers, Phase::Jobs, &Through, &work);
-    check(rt, "want of memory", answer.is_err());
+    check(rt, "out of memory", answer.is_err());
     let work = Tripled {
         count: 3,
         refused: Some(3),
@@ -123,7 +123,7 @@ fn values_after_want_of_memory_alone(rt: HostRuntime) {
         refused: Some(3),
     };
     let answer = work_alone(rt.alloc(), 5, Phase::Jobs, &Through, &work);
-    check(&rt, "want of memory", answer.is_err());
+    check(&rt, "out of memory", answer.is_err());
     let work = Tripled {
         count: 3,
         refused: Some(3),

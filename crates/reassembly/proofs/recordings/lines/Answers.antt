@@ -12,7 +12,7 @@ pub recorded_by_members-requires-clause-filed : goal.recorded_by_members-require
 recorded_by_members-requires-clause-filed c =
     all_in_file _ _ _ _ _ _ c.bytes-file.ensures.sound c.payloads_are_in_place.ensures c.requires.of_capture c.bytes-file.ensures.bytes c.as_slice-members.ensures c.requires.shown
 
--- the result is what the definition gives of any connection of the capture that the table shows so
+-- the result is the definition's for every connection that the table shows as `conn`
 told : (c : goal.After-recorded_by_members)
     → IfOk c.recorded_by_members.result (λ r. (x : IndexedConnection) → IsConnectionOf c.args.capture.now x → c.args.conn.now ≡ conn_in c.args.capture.now x → recorded_view r ≡ recorded_connection (without_indices x))
 told c =

@@ -14,7 +14,7 @@ use Rattle.toxic_defs.proofs.MovedParts.{written_there, along_part, begins_one_m
 use Rattle.toxic_defs.proofs.slicer.pace_chunks.Goals.{then-part, else-part}
 use Rattle.toxic_defs.proofs.slicer.pace_chunks.Goals as goal
 
--- a filled part begins a chunk where it is marked
+-- a filled part begins a chunk exactly if it is marked
 by_mark : (s : Bool) (bytes : List ℕ) → 0 < length bytes → (s && nat_lt 0 (length bytes)) ≡ s
 by_mark true bytes h = lt-ltb 0 (length bytes) h
 by_mark false bytes h = refl

@@ -11,6 +11,5 @@ returns-in-Ok c =
     (buffers c.put_outputs.new.captures c.put_outputs.new.reports c.put_outputs.new.lens) c.put_outputs.new.sizes in
     (put_of c.in-Ok.outputs, inl c.in-Ok.ensures.answer, subst P c.as_slice.ensures c.if-put_outputs.ensures)
 
--- a refusal is told
 pub returns : goal.returns
 returns c = told_ends _ c.in-Err.fault c.in-Err.ensures.answer c.tell.result _ _ _ (c.tell.ensures c.args.captures.now c.args.lens.now)

@@ -8,7 +8,7 @@ use Rattle.scenarios.specs.Hosts.{look_up, IsIndexOf}
 use Rattle.scenarios.specs.declared.hosts.KnownHost.{KnownHost}
 use Rattle.scenarios.proofs.hosts.Hosts.put.Goals as goal
 
--- what is found among the hosts, and else the last one
+-- what is found among the hosts, or else the last one
 found_last : (found : Option KnownHost) (host : KnownHost) (same : Bool) → option_map (λ h. h.addr) (option_or found (cond same (Some host) None)) ≡ option_or (option_map (λ h. h.addr) found) (cond same (Some host.addr) None)
 found_last None host true = refl
 found_last None host false = refl

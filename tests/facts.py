@@ -118,19 +118,18 @@ def of_kind(name, attribute, arm, limits, absent):
 
 def of_terminal(toxics):
     """The attributes as the program prints them after a refusal."""
-    path = 'toxicap_program/src/scenario_fields.rt'
+    path = 'toxicap_program/src/scenario_remedies.rt'
     code, greatest = text_of(f'crates/{path}'), constant(path, 'GREATEST')
-    arms = re.findall(r'\n        (?:"(\w+)"|_) =>(.*?)(?=\n        "|\n        _|\n    \})', between(code, 'pub fn wrong_attribute', '\n}\n'), re.S)
-    arms, ms = dict(arms), re.search(r'const MS: &str = "(\w+)"', code)[1]
+    rows = re.findall(r'\("(\w+)", "(\w+)", "([^"]+)", (\d+), ([\d_]+|GREATEST)\)', between(code, 'const ATTRIBUTES', '];'))
+    fact(f'{path}: the types of toxics', {row[0] for row in rows} == set(toxics), rows)
     for name, attributes in toxics.items():
-        arm = arms.get(name, arms.get('', ''))
-        found = re.findall(r'Attribute::of\("(\w+)", (?:"([^"]+)"|MS)\)(?:\.within\((\d+), ([\d_]+|GREATEST)\))?', arm)
-        fact(f'{path}: the attributes of {name}', [each[0] for each in found] == [each['attribute'] for each in attributes], found)
+        found = [row[1:] for row in rows if row[0] == name]
+        fact(f'{path}: the attributes of {name}', [row[0] for row in found] == [each['attribute'] for each in attributes], found)
         for attribute, (field, unit, least, most) in zip(attributes, found):
-            most = greatest if most in ('', 'GREATEST') else int(most.replace('_', ''))
+            most = greatest if most == 'GREATEST' else int(most.replace('_', ''))
             wanted = (int(attribute['least']), most_of(attribute, greatest))
-            fact(f'{path}: {name}, {field}: range', (int(least or 0), most) == wanted, (least, most))
-            fact(f'{path}: {name}, {field}: unit', (unit or ms).split()[0] == unit_of(attribute), unit)
+            fact(f'{path}: {name}, {field}: range', (int(least), most) == wanted, (least, most))
+            fact(f'{path}: {name}, {field}: unit', unit.split()[0] == unit_of(attribute), unit)
     fact(f'{path}: size_variation is below average_size', 'less than \\"average_size\\" is wanted' in code)
 
 
@@ -296,10 +295,9 @@ def of_field_words(page, toxics):
 # ---- refusals
 
 LIMITS = {  # the constants that a refusal is about
-    'ShortHeader': ['pcap_records/src/heading.rt FILE_HEADER_LEN', 'toxicap_program/src/looks.rt HEADER_LEN'],
+    'ShortHeader': ['pcap_records/src/heading.rt FILE_HEADER_LEN', 'toxicap_program/src/run.rt HEADER_LEN'],
     'RecordTooLong': ['pcap_records/src/reader.rt PACKET_LIMIT'],
-    'CaptureTooLong': ['pcap_records/src/heading.rt CAPTURE_LIMIT', 'toxicap_program/src/capture_remedies.rt LIMIT',
-                       'toxicap_program/src/looks.rt TEXT_LIMIT'],
+    'CaptureTooLong': ['pcap_records/src/heading.rt CAPTURE_LIMIT', 'toxicap_program/src/run.rt LIMIT'],
     'TooMany': ['scenarios/src/proxies.rt PROXY_LIMIT', 'scenarios/src/toxics.rt TOXIC_LIMIT'],
     'TooManyScenarios': ['toxicap/src/reading.rt SCENARIO_LIMIT'],
     'BadToxicity': ['toxic_defs/src/limits.rt MILLION']}
@@ -366,14 +364,13 @@ def of_help_refusals(refusals, help_text):
 
 def of_remedies(refusals):
     """What the program prints after a refusal: for each one something, and what the table has of it."""
-    names = ['remedies', 'capture_remedies', 'scenario_remedies', 'folder_remedies', 'scenario_fields']
+    names = ['remedies', 'capture_remedies', 'scenario_remedies', 'folder_remedies']
     code = {name: text_of(f'crates/toxicap_program/src/{name}.rt') for name in names}
     texts = ' '.join(re.findall(r'"((?:[^"\\]|\\.)*)"', ' '.join(code.values()))).replace('\\"', '"')
-    handled = {55}  # by the last arm
-    for name in ('remedies', 'capture_remedies'):
-        arms = between(code[name], 'match refusal.number {', '\n    }\n')
-        for first, last in re.findall(r'^        (\d+)(?:\.\.=(\d+))? =>', arms, re.M): handled |= set(range(int(first), int(last or first) + 1))
-    wanted = {int(each['number']) for each in refusals}
+    handled = {'ShortHeader', 'NotJson', 'NotArray', 'BadToxicity'}  # by a last arm, or by the text of a scenario
+    handled |= set(re.findall(r'RunFault::(\w+)', code['remedies'] + code['capture_remedies'])) - {'BadScenario'}
+    handled |= set(re.findall(r'Cause::(\w+)', code['scenario_remedies']))
+    wanted = {each['name'] for each in refusals}
     fact('remedies: one for each refusal', wanted == handled, wanted ^ handled)
     for each in refusals:
         for part in each['remedy'].split('; '): fact(f'remedies: {each["name"]}', part in texts, part)

@@ -13,6 +13,7 @@ pub mod Inputs
 pub mod HostLines
 pub mod Commands
 pub mod NamedFiles
+pub mod Outcomes
 pub mod KilledRuns
 pub mod WrittenRows
 pub mod GroupingRows

@@ -7,6 +7,7 @@ ghost use Rattle.command_line.specs.declared.asked.Asked.{Asked};
 ghost use Rattle.command_line.specs.declared.error.Stop.{Stop};
 ghost use Rattle.toxicap.specs.Commands.{ProgramEnds, fault_stream, streams};
 ghost use Rattle.toxicap.specs.NamedFiles.{ProgramEndsOver};
+ghost use Rattle.toxicap.specs.Outcomes.{EndsWith};
 ghost use Rattle.toxicap.specs.RunEnds.{no_text, status_of, text_with_line_feed, usage_status, Tells, WrittenSoFar};
 
 use crate::runs::run_asked;
@@ -58,10 +59,11 @@ where
         (streams I.remaining input.old input.new O.contents output.old output.new) (fault_stream E.contents faults.old faults.new) }
 {
     let mut disk = HostDisk::new(rt);
-    command_over(rt, &mut disk, alloc, words, input, output, faults)
+    command_over(rt, &mut disk, alloc, words, input, output, faults).0
 }
 
-/// [`command`] over any disk: its scenario files and its capture are loaded from there, and its outputs stored there.
+/// [`command`] over any disk: its scenario files and its capture are loaded from there, and its outputs stored there. Beside the status
+/// stands the outcome that it is the status of, and `Ok` at a fault of the command line.
 ///
 /// Where the disk tells its history, the outcome follows from it: each scenario is the text at its own path, and the capture that at
 /// its path; of several files that are at fault the first counts, in the order of the scenarios, and then the capture. After a run of
@@ -84,7 +86,7 @@ pub fn command_over<
     input: &mut Counted<I>,
     output: &mut Counted<O>,
     faults: &mut Counted<E>,
-) -> u8
+) -> (u8, Result<(), RunFault>)
 where
     D::File: Sync,
     D::Draft: Send,
@@ -92,26 +94,31 @@ where
     requires reads { input.old.failed < 2 ^ 64 - 1 }
     requires writes { output.old.failed < 2 ^ 64 - 1 }
     requires tells { faults.old.failed < 2 ^ 64 - 1 }
-    ensures status { result ≤ 2 }
-    ensures quiet { result ≡ 0 → faults.new ≡ faults.old }
-    ensures usage { result ≡ 2 → (input.new ≡ input.old) × (output.new ≡ output.old) }
+    ensures status { result.0 ≤ 2 }
+    ensures quiet { result.0 ≡ 0 → faults.new ≡ faults.old }
+    ensures usage { result.0 ≡ 2 → (input.new ≡ input.old) × (output.new ≡ output.old) }
     ensures ends { (line : Result Asked Stop) × ReadsAs (map S.text words.now) line
-        × ProgramEndsOver (D.history disk.old) (D.history disk.new) (λ n. D.faults disk.new ≡ D.faults disk.old + n) line result
+        × ProgramEndsOver (D.history disk.old) (D.history disk.new) (λ n. D.faults disk.new ≡ D.faults disk.old + n) line result.0
+        (streams I.remaining input.old input.new O.contents output.old output.new) (fault_stream E.contents faults.old faults.new)
+        × EndsWith (D.history disk.old) (D.history disk.new) (λ n. D.faults disk.new ≡ D.faults disk.old + n) line result.0 result.1
         (streams I.remaining input.old input.new O.contents output.old output.new) (fault_stream E.contents faults.old faults.new) }
 {
     match read_arguments(alloc, words) {
         Ok(asked) => {
             let outcome = run_asked(rt, disk, alloc, &asked, input, output);
-            report_outcome(alloc, outcome, faults)
+            (report_outcome(alloc, outcome, faults), outcome)
         }
         Err(Stop::Shown(text)) => {
             let outcome = write_bytes(output, text.as_bytes());
-            report_outcome(alloc, outcome, faults)
+            (report_outcome(alloc, outcome, faults), outcome)
         }
-        Err(Stop::Memory) => report_outcome(alloc, Err(RunFault::Memory), faults),
+        Err(Stop::Memory) => {
+            let outcome = Err(RunFault::Memory);
+            (report_outcome(alloc, outcome, faults), outcome)
+        }
         Err(Stop::Usage(text)) => {
             write_text(faults, text.as_bytes());
-            2
+            (2, Ok(()))
         }
     }
 }

@@ -1,62 +1,37 @@
-//! The program `toxicap`. All of it is the library's `command`, on the words of the command line and the standard streams; on a terminal it
-//! also says that it reads its standard input, counts the scenarios that it stores, and prints in a line more what helps after a refusal, or
-//! what would be missed in the reports.
+//! The program `toxicap`: the library's `command_over` on the command line, the host's disk and the standard streams. On a terminal it
+//! also says that it reads standard input, how many scenarios are stored, and last what helps after a refusal or is missed in a report.
 #![tactic(auto)]
 
-mod afterwards;
 mod capture_remedies;
-mod first_bytes;
 mod folder_remedies;
-mod inputs;
-mod looks;
-mod refusals;
 mod remedies;
-mod report_lines;
-mod scenario_fields;
+mod run;
 mod scenario_remedies;
 mod shown;
 mod summary;
 mod terminal;
-mod writers;
 
-use afterwards::{Ended, line_after};
 use command_line::{Asked, read_arguments};
+use run::{CaptureStart, Run};
 use std::io::IsTerminal;
 use std::process::ExitCode;
+use std::sync::atomic::AtomicU64;
 use std::{env, io};
+use summary::{Summary, SummedUp};
 use terminal::{Announced, Counting};
-use toxicap::{Counted, command, refuse_words};
-use writers::{FirstLine, SummedUp};
+use toxicap::{Counted, HostDisk, command_over, refuse_words};
 
 fn main(rt: HostRuntime) -> ExitCode {
-    let is_terminal = rt.stderr().is_terminal();
-    let mut input = Counted::new(Announced::new(rt.stdin(), rt.stderr()));
-    let mut output = Counted::new(SummedUp::new(rt.stdout(), is_terminal));
-    let mut faults = Counted::new(FirstLine::new(rt.stderr()));
     let words = match words_of(&rt) {
         Ok(words) => words,
-        Err(error) => return ExitCode::from(refuse_words(rt.alloc(), &error, &mut faults)),
+        Err(error) => {
+            let mut faults = Counted::new(rt.stderr());
+            return ExitCode::from(refuse_words(rt.alloc(), &error, &mut faults));
+        }
     };
-    let counting = Counting::new(&rt, rt.stderr(), counted_scenarios(&rt, &words));
-    let status = command(
-        &counting,
-        rt.alloc(),
-        &words,
-        &mut input,
-        &mut output,
-        &mut faults,
-    );
-    if is_terminal {
-        let faults = faults.into_inner();
-        let ended = Ended {
-            status,
-            first_bytes: input.into_inner().first_bytes(),
-            fault: faults.line(),
-            printed: output.into_inner().summary(),
-        };
-        print_line(&rt, &words, &ended);
-    }
-    ExitCode::from(status)
+    let is_terminal = rt.stderr().is_terminal();
+    let asked = is_terminal.then(|| read_arguments(rt.alloc(), &words).ok());
+    ExitCode::from(run_words(&rt, &words, asked.flatten().as_ref()))
 }
 
 // The arguments after the program's name.
@@ -64,28 +39,44 @@ fn words_of(rt: &HostRuntime) -> io::Result<Vec<String>> {
     Ok(env::args(rt)?.skip(1).collect(rt.alloc())?)
 }
 
-// Prints on standard error what a person reads after a run.
-fn print_line(rt: &HostRuntime, words: &[String], ended: &Ended<'_>) {
-    if let Ok(Some(line)) = line_after(rt, rt.alloc(), words, ended) {
-        let _ = eprintln!(rt.stderr(); "toxicap: {line}");
+// Runs what the words ask for, which is also in `asked` if a person reads standard error.
+fn run_words(rt: &HostRuntime, words: &[String], asked: Option<&Asked<'_>>) -> u8 {
+    let mut input = Counted::new(Announced {
+        input: rt.stdin(),
+        faults: rt.stderr(),
+        is_announced: asked.is_none() || !rt.stdin().is_terminal(),
+        first_bytes: CaptureStart::default(),
+    });
+    let summary = asked.map(|_| Summary::default());
+    let mut output = Counted::new(SummedUp::new(rt.stdout(), summary));
+    let files = Counting {
+        rt,
+        all: asked.map_or(0, |asked| asked.scenarios.len() as u64),
+        named: AtomicU64::new(0),
+    };
+    let (status, outcome) = command_over(
+        &files,
+        &mut HostDisk::new(&files),
+        rt.alloc(),
+        words,
+        &mut input,
+        &mut output,
+        &mut Counted::new(rt.stderr()),
+    );
+    if let Some(asked) = asked {
+        let run = Run {
+            files: rt,
+            alloc: rt.alloc(),
+            asked,
+            first_bytes: input.into_inner().first_bytes,
+        };
+        let line = match outcome {
+            Ok(()) => run.summed_up(output.into_inner().summary),
+            Err(fault) => run.remedy(fault).map(Some),
+        };
+        if let Ok(Some(line)) = line {
+            let _ = eprintln!(rt; "toxicap: {line}");
+        }
     }
-}
-
-// How many scenarios are counted while they are stored: none where standard error is no terminal.
-fn counted_scenarios(rt: &HostRuntime, words: &[String]) -> u64 {
-    if !rt.stderr().is_terminal() {
-        return 0;
-    }
-    match read_arguments(rt.alloc(), words) {
-        Ok(asked) => stored_scenarios(&asked),
-        Err(_stop) => 0,
-    }
-}
-
-// How many scenarios a run stores that a command line asks for.
-fn stored_scenarios(asked: &Asked<'_>) -> u64 {
-    match asked.out {
-        Some(_) => asked.scenarios.len() as u64,
-        None => 0,
-    }
+    status
 }

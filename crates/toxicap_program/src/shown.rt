@@ -1,28 +1,22 @@
 //! Names, paths and values as a terminal shows them: short, and without a character that would command it.
-use std::alloc::{AllocError, Global};
+use crate::run::Said;
+use std::alloc::Global;
 
-// How many characters of a text are shown.
+// How many characters of a text, and of a path, are shown.
 const SHOWN: usize = 60;
 
-// How many characters of a path are shown.
 const SHOWN_OF_PATH: usize = 200;
 
-// Adds a character, escaped where it does not print. Quotes and backslashes stay as they are.
-fn push_shown(text: &mut String, c: char) -> Result<(), AllocError> {
-    if matches!(c, '\'' | '"' | '\\') {
-        return text.push(c);
-    }
-    for part in c.escape_debug() {
-        text.push(part)?;
-    }
-    Ok(())
-}
-
-// The first characters of a text, escaped where they do not print, and two dots where it is longer.
-fn first_of(alloc: Global, text: &str, most: usize) -> Result<String, AllocError> {
+// The first characters of a text, escaped if they do not print, and two dots if it is longer. Quotes and backslashes stay.
+fn first_of(alloc: Global, text: &str, most: usize) -> Said {
     let mut shown = String::new(alloc);
     for c in text.chars().take(most) {
-        push_shown(&mut shown, c)?;
+        if matches!(c, '\'' | '"' | '\\') {
+            shown.push(c)?;
+        } else {
+            let escaped = c.escape_debug();
+            write!(shown, "{escaped}")?;
+        }
     }
     if text.chars().nth(most).is_some() {
         shown.push_str("..")?;
@@ -31,21 +25,19 @@ fn first_of(alloc: Global, text: &str, most: usize) -> Result<String, AllocError
 }
 
 /// A text as it is shown.
-pub fn shown(alloc: Global, text: &str) -> Result<String, AllocError> {
+pub fn shown(alloc: Global, text: &str) -> Said {
     first_of(alloc, text, SHOWN)
 }
 
-/// A name as it is shown: in quotes.
-pub fn quoted(alloc: Global, name: &str) -> Result<String, AllocError> {
-    let name = shown(alloc, name)?;
-    format!(in alloc; "\"{name}\"")
+/// A text as it is shown in quotes.
+pub fn quoted(alloc: Global, text: &str) -> Said {
+    format!(in alloc; "\"{}\"", shown(alloc, text)?)
 }
 
 /// A path as it is shown: an empty one in quotes.
-pub fn shown_path(alloc: Global, path: &str) -> Result<String, AllocError> {
-    if path.is_empty() {
-        quoted(alloc, path)
-    } else {
-        first_of(alloc, path, SHOWN_OF_PATH)
+pub fn shown_path(alloc: Global, path: &str) -> Said {
+    match path {
+        "" => quoted(alloc, path),
+        _ => first_of(alloc, path, SHOWN_OF_PATH),
     }
 }

@@ -1,163 +1,158 @@
 //! What a person would miss in a report.
-use std::alloc::{AllocError, Global};
-use std::str;
+use crate::run::{FirstBytes, Run, unit_of};
+use std::alloc::AllocError;
+use std::io::{self, Write};
+use std::rt::Files;
+use std::{fs, str};
 
-// The classes of packets that are passed over, as a report names them.
+// The classes of packets that are passed over.
 const CLASSES: [&str; 8] = [
     "short", "notipv4", "badipv4", "fragment", "nottcp", "cut", "badtcp", "sameends",
 ];
 
-/// A report, summed up line by line.
-#[derive(Clone, Copy, Debug, PartialEq, Eq)]
+// The most bytes of a line that are looked at. Each line has fewer.
+const LINE_LEN: usize = 512;
+
+/// The first of some reports, summed up as their bytes come.
+#[derive(Clone, Copy, Default)]
 pub struct Summary {
+    line: FirstBytes<LINE_LEN>,
+    reports: u64,
     records: u64,
     passed_over: [u64; 8],
     connections: u64,
     unopened: u64,
     met: u64,
     lost: u64,
-    has_begun: bool,
-    is_over: bool,
 }
 
 impl Summary {
-    /// That of no lines.
-    pub fn new() -> Summary {
-        Summary {
-            records: 0,
-            passed_over: [0; 8],
-            connections: 0,
-            unopened: 0,
-            met: 0,
-            lost: 0,
-            has_begun: false,
-            is_over: false,
-        }
-    }
-
-    /// Whether the next report has begun, of which nothing is summed up.
-    pub fn is_over(&self) -> bool {
-        self.is_over
-    }
-
-    /// Takes the next line, without its line feed.
-    pub fn add_line(&mut self, line: &[u8]) {
-        let Ok(line) = str::from_utf8(line) else {
-            return;
-        };
-        match line.split(' ').next() {
-            Some("scenario") if self.has_begun => self.is_over = true,
-            _ if self.is_over => {}
-            Some("scenario") => self.add_classes(line),
-            Some("connections") => {
-                self.connections = number_after(line, "connections");
-                self.unopened = number_after(line, "unopened");
+    fn add(&mut self, bytes: &[u8]) {
+        for part in bytes.split_inclusive(|byte| *byte == b'\n') {
+            self.line.add(part);
+            if part.ends_with(b"\n") {
+                let line = self.line;
+                self.line = FirstBytes::default();
+                self.add_line(str::from_utf8(line.bytes()).unwrap_or(""));
             }
-            _ => self.add_connection(line),
         }
     }
 
-    // Takes the line that counts the records by their classes.
-    fn add_classes(&mut self, line: &str) {
-        self.has_begun = true;
-        self.records = number_after(line, "records");
-        for (count, class) in self.passed_over.iter_mut().zip(CLASSES.iter()) {
-            *count = number_after(line, class);
+    // Takes a line, word by word. Once a second report has begun, none is summed up.
+    fn add_line(&mut self, line: &str) {
+        let words = line.split_ascii_whitespace();
+        for (name, word) in words.zip(line.split_ascii_whitespace().skip(1)) {
+            if name == "scenario" {
+                self.reports = self.reports.saturating_add(1);
+            }
+            if self.reports == 1 {
+                self.add_word(name, word);
+            }
         }
     }
 
-    // Takes the line of a connection.
-    fn add_connection(&mut self, line: &str) {
-        if word_after(line, "proxy") != Some("-") {
-            self.met = self.met.saturating_add(1);
-        }
-        for side in ["up", "down"] {
-            self.lost = self.lost.saturating_add(lost_of(line, side));
+    // Takes a word of a line after the name of what it tells.
+    fn add_word(&mut self, name: &str, word: &str) {
+        match name {
+            "records" => self.records = number(word),
+            "connections" => self.connections = number(word),
+            "unopened" => self.unopened = number(word),
+            "proxy" if word != "-" => self.met = self.met.saturating_add(1),
+            "up" | "down" => {
+                let lost = word.rsplit('/').next().map_or(0, number);
+                self.lost = self.lost.saturating_add(lost);
+            }
+            _ => {
+                if let Some(class) = CLASSES.iter().position(|class| *class == name) {
+                    self.passed_over[class] = number(word);
+                }
+            }
         }
     }
+}
 
-    /// What it says in one line; nothing where there was no report. `unit` is the unit of times, where it is known.
-    pub fn text(&self, alloc: Global, unit: Option<&str>) -> Result<Option<String>, AllocError> {
-        if !self.has_begun {
+fn number(word: &str) -> u64 {
+    word.parse().unwrap_or(0)
+}
+
+// The end of a noun after a number.
+fn plural_end(count: u64) -> &'static str {
+    if count == 1 { "" } else { "s" }
+}
+
+impl<R: Files> Run<'_, R> {
+    /// What would be missed in the first report, unless there is none: in what was printed, or in the file that was stored.
+    pub fn summed_up(&self, printed: Option<Summary>) -> Result<Option<String>, AllocError> {
+        let alloc = self.alloc;
+        let summary = match self.asked.out {
+            None => printed,
+            Some(folder) => self.stored_summary(&format!(in alloc; "{folder}/0000.txt")?),
+        };
+        let Some(summary) = summary.filter(|summary| summary.reports > 0) else {
             return Ok(None);
+        };
+        let (connections, met, records) = (summary.connections, summary.met, summary.records);
+        let mut text = String::new(alloc);
+        if self.asked.scenarios.len() > 1 {
+            text.push_str("scenario 0: ")?;
         }
-        let (connections, met) = (self.connections, self.met);
         let end = plural_end(connections);
-        let mut text = format!(in alloc; "{connections} connection{end}, {met} with a proxy")?;
-        self.push_losses(&mut text)?;
-        self.push_classes(&mut text)?;
-        if let Some(unit) = unit {
+        write!(text, "{connections} connection{end}, {met} with a proxy")?;
+        let left_out = [
+            (summary.lost, "byte", "lost"),
+            (summary.unopened, "segment", "without an opening"),
+        ];
+        for (count, noun, how) in left_out {
+            if count > 0 {
+                write!(text, "; {count} {noun}{} {how}", plural_end(count))?;
+            }
+        }
+        for (count, class) in summary.passed_over.iter().zip(CLASSES.iter()) {
+            if count.saturating_mul(10) > records {
+                write!(text, "; {count} of {records} records {class}")?;
+            }
+        }
+        if let Some(unit) = unit_of(self.capture_start().bytes()) {
             write!(text, "; times in {unit}")?;
         }
         Ok(Some(text))
     }
 
-    // Adds what is not in the outputs of connections.
-    fn push_losses(&self, text: &mut String) -> Result<(), AllocError> {
-        let (lost, unopened) = (self.lost, self.unopened);
-        if lost > 0 {
-            let end = plural_end(lost);
-            write!(text, "; {lost} byte{end} lost")?;
+    // The summary of the report that is stored at a path, if that is a regular file.
+    fn stored_summary(&self, path: &str) -> Option<Summary> {
+        let mut reports = SummedUp::new(io::sink(), Some(Summary::default()));
+        if fs::metadata(self.files, path).ok()?.is_file() {
+            io::copy(&mut fs::open(self.files, path).ok()?, &mut reports).ok()?;
         }
-        if unopened > 0 {
-            let end = plural_end(unopened);
-            write!(text, "; {unopened} segment{end} without an opening")?;
+        reports.summary
+    }
+}
+
+/// A writer of reports, which hands them on, and sums up the first if there is a summary.
+#[derive(Drop)]
+pub struct SummedUp<W> {
+    inner: W,
+    pub summary: Option<Summary>,
+}
+
+impl<W> SummedUp<W> {
+    pub fn new(inner: W, summary: Option<Summary>) -> SummedUp<W> {
+        SummedUp { inner, summary }
+    }
+}
+
+impl<W: Write> Write for SummedUp<W> {
+    ghost contents = { λ w. W.contents w.inner };
+
+    fn write(&mut self, buf: &[u8]) -> io::Result<usize> {
+        let len = self.inner.write(buf)?;
+        if let Some(summary) = &mut self.summary {
+            summary.add(&buf[..len]);
         }
-        Ok(())
+        Ok(len)
     }
 
-    // Adds the classes that are more than a tenth of the records.
-    fn push_classes(&self, text: &mut String) -> Result<(), AllocError> {
-        let records = self.records;
-        for (count, class) in self.passed_over.iter().zip(CLASSES.iter()) {
-            if count.saturating_mul(10) > records {
-                write!(text, "; {count} of {records} records {class}")?;
-            }
-        }
-        Ok(())
-    }
-}
-
-// The end of a noun that so many are counted by.
-fn plural_end(count: u64) -> &'static str {
-    if count == 1 { "" } else { "s" }
-}
-
-// The word of a line that stands after another word.
-fn word_after<'a>(line: &'a str, name: &str) -> Option<&'a str> {
-    let mut is_next = false;
-    for word in line.split(' ') {
-        if is_next {
-            return Some(word);
-        }
-        is_next = word == name;
-    }
-    None
-}
-
-// The number of a line that stands after a word; 0 where there is none.
-fn number_after(line: &str, name: &str) -> u64 {
-    match word_after(line, name) {
-        Some(word) => number(word),
-        None => 0,
-    }
-}
-
-// How many bytes of a side of a connection are lost: the last of the three numbers after its name.
-fn lost_of(line: &str, side: &str) -> u64 {
-    let Some(word) = word_after(line, side) else {
-        return 0;
-    };
-    match word.rsplit_once('/') {
-        Some((_, lost)) => number(lost),
-        None => 0,
-    }
-}
-
-// The number that a word writes; 0 where it writes none.
-fn number(word: &str) -> u64 {
-    match word.parse::<u64>() {
-        Ok(number) => number,
-        Err(_) => 0,
+    fn flush(&mut self) -> io::Result<()> {
+        self.inner.flush()
     }
 }

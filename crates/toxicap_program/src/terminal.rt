@@ -1,38 +1,21 @@
 //! What the program says on a terminal, beside its outputs and refusals: that it reads standard input, and how many scenarios are stored.
-use crate::looks::CaptureStart;
+use crate::run::CaptureStart;
 use std::alloc::Allocator;
 use std::fs::{Metadata, OpenOptions};
-use std::io::{self, IsTerminal, Read, Stderr};
+use std::io::{self, Eprint, Read, Stderr};
 use std::rt::Files;
 use std::sync::Wait;
 use std::sync::atomic::{AtomicU64, Ordering};
 use std::thread::Threads;
 
-/// Standard input. Where it is a terminal, and standard error is one, standard error says so before the first read, which waits. Its first
-/// bytes are kept.
+/// Standard input. Standard error says that it is read, unless that is announced, before the first read, which waits. The first bytes are
+/// kept.
 #[derive(Drop)]
 pub struct Announced<R> {
-    input: R,
-    faults: Stderr,
-    is_announced: bool,
-    first_bytes: CaptureStart,
-}
-
-impl<R: IsTerminal> Announced<R> {
-    pub fn new(input: R, faults: Stderr) -> Announced<R> {
-        let is_announced = !input.is_terminal() || !faults.is_terminal();
-        Announced {
-            input,
-            faults,
-            is_announced,
-            first_bytes: CaptureStart::new(),
-        }
-    }
-
-    /// The first bytes that were read.
-    pub fn first_bytes(&self) -> CaptureStart {
-        self.first_bytes
-    }
+    pub input: R,
+    pub faults: Stderr,
+    pub is_announced: bool,
+    pub first_bytes: CaptureStart,
 }
 
 impl<R: Read> Read for Announced<R> {
@@ -51,45 +34,20 @@ impl<R: Read> Read for Announced<R> {
     }
 }
 
-/// The files of a runtime. Standard error says how many scenarios are stored, each time the second file of one has taken its name.
+/// The files of a runtime. Standard error says how many of `all` scenarios are stored, if these are at least two, each time the second
+/// file of one has taken its name.
 #[derive(Drop)]
 pub struct Counting<'a, R> {
-    rt: &'a R,
-    faults: Stderr,
-    all: u64,
-    named: AtomicU64,
-}
-
-impl<'a, R> Counting<'a, R> {
-    /// It counts up to `all` scenarios. One alone, or none, is not counted.
-    pub fn new(rt: &'a R, faults: Stderr, all: u64) -> Counting<'a, R> {
-        Counting {
-            rt,
-            faults,
-            all,
-            named: AtomicU64::new(0),
-        }
-    }
-
-    // Counts a file that has taken its name. Each count but the last is written over by what comes next on the line.
-    fn count(&self) {
-        if self.all < 2 {
-            return;
-        }
-        let named = self.named.fetch_add(1, Ordering::SeqCst).wrapping_add(1);
-        if named % 2 == 0 {
-            let (stored, all) = (named / 2, self.all);
-            let end = if stored < all { "\r" } else { "\n" };
-            let _ = eprint!(self.faults; "stored {stored} of {all}{end}");
-        }
-    }
+    pub rt: &'a R,
+    pub all: u64,
+    pub named: AtomicU64,
 }
 
 impl<R: Threads> Threads for Counting<'_, R> {}
 
 impl<R: Wait> Wait for Counting<'_, R> {}
 
-impl<R: Files> Files for Counting<'_, R> {
+impl<R: Files + Eprint> Files for Counting<'_, R> {
     type File = R::File;
 
     type Dir = R::Dir;
@@ -116,7 +74,13 @@ impl<R: Files> Files for Counting<'_, R> {
 
     fn rename(&self, from: &str, to: &str) -> io::Result<()> {
         self.rt.rename(from, to)?;
-        self.count();
+        let named = self.named.fetch_add(1, Ordering::SeqCst).wrapping_add(1);
+        let (stored, all) = (named / 2, self.all);
+        if all >= 2 && named % 2 == 0 {
+            // what comes next is written over each count except the last
+            let end = if stored < all { "\r" } else { "\n" };
+            let _ = eprint!(self.rt; "stored {stored} of {all}{end}");
+        }
         Ok(())
     }
 

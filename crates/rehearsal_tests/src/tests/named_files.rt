@@ -35,7 +35,7 @@ where
     let mut input = Counted::new(b"".as_slice());
     let mut output = Counted::new(Vec::new(rt.alloc()));
     let mut faults = Counted::new(Vec::new(rt.alloc()));
-    let status = command_over(
+    let (status, _outcome) = command_over(
         rt,
         disk,
         rt.alloc(),

@@ -14,4 +14,8 @@ returns-in-Ok-clause-ends g c =
         (outcome, ran.runs, ran.failed_writes, told.status, told.told),
         IfSome_then (g.D.Disk.history c.args.disk.now) ran.named (λ h over. (outcome, over, ran.failed_calls, told.status, told.told)),
       ),
+      (
+        (ran.runs, ran.failed_writes, told.status, told.told),
+        IfSome_then (g.D.Disk.history c.args.disk.now) ran.named (λ h over. (over, ran.failed_calls)),
+      ),
     )

@@ -1,0 +1,102 @@
+//! A run that has ended, and its files looked at again. Only regular files are opened: another could wait.
+use command_line::Asked;
+use std::alloc::{AllocError, Global};
+use std::fs;
+use std::io::{self, Read};
+use std::rt::Files;
+
+/// What is said of a run, unless an allocation failed.
+pub type Said = Result<String, AllocError>;
+
+// How many bytes a capture has before its records.
+const HEADER_LEN: usize = 24;
+
+/// The first bytes of what comes in parts, at most `N`.
+#[derive(Clone, Copy, Default)]
+pub struct FirstBytes<const N: usize> {
+    bytes: [u8; N],
+    len: usize,
+}
+
+impl<const N: usize> FirstBytes<N> {
+    /// Takes the next bytes, as far as there is room.
+    pub fn add(&mut self, bytes: &[u8]) {
+        if let Some(room) = self.bytes.get_mut(self.len..) {
+            let count = room.len().min(bytes.len());
+            room[..count].copy_from_slice(&bytes[..count]);
+            self.len = self.len.saturating_add(count);
+        }
+    }
+
+    pub fn bytes(&self) -> &[u8] {
+        self.bytes.get(..self.len).unwrap_or(&[])
+    }
+}
+
+pub type CaptureStart = FirstBytes<HEADER_LEN>;
+
+/// The most bytes that a capture, a dump or a scenario file may have.
+pub const LIMIT: u64 = 1 << 30;
+
+/// A run that has ended.
+#[derive(Clone, Copy)]
+pub struct Run<'a, R> {
+    pub files: &'a R,
+    pub alloc: Global,
+    /// What it was asked for.
+    pub asked: &'a Asked<'a>,
+    /// The first bytes that it read of standard input.
+    pub first_bytes: CaptureStart,
+}
+
+impl<R: Files> Run<'_, R> {
+    /// The first bytes of the file at a path; none if it is neither a regular file nor a folder.
+    pub fn first_bytes_of(&self, path: &str) -> io::Result<CaptureStart> {
+        let mut first_bytes = CaptureStart::default();
+        let metadata = fs::metadata(self.files, path)?;
+        if metadata.is_file() || metadata.is_dir() {
+            let mut bytes = [0; HEADER_LEN];
+            let len = fs::open(self.files, path)?.read(&mut bytes)?;
+            first_bytes.add(bytes.get(..len).unwrap_or(&[]));
+        }
+        Ok(first_bytes)
+    }
+
+    /// The first bytes of the capture; none if they cannot be read again.
+    pub fn capture_start(&self) -> CaptureStart {
+        match self.asked.capture {
+            Some(path) => self.first_bytes_of(path).unwrap_or(CaptureStart::default()),
+            None => self.first_bytes,
+        }
+    }
+
+    /// The bytes of a regular file, unless they are too many or cannot be read.
+    pub fn text_of(&self, path: &str) -> Option<Vec<u8>> {
+        let metadata = fs::metadata(self.files, path).ok()?;
+        if !metadata.is_file() || metadata.len() > LIMIT {
+            return None;
+        }
+        let mut text = Vec::new(self.alloc);
+        let mut file = fs::open(self.files, path).ok()?;
+        file.read_to_end(&mut text).ok()?;
+        Some(text)
+    }
+}
+
+/// What an error of the system says, without its number.
+pub fn said_by(alloc: Global, error: &io::Error) -> Said {
+    let text = error.to_string(alloc)?;
+    match text.split_once(" (os error") {
+        Some((cause, _)) => String::from_str(alloc, cause),
+        None => Ok(text),
+    }
+}
+
+/// The unit of the times of a capture with these first bytes, if they are a magic number.
+pub fn unit_of(first_bytes: &[u8]) -> Option<&'static str> {
+    match first_bytes {
+        [0xa1, 0xb2, 0xc3, 0xd4, ..] | [0xd4, 0xc3, 0xb2, 0xa1, ..] => Some("microseconds"),
+        [0xa1, 0xb2, 0x3c, 0x4d, ..] | [0x4d, 0x3c, 0xb2, 0xa1, ..] => Some("nanoseconds"),
+        _ => None,
+    }
+}

@@ -1,4 +1,4 @@
-//! What the connections of a capture contribute to one scenario, made by workers.
+//! What the connections of a capture contribute to one scenario, in shares.
 ghost use Rattle.std.specs.Prelude.{◌≡◌, [], ◌∷◌, IfOk};
 ghost use Rattle.std.specs.List.{flat_map};
 ghost use Rattle.conn_workers.specs.Recordings.{recorded_row};
@@ -13,15 +13,11 @@ use scenarios::Scenario;
 use std::alloc::{AllocError, Global};
 use std::thread::Threads;
 
-/// What the connections of a capture contribute to one scenario, in shares, one after another in order of the connections' numbers.
-/// How many shares there are depends on the plan; what they hold together does not.
+/// Shares in order of the connections' numbers. The plan decides how many there are, but not what they hold together.
 pub type RowShares<'w, 'a> = Values<RowShare<'w, 'a>>;
 
-/// What each connection contributes to a scenario with its number, one connection after another. Workers make it in phase `Jobs`, with
-/// one job for each range of connections. What the shares hold together is the same whatever the plan and the gate.
-///
-/// # Errors
-/// A growth was refused.
+/// What each connection contributes to the scenario with this number. Workers make it in phase `Jobs`, with one job for each range of
+/// connections.
 pub fn deliver_row<'w, 'a, R: Threads + Sync, G: Gate>(
     rt: &R,
     alloc: Global,
@@ -49,11 +45,7 @@ pub fn deliver_row<'w, 'a, R: Threads + Sync, G: Gate>(
     work_all(rt, alloc, ranges.count, workers, Phase::Jobs, gate, &jobs)
 }
 
-/// What each connection contributes to a scenario with its number, as [`deliver_row`] gives it, made by this thread alone: in one
-/// share.
-///
-/// # Errors
-/// A growth was refused.
+/// The same as [`deliver_row`], made by this thread in one share.
 pub fn deliver_row_alone<'w, 'a>(
     alloc: Global,
     recordings: &'w Recordings<'_, 'a>,
@@ -71,7 +63,6 @@ pub fn deliver_row_alone<'w, 'a>(
     one(alloc, share)
 }
 
-// The list of one value.
 fn one<V: Drop>(alloc: Global, value: V) -> Result<Values<V>, AllocError>
     ensures { IfOk result (λ v. v ≡ value ∷ []) }
 {

@@ -1,5 +1,4 @@
-//! The works of workers on recordings: what each connection contributes to all scenarios, and what ranges of connections contribute to
-//! one.
+//! The jobs of workers on recordings.
 ghost use Rattle.std.specs.Prelude.{◌≡◌, ◌≤◌, ◌*◌, length};
 ghost use Rattle.conn_workers.specs.DeliveryRows.{scenario_limit};
 ghost use Rattle.conn_workers.specs.Recordings.{recorded_deliveries};
@@ -14,17 +13,12 @@ use job_matrix::Work;
 use scenarios::Scenario;
 use std::alloc::{AllocError, Global};
 
-/// Recordings of connections, and scenarios: of C connections, job s * C + c makes what connection c contributes to
-/// scenario s.
+/// Of C connections, job s * C + c makes what connection c contributes to scenario s.
 #[derive(Drop)]
 pub(crate) struct ContributionJobs<'w, 'v, 'a> {
-    /// Where deliveries are kept.
     pub(crate) alloc: Global,
-    /// The connections with what is recorded of them.
     pub(crate) recordings: &'w [Recording<'v, 'a>],
-    /// The scenarios.
     pub(crate) scenarios: &'w [Scenario],
-    /// The seed of the random words.
     pub(crate) seed: u64,
     ghost few: { length scenarios.now ≤ scenario_limit },
     ghost each: { length (recorded_deliveries seed recordings.now scenarios.now) ≡ length scenarios.now * length recordings.now },
@@ -51,11 +45,8 @@ impl<'w, 'v, 'a> Work for ContributionJobs<'w, 'v, 'a> {
 /// Job r makes what the connections of range r contribute to the scenario.
 #[derive(Drop)]
 pub(crate) struct ShareJobs<'s, 'w, 'v, 'a> {
-    /// The scenario.
     pub(crate) under: UnderScenario<'s>,
-    /// The connections with what is recorded of them.
     pub(crate) recordings: &'w [Recording<'v, 'a>],
-    /// The ranges.
     pub(crate) ranges: RowRanges,
     ghost all: { ranges.all ≡ length recordings.now },
 }

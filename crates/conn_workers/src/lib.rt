@@ -1,12 +1,7 @@
-//! What each connection of a capture contributes to each scenario, made by workers: its written segments and its line
-//! of the report.
+//! What each connection of a capture contributes to each scenario: its written segments and its line of the report.
 //!
-//! `deliver` gives it all at once. `specs/Contributions.antt` says what a connection contributes,
-//! and `specs/DeliveryRows.antt` in what order; `laws` has the theorems that nothing else of a capture or a scenario
-//! changes it, and that a connection meets the first proxy for its server. `deliver_row` gives the same for one scenario, in shares: what
-//! a range of connections contributes stands together (`specs/RowShares.antt`).
-//! `report_texts` gives the lines alone, for scenarios that follow one another at once (`specs/ReportTexts.antt`). The program calls these
-//! two.
+//! `deliver` gives it for all scenarios (`specs/Contributions.antt`, `specs/DeliveryRows.antt`), `deliver_row` for one, in shares
+//! (`specs/RowShares.antt`). `report_texts` gives only the lines (`specs/ReportTexts.antt`). The program calls the last two.
 #![tactic(auto)]
 
 mod deliveries;

@@ -1,4 +1,4 @@
-//! What is recorded of each connection of a capture, made by workers.
+//! What is recorded of each connection of a capture.
 ghost use Rattle.std.specs.Prelude.{◌≡◌, IfOk, length};
 ghost use Rattle.conn_workers.specs.CaptureTables.{whole_table};
 ghost use Rattle.conn_workers.specs.Recordings.{recordings_of};
@@ -13,14 +13,11 @@ use std::alloc::{AllocError, Global};
 use std::marker::Model;
 use std::thread::Threads;
 
-/// A connection of a table, with what is recorded of it, and its endpoints as its segments name them in each scenario.
+/// A connection of a table, with what its two sides sent, and its endpoints as its segments name them in each scenario.
 #[derive(Drop)]
 pub struct Recording<'w, 'a> {
-    /// What the table shows of the connection.
     pub(crate) conn: &'w Conn,
-    /// What its two sides sent.
     pub(crate) recorded: Recorded<'a>,
-    /// Its endpoints.
     pub(crate) endpoints: Endpoints,
 }
 
@@ -39,21 +36,17 @@ impl<'w, 'a> Model for Recording<'w, 'a> {
     ghost invariant = { λ r. IsRecording r.conn.now r.recorded r.endpoints };
 }
 
-/// The connections of a capture's table: job c makes the recorded lines of connection c.
+/// Job c makes the recorded lines of connection c of the capture's table.
 #[derive(Drop)]
 pub(crate) struct LineJobs<'c, 'w, 'a> {
-    /// Where lines are kept.
     pub(crate) alloc: Global,
-    /// The capture.
     pub(crate) capture: &'c Capture<'a>,
-    /// The connections of its table.
     pub(crate) conns: &'w [Conn],
     ghost shown: { conns.now ≡ (whole_table capture.now).conns },
     ghost each: { length conns.now ≡ length (recordings_of capture.now) },
 }
 
 impl<'c, 'w, 'a> LineJobs<'c, 'w, 'a> {
-    /// Those of a capture and its table.
     pub(crate) fn of(alloc: Global, capture: &'c Capture<'a>, table: &'w Table) -> Self
         requires { table.now ≡ whole_table capture.now }
         ensures { result.capture.now ≡ capture.now }
@@ -70,10 +63,7 @@ impl<'c, 'w, 'a> LineJobs<'c, 'w, 'a> {
     ghost use Rattle.std.specs.Prelude.{◌≡◌, ◌≤◌, IfOk, drop, length, take};
     ghost use Rattle.conn_workers.specs.Recordings.{recordings_of};
 
-    /// What is recorded of the connections from one on, of so many at most.
-    ///
-    /// # Errors
-    /// A growth was refused.
+    /// What is recorded of at most `most` connections, from number `from` on.
     pub(crate) fn recorded(
         &self,
         from: usize,
@@ -114,17 +104,11 @@ impl<'c, 'w, 'a> Work for LineJobs<'c, 'w, 'a> {
     }
 }
 
-/// The connections of a capture's table, in order of number, each with what is recorded of it.
+/// What is recorded of connections, in order of their numbers.
 pub type Recordings<'w, 'a> = Values<Recording<'w, 'a>>;
 
-/// What is recorded of each connection of a capture. Workers make it in phase `Lines`, with one job for each connection. The
-/// answer is the same whatever the plan and the gate.
-///
-/// The table is that of all records of the capture, however it was made. What is answered needs the table and the file's bytes, and the
-/// capture's records no more.
-///
-/// # Errors
-/// A growth was refused.
+/// What is recorded of each connection of a capture. Workers make it in phase `Lines`, with one job for each connection. The answer
+/// borrows the table and the file's bytes, but not the capture's records.
 pub fn record<'w, 'a, R: Threads + Sync, G: Gate>(
     rt: &R,
     alloc: Global,
@@ -142,10 +126,7 @@ pub fn record<'w, 'a, R: Threads + Sync, G: Gate>(
     work_all(rt, alloc, count, workers, Phase::Lines, gate, &jobs)
 }
 
-/// What is recorded of each connection of a capture, as [`record`] gives it, made by this thread alone.
-///
-/// # Errors
-/// A growth was refused.
+/// The same as [`record`], made by this thread.
 pub fn record_alone<'w, 'a>(
     alloc: Global,
     capture: &Capture<'a>,

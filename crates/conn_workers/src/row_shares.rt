@@ -1,4 +1,4 @@
-//! What some connections contribute to a scenario, one after another.
+//! What some connections contribute to a scenario.
 use report::ReportText;
 use segment_writer::{Keys, SegKey, SegmentRow};
 use std::alloc::AllocError;

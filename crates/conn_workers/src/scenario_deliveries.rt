@@ -13,7 +13,7 @@ use segment_writer::SegmentRow;
 use std::alloc::{AllocError, Global};
 use toxic_defs::{Delivered, delivered_by};
 
-/// What is delivered of a connection in a scenario with its number.
+/// What is delivered of a connection in the scenario with this number.
 pub(crate) fn delivered_in<'a>(
     alloc: Global,
     recording: &Recording<'_, 'a>,
@@ -31,10 +31,7 @@ pub(crate) fn delivered_in<'a>(
     delivered_by(alloc, recorded, met, seed, number, conn.number)
 }
 
-/// What a connection contributes to a scenario with its number.
-///
-/// # Errors
-/// Where a growth is refused.
+/// What a connection contributes to the scenario with this number.
 pub(crate) fn delivery_in(
     alloc: Global,
     recording: &Recording<'_, '_>,

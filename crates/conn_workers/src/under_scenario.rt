@@ -1,4 +1,4 @@
-//! A scenario with its number, and what recordings of connections contribute to it together.
+//! What recordings contribute together to a scenario with its number.
 ghost use Rattle.std.specs.Prelude.{◌≡◌, ◌++◌, [], IfOk, OnOk};
 ghost use Rattle.reassembly.specs.LineLaws.{IsLine};
 ghost use Rattle.toxic_defs.specs.DeliveredLines.{delivered_view};
@@ -14,19 +14,16 @@ use segment_writer::SegmentRow;
 use std::alloc::{AllocError, Global};
 use toxic_defs::Delivered;
 
-/// A scenario with its number, and the seed.
+/// A scenario with its number, and the seed of the random words.
 #[derive(Drop)]
 pub(crate) struct UnderScenario<'w> {
-    // Where what is made is kept.
     alloc: Global,
     number: u32,
     scenario: &'w Scenario,
-    // That of the random words.
     seed: u64,
 }
 
 impl<'w> UnderScenario<'w> {
-    /// All of these together.
     pub(crate) fn of(alloc: Global, number: u32, scenario: &'w Scenario, seed: u64) -> Self
         ensures number { result.number ≡ number }
         ensures scenario { result.scenario.now ≡ scenario.now }
@@ -40,14 +37,14 @@ impl<'w> UnderScenario<'w> {
         }
     }
 
-    // An empty text with room for the lines of a number of connections.
+    // An empty text with room for `count` lines.
     fn room_for_lines(&self, count: usize) -> Result<Vec<u8>, AllocError>
         ensures { IfOk result (λ lines. lines.items ≡ []) }
     {
         Vec::with_capacity(self.alloc, count.saturating_mul(LINE_ROOM))
     }
 
-    // Appends the line of a connection in the scenario's report, and gives what is delivered of it.
+    // Appends the line of a connection, and returns what is delivered of it.
     fn put_line_of<'a>(
         &self,
         lines: &mut Vec<u8>,
@@ -65,7 +62,6 @@ impl<'w> UnderScenario<'w> {
         Ok(delivered)
     }
 
-    /// What connections contribute, one after another. Room is asked for ahead for their lines.
     pub(crate) fn share<'r, 'a>(
         &self,
         recordings: &'r [Recording<'_, 'a>],
@@ -83,7 +79,7 @@ impl<'w> UnderScenario<'w> {
         Ok(RowShare { segments, lines })
     }
 
-    /// The lines of connections in the scenario's report, one after another. Room is asked for ahead.
+    /// The lines of connections in the scenario's report.
     pub(crate) fn text(&self, recordings: &[Recording<'_, '_>]) -> Result<ReportText, AllocError>
         ensures { IfOk result (λ text. text
             ≡ row_text self.now.seed (self.now.number, self.now.scenario.now) recordings.now) }

@@ -54,7 +54,7 @@ module _ {X : Type 0} (lt : X → X → Bool) where
     pub none_below-chain : (x y : X) (ys : List X) → lt y x ≡ false → NoneBelow lt y ys → NoneBelow lt x ys
     none_below-chain x y ys h none = all_weaker (λ w. lt w y ≡ false) (λ w. lt w x ≡ false) (λ w up. o.chain w y x up h) ys none
 
-    -- where no neighbours fall, none falls
+    -- if no neighbours fall, none falls
     pub sorted_ordered : (xs : List X) → IsSortedBy lt xs → Ordered lt xs
     sorted_ordered [] sorted = tt
     sorted_ordered (x ∷ []) sorted = (tt, tt)

@@ -16,11 +16,8 @@ pub(crate) trait Keyed: Drop {
         ensures { result ≡ key_of self.now };
 }
 
-/// What two lists in order of key have, in order of key; of one key the left list's come first. Where the right list comes after
-/// the left one it is appended whole; else the higher of the two last ones is taken, time after time. Memory is asked for once.
-///
-/// # Errors
-/// That growth was refused; the lists are then dropped.
+/// Merges two lists that are in order of key; of one key the left list's come first. If the right list comes after the left one, it is
+/// appended whole. Otherwise the higher of the two last elements is taken, time after time.
 pub(crate) fn merged<T: Keyed>(
     alloc: Global,
     left: Vec<T>,
@@ -59,7 +56,7 @@ fn overlap<T: Keyed>(left: &[T], right: &[T]) -> bool
     is_key_below(&first_key(right), &last_key(left))
 }
 
-// Takes the last of all of two lists in order.
+// Takes the last element of both lists.
 fn take_last<T: Keyed>(left: &mut Vec<T>, right: &mut Vec<T>) -> T
     requires left { Ordered (has_lower_key T.key_of) left.old.items }
     requires right { Ordered (has_lower_key T.key_of) right.old.items }
@@ -77,7 +74,7 @@ fn take_last<T: Keyed>(left: &mut Vec<T>, right: &mut Vec<T>) -> T
     }
 }
 
-// Whether the last of all is of the left list: where the right one has none as high.
+// Whether the last element of both is of the left list.
 fn is_last_left<T: Keyed>(left: &[T], right: &[T]) -> bool
     requires { 0 < length left.now + length right.now }
     ensures left { result ≡ true → 0 < length left.now }
@@ -108,7 +105,6 @@ fn last_key<T: Keyed>(list: &[T]) -> SegKey
     list[list.len() - 1].key()
 }
 
-// Takes the last of a list.
 fn pop_last<T: Keyed>(list: &mut Vec<T>) -> T
     requires { 0 < length list.old.items }
     ensures { list.old.items ≡ list.new.items ++ result ∷ [] }

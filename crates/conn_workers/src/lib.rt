@@ -5,19 +5,16 @@
 #![tactic(auto)]
 
 mod deliveries;
-mod delivery_rows;
 mod jobs;
 pub mod laws;
 mod met_proxies;
 mod recordings;
 mod row_ranges;
 mod row_shares;
-mod scenario_deliveries;
 mod scenario_texts;
 mod under_scenario;
 
 pub use deliveries::{Deliveries, Delivery, deliver};
-pub use delivery_rows::{RowShares, deliver_row, deliver_row_alone};
 pub use recordings::{Recording, Recordings, record, record_alone};
-pub use row_shares::RowShare;
+pub use row_shares::{RowShare, RowShares, deliver_row, deliver_row_alone};
 pub use scenario_texts::{ShareTexts, report_texts, report_texts_alone};

@@ -1,13 +1,13 @@
 //! What is recorded of each connection of a capture.
-ghost use Rattle.std.specs.Prelude.{◌≡◌, IfOk, length};
+ghost use Rattle.std.specs.Prelude.{◌≡◌, IfOk};
 ghost use Rattle.conn_workers.specs.CaptureTables.{whole_table};
 ghost use Rattle.conn_workers.specs.Recordings.{recordings_of};
 
+use crate::jobs::LineJobs;
 use conn_table::{Conn, Table};
-use job_matrix::{Gate, Phase, Plan, Through, Values, Work, work_all, work_alone};
+use job_matrix::{Gate, Phase, Plan, Through, Values, work_all, work_alone};
 use pcap_records::Capture;
-use reassembly::laws::{connections_are_of_capture, conns_are_of_capture};
-use reassembly::{Recorded, lines};
+use reassembly::Recorded;
 use segment_writer::Endpoints;
 use std::alloc::{AllocError, Global};
 use std::marker::Model;
@@ -34,74 +34,6 @@ impl<'w, 'a> Model for Recording<'w, 'a> {
     } };
 
     ghost invariant = { λ r. IsRecording r.conn.now r.recorded r.endpoints };
-}
-
-/// Job c makes the recorded lines of connection c of the capture's table.
-#[derive(Drop)]
-pub(crate) struct LineJobs<'c, 'w, 'a> {
-    pub(crate) alloc: Global,
-    pub(crate) capture: &'c Capture<'a>,
-    pub(crate) conns: &'w [Conn],
-    ghost shown: { conns.now ≡ (whole_table capture.now).conns },
-    ghost each: { length conns.now ≡ length (recordings_of capture.now) },
-}
-
-impl<'c, 'w, 'a> LineJobs<'c, 'w, 'a> {
-    pub(crate) fn of(alloc: Global, capture: &'c Capture<'a>, table: &'w Table) -> Self
-        requires { table.now ≡ whole_table capture.now }
-        ensures { result.capture.now ≡ capture.now }
-    {
-        LineJobs {
-            alloc,
-            capture,
-            conns: table.conns(),
-        }
-    }
-}
-
-impl<'c, 'w, 'a> LineJobs<'c, 'w, 'a> {
-    ghost use Rattle.std.specs.Prelude.{◌≡◌, ◌≤◌, IfOk, drop, length, take};
-    ghost use Rattle.conn_workers.specs.Recordings.{recordings_of};
-
-    /// What is recorded of at most `most` connections, from number `from` on.
-    pub(crate) fn recorded(
-        &self,
-        from: usize,
-        most: usize,
-    ) -> Result<Vec<Recording<'w, 'a>>, AllocError>
-        requires { from ≤ length self.now.conns.now }
-        ensures { IfOk result (λ v. v.items ≡ take most (drop from (recordings_of self.now.capture.now))) }
-    {
-        let count = most.min(self.conns.len() - from);
-        let mut recordings = Vec::with_capacity(self.alloc, count)?;
-        for place in 0..count {
-            let recording = self.value((from + place) as u64)?;
-            recordings.push(recording)?;
-        }
-        Ok(recordings)
-    }
-}
-
-impl<'c, 'w, 'a> Work for LineJobs<'c, 'w, 'a> {
-    type Out = Recording<'w, 'a>;
-
-    ghost use Rattle.std.specs.Prelude.{◌≡◌, ◌<◌, length, get_or, IfOk};
-    ghost use Rattle.conn_workers.specs.Recordings.{recordings_of};
-
-    ghost values = { λ w. recordings_of w.capture.now };
-
-    fn value(&self, job: u64) -> Result<Recording<'w, 'a>, AllocError> {
-        connections_are_of_capture();
-        conns_are_of_capture();
-        let conn = &self.conns[job as usize];
-        let recorded = lines(self.alloc, conn, self.capture)?;
-        let endpoints = Endpoints::of(conn, &recorded);
-        Ok(Recording {
-            conn,
-            recorded,
-            endpoints,
-        })
-    }
 }
 
 /// What is recorded of connections, in order of their numbers.

@@ -5,14 +5,15 @@ ghost use Rattle.toxic_defs.specs.DeliveredLines.{delivered_view};
 ghost use Rattle.conn_workers.specs.Recordings.{recorded_delivered, recorded_delivery};
 ghost use Rattle.conn_workers.specs.RowShares.{row_share, row_text};
 
+use crate::deliveries::Delivery;
+use crate::met_proxies::met_proxy;
 use crate::recordings::Recording;
 use crate::row_shares::RowShare;
-use crate::scenario_deliveries::delivered_in;
-use report::{LINE_ROOM, ReportText, put_line};
+use report::{LINE_ROOM, ReportText, line, put_line};
 use scenarios::Scenario;
-use segment_writer::SegmentRow;
+use segment_writer::{SegmentRow, segments};
 use std::alloc::{AllocError, Global};
-use toxic_defs::Delivered;
+use toxic_defs::{Delivered, delivered_by};
 
 /// A scenario with its number, and the seed of the random words.
 #[derive(Drop)]
@@ -37,6 +38,38 @@ impl<'w> UnderScenario<'w> {
         }
     }
 
+    // What is delivered of a connection.
+    fn delivered<'a>(&self, recording: &Recording<'_, 'a>) -> Result<Delivered<'a>, AllocError>
+        ensures value { IfOk result (λ d. delivered_view d
+            ≡ recorded_delivered self.now.seed (self.now.number, self.now.scenario.now) recording.now) }
+        ensures up { IfOk result (λ d. IsLine d.up.line) }
+        ensures down { IfOk result (λ d. IsLine d.down.line) }
+    {
+        let conn = recording.conn;
+        let recorded = &recording.recorded;
+        let met = met_proxy(self.scenario, conn.server);
+        let (seed, number) = (self.seed, self.number);
+        delivered_by(self.alloc, recorded, met, seed, number, conn.number)
+    }
+
+    /// What a connection contributes.
+    pub(crate) fn delivery(&self, recording: &Recording<'_, '_>) -> Result<Delivery, AllocError>
+        ensures { IfOk result (λ d. d
+            ≡ recorded_delivery self.now.seed (self.now.number, self.now.scenario.now) recording.now) }
+    {
+        let conn = recording.conn;
+        let recorded = &recording.recorded;
+        let delivered = self.delivered(recording)?;
+        let line = line(self.alloc, conn, recorded, &delivered)?;
+        let segments = segments(self.alloc, conn, recorded, &delivered)?;
+        Ok(Delivery {
+            scenario: self.number,
+            conn: conn.number,
+            segments,
+            line,
+        })
+    }
+
     // An empty text with room for `count` lines.
     fn room_for_lines(&self, count: usize) -> Result<Vec<u8>, AllocError>
         ensures { IfOk result (λ lines. lines.items ≡ []) }
@@ -57,7 +90,7 @@ impl<'w> UnderScenario<'w> {
         ensures up { IfOk result (λ d. IsLine d.up.line) }
         ensures down { IfOk result (λ d. IsLine d.down.line) }
     {
-        let delivered = delivered_in(self.alloc, recording, self.number, self.scenario, self.seed)?;
+        let delivered = self.delivered(recording)?;
         put_line(lines, recording.conn, &recording.recorded, &delivered)?;
         Ok(delivered)
     }

@@ -1,9 +1,9 @@
 //! Written segments, their order in a capture, and lists of them.
-ghost use Rattle.std.specs.Prelude.{◌≡◌, ◌++◌, [], List, IfOk};
+ghost use Rattle.std.specs.Prelude.{◌≡◌, ◌++◌, List, IfOk};
 ghost use Rattle.segment_writer.specs.WrittenSegments.{is_key_below, sorted_by_key};
 ghost use Rattle.segment_writer.specs.declared.framed.Framed.{Framed};
 
-use crate::keyed::{Keyed, merged};
+use itertools::Itertools;
 use pcap_records::{Moment, Values};
 use std::alloc::{AllocError, Global};
 use std::marker::Model;
@@ -30,14 +30,6 @@ pub struct Framed {
     pub key: SegKey,
     /// The record, header and frame.
     pub bytes: RecordBytes,
-}
-
-impl Keyed for Framed {
-    ghost key_of = { λ x. x.key };
-
-    fn key(&self) -> SegKey {
-        self.key
-    }
 }
 
 /// A list of written segments, which lends their keys and appends their records.
@@ -87,15 +79,6 @@ impl Model for SegList {
 }
 
 impl SegList {
-    /// No segments.
-    pub fn empty(alloc: Global) -> SegList
-        ensures { result ≡ [] }
-    {
-        SegList {
-            list: Vec::new(alloc),
-        }
-    }
-
     pub(crate) fn of(list: Vec<Framed>) -> SegList
         ensures { result ≡ list.items }
     {
@@ -117,14 +100,17 @@ impl SegList {
         list
     }
 
-    /// Merges two lists that are in order.
+    /// Merges two lists that are in order; of one key the left list's come first.
     pub fn join(alloc: Global, left: SegList, right: SegList) -> Result<SegList, AllocError>
         requires left { sorted_by_key left ≡ left }
         requires right { sorted_by_key right ≡ right }
         ensures { IfOk result (λ list. list ≡ sorted_by_key (left ++ right)) }
     {
-        let list = merged(alloc, left.into_vec(), right.into_vec())?;
-        Ok(SegList::of(list))
+        let (left, right) = (left.into_vec(), right.into_vec());
+        let merged = left
+            .into_iter()
+            .merge_by(right, |x, y| !is_key_below(&y.key, &x.key));
+        Ok(SegList::of(merged.collect(alloc)?))
     }
 }
 

@@ -1,7 +1,7 @@
 //! Theorems about the definitions of this crate, and worked rows of them: the contract of each function is a theorem, or is evaluated.
 ghost use Rattle.segment_writer.specs.FirstPieces.{FirstPiece};
 ghost use Rattle.segment_writer.specs.KeyLaws.{KeysRise, KeysStandOnce, OnceInAnyOrder, OneOrder, SortedKeepsAll, SortedNeverFalls};
-ghost use Rattle.segment_writer.specs.KeyOrder.{PartsAreSortedFirst, RisingIsSorted};
+ghost use Rattle.segment_writer.specs.KeyOrder.{RisingIsSorted};
 ghost use Rattle.segment_writer.specs.SentRows.{LaterSent, CrossingSent, TurnsInOrder, RefusedInOrder, NoneAtHorizon, PiecesCut};
 ghost use Rattle.segment_writer.specs.TimelyLines.{LinesAreTimely};
 
@@ -9,12 +9,6 @@ ghost use Rattle.segment_writer.specs.TimelyLines.{LinesAreTimely};
 #[tactic(auto, using(crate::proofs::InOrder::rising_is_sorted))]
 pub fn rising_is_sorted()
     ensures { RisingIsSorted }
-{}
-
-/// Two lists of segments may be put in order before they are joined and put in order.
-#[tactic(auto, using(crate::proofs::InOrder::parts_are_sorted_first))]
-pub fn parts_are_sorted_first()
-    ensures { PartsAreSortedFirst }
 {}
 
 /// The first piece of some bytes is what their chunk still has, at most the limit, and what comes after it is cut in the same way.

@@ -70,7 +70,7 @@ impl<'w, 'a> SegmentRow<'w, 'a> {
     }
 
     /// The segments, each with its record.
-    pub fn written(&self, alloc: Global) -> Result<SegList, AllocError>
+    pub(crate) fn written(&self, alloc: Global) -> Result<SegList, AllocError>
         ensures { IfOk result (λ list. list ≡ self.now) }
     {
         let mut list = Vec::with_capacity(alloc, self.row.segments.len())?;

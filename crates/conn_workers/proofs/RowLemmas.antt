@@ -7,7 +7,7 @@ use Rattle.std.proofs.lemmas.List.{length-append, length-map, get_or-map, get_or
 use Rattle.std.proofs.lemmas.Option.{slice_get-get_or, slice_get_within, get_or_from_slice_get}
 use Rattle.conn_workers.specs.DeliveryRows.{rows}
 
--- where a place is within rows, they have columns
+-- if a place is within rows, they have columns
 pub some_columns : (j rows columns : ℕ) → j < rows * columns → 0 < columns
 some_columns j rows zero below = let none : rows * zero ≡ zero = omega arith in absurd (omega (arith, below, none))
 some_columns j rows (suc columns) below = omega arith
@@ -40,7 +40,7 @@ module _ {R C V : Type 0} (f : R → C → V) where
       ap (λ k. get_or (rows f rs cs) k d) (sym (div-add-mod' j (length cs)))
       ∙ cell rs cs (j / length cs) (j % length cs) d r x (div_below j (length cs) (length rs) some below) (mod_below j (length cs) some)
 
-  -- the same where row and column are known
+  -- the same if row and column are known
   pub cell_found : (rs : List R) (cs : List C) (s c : ℕ) (r : R) (x : C) → slice_get rs s ≡ Some r → slice_get cs c ≡ Some x
       → slice_get (rows f rs cs) (s * length cs + c) ≡ Some (f r x)
   cell_found rs cs s c r x row column =

@@ -31,7 +31,7 @@ module _ {X : Type 0} where
       let place : suc j * size ≡ size + j * size = omega (arith, suc-mul j size) in
       rw place (range_at size count (drop size xs) j other (omega (arith, below)) ∙ ap (take size) (drop-drop (j * size) size xs))
 
-  -- where the ranges reach to the end, what is made of each element stands in them as in the list
+  -- if the ranges reach to the end, what is made of each element stands in them as in the list
   together : {Y : Type 0} (f : X → List Y) (size count : ℕ) (xs : List X) → length xs ≤ count * size
       → flat_map (λ r. flat_map f r) (ranges_of size count xs) ≡ flat_map f xs
   together f size zero [] whole = refl

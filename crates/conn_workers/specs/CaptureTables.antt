@@ -8,6 +8,5 @@ use Rattle.conn_table.specs.Tables.{TableView, table_in}
 abbrev pub whole_table : CaptureView → TableView
 whole_table c = table_in c 0 (length c.records) 0
 
--- the connections that it shows
 abbrev pub whole_connections : CaptureView → List IndexedConnection
 whole_connections c = indexed_connections (segments_between c 0 (length c.records) 0)

@@ -21,13 +21,11 @@ contribution_by ticks c r d = record {
   line = connection_text c.number (vlan_of c) (client_of c) (server_of c) r d;
 }
 
--- The contribution of a connection: of the ticks of a second, its members with their instants and its number, the
--- scenario's number, the seed, and the proxy that it meets, and of nothing else.
+-- It depends on these parameters only.
 unfoldable pub contribution : ℕ → Connection → ℕ → ℕ → Option MetProxy → Contribution
 contribution ticks c scenario seed met =
     contribution_by ticks c (recorded_connection c)
     (delivered_connection ticks seed scenario c.number met (recorded_connection c))
 
--- what a connection contributes to a scenario with its number
 abbrev pub contribution_of : ℕ → ℕ → ℕ × List Proxy → Connection → Contribution
 contribution_of ticks seed (number, proxies) c = contribution ticks c number seed (met_proxy (server_of c) proxies)

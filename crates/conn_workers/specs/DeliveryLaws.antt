@@ -16,7 +16,6 @@ use Rattle.conn_workers.specs.Contributions.{contribution_of}
 use Rattle.conn_workers.specs.DeliveryRows.{connections_of, delivery, delivery_of, deliveries}
 use Rattle.conn_workers.specs.Recordings.{recordings_of, recorded_row, recorded_lines}
 
--- what is seen of a capture, and the scenarios that it is rehearsed under
 pub record Rehearsed : Type 0 where
   pub seen : SeenCapture
   pub scenarios : List (List Proxy)
@@ -28,14 +27,13 @@ pub record Has (r : Rehearsed) (number s : ℕ) (c : Connection) (proxies : List
 
 -- ---- places
 
--- there are as many deliveries as scenarios, times as many as connections
 abbrev pub RowsAreWhole : Type 0
 RowsAreWhole =
     (ticks seed : ℕ) (r : Rehearsed)
     → length (deliveries ticks seed (connections_of r.seen) r.scenarios)
     ≡ length r.scenarios * length (connections_of r.seen)
 
--- the delivery at place s * C + number, where there are C connections
+-- of C connections, the delivery at place s * C + number
 abbrev pub delivery_at : ℕ → ℕ → Rehearsed → ℕ → ℕ → Option Delivery
 delivery_at ticks seed r number s =
     slice_get (deliveries ticks seed (connections_of r.seen) r.scenarios) (s * length (connections_of r.seen) + number)
@@ -48,9 +46,8 @@ DeliveriesArePlaced =
 
 -- ---- isolation
 
--- Two captures, or one, in which the connection of one number has the same members at the same instants, and two
--- lists of scenarios in which it meets the same proxy in scenario s, with its number, its enabled flag and its
--- toxics, or in both none: whatever else they hold, its contribution is the same, and so is its delivery.
+-- Two captures in which the connection of one number has the same members, and two lists of scenarios in which it meets the same proxy or
+-- none: its contribution and its delivery are the same.
 abbrev pub ContributionsAreIsolated : Type 0
 ContributionsAreIsolated =
     (ticks seed number s : ℕ) (first second : Rehearsed) (x y : Connection) (a b : List Proxy)
@@ -61,32 +58,26 @@ ContributionsAreIsolated =
 
 -- ---- the proxy that is met
 
--- it is the first proxy that is for the server: its number, its enabled flag and its toxics
 pub record IsFirstMet (server : Peer) (proxies : List Proxy) (met : MetProxy) : Type 0 where
   pub first : IsFirstFor server proxies met.number
   pub enabled : met.enabled ≡ first.proxy.enabled
   pub up : met.up ≡ first.proxy.up
   pub down : met.down ≡ first.proxy.down
 
--- a connection to a server meets the first proxy that is for it, and none where no upstream is the server
 abbrev pub FirstProxyIsMet : Type 0
 FirstProxyIsMet =
     (server : Peer) (proxies : List Proxy)
     → MatchOption (met_proxy server proxies)
     (AllByRecursion (λ p. p.upstream ≢ server) proxies) (IsFirstMet server proxies)
 
--- ---- one scenario
+-- ---- what recordings give
 
--- what is recorded of a capture tells what its connections contribute to a scenario
 abbrev pub RowsAreContributed : Type 0
 RowsAreContributed =
     (seed : ℕ) (c : CaptureView) (s : ℕ × List Proxy)
     → recorded_row seed s (recordings_of c)
     ≡ map (delivery_of c.ticks seed s) (connections_of (seen_capture (contents_of c)))
 
--- ---- lines of a report
-
--- what is recorded of a capture tells the lines that its connections contribute
 abbrev pub LinesAreContributed : Type 0
 LinesAreContributed =
     (seed : ℕ) (c : CaptureView) (s : ℕ × List Proxy)

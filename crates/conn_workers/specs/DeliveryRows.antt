@@ -8,19 +8,15 @@ use Rattle.scenarios.specs.declared.proxies.Proxy.{Proxy}
 use Rattle.conn_workers.specs.declared.deliveries.Delivery.{Delivery}
 use Rattle.conn_workers.specs.Contributions.{Contribution, contribution_of}
 
--- the most scenarios of a rehearsal
 abbrev pub scenario_limit : ℕ
 scenario_limit = 256
 
--- the connections of what is seen of a capture
 abbrev pub connections_of : SeenCapture → List Connection
 connections_of c = connections (indexed_segments 0 c.packets)
 
--- a contribution, with the numbers of its scenario and of its connection
 abbrev pub delivery : ℕ → ℕ → Contribution → Delivery
 delivery scenario conn p = record { scenario = scenario; conn = conn; segments = p.segments; line = p.line }
 
--- what a connection contributes to a scenario with its number
 abbrev pub delivery_of : ℕ → ℕ → ℕ × List Proxy → Connection → Delivery
 delivery_of ticks seed (number, proxies) c = delivery number c.number (contribution_of ticks seed (number, proxies) c)
 
@@ -28,6 +24,5 @@ delivery_of ticks seed (number, proxies) c = delivery number c.number (contribut
 abbrev pub rows : {R C V : Type 0} → (R → C → V) → List R → List C → List V
 rows f rs cs = flat_map (λ r. map (f r) cs) rs
 
--- a row for each scenario, and in it a delivery for each connection
 unfoldable pub deliveries : ℕ → ℕ → List Connection → List (List Proxy) → List Delivery
 deliveries ticks seed conns scenarios = rows (delivery_of ticks seed) (enumerate_from 0 scenarios) conns

@@ -6,10 +6,9 @@ use Rattle.toxic_defs.specs.DeliveredLines.{MetProxy}
 use Rattle.scenarios.specs.Populate.{leads_to}
 use Rattle.scenarios.specs.declared.proxies.Proxy.{Proxy}
 
--- what a connection meets of a proxy with its number
 abbrev pub met_of : ℕ × Proxy → MetProxy
 met_of (number, proxy) = record { number = number; enabled = proxy.enabled; up = proxy.up; down = proxy.down }
 
--- the first proxy of a scenario, which is seen as its proxies in order, that is for a server, if one is
+-- the first proxy that is for a server
 abbrev pub met_proxy : Peer → List Proxy → Option MetProxy
 met_proxy server proxies = option_map met_of (find (λ x. leads_to server x.1) (enumerate_from 0 proxies))

@@ -14,17 +14,14 @@ use Rattle.conn_workers.specs.MetProxies.{met_proxy}
 use Rattle.conn_workers.specs.Contributions.{contribution_by}
 use Rattle.conn_workers.specs.DeliveryRows.{connections_of, delivery}
 
--- ---- lines
-
--- A line that is delivered of one that was recorded, of a connection that was opened at an instant: its bytes are the first that were
--- recorded, none is earlier than it was recorded, no end is before the opening, and all instants are before the horizon.
+-- The bytes of a delivered line are the first that were recorded, none earlier than it was recorded. No end is before the opening, and all
+-- instants are before the horizon.
 pub record IsDeliveredOf (ticks opened : ℕ) (recorded delivered : Line) : Type 0 where
   pub first : values_of delivered.bytes ≡ take (length delivered.bytes) (values_of recorded.bytes)
   pub delayed : DelaysFirst delivered.bytes recorded.bytes
   pub ends : IsNotBefore opened delivered.end
   pub before_horizon : IsBeforeHorizon ticks delivered
 
--- so is what is delivered of a connection in each direction
 pub record IsMadeOf (ticks : ℕ) (r : RecordedConnection) (d : DeliveredConnection) : Type 0 where
   pub up : IsDeliveredOf ticks r.opened r.up.line d.up
   pub down : IsDeliveredOf ticks r.opened r.down.line d.down
@@ -35,20 +32,17 @@ pub record IsMadeOf (ticks : ℕ) (r : RecordedConnection) (d : DeliveredConnect
 abbrev pub table_connections : CaptureView → List Connection
 table_connections c = connections_of (seen_capture (contents_of c))
 
--- what is delivered of a connection in a scenario with its number
 abbrev pub delivered_of : ℕ → ℕ → ℕ × List Proxy → Connection → DeliveredConnection
 delivered_of ticks seed (number, proxies) c =
     delivered_connection ticks seed number c.number (met_proxy (server_of c) proxies) (recorded_connection c)
 
--- A delivery to a scenario with its number: of the connection of its number it writes and tells what was recorded and what is
--- delivered, and what is delivered is made of what was recorded.
+-- a delivery is told of what was recorded and what is delivered, and the latter is made of the former
 pub record IsOfRecorded (c : CaptureView) (seed : ℕ) (s : ℕ × List Proxy) (d : Delivery) : Type 0 where
   pub connection : Connection
   pub numbered : slice_get (table_connections c) d.conn ≡ Some connection
   pub told : d ≡ delivery s.0 d.conn (contribution_by c.ticks connection (recorded_connection connection) (delivered_of c.ticks seed s connection))
   pub made : IsMadeOf c.ticks (recorded_connection connection) (delivered_of c.ticks seed s connection)
 
--- such a delivery to the scenario of its number
 pub record IsOfScenario (c : CaptureView) (seed : ℕ) (scenarios : List (List Proxy)) (d : Delivery) : Type 0 where
   pub proxies : List Proxy
   pub numbered : slice_get scenarios d.scenario ≡ Some proxies

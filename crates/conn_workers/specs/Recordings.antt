@@ -1,5 +1,4 @@
--- What the table of a capture shows of its connections, with what is recorded of them, and what they contribute by
--- that.
+-- What the table of a capture shows of its connections, with what is recorded of them, and what they contribute by that.
 use Rattle.std.specs.Prelude.{◌≡◌, List, map, ℕ}
 use Rattle.pcap_records.specs.CaptureView.{CaptureView}
 use Rattle.conn_table.specs.IndexedConnections.{IndexedConnection, without_indices}
@@ -21,7 +20,6 @@ use Rattle.conn_workers.specs.declared.deliveries.Delivery.{Delivery}
 use Rattle.conn_workers.specs.DeliveryRows.{rows}
 use Rattle.conn_workers.specs.MetProxies.{met_proxy}
 
--- the ticks of a second, what the table shows of a connection, and what is recorded of it
 pub record RecordingView : Type 0 where
   pub ticks : ℕ
   pub conn : Conn
@@ -30,11 +28,9 @@ pub record RecordingView : Type 0 where
 abbrev pub recording_in : CaptureView → IndexedConnection → RecordingView
 recording_in c x = record { ticks = c.ticks; conn = conn_in c x; recorded = recorded_connection (without_indices x) }
 
--- those of all connections of the table of all records
 abbrev pub recordings_of : CaptureView → List RecordingView
 recordings_of c = map (recording_in c) (whole_connections c)
 
--- what is recorded of both sides of a connection are lines, with as many ticks a second, and its endpoints are those of what is recorded
 pub record IsRecording (conn : Conn) (r : Recorded) (e : EndpointsView) : Type 0 where
   pub up : IsLine r.up.line
   pub down : IsLine r.down.line
@@ -52,12 +48,10 @@ recorded_delivery_by number r d = record {
   line = connection_text r.conn.number r.conn.vlan r.conn.client r.conn.server r.recorded d;
 }
 
--- what is delivered of a connection in a scenario with its number
 abbrev pub recorded_delivered : ℕ → ℕ × List Proxy → RecordingView → DeliveredConnection
 recorded_delivered seed (number, proxies) r =
     delivered_connection r.ticks seed number r.conn.number (met_proxy r.conn.server proxies) r.recorded
 
--- what a connection contributes to it
 abbrev pub recorded_delivery : ℕ → ℕ × List Proxy → RecordingView → Delivery
 recorded_delivery seed (number, proxies) r = recorded_delivery_by number r (recorded_delivered seed (number, proxies) r)
 
@@ -66,10 +60,8 @@ unfoldable pub recorded_deliveries : ℕ → List RecordingView → List (List P
 recorded_deliveries seed recordings scenarios =
     rows (recorded_delivery seed) (enumerate_from 0 scenarios) recordings
 
--- what all contribute to a scenario with its number
 abbrev pub recorded_row : ℕ → ℕ × List Proxy → List RecordingView → List Delivery
 recorded_row seed s recordings = map (recorded_delivery seed s) recordings
 
--- the lines of all connections in the report of a scenario with its number
 abbrev pub recorded_lines : ℕ → ℕ × List Proxy → List RecordingView → List (List ℕ)
 recorded_lines seed s recordings = map (λ r. (recorded_delivery seed s r).line) recordings

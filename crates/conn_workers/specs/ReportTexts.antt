@@ -1,16 +1,13 @@
--- The lines of connections in the reports of some scenarios that follow one another, made together: for each range of connections a text
--- for each scenario.
+-- The lines of connections in the reports of scenarios that follow one another: for each range of connections a text for each scenario.
 use Rattle.std.specs.Prelude.{◌≡◌, ℕ, ◌+◌, ◌<◌, List, [], length, map, get_or, All}
 use Rattle.std.specs.List.{enumerate_from, flat_map}
 use Rattle.scenarios.specs.declared.proxies.Proxy.{Proxy}
 use Rattle.conn_workers.specs.Recordings.{RecordingView, recorded_lines}
 use Rattle.conn_workers.specs.RowShares.{ranges_of, row_text}
 
--- the lines of some connections in the report of each of the scenarios, of which the first has this number
 unfoldable pub texts_under : ℕ → ℕ → List (List Proxy) → List RecordingView → List (List ℕ)
 texts_under seed first scenarios recordings = map (λ s. row_text seed s recordings) (enumerate_from first scenarios)
 
--- those of the connections of each range
 abbrev pub text_shares : ℕ → ℕ → ℕ → ℕ → List (List Proxy) → List RecordingView → List (List (List ℕ))
 text_shares size count seed first scenarios recordings = map (texts_under seed first scenarios) (ranges_of size count recordings)
 
@@ -18,8 +15,7 @@ text_shares size count seed first scenarios recordings = map (texts_under seed f
 abbrev pub text_of : ℕ → List (List (List ℕ)) → List ℕ
 text_of place shares = flat_map (λ share. get_or share place []) shares
 
--- What shares hold that have the lines of all connections: each has a text for each scenario, and the texts of one scenario are these
--- lines in its report.
+-- each share has a text for each scenario, and the texts of one scenario are the lines of all connections in its report
 pub record HoldLines (seed first : ℕ) (scenarios : List (List Proxy)) (recordings : List RecordingView) (shares : List (List (List ℕ))) : Type 0 where
   pub each : All (λ share. length share ≡ length scenarios) shares
   pub lines : (place : ℕ) → place < length scenarios

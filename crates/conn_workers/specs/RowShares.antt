@@ -6,27 +6,21 @@ use Rattle.scenarios.specs.declared.proxies.Proxy.{Proxy}
 use Rattle.conn_workers.specs.declared.row_shares.RowShare.{RowShare}
 use Rattle.conn_workers.specs.Recordings.{RecordingView, recorded_delivery}
 
--- ---- one connection after another, under a scenario with its number
-
--- their segments
 abbrev pub row_segments : ℕ → ℕ × List Proxy → List RecordingView → List Framed
 row_segments seed s recordings = flat_map (λ r. (recorded_delivery seed s r).segments) recordings
 
--- their lines of the report
 abbrev pub row_text : ℕ → ℕ × List Proxy → List RecordingView → List ℕ
 row_text seed s recordings = flat_map (λ r. (recorded_delivery seed s r).line) recordings
 
--- both
 abbrev pub row_share : ℕ → ℕ × List Proxy → List RecordingView → RowShare
 row_share seed s recordings = record { segments = row_segments seed s recordings; lines = row_text seed s recordings }
 
 -- ---- ranges
 
--- so many ranges of a list, one after another: each has `size` elements, or what is left
+-- `count` ranges of a list, one after another: each has `size` elements, or what is left
 abbrev pub ranges_of : {X : Type 0} → ℕ → ℕ → List X → List (List X)
 ranges_of size zero xs = []
 ranges_of size (suc count) xs = take size xs ∷ ranges_of size count (drop size xs)
 
--- what the connections of each range contribute
 abbrev pub row_shares : ℕ → ℕ → ℕ → ℕ × List Proxy → List RecordingView → List RowShare
 row_shares size count seed s recordings = map (row_share seed s) (ranges_of size count recordings)

@@ -30,18 +30,11 @@ pub struct Delivery {
     pub line: ReportText,
 }
 
-/// What each connection contributes to each scenario: a row for each scenario, with a delivery for each connection.
+/// A row for each scenario, with a delivery for each connection.
 pub type Deliveries = Values<Delivery>;
 
-/// What each connection of a capture contributes to each scenario, scenario by scenario. Workers first make the
-/// recorded lines, in phase `Lines` with one job for each connection, and then the deliveries, in phase `Jobs`: of C
-/// connections, job s * C + c makes that of connection c under scenario s. The answer is the same whatever the plan
-/// and the gate.
-///
-/// The table is that of all records of the capture, however it was made, and there are at most 256 scenarios.
-///
-/// # Errors
-/// A growth was refused.
+/// What each connection contributes to each scenario: of C connections, that of connection c to scenario s at place s * C + c. Workers make
+/// the recorded lines in phase `Lines`, then the deliveries in phase `Jobs`. The answer is the same for every plan and gate.
 pub fn deliver<R: Threads + Sync, G: Gate>(
     rt: &R,
     alloc: Global,

@@ -1,30 +1,96 @@
-//! The works of workers on recordings: what each connection contributes to all scenarios, and what ranges of connections contribute to
-//! one.
-ghost use Rattle.std.specs.Prelude.{◌≡◌, ◌≤◌, ◌*◌, length};
+//! The jobs of workers.
+ghost use Rattle.std.specs.Prelude.{◌≡◌, ◌≤◌, ◌+◌, ◌*◌, length};
+ghost use Rattle.conn_workers.specs.CaptureTables.{whole_table};
 ghost use Rattle.conn_workers.specs.DeliveryRows.{scenario_limit};
-ghost use Rattle.conn_workers.specs.Recordings.{recorded_deliveries};
+ghost use Rattle.conn_workers.specs.Recordings.{recorded_deliveries, recordings_of};
 
 use crate::deliveries::Delivery;
 use crate::recordings::Recording;
 use crate::row_ranges::RowRanges;
 use crate::row_shares::RowShare;
-use crate::scenario_deliveries::delivery_in;
+use crate::scenario_texts::{ShareTexts, texts_under};
 use crate::under_scenario::UnderScenario;
-use job_matrix::Work;
+use conn_table::{Conn, Table};
+use job_matrix::{Plan, Work};
+use pcap_records::Capture;
+use reassembly::laws::{connections_are_of_capture, conns_are_of_capture};
+use reassembly::lines;
 use scenarios::Scenario;
+use segment_writer::Endpoints;
 use std::alloc::{AllocError, Global};
 
-/// Recordings of connections, and scenarios: of C connections, job s * C + c makes what connection c contributes to
-/// scenario s.
+/// Job c makes the recorded lines of connection c of the capture's table.
+#[derive(Drop)]
+pub(crate) struct LineJobs<'c, 'w, 'a> {
+    pub(crate) alloc: Global,
+    pub(crate) capture: &'c Capture<'a>,
+    pub(crate) conns: &'w [Conn],
+    ghost shown: { conns.now ≡ (whole_table capture.now).conns },
+    ghost each: { length conns.now ≡ length (recordings_of capture.now) },
+}
+
+impl<'c, 'w, 'a> LineJobs<'c, 'w, 'a> {
+    ghost use Rattle.std.specs.Prelude.{◌≡◌, ◌≤◌, IfOk, drop, length, take};
+    ghost use Rattle.conn_workers.specs.Recordings.{recordings_of};
+
+    pub(crate) fn of(alloc: Global, capture: &'c Capture<'a>, table: &'w Table) -> Self
+        requires { table.now ≡ whole_table capture.now }
+        ensures { result.capture.now ≡ capture.now }
+    {
+        LineJobs {
+            alloc,
+            capture,
+            conns: table.conns(),
+        }
+    }
+
+    /// What is recorded of at most `most` connections, from number `from` on.
+    pub(crate) fn recorded(
+        &self,
+        from: usize,
+        most: usize,
+    ) -> Result<Vec<Recording<'w, 'a>>, AllocError>
+        requires { from ≤ length self.now.conns.now }
+        ensures { IfOk result (λ v. v.items ≡ take most (drop from (recordings_of self.now.capture.now))) }
+    {
+        let count = most.min(self.conns.len() - from);
+        let mut recordings = Vec::with_capacity(self.alloc, count)?;
+        for place in 0..count {
+            let recording = self.value((from + place) as u64)?;
+            recordings.push(recording)?;
+        }
+        Ok(recordings)
+    }
+}
+
+impl<'c, 'w, 'a> Work for LineJobs<'c, 'w, 'a> {
+    type Out = Recording<'w, 'a>;
+
+    ghost use Rattle.std.specs.Prelude.{◌≡◌, ◌<◌, length, get_or, IfOk};
+    ghost use Rattle.conn_workers.specs.Recordings.{recordings_of};
+
+    ghost values = { λ w. recordings_of w.capture.now };
+
+    fn value(&self, job: u64) -> Result<Recording<'w, 'a>, AllocError> {
+        connections_are_of_capture();
+        conns_are_of_capture();
+        let conn = &self.conns[job as usize];
+        let recorded = lines(self.alloc, conn, self.capture)?;
+        let endpoints = Endpoints::of(conn, &recorded);
+        Ok(Recording {
+            conn,
+            recorded,
+            endpoints,
+        })
+    }
+}
+
+/// Of C connections, job s * C + c makes what connection c contributes to scenario s.
 #[derive(Drop)]
 pub(crate) struct ContributionJobs<'w, 'v, 'a> {
-    /// Where deliveries are kept.
     pub(crate) alloc: Global,
-    /// The connections with what is recorded of them.
     pub(crate) recordings: &'w [Recording<'v, 'a>],
-    /// The scenarios.
     pub(crate) scenarios: &'w [Scenario],
-    /// The seed of the random words.
     pub(crate) seed: u64,
     ghost few: { length scenarios.now ≤ scenario_limit },
     ghost each: { length (recorded_deliveries seed recordings.now scenarios.now) ≡ length scenarios.now * length recordings.now },
@@ -44,18 +110,15 @@ impl<'w, 'v, 'a> Work for ContributionJobs<'w, 'v, 'a> {
         let number = job / count;
         let recording = &self.recordings[(job % count) as usize];
         let scenario = &self.scenarios[number as usize];
-        delivery_in(self.alloc, recording, number as u32, scenario, self.seed)
+        UnderScenario::of(self.alloc, number as u32, scenario, self.seed).delivery(recording)
     }
 }
 
 /// Job r makes what the connections of range r contribute to the scenario.
 #[derive(Drop)]
 pub(crate) struct ShareJobs<'s, 'w, 'v, 'a> {
-    /// The scenario.
     pub(crate) under: UnderScenario<'s>,
-    /// The connections with what is recorded of them.
     pub(crate) recordings: &'w [Recording<'v, 'a>],
-    /// The ranges.
     pub(crate) ranges: RowRanges,
     ghost all: { ranges.all ≡ length recordings.now },
 }
@@ -70,5 +133,77 @@ impl<'s, 'w, 'v, 'a> Work for ShareJobs<'s, 'w, 'v, 'a> {
 
     fn value(&self, job: u64) -> Result<RowShare<'w, 'a>, AllocError> {
         self.under.share(self.ranges.range(self.recordings, job))
+    }
+}
+
+// The most lines of a range, in all reports together, so that less is recorded at once if there are many reports.
+const LINES_LIMIT: usize = 4096;
+
+// The number of connections that a range may have in any case.
+const RANGE_LEAST: usize = 256;
+
+/// Job r makes the lines of the connections of range r in the report of each scenario. `first` is the number of the first one.
+#[derive(Drop)]
+pub(crate) struct TextJobs<'c, 'w, 'a> {
+    pub(crate) lines: LineJobs<'c, 'w, 'a>,
+    pub(crate) first: usize,
+    pub(crate) scenarios: &'w [Scenario],
+    pub(crate) seed: u64,
+    pub(crate) ranges: RowRanges,
+    ghost all: { ranges.all ≡ length lines.conns.now },
+    ghost few: { first + length scenarios.now ≤ scenario_limit },
+}
+
+impl<'c, 'w, 'a> TextJobs<'c, 'w, 'a> {
+    ghost use Rattle.std.specs.Prelude.{◌≡◌, ◌+◌, ◌≤◌, length};
+
+    pub(crate) fn of(
+        alloc: Global,
+        capture: &'c Capture<'a>,
+        table: &'w Table,
+        first: usize,
+        scenarios: &'w [Scenario],
+        seed: u64,
+        plan: Plan,
+    ) -> Self
+        requires table { table.now ≡ whole_table capture.now }
+        requires few { first + length scenarios.now ≤ scenario_limit }
+        ensures capture { result.lines.capture.now ≡ capture.now }
+        ensures first { result.first ≡ first }
+        ensures scenarios { result.scenarios.now ≡ scenarios.now }
+        ensures seed { result.seed ≡ seed }
+    {
+        let lines = LineJobs::of(alloc, capture, table);
+        let most = (LINES_LIMIT / scenarios.len().max(1)).max(RANGE_LEAST);
+        let ranges = RowRanges::of_at_most(lines.conns.len(), most, plan);
+        TextJobs {
+            lines,
+            first,
+            scenarios,
+            seed,
+            ranges,
+        }
+    }
+}
+
+impl<'c, 'w, 'a> Work for TextJobs<'c, 'w, 'a> {
+    type Out = ShareTexts;
+
+    ghost use Rattle.std.specs.Prelude.{◌≡◌, ◌<◌, length, get_or, IfOk};
+    ghost use Rattle.conn_workers.specs.Recordings.{recordings_of};
+    ghost use Rattle.conn_workers.specs.ReportTexts.{text_shares};
+
+    ghost values = { λ w. text_shares w.ranges.size w.ranges.count w.seed w.first w.scenarios.now (recordings_of w.lines.capture.now) };
+
+    fn value(&self, job: u64) -> Result<ShareTexts, AllocError> {
+        let first = self.ranges.first(job);
+        let recordings = self.lines.recorded(first, self.ranges.size)?;
+        texts_under(
+            self.lines.alloc,
+            &recordings,
+            self.first,
+            self.scenarios,
+            self.seed,
+        )
     }
 }

@@ -1,5 +1,4 @@
-//! Theorems about what connections contribute. Each function does nothing, or names what its theorem stands on: its contract is the
-//! theorem.
+//! Theorems about what connections contribute: the contract of each function is a theorem.
 ghost use Rattle.std.specs.Prelude.{All};
 ghost use Rattle.std.specs.List.{AllByRecursion};
 ghost use Rattle.reassembly.specs.RecordedLines.{recorded_connection};
@@ -19,45 +18,40 @@ use scenarios::Scenario;
 use scenarios::laws::first_is_met;
 use toxic_defs::laws::{cut_lines_end_in_time, delayed_bytes_are_the_first, delivered_is_recorded};
 
-/// There is a delivery for each scenario and each connection of a capture. Of C connections, that of number c under
-/// scenario s stands at place s * C + c, has these two numbers, and is what that connection contributes to that
-/// scenario.
+/// Of C connections, the delivery of connection c to scenario s stands at place s * C + c and has both numbers.
 pub fn deliveries_are_placed()
     ensures whole { RowsAreWhole }
     ensures placed { DeliveriesArePlaced }
 {}
 
-/// What a connection contributes to a scenario is the same whatever other connections and packets a capture holds,
-/// and whatever else the scenario, as long as its number, its members and their instants are the same, and the proxy
-/// that it meets has the same number, enabled flag and toxics.
+/// Whatever else a capture and a scenario hold does not change a contribution: other connections, packets and proxies.
 pub fn contributions_are_isolated()
     ensures { ContributionsAreIsolated }
 {}
 
-/// A connection to a server meets the first proxy of a scenario whose upstream is the server, with its number, its enabled flag and
-/// its toxics, and none where no upstream is the server.
+/// A connection meets the first proxy whose upstream is its server, or none if no upstream is.
 pub fn first_proxy_is_met()
     ensures { FirstProxyIsMet }
 {
     first_is_met();
 }
 
-/// What is recorded of a capture gives what its connections contribute to a scenario.
+/// The recordings of a capture give what its connections contribute to a scenario.
 pub fn rows_are_contributed()
     ensures { RowsAreContributed }
 {
     indexed_connections_agree();
 }
 
-/// The lines that reports tell of what is recorded of a capture are those that its connections contribute.
+/// The recordings of a capture give the lines that its connections contribute.
 pub fn lines_are_contributed()
     ensures { LinesAreContributed }
 {
     indexed_connections_agree();
 }
 
-/// What `record` answers for each connection of a capture's table: both lines follow the rule of lines, no byte is before the
-/// opening or past the horizon, and no end is before the opening. So it is by the definition of what is recorded.
+/// Both recorded lines of each connection follow the rule of lines. No byte is before the opening or past the horizon, and no end is before
+/// the opening.
 pub fn recordings_are_in_time(capture: &Capture<'_>)
     ensures recordings { AllByRecursion (λ r. IsRecordedInTime r.ticks r.recorded) (recordings_of capture.now) }
     ensures connections { AllByRecursion (λ x. IsRecordedInTime capture.now.ticks (recorded_connection x)) (table_connections capture.now) }
@@ -69,9 +63,8 @@ pub fn recordings_are_in_time(capture: &Capture<'_>)
     capture.bytes();
 }
 
-/// Each delivery that `deliver` answers is that of the connection of its number to the scenario of its number. What is delivered in
-/// each direction is the first bytes that were recorded, none before it was recorded; no end is before the opening, and all
-/// instants are before the horizon.
+/// What `deliver` gives in each direction is the first bytes that were recorded, none before it was recorded. No end is before the opening,
+/// and all instants are before the horizon.
 pub fn deliveries_are_recorded(capture: &Capture<'_>, scenarios: &[Scenario], seed: u64)
     ensures { AllByRecursion (IsOfScenario capture.now seed scenarios.now)
         (deliveries capture.now.ticks seed (table_connections capture.now) scenarios.now) }
@@ -83,8 +76,7 @@ pub fn deliveries_are_recorded(capture: &Capture<'_>, scenarios: &[Scenario], se
     all_are_sound(scenarios);
 }
 
-/// The same of each delivery of the row of a capture's recordings under a scenario with its number. Of the deliveries of such a row
-/// `deliver_row` and `deliver_row_alone` give the segments and the lines, one delivery after another.
+/// The same of each delivery of a row, whose segments and lines `deliver_row` and `deliver_row_alone` give.
 pub fn rows_are_recorded(capture: &Capture<'_>, number: u32, scenario: &Scenario, seed: u64)
     ensures { AllByRecursion (IsOfRecorded capture.now seed (number, scenario.now))
         (recorded_row seed (number, scenario.now) (recordings_of capture.now)) }
@@ -97,7 +89,7 @@ pub fn rows_are_recorded(capture: &Capture<'_>, number: u32, scenario: &Scenario
     scenario.proxies();
 }
 
-// The proxies of each scenario are sound: their toxics are in range.
+// The toxics of each proxy are in range.
 fn all_are_sound(scenarios: &[Scenario])
     ensures { All (AllByRecursion IsSound) scenarios.now }
 {

@@ -8,7 +8,6 @@ use frame_headers::Peer;
 use scenarios::{Proxy, Scenario};
 use toxic_defs::MetProxy;
 
-// What a connection meets of a proxy with its number.
 fn met_of(number: u32, proxy: &Proxy) -> MetProxy<'_>
     ensures met { met_view result ≡ met_of (number, proxy.now) }
     ensures up { result.up.now ≡ proxy.now.up }
@@ -22,7 +21,7 @@ fn met_of(number: u32, proxy: &Proxy) -> MetProxy<'_>
     }
 }
 
-/// The proxy of a scenario that a connection to a server meets: the first that is for it.
+/// The first proxy of a scenario that is for a server.
 pub(crate) fn met_proxy(scenario: &Scenario, server: Peer) -> Option<MetProxy<'_>>
     ensures met { option_map met_view result ≡ met_proxy server scenario.now }
     ensures few_up { IfSome result (λ m. length m.up.now ≤ most_toxics) }

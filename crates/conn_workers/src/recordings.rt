@@ -1,26 +1,23 @@
-//! What is recorded of each connection of a capture, made by workers.
-ghost use Rattle.std.specs.Prelude.{◌≡◌, IfOk, length};
+//! What is recorded of each connection of a capture.
+ghost use Rattle.std.specs.Prelude.{◌≡◌, IfOk};
 ghost use Rattle.conn_workers.specs.CaptureTables.{whole_table};
 ghost use Rattle.conn_workers.specs.Recordings.{recordings_of};
 
+use crate::jobs::LineJobs;
 use conn_table::{Conn, Table};
-use job_matrix::{Gate, Phase, Plan, Through, Values, Work, work_all, work_alone};
+use job_matrix::{Gate, Phase, Plan, Through, Values, work_all, work_alone};
 use pcap_records::Capture;
-use reassembly::laws::{connections_are_of_capture, conns_are_of_capture};
-use reassembly::{Recorded, lines};
+use reassembly::Recorded;
 use segment_writer::Endpoints;
 use std::alloc::{AllocError, Global};
 use std::marker::Model;
 use std::thread::Threads;
 
-/// A connection of a table, with what is recorded of it, and its endpoints as its segments name them in each scenario.
+/// A connection of a table, with what its two sides sent, and its endpoints as its segments name them in each scenario.
 #[derive(Drop)]
 pub struct Recording<'w, 'a> {
-    /// What the table shows of the connection.
     pub(crate) conn: &'w Conn,
-    /// What its two sides sent.
     pub(crate) recorded: Recorded<'a>,
-    /// Its endpoints.
     pub(crate) endpoints: Endpoints,
 }
 
@@ -39,92 +36,11 @@ impl<'w, 'a> Model for Recording<'w, 'a> {
     ghost invariant = { λ r. IsRecording r.conn.now r.recorded r.endpoints };
 }
 
-/// The connections of a capture's table: job c makes the recorded lines of connection c.
-#[derive(Drop)]
-pub(crate) struct LineJobs<'c, 'w, 'a> {
-    /// Where lines are kept.
-    pub(crate) alloc: Global,
-    /// The capture.
-    pub(crate) capture: &'c Capture<'a>,
-    /// The connections of its table.
-    pub(crate) conns: &'w [Conn],
-    ghost shown: { conns.now ≡ (whole_table capture.now).conns },
-    ghost each: { length conns.now ≡ length (recordings_of capture.now) },
-}
-
-impl<'c, 'w, 'a> LineJobs<'c, 'w, 'a> {
-    /// Those of a capture and its table.
-    pub(crate) fn of(alloc: Global, capture: &'c Capture<'a>, table: &'w Table) -> Self
-        requires { table.now ≡ whole_table capture.now }
-        ensures { result.capture.now ≡ capture.now }
-    {
-        LineJobs {
-            alloc,
-            capture,
-            conns: table.conns(),
-        }
-    }
-}
-
-impl<'c, 'w, 'a> LineJobs<'c, 'w, 'a> {
-    ghost use Rattle.std.specs.Prelude.{◌≡◌, ◌≤◌, IfOk, drop, length, take};
-    ghost use Rattle.conn_workers.specs.Recordings.{recordings_of};
-
-    /// What is recorded of the connections from one on, of so many at most.
-    ///
-    /// # Errors
-    /// A growth was refused.
-    pub(crate) fn recorded(
-        &self,
-        from: usize,
-        most: usize,
-    ) -> Result<Vec<Recording<'w, 'a>>, AllocError>
-        requires { from ≤ length self.now.conns.now }
-        ensures { IfOk result (λ v. v.items ≡ take most (drop from (recordings_of self.now.capture.now))) }
-    {
-        let count = most.min(self.conns.len() - from);
-        let mut recordings = Vec::with_capacity(self.alloc, count)?;
-        for place in 0..count {
-            let recording = self.value((from + place) as u64)?;
-            recordings.push(recording)?;
-        }
-        Ok(recordings)
-    }
-}
-
-impl<'c, 'w, 'a> Work for LineJobs<'c, 'w, 'a> {
-    type Out = Recording<'w, 'a>;
-
-    ghost use Rattle.std.specs.Prelude.{◌≡◌, ◌<◌, length, get_or, IfOk};
-    ghost use Rattle.conn_workers.specs.Recordings.{recordings_of};
-
-    ghost values = { λ w. recordings_of w.capture.now };
-
-    fn value(&self, job: u64) -> Result<Recording<'w, 'a>, AllocError> {
-        connections_are_of_capture();
-        conns_are_of_capture();
-        let conn = &self.conns[job as usize];
-        let recorded = lines(self.alloc, conn, self.capture)?;
-        let endpoints = Endpoints::of(conn, &recorded);
-        Ok(Recording {
-            conn,
-            recorded,
-            endpoints,
-        })
-    }
-}
-
-/// The connections of a capture's table, in order of number, each with what is recorded of it.
+/// What is recorded of connections, in order of their numbers.
 pub type Recordings<'w, 'a> = Values<Recording<'w, 'a>>;
 
-/// What is recorded of each connection of a capture. Workers make it in phase `Lines`, with one job for each connection. The
-/// answer is the same whatever the plan and the gate.
-///
-/// The table is that of all records of the capture, however it was made. What is answered needs the table and the file's bytes, and the
-/// capture's records no more.
-///
-/// # Errors
-/// A growth was refused.
+/// What is recorded of each connection of a capture. Workers make it in phase `Lines`, with one job for each connection. The answer
+/// borrows the table and the file's bytes, but not the capture's records.
 pub fn record<'w, 'a, R: Threads + Sync, G: Gate>(
     rt: &R,
     alloc: Global,
@@ -142,10 +58,7 @@ pub fn record<'w, 'a, R: Threads + Sync, G: Gate>(
     work_all(rt, alloc, count, workers, Phase::Lines, gate, &jobs)
 }
 
-/// What is recorded of each connection of a capture, as [`record`] gives it, made by this thread alone.
-///
-/// # Errors
-/// A growth was refused.
+/// The same as [`record`], made by this thread.
 pub fn record_alone<'w, 'a>(
     alloc: Global,
     capture: &Capture<'a>,

@@ -1,34 +1,31 @@
-//! How the connections of a row are spread: in ranges of them, one after another.
+//! How the connections of a row are cut into ranges.
 ghost use Rattle.std.specs.Prelude.{◌≡◌, ◌≤◌, ◌<◌, ◌+◌, ◌*◌, length, take, drop};
 
 use crate::recordings::Recording;
 use job_matrix::Plan;
 
-// How many ranges there are at most for each worker.
+// The most ranges for each worker.
 const RANGES_EACH: usize = 8;
 
-/// So many connections in ranges that follow one another: each has `size` of them, but the last has what is left.
+/// `all` connections in `count` ranges that follow one another: each has `size` of them, the last has what is left.
 #[derive(Clone, Copy, Debug)]
 pub(crate) struct RowRanges {
     all: usize,
-    /// How many connections a range has.
     pub(crate) size: usize,
-    /// How many ranges there are.
     pub(crate) count: u64,
     ghost whole: { all ≤ count * size },
     ghost needed: { count * size < all + size },
 }
 
 impl RowRanges {
-    /// Ranges of so many connections, at most eight for each worker of a plan.
+    /// At most eight ranges for each worker of a plan.
     pub(crate) fn of(all: usize, plan: Plan) -> RowRanges
         ensures { result.all ≡ all }
     {
         RowRanges::of_size(all, even_size(all, plan))
     }
 
-    /// Ranges of so many connections, of at most so many each: at most eight for each worker of a plan where that allows it, and as few as
-    /// it allows for one worker.
+    /// Ranges of at most `most` connections: as few as possible for one worker, else at most eight for each worker if `most` allows it.
     pub(crate) fn of_at_most(all: usize, most: usize, plan: Plan) -> RowRanges
         requires { 1 ≤ most }
         ensures { result.all ≡ all }
@@ -39,7 +36,6 @@ impl RowRanges {
         RowRanges::of_size(all, even_size(all, plan).min(most))
     }
 
-    // Ranges of this size.
     fn of_size(all: usize, size: usize) -> RowRanges
         requires { 1 ≤ size }
         ensures { result.all ≡ all }
@@ -48,7 +44,7 @@ impl RowRanges {
         RowRanges { all, size, count }
     }
 
-    /// How many connections stand before a range.
+    /// The number of connections before a range.
     pub(crate) fn first(&self, range: u64) -> usize
         requires { range < self.now.count }
         ensures first { result ≡ range * self.now.size }
@@ -57,7 +53,6 @@ impl RowRanges {
         range as usize * self.size
     }
 
-    /// The connections of a range.
     pub(crate) fn range<'w, 'v, 'a>(
         &self,
         recordings: &'w [Recording<'v, 'a>],
@@ -72,7 +67,7 @@ impl RowRanges {
     }
 }
 
-// How many connections a range has so that there are at most eight ranges for each worker.
+// The least size of ranges that makes at most eight for each worker.
 fn even_size(all: usize, plan: Plan) -> usize
     ensures { 1 ≤ result }
 {

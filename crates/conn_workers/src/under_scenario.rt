@@ -1,32 +1,30 @@
-//! A scenario with its number, and what recordings of connections contribute to it together.
+//! What recordings contribute together to a scenario with its number.
 ghost use Rattle.std.specs.Prelude.{◌≡◌, ◌++◌, [], IfOk, OnOk};
 ghost use Rattle.reassembly.specs.LineLaws.{IsLine};
 ghost use Rattle.toxic_defs.specs.DeliveredLines.{delivered_view};
 ghost use Rattle.conn_workers.specs.Recordings.{recorded_delivered, recorded_delivery};
 ghost use Rattle.conn_workers.specs.RowShares.{row_share, row_text};
 
+use crate::deliveries::Delivery;
+use crate::met_proxies::met_proxy;
 use crate::recordings::Recording;
 use crate::row_shares::RowShare;
-use crate::scenario_deliveries::delivered_in;
-use report::{LINE_ROOM, ReportText, put_line};
+use report::{LINE_ROOM, ReportText, line, put_line};
 use scenarios::Scenario;
-use segment_writer::SegmentRow;
+use segment_writer::{SegmentRow, segments};
 use std::alloc::{AllocError, Global};
-use toxic_defs::Delivered;
+use toxic_defs::{Delivered, delivered_by};
 
-/// A scenario with its number, and the seed.
+/// A scenario with its number, and the seed of the random words.
 #[derive(Drop)]
 pub(crate) struct UnderScenario<'w> {
-    // Where what is made is kept.
     alloc: Global,
     number: u32,
     scenario: &'w Scenario,
-    // That of the random words.
     seed: u64,
 }
 
 impl<'w> UnderScenario<'w> {
-    /// All of these together.
     pub(crate) fn of(alloc: Global, number: u32, scenario: &'w Scenario, seed: u64) -> Self
         ensures number { result.number ≡ number }
         ensures scenario { result.scenario.now ≡ scenario.now }
@@ -40,14 +38,46 @@ impl<'w> UnderScenario<'w> {
         }
     }
 
-    // An empty text with room for the lines of a number of connections.
+    // What is delivered of a connection.
+    fn delivered<'a>(&self, recording: &Recording<'_, 'a>) -> Result<Delivered<'a>, AllocError>
+        ensures value { IfOk result (λ d. delivered_view d
+            ≡ recorded_delivered self.now.seed (self.now.number, self.now.scenario.now) recording.now) }
+        ensures up { IfOk result (λ d. IsLine d.up.line) }
+        ensures down { IfOk result (λ d. IsLine d.down.line) }
+    {
+        let conn = recording.conn;
+        let recorded = &recording.recorded;
+        let met = met_proxy(self.scenario, conn.server);
+        let (seed, number) = (self.seed, self.number);
+        delivered_by(self.alloc, recorded, met, seed, number, conn.number)
+    }
+
+    /// What a connection contributes.
+    pub(crate) fn delivery(&self, recording: &Recording<'_, '_>) -> Result<Delivery, AllocError>
+        ensures { IfOk result (λ d. d
+            ≡ recorded_delivery self.now.seed (self.now.number, self.now.scenario.now) recording.now) }
+    {
+        let conn = recording.conn;
+        let recorded = &recording.recorded;
+        let delivered = self.delivered(recording)?;
+        let line = line(self.alloc, conn, recorded, &delivered)?;
+        let segments = segments(self.alloc, conn, recorded, &delivered)?;
+        Ok(Delivery {
+            scenario: self.number,
+            conn: conn.number,
+            segments,
+            line,
+        })
+    }
+
+    // An empty text with room for `count` lines.
     fn room_for_lines(&self, count: usize) -> Result<Vec<u8>, AllocError>
         ensures { IfOk result (λ lines. lines.items ≡ []) }
     {
         Vec::with_capacity(self.alloc, count.saturating_mul(LINE_ROOM))
     }
 
-    // Appends the line of a connection in the scenario's report, and gives what is delivered of it.
+    // Appends the line of a connection, and returns what is delivered of it.
     fn put_line_of<'a>(
         &self,
         lines: &mut Vec<u8>,
@@ -60,12 +90,11 @@ impl<'w> UnderScenario<'w> {
         ensures up { IfOk result (λ d. IsLine d.up.line) }
         ensures down { IfOk result (λ d. IsLine d.down.line) }
     {
-        let delivered = delivered_in(self.alloc, recording, self.number, self.scenario, self.seed)?;
+        let delivered = self.delivered(recording)?;
         put_line(lines, recording.conn, &recording.recorded, &delivered)?;
         Ok(delivered)
     }
 
-    /// What connections contribute, one after another. Room is asked for ahead for their lines.
     pub(crate) fn share<'r, 'a>(
         &self,
         recordings: &'r [Recording<'_, 'a>],
@@ -83,7 +112,7 @@ impl<'w> UnderScenario<'w> {
         Ok(RowShare { segments, lines })
     }
 
-    /// The lines of connections in the scenario's report, one after another. Room is asked for ahead.
+    /// The lines of connections in the scenario's report.
     pub(crate) fn text(&self, recordings: &[Recording<'_, '_>]) -> Result<ReportText, AllocError>
         ensures { IfOk result (λ text. text
             ≡ row_text self.now.seed (self.now.number, self.now.scenario.now) recordings.now) }

@@ -1,5 +1,5 @@
 -- Segments in order of key.
-use Rattle.std.proofs.Common.{◌≡◌, ℕ, Bool, true, false, cond, ◌||◌, ◌&&◌, ◌==◌, nat_lt, nat_cmp, is_lt, List, [], ◌∷◌, ◌++◌, if◌then◌else◌, refl, ap, ◌∙◌, subst, Ordering, Less, Equal, Greater}
+use Rattle.std.proofs.Common.{◌≡◌, ℕ, Bool, true, false, cond, ◌||◌, ◌&&◌, ◌==◌, nat_lt, nat_cmp, is_lt, List, [], ◌∷◌, if◌then◌else◌, refl, ap, ◌∙◌, subst, Ordering, Less, Equal, Greater}
 use Rattle.std.specs.Cmp.{IsStrictWeakOrder}
 use Rattle.std.specs.Ordering.{ordering_then}
 use Rattle.std.specs.List.Sorted.{IsPermutation, IsSortedBy, IsSortedByKey}
@@ -10,9 +10,9 @@ use Rattle.segment_writer.specs.contracts.framed.SegKeyOrd.TheImpl.{ghosts}
 use Rattle.segment_writer.specs.contracts.framed.SegKeyOrd.TheImpl.Laws.{total-law}
 use Rattle.segment_writer.specs.WrittenSegments.{is_key_below, has_lower_key, below, insert_by_key, sorted_by_key}
 use Rattle.segment_writer.specs.KeyLaws.{NeverFalls, SortedKeepsAll, SortedNeverFalls}
-use Rattle.segment_writer.specs.KeyOrder.{RisesFrom, RisingIsSorted, PartsAreSortedFirst}
+use Rattle.segment_writer.specs.KeyOrder.{RisesFrom, RisingIsSorted}
 use Rattle.segment_writer.specs.OrderedLists.{NoneBelow, Ordered, insert_by, sorted_by}
-use Rattle.segment_writer.proofs.Sorting.{ordered_stays, keeps_all, none_below-chain, ordered-sorted, parts_sorted, sorted_ordered}
+use Rattle.segment_writer.proofs.Sorting.{ordered_stays, keeps_all, none_below-chain, ordered-sorted, sorted_ordered}
 
 -- ---- the derived order of keys is that of the definition
 
@@ -62,9 +62,6 @@ sorted_never_falls = subst (λ (sorted : List Framed → List Framed). (xs : Lis
 
 pub sorted_keeps_all : SortedKeepsAll
 sorted_keeps_all = subst (λ (sorted : List Framed → List Framed). (xs : List Framed) → IsPermutation xs (sorted xs)) in_order_by_key (keeps_all below)
-
-pub parts_are_sorted_first : PartsAreSortedFirst
-parts_are_sorted_first = subst (λ (sorted : List Framed → List Framed). (xs ys : List Framed) → sorted (sorted xs ++ sorted ys) ≡ sorted (xs ++ ys)) in_order_by_key (parts_sorted below below_order)
 
 ordered-rising : (x : Framed) (ys : List Framed) → RisesFrom x.key ys → NoneBelow below x ys × Ordered below ys
 ordered-rising x [] rise = (tt, tt)

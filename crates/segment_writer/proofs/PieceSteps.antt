@@ -77,7 +77,6 @@ module _ (parts : List LinePart) (c : Cursor) (p : LinePart) (ps : List LinePart
   left_here : left_at parts c ≡ bytes_with_mark p.at (mark p.starts c.offset) ahead ++ bytes_of_parts ps
   left_here = left_is parts c p ps e (omega (arith, inside))
 
-  -- so many bytes of the part
   passed_bytes : (n : ℕ) (bytes : List ℕ) → n ≤ length p.bytes.now - c.offset → bytes ≡ take n ahead → (length bytes ≡ n) × (bytes ≡ values (take (length bytes) (left_at parts c)))
   passed_bytes n bytes fits is =
       let count : length bytes ≡ n = ap length is ∙ omega (arith, length-take n ahead, length-drop c.offset p.bytes.now) in (
@@ -111,7 +110,6 @@ module _ (parts : List LinePart) (c : Cursor) (p : LinePart) (ps : List LinePart
         left = is ∙ sym (ap (drop (length own)) left_here ∙ drop-append_seam own (bytes_of_parts ps)) ∙ ap (λ k. drop k (left_at parts c)) (length-marked p.at (mark p.starts c.offset) ahead ∙ sym passed.0);
       }
 
-  -- so many bytes from a cursor on that its part has
   pub first_taken : (n : ℕ) → n ≤ length (rest_of c.offset p.bytes.now) → values (take n (left_at parts c)) ≡ take n (rest_of c.offset p.bytes.now)
   first_taken n within =
       ap (λ xs. values (take n xs)) left_here

@@ -65,7 +65,7 @@ module _ (n ticks at len frame : ℕ) (out slice payload : List ℕ) (is : slice
   pub length-frame : length (slice_from frame slice) ≡ n + length payload
   length-frame = ap length frame_is ∙ length-append (replicate n 0) payload ∙ ap (λ k. k + length payload) (length-replicate n 0)
 
-  -- where the headers are written into it, the record is appended
+  -- once the headers are written into it, the record is appended
   module _ (h : Header) (vec_len : ℕ) (whole new : List ℕ) (same : slice ≡ whole) (all : vec_len ≡ length whole) (fills : len ≡ n + length payload)
       (written : new ≡ headers h (drop n (slice_from frame slice)) ++ drop n (slice_from frame slice)) (kept : length new ≡ length (slice_from frame slice)) where
     pub put_is : take vec_len (put_mid frame (length slice - frame) slice new ++ drop (length (put_mid frame (length slice - frame) slice new)) whole) ≡ out ++ record_bytes ticks at (frame_with h payload)

@@ -1,10 +1,10 @@
 -- Lists in order by a test. Putting a list in order keeps its elements, and what ties keeps its order: no other list is so.
-use Rattle.std.proofs.Common.{◌≡◌, suc, arith, slice_index_or, Bool, true, false, cond, not, ◌&&◌, List, [], ◌∷◌, ◌++◌, filter, if◌then◌else◌, refl, sym, ap, ap₂, ◌∙◌, subst}
+use Rattle.std.proofs.Common.{◌≡◌, suc, arith, slice_index_or, Bool, true, false, cond, not, ◌&&◌, List, [], ◌∷◌, filter, if◌then◌else◌, refl, sym, ap, ◌∙◌, subst}
 use Rattle.std.specs.List.{AllByRecursion}
 use native.Mathlib.Numerals.{add-one}
 use Rattle.std.specs.Cmp.{IsStrictWeakOrder}
 use Rattle.std.specs.List.Sorted.{ties, IsSortedBy, IsStableBy, IsPermutation}
-use Rattle.std.proofs.lemmas.List.Elements.{All-from_recursion, recursion_from_All, filter-append}
+use Rattle.std.proofs.lemmas.List.Elements.{All-from_recursion, recursion_from_All}
 use Rattle.std.proofs.lemmas.List.Sorted.{IsPermutation-refl, IsPermutation-sym, IsPermutation-cons, IsPermutation-middle, IsPermutation-trans, All-permutation}
 use Rattle.lists.proofs.Lists.{all_filter, all_weaker}
 use Rattle.segment_writer.specs.OrderedLists.{NoneBelow, Ordered, insert_by, sorted_by}
@@ -13,7 +13,7 @@ pub all_moved : {X : Type 0} (P : X → Type 0) (xs ys : List X) → IsPermutati
 all_moved P xs ys moved all = recursion_from_All P ys (All-permutation P xs ys moved (All-from_recursion P xs all))
 
 module _ {X : Type 0} (lt : X → X → Bool) where
-  insert_first : (x : X) (ys : List X) → NoneBelow lt x ys → insert_by lt x ys ≡ x ∷ ys
+  pub insert_first : (x : X) (ys : List X) → NoneBelow lt x ys → insert_by lt x ys ≡ x ∷ ys
   insert_first x [] none = refl
   insert_first x (y ∷ ys) none = rw none.0 refl
 
@@ -54,7 +54,7 @@ module _ {X : Type 0} (lt : X → X → Bool) where
     pub none_below-chain : (x y : X) (ys : List X) → lt y x ≡ false → NoneBelow lt y ys → NoneBelow lt x ys
     none_below-chain x y ys h none = all_weaker (λ w. lt w y ≡ false) (λ w. lt w x ≡ false) (λ w up. o.chain w y x up h) ys none
 
-    -- where no neighbours fall, none falls
+    -- if no neighbours fall, none falls
     pub sorted_ordered : (xs : List X) → IsSortedBy lt xs → Ordered lt xs
     sorted_ordered [] sorted = tt
     sorted_ordered (x ∷ []) sorted = (tt, tt)
@@ -138,10 +138,3 @@ module _ {X : Type 0} (lt : X → X → Bool) where
 
     pub sorted-only : (xs ys : List X) → Ordered lt ys → IsStableBy lt xs ys → ys ≡ sorted_by lt xs
     sorted-only xs ys ordered stable = only_one ys (sorted_by lt xs) ordered (ordered-sorted xs) (λ z. stable z ∙ sym (filter-sorted z xs))
-
-    -- so a list may be put in order in parts before it is put in order
-    pub parts_sorted : (xs ys : List X) → sorted_by lt (sorted_by lt xs ++ sorted_by lt ys) ≡ sorted_by lt (xs ++ ys)
-    parts_sorted xs ys =
-        let parts : List X = sorted_by lt xs ++ sorted_by lt ys in
-        sorted-only (xs ++ ys) (sorted_by lt parts) (ordered-sorted parts)
-        (λ z. filter-sorted z parts ∙ filter-append (ties lt z) (sorted_by lt xs) (sorted_by lt ys) ∙ ap₂ (λ us vs. us ++ vs) (filter-sorted z xs) (filter-sorted z ys) ∙ sym (filter-append (ties lt z) xs ys))

@@ -54,7 +54,7 @@ client_is s opened d is = λ i. record {
   peer_base = s.peer_base;
 }
 
--- ---- the three turns, by a client of a unit of so many ticks
+-- ---- the three turns
 
 pub connection_is : (client : Sender) (unit : Unit) (ticks : ℕ) (c : WrittenConnection) (up down : Line) → client ≡ client_in unit c Opening → ticks_of unit ≡ ticks → up ≡ c.client.line → down ≡ c.server.line
     → connection_written c.refused client c.opened up down ≡ written_segments ticks c

@@ -8,7 +8,6 @@ use Rattle.segment_writer.specs.WrittenSegments.{Host, WrittenConnection}
 use Rattle.segment_writer.specs.declared.senders.Sender.{Sender}
 use Rattle.segment_writer.specs.declared.senders.Turn.TheVariants.{Opening}
 
--- the ticks of a second, the connection's number, opening and VLAN, its two hosts, and the sequence numbers from which their bytes count
 pub record EndpointsView : Type 0 where
   pub ticks : ℕ
   pub number : ℕ
@@ -19,7 +18,7 @@ pub record EndpointsView : Type 0 where
   pub client_base : ℕ
   pub server_base : ℕ
 
--- those of a connection of which this is recorded; a server without a number of its own counts from 0
+-- a server without a number of its own counts from 0
 abbrev pub endpoints_of : ℕ → Conn → RecordedConnection → EndpointsView
 endpoints_of ticks conn r = record {
   ticks = ticks;
@@ -32,7 +31,6 @@ endpoints_of ticks conn r = record {
   server_base = unwrap_or r.server_base 0;
 }
 
--- a connection between them, as it is written of what is delivered
 abbrev pub connection_between : EndpointsView → DeliveredConnection → WrittenConnection
 connection_between e d = record {
   number = e.number;

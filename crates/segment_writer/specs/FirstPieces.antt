@@ -3,7 +3,7 @@ use Rattle.std.specs.Prelude.{◌≡◌, ◌<◌, ℕ, ◌+◌, min, List, [], �
 use Rattle.reassembly.specs.RecordedLines.{LineByte}
 use Rattle.segment_writer.specs.WrittenSegments.{Piece, pieces, is_chunk_border}
 
--- how many of these bytes go on with the chunk of the byte before them
+-- the number of these bytes that go on with the chunk of the byte before them
 abbrev pub chunk_rest : List LineByte → ℕ
 chunk_rest [] = 0
 chunk_rest (b ∷ bytes) = if b.starts then 0 else chunk_rest bytes + 1
@@ -26,7 +26,6 @@ first_of limit bytes = record {
   ends = is_chunk_border (drop (piece_size limit bytes) bytes);
 }
 
--- some bytes are cut into the first piece, with room for so many, and the pieces of what comes after it
 abbrev pub FirstPiece : Type 0
 FirstPiece =
     (limit room : ℕ) (b : LineByte) (bytes : List LineByte) → 0 < room

@@ -8,31 +8,24 @@ use Rattle.segment_writer.specs.WrittenSegments.{WrittenConnection, is_key_below
 use Rattle.segment_writer.specs.OrderedLists.{Ordered}
 use Rattle.segment_writer.specs.KeyOrder.{AreRising}
 
--- neither key is below the other
 abbrev pub same_key : SegKey → SegKey → Bool
 same_key a b = not (is_key_below a b) && not (is_key_below b a)
 
--- of each key there is one segment at most
 abbrev pub HasNoKeyTwice : List Framed → Type 0
 HasNoKeyTwice xs = (k : SegKey) → count_by (λ x. same_key k x.key) xs ≤ 1
 
--- no segment has a key below one before it
 abbrev pub NeverFalls : List Framed → Type 0
 NeverFalls = Ordered below
 
--- whatever list has the same segments, each of a key of its own, and never falls is the one in order
 abbrev pub OneOrder : Type 0
 OneOrder = (xs ys : List Framed) → HasNoKeyTwice xs → IsPermutation xs ys → NeverFalls ys → ys ≡ sorted_by_key xs
 
--- what is in order never falls
 abbrev pub SortedNeverFalls : Type 0
 SortedNeverFalls = (xs : List Framed) → NeverFalls (sorted_by_key xs)
 
--- what is put in order is all that there was
 abbrev pub SortedKeepsAll : Type 0
 SortedKeepsAll = (xs : List Framed) → IsPermutation xs (sorted_by_key xs)
 
--- whether a key stands twice does not depend on the order of the segments
 abbrev pub OnceInAnyOrder : Type 0
 OnceInAnyOrder = (xs ys : List Framed) → IsPermutation xs ys → HasNoKeyTwice xs → HasNoKeyTwice ys
 

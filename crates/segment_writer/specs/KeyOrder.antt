@@ -1,5 +1,5 @@
 -- What ordering by key keeps.
-use Rattle.std.specs.Prelude.{◌≡◌, true, List, [], ◌∷◌, ◌++◌}
+use Rattle.std.specs.Prelude.{◌≡◌, true, List, [], ◌∷◌}
 use Rattle.segment_writer.specs.declared.framed.SegKey.{SegKey}
 use Rattle.segment_writer.specs.declared.framed.Framed.{Framed}
 use Rattle.segment_writer.specs.WrittenSegments.{is_key_below, sorted_by_key}
@@ -13,10 +13,5 @@ abbrev pub AreRising : List Framed → Type 0
 AreRising [] = Unit {0}
 AreRising (x ∷ xs) = RisesFrom x.key xs
 
--- segments whose keys rise are in order as they stand
 abbrev pub RisingIsSorted : Type 0
 RisingIsSorted = (xs : List Framed) → AreRising xs → sorted_by_key xs ≡ xs
-
--- segments may be ordered in parts before they are ordered together
-abbrev pub PartsAreSortedFirst : Type 0
-PartsAreSortedFirst = (xs ys : List Framed) → sorted_by_key (sorted_by_key xs ++ sorted_by_key ys) ≡ sorted_by_key (xs ++ ys)

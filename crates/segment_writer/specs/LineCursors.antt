@@ -14,7 +14,7 @@ use Rattle.segment_writer.specs.declared.turns.Acknowledged.{Acknowledged}
 abbrev pub left_at : List LinePart → Cursor → List LineByte
 left_at parts c = drop c.offset (bytes_of_parts (drop c.part parts))
 
--- so far into the first part that a byte of it follows, or after all parts
+-- a byte of the first part follows the offset, or the cursor is after all parts
 abbrev pub IsInside : List LinePart → ℕ → Type 0
 IsInside [] offset = offset ≡ 0
 IsInside (p ∷ ps) offset = offset < length p.bytes.now
@@ -42,7 +42,6 @@ goes_on p = not p.starts || has_none p.bytes.now
 abbrev pub bytes_before : ℕ → List LineByte → ℕ
 bytes_before at bytes = length (filter (λ b. nat_lt b.at at) bytes)
 
--- so many parts, with so many bytes, each before the instant
 pub record IsAcknowledged (parts : List LinePart) (h : Acknowledged) (at : ℕ) : Type 0 where
   pub within : h.part ≤ length parts
   pub count : h.bytes ≡ length (bytes_of_parts (take h.part parts))

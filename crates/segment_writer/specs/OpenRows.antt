@@ -16,15 +16,13 @@ written_in row = map (framed_at row.gathered.items) row.segments.items
 abbrev pub IsRow : OpenRow → Type 0
 IsRow row = AllByRecursion (IsInRow row.gathered.items) row.segments.items
 
--- these segments were put after the others
 pub record IsLonger (before : OpenRow) (more : List Framed) (now : OpenRow) : Type 0 where
   pub written : written_in now ≡ written_in before ++ more
   pub row : IsRow now
 
--- who sends in a turn: this client, or its server
+-- who sends is this client, or its server
 abbrev pub IsSideOf : Sender → Sender → Type 0
 IsSideOf client s = in_turn (side_sender client s.is_server) s.turn ≡ s
 
--- the key of a segment of a connection with this number
 abbrev pub row_key : ℕ → RowSegment → SegKey
 row_key conn s = record { moment = s.moment; conn = conn; turn = s.turn; place = s.place }

@@ -3,11 +3,9 @@ use Rattle.std.specs.Prelude.{◌≡◌, Bool, false, List, [], ◌∷◌, if◌
 use Rattle.std.specs.List.{AllByRecursion}
 
 module _ {X : Type 0} (lt : X → X → Bool) where
-  -- none of these is below x
   abbrev pub NoneBelow : X → List X → Type 0
   NoneBelow x ys = AllByRecursion (λ y. lt y x ≡ false) ys
 
-  -- none is below one before it
   abbrev pub Ordered : List X → Type 0
   Ordered [] = Unit {0}
   Ordered (x ∷ xs) = NoneBelow x xs × Ordered xs

@@ -13,24 +13,20 @@ use Rattle.segment_writer.specs.declared.senders.Sender.{Sender}
 
 -- ---- payloads
 
--- the bytes of a payload, of what is gathered
 abbrev pub payload_in : List ℕ → Payload → List ℕ
 payload_in gathered (Lent bytes) = bytes.now
 payload_in gathered (Gathered start len) = take len (drop start gathered)
 
--- they are all there
 abbrev pub IsHeld : List ℕ → Payload → Type 0
 IsHeld gathered (Lent bytes) = Unit {0}
 IsHeld gathered (Gathered start len) = start + len ≤ length gathered
 
--- what is gathered for a payload with these bytes
 abbrev pub gathered_for : List ℕ → Payload → List ℕ
 gathered_for bytes (Lent lent) = []
 gathered_for bytes (Gathered start len) = bytes
 
 -- ---- segments
 
--- who sends it
 abbrev pub sender_of : RowSegment → Sender
 sender_of s = side_sender s.client.now s.is_server
 

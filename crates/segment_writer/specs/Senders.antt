@@ -18,13 +18,11 @@ use Rattle.segment_writer.specs.declared.turns.Ending.{Ending}
 
 -- ---- who sends
 
--- the number of a turn in the keys of its segments
 abbrev pub turn_number : Turn → ℕ
 turn_number Opening = 0
 turn_number ClientLine = 1
 turn_number ServerLine = 2
 
--- the client of a connection in a turn, where instants count in a unit
 abbrev pub client_in : Unit → WrittenConnection → Turn → Sender
 client_in unit c turn = record {
   unit = unit;
@@ -40,7 +38,6 @@ client_in unit c turn = record {
   peer_base = c.server.base;
 }
 
--- who answers a sender, in a turn
 abbrev pub peer_in : Sender → Turn → Sender
 peer_in s turn = record {
   unit = s.unit;
@@ -56,7 +53,6 @@ peer_in s turn = record {
   peer_base = s.base;
 }
 
--- the same sender in another turn
 abbrev pub in_turn : Sender → Turn → Sender
 in_turn s turn = record {
   unit = s.unit;
@@ -96,7 +92,6 @@ header_with s seq ack flags = record {
 abbrev pub frame_with : Header → List ℕ → List ℕ
 frame_with h payload = headers h payload ++ payload
 
--- a segment that it sends, in its place
 abbrev pub framed_by : Sender → ℕ × SentSegment → Framed
 framed_by s (place, sent) = record {
   key = record { moment = sent.at; conn = s.conn; turn = turn_number s.turn; place = place };
@@ -113,7 +108,6 @@ piece_segment seq ack p = record {
   payload = p.bytes;
 }
 
--- the segment of an end, after n bytes
 abbrev pub ending_segments : WrittenSide → WrittenSide → ℕ → Option Ending → List SentSegment
 ending_segments own peer n None = []
 ending_segments own peer n (Some e) = record { at = e.at; seq = sequence_number own n; ack = acknowledgment_number peer e.at; flags = e.flags; payload = [] } ∷ []
@@ -127,7 +121,7 @@ line_written s own peer = segments_before_horizon (ticks_of s.unit) (map (framed
 abbrev pub next_number : ℕ → ℕ
 next_number base = (base + 1) % sequence_space
 
--- SYN, and SYN ACK and ACK, or RST ACK where the connection is refused
+-- SYN, then SYN ACK and ACK, or RST ACK if the connection is refused
 abbrev pub opening_by : Bool → Sender → Sender → ℕ → List Framed
 opening_by false client server at =
     framed_by client (0, opening_segment at client.base 0 Flags.syn_flag)
@@ -142,12 +136,10 @@ opening_written refused client server at = segments_before_horizon (ticks_of cli
 
 -- ---- a connection
 
--- the three turns of a connection: the opening by its client, of that instant, and both lines
 abbrev pub turns_written : Bool → Sender → ℕ → Line → Line → List Framed
 turns_written refused client at up down =
     (opening_written refused client (peer_in client Opening) at ++ line_written (in_turn client ClientLine) up down)
     ++ line_written (peer_in client ServerLine) down up
 
--- all segments of a connection, in order of key
 abbrev pub connection_written : Bool → Sender → ℕ → Line → Line → List Framed
 connection_written refused client at up down = sorted_by_key (turns_written refused client at up down)

@@ -21,7 +21,6 @@ connection_with refused up down = record {
 abbrev pub sent_numbers : List SentSegment → List (ℕ × ℕ × ℕ)
 sent_numbers sent = map (λ s. (s.seq, s.ack, s.flags)) sent
 
--- when each segment is written, by which connection, and in which turn and place
 abbrev pub keys_of : List Framed → List (ℕ × ℕ × ℕ × ℕ)
 keys_of framed = map (λ x. (x.key.moment, x.key.conn, x.key.turn, x.key.place)) framed
 
@@ -47,17 +46,15 @@ TurnsInOrder =
     keys_of (written_segments 1000000 at_once)
     ≡ (1000000, 7, 0, 0) ∷ (1000000, 7, 0, 1) ∷ (1000000, 7, 0, 2) ∷ (1000000, 7, 1, 0) ∷ (1000000, 7, 1, 1) ∷ (1000000, 7, 2, 0) ∷ (1000000, 7, 2, 1) ∷ []
 
--- a refused connection has two segments
 abbrev pub RefusedInOrder : Type 0
 RefusedInOrder = keys_of (written_segments 1000000 (connection_with true empty_line empty_line)) ≡ (1000000, 7, 0, 0) ∷ (1000000, 7, 0, 1) ∷ []
 
--- nothing is written at the horizon
 abbrev pub NoneAtHorizon : Type 0
 NoneAtHorizon =
     keys_of (written_segments 1000000 (connection_with false (line_with (hello 4294967295999999) (fin 4294967296000000)) (line_with (hello 4294967296000000) live)))
     ≡ (1000000, 7, 0, 0) ∷ (1000000, 7, 0, 1) ∷ (1000000, 7, 0, 2) ∷ (4294967295999999, 7, 1, 0) ∷ []
 
--- a chunk in pieces of two bytes at most: its end is the last one's alone
+-- a chunk in pieces of at most two bytes: only the last one has its end
 abbrev pub PiecesCut : Type 0
 PiecesCut =
     pieces 2 2 (record { value = 1; at = 5; starts = true } ∷ record { value = 2; at = 5; starts = false } ∷ record { value = 3; at = 5; starts = false } ∷ record { value = 4; at = 6; starts = true } ∷ [])

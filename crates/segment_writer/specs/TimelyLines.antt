@@ -12,6 +12,5 @@ pub record IsTimely (l : Line) : Type 0 where
   pub climbs : Climbs 0 l.bytes l.end
   pub short : length l.bytes < 2 ^ 32
 
--- every line of the rule is so
 abbrev pub LinesAreTimely : Type 0
 LinesAreTimely = (l : Line) → IsLine l → IsTimely l

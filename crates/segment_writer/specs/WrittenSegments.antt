@@ -15,18 +15,16 @@ use Rattle.reassembly.specs.RecordedLines.{LineByte, Line, End, live, fin, close
 
 -- ---- hosts and sides
 
--- a host of a connection: its Ethernet address and its peer
 pub record Host : Type 0 where
   pub mac : List ℕ
   pub peer : Peer
 
--- a side of a connection: its host, the sequence number from which its bytes count, and its line as it is delivered
+-- `base` is the sequence number from which its bytes count
 pub record WrittenSide : Type 0 where
   pub host : Host
   pub base : ℕ
   pub line : Line
 
--- a connection as it is written
 pub record WrittenConnection : Type 0 where
   pub number : ℕ
   pub opened : ℕ
@@ -48,12 +46,11 @@ abbrev pub is_chunk_border : List LineByte → Bool
 is_chunk_border [] = true
 is_chunk_border (c ∷ cs) = c.starts
 
--- a byte in front of the first piece
 abbrev pub pieces_led_by : LineByte → List Piece → List Piece
 pieces_led_by c [] = []
 pieces_led_by c (p ∷ ps) = record { at = c.at; bytes = c.value ∷ p.bytes; ends = p.ends } ∷ ps
 
--- the bytes, cut after each one that ends a chunk or fills its piece; the first piece has room for so many
+-- the bytes, cut after each one that ends a chunk or fills its piece; the first piece has room for `room` of them
 unfoldable pub pieces : ℕ → ℕ → List LineByte → List Piece
 pieces limit room [] = []
 pieces limit room (c ∷ cs) =
@@ -63,7 +60,6 @@ pieces limit room (c ∷ cs) =
 
 -- ---- segments of a line
 
--- a segment's instant, numbers, flags and payload
 pub record SentSegment : Type 0 where
   pub at : ℕ
   pub seq : ℕ
@@ -111,7 +107,6 @@ segments_sent_by own peer = segments_sent_from own peer 0 (pieces payload_limit 
 
 -- ---- frames
 
--- the headers of a segment of a connection, from one host to the other
 abbrev pub header_of : WrittenConnection → Host → Host → SentSegment → Header
 header_of c from to s = record {
   mac_from = from.mac;
@@ -127,7 +122,6 @@ header_of c from to s = record {
 unfoldable pub frame_bytes : WrittenConnection → Host → Host → SentSegment → List ℕ
 frame_bytes c from to s = headers (header_of c from to s) s.payload ++ s.payload
 
--- a segment in its place: the record that is written of it, with its key
 abbrev pub framed_segment : ℕ → WrittenConnection → ℕ → Host → Host → ℕ × SentSegment → Framed
 framed_segment ticks c turn from to (place, s) = record {
   key = record { moment = s.at; conn = c.number; turn = turn; place = place };
@@ -139,7 +133,6 @@ framed_segment ticks c turn from to (place, s) = record {
 abbrev pub opening_segment : ℕ → ℕ → ℕ → ℕ → SentSegment
 opening_segment at seq ack flags = record { at = at; seq = seq; ack = ack; flags = flags; payload = [] }
 
--- the three segments that open a connection: SYN, SYN ACK, ACK
 abbrev pub syn_segment : WrittenConnection → SentSegment
 syn_segment c = opening_segment c.opened c.client.base 0 Flags.syn_flag
 
@@ -180,7 +173,6 @@ is_key_below a b =
     && (nat_lt a.conn b.conn || (a.conn == b.conn
     && (nat_lt a.turn b.turn || (a.turn == b.turn && nat_lt a.place b.place)))))
 
--- what has a key, compared by it
 abbrev pub has_lower_key : {X : Type 0} → (X → SegKey) → X → X → Bool
 has_lower_key key x y = is_key_below (key x) (key y)
 
@@ -200,6 +192,5 @@ sorted_by_key (x ∷ xs) = insert_by_key x (sorted_by_key xs)
 abbrev pub segments_before_horizon : ℕ → List Framed → List Framed
 segments_before_horizon ticks xs = filter (λ x. nat_lt x.key.moment (horizon ticks)) xs
 
--- all segments of a connection, in order of key
 unfoldable pub written_segments : ℕ → WrittenConnection → List Framed
 written_segments ticks c = sorted_by_key (segments_before_horizon ticks ((opening_turn c.refused ticks c ++ up_turn ticks c) ++ down_turn ticks c))

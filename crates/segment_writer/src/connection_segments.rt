@@ -26,12 +26,9 @@ use reassembly::{End, LinePart, Recorded};
 use std::alloc::{AllocError, Global};
 use toxic_defs::Delivered;
 
-/// The segments of a connection as they are written of what it is delivered, in order of key: its opening (RFC 9293 section
-/// 3.5), and the pieces of each line with its end (section 3.6). Each acknowledges what the other side was delivered strictly before
-/// it (section 3.4). Nothing is written at the horizon.
-///
-/// # Errors
-/// Where a growth is refused.
+/// The segments of a connection as they are written, in order of key: its opening (RFC 9293 section 3.5), and the pieces of each line with
+/// its end (section 3.6). Each acknowledges what the other side was delivered strictly before it (section 3.4). Nothing is written at the
+/// horizon.
 pub fn segments(
     alloc: Global,
     conn: &Conn,
@@ -57,10 +54,7 @@ pub fn segments(
     row.written(alloc)
 }
 
-/// Puts the segments of a connection, as [`segments`] gives them, after those of a row. Its client is that of the opening.
-///
-/// # Errors
-/// Where a growth is refused; what was delivered is then dropped.
+/// Puts the segments of a connection, as [`segments`] gives them, after those of a row. `client` sends in the opening.
 pub(crate) fn put_connection<'w, 'a>(
     row: &mut OpenRow<'w, 'a>,
     client: &'w Sender,
@@ -90,7 +84,7 @@ pub(crate) fn put_connection<'w, 'a>(
     )
 }
 
-// Puts the segments of a connection, of its client in the opening and the parts and ends of what is delivered, in order of key.
+// Puts the segments of a connection in order of key.
 fn put_in_order<'w, 'a>(
     row: &mut OpenRow<'w, 'a>,
     client: &'w Sender,
@@ -139,7 +133,7 @@ fn put_turns<'w, 'a>(
     put_line(row, client, &downward, down, down_end, up, up_end)
 }
 
-// Puts SYN, SYN ACK and ACK (RFC 9293 section 3.5), or SYN and RST ACK where the connection is refused. At the horizon there are none.
+// Puts SYN, SYN ACK and ACK (RFC 9293 section 3.5), or SYN and RST ACK if the connection is refused. At the horizon there are none.
 fn put_opening<'w>(
     row: &mut OpenRow<'w, '_>,
     client: &'w Sender,
@@ -175,7 +169,6 @@ fn put_opening<'w>(
     put_bare(row, client, client, at, third, Flags::ACK)
 }
 
-// The numbers of a segment of the opening.
 fn numbers(seq: u32, ack: u32, place: u32) -> Numbers
     ensures { result ≡ record { seq = seq; ack = ack; place = place } }
 {

@@ -9,14 +9,12 @@ use pcap_records::Moment;
 use reassembly::Recorded;
 use std::marker::Model;
 
-/// The endpoints of a connection, as each of its segments names them, whatever is delivered: their Ethernet addresses, peers and VLAN,
-/// and the sequence numbers from which their bytes count; with the connection's number and the instant of its opening. The rows of all
+/// The endpoints of a connection, as each of its segments names them, with its number and the instant of its opening. The rows of all
 /// scenarios borrow them.
 #[derive(Debug, Drop)]
 pub struct Endpoints {
     /// The client, in the opening.
     pub(crate) client: Sender,
-    /// When the connection was opened.
     pub(crate) opened: Moment,
 }
 
@@ -35,7 +33,7 @@ impl Endpoints {
     ghost use Rattle.reassembly.specs.RecordedView.{recorded_view};
     ghost use Rattle.segment_writer.specs.Endpoints.{endpoints_of};
 
-    /// Those of a connection of which this is recorded. A server that never answered counts from 0.
+    /// The endpoints of a connection with its recorded lines. A server that never answered counts from 0.
     pub fn of(conn: &Conn, recorded: &Recorded<'_>) -> Endpoints
         ensures { result ≡ endpoints_of recorded.now.up.ticks conn.now (recorded_view recorded.now) }
     {

@@ -1,9 +1,9 @@
 //! Written segments, their order in a capture, and lists of them.
-ghost use Rattle.std.specs.Prelude.{◌≡◌, ◌++◌, [], List, IfOk};
+ghost use Rattle.std.specs.Prelude.{◌≡◌, ◌++◌, List, IfOk};
 ghost use Rattle.segment_writer.specs.WrittenSegments.{is_key_below, sorted_by_key};
 ghost use Rattle.segment_writer.specs.declared.framed.Framed.{Framed};
 
-use crate::keyed::{Keyed, merged};
+use itertools::Itertools;
 use pcap_records::{Moment, Values};
 use std::alloc::{AllocError, Global};
 use std::marker::Model;
@@ -27,18 +27,9 @@ pub type RecordBytes = Values<u8>;
 /// A written segment: its key, and the bytes of its record.
 #[derive(Debug, Drop)]
 pub struct Framed {
-    /// What it is ordered by.
     pub key: SegKey,
-    /// The record that is written of it, header and frame.
+    /// The record, header and frame.
     pub bytes: RecordBytes,
-}
-
-impl Keyed for Framed {
-    ghost key_of = { λ x. x.key };
-
-    fn key(&self) -> SegKey {
-        self.key
-    }
 }
 
 /// A list of written segments, which lends their keys and appends their records.
@@ -50,7 +41,7 @@ pub trait Keys: Drop {
 
     ghost segments: { Self → List Framed };
 
-    /// How many segments there are.
+    /// The number of segments.
     fn count(&self) -> usize
         ensures { result ≡ length (segments self.now) };
 
@@ -59,19 +50,16 @@ pub trait Keys: Drop {
         requires { index < length (segments self.now) }
         ensures { result ≡ (slice_index_or (segments self.now) index no_segment).key };
 
-    /// How many bytes the record of a segment has, or the greatest number where they are more.
+    /// The length of a record, or `usize::MAX` if it is more.
     fn record_len(&self, index: usize) -> usize
         requires { index < length (segments self.now) }
         ensures { result ≡ min (length (slice_index_or (segments self.now) index no_segment).bytes) usize.MAX };
 
-    /// How many bytes the records of all segments have, or the greatest number where they are more.
+    /// The length of all records, or `usize::MAX` if it is more.
     fn written_len(&self) -> usize
         ensures { result ≡ min (length (flat_map (λ x. x.bytes) (segments self.now))) usize.MAX };
 
-    /// Appends the record of a segment.
-    ///
-    /// # Errors
-    /// Where a growth is refused; `out` is then unchanged.
+    /// Appends the record of a segment. An error leaves `out` unchanged.
     fn put(&self, index: usize, out: &mut Vec<u8>) -> Result<(), AllocError>
         requires { index < length (segments self.now) }
         ensures ok { OnOk result (out.new.items ≡ out.old.items ++ (slice_index_or (segments self.now) index no_segment).bytes) }
@@ -91,16 +79,6 @@ impl Model for SegList {
 }
 
 impl SegList {
-    /// No segments.
-    pub fn empty(alloc: Global) -> SegList
-        ensures { result ≡ [] }
-    {
-        SegList {
-            list: Vec::new(alloc),
-        }
-    }
-
-    // The segments of a vector.
     pub(crate) fn of(list: Vec<Framed>) -> SegList
         ensures { result ≡ list.items }
     {
@@ -122,17 +100,17 @@ impl SegList {
         list
     }
 
-    /// The segments of two lists in order, in order.
-    ///
-    /// # Errors
-    /// A growth was refused; the lists are then dropped.
+    /// Merges two lists that are in order; of one key the left list's come first.
     pub fn join(alloc: Global, left: SegList, right: SegList) -> Result<SegList, AllocError>
         requires left { sorted_by_key left ≡ left }
         requires right { sorted_by_key right ≡ right }
         ensures { IfOk result (λ list. list ≡ sorted_by_key (left ++ right)) }
     {
-        let list = merged(alloc, left.into_vec(), right.into_vec())?;
-        Ok(SegList::of(list))
+        let (left, right) = (left.into_vec(), right.into_vec());
+        let merged = left
+            .into_iter()
+            .merge_by(right, |x, y| !is_key_below(&y.key, &x.key));
+        Ok(SegList::of(merged.collect(alloc)?))
     }
 }
 
@@ -164,7 +142,6 @@ impl Keys for SegList {
     }
 }
 
-/// Whether a key is lower than another.
 pub(crate) fn is_key_below(a: &SegKey, b: &SegKey) -> bool
     ensures { result ≡ is_key_below a.now b.now }
 {

@@ -1,8 +1,7 @@
-//! Theorems about the definitions of this crate, and worked rows of them. Each function does nothing: its contract is the theorem, or
-//! is evaluated.
+//! Theorems about the definitions of this crate, and worked rows of them: the contract of each function is a theorem, or is evaluated.
 ghost use Rattle.segment_writer.specs.FirstPieces.{FirstPiece};
 ghost use Rattle.segment_writer.specs.KeyLaws.{KeysRise, KeysStandOnce, OnceInAnyOrder, OneOrder, SortedKeepsAll, SortedNeverFalls};
-ghost use Rattle.segment_writer.specs.KeyOrder.{PartsAreSortedFirst, RisingIsSorted};
+ghost use Rattle.segment_writer.specs.KeyOrder.{RisingIsSorted};
 ghost use Rattle.segment_writer.specs.SentRows.{LaterSent, CrossingSent, TurnsInOrder, RefusedInOrder, NoneAtHorizon, PiecesCut};
 ghost use Rattle.segment_writer.specs.TimelyLines.{LinesAreTimely};
 
@@ -12,14 +11,7 @@ pub fn rising_is_sorted()
     ensures { RisingIsSorted }
 {}
 
-/// Two lists of segments may be put in order before they are joined and put in order.
-#[tactic(auto, using(crate::proofs::InOrder::parts_are_sorted_first))]
-pub fn parts_are_sorted_first()
-    ensures { PartsAreSortedFirst }
-{}
-
-/// The first piece of some bytes is what their chunk still has, at most the limit, and what comes after it is cut in the same
-/// way. A piece ends its chunk where no byte of the chunk follows.
+/// The first piece of some bytes is what their chunk still has, at most the limit, and what comes after it is cut in the same way.
 #[tactic(auto, using(crate::proofs::PieceCuts::first_piece))]
 pub fn first_piece()
     ensures { FirstPiece }
@@ -31,7 +23,7 @@ pub fn lines_are_timely()
     ensures { LinesAreTimely }
 {}
 
-/// Where no key stands twice, there is one order: whatever list has the same segments and never falls is the one in order.
+/// If no key stands twice, there is one order: any list of the same segments that never falls is the one in order.
 pub fn one_order()
     ensures { OneOrder }
 {}
@@ -42,7 +34,7 @@ pub fn keys_rise()
     ensures { KeysRise }
 {}
 
-/// Nor does one among the segments of connections that are numbered in turn.
+/// No key stands twice among the segments of connections that are numbered in turn.
 pub fn keys_stand_once()
     ensures { KeysStandOnce }
 {}
@@ -53,13 +45,13 @@ pub fn sorted_never_falls()
     ensures { SortedNeverFalls }
 {}
 
-/// Segments that are put in order are all of those that there were, none twice.
+/// Putting segments in order keeps all of them.
 #[tactic(auto, using(crate::proofs::InOrder::sorted_keeps_all))]
 pub fn sorted_keeps_all()
     ensures { SortedKeepsAll }
 {}
 
-/// Where no key stands twice, none does in another order of the segments.
+/// If no key stands twice, none does in another order of the segments.
 pub fn once_in_any_order()
     ensures { OnceInAnyOrder }
 {}

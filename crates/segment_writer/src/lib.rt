@@ -4,7 +4,6 @@
 mod connection_segments;
 mod endpoints;
 mod framed;
-mod keyed;
 pub mod laws;
 mod open_rows;
 mod payloads;

@@ -39,20 +39,16 @@ pub(crate) struct RowSegment<'w, 'a> {
 pub(crate) struct OpenRow<'w, 'a> {
     /// The payloads that no single slice of the capture has.
     pub(crate) gathered: Vec<u8>,
-    /// The segments, one connection after another.
     pub(crate) segments: Vec<RowSegment<'w, 'a>>,
 }
 
-// A connection has at most so many segments without payload: the opening, and the end of each line.
+// The most segments without payload of a connection: the opening, and the end of each line.
 const BARE_SEGMENTS: usize = 5;
 
-// For at most so many other segments is room made at once: many parts of a line that come at one instant are few segments.
+// The most other segments that room is made for at once: many parts of a line at one instant are few segments.
 const ROOM_LIMIT: usize = 1024;
 
-/// Makes room after the others for the segments of a connection whose lines have so many parts.
-///
-/// # Errors
-/// Where a growth is refused.
+/// Makes room for the segments of a connection whose lines have `parts` parts.
 pub(crate) fn make_room(row: &mut OpenRow<'_, '_>, parts: usize) -> Result<(), AllocError>
     ensures gathered { row.new.gathered ≡ row.old.gathered }
     ensures segments { row.new.segments.items ≡ row.old.segments.items }
@@ -60,10 +56,7 @@ pub(crate) fn make_room(row: &mut OpenRow<'_, '_>, parts: usize) -> Result<(), A
     row.segments.reserve(parts.min(ROOM_LIMIT) + BARE_SEGMENTS)
 }
 
-/// Puts the segment of an outline after the others. Its sender is this client, or the client's server.
-///
-/// # Errors
-/// Where a growth is refused.
+/// Puts the segment of an outline after the others. Its sender is `client`, or the client's server.
 #[inline(always)]
 pub(crate) fn put_segment<'w, 'a>(
     row: &mut OpenRow<'w, 'a>,
@@ -81,10 +74,7 @@ pub(crate) fn put_segment<'w, 'a>(
     Ok(())
 }
 
-/// Puts a segment without payload after the others, which this client sends, or the client's server.
-///
-/// # Errors
-/// Where a growth is refused.
+/// Puts a segment without payload after the others.
 pub(crate) fn put_bare<'w>(
     row: &mut OpenRow<'w, '_>,
     client: &'w Sender,
@@ -103,7 +93,6 @@ pub(crate) fn put_bare<'w>(
     put_segment(row, client, &[], &outline)
 }
 
-// The segment of an outline, of the connection of this client, with its payload.
 fn segment_in_row<'w, 'a>(
     client: &'w Sender,
     outline: &SegmentOutline,
@@ -132,7 +121,7 @@ fn segment_in_row<'w, 'a>(
     }
 }
 
-/// Puts the segments from `start` on in order of key, those of the connection with this number.
+/// Puts the segments from `start` on in order of key. They are of the connection with the number `conn`.
 pub(crate) fn sort_from(segments: &mut Vec<RowSegment<'_, '_>>, start: usize, conn: u32)
     requires { start ≤ length segments.old.items }
     ensures first { take start segments.new.items ≡ take start segments.old.items }
@@ -142,7 +131,6 @@ pub(crate) fn sort_from(segments: &mut Vec<RowSegment<'_, '_>>, start: usize, co
     sort_segments(&mut segments[start..], conn);
 }
 
-// Puts segments of the connection with this number in order of key.
 fn sort_segments(segments: &mut [RowSegment<'_, '_>], conn: u32)
     ensures moved { IsPermutation segments.old segments.new }
     ensures count { length segments.new ≡ length segments.old }

@@ -10,21 +10,14 @@ use crate::segment_outline::SegmentOutline;
 use reassembly::LinePart;
 use std::alloc::AllocError;
 
-/// The payload of a segment.
 #[derive(Clone, Copy, Debug)]
 pub(crate) enum Payload<'a> {
     /// Bytes of one slice of the capture.
     Lent(&'a [u8]),
-    /// Bytes of several, gathered beside the row.
-    Gathered {
-        /// How many bytes are gathered before them.
-        start: usize,
-        /// How many they are.
-        len: usize,
-    },
+    /// `len` bytes of several slices, gathered beside the row after `start` others.
+    Gathered { start: usize, len: usize },
 }
 
-/// The bytes of a payload.
 pub(crate) fn payload_bytes<'p>(gathered: &'p [u8], payload: &Payload<'p>) -> &'p [u8]
     requires { IsHeld gathered.now payload.now }
     ensures { result.now ≡ payload_in gathered.now payload.now }
@@ -35,10 +28,7 @@ pub(crate) fn payload_bytes<'p>(gathered: &'p [u8], payload: &Payload<'p>) -> &'
     }
 }
 
-/// The payload of an outline over the parts of its sender's line. It is gathered where no part has all of it.
-///
-/// # Errors
-/// Where a growth is refused.
+/// The payload of an outline over the parts of its sender's line. It is gathered if no part has all of it.
 pub(crate) fn payload_of<'a>(
     gathered: &mut Vec<u8>,
     own: &[LinePart<'a>],
@@ -65,7 +55,7 @@ pub(crate) fn payload_of<'a>(
     })
 }
 
-// The bytes from a cursor on that its part has.
+// The bytes of a cursor's part from the cursor on.
 fn first_bytes<'a>(own: &[LinePart<'a>], from: Cursor) -> &'a [u8]
     requires cursor { IsCursor own.now from }
     requires some { 0 < length (left_at own.now from) }

@@ -1,4 +1,4 @@
-//! Pieces of a line, and cursors over its parts. Parts without bytes count for nothing.
+//! Pieces of a line, and cursors over its parts.
 ghost use Rattle.std.specs.Prelude.{◌≡◌, ◌≤◌, ◌<◌, ◌+◌, ◌++◌, ◌∷◌, length, drop, take, vec_len, vec_capacity, IsOk, OnOk};
 ghost use Rattle.frame_headers.specs.Layout.{payload_limit};
 ghost use Rattle.reassembly.specs.LineView.{bytes_of_parts};
@@ -10,7 +10,7 @@ use frame_headers::PAYLOAD_LIMIT;
 use reassembly::LinePart;
 use std::alloc::AllocError;
 
-/// A byte of a line: how many parts stand before it, and how many bytes of its own part.
+/// A byte of a line: the number of parts before it, and of bytes before it in its own part.
 #[derive(Clone, Copy, Debug)]
 pub(crate) struct Cursor {
     pub part: usize,
@@ -29,7 +29,7 @@ pub(crate) fn part_at<'a>(parts: &[LinePart<'a>], i: usize) -> LinePart<'a>
     }
 }
 
-/// The number of the first part from `from` on that has bytes, or how many parts there are.
+/// The index of the first part from `from` on that has bytes, or the number of parts.
 pub(crate) fn next_filled(parts: &[LinePart<'_>], from: usize) -> usize
     requires { from ≤ length parts.now }
     ensures cursor { IsCursor parts.now (record { part = result; offset = 0 }) }
@@ -49,7 +49,7 @@ fn goes_on(part: &LinePart<'_>) -> bool
     !part.starts || part.bytes.is_empty()
 }
 
-/// How many bytes the piece has that begins at a cursor.
+/// The length of the piece that begins at a cursor.
 pub(crate) fn piece_len(parts: &[LinePart<'_>], from: Cursor) -> usize
     requires cursor { IsCursor parts.now from }
     requires before { from.part < length parts.now }

@@ -21,8 +21,8 @@ use pcap_records::{Moment, RECORD_HEADER_LEN, Unit, record_header_bytes};
 use reassembly::LinePart;
 use std::alloc::AllocError;
 
-// Appends the header of a record whose frame has `len` bytes of payload, and room for the headers of the frame: 0 in place of them.
-// The result is where the frame begins.
+// Appends the header of a record whose frame has `len` bytes of payload, and zeros for the headers of the frame. The result is the index of
+// the frame.
 fn open_record(
     out: &mut Vec<u8>,
     at: Moment,
@@ -48,7 +48,7 @@ fn open_record(
     Ok(frame)
 }
 
-// ACK, and PSH where a chunk ends.
+// ACK, and PSH if a chunk ends.
 fn piece_flags(ends: bool) -> Flags
     ensures { result ≡ if ends then psh_flag + ack_flag else ack_flag }
 {
@@ -59,7 +59,6 @@ fn piece_flags(ends: bool) -> Flags
     }
 }
 
-/// A segment without payload.
 pub(crate) fn bare_outline(
     sender: &Sender,
     at: Moment,
@@ -115,15 +114,14 @@ pub(crate) fn piece_outline(
     (outline, after)
 }
 
-/// The length of a record whose frame has `len` bytes of payload, or the greatest number where it is more.
+/// The length of a record whose frame has `len` bytes of payload, or `usize::MAX` if it is more.
 pub(crate) fn record_len(vlan: Option<u16>, len: usize) -> usize
     ensures { result ≡ min (record_header_len + headers_len vlan + len) usize.MAX }
 {
     (RECORD_HEADER_LEN + headers_len(vlan)).saturating_add(len)
 }
 
-/// Appends the record of a segment with this header and payload. Room for all of it is made first, so that a growth that is refused
-/// leaves `out` as it was.
+/// Appends the record of a segment. Room for all of it is made first, so that an error leaves `out` unchanged.
 pub(crate) fn put_record(
     out: &mut Vec<u8>,
     unit: Unit,

@@ -7,8 +7,7 @@ use crate::pieces::Cursor;
 use crate::senders::{Sender, Turn, peer_in};
 use frame_headers::Flags;
 
-/// A segment that is to be written: its key, who sends it, its numbers and flags, and the `len` bytes of its payload, which begin
-/// at a cursor over the parts of its sender's line.
+/// A segment that is to be written. The `len` bytes of its payload begin at a cursor over the parts of its sender's line.
 #[derive(Clone, Copy, Debug)]
 pub(crate) struct SegmentOutline {
     pub(crate) key: SegKey,

@@ -1,4 +1,4 @@
-//! The written segments of connections in a row, which stand side by side. Each record is made where it is wanted.
+//! The written segments of connections in a row. Each record is made when it is written.
 ghost use Rattle.std.specs.Prelude.{◌≡◌, ◌++◌, [], ℕ, Bool, IfOk, length, min};
 ghost use Rattle.pcap_records.specs.Writing.{record_bytes};
 ghost use Rattle.reassembly.specs.LineLaws.{IsLine};
@@ -21,8 +21,8 @@ use std::alloc::{AllocError, Global};
 use std::marker::Model;
 use toxic_defs::Delivered;
 
-/// The written segments of connections, one connection after another, whose endpoints and payloads are borrowed. Contracts see them as
-/// they are written.
+/// The written segments of connections, one connection after another, whose endpoints and payloads are borrowed. Contracts see them with
+/// their records.
 #[derive(Debug, Drop)]
 pub struct SegmentRow<'w, 'a> {
     row: OpenRow<'w, 'a>,
@@ -41,7 +41,7 @@ impl<'w, 'a> Model for SegmentRow<'w, 'a> {
 }
 
 impl<'w, 'a> SegmentRow<'w, 'a> {
-    /// No segments.
+    /// A row without segments.
     pub fn none(alloc: Global) -> SegmentRow<'w, 'a>
         ensures { result ≡ [] }
     {
@@ -53,10 +53,7 @@ impl<'w, 'a> SegmentRow<'w, 'a> {
         }
     }
 
-    /// The same with the segments of a connection between these endpoints after them, as [`segments`](crate::segments) gives them.
-    ///
-    /// # Errors
-    /// Where a growth is refused; both are then dropped.
+    /// Adds the segments of a connection between these endpoints, as [`segments`](crate::segments) gives them.
     pub fn with_connection(
         self,
         endpoints: &'w Endpoints,
@@ -73,10 +70,7 @@ impl<'w, 'a> SegmentRow<'w, 'a> {
     }
 
     /// The segments, each with its record.
-    ///
-    /// # Errors
-    /// Where a growth is refused.
-    pub fn written(&self, alloc: Global) -> Result<SegList, AllocError>
+    pub(crate) fn written(&self, alloc: Global) -> Result<SegList, AllocError>
         ensures { IfOk result (λ list. list ≡ self.now) }
     {
         let mut list = Vec::with_capacity(alloc, self.row.segments.len())?;
@@ -132,7 +126,7 @@ impl Keys for SegmentRow<'_, '_> {
     }
 }
 
-// The length of the record of a segment with this payload that a client sends, or its server, or the greatest number where it is more.
+// The length of the record of a segment that a client or its server sends, or `usize::MAX` if it is more.
 fn sent_len(client: &Sender, payload: &[u8]) -> usize
     ensures { (is_server : Bool) (ticks at seq ack flags : ℕ)
         → result ≡ min (length (record_bytes ticks at (frame_with (header_with (side_sender client.now is_server) seq ack flags) payload.now))) usize.MAX }

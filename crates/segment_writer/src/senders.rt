@@ -9,11 +9,9 @@ use pcap_records::{Moment, Unit};
 /// Whose turn it is to write. At one instant a connection's turns write in this order.
 #[derive(Clone, Copy, Debug)]
 pub(crate) enum Turn {
-    /// The opening, which both sides write.
+    /// Both sides write it.
     Opening,
-    /// The client's line.
     ClientLine,
-    /// The server's line.
     ServerLine,
 }
 
@@ -21,7 +19,6 @@ impl Turn {
     ghost use Rattle.std.specs.Prelude.{◌≡◌};
     ghost use Rattle.segment_writer.specs.Senders.{turn_number};
 
-    /// Its number in the keys of its segments.
     fn number(self) -> u8
         ensures { result ≡ turn_number self }
     {
@@ -57,7 +54,6 @@ pub(crate) struct Numbers {
     pub place: u32,
 }
 
-/// Who answers a sender, in a turn.
 pub(crate) fn peer_in(sender: &Sender, turn: Turn) -> Sender
     ensures { result ≡ peer_in sender.now turn }
 {
@@ -78,14 +74,12 @@ pub(crate) fn peer_in(sender: &Sender, turn: Turn) -> Sender
     }
 }
 
-/// The same sender in another turn.
 pub(crate) fn in_turn(sender: &Sender, turn: Turn) -> Sender
     ensures { result ≡ in_turn sender.now turn }
 {
     Sender { turn, ..*sender }
 }
 
-/// The headers of a segment with these numbers and flags.
 pub(crate) fn header_with(sender: &Sender, seq: u32, ack: u32, flags: Flags) -> Header
     ensures { result ≡ header_with sender.now seq ack flags }
 {
@@ -103,7 +97,6 @@ pub(crate) fn header_with(sender: &Sender, seq: u32, ack: u32, flags: Flags) -> 
     }
 }
 
-/// The key of a segment at a place of a sender's turn.
 pub(crate) fn key_at(sender: &Sender, moment: Moment, place: u32) -> SegKey
     ensures { result ≡ record { moment = moment; conn = sender.now.conn; turn = turn_number sender.now.turn; place = place } }
 {

@@ -1,5 +1,4 @@
-//! The segments of a line, in one pass over its parts and those of the peer's line, and the numbers that say what was delivered of
-//! the peer's line before an instant (RFC 9293 section 3.4).
+//! The segments of a line, in one pass over its parts and those of the peer's line, which tell what is acknowledged (RFC 9293 section 3.4).
 ghost use Rattle.std.specs.Prelude.{◌≡◌, ◌≤◌, ◌<◌, ◌+◌, ◌%◌, ◌||◌, true, false, ℕ, length, nat_lt, OnOk};
 ghost use Rattle.pcap_records.specs.Instants.{horizon, ticks_of};
 ghost use Rattle.reassembly.specs.LineView.{bytes_of_parts, line_of, end_view};
@@ -20,11 +19,8 @@ use pcap_records::{Moment, Unit};
 use reassembly::{End, LinePart};
 use std::alloc::AllocError;
 
-/// Puts the segments of a line that this client sends, or the client's server, and which the peer's line goes with. Nothing is written at the
-/// horizon.
-///
-/// # Errors
-/// Where a growth is refused.
+/// Puts the segments of the line `own`, which `client` or its server sends. `peer` is the opposite direction, used for acknowledgments.
+/// Nothing is written at the horizon.
 pub(crate) fn put_line<'w, 'a>(
     row: &mut OpenRow<'w, 'a>,
     client: &'w Sender,
@@ -73,7 +69,6 @@ pub(crate) fn put_line<'w, 'a>(
     put_bare(row, client, sender, ending.at, numbers, ending.flags)
 }
 
-// Whether an instant is a unit's horizon.
 fn is_late(at: Moment, unit: Unit) -> bool
     ensures late { result ≡ true → horizon (ticks_of unit) ≤ at }
     ensures early { result ≡ false → at < horizon (ticks_of unit) }
@@ -81,7 +76,7 @@ fn is_late(at: Moment, unit: Unit) -> bool
     !at.is_before_horizon(unit)
 }
 
-// The numbers of a segment after so many bytes, when so much of the peer's line was acknowledged.
+// The numbers of a segment after `sent` bytes.
 fn numbers_at(
     sender: &Sender,
     sent: u32,
@@ -102,14 +97,14 @@ fn numbers_at(
     }
 }
 
-// The parts of a line that were acknowledged, and how many bytes they have.
+// The number of parts of a line that were acknowledged, and of their bytes.
 #[derive(Clone, Copy)]
 struct Acknowledged {
     part: usize,
     bytes: u32,
 }
 
-// What is acknowledged of a line before `at`, of which so much was acknowledged before.
+// What is acknowledged of a line before `at`, counted on from an earlier instant.
 fn acknowledge(parts: &[LinePart<'_>], acknowledged: Acknowledged, at: Moment) -> Acknowledged
     requires short { length (bytes_of_parts parts.now) < sequence_space }
     requires climbs { Climbs 0 (bytes_of_parts parts.now) live }
@@ -126,14 +121,13 @@ fn acknowledge(parts: &[LinePart<'_>], acknowledged: Acknowledged, at: Moment) -
     Acknowledged { part, bytes }
 }
 
-// Whether each byte of a part is before an instant.
 fn is_before(part: &LinePart<'_>, at: Moment) -> bool
     ensures { result ≡ (has_none part.now.bytes.now || nat_lt part.now.at at) }
 {
     part.bytes.is_empty() || part.at.is_before(at)
 }
 
-// How many numbers an end takes up before an instant.
+// The sequence numbers that an end takes up before an instant.
 fn end_numbers(end: &End, at: Moment) -> u32
     ensures { result ≡ end_numbers_before at (end_view end.now) }
 {
@@ -143,28 +137,27 @@ fn end_numbers(end: &End, at: Moment) -> u32
     }
 }
 
-// The number of what comes after `len` bytes of a side.
+// The sequence number after `len` bytes.
 fn sequence_number(base: u32, len: u32) -> u32
     ensures { result ≡ (base + 1 + len) % sequence_space }
 {
     base.wrapping_add(1).wrapping_add(len)
 }
 
-// The number that acknowledges so many bytes of a side, and its end where that was before an instant.
+// The number that acknowledges `bytes` bytes, and the end if it was before an instant.
 fn acknowledgment(base: u32, bytes: u32, end: &End, at: Moment) -> u32
     ensures { result ≡ (base + 1 + bytes + end_numbers_before at (end_view end.now)) % sequence_space }
 {
     sequence_number(base, bytes).wrapping_add(end_numbers(end, at))
 }
 
-// When a line ends, and the flags that say how.
 #[derive(Clone, Copy)]
 struct Ending {
     at: Moment,
     flags: Flags,
 }
 
-// FIN for a FIN and a close, RST for a reset, nothing for a line that does not end.
+// FIN for a FIN and a close, RST for a reset.
 fn ending_of(end: &End) -> Option<Ending>
     ensures { (own peer : WrittenSide) (n : ℕ) → end_segments own peer n (end_view end.now)
         ≡ ending_segments own peer n result }

@@ -22,7 +22,7 @@ counted_show n numbers places are many = same_lists (map (λ number. slice_index
     let low : i < n = omega (arith, length-map numbers (λ number. slice_index_or places number no_place), are.many) in
     get_or-map (λ number. slice_index_or places number no_place) numbers i 0 d (omega (arith, are.many)) ∙ ap (λ number. slice_index_or places number no_place) (are.each i low) ∙ get_or_default places i no_place d (omega (arith, many)))
 
--- ---- the places of one list alone
+-- ---- the places of only one list
 
 one_list_len : (index n : ℕ) → length (one_list_places index n) ≡ n
 one_list_len index zero = refl

@@ -13,28 +13,24 @@ use Rattle.time_merge.specs.declared.orders.Place.{Place}
 use Rattle.time_merge.specs.declared.orders.Places.{Places}
 use Rattle.time_merge.specs.declared.orders.Places.TheVariants.{Listed, OfOneList}
 
--- by moment, then connection, turn and place
 abbrev pub key_cmp : SegKey → SegKey → Ordering
 key_cmp = then_cmp (on (λ k. k.moment) nat_cmp) (then_cmp (on (λ k. k.conn) nat_cmp) (then_cmp (on (λ k. k.turn) nat_cmp) (on (λ k. k.place) nat_cmp)))
 
--- by key, then list and index
 abbrev pub keyed_cmp : KeyedSegment → KeyedSegment → Ordering
 keyed_cmp = then_cmp (on (λ l. l.key) key_cmp) (then_cmp (on (λ l. l.list) nat_cmp) (on (λ l. l.index) nat_cmp))
 
 abbrev pub no_place : Place
 no_place = record { list = 0; index = 0 }
 
--- the places of so many segments of list 0, the first of them at this index
+-- the places of `n` segments of list 0, the first of them at this index
 abbrev pub one_list_places : ℕ → ℕ → List Place
 one_list_places index zero = []
 one_list_places index (suc n) = record { list = 0; index = index } ∷ one_list_places (index + 1) n
 
--- places in the order of their numbers
 abbrev pub places_in : Places → List Place
 places_in (Listed places) = places.items
 places_in (OfOneList n) = one_list_places 0 n
 
--- where a keyed segment stands
 abbrev pub place_of : KeyedSegment → Place
 place_of l = record { list = l.list; index = l.index }
 
@@ -42,13 +38,11 @@ place_of l = record { list = l.list; index = l.index }
 abbrev pub ArePlacesInOrder : List KeyedSegment → List Place → Type 0
 ArePlacesInOrder all places = (keys : List KeyedSegment) × IsPermutation all keys × IsSorted keyed_cmp keys × (places ≡ map place_of keys)
 
--- the segments of a list of this number, the first of them at this index
 abbrev pub keyed_segments : ℕ → ℕ → List Framed → List KeyedSegment
 keyed_segments list index [] = []
 keyed_segments list index (x ∷ xs) = record { key = x.key; list = list; index = index } ∷ keyed_segments list (index + 1) xs
 
 module _ {L : Type 0} (segments : L → List Framed) where
-  -- those of all lists
   abbrev pub all_keyed_segments : List L → List KeyedSegment
   all_keyed_segments lists = flat_map (λ (list, l). keyed_segments list 0 (segments l)) (enumerate_from 0 lists)
 
@@ -56,20 +50,16 @@ module _ {L : Type 0} (segments : L → List Framed) where
   abbrev pub keyed_left : KeyedSegments L → List KeyedSegment
   keyed_left l = keyed_segments l.list l.index (drop l.index (segments l.segments.now))
 
-  -- the segment at a place
   abbrev pub segment_at : List L → Place → Framed
   segment_at lists p = slice_index_or (slice_index_or (map segments lists) p.list []) p.index no_segment
 
-  -- there is one
   pub record IsPlace (lists : List L) (p : Place) : Type 0 where
     pub list : p.list < length lists
     pub index : p.index < length (slice_index_or (map segments lists) p.list [])
 
-  -- the segment that a keyed one stands for
   abbrev pub segment_of : List L → KeyedSegment → Framed
   segment_of lists l = segment_at lists (place_of l)
 
-  -- there is a segment at its place, and it has this key
   pub record IsKeyed (lists : List L) (l : KeyedSegment) : Type 0 where
     pub stands : IsPlace lists (place_of l)
     pub key : (segment_of lists l).key ≡ l.key

@@ -5,7 +5,6 @@ use Rattle.pcap_records.specs.Writing.{file_header}
 use Rattle.segment_writer.specs.declared.framed.Framed.{Framed}
 use Rattle.segment_writer.specs.WrittenSegments.{sorted_by_key}
 
--- all segments of some lists, one list after another
 abbrev pub all_segments : List (List Framed) → List Framed
 all_segments lists = flat_map (λ list. list) lists
 

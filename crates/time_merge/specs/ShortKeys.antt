@@ -6,7 +6,6 @@ use Rattle.time_merge.specs.declared.key_order.KeyedSegment.{KeyedSegment}
 use Rattle.time_merge.specs.declared.short_keys.ShortKeys.{ShortKeys}
 use Rattle.time_merge.specs.KeyedSegments.{keyed_cmp}
 
--- that number
 abbrev pub number_in : ℕ → ℕ
 number_in short = short % 2 ^ 26
 
@@ -17,7 +16,6 @@ short_key first n l = (l.key.moment - first) * 2 ^ 26 + n
 abbrev pub no_keyed : KeyedSegment
 no_keyed = record { key = no_segment.key; list = 0; index = 0 }
 
--- a number is the short key of keyed segment n
 pub record IsShortKey (first n : ℕ) (l : KeyedSegment) (short : ℕ) : Type 0 where
   pub number : number_in short ≡ n
   pub early : first ≤ l.key.moment

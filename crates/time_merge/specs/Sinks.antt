@@ -1,7 +1,7 @@
 -- What the sink of a capture takes.
 use Rattle.std.specs.Prelude.{◌≡◌, ◌⊎◌, ℕ, List, [], ◌++◌, take}
 
--- A batch was offered, given what was taken before: it was taken whole, or left as it was.
+-- A batch was offered after `had` was taken: it was taken whole, or left as it was.
 abbrev pub IsOffered : (List ℕ → Type 0) → List ℕ → List ℕ → List ℕ → Type 0
 IsOffered Took had batch left = (Took (had ++ batch) × (left ≡ [])) ⊎ (Took had × (left ≡ batch))
 

@@ -13,7 +13,7 @@ use segment_writer::laws::{one_order, sorted_never_falls};
 use segment_writer::{Keys, SegKey};
 use std::alloc::{AllocError, Global};
 
-// A segment of some lists: its key, the number of its list, and its index there. Keyed segments are ordered by all three.
+// Keyed segments are ordered by key, number of their list, and index there.
 #[derive(Clone, Copy, Debug, PartialEq, Eq, PartialOrd, Ord)]
 pub(crate) struct KeyedSegment {
     pub(crate) key: SegKey,
@@ -22,7 +22,6 @@ pub(crate) struct KeyedSegment {
 }
 
 impl KeyedSegment {
-    /// Where it stands.
     pub(crate) fn place(&self) -> Place
         ensures { result ≡ place_of self.now }
     {
@@ -33,7 +32,7 @@ impl KeyedSegment {
     }
 }
 
-// The keyed segments of a list, from one of them on.
+// The keyed segments of a list from `index` on.
 #[derive(Drop)]
 pub(crate) struct KeyedSegments<'l, L: Keys> {
     pub(crate) segments: &'l L,
@@ -65,7 +64,6 @@ impl<L: Keys> Iterator for KeyedSegments<'_, L> {
     }
 }
 
-// All keyed segments of a list of this number.
 fn keyed<L: Keys>(list: usize, segments: &L) -> KeyedSegments<'_, L>
     ensures { keyed_left L.segments result ≡ keyed_segments list 0 (L.segments segments.now) }
 {
@@ -76,8 +74,7 @@ fn keyed<L: Keys>(list: usize, segments: &L) -> KeyedSegments<'_, L>
     }
 }
 
-// The keyed segments of all lists, each of which is in order of key, in order: lists are merged by the keys of their first segments that
-// are left.
+// Merges lists that are in order of key.
 pub(crate) fn merged_keys<L: Keys>(
     alloc: Global,
     lists: &[L],
@@ -91,8 +88,8 @@ pub(crate) fn merged_keys<L: Keys>(
     sources.kmerge(alloc)?.collect(alloc)
 }
 
-// The places of all segments of lists in any order, by key. They are sorted and not merged: where connections are many, each step of a merge goes
-// from one to another through all of their memory.
+// The places of all segments of lists, by key. They are sorted, not merged: if there are many connections, each step of a merge goes from
+// one to another through all of their memory.
 pub(crate) fn sorted_places<L: Keys>(alloc: Global, lists: &[L]) -> Result<Order, AllocError>
     requires { HasNoKeyTwice (flat_map L.segments lists.now) }
     ensures stand { IfOk result (λ order. All (IsPlace L.segments lists.now) order) }
@@ -102,7 +99,6 @@ pub(crate) fn sorted_places<L: Keys>(alloc: Global, lists: &[L]) -> Result<Order
     Ok(in_order(lists, order))
 }
 
-// The same, by short keys, or else by the keys.
 fn order_by_key<L: Keys>(alloc: Global, lists: &[L]) -> Result<Order, AllocError>
     ensures { IfOk result (λ order. ArePlacesInOrder (all_keyed_segments L.segments lists.now) order) }
 {
@@ -114,7 +110,6 @@ fn order_by_key<L: Keys>(alloc: Global, lists: &[L]) -> Result<Order, AllocError
     order_of(alloc, &keys)
 }
 
-// The keyed segments of all lists, one list after another.
 fn keys_of<L: Keys>(alloc: Global, lists: &[L]) -> Result<Vec<KeyedSegment>, AllocError>
     ensures { IfOk result (λ keys. keys.items ≡ all_keyed_segments L.segments lists.now) }
 {
@@ -125,7 +120,6 @@ fn keys_of<L: Keys>(alloc: Global, lists: &[L]) -> Result<Vec<KeyedSegment>, All
     Ok(keys)
 }
 
-// Appends the keyed segments of the list of this number.
 fn add_keys<L: Keys>(
     keys: &mut Vec<KeyedSegment>,
     list: usize,
@@ -136,7 +130,7 @@ fn add_keys<L: Keys>(
     keys.extend(keyed(list, segments))
 }
 
-// How many segments lists have, or the greatest number where they are more.
+// The number of all segments, or `usize::MAX` if it is more.
 pub(crate) fn count_in<L: Keys>(lists: &[L]) -> usize {
     let mut count = 0usize;
     for l in lists {
@@ -145,7 +139,6 @@ pub(crate) fn count_in<L: Keys>(lists: &[L]) -> usize {
     count
 }
 
-// The places of keyed segments.
 pub(crate) fn order_of(alloc: Global, keys: &[KeyedSegment]) -> Result<Order, AllocError>
     ensures { IfOk result (λ order. order ≡ map place_of keys.now) }
 {
@@ -156,7 +149,7 @@ pub(crate) fn order_of(alloc: Global, keys: &[KeyedSegment]) -> Result<Order, Al
     Order::listed(alloc, places)
 }
 
-// Where all segments of lists stand, one list after another.
+// The places of all segments, one list after another.
 pub(crate) fn places_of<L: Keys>(alloc: Global, lists: &[L]) -> Result<Places, AllocError>
     ensures { IfOk result (λ places. places_in places ≡ map place_of (all_keyed_segments L.segments lists.now)) }
 {
@@ -170,7 +163,6 @@ pub(crate) fn places_of<L: Keys>(alloc: Global, lists: &[L]) -> Result<Places, A
     Ok(Places::Listed(places))
 }
 
-// Appends the places of the segments of the list of this number.
 fn add_places<L: Keys>(places: &mut Vec<Place>, list: usize, l: &L) -> Result<(), AllocError>
     ensures { OnOk result (places.new.items ≡ places.old.items ++ map place_of (keyed_segments list 0 (L.segments l.now))) }
 {
@@ -180,7 +172,7 @@ fn add_places<L: Keys>(places: &mut Vec<Place>, list: usize, l: &L) -> Result<()
     Ok(())
 }
 
-// Places of keyed segments of all lists, in order: they stand for the segments in order of key, where no key stands twice.
+// Places in the order of keyed segments are in order of key, if no key stands twice.
 pub(crate) fn in_order<L: Keys>(lists: &[L], order: Order) -> Order
     requires once { HasNoKeyTwice (flat_map L.segments lists.now) }
     requires of { ArePlacesInOrder (all_keyed_segments L.segments lists.now) order }

@@ -1,4 +1,4 @@
-//! Merging lists of segments, and the capture of what was merged, or of lists in any order, each record written in its place.
+//! Merging lists of segments, and the captures of lists.
 ghost use Rattle.std.specs.Prelude.{◌≡◌, ◌≤◌, ◌++◌, [], All, IfOk, OnErr, OnOk, length, map};
 ghost use Rattle.std.specs.List.{flat_map};
 ghost use Rattle.pcap_records.specs.Instants.{ticks_of};
@@ -16,11 +16,7 @@ use segment_writer::{Keys, SegList};
 use std::alloc::{AllocError, Global};
 use std::marker::Model;
 
-/// The segments of all lists, in order of key. Each list is in order of key, and over all of them no key stands twice. The lists are
-/// merged by the keys of their first segments that are left, and no segment is copied.
-///
-/// # Errors
-/// Where a growth is refused; the lists are then dropped.
+/// Merges lists that are in order of key. No segment is copied.
 pub fn merge(alloc: Global, lists: Vec<SegList>) -> Result<Merged, AllocError>
     requires sorted { All (λ list. sorted_by_key list ≡ list) lists.items }
     requires once { HasNoKeyTwice (all_segments lists.items) }
@@ -32,7 +28,7 @@ pub fn merge(alloc: Global, lists: Vec<SegList>) -> Result<Merged, AllocError>
     Ok(Merged { lists, order })
 }
 
-/// The segments of some lists, in one order. The lists stay as they are: beside them stands the order, of places.
+/// The segments of some lists in one order. The lists stay as they are.
 #[derive(Debug, Drop)]
 pub struct Merged {
     lists: Vec<SegList>,
@@ -52,11 +48,7 @@ impl Model for Merged {
 }
 
 impl Merged {
-    /// The capture of the segments, whose instants count in `unit`: the header of a file, and the record of each segment in turn.
-    /// Its length is known before the first byte is written, so that memory is asked for once.
-    ///
-    /// # Errors
-    /// Where that growth is refused.
+    /// The capture of the segments, whose instants count in `unit`. Its memory is allocated at once.
     pub fn capture(&self, alloc: Global, unit: Unit) -> Result<Vec<u8>, AllocError>
         ensures { IfOk result (λ bytes. bytes.items ≡ capture_in_turn (ticks_of unit) self.now) }
     {
@@ -64,12 +56,8 @@ impl Merged {
     }
 }
 
-/// Writes the capture of the segments of all lists, whose instants count in `unit`, to a sink. The segments may stand in any order, and each
-/// record is written in its place: it is the capture that [`merge`] and [`Merged::capture`] give of lists in order. What the sink has taken
-/// then, and after it the bytes that are answered, are the capture. Over all lists no key stands twice.
-///
-/// # Errors
-/// Where a growth is refused; the sink has then taken a first part of the capture.
+/// Writes the capture of the segments of all lists, whose instants count in `unit`, to a sink. The segments may stand in any order. What the
+/// sink has taken, and after it the returned bytes, are the capture. After an error the sink has a first part of it.
 #[tactic(auto, unfolding(crate::specs::MergedCapture::capture_of))]
 pub fn write_capture<L: Keys, S: CaptureSink>(
     alloc: Global,
@@ -87,11 +75,8 @@ pub fn write_capture<L: Keys, S: CaptureSink>(
     written(Vec::new(alloc), lists, &order, unit, sink)
 }
 
-/// The capture of the segments of all lists, whose instants count in `unit`, in memory. The segments may stand in any order. The length is
-/// known before the first byte is written, so that memory is asked for once. Over all lists no key stands twice.
-///
-/// # Errors
-/// Where a growth is refused.
+/// The capture of the segments of all lists, whose instants count in `unit`. The segments may stand in any order. Its memory is allocated
+/// at once.
 #[tactic(auto, unfolding(crate::specs::MergedCapture::capture_of))]
 pub fn merged_capture<L: Keys>(
     alloc: Global,
@@ -105,7 +90,7 @@ pub fn merged_capture<L: Keys>(
     captured(alloc, lists, &order, unit)
 }
 
-// The capture of the segments at some places in turn, in memory.
+// The capture of the segments at some places in turn.
 fn captured<L: Keys>(
     alloc: Global,
     lists: &[L],
@@ -119,7 +104,7 @@ fn captured<L: Keys>(
     written(room, lists, order, unit, &mut InMemory)
 }
 
-// Writes the header of a file, and the records of the segments at some places in turn: after each the sink is offered what it has not taken yet.
+// Writes the header of a file, and the records of the segments at some places in turn. After each, `sink` is offered what it has not taken.
 fn written<L: Keys, S: CaptureSink>(
     batch: Vec<u8>,
     lists: &[L],
@@ -146,11 +131,11 @@ fn written<L: Keys, S: CaptureSink>(
     Ok(batch)
 }
 
-// For so many records room is made at once.
+// The number of records that room is made for at once.
 const GROUP_LEN: usize = 64;
 
-// Makes room for the records of a group where one begins. Their segments lie in the memory of as many connections: looked at one after another
-// for their lengths they are all on their way, and near at hand once their records are written.
+// Makes room for the records of a group if one begins. Their segments lie in the memory of as many connections: asking all of them for their
+// lengths first loads this memory, so that it is near at hand once their records are written.
 fn make_room<L: Keys>(
     batch: &mut Vec<u8>,
     lists: &[L],
@@ -167,7 +152,7 @@ fn make_room<L: Keys>(
     batch.reserve(group_len(lists, order, number))
 }
 
-// How many bytes the records of a group have that begins with this number.
+// The length of the records of a group that begins with this number.
 fn group_len<L: Keys>(lists: &[L], order: &Order, number: usize) -> usize
     requires stand { All (IsPlace L.segments lists.now) order.now }
     requires within { number ≤ length order.now }
@@ -180,7 +165,7 @@ fn group_len<L: Keys>(lists: &[L], order: &Order, number: usize) -> usize
     len
 }
 
-// The length of the capture of some lists, or the greatest number where it is past that.
+// The length of the capture of some lists, or `usize::MAX` if it is more.
 fn capture_len<L: Keys>(lists: &[L]) -> usize {
     let mut len = FILE_HEADER_LEN;
     for list in lists {
@@ -189,7 +174,6 @@ fn capture_len<L: Keys>(lists: &[L]) -> usize {
     len
 }
 
-// Appends the record of the segment at a place.
 fn put_segment<L: Keys>(lists: &[L], place: Place, out: &mut Vec<u8>) -> Result<(), AllocError>
     requires { IsPlace L.segments lists.now place }
     ensures ok { OnOk result (out.new.items ≡ out.old.items ++ (segment_at L.segments lists.now place).bytes) }

@@ -15,14 +15,12 @@ pub(crate) struct Place {
 /// Places by their numbers.
 #[derive(Debug, Drop)]
 pub(crate) enum Places {
-    /// One by one.
     Listed(Vec<Place>),
-    /// Of so many segments of one list alone: the number of each is its index.
+    /// The places of this number of segments of list 0: the number of each is its index.
     OfOneList(usize),
 }
 
 impl Places {
-    /// The place of this number.
     pub(crate) fn at(&self, number: usize) -> Place
         requires { number < length (places_in self.now) }
         ensures { result ≡ slice_index_or (places_in self.now) number no_place }
@@ -57,10 +55,6 @@ impl Model for Order {
 }
 
 impl Order {
-    /// Places as they stand.
-    ///
-    /// # Errors
-    /// Where a growth is refused.
     pub(crate) fn listed(alloc: Global, places: Vec<Place>) -> Result<Order, AllocError>
         ensures { IfOk result (λ order. order ≡ places.items) }
     {
@@ -74,14 +68,12 @@ impl Order {
         })
     }
 
-    /// How many there are.
     pub(crate) fn len(&self) -> usize
         ensures { result ≡ length self.now }
     {
         self.numbers.len()
     }
 
-    /// The place that comes after so many others.
     pub(crate) fn place(&self, index: usize) -> Place
         requires { index < length self.now }
         ensures { result ≡ slice_index_or self.now index no_place }

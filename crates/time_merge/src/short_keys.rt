@@ -1,4 +1,4 @@
-//! Short keys: numbers of 64 bits, of a moment and a number, which are sorted faster than keys, and in less memory.
+//! Short keys: numbers of 64 bits, which are sorted faster than keys, and in less memory.
 ghost use Rattle.std.specs.Prelude.{◌≡◌, ◌++◌, [], ◌∷◌, ◌<◌, All, List, Ok, true, IfOk, IfSome, length, map};
 ghost use Rattle.std.specs.Ordering.{is_lt};
 ghost use Rattle.time_merge.specs.KeyedSegments.{all_keyed_segments, ArePlacesInOrder, keyed_cmp, keyed_segments, place_of, places_in};
@@ -14,24 +14,20 @@ use std::alloc::{AllocError, Global};
 // The low bits of a short key are the number of its segment among all. The others are the ticks from the first segment's moment to its own.
 const NUMBER_BITS: u32 = 26;
 
-// The numbers in short keys are below it.
 const NUMBER_LIMIT: u64 = 1 << NUMBER_BITS;
 
-// And the ticks below this.
 const TICKS_LIMIT: u64 = 1 << (64 - NUMBER_BITS);
 
-// The short keys of some segments, one after another. The segments stand in order, connection by connection.
+// The short keys of segments that stand in order, connection by connection. `first` is the moment from which ticks are counted.
 #[derive(Drop)]
 struct ShortKeys {
-    // The moment from which ticks are counted.
     first: Moment,
-    // The last segment.
     last: KeyedSegment,
     short_keys: Vec<u64>,
 }
 
-// The places of all segments of lists, in order, where short keys give it: where there are not too many, none is too late, and they stand in order,
-// connection by connection. So those of one moment stand in order.
+// The places of all segments of lists in order, if short keys can give it: if there are not too many, none is too late, and they stand in
+// order, connection by connection, so that those of one moment stand in order.
 pub(crate) fn by_short_keys<L: Keys>(
     alloc: Global,
     lists: &[L],
@@ -51,7 +47,6 @@ pub(crate) fn by_short_keys<L: Keys>(
     Ok(Some(short.into_order(places)))
 }
 
-// The moment of the first segment of some lists.
 fn first_moment<L: Keys>(lists: &[L]) -> Option<Moment> {
     for l in lists {
         if l.count() > 0 {
@@ -61,7 +56,6 @@ fn first_moment<L: Keys>(lists: &[L]) -> Option<Moment> {
     None
 }
 
-// Whether a keyed segment is of a later connection than another, or of the same one and not below it.
 fn follows(keyed: &KeyedSegment, last: &KeyedSegment) -> bool
     ensures { result ≡ true → Follows last.now keyed.now }
 {
@@ -69,14 +63,12 @@ fn follows(keyed: &KeyedSegment, last: &KeyedSegment) -> bool
     last.key.conn < conn || (last.key.conn == conn && !is_below(keyed, last))
 }
 
-// Whether a keyed segment is below another.
 fn is_below(a: &KeyedSegment, b: &KeyedSegment) -> bool
     ensures { result ≡ is_lt (keyed_cmp a.now b.now) }
 {
     a < b
 }
 
-// Leaves of each short key its number.
 fn keep_numbers(short_keys: &mut [u64])
     ensures { short_keys.new ≡ map number_in short_keys.old }
 {
@@ -86,7 +78,6 @@ fn keep_numbers(short_keys: &mut [u64])
 }
 
 impl ShortKeys {
-    // Those of no segment, with room for so many.
     fn none(alloc: Global, first: Moment, room: usize) -> Result<ShortKeys, AllocError>
         ensures { IfOk result (λ short. HaveShortKeys [] short) }
     {
@@ -109,7 +100,7 @@ impl ShortKeys {
         })
     }
 
-    // Adds the segments of the list of this number, unless one has no short key or stands out of order.
+    // Adds the segments of the list with this number, unless one has no short key or stands out of order.
     fn add_list<L: Keys>(&mut self, list: usize, l: &L) -> Result<bool, AllocError>
         ensures { (keys : List KeyedSegment) → result ≡ Ok true → HaveShortKeys keys self.old
             → HaveShortKeys (keys ++ keyed_segments list 0 (L.segments l.now)) self.new }
@@ -141,7 +132,6 @@ impl ShortKeys {
         Ok(true)
     }
 
-    // The places of the segments, in order.
     fn into_order(self, places: Places) -> Order
         requires { All (λ short_key. number_in short_key < length (places_in places)) self.short_keys.items }
         ensures { (keys : List KeyedSegment) → HaveShortKeys keys self → places_in places ≡ map place_of keys → ArePlacesInOrder keys result }

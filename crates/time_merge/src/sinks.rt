@@ -1,9 +1,8 @@
 //! Where a capture is written.
 ghost use Rattle.std.specs.Prelude.{◌≡◌};
 
-/// Where a capture is written. It is offered the bytes that it has not taken yet, again and again, until all are written.
-///
-/// Contracts see two things of it: the bytes that it `took`, all told, and the `place` where it keeps them, which stays.
+/// Where a capture is written. It is offered the bytes that it has not taken yet, again and again, until all are written. Contracts see the
+/// bytes that it `took`, and the `place` where it keeps them.
 pub trait CaptureSink {
     ghost use Rattle.std.specs.Prelude.{◌≡◌, ℕ, List};
     ghost use Rattle.time_merge.specs.Sinks.{IsOffered};

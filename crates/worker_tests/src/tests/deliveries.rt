@@ -11,6 +11,7 @@ use conn_workers::{
 use job_matrix::{Gate, Phase, Plan, Through};
 use pcap_records::{Capture, Moment, read_capture};
 use scenarios::{Hosts, Scenario, read_scenario};
+use segment_writer::Keys;
 use std::alloc::{AllocError, Global};
 use std::process::Abort;
 use std::thread::Threads;
@@ -134,8 +135,7 @@ fn is_second_row(rt: &impl Abort, alloc: Global, row: RowShares<'_, '_>) -> bool
     let mut segments = 0usize;
     let mut lines = Vec::new(alloc);
     for share in row.as_slice() {
-        let written = share.segments.written(alloc).expect(rt, "memory");
-        segments = segments.saturating_add(written.as_slice().len());
+        segments = segments.saturating_add(share.segments.count());
         lines
             .extend_from_slice(share.lines.as_slice())
             .expect(rt, "memory");

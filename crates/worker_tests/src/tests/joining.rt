@@ -1,5 +1,5 @@
 //! Joining the lists of two connections: whichever comes first, their segments in order of key.
-ghost use Rattle.std.specs.Prelude.{◌≡◌, All};
+ghost use Rattle.std.specs.Prelude.{◌≡◌, [], All};
 ghost use Rattle.segment_writer.specs.WrittenSegments.{sorted_by_key};
 
 use super::checks::check;
@@ -91,8 +91,9 @@ fn two_connections_in_either_order(rt: HostRuntime) {
 }
 
 // The list of a connection of which nothing is written, since all of it is at the horizon.
-fn nothing_written(rt: &impl Abort, alloc: Global) -> SegList
-    ensures { sorted_by_key result ≡ result }
+pub(super) fn nothing_written(rt: &impl Abort, alloc: Global) -> SegList
+    ensures sorted { sorted_by_key result ≡ result }
+    ensures none { result ≡ [] }
 {
     let last = (u32::MAX, u32::MAX);
     let never = [
@@ -100,7 +101,9 @@ fn nothing_written(rt: &impl Abort, alloc: Global) -> SegList
         segment(last, CLIENT, SERVER, PSH + ACK, (1001, 0), b"a"),
     ];
     let mut lists = lists_of(rt, alloc, &never);
-    take_last(rt, &mut lists)
+    let list = take_last(rt, &mut lists);
+    assert!(rt; list.as_slice().is_empty());
+    list
 }
 
 // The list of one of the two connections, the first if told so.
@@ -118,7 +121,6 @@ fn one_of_two(rt: &impl Abort, alloc: Global, first: bool) -> SegList
 // That the list of one of the two connections is itself when it is joined with an empty one on either side.
 fn check_empty(rt: &impl Abort, alloc: Global, first: bool, len: usize) {
     let empty = nothing_written(rt, alloc);
-    check(rt, "an empty list", empty.as_slice().is_empty());
     let bytes = joined(alloc, one_of_two(rt, alloc, first), empty).expect(rt, "memory");
     check(rt, "an empty list on the right", bytes.len() == len);
     let empty = nothing_written(rt, alloc);

@@ -6,6 +6,7 @@ ghost use Rattle.segment_writer.specs.WrittenSegments.{sorted_by_key};
 ghost use Rattle.time_merge.specs.MergedCapture.{all_segments};
 
 use super::checks::check;
+use super::joining::nothing_written;
 use conn_table::laws::tables_agree;
 use conn_table::{Partial, Table, finish};
 use pcap_records::{Capture, Moment, Unit, read_capture};
@@ -69,25 +70,33 @@ fn backwards(mut lists: Vec<SegList>) -> Vec<SegList>
 
 // The same lists, and an empty one after them.
 #[tactic(auto, unfolding(segment_writer::specs::WrittenSegments::sorted_by_key))]
-fn before_an_empty_one(alloc: Global, mut lists: Vec<SegList>) -> Result<Vec<SegList>, AllocError>
+fn before_an_empty_one(
+    rt: &impl Abort,
+    alloc: Global,
+    mut lists: Vec<SegList>,
+) -> Result<Vec<SegList>, AllocError>
     requires sorted { All (λ list. sorted_by_key list ≡ list) lists.items }
     requires once { HasNoKeyTwice (all_segments lists.items) }
     ensures sorted { IfOk result (λ all. All (λ list. sorted_by_key list ≡ list) all.items) }
     ensures once { IfOk result (λ all. HasNoKeyTwice (all_segments all.items)) }
 {
-    lists.push(SegList::empty(alloc))?;
+    lists.push(nothing_written(rt, alloc))?;
     Ok(lists)
 }
 
 // The same lists, between two empty ones.
-fn among_empty_ones(alloc: Global, lists: Vec<SegList>) -> Result<Vec<SegList>, AllocError>
+fn among_empty_ones(
+    rt: &impl Abort,
+    alloc: Global,
+    lists: Vec<SegList>,
+) -> Result<Vec<SegList>, AllocError>
     requires sorted { All (λ list. sorted_by_key list ≡ list) lists.items }
     requires once { HasNoKeyTwice (all_segments lists.items) }
     ensures sorted { IfOk result (λ all. All (λ list. sorted_by_key list ≡ list) all.items) }
     ensures once { IfOk result (λ all. HasNoKeyTwice (all_segments all.items)) }
 {
-    let lists = before_an_empty_one(alloc, backwards(lists))?;
-    before_an_empty_one(alloc, backwards(lists))
+    let lists = before_an_empty_one(rt, alloc, backwards(lists))?;
+    before_an_empty_one(rt, alloc, backwards(lists))
 }
 
 fn captured(alloc: Global, lists: Vec<SegList>) -> Result<Vec<u8>, AllocError>
@@ -107,7 +116,7 @@ fn merged(rt: &impl Abort, alloc: Global, segments: &[RecordedSegment<'_>]) -> V
     let turned = captured(alloc, backwards(lists)).expect(rt, "memory");
     check(rt, "turned", turned.as_slice() == in_turn.as_slice());
     let lists = written(rt, alloc, &capture).expect(rt, "memory");
-    let lists = among_empty_ones(alloc, lists).expect(rt, "memory");
+    let lists = among_empty_ones(rt, alloc, lists).expect(rt, "memory");
     let spaced = captured(alloc, lists).expect(rt, "memory");
     check(rt, "spaced", spaced.as_slice() == in_turn.as_slice());
     in_turn
@@ -142,7 +151,7 @@ fn nothing_to_merge(rt: HostRuntime) {
     ];
     let none = captured(rt.alloc(), Vec::new(rt.alloc())).expect(&rt, "memory");
     check(&rt, "no list", none.as_slice() == stated.as_slice());
-    let two = among_empty_ones(rt.alloc(), Vec::new(rt.alloc())).expect(&rt, "memory");
+    let two = among_empty_ones(&rt, rt.alloc(), Vec::new(rt.alloc())).expect(&rt, "memory");
     let of_empty_ones = captured(rt.alloc(), two).expect(&rt, "memory");
     let same = of_empty_ones.as_slice() == stated.as_slice();
     check(&rt, "empty lists", same);

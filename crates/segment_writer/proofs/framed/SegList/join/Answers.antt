@@ -1,15 +1,26 @@
-use Rattle.std.proofs.Common.{◌++◌, ◌∙◌, List, sym, subst}
+use Rattle.std.proofs.Common.{rules, ◌++◌, ◌∙◌, List, ap, ap₂, subst}
+use Rattle.std.specs.Vec.Iter.{into_iter_items}
+use Rattle.itertools.specs.List.{merge_by}
 use Rattle.segment_writer.specs.OrderedLists.{Ordered}
 use Rattle.segment_writer.specs.WrittenSegments.{below}
 use Rattle.segment_writer.specs.declared.framed.Framed.{Framed}
-use Rattle.segment_writer.proofs.InOrder.{in_order_by_key, sorted_never_falls}
+use Rattle.segment_writer.proofs.InOrder.{below_order, in_order_by_key, sorted_never_falls}
+use Rattle.segment_writer.proofs.JoinSteps.{comes_first, merged_sorted}
 use Rattle.segment_writer.proofs.framed.SegList.join.Goals as goal
 
-pub merged-requires-clause-left : goal.merged-requires-clause-left
-merged-requires-clause-left c = subst (λ (xs : List Framed). Ordered below xs) (c.requires.left ∙ sym c.into_vec.ensures) (sorted_never_falls c.args.left)
-
-pub merged-requires-clause-right : goal.merged-requires-clause-right
-merged-requires-clause-right c = subst (λ (xs : List Framed). Ordered below xs) (c.requires.right ∙ sym c.into_vec-2.ensures) (sorted_never_falls c.args.right)
-
 pub returns : goal.returns
-returns c = c.of.ensures ∙ c.in_ok-list.ensures ∙ (λ i. in_order_by_key i (c.into_vec.ensures i ++ c.into_vec-2.ensures i))
+returns c =
+    let left : List Framed = c.args.left in
+    let right : List Framed = c.args.right in
+    let left_ordered : Ordered below left = subst (λ (xs : List Framed). Ordered below xs) c.requires.left (sorted_never_falls left) in
+    let right_ordered : Ordered below right = subst (λ (xs : List Framed). Ordered below xs) c.requires.right (sorted_never_falls right) in
+    let run = c.in_ok-collect.ensures.runs tt in
+    let first = c.merge_by-merged.ensures.runs run.0 run.0.seen run.1 in
+    let second = first.2 in
+    let whole = second.2.0 run.2 in
+    let lefts = (c.into_iter.ensures.runs first.0 first.0.seen).4 whole.0 ∙ ap into_iter_items first.1 ∙ c.into_iter.ensures.rest ∙ c.into_vec-left.ensures in
+    let from_right = c.merge_by-merged.ensures.second.0 in
+    let rights = (from_right.3 second.0 second.0.seen).4 whole.1 ∙ ap into_iter_items second.1 ∙ from_right.0 ∙ c.into_vec-right.ensures in
+    let gave = (second.2.1 (comes_first below below_order) (λ x y r q k. search rules)).1 run.2 in
+    c.of.ensures ∙ run.3.0 ∙ gave ∙ ap₂ (merge_by (comes_first below below_order)) lefts rights ∙ merged_sorted below below_order left right left_ordered right_ordered
+    ∙ (λ i. in_order_by_key i (left ++ right))

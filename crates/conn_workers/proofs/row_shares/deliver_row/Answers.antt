@@ -3,7 +3,7 @@ use Rattle.std.specs.List.{flat_map}
 use Rattle.std.proofs.lemmas.Result.{IfOk-weaker}
 use Rattle.conn_workers.specs.declared.row_shares.RowShare.{RowShare}
 use Rattle.conn_workers.proofs.ShareSteps.{length-by_range, segments_together, lines_together}
-use Rattle.conn_workers.proofs.delivery_rows.deliver_row.Goals as goal
+use Rattle.conn_workers.proofs.row_shares.deliver_row.Goals as goal
 
 pub work_all-requires-clause-jobs : goal.work_all-requires-clause-jobs
 work_all-requires-clause-jobs g c κs within = sym (length-by_range _ _ _ _)

@@ -3,7 +3,7 @@ use Rattle.std.proofs.lemmas.Result.{IfOk-weaker}
 use Rattle.conn_workers.specs.Recordings.{recordings_of}
 use Rattle.conn_workers.specs.ReportTexts.{texts_under}
 use Rattle.conn_workers.proofs.ShareSteps.{length-by_range, by_range}
-use Rattle.conn_workers.proofs.scenario_texts.TextJobsWork.value.Goals as goal
+use Rattle.conn_workers.proofs.jobs.TextJobsWork.value.Goals as goal
 
 pub first-first-requires : goal.first-first-requires
 first-first-requires c =

@@ -4,7 +4,7 @@ use Rattle.std.proofs.lemmas.List.{append-nil}
 use Rattle.std.proofs.lemmas.Result.{IfOk-weaker}
 use Rattle.conn_workers.specs.declared.row_shares.RowShare.{RowShare}
 use Rattle.conn_workers.proofs.ShareSteps.{segments_in_row, text_in_row}
-use Rattle.conn_workers.proofs.delivery_rows.deliver_row_alone.Goals as goal
+use Rattle.conn_workers.proofs.row_shares.deliver_row_alone.Goals as goal
 
 pub returns-clause-segments : goal.returns-clause-segments
 returns-clause-segments c =

@@ -1,7 +1,7 @@
 use Rattle.std.proofs.Common.{◌<◌, ◌++◌, ◌∷◌, [], length, drop, ap₂, sym, ◌∙◌, arith}
 use Rattle.std.proofs.lemmas.List.{get_or-drop, length-drop, take_more}
 use Rattle.conn_workers.specs.Recordings.{recordings_of}
-use Rattle.conn_workers.proofs.recordings.LineJobs.recorded.Goals as goal
+use Rattle.conn_workers.proofs.jobs.LineJobs.recorded.Goals as goal
 
 pub loop-place-preserved : goal.loop-place-preserved
 loop-place-preserved c =

@@ -6,7 +6,7 @@ use Rattle.reassembly.specs.RecordedView.{IsConnOf, recorded_view}
 use Rattle.conn_workers.specs.CaptureTables.{whole_connections}
 use Rattle.conn_workers.specs.Recordings.{RecordingView, recording_in}
 use Rattle.conn_workers.proofs.TableConnections.{here, in_connections, conn_here, is_of_capture, connection_of_capture}
-use Rattle.conn_workers.proofs.recordings.LineJobsWork.value.Goals as goal
+use Rattle.conn_workers.proofs.jobs.LineJobsWork.value.Goals as goal
 
 pub lines-requires : goal.lines-requires
 lines-requires c =

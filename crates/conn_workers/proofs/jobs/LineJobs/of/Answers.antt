@@ -1,6 +1,6 @@
 use Rattle.std.proofs.Common.{length, sym, ap, ◌∙◌}
 use Rattle.conn_workers.proofs.DeliverySteps.{as_many}
-use Rattle.conn_workers.proofs.recordings.LineJobs.of.Goals as goal
+use Rattle.conn_workers.proofs.jobs.LineJobs.of.Goals as goal
 
 pub invariant_of-result : goal.invariant_of-result
 invariant_of-result c =

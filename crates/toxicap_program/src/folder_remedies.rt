@@ -28,7 +28,6 @@ impl<R: Files> Run<'_, R> {
         }
     }
 
-    // What helps if the folder is there.
     fn output_remedy(&self, folder: &str, after: u64) -> Said {
         let alloc = self.alloc;
         let number = after / 2;

@@ -19,19 +19,47 @@ use std::sync::atomic::AtomicU64;
 use std::{env, io};
 use summary::{Summary, SummedUp};
 use terminal::{Announced, Counting};
-use toxicap::{Counted, HostDisk, command_over, refuse_words};
+use toxicap::{Counted, HostDisk, RunFault, command_over, refuse_words};
 
 fn main(rt: HostRuntime) -> ExitCode {
+    let mut faults = Counted::new(rt.stderr());
     let words = match words_of(&rt) {
         Ok(words) => words,
-        Err(error) => {
-            let mut faults = Counted::new(rt.stderr());
-            return ExitCode::from(refuse_words(rt.alloc(), &error, &mut faults));
-        }
+        Err(error) => return ExitCode::from(refuse_words(rt.alloc(), &error, &mut faults)),
     };
     let is_terminal = rt.stderr().is_terminal();
     let asked = is_terminal.then(|| read_arguments(rt.alloc(), &words).ok());
-    ExitCode::from(run_words(&rt, &words, asked.flatten().as_ref()))
+    let asked = asked.flatten();
+    let mut input = Counted::new(Announced {
+        input: rt.stdin(),
+        faults: rt.stderr(),
+        is_announced: asked.is_none() || !rt.stdin().is_terminal(),
+        first_bytes: CaptureStart::default(),
+    });
+    let summary = asked.as_ref().map(|_| Summary::default());
+    let mut output = Counted::new(SummedUp::new(rt.stdout(), summary));
+    let files = Counting {
+        rt: &rt,
+        all: asked
+            .as_ref()
+            .map_or(0, |asked| asked.scenarios.len() as u64),
+        named: AtomicU64::new(0),
+    };
+    let (status, outcome) = command_over(
+        &files,
+        &mut HostDisk::new(&files),
+        rt.alloc(),
+        &words,
+        &mut input,
+        &mut output,
+        &mut faults,
+    );
+    if let Some(asked) = &asked {
+        let first_bytes = input.into_inner().first_bytes;
+        let printed = output.into_inner().summary;
+        print_line(&rt, asked, first_bytes, outcome, printed);
+    }
+    ExitCode::from(status)
 }
 
 // The arguments after the program's name.
@@ -39,44 +67,24 @@ fn words_of(rt: &HostRuntime) -> io::Result<Vec<String>> {
     Ok(env::args(rt)?.skip(1).collect(rt.alloc())?)
 }
 
-// Runs what the words ask for, which is also in `asked` if a person reads standard error.
-fn run_words(rt: &HostRuntime, words: &[String], asked: Option<&Asked<'_>>) -> u8 {
-    let mut input = Counted::new(Announced {
-        input: rt.stdin(),
-        faults: rt.stderr(),
-        is_announced: asked.is_none() || !rt.stdin().is_terminal(),
-        first_bytes: CaptureStart::default(),
-    });
-    let summary = asked.map(|_| Summary::default());
-    let mut output = Counted::new(SummedUp::new(rt.stdout(), summary));
-    let files = Counting {
-        rt,
-        all: asked.map_or(0, |asked| asked.scenarios.len() as u64),
-        named: AtomicU64::new(0),
+fn print_line(
+    rt: &HostRuntime,
+    asked: &Asked<'_>,
+    first_bytes: CaptureStart,
+    outcome: Result<(), RunFault>,
+    printed: Option<Summary>,
+) {
+    let run = Run {
+        files: rt,
+        alloc: rt.alloc(),
+        asked,
+        first_bytes,
     };
-    let (status, outcome) = command_over(
-        &files,
-        &mut HostDisk::new(&files),
-        rt.alloc(),
-        words,
-        &mut input,
-        &mut output,
-        &mut Counted::new(rt.stderr()),
-    );
-    if let Some(asked) = asked {
-        let run = Run {
-            files: rt,
-            alloc: rt.alloc(),
-            asked,
-            first_bytes: input.into_inner().first_bytes,
-        };
-        let line = match outcome {
-            Ok(()) => run.summed_up(output.into_inner().summary),
-            Err(fault) => run.remedy(fault).map(Some),
-        };
-        if let Ok(Some(line)) = line {
-            let _ = eprintln!(rt; "toxicap: {line}");
-        }
+    let line = match outcome {
+        Ok(()) => run.summed_up(printed),
+        Err(fault) => run.remedy(fault).map(Some),
+    };
+    if let Ok(Some(line)) = line {
+        let _ = eprintln!(rt; "toxicap: {line}");
     }
-    status
 }

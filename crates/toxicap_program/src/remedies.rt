@@ -7,7 +7,6 @@ use std::rt::Files;
 use toxicap::RunFault;
 
 impl<R: Files> Run<'_, R> {
-    /// What helps after a refusal of the run.
     pub fn remedy(&self, fault: RunFault) -> Said {
         let alloc = self.alloc;
         match fault {

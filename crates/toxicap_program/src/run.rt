@@ -38,7 +38,6 @@ pub type CaptureStart = FirstBytes<HEADER_LEN>;
 /// The most bytes that a capture, a dump or a scenario file may have.
 pub const LIMIT: u64 = 1 << 30;
 
-/// A run that has ended.
 #[derive(Clone, Copy)]
 pub struct Run<'a, R> {
     pub files: &'a R,

@@ -41,7 +41,6 @@ const ATTRIBUTES: [(&str, &str, &str, u64, u64); 10] = [
 ];
 
 impl<R: Files> Run<'_, R> {
-    /// The file of the scenario is read again.
     pub fn scenario_remedy(&self, number: usize, refusal: &Refusal) -> Said {
         let alloc = self.alloc;
         let Some(path) = self.asked.scenarios.as_slice().get(number) else {
@@ -129,27 +128,25 @@ fn toxic_remedy(alloc: Global, toxic: &Value, cause: Cause) -> Said {
             wrong_text(alloc, "type", toxic_type, wanted)
         }
         Cause::BadStream => wrong_text(alloc, "stream", stream, "upstream or downstream is wanted"),
-        Cause::DuplicateToxic => match (text_at(toxic, "name"), stream) {
-            ("", "") => default_remedy(alloc, toxic_type, "downstream"),
-            ("", stream) => default_remedy(alloc, toxic_type, stream),
-            (name, _) => format!(in alloc;
-                "an earlier toxic of the proxy has the name {name}: rename one of them",
-                name = quoted(alloc, name)?
-            ),
-        },
+        Cause::DuplicateToxic if text_at(toxic, "name").is_empty() => {
+            let stream = match stream {
+                "" => "downstream",
+                _ => stream,
+            };
+            format!(in alloc;
+                "an earlier toxic of the proxy has the name \"{toxic_type}_{stream}\", which it has too without a \"name\": give it one"
+            )
+        }
+        Cause::DuplicateToxic => format!(in alloc;
+            "an earlier toxic of the proxy has the name {name}: rename one of them",
+            name = quoted(alloc, text_at(toxic, "name"))?
+        ),
         Cause::AttributeRange => wrong_attribute(alloc, toxic),
         Cause::TooMany => format!(in alloc;
             "it is the ninth of its stream: a stream has at most 8 toxics"
         ),
         _ => wrong_toxicity(alloc, toxic),
     }
-}
-
-// What helps if an earlier toxic has the name that a toxic gets by default.
-fn default_remedy(alloc: Global, toxic_type: &str, stream: &str) -> Said {
-    format!(in alloc;
-        "an earlier toxic of the proxy has the name \"{toxic_type}_{stream}\", which it has too without a \"name\": give it one"
-    )
 }
 
 // The field of an object with a name, unless it is null, which is absent.

@@ -24,12 +24,10 @@ fn first_of(alloc: Global, text: &str, most: usize) -> Said {
     Ok(shown)
 }
 
-/// A text as it is shown.
 pub fn shown(alloc: Global, text: &str) -> Said {
     first_of(alloc, text, SHOWN)
 }
 
-/// A text as it is shown in quotes.
 pub fn quoted(alloc: Global, text: &str) -> Said {
     format!(in alloc; "\"{}\"", shown(alloc, text)?)
 }

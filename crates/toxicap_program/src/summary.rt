@@ -75,7 +75,6 @@ fn number(word: &str) -> u64 {
     word.parse().unwrap_or(0)
 }
 
-// The end of a noun after a number.
 fn plural_end(count: u64) -> &'static str {
     if count == 1 { "" } else { "s" }
 }

@@ -28,6 +28,7 @@ pub struct Summary {
 
 impl Summary {
     fn add(&mut self, bytes: &[u8]) {
+        let bytes = if self.reports < 2 { bytes } else { &[] };
         for part in bytes.split_inclusive(|byte| *byte == b'\n') {
             self.line.add(part);
             if part.ends_with(b"\n") {

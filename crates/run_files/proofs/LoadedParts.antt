@@ -45,7 +45,7 @@ pub length-blocks : (told : Option ToldFile) (at n : ℕ) → length (blocks_fro
 length-blocks told at zero = refl
 length-blocks told at (suc n) = ap suc (length-blocks told (at + block_len) n)
 
--- of so many blocks these parts were gathered, and these blocks are left
+-- of `count` blocks these parts were gathered, and these blocks are left
 pub record Gathers (told : Option ToldFile) (count : ℕ) (left : List BlockView) (parts : List (List ℕ)) : Type 0 where
   pub counted : length parts + length left ≡ count
   pub left_are : left ≡ blocks_from told (length parts * block_len) (length left)
@@ -170,7 +170,7 @@ chunks_are bytes from (suc n) within =
         ap (λ xs. take block_len (drop from bytes) ++ xs) (rest ∙ sym (drop-drop block_len from bytes))
         ∙ take-append-drop block_len (drop from bytes)
 
--- the text of a file of so many blocks is that of its parts
+-- the text of a file is that of its parts
 pub text_of_blocks : (f : ToldFile) (count : ℕ) → HasBlocks count f → count ≤ block_limit
     → text_of (Some f) ≡ and_then (parts_from f [] 0 count) (λ parts. Ok (bytes_until_short parts))
 text_of_blocks f count has few = by (nat_lt 0 f.lost) refl

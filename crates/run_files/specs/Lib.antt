@@ -6,6 +6,7 @@ pub mod DraftedOutputs
 pub mod Dumps
 pub mod Texts
 pub mod SeenTexts
+pub mod StoredFiles
 pub mod Shelves
 pub mod Folders
 pub mod WrittenOutputs

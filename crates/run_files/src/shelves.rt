@@ -1,19 +1,14 @@
-//! Shelves: where files are put, whole, one after another; and one in memory.
-ghost use Rattle.std.specs.Prelude.{◌≡◌};
-
+//! Shelves: where files are put, whole, one after another.
 use crate::error::ShelfError;
-use crate::streams::count_failure;
-use std::alloc::{AllocError, Global};
-use std::marker::Model;
 
-/// Where files are put: a folder, an archive, or a list in memory.
+/// Where files are put, such as an archive or a list in memory.
 ///
-/// Contracts see two things of a shelf. `files` are the files that it took whole, the oldest first, or `None` where it does not
-/// tell them, as a folder of a disk that does not. `failures` is the number of its failed calls, which each shelf counts
-/// for itself.
+/// Contracts see two things of a shelf. `files` are the files that it took whole, the oldest first, or `None` if it does not tell them.
+/// `failures` is the number of its failed calls, which each shelf counts for itself.
 pub trait Shelf {
     ghost use Rattle.std.specs.Prelude.{◌≡◌, ℕ, ◌+◌, ◌-◌, ◌^◌, ◌<◌, [], ◌∷◌, List, Option, OnOk, OnErr, is_ok, if◌then◌else◌};
-    ghost use Rattle.run_files.specs.Shelves.{StoredFile, stored_file, Takes};
+    ghost use Rattle.run_files.specs.Shelves.{Takes};
+    ghost use Rattle.run_files.specs.StoredFiles.{StoredFile, stored_file};
 
     ghost files: { Self → Option (List StoredFile) };
 
@@ -28,115 +23,4 @@ pub trait Shelf {
         ensures taken { OnOk result (Takes (files self.old) (files self.new) (stored_file name.now bytes.now ∷ [])) }
         ensures as_before { OnErr result (files self.new ≡ files self.old) }
         ensures counted { failures self.new ≡ (if is_ok result then failures self.old else failures self.old + 1) };
-}
-
-/// A file that a shelf in memory has taken.
-#[derive(Drop)]
-pub struct MemoryFile {
-    name: String,
-    bytes: Vec<u8>,
-}
-
-impl Model for MemoryFile {
-    ghost use Rattle.std.specs.String.{string_bytes};
-    ghost use Rattle.run_files.specs.Shelves.{StoredFile, stored_file};
-
-    ghost Value = { StoredFile };
-
-    ghost view = { λ f. stored_file (string_bytes f.name) f.bytes.items };
-}
-
-impl MemoryFile {
-    /// Its name.
-    pub fn name(&self) -> &str
-        ensures { result.now ≡ self.now.name }
-    {
-        &self.name
-    }
-
-    /// Its bytes.
-    pub fn bytes(&self) -> &[u8]
-        ensures { result.now ≡ self.now.bytes }
-    {
-        &self.bytes
-    }
-}
-
-/// A shelf in memory: it keeps copies of the files that are put, in order, under names that may stand twice. It fails where memory is
-/// refused, and keeps nothing of that file.
-#[derive(Drop)]
-pub struct MemoryShelf {
-    alloc: Global,
-    files: Vec<MemoryFile>,
-    failed: u64,
-}
-
-impl Model for MemoryShelf {
-    ghost use Rattle.run_files.specs.Shelves.{MemoryShelfView};
-
-    ghost Value = { MemoryShelfView };
-
-    ghost view = { λ s. record { files = s.files.items; failed = s.failed } };
-}
-
-impl MemoryShelf {
-    ghost use Rattle.std.specs.Prelude.{◌≡◌, ◌++◌, [], ◌∷◌, is_ok, if◌then◌else◌};
-    ghost use Rattle.run_files.specs.Shelves.{stored_file};
-
-    /// A shelf without files, of which no call has failed. It takes no memory.
-    pub fn new(alloc: Global) -> MemoryShelf
-        ensures { result ≡ record { files = []; failed = 0 } }
-    {
-        MemoryShelf {
-            alloc,
-            files: Vec::new(alloc),
-            failed: 0,
-        }
-    }
-
-    /// The files, the oldest first.
-    pub fn files(&self) -> &[MemoryFile]
-        ensures { result.now ≡ self.now.files }
-    {
-        &self.files
-    }
-
-    /// The files, as a vector of one's own.
-    pub fn into_files(self) -> Vec<MemoryFile>
-        ensures { result.items ≡ self.files }
-    {
-        self.files
-    }
-
-    /// How many calls have failed.
-    pub fn failed(&self) -> u64
-        ensures { result ≡ self.now.failed }
-    {
-        self.failed
-    }
-
-    // Keeps a copy of a file.
-    fn keep(&mut self, name: &str, bytes: &[u8]) -> Result<(), AllocError>
-        ensures files { self.new.files ≡ (if is_ok result then self.old.files ++ stored_file name.now bytes.now ∷ [] else self.old.files) }
-        ensures failed { self.new.failed ≡ self.old.failed }
-    {
-        let name = String::from_str(self.alloc, name)?;
-        let bytes = Vec::from_slice(self.alloc, bytes)?;
-        self.files.push(MemoryFile { name, bytes })?;
-        Ok(())
-    }
-}
-
-impl Shelf for MemoryShelf {
-    ghost use Rattle.std.specs.Prelude.{Some};
-
-    ghost files = { λ s. Some s.files };
-
-    ghost failures = { λ s. s.failed };
-
-    fn put(&mut self, name: &str, bytes: &[u8]) -> Result<(), ShelfError> {
-        let kept = self.keep(name, bytes);
-        count_failure(&kept, &mut self.failed);
-        Ok(kept?)
-    }
 }

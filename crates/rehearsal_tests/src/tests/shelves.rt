@@ -1,12 +1,11 @@
-//! The files of a rehearsal on shelves: one that fails, and one in memory.
-ghost use Rattle.std.specs.Prelude.{◌≡◌, ◌≤◌};
+//! The files of a rehearsal on a shelf in memory, and on one that fails.
+ghost use Rattle.std.specs.Prelude.{◌≡◌};
 
+use job_matrix::Values;
 use std::alloc::{AllocError, AllocGlobal, Global};
+use std::marker::Model;
 use std::process::Abort;
-use toxicap::{
-    MemoryFile, MemoryShelf, Output, Outputs, RunFault, Shelf, ShelfError, StoreFault, Values,
-    store_all,
-};
+use toxicap::{Output, Outputs, RunFault, Shelf, ShelfError, StoreFault, store_all};
 
 // The files of two outputs, in the order in which they are stored.
 const FILES: [(&str, &[u8]); 4] = [
@@ -28,29 +27,76 @@ fn two_outputs(alloc: Global) -> Result<Outputs, AllocError> {
     Ok(Values::of(outputs))
 }
 
-// Whether a shelf's files have these names and bytes.
-fn are_files(files: &[MemoryFile], wanted: &[(&str, &[u8])]) -> bool {
-    for (file, (name, bytes)) in files.iter().zip(wanted) {
-        if file.name() != *name || file.bytes() != *bytes {
-            return false;
+/// A file that a shelf in memory has taken.
+#[derive(Drop)]
+pub struct MemoryFile {
+    name: String,
+    bytes: Vec<u8>,
+}
+
+impl Model for MemoryFile {
+    ghost use Rattle.std.specs.String.{string_bytes};
+    ghost use Rattle.run_files.specs.StoredFiles.{StoredFile, stored_file};
+
+    ghost Value = { StoredFile };
+
+    ghost view = { λ f. stored_file (string_bytes f.name) f.bytes.items };
+}
+
+impl MemoryFile {
+    /// Its name.
+    pub fn name(&self) -> &str {
+        &self.name
+    }
+
+    /// Its bytes.
+    pub fn bytes(&self) -> &[u8] {
+        &self.bytes
+    }
+}
+
+/// A shelf in memory: it keeps copies of the files that are put, in order. One put fails, after `calls_before` others: whoever tries it
+/// again loses no file.
+#[derive(Drop)]
+pub struct MemoryShelf {
+    pub alloc: Global,
+    pub files: Vec<MemoryFile>,
+    pub calls_before: u64,
+    pub failed: u64,
+}
+
+impl MemoryShelf {
+    ghost use Rattle.std.specs.Prelude.{◌≡◌, ◌++◌, [], ◌∷◌, is_ok, if◌then◌else◌};
+    ghost use Rattle.run_files.specs.StoredFiles.{stored_file};
+
+    /// A shelf without files.
+    pub fn new(alloc: Global, calls_before: u64) -> MemoryShelf
+        ensures { result.failed ≡ 0 }
+    {
+        MemoryShelf {
+            alloc,
+            files: Vec::new(alloc),
+            calls_before,
+            failed: 0,
         }
     }
-    files.len() == wanted.len()
+
+    // Keeps a copy of a file.
+    fn keep(&mut self, name: &str, bytes: &[u8]) -> Result<(), AllocError>
+        ensures files { self.new.files.items ≡ (if is_ok result then self.old.files.items ++ stored_file name.now bytes.now ∷ [] else self.old.files.items) }
+        ensures failed { self.new.failed ≡ self.old.failed }
+    {
+        let name = String::from_str(self.alloc, name)?;
+        let bytes = Vec::from_slice(self.alloc, bytes)?;
+        self.files.push(MemoryFile { name, bytes })?;
+        Ok(())
+    }
 }
 
-/// Keeps files in memory, but for the one that comes after so many calls: whoever tries again gets rid of it.
-#[derive(Drop)]
-struct FailsOnce {
-    kept: MemoryShelf,
-    calls_before: u64,
-    failed: u64,
-    ghost counted: { kept.failed ≤ failed },
-}
-
-impl Shelf for FailsOnce {
+impl Shelf for MemoryShelf {
     ghost use Rattle.std.specs.Prelude.{Some};
 
-    ghost files = { λ s. Some s.kept.files };
+    ghost files = { λ s. Some s.files.items };
 
     ghost failures = { λ s. s.failed };
 
@@ -61,28 +107,34 @@ impl Shelf for FailsOnce {
             return Err(ShelfError);
         }
         self.calls_before -= 1;
-        let kept = self.kept.put(name, bytes);
-        if kept.is_err() {
+        if self.keep(name, bytes).is_err() {
             self.failed += 1;
+            return Err(ShelfError);
         }
-        kept
+        Ok(())
     }
+}
+
+// Whether a shelf's files have these names and bytes.
+fn are_files(files: &[MemoryFile], wanted: &[(&str, &[u8])]) -> bool {
+    for (file, (name, bytes)) in files.iter().zip(wanted) {
+        if file.name() != *name || file.bytes() != *bytes {
+            return false;
+        }
+    }
+    files.len() == wanted.len()
 }
 
 // Two outputs to a shelf that fails at its put after so many put the first files on it, and none after the failed one.
 fn check_failing(rt: &(impl Abort + AllocGlobal), after: u64, first: &[(&str, &[u8])]) {
     let outputs = two_outputs(rt.alloc()).expect(rt, "memory");
-    let mut shelf = FailsOnce {
-        kept: MemoryShelf::new(rt.alloc()),
-        calls_before: after,
-        failed: 0,
-    };
+    let mut shelf = MemoryShelf::new(rt.alloc(), after);
     let stored = store_all(rt.alloc(), &outputs, &mut shelf);
     let refused = stored == Err(StoreFault::ShelfFailed { after })
         && shelf.failed == 1
         && shelf.calls_before == u64::MAX;
     let all = stored == Ok(()) && shelf.failed == 0 && first.len() == FILES.len();
-    let good = (refused || all) && are_files(shelf.kept.files(), first);
+    let good = (refused || all) && are_files(&shelf.files, first);
     assert!(rt; good, "{after}");
 }
 
@@ -107,9 +159,9 @@ fn many_files(alloc: Global) -> Result<Vec<MemoryFile>, RunFault> {
         };
         outputs.push(output).map_err(AllocError::from)?;
     }
-    let mut shelf = MemoryShelf::new(alloc);
+    let mut shelf = MemoryShelf::new(alloc, u64::MAX);
     store_all(alloc, &Values::of(outputs), &mut shelf)?;
-    Ok(shelf.into_files())
+    Ok(shelf.files)
 }
 
 // Whether the file at this place has this name.
@@ -130,13 +182,4 @@ fn names_of_files(rt: HostRuntime) {
         && is_named(&files, 19_998, "9999.pcap")
         && is_named(&files, 20_001, "10000.txt");
     assert!(rt; good);
-}
-
-#[test]
-fn a_shelf_in_memory(rt: HostRuntime) {
-    let mut shelf = MemoryShelf::new(rt.alloc());
-    let first = shelf.put("one", b"1") == Ok(());
-    let second = shelf.put("one", b"\x00") == Ok(());
-    let good = are_files(shelf.files(), &[("one", b"1"), ("one", b"\x00")]);
-    assert!(rt; first && second && good && shelf.failed() == 0);
 }

@@ -20,7 +20,6 @@ blank_digit b h = grind arith
 -- ---- over any tests for blanks and digits
 
 module _ (blank digit : ℕ → Bool) where
-  -- the bytes of a text that are no blanks
   abbrev kept : List ℕ → List ℕ
   kept text = filter (λ b. not (blank b)) text
 

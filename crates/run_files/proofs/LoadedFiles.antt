@@ -1,7 +1,7 @@
 -- How the bytes of a file come, read after read.
 use Rattle.std.proofs.Common.{◌≡◌, ◌<◌, ◌≤◌, ℕ, ◌+◌, ◌-◌, Bool, true, false, ◌&&◌, nat_lt, List, ◌++◌, length, take, drop, Option, Some, None, Ok, Result, IfSome, refl, sym, ap, ap₂, subst, ◌∙◌, arith, length-append, length-drop, length-take, take-add}
 use Rattle.std.proofs.lemmas.Bool.{le-ltb}
-use Rattle.std.proofs.lemmas.List.{drop-append-le, drop-drop, length-take-le, take-append-le, take-take, take_all}
+use Rattle.std.proofs.lemmas.List.{drop-drop, length-take-le, take-append-le, take-take, take_all}
 use Rattle.disks.specs.ToldFiles.{ToldFile, Gives, IsFileAt, file_len}
 use Rattle.disks.specs.Histories.{History, held_now}
 use Rattle.run_files.specs.declared.error.RunFault.{RunFault}
@@ -47,14 +47,6 @@ whole_step (Some f) bytes room more place next n first gives moved all =
 pub still_first : (first bytes last more : List ℕ) → take (length first) bytes ≡ first → more ≡ bytes ++ last → take (length first) more ≡ first
 still_first first bytes last more begins all =
     ap (take (length first)) all ∙ take-append-le (length first) bytes last (omega (arith, ap length begins, length-take (length first) bytes)) ∙ begins
-
-pub rest_counted : (first bytes : List ℕ) → take (length first) bytes ≡ first → length first + length (drop (length first) bytes) ≡ length bytes
-rest_counted first bytes begins = omega (arith, ap length begins, length-take (length first) bytes, length-drop (length first) bytes)
-
--- and what came after it grows
-pub rest_grows : (first bytes last more : List ℕ) → take (length first) bytes ≡ first → more ≡ bytes ++ last → drop (length first) more ≡ drop (length first) bytes ++ last
-rest_grows first bytes last more begins all =
-    ap (drop (length first)) all ∙ drop-append-le (length first) bytes last (omega (arith, ap length begins, length-take (length first) bytes))
 
 -- the first bytes of a read, after those that came of a part
 pub part_step : (told : Option ToldFile) (start : ℕ) (part room more : List ℕ) (n own : ℕ) → own ≤ n

@@ -131,7 +131,6 @@ none_right : (a b : Bool) → b ≡ false → (a && b) ≡ false
 none_right true b is = is
 none_right false b is = refl
 
--- where none is lost, each part has its bytes
 all_parts : (f : ToldFile) (earlier : List (List ℕ)) (from n : ℕ) → nat_lt 0 f.lost ≡ false → parts_from f earlier from n ≡ Ok (earlier ++ chunks f.bytes from n)
 unfolding parts_from
 all_parts f earlier from zero whole = ap (λ (xs : List (List ℕ)). Ok xs) (sym (append-nil earlier))
@@ -141,7 +140,6 @@ all_parts f earlier from (suc n) whole =
     ∙ all_parts f (earlier ++ take block_len (drop from f.bytes) ∷ []) (from + block_len) n whole
     ∙ ap (λ (xs : List (List ℕ)). Ok xs) (append_assoc {A = List ℕ} earlier (take block_len (drop from f.bytes) ∷ []) (chunks f.bytes (from + block_len) n))
 
--- where some are, one of the parts shows it
 lost_part : (f : ToldFile) (earlier : List (List ℕ)) (from n : ℕ) → nat_lt 0 f.lost ≡ true → file_len f ≤ from + n * block_len → from < file_len f
     → parts_from f earlier from n ≡ Err ReadFailed
 unfolding parts_from

@@ -36,7 +36,6 @@ fits_taken taken held buffer within = omega (arith, within, length-take held buf
 pub room_left : (buffer room : List ℕ) (held : ℕ) → held < length buffer → length room ≡ length (take (length buffer - held) (drop held buffer)) → 0 < length room
 room_left buffer room held less is = omega (arith, less, is, length-take (length buffer - held) (drop held buffer), length-drop held buffer)
 
--- nothing was taken yet
 pub seen_first : (reader : HeadReaderView) (buffer : List ℕ) (len : ℕ) → reader.taken ≡ 0 → reader.found ≡ no_header → 0 < len → len ≤ length buffer
     → length buffer ≤ capture_limit → is_dump (take len buffer) ≡ false → IsSeenSoFar reader buffer len (take len buffer)
 unfolding read_on
@@ -50,7 +49,6 @@ seen_first reader buffer len none nothing some within short no_dump =
       same = λ more m. rw nothing refl;
     }
 
--- the reader took some of what was held
 pub seen_taken : (old new : HeadReaderView) (buffer after : List ℕ) (held left : ℕ) (given : List ℕ) → IsSeenSoFar old buffer held given
     → length after ≡ length buffer → new.taken + left ≡ old.taken + held → left ≤ length after
     → ((more : List ℕ) → old.taken + held + length more ≤ capture_limit → read_on old.found (take held buffer ++ more) ≡ read_on new.found (take left after ++ more))

@@ -1,5 +1,5 @@
 -- How files come to stand on a shelf, one after another.
-use Rattle.std.proofs.Common.{◌≡◌, ◌<◌, ◌≤◌, ℕ, ◌+◌, ◌-◌, ◌*◌, ◌^◌, List, [], ◌∷◌, ◌++◌, length, take, drop, get_or, false, Option, Some, None, Err, refl, sym, ap, subst, ◌∙◌, arith, append-nil, append_assoc, map, take-add, length-drop}
+use Rattle.std.proofs.Common.{◌≡◌, ◌<◌, ◌≤◌, ℕ, ◌+◌, ◌-◌, ◌*◌, ◌^◌, List, [], ◌∷◌, ◌++◌, length, take, drop, get_or, false, Option, Some, None, Err, sym, ap, subst, ◌∙◌, arith, append-nil, append_assoc, map, take-add, length-drop}
 use Rattle.std.proofs.lemmas.Grind.{common_steps}
 use Rattle.std.proofs.lemmas.List.{drop_more, drop_all, map-append, take_all}
 use Rattle.std.specs.Fmt.{decimal, padded_integral, format_spec, char_count}
@@ -11,12 +11,10 @@ use Rattle.run_files.specs.Shelves.{Takes}
 use Rattle.run_files.specs.StoredFiles.{StoredFile}
 use Rattle.run_files.specs.WrittenOutputs.{four_digits, capture_file, report_file, files_from, Stores, PutsAfter}
 
--- what std writes for a number with zeros in front
 pub padded_is_four_digits : (n : ℕ) → padded_integral (format_spec 32 0 4 4 (2 ^ 64 - 1)) false [] (decimal n) ≡ four_digits n
 unfolding padded_integral char_count
 padded_is_four_digits n = grind (arith, common_steps)
 
--- what was taken in two steps
 pub Takes-append : (a b c : Option (List StoredFile)) (xs ys : List StoredFile) → Takes a b xs → Takes b c ys → Takes a c (xs ++ ys)
 Takes-append None b c xs ys p q = tt
 Takes-append (Some a) None c xs ys p q = absurd p

@@ -15,7 +15,6 @@ is_foreign b = not (is_blank b || is_hex_digit b)
 abbrev pub without_blanks : List ℕ → List ℕ
 without_blanks text = filter (λ b. not (is_blank b)) text
 
--- the bytes that hex decodes of a text without its blanks
 abbrev pub dumped_bytes : List ℕ → List ℕ
 dumped_bytes text = result_unwrap_or (decode_of (without_blanks text)) []
 

@@ -1,5 +1,5 @@
 -- Folders of a disk: which names they refuse, where their drafts are, and which files they took.
-use Rattle.std.specs.Prelude.{◌≡◌, ◌<◌, ◌^◌, ℕ, nat_lt, ◌==◌, Bool, ◌||◌, if◌then◌else◌, List, [], ◌++◌, codes, length, map, Option, Result, Err}
+use Rattle.std.specs.Prelude.{◌≡◌, ◌<◌, ◌^◌, ℕ, nat_lt, ◌==◌, Bool, ◌||◌, if◌then◌else◌, List, [], ◌++◌, codes, length, map, Option, Result}
 use Rattle.std.specs.Fmt.{decimal}
 use Rattle.disks.specs.DraftPaths.{has_slash, is_draft_name, path_in, unfinished}
 use Rattle.disks.specs.Histories.{History, NamedFile, named_file, Names}

@@ -1,6 +1,7 @@
 pub mod RunFault
 pub mod Streams
 pub mod Paths
+pub mod Loading
 pub mod LoadedBlocks
 pub mod DraftedOutputs
 pub mod Dumps

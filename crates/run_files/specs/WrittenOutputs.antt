@@ -24,7 +24,6 @@ capture_file n output = stored_file (four_digits n ++ codes ".pcap") output.capt
 abbrev pub report_file : ℕ → Output → StoredFile
 report_file n output = stored_file (four_digits n ++ codes ".txt") output.report
 
--- the files of outputs, of which the first has this number
 abbrev pub files_from : ℕ → List Output → List StoredFile
 files_from n [] = []
 files_from n (output ∷ outputs) = capture_file n output ∷ report_file n output ∷ files_from (n + 1) outputs

@@ -41,7 +41,7 @@ pub(crate) fn text_in_blocks<R: Threads + Sync, F: DiskFile + Sync>(
     Ok(Text::of_blocks(blocks))
 }
 
-// The number of blocks of a file, or 0 if it is not known.
+// 0 if it is not known.
 fn block_count<F: DiskFile>(file: &F) -> usize
     ensures { IfSome (F.told file.now) (λ f. 0 < result → HasBlocks result f) }
 {
@@ -82,7 +82,6 @@ fn blocks_by_workers<R: Threads + Sync, F: DiskFile + Sync>(
     Ok(blocks)
 }
 
-// Job j loads block j.
 #[derive(Drop)]
 struct BlockJobs<'f, F: DiskFile + Sync> {
     alloc: Global,
@@ -112,8 +111,7 @@ impl<'f, F: DiskFile + Sync> Work for BlockJobs<'f, F> {
     }
 }
 
-// The bytes that a block has of its own, or why they were not loaded. Contracts see where in its file the block begins, and what is told of
-// the file.
+// The bytes that a block has of its own, or why they were not loaded. Contracts see where it begins, and what is told of its file.
 #[derive(Drop)]
 struct LoadedBlock<'f, F: DiskFile> {
     file: &'f F,
@@ -154,7 +152,6 @@ impl<'f, F: DiskFile> LoadedBlock<'f, F> {
     }
 }
 
-// The bytes of the blocks of a file, or the fault of the first that could not be loaded.
 #[tactic(auto, unfolding(crate::specs::LoadedBlocks::parts_from))]
 fn parts_of<F: DiskFile>(
     alloc: Global,

@@ -21,8 +21,7 @@ pub type DraftedOutput<D> = (D, D);
 /// this number.
 ///
 /// # Errors
-/// The first file that cannot be stored ends it; none is tried again. The files before that one have got their names then, and no other
-/// has; `after` counts them and the files of the outputs of lower numbers.
+/// The first file that cannot be stored ends it; none is tried again. `after` counts those before it, of outputs of lower numbers too.
 pub fn store_draft<D: Disk>(
     alloc: Global,
     number: usize,

@@ -77,7 +77,6 @@ fn next_byte<'a>(
     Ok(Some((byte, left)))
 }
 
-// The first byte that is no blank, and what follows it.
 fn next_digit(text: &[u8]) -> Option<(u8, &[u8])>
     ensures found { MatchOption result (without_blanks text.now ≡ [])
         (λ found. without_blanks text.now ≡ found.0 ∷ without_blanks found.1.now) }
@@ -93,7 +92,6 @@ fn next_digit(text: &[u8]) -> Option<(u8, &[u8])>
     None
 }
 
-// The byte that the table holds for a pair.
 fn held_byte(pairs: &[Option<u8>], high: u8, low: u8) -> Option<u8>
     requires { HoldsPairs pairs.now }
     ensures { IfSome result (λ byte. pair_value high low 0 ≡ Ok byte) }
@@ -142,7 +140,6 @@ fn place(high: u8, low: u8) -> usize
     usize::from(high) * 256 + usize::from(low)
 }
 
-// The byte that hex decodes of two digits.
 fn pair_byte(high: u8, low: u8) -> Result<u8, FromHexError>
     ensures { result ≡ pair_value high low 0 }
 {
@@ -201,5 +198,4 @@ fn is_digit(b: u8) -> bool
 
 const DIGITS: &[u8; 22] = b"0123456789abcdefABCDEF";
 
-// A place for each pair of bytes.
 const PLACES: usize = 256 * 256;

@@ -96,7 +96,6 @@ fn entry_of(fault: &RunFault) -> FaultEntry
     }
 }
 
-// Adds a number, after the name of what it counts.
 fn push_number(line: &mut String, name: &str, number: u64) -> Result<(), AllocError>
     ensures { OnOk result (string_bytes line.new ≡ string_bytes line.old ++ known_text name.now (Some number)) }
 {

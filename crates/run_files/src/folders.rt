@@ -12,7 +12,6 @@ use std::marker::Model;
 // The longest name that a file may have on Linux, in bytes.
 const NAME_LIMIT: usize = 255;
 
-// What names of drafts begin with.
 const UNFINISHED: &str = "toxicap.unfinished";
 
 /// A folder of a disk. Contracts see its path; what its files are follows from the disk's history.

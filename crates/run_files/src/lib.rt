@@ -8,6 +8,7 @@ mod error;
 mod fault_lines;
 mod folders;
 mod head_loading;
+mod inputs;
 pub mod laws;
 mod loading;
 mod outputs;

@@ -6,7 +6,7 @@ ghost use Rattle.pcap_records.specs.Reading.{capture_limit};
 ghost use Rattle.run_files.specs.Streams.{StopsLoading, joined};
 
 use crate::error::RunFault;
-use pcap_records::CAPTURE_LIMIT;
+use crate::inputs::load_rest;
 use std::alloc::{AllocError, Global};
 use std::io;
 use std::io::{ErrorKind, Read, Write};
@@ -100,62 +100,23 @@ pub(crate) const READ_LEN: usize = 1 << 18;
 /// Reads all that the reader has, up to 2^30 bytes, by at most 2^30 + 1 reads.
 ///
 /// # Errors
-/// [`RunFault::CaptureTooLong`] as soon as more bytes came, [`RunFault::ReadFailed`] at the first read that fails, and [`RunFault::Memory`]. The
-/// bytes that came until then are dropped, and no further read was made.
+/// [`RunFault::CaptureTooLong`] as soon as more bytes came, [`RunFault::ReadFailed`] at the first read that fails, and [`RunFault::Memory`].
 pub fn load<R: Read>(alloc: Global, reader: &mut Counted<R>) -> Result<Vec<u8>, RunFault>
     requires { reader.old.failed < 2 ^ 64 - 1 }
 
-    // All bytes come, the reader has lost them, and there is no more to read.
     ensures whole { IfOk result (λ bytes. IfSome (R.remaining reader.old.inner) (λ all. bytes.items ≡ all)) }
     ensures lost { IfOk result (λ bytes. Consumes (R.remaining reader.old.inner) (R.remaining reader.new.inner) bytes.items) }
     ensures at_end { OnOk result (IsAtEnd (R.remaining reader.new.inner)) }
     ensures within { IfOk result (λ bytes. length bytes.items ≤ capture_limit) }
     ensures none_failed { OnOk result (reader.new.failed ≡ reader.old.failed) }
 
-    // A refusal has its cause, and the reader has lost what it gave until then.
     ensures refused { IfErr result (λ fault. (given : List ℕ)
         × Consumes (R.remaining reader.old.inner) (R.remaining reader.new.inner) given
         × StopsLoading fault (length given) reader.old.failed reader.new.failed) }
 {
     let mut room = room_to_read(alloc)?;
-    load_rest(reader, Vec::new(alloc), room.as_mut_slice())
-}
-
-// Reads all that the reader has after some bytes that came already.
-//
-// # Errors
-// Those of [`load`], where the bytes that came already are counted too.
-pub(crate) fn load_rest<R: Read>(
-    reader: &mut Counted<R>,
-    came: Vec<u8>,
-    buffer: &mut [u8],
-) -> Result<Vec<u8>, RunFault>
-    requires counts { reader.old.failed < 2 ^ 64 - 1 }
-    requires short { length came.items ≤ capture_limit }
-    requires room { 0 < length buffer.old }
-    ensures first { IfOk result (λ bytes. take (length came.items) bytes.items ≡ came.items) }
-    ensures lost { IfOk result (λ bytes. Consumes (R.remaining reader.old.inner) (R.remaining reader.new.inner)
-        (drop (length came.items) bytes.items)) }
-    ensures at_end { OnOk result (IsAtEnd (R.remaining reader.new.inner)) }
-    ensures within { IfOk result (λ bytes. length bytes.items ≤ capture_limit) }
-    ensures none_failed { OnOk result (reader.new.failed ≡ reader.old.failed) }
-    ensures refused { IfErr result (λ fault. (given : List ℕ)
-        × Consumes (R.remaining reader.old.inner) (R.remaining reader.new.inner) given
-        × StopsLoading fault (length came.items + length given) reader.old.failed reader.new.failed) }
-{
-    let mut bytes = came;
-    'reads: loop {
-        let Ok(len) = reader.read_some(buffer) else {
-            return Err(RunFault::ReadFailed);
-        };
-        if len == 0 {
-            return Ok(bytes);
-        }
-        if len > CAPTURE_LIMIT - bytes.len() {
-            return Err(RunFault::CaptureTooLong);
-        }
-        bytes.extend_from_slice(&buffer[..len])?;
-    }
+    let bytes = load_rest(reader, Vec::new(alloc), room.as_mut_slice())?;
+    Ok(bytes)
 }
 
 // Room for one read. It stands apart so that no other proof meets this list of zeros.

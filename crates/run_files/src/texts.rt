@@ -1,4 +1,4 @@
-//! The text of a capture as it was loaded, in one piece or in blocks, or as it is lent.
+//! The text of a capture, as it was loaded or is lent.
 ghost use Rattle.std.specs.Prelude.{◌≡◌, if◌then◌else◌, IfSome, Result, Ok};
 ghost use Rattle.lists.specs.Agreement.{Agrees};
 ghost use Rattle.pcap_records.specs.CaptureView.{bytes_of};
@@ -55,7 +55,6 @@ impl<'t> Text<'t> {
         }
     }
 
-    // None if the blocks are a dump.
     pub(crate) fn of_blocks(blocks: Blocks) -> Option<Text<'t>>
         ensures text { IfSome result (λ text. text ≡ blocks) }
     {

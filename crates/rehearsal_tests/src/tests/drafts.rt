@@ -103,7 +103,7 @@ fn store_both<D: Disk>(
     store_draft(alloc, 8, drafts.1, folder, disk)
 }
 
-// Whether a disk has so many of the files in its folder, and none of those after them.
+// Whether a disk has the first `many` files in its folder, and none of those after them.
 fn has_first(alloc: Global, disk: &MemoryDisk, many: usize) -> Result<bool, AllocError> {
     for (place, (name, bytes)) in FILES.iter().enumerate() {
         let path = format!(in alloc; "drafts/{name}")?;
@@ -115,7 +115,7 @@ fn has_first(alloc: Global, disk: &MemoryDisk, many: usize) -> Result<bool, Allo
     Ok(true)
 }
 
-// Whether two drafts on a disk put so many files in its folder, and the next one is refused and not tried again.
+// Whether two drafts on a disk put `many` files in its folder, and the next one is refused and not tried again.
 fn are_stored(rt: &(impl Abort + AllocGlobal), mut disk: MemoryDisk, many: u64) -> bool
     requires { disk.failed ≡ 0 }
 {
@@ -134,7 +134,7 @@ fn are_stored(rt: &(impl Abort + AllocGlobal), mut disk: MemoryDisk, many: u64) 
         && has_first(rt.alloc(), &disk, many as usize) == Ok(true)
 }
 
-// The disk fails once, after so many calls: for each file it is asked whether it allows the name, and then to give it.
+// The disk fails once, after `calls` calls: for each file it is asked whether it allows the name, and then to give it.
 fn check_failing(rt: &(impl Abort + AllocGlobal), calls: u64) {
     let mut disk = MemoryDisk::new(rt.alloc());
     disk.fail_after(calls);

@@ -125,7 +125,7 @@ fn are_files(files: &[MemoryFile], wanted: &[(&str, &[u8])]) -> bool {
     files.len() == wanted.len()
 }
 
-// Two outputs to a shelf that fails at its put after so many put the first files on it, and none after the failed one.
+// Two outputs to a shelf that fails after `after` puts: the first files are on it, and none after the failed one.
 fn check_failing(rt: &(impl Abort + AllocGlobal), after: u64, first: &[(&str, &[u8])]) {
     let outputs = two_outputs(rt.alloc()).expect(rt, "memory");
     let mut shelf = MemoryShelf::new(rt.alloc(), after);

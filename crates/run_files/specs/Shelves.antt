@@ -1,4 +1,4 @@
--- Files that are put on a shelf.
+-- Files that are put on a shelf, and what contracts see of a shelf in memory.
 use Rattle.std.specs.Prelude.{◌≡◌, ⊤, List, ◌++◌, Option, Some, None}
 use Rattle.run_files.specs.StoredFiles.{StoredFile}
 
@@ -7,3 +7,8 @@ abbrev pub Takes : Option (List StoredFile) → Option (List StoredFile) → Lis
 Takes None new files = ⊤
 Takes (Some had) None files = ⊥
 Takes (Some had) (Some has) files = has ≡ had ++ files
+
+-- the files, the oldest first, and the number of failed calls
+pub record MemoryShelfView : Type 0 where
+  pub files : List StoredFile
+  pub failed : ℕ

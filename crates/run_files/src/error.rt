@@ -111,3 +111,9 @@ impl From<StoreFault> for RunFault {
 #[derive(Clone, Copy, Debug, PartialEq, Eq, Error)]
 #[error("the shelf did not take the file")]
 pub struct ShelfError;
+
+impl From<AllocError> for ShelfError {
+    fn from(_refused: AllocError) -> ShelfError {
+        ShelfError
+    }
+}

@@ -26,6 +26,6 @@ pub use head_loading::{see_file, see_input};
 pub use loading::{load_by_workers, load_file};
 pub use outputs::{Output, Outputs, print_reports, store_all};
 pub use seen_parts::SeenText;
-pub use shelves::Shelf;
+pub use shelves::{MemoryFile, MemoryShelf, Shelf};
 pub use streams::{Counted, load, write_bytes, write_texts};
 pub use texts::Text;

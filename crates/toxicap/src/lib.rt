@@ -31,6 +31,6 @@ pub use job_matrix::{Plan, Through};
 pub use one_thread::{answers_alone, rehearse_alone, report_answers_alone, reports_alone};
 pub use rehearsal::rehearse;
 pub use run_files::{
-    Counted, Output, Outputs, RunFault, Shelf, ShelfError, StoreFault, fault_line, load,
-    print_reports, store_all, undump,
+    Counted, MemoryFile, MemoryShelf, Output, Outputs, RunFault, Shelf, ShelfError, StoreFault,
+    fault_line, load, print_reports, store_all, undump,
 };

@@ -1,11 +1,12 @@
-//! The files of a rehearsal on a shelf in memory, and on one that fails.
-ghost use Rattle.std.specs.Prelude.{◌≡◌};
+//! The files of a rehearsal on shelves: one that fails, and one in memory.
+ghost use Rattle.std.specs.Prelude.{◌≡◌, ◌≤◌};
 
 use job_matrix::Values;
 use std::alloc::{AllocError, AllocGlobal, Global};
-use std::marker::Model;
 use std::process::Abort;
-use toxicap::{Output, Outputs, RunFault, Shelf, ShelfError, StoreFault, store_all};
+use toxicap::{
+    MemoryFile, MemoryShelf, Output, Outputs, RunFault, Shelf, ShelfError, StoreFault, store_all,
+};
 
 // The files of two outputs, in the order in which they are stored.
 const FILES: [(&str, &[u8]); 4] = [
@@ -27,94 +28,6 @@ fn two_outputs(alloc: Global) -> Result<Outputs, AllocError> {
     Ok(Values::of(outputs))
 }
 
-/// A file that a shelf in memory has taken.
-#[derive(Drop)]
-pub struct MemoryFile {
-    name: String,
-    bytes: Vec<u8>,
-}
-
-impl Model for MemoryFile {
-    ghost use Rattle.std.specs.String.{string_bytes};
-    ghost use Rattle.run_files.specs.StoredFiles.{StoredFile, stored_file};
-
-    ghost Value = { StoredFile };
-
-    ghost view = { λ f. stored_file (string_bytes f.name) f.bytes.items };
-}
-
-impl MemoryFile {
-    /// Its name.
-    pub fn name(&self) -> &str {
-        &self.name
-    }
-
-    /// Its bytes.
-    pub fn bytes(&self) -> &[u8] {
-        &self.bytes
-    }
-}
-
-/// A shelf in memory: it keeps copies of the files that are put, in order. One put fails, after `calls_before` others: whoever tries it
-/// again loses no file.
-#[derive(Drop)]
-pub struct MemoryShelf {
-    pub alloc: Global,
-    pub files: Vec<MemoryFile>,
-    pub calls_before: u64,
-    pub failed: u64,
-}
-
-impl MemoryShelf {
-    ghost use Rattle.std.specs.Prelude.{◌≡◌, ◌++◌, [], ◌∷◌, is_ok, if◌then◌else◌};
-    ghost use Rattle.run_files.specs.StoredFiles.{stored_file};
-
-    /// A shelf without files.
-    pub fn new(alloc: Global, calls_before: u64) -> MemoryShelf
-        ensures { result.failed ≡ 0 }
-    {
-        MemoryShelf {
-            alloc,
-            files: Vec::new(alloc),
-            calls_before,
-            failed: 0,
-        }
-    }
-
-    // Keeps a copy of a file.
-    fn keep(&mut self, name: &str, bytes: &[u8]) -> Result<(), AllocError>
-        ensures files { self.new.files.items ≡ (if is_ok result then self.old.files.items ++ stored_file name.now bytes.now ∷ [] else self.old.files.items) }
-        ensures failed { self.new.failed ≡ self.old.failed }
-    {
-        let name = String::from_str(self.alloc, name)?;
-        let bytes = Vec::from_slice(self.alloc, bytes)?;
-        self.files.push(MemoryFile { name, bytes })?;
-        Ok(())
-    }
-}
-
-impl Shelf for MemoryShelf {
-    ghost use Rattle.std.specs.Prelude.{Some};
-
-    ghost files = { λ s. Some s.files.items };
-
-    ghost failures = { λ s. s.failed };
-
-    fn put(&mut self, name: &str, bytes: &[u8]) -> Result<(), ShelfError> {
-        if self.calls_before == 0 {
-            self.calls_before = u64::MAX;
-            self.failed += 1;
-            return Err(ShelfError);
-        }
-        self.calls_before -= 1;
-        if self.keep(name, bytes).is_err() {
-            self.failed += 1;
-            return Err(ShelfError);
-        }
-        Ok(())
-    }
-}
-
 // Whether a shelf's files have these names and bytes.
 fn are_files(files: &[MemoryFile], wanted: &[(&str, &[u8])]) -> bool {
     for (file, (name, bytes)) in files.iter().zip(wanted) {
@@ -125,16 +38,51 @@ fn are_files(files: &[MemoryFile], wanted: &[(&str, &[u8])]) -> bool {
     files.len() == wanted.len()
 }
 
-// Two outputs to a shelf that fails after `after` puts: the first files are on it, and none after the failed one.
+/// Keeps files in memory, except the one that comes after `calls_before` calls: whoever tries again gets rid of it.
+#[derive(Drop)]
+struct FailsOnce {
+    kept: MemoryShelf,
+    calls_before: u64,
+    failed: u64,
+    ghost counted: { kept.failed ≤ failed },
+}
+
+impl Shelf for FailsOnce {
+    ghost use Rattle.std.specs.Prelude.{Some};
+
+    ghost files = { λ s. Some s.kept.files };
+
+    ghost failures = { λ s. s.failed };
+
+    fn put(&mut self, name: &str, bytes: &[u8]) -> Result<(), ShelfError> {
+        if self.calls_before == 0 {
+            self.calls_before = u64::MAX;
+            self.failed += 1;
+            return Err(ShelfError);
+        }
+        self.calls_before -= 1;
+        let kept = self.kept.put(name, bytes);
+        if kept.is_err() {
+            self.failed += 1;
+        }
+        kept
+    }
+}
+
+// Two outputs to a shelf that fails at its put after `after` others put the first files on it, and none after the failed one.
 fn check_failing(rt: &(impl Abort + AllocGlobal), after: u64, first: &[(&str, &[u8])]) {
     let outputs = two_outputs(rt.alloc()).expect(rt, "memory");
-    let mut shelf = MemoryShelf::new(rt.alloc(), after);
+    let mut shelf = FailsOnce {
+        kept: MemoryShelf::new(rt.alloc()),
+        calls_before: after,
+        failed: 0,
+    };
     let stored = store_all(rt.alloc(), &outputs, &mut shelf);
     let refused = stored == Err(StoreFault::ShelfFailed { after })
         && shelf.failed == 1
         && shelf.calls_before == u64::MAX;
     let all = stored == Ok(()) && shelf.failed == 0 && first.len() == FILES.len();
-    let good = (refused || all) && are_files(&shelf.files, first);
+    let good = (refused || all) && are_files(shelf.kept.files(), first);
     assert!(rt; good, "{after}");
 }
 
@@ -159,9 +107,9 @@ fn many_files(alloc: Global) -> Result<Vec<MemoryFile>, RunFault> {
         };
         outputs.push(output).map_err(AllocError::from)?;
     }
-    let mut shelf = MemoryShelf::new(alloc, u64::MAX);
+    let mut shelf = MemoryShelf::new(alloc);
     store_all(alloc, &Values::of(outputs), &mut shelf)?;
-    Ok(shelf.files)
+    Ok(shelf.into_files())
 }
 
 // Whether the file at this place has this name.
@@ -182,4 +130,13 @@ fn names_of_files(rt: HostRuntime) {
         && is_named(&files, 19_998, "9999.pcap")
         && is_named(&files, 20_001, "10000.txt");
     assert!(rt; good);
+}
+
+#[test]
+fn a_shelf_in_memory(rt: HostRuntime) {
+    let mut shelf = MemoryShelf::new(rt.alloc());
+    let first = shelf.put("one", b"1") == Ok(());
+    let second = shelf.put("one", b"\x00") == Ok(());
+    let good = are_files(shelf.files(), &[("one", b"1"), ("one", b"\x00")]);
+    assert!(rt; first && second && good && shelf.failed() == 0);
 }

@@ -1,11 +1,10 @@
 //! Runs that store, over the plain session and over the samples, and the files that each is to give.
-use super::shelves::{MemoryFile, MemoryShelf};
 use super::shop_sample::SHOP;
 use scenarios::Hosts;
 use std::alloc::{AllocError, AllocGlobal, Global};
 use std::sync::Wait;
 use std::thread::Threads;
-use toxicap::{Counted, Options, Plan, RunFault, answers, store_all};
+use toxicap::{Counted, MemoryFile, MemoryShelf, Options, Plan, RunFault, answers, store_all};
 use worked_sessions::sessions::PLAIN_SESSION;
 
 // A proxy for the host `web` that holds the client's bytes for a time that is drawn.
@@ -162,7 +161,7 @@ pub fn files_of(
     };
     let mut reader = Counted::new(capture);
     let outputs = answers(rt, rt.alloc(), &mut reader, &texts, &options)?;
-    let mut shelf = MemoryShelf::new(rt.alloc(), u64::MAX);
+    let mut shelf = MemoryShelf::new(rt.alloc());
     store_all(rt.alloc(), &outputs, &mut shelf)?;
-    Ok(shelf.files)
+    Ok(shelf.into_files())
 }

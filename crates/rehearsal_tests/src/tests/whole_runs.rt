@@ -3,7 +3,6 @@ ghost use Rattle.std.specs.Prelude.{◌≡◌, IfOk};
 
 use super::captures::PLAIN_REPORT;
 use super::named_files::{check_over, ended_over};
-use super::shelves::MemoryFile;
 use super::shop_sample::SHOP;
 use super::storing_runs::{
     BY_ONE, BY_TWO, HELD, HTTP_GET, LINE, Run, SAMPLE, SAMPLE_BY_ALL, SAMPLE_BY_TWO, SHOP_BY_THREE,
@@ -14,6 +13,7 @@ use std::alloc::{AllocError, AllocGlobal, Global};
 use std::process::Abort;
 use std::sync::Wait;
 use std::thread::Threads;
+use toxicap::MemoryFile;
 use worked_sessions::sessions::{PLAIN_SESSION, header, put_field};
 
 // An older file of a name that the runs give.
@@ -35,7 +35,7 @@ fn disk_before(alloc: Global) -> Result<MemoryDisk, AllocError>
     Ok(disk)
 }
 
-// Whether the folder has so many of these files, and in place of those after them what was there before.
+// Whether the folder has the first `many` of these files, and in place of those after them what was there before.
 fn has_first(
     alloc: Global,
     disk: &MemoryDisk,

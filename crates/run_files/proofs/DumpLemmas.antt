@@ -14,14 +14,12 @@ use Rattle.hex.proofs.HexLemmas.{decode_of-even, decode_of-ok, decode_pairs-ok}
 use Rattle.hex.proofs.Pairs.{decode_pairs-ok_pair, decode_start, prepend, prepend-cons_byte}
 use Rattle.run_files.specs.Dumps.{BeginsWith, HoldsPairs, is_blank, is_foreign, dumped_bytes, dump_reading, without_blanks}
 
--- a blank is no digit
 blank_digit : (b : ℕ) → is_blank b ≡ true → is_hex_digit b ≡ false
 blank_digit b h = grind arith
 
 -- ---- over any tests for blanks and digits
 
 module _ (blank digit : ℕ → Bool) where
-  -- the bytes of a text that are no blanks
   abbrev kept : List ℕ → List ℕ
   kept text = filter (λ b. not (blank b)) text
 

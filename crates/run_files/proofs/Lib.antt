@@ -5,7 +5,6 @@ mod LoadedFiles
 mod LoadedParts
 mod PrintedPart
 mod SeenParts
-mod SeenFiles
-mod SeenInputs
+mod LoadedTexts
 pub mod StoredFiles
 pub mod DraftedFiles

@@ -1,7 +1,7 @@
 -- How the bytes of a file come, read after read.
 use Rattle.std.proofs.Common.{◌≡◌, ◌<◌, ◌≤◌, ℕ, ◌+◌, ◌-◌, Bool, true, false, ◌&&◌, nat_lt, List, ◌++◌, length, take, drop, Option, Some, None, Ok, Result, IfSome, refl, sym, ap, ap₂, subst, ◌∙◌, arith, length-append, length-drop, length-take, take-add}
 use Rattle.std.proofs.lemmas.Bool.{le-ltb}
-use Rattle.std.proofs.lemmas.List.{drop-append-le, drop-drop, length-take-le, take-append-le, take-take, take_all}
+use Rattle.std.proofs.lemmas.List.{drop-drop, length-take-le, take-append-le, take-take, take_all}
 use Rattle.disks.specs.ToldFiles.{ToldFile, Gives, IsFileAt, file_len}
 use Rattle.disks.specs.Histories.{History, held_now}
 use Rattle.run_files.specs.declared.error.RunFault.{RunFault}
@@ -48,15 +48,7 @@ pub still_first : (first bytes last more : List ℕ) → take (length first) byt
 still_first first bytes last more begins all =
     ap (take (length first)) all ∙ take-append-le (length first) bytes last (omega (arith, ap length begins, length-take (length first) bytes)) ∙ begins
 
-pub rest_counted : (first bytes : List ℕ) → take (length first) bytes ≡ first → length first + length (drop (length first) bytes) ≡ length bytes
-rest_counted first bytes begins = omega (arith, ap length begins, length-take (length first) bytes, length-drop (length first) bytes)
-
--- and what came after it grows
-pub rest_grows : (first bytes last more : List ℕ) → take (length first) bytes ≡ first → more ≡ bytes ++ last → drop (length first) more ≡ drop (length first) bytes ++ last
-rest_grows first bytes last more begins all =
-    ap (drop (length first)) all ∙ drop-append-le (length first) bytes last (omega (arith, ap length begins, length-take (length first) bytes))
-
--- as many bytes as are wanted of a read after those that came of a part
+-- the first bytes of a read, after those that came of a part
 pub part_step : (told : Option ToldFile) (start : ℕ) (part room more : List ℕ) (n own : ℕ) → own ≤ n
     → IfSome told (λ f. (part ≡ take (length part) (drop start f.bytes)) × (length part ≤ length f.bytes - start))
     → IfSome told (λ f. Gives f (start + length part) room n) → more ≡ part ++ take own room
@@ -85,7 +77,6 @@ full_part (Some f) start part full first =
     let same : take block_len (drop start f.bytes) ≡ part = sym (first.0 ∙ ap (λ k. take k (drop start f.bytes)) full) in
     rw (enough, same) refl
 
--- or all up to the file's end
 pub last_part : (told : Option ToldFile) (start : ℕ) (part room : List ℕ) → length part ≤ block_len → 0 < length room → IfSome told (λ f. start < file_len f)
     → IfSome told (λ f. (part ≡ take (length part) (drop start f.bytes)) × (length part ≤ length f.bytes - start))
     → IfSome told (λ f. Gives f (start + length part) room 0) → IfSome told (λ f. part_at f start ≡ Ok part)
@@ -104,7 +95,7 @@ from_held : (P : Result (List ℕ) RunFault → Type 0) (held told : Option Told
 from_held P None told is of = absurd is
 from_held P (Some f) told is of = subst (λ t. IfSome t (λ file. P (text_of (Some file)))) is of
 
--- what is so of the text of the file that was opened is so of the text at its path
+-- what holds for the text of the file that was opened holds for the text at its path
 pub text_of_path : (P : Result (List ℕ) RunFault → Type 0) (history : Option History) (path : List ℕ) (told : Option ToldFile) → IfSome history (λ h. IsFileAt (held_now h path) told)
     → IfSome told (λ f. P (text_of (Some f))) → IfSome history (λ h. P (text_at (held_now h) path))
 text_of_path P None path told is of = tt

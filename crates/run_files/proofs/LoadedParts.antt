@@ -45,7 +45,7 @@ pub length-blocks : (told : Option ToldFile) (at n : ℕ) → length (blocks_fro
 length-blocks told at zero = refl
 length-blocks told at (suc n) = ap suc (length-blocks told (at + block_len) n)
 
--- of so many blocks these parts were gathered, and these blocks are left
+-- of `count` blocks these parts were gathered, and these blocks are left
 pub record Gathers (told : Option ToldFile) (count : ℕ) (left : List BlockView) (parts : List (List ℕ)) : Type 0 where
   pub counted : length parts + length left ≡ count
   pub left_are : left ≡ blocks_from told (length parts * block_len) (length left)
@@ -131,7 +131,6 @@ none_right : (a b : Bool) → b ≡ false → (a && b) ≡ false
 none_right true b is = is
 none_right false b is = refl
 
--- where none is lost, each part has its bytes
 all_parts : (f : ToldFile) (earlier : List (List ℕ)) (from n : ℕ) → nat_lt 0 f.lost ≡ false → parts_from f earlier from n ≡ Ok (earlier ++ chunks f.bytes from n)
 unfolding parts_from
 all_parts f earlier from zero whole = ap (λ (xs : List (List ℕ)). Ok xs) (sym (append-nil earlier))
@@ -141,7 +140,6 @@ all_parts f earlier from (suc n) whole =
     ∙ all_parts f (earlier ++ take block_len (drop from f.bytes) ∷ []) (from + block_len) n whole
     ∙ ap (λ (xs : List (List ℕ)). Ok xs) (append_assoc {A = List ℕ} earlier (take block_len (drop from f.bytes) ∷ []) (chunks f.bytes (from + block_len) n))
 
--- where some are, one of the parts shows it
 lost_part : (f : ToldFile) (earlier : List (List ℕ)) (from n : ℕ) → nat_lt 0 f.lost ≡ true → file_len f ≤ from + n * block_len → from < file_len f
     → parts_from f earlier from n ≡ Err ReadFailed
 unfolding parts_from
@@ -170,7 +168,7 @@ chunks_are bytes from (suc n) within =
         ap (λ xs. take block_len (drop from bytes) ++ xs) (rest ∙ sym (drop-drop block_len from bytes))
         ∙ take-append-drop block_len (drop from bytes)
 
--- the text of a file of so many blocks is that of its parts
+-- the text of a file is that of its parts
 pub text_of_blocks : (f : ToldFile) (count : ℕ) → HasBlocks count f → count ≤ block_limit
     → text_of (Some f) ≡ and_then (parts_from f [] 0 count) (λ parts. Ok (bytes_until_short parts))
 text_of_blocks f count has few = by (nat_lt 0 f.lost) refl

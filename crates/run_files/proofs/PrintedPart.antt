@@ -23,7 +23,6 @@ module _ {X : Type 0} (text : X → List ℕ) where
         rw (whole, take-add (length first) w (first ++ rest), take_at first rest (length first) refl, drop_at first rest (length first) refl, take-append-le w (text x) (flat_map text (drop (i + 1) xs)) (omega (arith, less))) refl,
       )
 
-  -- the same by its place alone
   pub printed_at : (xs : List X) (i w : ℕ) (d : X) → i < length xs → w < length (text (get_or xs i d))
       → (length (flat_map text (take i xs)) + w < length (flat_map text xs))
       × (flat_map text (take i xs) ++ take w (text (get_or xs i d)) ≡ take (length (flat_map text (take i xs)) + w) (flat_map text xs))

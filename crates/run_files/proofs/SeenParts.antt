@@ -1,4 +1,4 @@
--- A text of which the heads are taken as it is read: what came of it until now, and how it goes on and ends.
+-- A text whose heads are taken as it is read.
 use Rattle.std.proofs.Common.{◌≡◌, ◌<◌, ◌≤◌, ℕ, ◌+◌, true, false, List, [], ◌∷◌, ◌++◌, length, take, drop, Result, refl, sym, ap, subst, ◌∙◌, ◌-◌, arith, length-append, length-drop, length-take, append-nil, append_assoc}
 use Rattle.std.proofs.lemmas.List.{length-take-le, take-append-le, take-append-drop}
 use Rattle.std.proofs.Math.Seq.{take-append-add}
@@ -30,15 +30,12 @@ dump_goes_on first whole some dump begins =
     let parts : first ++ drop (length first) whole ≡ whole = ap (λ (xs : List ℕ). xs ++ drop (length first) whole) (sym begins) ∙ take-append-drop (length first) whole in
     ap is_dump (sym parts) ∙ same_first first (drop (length first) whole) some ∙ dump
 
--- a first part of so many bytes
 pub fits_taken : (taken held : ℕ) (buffer : List ℕ) → taken + held ≤ capture_limit → taken + length (take held buffer) ≤ capture_limit
 fits_taken taken held buffer within = omega (arith, within, length-take held buffer)
 
--- the room after those that are held
 pub room_left : (buffer room : List ℕ) (held : ℕ) → held < length buffer → length room ≡ length (take (length buffer - held) (drop held buffer)) → 0 < length room
 room_left buffer room held less is = omega (arith, less, is, length-take (length buffer - held) (drop held buffer), length-drop held buffer)
 
--- nothing was taken yet
 pub seen_first : (reader : HeadReaderView) (buffer : List ℕ) (len : ℕ) → reader.taken ≡ 0 → reader.found ≡ no_header → 0 < len → len ≤ length buffer
     → length buffer ≤ capture_limit → is_dump (take len buffer) ≡ false → IsSeenSoFar reader buffer len (take len buffer)
 unfolding read_on
@@ -52,7 +49,6 @@ seen_first reader buffer len none nothing some within short no_dump =
       same = λ more m. rw nothing refl;
     }
 
--- the reader took some of what was held
 pub seen_taken : (old new : HeadReaderView) (buffer after : List ℕ) (held left : ℕ) (given : List ℕ) → IsSeenSoFar old buffer held given
     → length after ≡ length buffer → new.taken + left ≡ old.taken + held → left ≤ length after
     → ((more : List ℕ) → old.taken + held + length more ≤ capture_limit → read_on old.found (take held buffer ++ more) ≡ read_on new.found (take left after ++ more))
@@ -66,7 +62,7 @@ seen_taken old new buffer after held left given seen len counted fits same = rec
   same = λ more m. seen.same more m ∙ same more (omega (arith, m, seen.counted));
 }
 
--- so many bytes came more, after those that are held
+-- `n` bytes more came, after those that are held
 pub seen_read : (reader : HeadReaderView) (buffer part post after : List ℕ) (held n : ℕ) (given : List ℕ) → IsSeenSoFar reader buffer held given
     → after ≡ take held buffer ++ (part ++ post) → n ≤ length part → length given + n ≤ capture_limit → IsSeenSoFar reader after (held + n) (given ++ take n part)
 seen_read reader buffer part post after held n given seen is fits short =
@@ -87,7 +83,6 @@ seen_read reader buffer part post after held n given seen is fits short =
           ∙ ap (read_on reader.found) (sym (append_assoc (take held buffer) (take n part) more) ∙ ap (λ (xs : List ℕ). xs ++ more) (sym now_held));
     }
 
--- no more came
 pub seen_whole : (reader : HeadReaderView) (buffer : List ℕ) (held : ℕ) (given : List ℕ) (heads : Result Heads CaptureFault) → IsSeenSoFar reader buffer held given
     → AgreesUnlessMemory capture_refusal (λ h. h) heads (read_on reader.found (take held buffer))
     → AgreesUnlessMemory capture_refusal (λ h. h) heads (heads_in (reading given))
@@ -96,7 +91,6 @@ seen_whole reader buffer held given heads seen finds =
     ap (λ xs. heads_in (reading xs)) (sym (append-nil given)) ∙ seen.same [] (omega (arith, seen.within)) ∙ ap (read_on reader.found) (append-nil (take held buffer)) in
     subst (AgreesUnlessMemory capture_refusal (λ h. h) heads) (sym same) finds
 
--- none came at all
 pub seen_nothing : (reader : HeadReaderView) (heads : Result Heads CaptureFault) → reader.found ≡ no_header
     → AgreesUnlessMemory capture_refusal (λ h. h) heads (read_on reader.found []) → AgreesUnlessMemory capture_refusal (λ h. h) heads (heads_in (reading []))
 unfolding read_on

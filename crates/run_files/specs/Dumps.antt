@@ -1,5 +1,4 @@
--- Dumps: bytes written as pairs of hexadecimal digits in either case, the higher digit first, with
--- blanks before, after and between any two digits.
+-- Dumps: bytes written as pairs of hexadecimal digits in either case, the higher digit first, with blanks anywhere.
 use Rattle.std.specs.Prelude.{◌≡◌, ℕ, ◌+◌, ◌*◌, ◌<◌, ◌%◌, ◌==◌, ◌||◌, ◌⊎◌, not, Bool, false, List, [], ◌∷◌, length, slice_get, position, count_by, filter, if◌then◌else◌, Option, Some, None, Result, Ok, Err}
 use Rattle.std.specs.Result.{result_unwrap_or}
 use Rattle.hex.specs.Hex.{IsBytes, decode_of, encode_lower, encode_upper, is_hex_digit, pair_value}
@@ -10,25 +9,20 @@ use Rattle.run_files.specs.declared.error.RunFault.TheVariants.{BadDump}
 abbrev pub is_blank : ℕ → Bool
 is_blank b = b == 9 || b == 10 || b == 13 || b == 32
 
--- a byte that has no place in a dump
 abbrev pub is_foreign : ℕ → Bool
 is_foreign b = not (is_blank b || is_hex_digit b)
 
--- a text without its blanks
 abbrev pub without_blanks : List ℕ → List ℕ
 without_blanks text = filter (λ b. not (is_blank b)) text
 
--- the bytes that hex decodes of a text without its blanks
 abbrev pub dumped_bytes : List ℕ → List ℕ
 dumped_bytes text = result_unwrap_or (decode_of (without_blanks text)) []
 
--- given the place of the first foreign byte, if there is one: that place; else the text's length, where the
--- digits are odd in number; else the bytes
+-- by the place of the first foreign byte, if there is one; after the last byte if the number of digits is odd
 abbrev pub dump_reading_from : Option ℕ → List ℕ → Result (List ℕ) RunFault
 dump_reading_from (Some at) text = Err (BadDump at)
 dump_reading_from None text = if count_by is_hex_digit text % 2 == 1 then Err (BadDump (length text)) else Ok (dumped_bytes text)
 
--- the bytes of a dump, or its fault
 unfoldable pub dump_reading : List ℕ → Result (List ℕ) RunFault
 dump_reading text = dump_reading_from (position is_foreign text) text
 
@@ -40,14 +34,13 @@ HoldsPairs pairs = (high low byte : ℕ) → low < 256 → slice_get pairs (high
 abbrev pub BeginsWith : List ℕ → ℕ → List ℕ → Type 0
 BeginsWith text byte left = (high : ℕ) × (low : ℕ) × (without_blanks text ≡ high ∷ low ∷ without_blanks left) × (pair_value high low 0 ≡ Ok byte)
 
--- the digits of some bytes, all in lower or all in upper case, are a dump of these bytes, whatever blanks
--- stand before, between and after them
+-- the digits of some bytes, all in lower or all in upper case, with any blanks, are a dump of these bytes
 abbrev pub ReadsBack : Type 0
 ReadsBack = (bytes text : List ℕ) → IsBytes bytes
     → (without_blanks text ≡ encode_lower bytes) ⊎ (without_blanks text ≡ encode_upper bytes)
     → dump_reading text ≡ Ok bytes
 
--- whether a text is taken for a dump: its first byte is a hexadecimal digit
+-- a text is taken for a dump if its first byte is a hexadecimal digit
 abbrev pub is_dump : List ℕ → Bool
 is_dump [] = false
 is_dump (b ∷ _) = is_hex_digit b

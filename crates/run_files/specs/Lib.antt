@@ -1,11 +1,13 @@
 pub mod RunFault
 pub mod Streams
 pub mod Paths
+pub mod Loading
 pub mod LoadedBlocks
 pub mod DraftedOutputs
 pub mod Dumps
 pub mod Texts
 pub mod SeenTexts
+pub mod StoredFiles
 pub mod Shelves
 pub mod Folders
 pub mod WrittenOutputs

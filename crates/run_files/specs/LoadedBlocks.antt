@@ -11,18 +11,16 @@ abbrev pub part_at : ToldFile → ℕ → Result (List ℕ) RunFault
 part_at file at =
     if nat_lt (length file.bytes) (at + block_len) && nat_lt 0 file.lost then Err ReadFailed else Ok (take block_len (drop at file.bytes))
 
--- those of so many blocks from a place on, after some that were loaded earlier; or the first that is lost
+-- those of some blocks from a place on, after parts that were loaded earlier; or one of them is lost
 unfoldable pub parts_from : ToldFile → List (List ℕ) → ℕ → ℕ → Result (List (List ℕ)) RunFault
 parts_from file earlier at zero = Ok earlier
 parts_from file earlier at (suc n) = and_then (part_at file at) (λ part. parts_from file (earlier ++ part ∷ []) (at + block_len) n)
 
--- a file has so many blocks
 abbrev pub HasBlocks : ℕ → ToldFile → Type 0
 HasBlocks count file = ((count - 1) * block_len < file_len file) × (file_len file ≤ count * block_len)
 
 -- ---- what is seen of a block that is loaded
 
--- what is told of its file, and the place at which it begins there
 pub record BlockView : Type 0 where
   pub told : Option ToldFile
   pub at : ℕ
@@ -30,7 +28,7 @@ pub record BlockView : Type 0 where
 abbrev pub block_view : Option ToldFile → ℕ → BlockView
 block_view told at = record { told = told; at = at }
 
--- so many blocks of a file, from a place on
+-- blocks of a file, from a place on
 abbrev pub blocks_from : Option ToldFile → ℕ → ℕ → List BlockView
 blocks_from told at zero = []
 blocks_from told at (suc n) = block_view told at ∷ blocks_from told (at + block_len) n

@@ -5,17 +5,16 @@ use Rattle.pcap_records.specs.Reading.{capture_limit}
 use Rattle.run_files.specs.declared.error.RunFault.{RunFault}
 use Rattle.run_files.specs.declared.error.RunFault.TheVariants.{CaptureTooLong, Memory, ReadFailed}
 
--- the text of a file: its bytes, where they are no more than a capture may have, and none is lost
+-- the text of a file: its bytes, if they are no more than a capture may have and none is lost
 abbrev pub text_of : Option ToldFile → Result (List ℕ) RunFault
 text_of None = Err ReadFailed
 text_of (Some file) =
     if nat_lt capture_limit (length file.bytes) then Err CaptureTooLong else (if nat_lt 0 file.lost then Err ReadFailed else Ok file.bytes)
 
--- the text of the file at a path
 abbrev pub text_at : Held → List ℕ → Result (List ℕ) RunFault
 text_at held path = text_of (held path)
 
--- a fault of a file, or want of memory
+-- a fault of a file, or out of memory
 abbrev pub IsOfFile : RunFault → Type 0
 IsOfFile ReadFailed = Unit {0}
 IsOfFile CaptureTooLong = Unit {0}

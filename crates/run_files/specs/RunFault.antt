@@ -1,5 +1,5 @@
--- The faults of a run: which of them a fault of a capture is, what each refuses, and the line of each.
-use Rattle.std.specs.Prelude.{ℕ, List, [], ◌++◌, codes, Option, Some, None}
+-- The faults of a run, and the line of each.
+use Rattle.std.specs.Prelude.{ℕ, Bool, if◌then◌else◌, List, [], ◌++◌, codes, Option, Some, None, Result, Ok, Err}
 use Rattle.std.specs.Fmt.{decimal}
 use Rattle.pcap_records.specs.declared.fault.CaptureFault.{CaptureFault}
 use Rattle.pcap_records.specs.declared.fault.CaptureFault.TheVariants as of_capture
@@ -12,7 +12,6 @@ use Rattle.run_files.specs.declared.error.StoreFault.TheVariants as of_storing
 use Rattle.run_files.specs.declared.fault_lines.FaultPlace.{FaultPlace}
 use Rattle.run_files.specs.declared.fault_lines.FaultPlace.TheVariants.{Nowhere, At, Host, After, In}
 
--- a fault of a capture as a fault of a run
 abbrev pub run_fault : CaptureFault → RunFault
 run_fault of_capture.ShortHeader = of_run.ShortHeader
 run_fault of_capture.BadMagic = of_run.BadMagic
@@ -22,19 +21,27 @@ run_fault (of_capture.RecordTooLong at) = of_run.RecordTooLong at
 run_fault of_capture.CaptureTooLong = of_run.CaptureTooLong
 run_fault (of_capture.Memory e) = of_run.Memory
 
--- a fault of storing as a fault of a run
 abbrev pub run_fault_of_storing : StoreFault → RunFault
 run_fault_of_storing (of_storing.ShelfFailed after) = of_run.ShelfFailed after
 run_fault_of_storing (of_storing.Memory after) = of_run.Memory
 
--- each fault but want of memory refuses something
+abbrev pub outcome_of_storing : Result (Unit {0}) StoreFault → Result (Unit {0}) RunFault
+outcome_of_storing (Ok stored) = Ok stored
+outcome_of_storing (Err fault) = Err (run_fault_of_storing fault)
+
+-- The number of failed calls of what stores files, where storing ended so: one if a file could not be stored, and none if it was refused
+-- before a call.
+abbrev pub failed_puts : Bool → Result (Unit {0}) RunFault → ℕ
+failed_puts refused (Err (of_run.ShelfFailed after)) = if refused then 0 else 1
+failed_puts refused _ = 0
+
+-- each fault except out of memory refuses something
 abbrev pub run_refusal : RunFault → Option RunFault
 run_refusal of_run.Memory = None
 run_refusal fault = Some fault
 
 -- ---- the line of a fault
 
--- its number, its name, and its place where it knows one
 pub record FaultEntry : Type 0 where
   pub number : ℕ
   pub name : List ℕ
@@ -43,7 +50,6 @@ pub record FaultEntry : Type 0 where
 abbrev pub entry : ℕ → List ℕ → FaultPlace → FaultEntry
 entry number name place = record { number = number; name = name; place = place }
 
--- the table of a scenario's faults
 abbrev pub cause_entry : Cause → ℕ × List ℕ
 cause_entry causes.NotJson = (10, codes "NotJson")
 cause_entry causes.NotArray = (11, codes "NotArray")
@@ -58,7 +64,6 @@ cause_entry causes.AttributeRange = (19, codes "AttributeRange")
 cause_entry causes.TooMany = (20, codes "TooMany")
 cause_entry causes.BadToxicity = (21, codes "BadToxicity")
 
--- the table of faults
 abbrev pub fault_entry : RunFault → FaultEntry
 fault_entry of_run.ShortHeader = entry 1 (codes "ShortHeader") Nowhere
 fault_entry of_run.BadMagic = entry 2 (codes "BadMagic") Nowhere

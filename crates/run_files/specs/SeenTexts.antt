@@ -1,6 +1,5 @@
 -- What is loaded of the text of a capture whose reports alone are wanted.
-use Rattle.std.specs.Prelude.{◌≡◌, ℕ, ◌+◌, ◌≤◌, true, false, List, ◌++◌, length, IfErr, IfOk, IfSome, Option, Some, Result, Ok, Err}
-use Rattle.disks.specs.ToldFiles.{ToldFile}
+use Rattle.std.specs.Prelude.{◌≡◌, ℕ, ◌≤◌, true, false, List, length, IfOk, Result, Ok, Err}
 use Rattle.lists.specs.Agreement.{AgreesUnlessMemory}
 use Rattle.pcap_records.specs.Heads.{heads_in}
 use Rattle.pcap_records.specs.CaptureView.{capture_refusal}
@@ -9,8 +8,6 @@ use Rattle.run_files.specs.declared.error.RunFault.{RunFault}
 use Rattle.run_files.specs.declared.seen_parts.SeenText.{SeenText}
 use Rattle.run_files.specs.declared.seen_parts.SeenText.TheVariants.{Dump, Heads}
 use Rattle.run_files.specs.Dumps.{is_dump}
-use Rattle.run_files.specs.Paths.{IsOfFile, text_of}
-use Rattle.run_files.specs.RunFault.{run_refusal}
 use Rattle.run_files.specs.Streams.{StopsLoading}
 
 -- what is loaded of a text: all of it where it is taken for a dump, and else the heads in it
@@ -29,22 +26,8 @@ abbrev pub Sees : Result SeenText RunFault → (Result (List ℕ) RunFault → T
 Sees result LoadedSo =
     (loaded : Result (List ℕ) RunFault) × SeesAs result loaded × IfOk loaded (λ text. length text ≤ capture_limit) × LoadedSo loaded
 
--- this was seen of a file, given what is told of it
-abbrev pub SeesFile : Option ToldFile → Result SeenText RunFault → Type 0
-SeesFile told result =
-    Sees result (λ loaded. IfErr loaded IsOfFile × IfSome told (λ f. AgreesUnlessMemory run_refusal (λ text. text) loaded (text_of (Some f))))
-
--- ---- of a reader
-
--- how its text was loaded, given what it is to have lost some bytes: to its end, or as far as loading came
+-- how the text of a reader was loaded, where `Lost` means that it gave some bytes: to its end, or as far as loading came
 abbrev pub LoadsInput : {A : Type 0} → (A → List ℕ) → Result A RunFault → (List ℕ → Type 0) → Type 0 → ℕ → ℕ → Type 0
 LoadsInput view (Ok text) Lost AtEnd old_failed new_failed = Lost (view text) × AtEnd × (new_failed ≡ old_failed)
 LoadsInput view (Err fault) Lost AtEnd old_failed new_failed =
     (given : List ℕ) × Lost given × StopsLoading fault (length given) old_failed new_failed
-
--- the same of what comes after some first bytes: the text begins with these, and what is lost is the rest of it
-abbrev pub LoadsAfter : List ℕ → Result (List ℕ) RunFault → (List ℕ → Type 0) → Type 0 → ℕ → ℕ → Type 0
-LoadsAfter first (Ok text) Lost AtEnd old_failed new_failed =
-    (rest : List ℕ) × (text ≡ first ++ rest) × Lost rest × AtEnd × (new_failed ≡ old_failed)
-LoadsAfter first (Err fault) Lost AtEnd old_failed new_failed =
-    (rest : List ℕ) × Lost rest × StopsLoading fault (length first + length rest) old_failed new_failed

@@ -1,4 +1,4 @@
--- Texts of captures: the bytes that one holds, wherever they stand.
+-- The bytes of the text of a capture.
 use Rattle.std.specs.Prelude.{◌≡◌, ℕ, List, false}
 use Rattle.run_files.specs.declared.texts.TextBytes.{TextBytes}
 use Rattle.run_files.specs.declared.texts.TextBytes.TheVariants.{InBlocks, Lent, Whole}
@@ -9,7 +9,6 @@ bytes_of_text (Whole bytes) = bytes.items
 bytes_of_text (Lent bytes) = bytes.now
 bytes_of_text (InBlocks blocks) = blocks
 
--- a dump stands in one piece
 abbrev pub BlocksAreNoDump : TextBytes → Type 0
 BlocksAreNoDump (Whole bytes) = Unit {0}
 BlocksAreNoDump (Lent bytes) = Unit {0}

@@ -19,7 +19,6 @@ use std::alloc::{AllocError, Global};
 use std::marker::Model;
 use std::thread::Threads;
 
-// The most blocks that a file may have.
 const BLOCK_LIMIT: usize = CAPTURE_LIMIT / BLOCK_LEN;
 
 // The text of a file in blocks, unless it is to be loaded in one piece.
@@ -42,7 +41,7 @@ pub(crate) fn text_in_blocks<R: Threads + Sync, F: DiskFile + Sync>(
     Ok(Text::of_blocks(blocks))
 }
 
-// How many blocks a file has; none where that is not known.
+// 0 if it is not known.
 fn block_count<F: DiskFile>(file: &F) -> usize
     ensures { IfSome (F.told file.now) (λ f. 0 < result → HasBlocks result f) }
 {
@@ -52,10 +51,7 @@ fn block_count<F: DiskFile>(file: &F) -> usize
     }
 }
 
-// The blocks of a file, of which each is a job.
-//
-// # Errors
-// That of the first block that could not be loaded.
+// Its fault is that of the first block that could not be loaded.
 fn blocks_by_workers<R: Threads + Sync, F: DiskFile + Sync>(
     rt: &R,
     alloc: Global,
@@ -86,7 +82,6 @@ fn blocks_by_workers<R: Threads + Sync, F: DiskFile + Sync>(
     Ok(blocks)
 }
 
-// Blocks of a file: job j loads the block of number j.
 #[derive(Drop)]
 struct BlockJobs<'f, F: DiskFile + Sync> {
     alloc: Global,
@@ -116,8 +111,7 @@ impl<'f, F: DiskFile + Sync> Work for BlockJobs<'f, F> {
     }
 }
 
-// The bytes that a block has of its own, or why they were not loaded. Contracts see where in its file the block begins, and what is told of
-// that file.
+// The bytes that a block has of its own, or why they were not loaded. Contracts see where it begins, and what is told of its file.
 #[derive(Drop)]
 struct LoadedBlock<'f, F: DiskFile> {
     file: &'f F,
@@ -149,7 +143,6 @@ impl<'f, F: DiskFile> LoadedBlock<'f, F> {
     ghost use Rattle.run_files.specs.Paths.{IsOfFile};
     ghost use Rattle.run_files.specs.RunFault.{run_refusal};
 
-    // Its bytes, or why they were not loaded.
     fn into_bytes(self) -> Result<Vec<u8>, RunFault>
         ensures told { IfSome self.entry.told (λ f. AgreesUnlessMemory run_refusal (λ bytes. bytes.items) result (part_at f self.entry.at)) }
         ensures short { IfOk result (λ bytes. length bytes.items ≤ block_len) }
@@ -159,10 +152,6 @@ impl<'f, F: DiskFile> LoadedBlock<'f, F> {
     }
 }
 
-// The bytes of the blocks of a file, block by block.
-//
-// # Errors
-// That of the first block that could not be loaded.
 #[tactic(auto, unfolding(crate::specs::LoadedBlocks::parts_from))]
 fn parts_of<F: DiskFile>(
     alloc: Global,
@@ -188,9 +177,6 @@ fn parts_of<F: DiskFile>(
 
 // The bytes of a file from byte `start` on, as many as a block has of its own or up to the end of the file. There is room for those that
 // a block has of the next one.
-//
-// # Errors
-// [`RunFault::ReadFailed`] where a read failed, and [`RunFault::Memory`].
 fn load_part<F: DiskFile>(alloc: Global, file: &F, start: usize) -> Result<Vec<u8>, RunFault>
     requires start { start ≤ capture_limit }
     requires within { IfSome (F.told file.now) (λ f. start < file_len f) }

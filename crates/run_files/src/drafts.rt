@@ -1,11 +1,12 @@
-//! Drafts of outputs: files of a folder that are written, by many threads side by side, before they get their names.
+//! Drafts of outputs, which get their names in a folder.
 ghost use Rattle.std.specs.Prelude.{◌≡◌, false, ℕ, List, ◌+◌, ◌-◌, ◌^◌, ◌<◌, ◌≤◌, ◌*◌, ◌++◌, [], ◌∷◌, length, OnOk};
 ghost use Rattle.run_files.specs.DraftedOutputs.{IsDraftOf};
 ghost use Rattle.disks.specs.DraftPaths.{has_slash};
-ghost use Rattle.run_files.specs.Folders.{TakesIn, disk_failures};
+ghost use Rattle.run_files.specs.Folders.{TakesIn, failed_stores};
+ghost use Rattle.run_files.specs.RunFault.{outcome_of_storing};
 ghost use Rattle.run_files.specs.declared.outputs.Output.{Output};
-ghost use Rattle.run_files.specs.Shelves.{stored_file};
-ghost use Rattle.run_files.specs.WrittenOutputs.{files_from, four_digits, PutsAfter, StoresAfter};
+ghost use Rattle.run_files.specs.StoredFiles.{stored_file};
+ghost use Rattle.run_files.specs.WrittenOutputs.{files_from, four_digits, PutsAfter, Stores};
 
 use crate::error::StoreFault;
 use crate::folders::Folder;
@@ -13,32 +14,27 @@ use crate::outputs::file_name;
 use disks::Disk;
 use std::alloc::Global;
 
-/// What one scenario answers, as drafts: that of its capture, and that of its report.
+/// What one scenario answers, as drafts: its capture, and its report.
 pub type DraftedOutput<D> = (D, D);
 
 /// Gives the drafts of an output their names in a folder: they become the files that [`store_all`](crate::store_all) puts of the output of
 /// this number.
 ///
 /// # Errors
-/// The first file that cannot be stored ends it; none is tried again. The files before that one have got their names then, and no other
-/// has; `after` says how many they are, with those of the outputs of lower numbers.
+/// The first file that cannot be stored ends it; none is tried again. `after` counts those before it, of outputs of lower numbers too.
 pub fn store_draft<D: Disk>(
     alloc: Global,
     number: usize,
     drafts: DraftedOutput<D::Draft>,
-    folder: &mut Folder<'_>,
+    folder: &Folder<'_>,
     disk: &mut D,
 ) -> Result<(), StoreFault>
-    requires failures { folder.old.failed < 2 ^ 64 - 1 }
     requires faults { D.faults disk.old < 2 ^ 64 - 1 }
     requires number { number < 2 ^ 32 }
-    ensures folder { folder.new.folder ≡ folder.old.folder }
-    ensures none_failed { OnOk result (folder.new.failed ≡ folder.old.failed) }
-    ensures faults { D.faults disk.new ≡ D.faults disk.old + disk_failures folder.old.folder result }
-    ensures path { OnOk result (0 < length folder.old.folder) }
+    ensures faults { D.faults disk.new ≡ D.faults disk.old + failed_stores folder.now (outcome_of_storing result) }
+    ensures path { OnOk result (0 < length folder.now) }
     ensures stores { (output : Output) → IsDraftOf D.holds output drafts
-        → StoresAfter (2 * number) (files_from number (output ∷ [])) (TakesIn folder.old.folder (D.history disk.old) (D.history disk.new))
-        folder.old.failed folder.new.failed result }
+        → Stores (2 * number) (files_from number (output ∷ [])) (TakesIn folder.now (D.history disk.old) (D.history disk.new)) result }
 {
     let (capture, report) = drafts;
     let after = 2 * number as u64;
@@ -46,34 +42,27 @@ pub fn store_draft<D: Disk>(
     take_file(alloc, number, ".txt", report, folder, disk, after + 1)
 }
 
-// Names a draft as a file of an output with its number, after so many files.
 fn take_file<D: Disk>(
     alloc: Global,
     number: usize,
     ending: &str,
     draft: D::Draft,
-    folder: &mut Folder<'_>,
+    folder: &Folder<'_>,
     disk: &mut D,
     after: u64,
 ) -> Result<(), StoreFault>
-    requires failures { folder.old.failed < 2 ^ 64 - 1 }
     requires faults { D.faults disk.old < 2 ^ 64 - 1 }
     requires number { number < 2 ^ 32 }
     requires ending { length ending.now ≤ 5 }
     requires slash { has_slash ending.now ≡ false }
-    ensures folder { folder.new.folder ≡ folder.old.folder }
-    ensures none_failed { OnOk result (folder.new.failed ≡ folder.old.failed) }
-    ensures faults { D.faults disk.new ≡ D.faults disk.old + disk_failures folder.old.folder result }
-    ensures path { OnOk result (0 < length folder.old.folder) }
-    ensures puts { (bytes : List ℕ) → D.holds draft bytes
-        → PutsAfter after (TakesIn folder.old.folder (D.history disk.old) (D.history disk.new) (stored_file (four_digits number ++ ending.now) bytes ∷ []))
-        (D.history disk.new ≡ D.history disk.old) folder.old.failed folder.new.failed result }
+    ensures faults { D.faults disk.new ≡ D.faults disk.old + failed_stores folder.now (outcome_of_storing result) }
+    ensures path { OnOk result (0 < length folder.now) }
+    ensures puts { (bytes : List ℕ) → D.holds draft bytes → PutsAfter after
+        (TakesIn folder.now (D.history disk.old) (D.history disk.new) (stored_file (four_digits number ++ ending.now) bytes ∷ []))
+        (D.history disk.new ≡ D.history disk.old) result }
 {
     let Ok(name) = file_name(alloc, number, ending) else {
         return Err(StoreFault::Memory { after });
     };
-    match folder.take(disk, &name, draft) {
-        Ok(()) => Ok(()),
-        Err(_) => Err(StoreFault::ShelfFailed { after }),
-    }
+    folder.take(alloc, disk, &name, draft, after)
 }

@@ -19,13 +19,12 @@ pub fn is_dump(text: &[u8]) -> bool
     }
 }
 
-/// The bytes of a dump: pairs of hexadecimal digits in either case, the higher digit first, with
-/// blanks (space, tab, carriage return, line feed) anywhere, also between the digits of a pair.
+/// The bytes of a dump: pairs of hexadecimal digits in either case, the higher digit first, with blanks (space, tab, carriage return, line
+/// feed) anywhere.
 ///
 /// # Errors
-/// [`RunFault::BadDump`] with the place of the first byte that is neither a digit nor a
-/// blank, or, where there is none and the digits are odd in number, with the text's length;
-/// [`RunFault::Memory`] only where the text has no such fault.
+/// [`RunFault::BadDump`] has the place of the first byte that is neither a digit nor a blank; or the text's length if there is none and the
+/// number of digits is odd. [`RunFault::Memory`] comes only if the text has no such fault.
 pub fn undump(alloc: Global, text: &[u8]) -> Result<Vec<u8>, RunFault>
     ensures { Agrees run_refusal (λ bytes. bytes.items) result (dump_reading text.now) }
 {
@@ -35,7 +34,6 @@ pub fn undump(alloc: Global, text: &[u8]) -> Result<Vec<u8>, RunFault>
     }
 }
 
-// What the digits of a text decode to.
 fn decoded(alloc: Global, text: &[u8]) -> Result<Vec<u8>, FromHexError>
     ensures { IfOk result (λ bytes. decode_of (without_blanks text.now) ≡ Ok bytes.items) }
 {
@@ -79,7 +77,6 @@ fn next_byte<'a>(
     Ok(Some((byte, left)))
 }
 
-// The first byte that is no blank, and what follows it.
 fn next_digit(text: &[u8]) -> Option<(u8, &[u8])>
     ensures found { MatchOption result (without_blanks text.now ≡ [])
         (λ found. without_blanks text.now ≡ found.0 ∷ without_blanks found.1.now) }
@@ -95,7 +92,6 @@ fn next_digit(text: &[u8]) -> Option<(u8, &[u8])>
     None
 }
 
-// The byte that the table holds for a pair.
 fn held_byte(pairs: &[Option<u8>], high: u8, low: u8) -> Option<u8>
     requires { HoldsPairs pairs.now }
     ensures { IfSome result (λ byte. pair_value high low 0 ≡ Ok byte) }
@@ -106,7 +102,7 @@ fn held_byte(pairs: &[Option<u8>], high: u8, low: u8) -> Option<u8>
     }
 }
 
-// The bytes of all pairs of digits. Looking a pair up is faster than decoding it, which mispredicts a branch at most digits.
+// The bytes of all pairs of digits. To look a pair up is faster than to decode it, as a branch is mispredicted at most digits.
 fn hex_pairs(alloc: Global) -> Result<Vec<Option<u8>>, AllocError>
     ensures { IfOk result (λ pairs. HoldsPairs pairs.items) }
 {
@@ -119,14 +115,13 @@ fn hex_pairs(alloc: Global) -> Result<Vec<Option<u8>>, AllocError>
     Ok(pairs)
 }
 
-// A table that holds no pair. It stands apart so that no other proof meets a list of so many places.
+// A table that holds no pair. It stands apart so that no other proof meets its list.
 fn no_pairs(alloc: Global) -> Result<Vec<Option<u8>>, AllocError>
     ensures { IfOk result (λ pairs. HoldsPairs pairs.items) }
 {
     Ok(vec![in alloc; None; PLACES]?)
 }
 
-// Keeps what hex decodes of a pair at its place.
 fn keep_pair(pairs: &mut [Option<u8>], high: u8, low: u8)
     requires { HoldsPairs pairs.old }
     ensures { HoldsPairs pairs.new }
@@ -139,14 +134,12 @@ fn keep_pair(pairs: &mut [Option<u8>], high: u8, low: u8)
     }
 }
 
-// The place of a pair in the table.
 fn place(high: u8, low: u8) -> usize
     ensures { result ≡ high * 256 + low }
 {
     usize::from(high) * 256 + usize::from(low)
 }
 
-// The byte that hex decodes of two digits.
 fn pair_byte(high: u8, low: u8) -> Result<u8, FromHexError>
     ensures { result ≡ pair_value high low 0 }
 {
@@ -155,12 +148,8 @@ fn pair_byte(high: u8, low: u8) -> Result<u8, FromHexError>
     Ok(byte[0])
 }
 
-/// The bytes of the capture that a text holds: those of the dump where the text is taken for one, and else the text as it is, which is
-/// not copied.
-///
-/// # Errors
-/// Those of [`undump`].
-pub fn capture_bytes(alloc: Global, text: Vec<u8>) -> Result<Vec<u8>, RunFault>
+// The bytes of the capture that a text holds; a text that is no dump is not copied.
+pub(crate) fn capture_bytes(alloc: Global, text: Vec<u8>) -> Result<Vec<u8>, RunFault>
     ensures { Agrees run_refusal (λ bytes. bytes.items) result (if is_dump text.items then dump_reading text.items else Ok text.items) }
 {
     if is_dump(&text) {
@@ -169,7 +158,7 @@ pub fn capture_bytes(alloc: Global, text: Vec<u8>) -> Result<Vec<u8>, RunFault>
     Ok(text)
 }
 
-// The fault of a text that was not decoded, which is out of memory only where the text has none of its own.
+// The fault of a text that was not decoded. It is out of memory only if the text has no fault of its own.
 #[tactic(auto, unfolding(crate::specs::Dumps::dump_reading))]
 fn dump_fault(text: &[u8]) -> RunFault
     ensures { Refuses (run_refusal result) (dump_reading text.now) }
@@ -183,7 +172,6 @@ fn dump_fault(text: &[u8]) -> RunFault
     RunFault::Memory
 }
 
-// The place of the first byte that is neither a blank nor a digit.
 fn first_foreign(text: &[u8]) -> Option<usize>
     ensures { result ≡ position is_foreign text.now }
 {
@@ -208,8 +196,6 @@ fn is_digit(b: u8) -> bool
     b.is_ascii_hexdigit()
 }
 
-// The digits of both cases.
 const DIGITS: &[u8; 22] = b"0123456789abcdefABCDEF";
 
-// A place for each pair of bytes.
 const PLACES: usize = 256 * 256;

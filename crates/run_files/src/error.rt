@@ -1,7 +1,6 @@
 //! Why a run is refused, why files were not all stored, and that a shelf did not take a file.
 ghost use Rattle.std.specs.Prelude.{◌≡◌};
 
-use disks::DiskFault;
 use pcap_records::CaptureFault;
 use scenarios::Refusal;
 use std::alloc::AllocError;
@@ -22,13 +21,13 @@ pub enum RunFault {
     /// The capture is of another link type than Ethernet.
     #[error("the capture is not of link type Ethernet")]
     BadLink,
-    /// The record of this number, from 0, claims more bytes than a record may have.
+    /// The record with this number, from 0, claims more bytes than a record may have.
     #[error("record {at} is too long")]
     RecordTooLong { at: u32 },
-    /// The text of the scenario with this number, from 0, is refused.
+    /// The scenario with this number, from 0, is refused.
     #[error("scenario {number}{}{refusal}", end_of_number(.refusal))]
     BadScenario { number: usize, refusal: Refusal },
-    /// The host with this number among those that were given, from 0, is refused.
+    /// The host with this number, from 0, is refused.
     #[error("host {at} is refused")]
     BadHost { at: usize },
     /// More than 256 scenarios were given.
@@ -37,13 +36,12 @@ pub enum RunFault {
     /// A capture, a dump or a scenario file has more than 2^30 bytes.
     #[error("a capture, a dump or a scenario file is longer than 2^30 bytes")]
     CaptureTooLong,
-    /// Memory was refused.
     #[error("out of memory")]
     Memory,
-    /// The dump is broken at this byte, from 0, or at its end.
+    /// The dump is broken at this byte, from 0, or at its end, which is its length.
     #[error("the dump is broken at byte {at}")]
     BadDump { at: usize },
-    /// The shelf failed after it had taken so many files whole.
+    /// A file could not be stored, after `after` that were stored whole.
     #[error("a file cannot be stored, after {after} that were")]
     ShelfFailed { after: u64 },
     /// A read failed.
@@ -54,7 +52,7 @@ pub enum RunFault {
     WriteFailed,
 }
 
-// What stands between the number of a scenario and its refusal: of a proxy, `scenario 0 proxy 1: ..`, and else `scenario 0: ..`.
+// What follows the number of a scenario: `scenario 0 proxy 1: ..` if the refusal is of a proxy, and else `scenario 0: ..`.
 fn end_of_number(refusal: &Refusal) -> &'static str {
     if refusal.proxy.is_some() { " " } else { ": " }
 }
@@ -87,13 +85,11 @@ impl From<AllocError> for RunFault {
     }
 }
 
-/// Why not all files were stored.
+/// Why not all files were stored; `after` files were stored whole.
 #[derive(Clone, Copy, Debug, PartialEq, Eq, Error)]
 pub enum StoreFault {
-    /// The shelf failed after it had taken so many files whole.
     #[error("a file cannot be stored, after {after} that were")]
     ShelfFailed { after: u64 },
-    /// Memory was refused after so many files were stored whole.
     #[error("out of memory, after {after} files were stored")]
     Memory { after: u64 },
 }
@@ -115,12 +111,6 @@ impl From<StoreFault> for RunFault {
 #[derive(Clone, Copy, Debug, PartialEq, Eq, Error)]
 #[error("the shelf did not take the file")]
 pub struct ShelfError;
-
-impl From<DiskFault> for ShelfError {
-    fn from(_failed: DiskFault) -> ShelfError {
-        ShelfError
-    }
-}
 
 impl From<AllocError> for ShelfError {
     fn from(_refused: AllocError) -> ShelfError {

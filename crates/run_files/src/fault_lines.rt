@@ -8,18 +8,13 @@ use crate::error::RunFault;
 use scenarios::{Cause, Refusal};
 use std::alloc::{AllocError, Global};
 
-/// Where a fault lies.
+// Where a fault lies: a number is that of a record or a byte, of a host, or of the files that were stored.
 #[derive(Clone, Copy)]
 pub(crate) enum FaultPlace {
-    /// It knows no place.
     Nowhere,
-    /// At the record or the byte of this number, from 0.
     At(u64),
-    /// At the host of this number, from 0.
     Host(u64),
-    /// After so many files that were stored whole.
     After(u64),
-    /// In the scenario of this number, and in its proxy and the proxy's toxic where it is of one.
     In {
         scenario: usize,
         proxy: Option<usize>,
@@ -27,7 +22,6 @@ pub(crate) enum FaultPlace {
     },
 }
 
-/// What the line of a fault has: its number, its name, and its place.
 #[derive(Clone, Copy)]
 pub(crate) struct FaultEntry {
     pub number: u32,
@@ -35,7 +29,6 @@ pub(crate) struct FaultEntry {
     pub place: FaultPlace,
 }
 
-// The table of a scenario's faults.
 fn entry_of_cause(cause: Cause) -> (u32, &'static str)
     ensures number { result.0 ≡ (cause_entry cause).0 }
     ensures name { result.1.now ≡ (cause_entry cause).1 }
@@ -56,7 +49,6 @@ fn entry_of_cause(cause: Cause) -> (u32, &'static str)
     }
 }
 
-// What the line of a scenario's refusal has.
 fn entry_of_refusal(scenario: usize, refusal: &Refusal) -> FaultEntry
     ensures number { result.number ≡ (fault_entry (RunFault.BadScenario scenario refusal.now)).number }
     ensures name { result.name.now ≡ (fault_entry (RunFault.BadScenario scenario refusal.now)).name }
@@ -75,7 +67,6 @@ fn entry_of_refusal(scenario: usize, refusal: &Refusal) -> FaultEntry
     }
 }
 
-// The table of faults.
 fn entry_of(fault: &RunFault) -> FaultEntry
     ensures number { result.number ≡ (fault_entry fault.now).number }
     ensures name { result.name.now ≡ (fault_entry fault.now).name }
@@ -105,14 +96,12 @@ fn entry_of(fault: &RunFault) -> FaultEntry
     }
 }
 
-// Adds a number, after the name of what it counts.
 fn push_number(line: &mut String, name: &str, number: u64) -> Result<(), AllocError>
     ensures { OnOk result (string_bytes line.new ≡ string_bytes line.old ++ known_text name.now (Some number)) }
 {
     write!(line, "{name}{number}")
 }
 
-// Adds it where it is known.
 fn push_known(line: &mut String, name: &str, number: Option<usize>) -> Result<(), AllocError>
     ensures { OnOk result (string_bytes line.new ≡ string_bytes line.old ++ known_text name.now number) }
 {
@@ -142,8 +131,7 @@ fn push_place(line: &mut String, place: &FaultPlace) -> Result<(), AllocError>
     }
 }
 
-/// The line of a fault: `refused`, its number, its name and, where the fault knows one, its
-/// place. It has no line feed at its end.
+/// The line of a fault: `refused`, its number, its name and, if it has one, its place. No line feed stands at its end.
 #[tactic(auto, unfolding(crate::specs::RunFault::fault_text))]
 pub fn fault_line(alloc: Global, fault: &RunFault) -> Result<String, AllocError>
     ensures { IfOk result (λ line. string_bytes line ≡ fault_text fault.now) }

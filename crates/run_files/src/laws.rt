@@ -2,13 +2,12 @@
 ghost use Rattle.run_files.specs.Dumps.{ReadsBack};
 ghost use Rattle.run_files.specs.Folders.{DraftPathsDiffer};
 
-/// The hexadecimal digits of some bytes, all in lower or all in upper case, are a dump of these bytes, whatever blanks stand
-/// before, between and after them.
+/// The hexadecimal digits of some bytes, all in lower or all in upper case, with any blanks, are a dump of these bytes.
 pub fn dumps_read_back()
     ensures { ReadsBack }
 {}
 
-/// Drafts at different places of a folder have different paths, where the folder has a path.
+/// Drafts at different places of a folder that has a path have different paths.
 pub fn draft_paths_differ()
     ensures { DraftPathsDiffer }
 {}

@@ -1,6 +1,4 @@
-//! The files of a run, where they come from and where they go: readers and writers that count their failed calls, loading a
-//! file of a disk, whole or by the heads of its packets, dumps in hexadecimal, why a run is refused and the line that tells it,
-//! and what a rehearsal answers, printed on a writer, stored on a shelf, or drafted in a folder of a disk.
+//! The files of a run, where they come from and where they go.
 #![tactic(auto)]
 
 mod block_loading;
@@ -10,6 +8,7 @@ mod error;
 mod fault_lines;
 mod folders;
 mod head_loading;
+mod inputs;
 pub mod laws;
 mod loading;
 mod outputs;
@@ -19,7 +18,7 @@ mod streams;
 mod texts;
 
 pub use drafts::{DraftedOutput, store_draft};
-pub use dumps::{capture_bytes, is_dump, undump};
+pub use dumps::{is_dump, undump};
 pub use error::{RunFault, ShelfError, StoreFault};
 pub use fault_lines::fault_line;
 pub use folders::Folder;

@@ -1,27 +1,26 @@
 //! Loading a file of a disk by its path: a large one by workers, block by block.
-ghost use Rattle.std.specs.Prelude.{◌≡◌, ◌≤◌, ◌<◌, length, take, IfErr, IfOk, IfSome, Err, Some};
+ghost use Rattle.std.specs.Prelude.{◌≡◌, ◌≤◌, length, IfErr, IfOk, IfSome, Err, Some};
 ghost use Rattle.disks.specs.ToldFiles.{IsFileAt};
 ghost use Rattle.disks.specs.Histories.{held_now};
 ghost use Rattle.lists.specs.Agreement.{AgreesUnlessMemory};
 ghost use Rattle.pcap_records.specs.Reading.{capture_limit};
-ghost use Rattle.run_files.specs.Paths.{HaveCome, IsOfFile, text_at, text_of};
+ghost use Rattle.run_files.specs.Paths.{IsOfFile, text_at, text_of};
 ghost use Rattle.run_files.specs.RunFault.{run_refusal};
 
 use crate::block_loading::text_in_blocks;
 use crate::error::RunFault;
+use crate::inputs::{OpenFile, load_rest};
 use crate::streams::room_to_read;
 use crate::texts::Text;
 use disks::{DiskFault, DiskFile, ReadDisk, ReadFiles};
 use job_matrix::Plan;
-use pcap_records::CAPTURE_LIMIT;
 use std::alloc::Global;
 use std::thread::Threads;
 
 /// Loads all bytes of the file at a path, and adds it to those that were read.
 ///
 /// # Errors
-/// [`RunFault::ReadFailed`] where no file can be opened and read there, [`RunFault::CaptureTooLong`] where it has more than 2^30 bytes,
-/// and [`RunFault::Memory`].
+/// [`RunFault::ReadFailed`] if no file can be opened and read there, [`RunFault::CaptureTooLong`], and [`RunFault::Memory`].
 pub fn load_file<D: ReadDisk>(
     alloc: Global,
     disk: &D,
@@ -33,15 +32,12 @@ pub fn load_file<D: ReadDisk>(
     ensures within { IfOk result (λ bytes. length bytes.items ≤ capture_limit) }
     ensures of_file { IfErr result IsOfFile }
 {
-    let mut file = opened(alloc, disk, path)?;
+    let file = opened(alloc, disk, path)?;
     read.add(file.id())?;
-    load_whole(alloc, &mut file)
+    load_whole(alloc, file)
 }
 
 /// The same, a file of several blocks by the workers of a plan. What is written to the file meanwhile may be loaded or not.
-///
-/// # Errors
-/// Those of [`load_file`].
 pub fn load_by_workers<R: Threads + Sync, D: ReadDisk>(
     rt: &R,
     alloc: Global,
@@ -57,18 +53,14 @@ where
     ensures within { IfOk result (λ text. length text ≤ capture_limit) }
     ensures of_file { IfErr result IsOfFile }
 {
-    let mut file = opened(alloc, disk, path)?;
+    let file = opened(alloc, disk, path)?;
     read.add(file.id())?;
     if let Some(text) = text_in_blocks(rt, alloc, &file, plan)? {
         return Ok(text);
     }
-    Ok(Text::of(load_whole(alloc, &mut file)?))
+    Ok(Text::of(load_whole(alloc, file)?))
 }
 
-// The file at a path, to be read from its first byte on.
-//
-// # Errors
-// [`RunFault::ReadFailed`] where none can be opened there, and [`RunFault::Memory`].
 pub(crate) fn opened<D: ReadDisk>(alloc: Global, disk: &D, path: &str) -> Result<D::File, RunFault>
     ensures told { IfSome (D.history disk.now) (λ h. IfOk result (λ file. IsFileAt (held_now h path.now) (D.File.told file))) }
     ensures place { IfOk result (λ file. D.File.place file ≡ 0) }
@@ -83,49 +75,13 @@ pub(crate) fn opened<D: ReadDisk>(alloc: Global, disk: &D, path: &str) -> Result
     }
 }
 
-// Loads all bytes of a file from its first on, read after read.
-//
-// # Errors
-// [`RunFault::CaptureTooLong`] as soon as more bytes came than a capture may have, [`RunFault::ReadFailed`] at the first read that
-// fails, and [`RunFault::Memory`].
-fn load_whole<F: DiskFile>(alloc: Global, file: &mut F) -> Result<Vec<u8>, RunFault>
-    requires { F.place file.old ≡ 0 }
-    ensures told { IfSome (F.told file.old) (λ f. AgreesUnlessMemory run_refusal (λ bytes. bytes.items) result (text_of (Some f))) }
+// Loads all bytes of a file from its first on.
+fn load_whole<F: DiskFile + Drop>(alloc: Global, file: F) -> Result<Vec<u8>, RunFault>
+    requires { F.place file ≡ 0 }
+    ensures told { IfSome (F.told file) (λ f. AgreesUnlessMemory run_refusal (λ bytes. bytes.items) result (text_of (Some f))) }
     ensures within { IfOk result (λ bytes. length bytes.items ≤ capture_limit) }
     ensures of_file { IfErr result IsOfFile }
 {
     let mut room = room_to_read(alloc)?;
-    load_rest(file, Vec::new(alloc), room.as_mut_slice())
-}
-
-// Loads all bytes of a file after its first ones, which came already.
-//
-// # Errors
-// Those of [`load_whole`].
-pub(crate) fn load_rest<F: DiskFile>(
-    file: &mut F,
-    came: Vec<u8>,
-    buffer: &mut [u8],
-) -> Result<Vec<u8>, RunFault>
-    requires came { IfSome (F.told file.old) (λ f. HaveCome f came.items (F.place file.old)) }
-    requires short { length came.items ≤ capture_limit }
-    requires room { 0 < length buffer.old }
-    ensures told { IfSome (F.told file.old) (λ f. AgreesUnlessMemory run_refusal (λ bytes. bytes.items) result (text_of (Some f))) }
-    ensures first { IfOk result (λ bytes. take (length came.items) bytes.items ≡ came.items) }
-    ensures within { IfOk result (λ bytes. length bytes.items ≤ capture_limit) }
-    ensures of_file { IfErr result IsOfFile }
-{
-    let mut bytes = came;
-    'reads: loop {
-        let Ok(len) = file.read(buffer) else {
-            return Err(RunFault::ReadFailed);
-        };
-        if len == 0 {
-            return Ok(bytes);
-        }
-        if len > CAPTURE_LIMIT - bytes.len() {
-            return Err(RunFault::CaptureTooLong);
-        }
-        bytes.extend_from_slice(&buffer[..len])?;
-    }
+    load_rest(&mut OpenFile { file }, Vec::new(alloc), room.as_mut_slice())
 }

@@ -1,10 +1,12 @@
 //! What a rehearsal answers, its reports printed and its files stored.
-ghost use Rattle.std.specs.Prelude.{◌≡◌, ℕ, ◌+◌, ◌-◌, ◌^◌, ◌<◌, length, take, OnOk, OnErr, IfErr, ◌≤◌, ◌*◌, ◌++◌, [], ◌∷◌, IfOk};
+ghost use Rattle.std.specs.Prelude.{◌≡◌, false, ℕ, ◌+◌, ◌-◌, ◌^◌, ◌<◌, length, take, OnOk, OnErr, IfErr, ◌≤◌, ◌*◌, ◌++◌, [], ◌∷◌, IfOk};
 ghost use Rattle.std.specs.Io.KnownBytes.{Appends};
 ghost use Rattle.run_files.specs.WrittenOutputs.{reports_of};
 ghost use Rattle.std.specs.String.{string_bytes};
-ghost use Rattle.run_files.specs.Shelves.{stored_file, Takes};
-ghost use Rattle.run_files.specs.WrittenOutputs.{four_digits, files_from, Stores, StoresAfter, PutsAfter};
+ghost use Rattle.run_files.specs.Shelves.{Takes};
+ghost use Rattle.run_files.specs.StoredFiles.{stored_file};
+ghost use Rattle.run_files.specs.RunFault.{failed_puts, outcome_of_storing};
+ghost use Rattle.run_files.specs.WrittenOutputs.{four_digits, files_from, Stores, PutsAfter};
 
 use crate::error::{RunFault, StoreFault};
 use crate::shelves::Shelf;
@@ -28,8 +30,7 @@ pub type Outputs = Values<Output>;
 /// Writes the reports of a rehearsal, one after another. It takes no memory.
 ///
 /// # Errors
-/// `WriteFailed` at the first write that fails or takes no byte. The writer then has a first part of the reports, not all of
-/// them.
+/// [`RunFault::WriteFailed`] at the first write that fails or takes no byte. The writer then has a first part of the reports.
 pub fn print_reports<W: Write>(outputs: &Outputs, writer: &mut Counted<W>) -> Result<(), RunFault>
     requires { writer.old.failed < 2 ^ 64 - 1 }
 
@@ -51,57 +52,34 @@ pub fn print_reports<W: Write>(outputs: &Outputs, writer: &mut Counted<W>) -> Re
 /// `0001.pcap` and on, with the number of the scenario in at least four digits.
 ///
 /// # Errors
-/// The first file that cannot be stored ends it; none is tried again. The shelf then has the files before that one and no other;
-/// `after` says how many they are.
+/// The first file that cannot be stored ends it; none is tried again. The shelf then has the `after` files before that one and no other.
 pub fn store_all<S: Shelf>(
     alloc: Global,
     outputs: &Outputs,
     shelf: &mut S,
 ) -> Result<(), StoreFault>
     requires { S.failures shelf.old < 2 ^ 64 - 1 }
-    ensures { Stores (files_from 0 outputs.now) (Takes (S.files shelf.old) (S.files shelf.new))
-        (S.failures shelf.old) (S.failures shelf.new) result }
+    ensures stores { Stores 0 (files_from 0 outputs.now) (Takes (S.files shelf.old) (S.files shelf.new)) result }
+    ensures failures { S.failures shelf.new ≡ S.failures shelf.old + failed_puts false (outcome_of_storing result) }
 {
-    store_from(alloc, 0, outputs.as_slice(), shelf)
+    store_each(alloc, outputs.as_slice(), shelf)
 }
 
-// Puts the files of some outputs on a shelf, of which the first has this number, as [`store_all`] does. `after` counts the files of the
-// outputs before the first number too.
-fn store_from<S: Shelf>(
-    alloc: Global,
-    first: usize,
-    outputs: &[Output],
-    shelf: &mut S,
-) -> Result<(), StoreFault>
-    requires failures { S.failures shelf.old < 2 ^ 64 - 1 }
-    requires numbers { first ≤ 2 ^ 32 }
-    ensures { StoresAfter (2 * first) (files_from first outputs.now) (Takes (S.files shelf.old) (S.files shelf.new))
-        (S.failures shelf.old) (S.failures shelf.new) result }
+fn store_each<S: Shelf>(alloc: Global, outputs: &[Output], shelf: &mut S) -> Result<(), StoreFault>
+    requires { S.failures shelf.old < 2 ^ 64 - 1 }
+    ensures stores { Stores 0 (files_from 0 outputs.now) (Takes (S.files shelf.old) (S.files shelf.new)) result }
+    ensures failures { S.failures shelf.new ≡ S.failures shelf.old + failed_puts false (outcome_of_storing result) }
 {
-    for (place, output) in outputs.iter().enumerate() {
-        let number = first + place;
+    for (number, output) in outputs.iter().enumerate() {
         let after = 2 * number as u64;
-        put_file(
-            alloc,
-            number,
-            ".pcap",
-            output.capture.as_slice(),
-            shelf,
-            after,
-        )?;
-        put_file(
-            alloc,
-            number,
-            ".txt",
-            output.report.as_slice(),
-            shelf,
-            after + 1,
-        )?;
+        let capture = output.capture.as_slice();
+        put_file(alloc, number, ".pcap", capture, shelf, after)?;
+        let report = output.report.as_slice();
+        put_file(alloc, number, ".txt", report, shelf, after + 1)?;
     }
     Ok(())
 }
 
-// Puts a file of an output with its number, after so many files.
 fn put_file<S: Shelf>(
     alloc: Global,
     number: usize,
@@ -111,8 +89,9 @@ fn put_file<S: Shelf>(
     after: u64,
 ) -> Result<(), StoreFault>
     requires { S.failures shelf.old < 2 ^ 64 - 1 }
-    ensures { PutsAfter after (Takes (S.files shelf.old) (S.files shelf.new) (stored_file (four_digits number ++ ending.now) bytes.now ∷ []))
-        (S.files shelf.new ≡ S.files shelf.old) (S.failures shelf.old) (S.failures shelf.new) result }
+    ensures puts { PutsAfter after (Takes (S.files shelf.old) (S.files shelf.new) (stored_file (four_digits number ++ ending.now) bytes.now ∷ []))
+        (S.files shelf.new ≡ S.files shelf.old) result }
+    ensures failures { S.failures shelf.new ≡ S.failures shelf.old + failed_puts false (outcome_of_storing result) }
 {
     let Ok(name) = file_name(alloc, number, ending) else {
         return Err(StoreFault::Memory { after });

@@ -1,4 +1,4 @@
-//! What is loaded of a text whose reports alone are wanted, and the part of it that is held while it is read.
+//! What is loaded of a text if only its reports are asked for, and the part of it that is held while it is read.
 ghost use Rattle.std.specs.Prelude.{◌≡◌, ◌+◌, ◌<◌, ◌≤◌, ◌++◌, ℕ, List, length, take, IfOk};
 ghost use Rattle.pcap_records.specs.Heads.{read_on};
 ghost use Rattle.pcap_records.specs.Blocks.{slice_limit};
@@ -9,7 +9,7 @@ use crate::texts::Text;
 use pcap_records::{CaptureFault, HeadReader, KeptHeads, SLICE_LIMIT};
 use std::alloc::{AllocError, Global};
 
-/// What was loaded of the text of a capture whose reports alone are wanted.
+/// What was loaded of the text of a capture if only its reports are asked for.
 #[derive(Drop)]
 pub enum SeenText {
     /// The text is a dump, and this is all of it.
@@ -18,7 +18,7 @@ pub enum SeenText {
     Heads(Result<KeptHeads, CaptureFault>),
 }
 
-// Room for one read after the bytes that are held. It stands apart so that no proof meets a list of so many zeros.
+// Room for one read after the bytes that are held. It stands apart so that no other proof meets this list of zeros.
 pub(crate) fn room_for_heads(alloc: Global) -> Result<Vec<u8>, AllocError>
     ensures more { IfOk result (λ room. slice_limit ≤ length room.items) }
     ensures within { IfOk result (λ room. length room.items ≤ capture_limit) }
@@ -26,7 +26,7 @@ pub(crate) fn room_for_heads(alloc: Global) -> Result<Vec<u8>, AllocError>
     vec![in alloc; 0u8; READ_LEN + SLICE_LIMIT]
 }
 
-// Takes what can be taken of the bytes that are held at the front of a buffer, and moves the others to its front. Gives how many those are.
+// Takes what can be taken of the `held` bytes at the front of a buffer, and moves the others to its front. Gives the number of those.
 pub(crate) fn take_front(
     reader: &mut HeadReader,
     buffer: &mut [u8],

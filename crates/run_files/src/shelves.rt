@@ -6,14 +6,14 @@ use crate::streams::count_failure;
 use std::alloc::{AllocError, Global};
 use std::marker::Model;
 
-/// Where files are put: a folder, an archive, or a list in memory.
+/// Where files are put, such as an archive or a list in memory.
 ///
-/// Contracts see two things of a shelf. `files` are the files that it took whole, the oldest first, or `None` where it does not
-/// tell them, as a folder of a disk that does not. `failures` is the number of its failed calls, which each shelf counts
-/// for itself.
+/// Contracts see two things of a shelf. `files` are the files that it took whole, the oldest first, or `None` if it does not tell them.
+/// `failures` is the number of its failed calls, which each shelf counts for itself.
 pub trait Shelf {
     ghost use Rattle.std.specs.Prelude.{◌≡◌, ℕ, ◌+◌, ◌-◌, ◌^◌, ◌<◌, [], ◌∷◌, List, Option, OnOk, OnErr, is_ok, if◌then◌else◌};
-    ghost use Rattle.run_files.specs.Shelves.{StoredFile, stored_file, Takes};
+    ghost use Rattle.run_files.specs.Shelves.{Takes};
+    ghost use Rattle.run_files.specs.StoredFiles.{StoredFile, stored_file};
 
     ghost files: { Self → Option (List StoredFile) };
 
@@ -39,7 +39,7 @@ pub struct MemoryFile {
 
 impl Model for MemoryFile {
     ghost use Rattle.std.specs.String.{string_bytes};
-    ghost use Rattle.run_files.specs.Shelves.{StoredFile, stored_file};
+    ghost use Rattle.run_files.specs.StoredFiles.{StoredFile, stored_file};
 
     ghost Value = { StoredFile };
 
@@ -47,14 +47,12 @@ impl Model for MemoryFile {
 }
 
 impl MemoryFile {
-    /// Its name.
     pub fn name(&self) -> &str
         ensures { result.now ≡ self.now.name }
     {
         &self.name
     }
 
-    /// Its bytes.
     pub fn bytes(&self) -> &[u8]
         ensures { result.now ≡ self.now.bytes }
     {
@@ -62,8 +60,8 @@ impl MemoryFile {
     }
 }
 
-/// A shelf in memory: it keeps copies of the files that are put, in order, under names that may stand twice. It fails where memory is
-/// refused, and keeps nothing of that file.
+/// A shelf in memory: it keeps copies of the files that are put, in order, under names that may stand twice. It fails if it is out of
+/// memory, and keeps nothing of that file.
 #[derive(Drop)]
 pub struct MemoryShelf {
     alloc: Global,
@@ -81,9 +79,9 @@ impl Model for MemoryShelf {
 
 impl MemoryShelf {
     ghost use Rattle.std.specs.Prelude.{◌≡◌, ◌++◌, [], ◌∷◌, is_ok, if◌then◌else◌};
-    ghost use Rattle.run_files.specs.Shelves.{stored_file};
+    ghost use Rattle.run_files.specs.StoredFiles.{stored_file};
 
-    /// A shelf without files, of which no call has failed. It takes no memory.
+    /// A shelf without files, of which no call has failed.
     pub fn new(alloc: Global) -> MemoryShelf
         ensures { result ≡ record { files = []; failed = 0 } }
     {
@@ -108,14 +106,13 @@ impl MemoryShelf {
         self.files
     }
 
-    /// How many calls have failed.
+    /// The number of failed calls.
     pub fn failed(&self) -> u64
         ensures { result ≡ self.now.failed }
     {
         self.failed
     }
 
-    // Keeps a copy of a file.
     fn keep(&mut self, name: &str, bytes: &[u8]) -> Result<(), AllocError>
         ensures files { self.new.files ≡ (if is_ok result then self.old.files ++ stored_file name.now bytes.now ∷ [] else self.old.files) }
         ensures failed { self.new.failed ≡ self.old.failed }

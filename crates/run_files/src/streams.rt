@@ -1,4 +1,4 @@
-//! Readers and writers that count their failed calls, and reading and writing whole.
+//! Readers and writers that count their failed calls.
 ghost use Rattle.std.specs.Prelude.{◌≡◌, ◌+◌, ◌-◌, ◌^◌, ◌<◌, length, IfOk, is_ok, if◌then◌else◌, ℕ, ◌≤◌, List, OnOk, IfErr, IfSome, take, drop, OnErr};
 ghost use Rattle.std.specs.Io.{ReadsAtMost, WritesAtMost};
 ghost use Rattle.std.specs.Io.KnownBytes.{ReadConsumes, WriteAppends, Consumes, IsAtEnd, Appends};
@@ -6,16 +6,14 @@ ghost use Rattle.pcap_records.specs.Reading.{capture_limit};
 ghost use Rattle.run_files.specs.Streams.{StopsLoading, joined};
 
 use crate::error::RunFault;
-use pcap_records::CAPTURE_LIMIT;
+use crate::inputs::load_rest;
 use std::alloc::{AllocError, Global};
 use std::io;
 use std::io::{ErrorKind, Read, Write};
 use std::marker::Model;
 
-/// A reader or a writer that counts its failed calls, from 0.
-///
-/// No other code can raise the number, so a caller sees by it whether a call failed. Contracts see
-/// the inner reader or writer and the number.
+/// A reader or a writer that counts its failed calls, from 0. No other code can raise the number. Contracts see the inner reader or writer and
+/// the number.
 #[derive(Drop)]
 pub struct Counted<T> {
     inner: T,
@@ -31,21 +29,21 @@ impl<T> Model for Counted<T> {
 }
 
 impl<T> Counted<T> {
-    /// Begins to count, at 0.
+    /// Counts from 0.
     pub fn new(inner: T) -> Self
         ensures { result ≡ record { inner = inner; failed = 0 } }
     {
         Counted { inner, failed: 0 }
     }
 
-    /// How many calls have failed.
+    /// The number of failed calls.
     pub fn failed(&self) -> u64
         ensures { result ≡ self.now.failed }
     {
         self.failed
     }
 
-    /// Gives the reader or writer back.
+    /// The reader or writer.
     pub fn into_inner(self) -> T
         ensures { result ≡ self.inner }
     {
@@ -54,9 +52,8 @@ impl<T> Counted<T> {
 }
 
 impl<R: Read> Counted<R> {
-    /// Reads once, at most as many bytes as `buf` has room for; 0 of them only at the end.
-    ///
-    /// Each error is a failed call, [`ErrorKind::Interrupted`] too. It takes no byte.
+    /// Reads once, at most as many bytes as `buf` has room for; 0 of them only at the end. Each error is a failed call,
+    /// [`ErrorKind::Interrupted`] too, and takes no byte.
     pub fn read_some(&mut self, buf: &mut [u8]) -> io::Result<usize>
         requires { self.old.failed < 2 ^ 64 - 1 }
         ensures bound { ReadsAtMost result buf.new }
@@ -70,10 +67,8 @@ impl<R: Read> Counted<R> {
 }
 
 impl<W: Write> Counted<W> {
-    /// Writes once, a first part of `buf`.
-    ///
-    /// Each error is a failed call, and so is a call that takes none of the bytes that it is given,
-    /// which is answered as [`ErrorKind::WriteZero`]. A failed call takes no byte.
+    /// Writes once, a first part of `buf`. Each error is a failed call, and so is a call that takes none of the bytes, which is answered as
+    /// [`ErrorKind::WriteZero`].
     pub fn write_some(&mut self, buf: &[u8]) -> io::Result<usize>
         requires { self.old.failed < 2 ^ 64 - 1 }
         ensures bound { WritesAtMost result buf.now }
@@ -90,7 +85,6 @@ impl<W: Write> Counted<W> {
     }
 }
 
-// Counts a call that has failed.
 pub(crate) fn count_failure<T, E>(outcome: &Result<T, E>, failed: &mut u64)
     requires { failed.old < 2 ^ 64 - 1 }
     ensures { failed.new ≡ (if is_ok outcome.now then failed.old else failed.old + 1) }
@@ -100,72 +94,32 @@ pub(crate) fn count_failure<T, E>(outcome: &Result<T, E>, failed: &mut u64)
     }
 }
 
-// How many bytes are asked for at once.
+// The number of bytes that are asked for at once.
 pub(crate) const READ_LEN: usize = 1 << 18;
 
 /// Reads all that the reader has, up to 2^30 bytes, by at most 2^30 + 1 reads.
 ///
 /// # Errors
-/// [`RunFault::CaptureTooLong`] as soon as more bytes came, [`RunFault::ReadFailed`] at the
-/// first read that fails, and [`RunFault::Memory`]. The bytes that came until then are dropped, and
-/// no further read was made.
+/// [`RunFault::CaptureTooLong`] as soon as more bytes came, [`RunFault::ReadFailed`] at the first read that fails, and [`RunFault::Memory`].
 pub fn load<R: Read>(alloc: Global, reader: &mut Counted<R>) -> Result<Vec<u8>, RunFault>
     requires { reader.old.failed < 2 ^ 64 - 1 }
 
-    // All bytes come, the reader has lost them, and there is no more to read.
     ensures whole { IfOk result (λ bytes. IfSome (R.remaining reader.old.inner) (λ all. bytes.items ≡ all)) }
     ensures lost { IfOk result (λ bytes. Consumes (R.remaining reader.old.inner) (R.remaining reader.new.inner) bytes.items) }
     ensures at_end { OnOk result (IsAtEnd (R.remaining reader.new.inner)) }
     ensures within { IfOk result (λ bytes. length bytes.items ≤ capture_limit) }
     ensures none_failed { OnOk result (reader.new.failed ≡ reader.old.failed) }
 
-    // A refusal has its cause, and the reader has lost what it gave until then.
     ensures refused { IfErr result (λ fault. (given : List ℕ)
         × Consumes (R.remaining reader.old.inner) (R.remaining reader.new.inner) given
         × StopsLoading fault (length given) reader.old.failed reader.new.failed) }
 {
     let mut room = room_to_read(alloc)?;
-    load_rest(reader, Vec::new(alloc), room.as_mut_slice())
+    let bytes = load_rest(reader, Vec::new(alloc), room.as_mut_slice())?;
+    Ok(bytes)
 }
 
-// Reads all that the reader has after some bytes that came already.
-//
-// # Errors
-// Those of [`load`], where the bytes that came already are counted too.
-pub(crate) fn load_rest<R: Read>(
-    reader: &mut Counted<R>,
-    came: Vec<u8>,
-    buffer: &mut [u8],
-) -> Result<Vec<u8>, RunFault>
-    requires counts { reader.old.failed < 2 ^ 64 - 1 }
-    requires short { length came.items ≤ capture_limit }
-    requires room { 0 < length buffer.old }
-    ensures first { IfOk result (λ bytes. take (length came.items) bytes.items ≡ came.items) }
-    ensures lost { IfOk result (λ bytes. Consumes (R.remaining reader.old.inner) (R.remaining reader.new.inner)
-        (drop (length came.items) bytes.items)) }
-    ensures at_end { OnOk result (IsAtEnd (R.remaining reader.new.inner)) }
-    ensures within { IfOk result (λ bytes. length bytes.items ≤ capture_limit) }
-    ensures none_failed { OnOk result (reader.new.failed ≡ reader.old.failed) }
-    ensures refused { IfErr result (λ fault. (given : List ℕ)
-        × Consumes (R.remaining reader.old.inner) (R.remaining reader.new.inner) given
-        × StopsLoading fault (length came.items + length given) reader.old.failed reader.new.failed) }
-{
-    let mut bytes = came;
-    'reads: loop {
-        let Ok(len) = reader.read_some(buffer) else {
-            return Err(RunFault::ReadFailed);
-        };
-        if len == 0 {
-            return Ok(bytes);
-        }
-        if len > CAPTURE_LIMIT - bytes.len() {
-            return Err(RunFault::CaptureTooLong);
-        }
-        bytes.extend_from_slice(&buffer[..len])?;
-    }
-}
-
-// Room for one read. It stands apart so that no proof meets a list of so many zeros.
+// Room for one read. It stands apart so that no other proof meets this list of zeros.
 pub(crate) fn room_to_read(alloc: Global) -> Result<Vec<u8>, AllocError>
     ensures { IfOk result (λ room. 0 < length room.items) }
 {
@@ -175,8 +129,7 @@ pub(crate) fn room_to_read(alloc: Global) -> Result<Vec<u8>, AllocError>
 /// Writes all the bytes, by as many writes as the writer needs.
 ///
 /// # Errors
-/// [`RunFault::WriteFailed`] at the first write that fails or takes no byte. The writer then
-/// has a first part of the bytes, not all of them.
+/// [`RunFault::WriteFailed`] at the first write that fails or takes no byte. The writer then has a first part of the bytes.
 pub fn write_bytes<W: Write>(writer: &mut Counted<W>, bytes: &[u8]) -> Result<(), RunFault>
     requires { writer.old.failed < 2 ^ 64 - 1 }
 
@@ -198,11 +151,7 @@ pub fn write_bytes<W: Write>(writer: &mut Counted<W>, bytes: &[u8]) -> Result<()
     Ok(())
 }
 
-/// Writes some texts, one after another.
-///
-/// # Errors
-/// [`RunFault::WriteFailed`] at the first write that fails or takes no byte. The writer then
-/// has a first part of the texts, not all of them.
+/// Writes some texts, one after another, as [`write_bytes`] does.
 pub fn write_texts<W: Write>(writer: &mut Counted<W>, texts: &[&[u8]]) -> Result<(), RunFault>
     requires { writer.old.failed < 2 ^ 64 - 1 }
 

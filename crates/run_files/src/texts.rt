@@ -1,4 +1,4 @@
-//! The text of a capture as it was loaded, in one piece or in blocks, or as it is lent.
+//! The text of a capture, as it was loaded or is lent.
 ghost use Rattle.std.specs.Prelude.{◌≡◌, if◌then◌else◌, IfSome, Result, Ok};
 ghost use Rattle.lists.specs.Agreement.{Agrees};
 ghost use Rattle.pcap_records.specs.CaptureView.{bytes_of};
@@ -11,18 +11,15 @@ use pcap_records::{Blocks, FileBytes};
 use std::alloc::Global;
 use std::marker::Model;
 
-/// Where the bytes of a text stand.
 #[derive(Drop)]
 pub(crate) enum TextBytes<'t> {
-    /// In one piece.
     Whole(Vec<u8>),
-    /// In one piece that is another's.
     Lent(&'t [u8]),
-    /// In blocks; then they are no dump.
+    // They are no dump.
     InBlocks(Blocks),
 }
 
-/// The text of a capture: its bytes as they were loaded or are lent, which may be a dump. Contracts see the bytes.
+/// The text of a capture, which may be a dump. Contracts see its bytes.
 #[derive(Drop)]
 pub struct Text<'t> {
     bytes: TextBytes<'t>,
@@ -58,7 +55,6 @@ impl<'t> Text<'t> {
         }
     }
 
-    // The text of a file in blocks, unless that is a dump.
     pub(crate) fn of_blocks(blocks: Blocks) -> Option<Text<'t>>
         ensures text { IfSome result (λ text. text ≡ blocks) }
     {
@@ -81,8 +77,7 @@ impl<'t> Text<'t> {
         }
     }
 
-    /// The bytes of the capture that the text is of, as a text: those of the dump where it is taken for one, and else the text as it is,
-    /// which is not copied.
+    /// The bytes of the capture, as a text: those of the dump if the text is taken for one, and else the text as it is, which is not copied.
     ///
     /// # Errors
     /// Those of [`undump`](crate::undump).

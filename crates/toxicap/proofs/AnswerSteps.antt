@@ -77,7 +77,6 @@ of_scenarios hosts earlier (text ∷ texts) =
 -- ---- the end of loading
 
 module _ (hosts : List KnownHost) (texts : List (List ℕ)) (seed : ℕ) where
-  -- a text past the limit is too long
   pub too_long : (text : List ℕ) → capture_limit < length text → called_for hosts texts seed text ≡ Err CaptureTooLong
   unfolding called_for
   too_long text h = rw lt-ltb refl
@@ -118,7 +117,6 @@ module _ (hosts : List KnownHost) (texts : List (List ℕ)) (seed : ℕ) where
   answered (Err CaptureTooLong) text AtEnd within at_end is = is
   answered (Err _) text AtEnd within at_end is = (at_end, is)
 
-  -- and no read has failed
   pub none_read : (result : Result (List Output) RunFault) (text : List ℕ)
       → AgreesUnlessMemory run_refusal (λ (outputs : List Output). outputs) result (called_for hosts texts seed text) → failed_reads result ≡ 0
   none_read (Ok outputs) text is = refl

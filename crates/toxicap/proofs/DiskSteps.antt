@@ -6,10 +6,10 @@ use Rattle.disks.specs.Histories.{History, LeavesWhole, Names, NamesLeaveWhole}
 use Rattle.run_files.specs.declared.error.RunFault.{RunFault}
 use Rattle.run_files.specs.declared.error.RunFault.TheVariants.{Memory, ShelfFailed, WriteFailed}
 use Rattle.run_files.specs.declared.outputs.Output.{Output}
-use Rattle.run_files.specs.Folders.{in_folder, TakesIn}
-use Rattle.run_files.specs.Shelves.{StoredFile}
+use Rattle.run_files.specs.Folders.{failed_stores, in_folder, TakesIn}
+use Rattle.run_files.specs.StoredFiles.{StoredFile}
 use Rattle.toxicap.specs.NamedFiles.{LeavesDisk}
-use Rattle.toxicap.specs.StoredOutputs.{FilesOf, TakenOf, failed_stores, files_in}
+use Rattle.toxicap.specs.StoredOutputs.{FilesOf, files_in}
 use Rattle.toxicap.proofs.RunSteps.{IsOfInput}
 use Rattle.toxicap.proofs.StoringEnds.{nothing_taken}
 
@@ -29,20 +29,11 @@ module _ (whole : NamesLeaveWhole) (folder : List ℕ) (old new : Option History
   whole_files (Err Memory) wanted took = first_part (files_in wanted) took.0 took.1
   whole_files (Err fault) wanted took = first_part (files_in wanted) 0 took
 
-files_of_taken : (outcome : Result (Unit {0}) RunFault) (wanted : Result (List Output) RunFault) (Took : List StoredFile → Type 0) (before after : ℕ)
-    → TakenOf outcome wanted Took before after → FilesOf outcome wanted Took
-files_of_taken (Ok u) wanted Took before after taken = taken.0
-files_of_taken (Err (ShelfFailed n)) wanted Took before after taken = taken.0
-files_of_taken (Err Memory) wanted Took before after taken = taken.0
-files_of_taken (Err fault) wanted Took before after taken = taken.0
-
 -- the outputs were stored, or a first part of their files
-pub disk_stored : NamesLeaveWhole → (folder : Bor (List ℕ)) (outcome : Result (Unit {0}) RunFault) (wanted : Result (List Output) RunFault) (old new : Option History) (before after : ℕ)
-    → TakenOf outcome wanted (TakesIn folder.now old new) before after → IfSome old (λ h. LeavesDisk (Some folder) outcome wanted h new)
-disk_stored whole folder outcome wanted None new before after taken = tt
-disk_stored whole folder outcome wanted (Some h) new before after taken =
-    let files = files_of_taken outcome wanted (TakesIn folder.now (Some h) new) before after taken in
-    (files, whole_files whole folder.now (Some h) new outcome wanted files)
+pub disk_stored : NamesLeaveWhole → (folder : Bor (List ℕ)) (outcome : Result (Unit {0}) RunFault) (wanted : Result (List Output) RunFault) (old new : Option History)
+    → FilesOf outcome wanted (TakesIn folder.now old new) → IfSome old (λ h. LeavesDisk (Some folder) outcome wanted h new)
+disk_stored whole folder outcome wanted None new files = tt
+disk_stored whole folder outcome wanted (Some h) new files = (files, whole_files whole folder.now (Some h) new outcome wanted files)
 
 none_of : (fault : RunFault) → IsOfInput fault → (wanted : Result (List Output) RunFault) (Took : List StoredFile → Type 0) → Took [] → FilesOf (Err fault) wanted Took
 none_of WriteFailed own wanted Took none = absurd own

@@ -76,14 +76,13 @@ module _ (ticks seed : ℕ) (s : ℕ × List Proxy) where
 
 -- ---- the next row
 
--- the scenario of a number, with that number
 abbrev pub next_scenario : List (List Proxy) → ℕ → ℕ × List Proxy
 next_scenario scenarios number = get_or (enumerate_from 0 scenarios) number (0, [])
 
 pub next_number : (scenarios : List (List Proxy)) (number : ℕ) → number < length scenarios → (next_scenario scenarios number).0 ≡ number
 next_number scenarios number within = own_number scenarios number (0, []) within
 
--- the next so many deliveries are those of the next scenario
+-- the next deliveries, one of each connection, are those of the next scenario
 pub next_row : (seed : ℕ) (c : SeenCapture) (scenarios : List (List Proxy)) (number : ℕ) → number < length scenarios → (count : ℕ) (left : List Delivery) → count ≡ length (connections_of c)
     → left ≡ rows (delivery_of c.ticks seed) (drop number (enumerate_from 0 scenarios)) (connections_of c)
     → take count left ≡ map (delivery_of c.ticks seed (next_scenario scenarios number)) (connections_of c)

@@ -19,14 +19,12 @@ use Rattle.toxicap.specs.CaptureOutputs.{no_output, outputs_for}
 use Rattle.toxicap.specs.HeldReports.{report_at, reports_below, reports_held}
 use Rattle.toxicap.proofs.OutputSteps.{as_many_for, head_at, report_is}
 
--- one report more
 pub below_more : (heads : List (List ℕ)) (shares : List (List (List ℕ))) (number : ℕ) → reports_below heads shares number ++ report_at heads shares number ≡ reports_below heads shares (number + 1)
 below_more heads shares number =
     ap (λ (more : List ℕ). reports_below heads shares number ++ more) (sym (append-nil (report_at heads shares number)))
     ∙ sym (flat_map-append (λ (report : List ℕ). report) (map (report_at heads shares) (range_with_len 0 number)) (report_at heads shares number ∷ []))
     ∙ ap (flat_map (λ (report : List ℕ). report)) (sym (map-range_with_len_more (report_at heads shares) 0 number number (omega arith)))
 
--- one text more
 pub joined_more : (texts : List (Bor (List ℕ))) (text : Bor (List ℕ)) → joined (texts ++ text ∷ []) ≡ joined texts ++ text.now
 joined_more texts text = flat_map-append (λ (t : Bor (List ℕ)). t.now) texts (text ∷ []) ∙ ap (λ (more : List ℕ). joined texts ++ more) (append-nil text.now)
 

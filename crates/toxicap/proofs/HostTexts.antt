@@ -50,7 +50,6 @@ address_is_ascii dotted text addr is =
 
 -- ---- hosts
 
--- what makes a host
 tested : (test : Bool) (addr : Option ℕ) (make : ℕ → KnownHost) (host : KnownHost)
     → (if test then option_map make addr else None) ≡ Some host → (test ≡ true) × ((a : ℕ) × (addr ≡ Some a))
 tested true (Some a) make host is = (refl, (a, refl))
@@ -84,7 +83,6 @@ written_is_ascii dotted hosts text host = by (position (λ b. b == equals_sign) 
         let here = position-Some (λ b. b == equals_sign) text at 0 (sym found) in
         joined_is_ascii text at here.0 (eqb-true _ _ here.1) both.0 both.1
 
--- what is not UTF-8 makes no host
 pub none_written : AddressesAreDotted → (hosts : List KnownHost) (text : List ℕ) → (IsUtf8 text → ⊥) → host_written hosts text ≡ None
 none_written dotted hosts text broken = by (host_written hosts text) refl
   where

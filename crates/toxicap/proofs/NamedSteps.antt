@@ -59,7 +59,6 @@ by_history P None holds = tt
 
 -- ---- a refusal before the capture is read
 
--- no capture was read yet
 unread : (held : Held) (path : Option (Bor (List ℕ))) (s : Streams) → s.Read [] 0 → (capture : Result (List ℕ) RunFault) × ReadsCapture held path capture s
 unread held None s read = (Ok [], read)
 unread held (Some path) s read = (text_at held path.now, refl)
@@ -72,7 +71,6 @@ module _ (whole : NamesLeaveWhole) (told : Option History) (asked : Asked) (faul
       let wanted = outputs_asked (held_now h) asked c.0 in
       (c.0, c.1, ends_refused asked.out fault wanted s.Unwritten s.Wrote own (is c.0) unwritten, disk_refused whole asked.out fault wanted h told at_h own)
 
-  -- a host is refused
   pub host_refused : IsOfHost fault → IfSome (run_refusal fault) (λ refused. hosts_asked asked ≡ Err refused)
       → IfSome told (λ h. RunsOver h asked (Err fault) s told)
   host_refused own is = by_history _ told (λ h at_h. over h at_h (of_input IsOfHost (λ e. e) (λ after e. e) fault own)

@@ -56,7 +56,6 @@ same_from one other (s ∷ scenarios) first each =
 -- ---- of a capture
 
 module _ (capture : CaptureView) (scenarios : List (List Proxy)) (seed : ℕ) where
-  -- there is one for each scenario
   pub as_many_for : length (outputs_for capture scenarios seed) ≡ length scenarios
   unfolding outputs_of
   as_many_for = as_many (scenario_output (seen_capture (contents_of capture)) seed) scenarios
@@ -66,7 +65,7 @@ module _ (capture : CaptureView) (scenarios : List (List Proxy)) (seed : ℕ) wh
   unfolding outputs_of
   output_at number within = at_number (scenario_output (seen_capture (contents_of capture)) seed) scenarios number within []
 
--- the first two lines of one of so many reports
+-- the first two lines of one of `count` reports
 pub head_at : (capture : CaptureView) (heads : List (List ℕ)) (count : ℕ) → heads ≡ heads_of capture count → (number : ℕ) → number < count
     → get_or heads number [] ≡ head_of capture number
 head_at capture heads count are number within =
@@ -93,7 +92,6 @@ module _ (capture : CaptureView) (seed : ℕ) (s : ℕ × List Proxy) where
       ap (flat_map (λ (d : Delivery). d.segments)) (contributed seed capture s)
       ∙ sym (flat_map-map (λ (list : List Framed). list) (λ (d : Delivery). d.segments) (map (delivery_of capture.ticks seed s) (connections_of (seen_capture (contents_of capture)))))
 
-  -- of which its capture is made
   capture_is : RowsAreContributed
       → capture_of capture.ticks (flat_map (λ (d : Delivery). d.segments) (recorded_row seed s (recordings_of capture)))
       ≡ (scenario_output (seen_capture (contents_of capture)) seed s).capture
@@ -101,14 +99,12 @@ module _ (capture : CaptureView) (seed : ℕ) (s : ℕ × List Proxy) where
   capture_is contributed =
       ap (capture_of capture.ticks) (row_segments contributed ∙ parts_segments capture.ticks seed s (connections_of (seen_capture (contents_of capture))))
 
--- the report of the scenario of a number
 pub report_is : (capture : CaptureView) (scenarios : List (List Proxy)) (seed : ℕ) → LinesAreContributed → (number : ℕ) → number < length scenarios → (lines : List ℕ)
     → lines ≡ flat_map (λ (line : List ℕ). line) (recorded_lines seed (number, get_or scenarios number []) (recordings_of capture))
     → head_of capture number ++ lines ≡ (get_or (outputs_for capture scenarios seed) number no_output).report
 report_is capture scenarios seed contributed number within lines are =
     report_lines capture seed (number, get_or scenarios number []) contributed lines are ∙ ap (λ (o : Output). o.report) (output_at capture scenarios seed number within)
 
--- no key stands twice in any row
 pub stand_once : (capture : CaptureView) (seed : ℕ) (recordings : List RecordingView) → recordings ≡ recordings_of capture → RowsAreContributed → KeysStandOnce
     → RowsHaveNoKeyTwice seed recordings
 stand_once capture seed recordings are contributed once = λ s.

@@ -34,7 +34,6 @@ use Rattle.toxicap.proofs.SoundConnections.{HasBytes, IsSoundConnection, packets
 
 -- ---- packets of written segments
 
--- a key that is not lower is no earlier
 not_earlier : (a b : ℕ) (later : Bool) → nat_lt a b || later ≡ false → b ≤ a
 not_earlier a b later test = by (nat_lt a b) refl test
   where
@@ -42,7 +41,6 @@ not_earlier a b later test = by (nat_lt a b) refl test
     by true is test = absurd cc
     by false is test = ltb-false a b is
 
--- the packet of a record
 abbrev pub packet_of : Framed → Packet
 packet_of x = record { stamp = x.key.moment; bytes = drop record_header_len x.bytes }
 
@@ -141,7 +139,6 @@ outputs_read never_falls written_is_read sound_headers fit unit packets rest hav
     let all = parts_are sound_headers (ticks_of unit) seed (n, s) (connections (indexed_segments 0 (seen_packets 0 packets))) (connections_are fit packets have) in
     (capture_read never_falls written_is_read unit _ all, outputs_read never_falls written_is_read sound_headers fit unit packets rest have seed (n + 1) scenarios)
 
--- what was read, with its ticks
 with_ticks : (c : Contents) (ticks : ℕ) → c.ticks ≡ ticks → c ≡ record { ticks = ticks; packets = c.packets; rest = c.rest }
 with_ticks c ticks counted = ap (λ (t : ℕ). let d : Contents = record { ticks = t; packets = c.packets; rest = c.rest } in d) counted
 

@@ -29,7 +29,6 @@ use Rattle.toxicap.proofs.TextsTaken.{is_fault}
 
 -- ---- what is printed
 
--- the outputs whose reports these are
 made_of : (wanted : Result (List Output) RunFault) (reports : List ℕ) → reports_in wanted ≡ Ok reports
     → (outputs : List Output) × (wanted ≡ Ok outputs) × (reports ≡ reports_of outputs)
 made_of (Ok outputs) reports is = (outputs, refl, cc)
@@ -81,7 +80,6 @@ module _ (path : Option (Bor (List ℕ))) (Lost : List ℕ → Type 0) (AtEnd Un
       from None input file = of_input (λ f. StopsLoading f (length input.0) old new) (λ own. own) (λ after own. own) cause input.2
       from (Some p) input file = of_input IsOfFile (λ own. own) (λ after own. own) cause file.1
 
-  -- it is no failed write
   pub none_sees : (fault : RunFault) (loaded : Result (List ℕ) RunFault) → SeesAs (Err fault) loaded → IfNone path (LoadsInput (λ text. text) loaded Lost AtEnd old new)
       → IfSome path (λ p. LoadsFile (λ text. text) loaded told p.now Unread) → IsOfInput fault
   none_sees fault (Ok text) sees input file = absurd sees

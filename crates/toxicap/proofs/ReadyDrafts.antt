@@ -29,13 +29,12 @@ takes_first all ready rest number first are is =
     let others : rest ≡ take (length rest) (drop (number + 1) all) = cc in
     record { below = within; is = one; left = others }
 
--- ---- so many outputs in a row, from a number on
+-- ---- outputs in a row, from a number on
 
 module _ (all : List Output) (first count : ℕ) (within : first + count ≤ length all) where
   pub length-some : length (take count (drop first all)) ≡ count
   length-some = length-take-le count (drop first all) (omega (arith, length-drop first all, within))
 
-  -- one of them
   pub one_of : (k : ℕ) (other : Output) → k < count → get_or all (first + k) no_output ≡ get_or (take count (drop first all)) k other
   one_of k other below =
       get_or_default all (first + k) no_output other (omega (arith, within, below))
@@ -72,7 +71,6 @@ one_placed folder place (o ∷ outputs) (suc k) other below =
     let on : place + suc k ≡ place + 1 + k = omega arith in
     ap (λ n. placed_output folder n (get_or outputs k no_output)) on ∙ one_placed folder (place + 1) outputs k other (omega (arith, below))
 
--- there are as many places as outputs
 pub placed_below : (all : List Output) (first count : ℕ) → first + count ≤ length all → (folder : List ℕ) (place k : ℕ)
     → k < length (placed_from folder place (take count (drop first all))) → k < count
 placed_below all first count within folder place k is =
@@ -107,7 +105,7 @@ module _ (differ : DraftPathsDiffer) (folder : List ℕ) (some : 0 < length fold
       AllPairs-cons R capture (report ∷ others) (All-cons (R capture) report others (unlike (2 * place) (2 * place + 1) (omega arith) (omega (arith, within))) after_capture)
       (AllPairs-cons R report others after_report (all_unlike (place + 1) outputs (omega (arith, within))))
 
-  -- drafts of some outputs of so few
+  -- drafts of a few outputs
   pub apart : (all : List Output) (number : ℕ) (drafts : List PlacedOutput) → length all < 2 ^ 32 → drafts ≡ placed_from folder 0 (take (length drafts) (drop number all))
       → AllPairs (λ one other. one ≢ other) (paths_in drafts)
   apart all number drafts few are =

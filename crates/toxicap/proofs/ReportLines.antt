@@ -20,7 +20,6 @@ abbrev pub is_line : Bool → List ℕ → Bool
 is_line whole [] = not whole
 is_line whole (x ∷ xs) = if x == 10 then whole && is_empty xs else is_line whole xs
 
--- a line without its line feed
 abbrev pub line_body : List ℕ → List ℕ
 line_body [] = []
 line_body (x ∷ xs) = if x == 10 then [] else x ∷ line_body xs

@@ -22,7 +22,6 @@ module _ {R C V : Type 0} (f : R → C → V) (rs : List R) (cs : List C) (i : �
   pub row_fits : length cs ≤ length (rows f (drop i rs) cs)
   row_fits = omega (arith, ap length first_and_rest, length-append (map (f (get_or rs i d)) cs) (rows f (drop (i + 1) rs) cs), width)
 
--- the number of a numbered element
 pub own_number : {A : Type 0} (xs : List A) (i : ℕ) (d : ℕ × A) → i < length xs → (get_or (enumerate_from 0 xs) i d).0 ≡ i
 own_number xs i d within = ap (λ p. p.0) (get_or-enumerate_from 0 xs i d within) ∙ (let e : 0 + i ≡ i = omega arith in e)
 
@@ -41,10 +40,8 @@ takes_one {X} xs i x left is =
     let others : left ≡ drop (i + 1) xs = cc in
     record { taken = take_more xs i x within ∙ ap (λ (y : X). take i xs ++ y ∷ []) first; rest = others }
 
--- so is what is mapped from it
 pub mapped_push : {A B : Type 0} (f : A → B) (xs : List A) (i : ℕ) (x : A) → take (i + 1) xs ≡ take i xs ++ x ∷ [] → map f (take i xs) ++ f x ∷ [] ≡ map f (take (i + 1) xs)
 mapped_push f xs i x is = sym (map_push f (take i xs) x) ∙ ap (map f) (sym is)
 
--- one element more of a list that is mapped
 pub mapped_more : {A B : Type 0} (f : A → B) (xs : List A) (i : ℕ) (d : A) → i < length xs → map f (take i xs) ++ f (get_or xs i d) ∷ [] ≡ map f (take (i + 1) xs)
 mapped_more f xs i d within = mapped_push f xs i (get_or xs i d) (take_more xs i d within)

@@ -7,10 +7,10 @@ use Rattle.run_files.specs.declared.outputs.Output.{Output}
 use Rattle.run_files.specs.RunFault.{run_fault_of_storing}
 use Rattle.disks.specs.Histories.{History, NamedFile}
 use Rattle.run_files.specs.Folders.{in_folder, TakesIn}
-use Rattle.run_files.specs.Shelves.{StoredFile}
-use Rattle.run_files.specs.WrittenOutputs.{files_from, StoresAfter}
+use Rattle.run_files.specs.StoredFiles.{StoredFile}
+use Rattle.run_files.specs.WrittenOutputs.{files_from, Stores}
 use Rattle.toxicap.specs.CaptureOutputs.{no_output}
-use Rattle.toxicap.specs.StoredOutputs.{StoresOf, TakenOf}
+use Rattle.toxicap.specs.StoredOutputs.{FilesOf, StoresOf}
 
 pub length-files_from : (n : ℕ) (xs : List Output) → length (files_from n xs) ≡ 2 * length xs
 length-files_from n [] = refl
@@ -52,11 +52,10 @@ module _ (folder : List ℕ) (all : List Output) (number : ℕ) (this : Output) 
       subst (λ n. TakesIn folder had b (take n (files_from 0 all))) two (taken_part 2 (omega arith) one)
 
   -- storing stopped among them
-  pub stops_at : (fault : StoreFault) (old between new : ℕ) → between ≡ old → StoresAfter (2 * number) (files_from number (this ∷ [])) (TakesIn folder a b) between new (Err fault)
-      → StoresOf (Err (run_fault_of_storing fault)) (Ok all) × TakenOf (Err (run_fault_of_storing fault)) (Ok all) (TakesIn folder had b) old new
-  stops_at (store.ShelfFailed after) old between new same stores =
-      let part = taken_part stores.0 (omega (arith, stores.2)) stores.3 in
+  pub stops_at : (fault : StoreFault) → Stores (2 * number) (files_from number (this ∷ [])) (TakesIn folder a b) (Err fault)
+      → StoresOf (Err (run_fault_of_storing fault)) (Ok all) × FilesOf (Err (run_fault_of_storing fault)) (Ok all) (TakesIn folder had b)
+  stops_at (store.ShelfFailed after) stores =
       let inside : 2 * number + stores.0 < length (files_from 0 all) = omega (arith, length-files_from 0 all, stores.2, below) in
-      rw stores.1 (inside, (part, stores.4 ∙ ap (λ n. n + 1) same))
-  stops_at (store.Memory after) old between new same stores =
-      (refl, ((2 * number + stores.0, taken_part stores.0 (omega (arith, stores.2)) stores.3), stores.4 ∙ same))
+      let at : after ≡ 2 * number + stores.0 = stores.1 in
+      rw at (inside, taken_part stores.0 (omega (arith, stores.2)) stores.3)
+  stops_at (store.Memory after) stores = (refl, (2 * number + stores.0, taken_part stores.0 (omega (arith, stores.2)) stores.3))

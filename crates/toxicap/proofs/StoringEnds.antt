@@ -1,5 +1,5 @@
 -- How storing ends, by what a text calls for.
-use Rattle.std.proofs.Common.{◌≡◌, ℕ, ◌+◌, ◌<◌, ◌≤◌, List, [], ◌∷◌, length, Option, Some, None, Result, Ok, Err, IfErr, refl, sym, ap, ◌∙◌, subst, append-nil, arith}
+use Rattle.std.proofs.Common.{◌≡◌, ℕ, ◌<◌, ◌≤◌, List, [], ◌∷◌, length, Option, Some, None, Result, Ok, Err, IfErr, refl, sym, ap, ◌∙◌, subst, append-nil, arith}
 use Rattle.std.specs.Io.KnownBytes.{Consumes}
 use Rattle.lists.specs.Agreement.{Refuses}
 use Rattle.pcap_records.specs.Reading.{capture_limit}
@@ -12,15 +12,14 @@ use Rattle.run_files.specs.declared.error.StoreFault.TheVariants as store
 use Rattle.run_files.specs.declared.outputs.Output.{Output}
 use Rattle.run_files.specs.RunFault.{run_fault_of_storing, run_refusal}
 use Rattle.disks.specs.Histories.{History, NamedFile}
-use Rattle.run_files.specs.Folders.{TakesIn, disk_failures}
-use Rattle.run_files.specs.WrittenOutputs.{PutsAfter, files_from}
+use Rattle.run_files.specs.Folders.{TakesIn, failed_stores}
+use Rattle.run_files.specs.WrittenOutputs.{files_from, stored_before}
 use Rattle.toxicap.specs.Answering.{IsOfText, called_for}
 use Rattle.toxicap.specs.Rehearsal.{answer}
 use Rattle.toxicap.specs.RunEnds.{StoresBy, failed_reads}
-use Rattle.toxicap.specs.StoredOutputs.{StoresOf, StoresUnlessMemory, TakenOf, failed_stores}
+use Rattle.toxicap.specs.StoredOutputs.{FilesOf, StoresOf, StoresUnlessMemory}
 use Rattle.toxicap.proofs.AnswerSteps.{answered, never, of_answer}
 
--- a folder took no file
 pub nothing_taken : (folder : List ℕ) (had : Option History) → TakesIn folder had had []
 nothing_taken folder None = tt
 nothing_taken folder (Some h) = ap (λ (names : List NamedFile). Some (record { first = h.first; names = names })) (sym (append-nil h.names))
@@ -29,44 +28,34 @@ nothing_taken folder (Some h) = ap (λ (names : List NamedFile). Some (record { 
 pub still_none : (folder : List ℕ) (had now : Option History) → now ≡ had → TakesIn folder had now []
 still_none folder had now same = subst (λ h. TakesIn folder had h []) (sym same) (nothing_taken folder had)
 
--- no byte was read
 pub none_consumed : (left : Option (List ℕ)) → Consumes left left []
 none_consumed None = tt
 none_consumed (Some bytes) = refl
 
--- who tells want of memory only where nothing is refused, tells it where it may
+-- out of memory is told where it may be
 pub stores_unless_memory : (result : Result (Unit {0}) RunFault) (wanted : Result (List Output) RunFault) → StoresOf result wanted → StoresUnlessMemory result wanted
 stores_unless_memory (Ok u) wanted is = is
 stores_unless_memory (Err Memory) wanted is = tt
 stores_unless_memory (Err fault) wanted is = is
 
--- where a rehearsal is refused nothing is stored
-pub none_stored : (fault : RunFault) (bytes : List ℕ) (scenarios : List (List Proxy)) (seed : ℕ) (folder : List ℕ) (had : Option History) (failures : ℕ)
+pub none_stored : (fault : RunFault) (bytes : List ℕ) (scenarios : List (List Proxy)) (seed : ℕ) (folder : List ℕ) (had : Option History)
     → Refuses (run_refusal fault) (answer bytes scenarios seed)
-    → StoresOf (Err fault) (answer bytes scenarios seed) × TakenOf (Err fault) (answer bytes scenarios seed) (TakesIn folder had had) failures failures
-none_stored Memory bytes scenarios seed folder had failures is = (is, ((0, nothing_taken folder had), refl))
-none_stored (ShelfFailed after) bytes scenarios seed folder had failures is = absurd (subst (λ wanted. IfErr wanted IsOfText) is (of_answer bytes scenarios seed))
-none_stored fault bytes scenarios seed folder had failures is = (is, (nothing_taken folder had, refl))
+    → StoresOf (Err fault) (answer bytes scenarios seed) × FilesOf (Err fault) (answer bytes scenarios seed) (TakesIn folder had had)
+none_stored Memory bytes scenarios seed folder had is = (is, (0, nothing_taken folder had))
+none_stored (ShelfFailed after) bytes scenarios seed folder had is = absurd (subst (λ wanted. IfErr wanted IsOfText) is (of_answer bytes scenarios seed))
+none_stored fault bytes scenarios seed folder had is = (is, nothing_taken folder had)
 
 -- nor where the folder could not be held for the files of some outputs
 some_files : (outputs : List Output) → 0 < length outputs → 0 < length (files_from 0 outputs)
 some_files [] some = absurd (omega (arith, some))
 some_files (o ∷ outputs) some = omega arith
 
-pub not_held : (folder : List ℕ) (outputs : List Output) (fault : StoreFault) (had now : Option History) (old new : ℕ) → now ≡ had
-    → PutsAfter 0 (Unit {0}) (0 < length outputs) old new (Err fault)
-    → StoresOf (Err (run_fault_of_storing fault)) (Ok outputs) × TakenOf (Err (run_fault_of_storing fault)) (Ok outputs) (TakesIn folder had now) old new
-not_held folder outputs (store.ShelfFailed after) had now old new same puts =
-    rw puts.0 (some_files outputs puts.1, (still_none folder had now same, puts.2))
-not_held folder outputs (store.Memory after) had now old new same puts =
-    (refl, ((0, still_none folder had now same), puts.2))
-
--- what was taken since the folder was held
-pub held_taken : (result : Result (Unit {0}) RunFault) (wanted : Result (List Output) RunFault) (folder held : List ℕ) (had since now : Option History) (old between new : ℕ)
-    → held ≡ folder → since ≡ had → between ≡ old → TakenOf result wanted (TakesIn held since now) between new → TakenOf result wanted (TakesIn folder had now) old new
-held_taken result wanted folder held had since now old between new one same none taken =
-    subst (λ f. TakenOf result wanted (TakesIn f had now) old new) one
-    (subst (λ h. TakenOf result wanted (TakesIn held h now) old new) same (subst (λ n. TakenOf result wanted (TakesIn held since now) n new) none taken))
+pub not_held : (folder : List ℕ) (outputs : List Output) (fault : StoreFault) (had now : Option History) → now ≡ had
+    → (stored_before fault ≡ 0) × (0 < length outputs)
+    → StoresOf (Err (run_fault_of_storing fault)) (Ok outputs) × FilesOf (Err (run_fault_of_storing fault)) (Ok outputs) (TakesIn folder had now)
+not_held folder outputs (store.ShelfFailed after) had now same first =
+    let none : after ≡ 0 = first.0 in rw none (some_files outputs first.1, still_none folder had now same)
+not_held folder outputs (store.Memory after) had now same first = (refl, (0, still_none folder had now same))
 
 module _ (hosts : List KnownHost) (texts : List (List ℕ)) (seed : ℕ) where
   -- how storing ends, by the text that was read
@@ -87,15 +76,7 @@ module _ (hosts : List KnownHost) (texts : List (List ℕ)) (seed : ℕ) where
   none_failed (Err ReadFailed) text is = never hosts texts seed text is (λ own. own)
   none_failed (Err _) text is = refl
 
--- ---- how many calls of the disk have failed
-
--- where a file could not be stored, or there was no memory for its name
-pub stopped_faults : (folder : List ℕ) (fault : StoreFault) (before old new : ℕ) → old ≡ before → new ≡ old + disk_failures folder (Err fault)
-    → new ≡ before + failed_stores folder (Err (run_fault_of_storing fault))
-stopped_faults folder (store.ShelfFailed after) before old new is more = more ∙ ap (λ n. n + disk_failures folder (Err (store.ShelfFailed after))) is
-stopped_faults folder (store.Memory after) before old new is more = more ∙ ap (λ n. n + 0) is
-
--- where a rehearsal is refused
+-- no call of the disk has failed where a rehearsal is refused
 pub refused_faults : (fault : RunFault) (bytes : List ℕ) (scenarios : List (List Proxy)) (seed : ℕ) (folder : List ℕ)
     → Refuses (run_refusal fault) (answer bytes scenarios seed) → failed_stores folder (Err fault) ≡ 0
 refused_faults (ShelfFailed after) bytes scenarios seed folder is = absurd (subst (λ wanted. IfErr wanted IsOfText) is (of_answer bytes scenarios seed))

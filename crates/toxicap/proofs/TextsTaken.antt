@@ -16,7 +16,7 @@ use Rattle.toxicap.specs.Answering.{IsOfText, called_for, capture_bytes_of, scen
 use Rattle.toxicap.specs.PrintedReports.{reports_in}
 use Rattle.toxicap.specs.Rehearsal.{answer}
 
--- who tells want of memory only where nothing is refused, tells it where it may
+-- out of memory is told where it may be
 pub told_refusal : {G B : Type 0} (refusal : Option G) (wanted : Result B G) → Refuses refusal wanted → IfSome refusal (λ refused. wanted ≡ Err refused)
 told_refusal (Some fault) wanted is = is
 told_refusal None wanted is = tt
@@ -61,12 +61,10 @@ not_dumped text is = rw is refl
 
 -- ---- the reports of it
 
--- where they are a fault, so is what is wanted
 pub is_fault : (wanted : Result (List Output) RunFault) (fault : RunFault) → reports_in wanted ≡ Err fault → wanted ≡ Err fault
 is_fault (Ok outputs) fault is = absurd cc
 is_fault (Err other) fault is = let same : other ≡ fault = cc in ap Err same
 
--- and where what is wanted is a fault, so are its reports
 pub of_fault_printed : (fault : RunFault) (wanted : Result (List Output) RunFault)
     → AgreesUnlessMemory run_refusal (λ (outputs : List Output). outputs) (Err fault) wanted
     → AgreesUnlessMemory run_refusal (λ (reports : List ℕ). reports) (Err fault) (reports_in wanted)
@@ -76,7 +74,7 @@ pub of_reports : (wanted : Result (List Output) RunFault) → IfErr wanted IsOfT
 of_reports (Ok outputs) own = tt
 of_reports (Err fault) own = own
 
--- where what is wanted can only be a fault of the texts, so can what is told
+-- what is told is a fault of the texts if what is called for can only be one
 pub of_refused : {A : Type 0} (wanted : Result A RunFault) → IfErr wanted IsOfText → (fault : RunFault) → IfSome (run_refusal fault) (λ refused. wanted ≡ Err refused) → IsOfText fault
 of_refused wanted own Memory is = tt
 of_refused wanted own fault is = subst (λ w. IfErr w IsOfText) is own

@@ -89,7 +89,7 @@ module _ (ticks : ℕ) (sound : HeadersAreSound) (c : WrittenConnection) (vlan :
 abbrev IsWithin : ℕ → Piece → Type 0
 IsWithin limit p = length p.bytes ≤ limit
 
--- the first piece has room for so many bytes, the others have the limit's
+-- the first piece has room for `room` bytes, the others have the limit's
 abbrev AreWithin : ℕ → ℕ → List Piece → Type 0
 AreWithin limit room [] = Unit {0}
 AreWithin limit room (p ∷ ps) = IsWithin room p × AllByRecursion (IsWithin limit) ps
@@ -172,7 +172,6 @@ module _ (ticks : ℕ) (sound : HeadersAreSound) (t : WrittenConnection) (is : I
     (by_server_is 0 1 (refusal_segment t) (record { short = omega arith; seq = omega arith; ack = omega arith; flags = omega arith }), tt),
   )
 
--- a record before the horizon
 pub record IsWritten (ticks : ℕ) (c : WrittenConnection) (x : Framed) : Type 0 where
   pub is : IsRecord ticks c x
   pub in_time : x.key.moment < horizon ticks

@@ -12,7 +12,7 @@ use Rattle.run_files.specs.declared.outputs.Output.{Output}
 use Rattle.run_files.specs.Dumps.{is_dump, dump_reading}
 use Rattle.toxicap.specs.Rehearsal.{answer}
 
--- the bytes of a capture: those of the dump where the text is taken for one, and else the text
+-- the bytes of the capture that a text holds
 abbrev pub capture_bytes_of : List ℕ → Result (List ℕ) RunFault
 capture_bytes_of text = if is_dump text then dump_reading text else Ok text
 
@@ -44,9 +44,8 @@ IsOfText (ShelfFailed after) = ⊥
 IsOfText (BadHost at) = ⊥
 IsOfText _ = Unit {0}
 
--- How an answer comes of what was called for by the text that was read, given what it is to be at the reader's end. A failed
--- read and want of memory come within the limit; that the text is too long is answered as soon as it is; any other answer comes at the
--- reader's end.
+-- How an answer comes of what was called for by the text that was read, where `AtEnd` means that the reader is at its end. A failed read and
+-- out of memory come within the limit; that the text is too long is answered as soon as it is.
 abbrev pub AnswersBy : Result (List Output) RunFault → Result (List Output) RunFault → List ℕ → Type 0 → Type 0
 AnswersBy (Ok outputs) wanted text AtEnd = AtEnd × (wanted ≡ Ok outputs)
 AnswersBy (Err ReadFailed) wanted text AtEnd = length text ≤ capture_limit

@@ -15,13 +15,11 @@ use Rattle.toxicap.specs.declared.sources.Sources.{Sources}
 abbrev pub outputs_for : CaptureView → List (List Proxy) → ℕ → List Output
 outputs_for capture scenarios seed = outputs_of (seen_capture (contents_of capture)) scenarios seed
 
--- what stands past the last output
 abbrev pub no_output : Output
 no_output = record { capture = []; report = [] }
 
 -- ---- of sources
 
--- what the connections contribute to a scenario with its number
 abbrev pub row_from : Sources → ℕ × List Proxy → List Delivery
 row_from own s = recorded_row own.seed s own.recordings.now
 
@@ -32,6 +30,5 @@ output_from own s = record {
   report = get_or own.heads.now s.0 [] ++ flat_map (λ d. d.line) (row_from own s);
 }
 
--- the outputs of all scenarios
 abbrev pub outputs_from : Sources → List Output
 outputs_from own = map (output_from own) (enumerate_from 0 own.scenarios.now)

@@ -10,9 +10,8 @@
 --   7. there are too many scenarios (`answer`, in Rehearsal);
 --   8. the capture's own faults, in the order of `reading` (pcap_records, Reading);
 --   9. a write of the reports, or a file of the folder, fails (`PrintsBy` and `StoresBy`, in RunEnds).
--- Out of memory comes where a growth was refused, anywhere among them, but before the first byte of the reports is written. Nothing is said
--- here of what a named file holds: `NamedFiles` does, and there 3 is the first scenario file that is at fault, and comes before 4 where the
--- capture is a file too.
+-- Out of memory comes when an allocation fails, anywhere among them, but before the first byte of the reports is written. `NamedFiles` says
+-- what named files hold: there 3 is the first scenario file at fault, and comes before 4.
 use Rattle.std.specs.Prelude.{◌≡◌, ℕ, ◌+◌, ◌<◌, ◌⊎◌, List, length, take, Option, Some, None, Result, Ok, Err}
 use Rattle.std.specs.Borrow.{Bor}
 use Rattle.std.specs.Io.KnownBytes.{Appends, Consumes, IsAtEnd}
@@ -29,9 +28,7 @@ use Rattle.toxicap.specs.Answering.{called_for}
 use Rattle.toxicap.specs.Inputs.{RefusesInputs, TakesInputs}
 use Rattle.toxicap.specs.RunEnds.{PrintsBy, StoresBy, Tells, WrittenSoFar, failed_reads, failed_writes, status_of, usage_status}
 
--- What is said of standard input and output over a run: that input was not read, that a text was read of it while so many reads failed,
--- that it is at its end;
--- that output was not written, that bytes were written to it, that so many writes failed.
+-- What is said of standard input and output over a run. `Read` has the text that was read and the number of failed reads.
 pub record Streams : Type 1 where
   pub Unread : Type 0
   pub Read : List ℕ → ℕ → Type 0
@@ -40,7 +37,7 @@ pub record Streams : Type 1 where
   pub Wrote : List ℕ → Type 0
   pub WritesFailed : ℕ → Type 0
 
--- what is said of a reader, by the bytes that it has left, and of a writer, by the bytes that it holds, each as it was and as it is
+-- by the bytes that a reader has left and a writer holds, each as it was and as it is
 abbrev pub streams : {R W : Type 0} → (R → Option (List ℕ)) → CountedView R → CountedView R → (W → Option (List ℕ)) → CountedView W → CountedView W → Streams
 streams remaining r s contents w x = record {
   Unread = s ≡ r;
@@ -51,8 +48,7 @@ streams remaining r s contents w x = record {
   WritesFailed = λ n. x.failed ≡ w.failed + n;
 }
 
--- What is said of standard error: that nothing was written to it, that bytes were, and how many of its writes had failed before and
--- have failed now.
+-- what is said of standard error, with the numbers of its failed writes before and now
 pub record FaultStream : Type 1 where
   pub Untold : Type 0
   pub Told : List ℕ → Type 0
@@ -67,19 +63,17 @@ fault_stream contents w x = record {
   now = x.failed;
 }
 
--- the answers to a text are printed on standard output, or they are stored in a folder and nothing is printed
 abbrev pub AnswersInto : Option (Bor (List ℕ)) → Result (Unit {0}) RunFault → Result (List Output) RunFault → List ℕ → Type 0 → Type 0
     → (List ℕ → Type 0) → Type 0
 AnswersInto None outcome wanted text AtEnd Unwritten Wrote = PrintsBy outcome wanted text AtEnd Unwritten Wrote
 AnswersInto (Some folder) outcome wanted text AtEnd Unwritten Wrote = StoresBy outcome wanted text AtEnd × Unwritten
 
--- the text is read of standard input, or of a file, of which it is not said what it holds, and input is not read
+-- what a file holds is not said
 abbrev pub AnswersFrom : Option (Bor (List ℕ)) → Result (Unit {0}) RunFault → (List ℕ → Type 0 → Type 0) → Streams → Type 0
 AnswersFrom None outcome Answers s = (text : List ℕ) × s.Read text (failed_reads outcome) × Answers text s.AtEnd
 AnswersFrom (Some path) outcome Answers s = (text : List ℕ) × s.Unread × Answers text (Unit {0})
 
--- How a run ends that a command line asks for: what it names is refused, and no stream is used; or it is there, and what the
--- capture's text calls for under it is answered.
+-- What a command line names is refused, and no stream is used; or what the capture's text calls for under it is answered.
 abbrev pub RunsBy : Asked → Result (Unit {0}) RunFault → Streams → Type 0
 RunsBy asked outcome s =
     (RefusesInputs asked outcome × s.Unread × s.Unwritten)
@@ -92,16 +86,15 @@ WritesText (Ok _) text Wrote = Wrote text
 WritesText (Err WriteFailed) text Wrote = (written : ℕ) × (written < length text) × Wrote (take written text)
 WritesText (Err _) text Wrote = ⊥
 
--- The outcome of the program on a command line that has no fault: it runs what was asked for; or it shows a text; or there is no
--- memory to read the command line.
+-- the outcome of the program on a command line that has no fault
 abbrev pub CommandEnds : Result Asked Stop → Result (Unit {0}) RunFault → Streams → Type 0
 CommandEnds (Ok asked) outcome s = RunsBy asked outcome s
 CommandEnds (Err (stop.Shown text)) outcome s = WritesText outcome (string_bytes text) s.Wrote × s.Unread
 CommandEnds (Err (stop.Usage text)) outcome s = ⊥
 CommandEnds (Err stop.Memory) outcome s = (outcome ≡ Err Memory) × s.Unread × s.Unwritten
 
--- How the program ends with a status. With a fault of the command line nothing is read or written but what tells it. Else there is an
--- outcome, which says what was read and written, the status, and what was told.
+-- How the program ends with a status. After a fault of the command line nothing is read, and only the fault is written. Else an outcome
+-- says what was read and written, the status, and what was told.
 abbrev pub ProgramEnds : Result Asked Stop → ℕ → Streams → FaultStream → Type 0
 ProgramEnds (Err (stop.Usage text)) status s t =
     (status ≡ usage_status) × WrittenSoFar (string_bytes text) t.Told t.before t.now × s.Unread × s.Unwritten

@@ -3,11 +3,10 @@ use Rattle.std.specs.Prelude.{◌≡◌, ℕ, ◌+◌, ◌*◌, List, [], ◌∷
 use Rattle.run_files.specs.declared.outputs.Output.{Output}
 use Rattle.run_files.specs.Folders.{draft_path}
 
--- the drafts of an output are at the two places of a folder that belong to one place among outputs: at twice that, and at the next
+-- the drafts of the output at a place: at twice that place of the folder, and at the next
 abbrev pub AreAtPlace : {Draft : Type 0} → (Draft → List ℕ) → List ℕ → ℕ → Draft × Draft → Type 0
 AreAtPlace path_of folder place drafted = (path_of drafted.0 ≡ draft_path folder (2 * place)) × (path_of drafted.1 ≡ draft_path folder (2 * place + 1))
 
--- an output, and the paths of its drafts
 pub record PlacedOutput : Type 0 where
   pub output : Output
   pub capture_path : List ℕ
@@ -20,12 +19,10 @@ placed_output folder place output = record {
   report_path = draft_path folder (2 * place + 1);
 }
 
--- some outputs, each at the next place
 abbrev pub placed_from : List ℕ → ℕ → List Output → List PlacedOutput
 placed_from folder place [] = []
 placed_from folder place (output ∷ outputs) = placed_output folder place output ∷ placed_from folder (place + 1) outputs
 
--- they without their places, and the paths of all their drafts
 abbrev pub outputs_in : List PlacedOutput → List Output
 outputs_in placed = map (λ p. p.output) placed
 

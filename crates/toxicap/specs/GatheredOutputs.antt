@@ -7,14 +7,13 @@ use Rattle.report.specs.ReportText.{report_text}
 use Rattle.conn_workers.specs.declared.deliveries.Delivery.{Delivery}
 use Rattle.run_files.specs.declared.outputs.Output.{Output}
 
--- the segments and the lines of a row of deliveries
 abbrev pub segments_in : List Delivery → List (List Framed)
 segments_in row = map (λ d. d.segments) row
 
 abbrev pub lines_in : List Delivery → List (List ℕ)
 lines_in row = map (λ d. d.line) row
 
--- of the number of the scenario, how many segments belong to no connection, and each connection's segments and line
+-- by the number of the scenario, the number of segments of no connection, and each connection's segments and line
 abbrev pub gathered_output : SeenCapture → ℕ → ℕ → List (List Framed) → List (List ℕ) → Output
 gathered_output c number unopened segments lines = record {
   capture = capture_of c.ticks (all_segments segments);

@@ -2,11 +2,9 @@
 use Rattle.std.specs.Prelude.{ℕ, ◌-◌, ◌==◌, Bool, List, [], length, slice_index, take, if◌then◌else◌}
 use Rattle.std.specs.List.{slice_split}
 
--- whether a byte is a line feed
 abbrev pub is_line_feed : ℕ → Bool
 is_line_feed byte = byte == 10
 
--- a text without the line feed at its end, if it has one there
 abbrev pub without_last_feed : List ℕ → List ℕ
 without_last_feed text =
     if is_line_feed (slice_index text (length text - 1)) then take (length text - 1) text else text

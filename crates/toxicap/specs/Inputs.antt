@@ -7,7 +7,6 @@ use Rattle.command_line.specs.declared.asked.Asked.{Asked}
 use Rattle.run_files.specs.declared.error.RunFault.{RunFault}
 use Rattle.run_files.specs.declared.error.RunFault.TheVariants.{BadHost, CaptureTooLong, Memory, ReadFailed}
 
--- the text of a scenario without proxies
 abbrev pub bare_text : List ℕ
 bare_text = codes "[]"
 
@@ -38,7 +37,7 @@ AddsHost (Err (BadHost place)) at wanted old new = (wanted ≡ None) × (place �
 AddsHost (Err Memory) at wanted old new = Unit {0}
 AddsHost (Err _) at wanted old new = ⊥
 
--- a fault of a host, and one of so many files
+-- a fault of a host, and one of `count` files
 abbrev pub IsOfHost : RunFault → Type 0
 IsOfHost (BadHost at) = Unit {0}
 IsOfHost Memory = Unit {0}
@@ -50,7 +49,6 @@ IsOfFiles files CaptureTooLong = 0 < files
 IsOfFiles files Memory = Unit {0}
 IsOfFiles files _ = ⊥
 
--- the texts of scenario files, or that of a scenario without proxies where there is none
 abbrev pub texts_or_bare : List (List ℕ) → List (List ℕ)
 texts_or_bare [] = bare_text ∷ []
 texts_or_bare (text ∷ texts) = text ∷ texts
@@ -61,7 +59,7 @@ TakesInputs asked hosts texts =
     (hosts_asked asked ≡ Ok hosts)
     × ((files : List (List ℕ)) × (length files ≡ length asked.scenarios.items) × (texts ≡ texts_or_bare files))
 
--- What a command line names was refused before its capture was read: a host, or, once all hosts are there, a scenario file.
+-- What a command line names was refused before its capture was read: a host, or after all hosts a scenario file.
 abbrev pub RefusesInputs : Asked → Result (Unit {0}) RunFault → Type 0
 RefusesInputs asked (Ok _) = ⊥
 RefusesInputs asked (Err (BadHost at)) = hosts_asked asked ≡ Err (BadHost at)

@@ -16,8 +16,8 @@ CallForTheSame held asked s other again t =
     → outputs_asked other again two ≡ outputs_asked held asked one
 
 -- A run ends well over a disk with the history `old`, and leaves `new`. At a moment of that run n files had names; the same words are run
--- over a disk whose paths hold what they held then. If this run calls for the same outputs and ends well, then each path holds what it
--- holds after the one whole run.
+-- over a disk whose paths hold what they held then. If this run calls for the same outputs and ends well, each path holds what it holds after
+-- the one whole run.
 abbrev pub KilledRunsAreMended : {R W : Type 0} → (R → Option (List ℕ)) → (W → Option (List ℕ)) → Type 0
 KilledRunsAreMended remaining contents =
     (words : List (List ℕ)) (asked again : Asked) (old new cut mended : History) (n : ℕ) (path : List ℕ)

@@ -1,4 +1,4 @@
--- What outputs are made of once a capture is recorded: the first two lines of each report, and rows of what its connections contribute.
+-- What outputs are made of: the first two lines of each report, and rows of what connections contribute.
 use Rattle.std.specs.Prelude.{ℕ, List, ◌++◌, length, map}
 use Rattle.std.specs.List.{flat_map, range_with_len}
 use Rattle.pcap_records.specs.CaptureView.{CaptureView, contents_of}
@@ -9,12 +9,10 @@ use Rattle.scenarios.specs.declared.proxies.Proxy.{Proxy}
 use Rattle.conn_workers.specs.CaptureTables.{whole_table}
 use Rattle.conn_workers.specs.Recordings.{RecordingView, recorded_row}
 
--- the first two lines of the report of the scenario of a number
 abbrev pub head_of : CaptureView → ℕ → List ℕ
 head_of capture number =
     counts_text number (seen_capture (contents_of capture)) ++ connections_text (length (whole_table capture).conns) (whole_table capture).unopened
 
--- those of a number of scenarios
 abbrev pub heads_of : CaptureView → ℕ → List (List ℕ)
 heads_of capture count = map (head_of capture) (range_with_len 0 count)
 

@@ -1,11 +1,10 @@
--- The reports of a rehearsal alone, one after another: what is printed where no folder is named.
+-- The reports of a rehearsal, one after another: what is printed if no folder is named.
 use Rattle.std.specs.Prelude.{◌≡◌, ℕ, ◌<◌, List, length, take, Result, Ok, Err}
 use Rattle.run_files.specs.declared.error.RunFault.{RunFault}
 use Rattle.run_files.specs.declared.error.RunFault.TheVariants.{Memory, WriteFailed}
 use Rattle.run_files.specs.declared.outputs.Output.{Output}
 use Rattle.run_files.specs.WrittenOutputs.{reports_of}
 
--- the reports of the outputs that are called for, or the refusal
 abbrev pub reports_in : Result (List Output) RunFault → Result (List ℕ) RunFault
 reports_in (Ok outputs) = Ok (reports_of outputs)
 reports_in (Err fault) = Err fault
@@ -21,7 +20,7 @@ PrintsOf (Err WriteFailed) wanted Unwritten Wrote =
 PrintsOf (Err Memory) wanted Unwritten Wrote = Unwritten
 PrintsOf (Err fault) wanted Unwritten Wrote = (wanted ≡ Err fault) × Unwritten
 
--- the same where a text was loaded, given what each text calls for; or none was, and for that cause nothing is printed
+-- the same of a text that was loaded, or of why none was
 abbrev pub PrintsLoaded : Result (Unit {0}) RunFault → Result (List ℕ) RunFault → (List ℕ → Result (List Output) RunFault) → Type 0 → (List ℕ → Type 0)
     → Type 0
 PrintsLoaded result (Ok text) called Unwritten Wrote = PrintsOf result (called text) Unwritten Wrote

@@ -33,7 +33,6 @@ outputs_of c scenarios seed = map (scenario_output c seed) (enumerate_from 0 sce
 
 -- ---- the answer to a file
 
--- what is seen of a file
 abbrev pub seen_file : Result Reading CaptureFault → Result SeenCapture CaptureFault
 seen_file (Ok r) = Ok (seen_capture r.contents)
 seen_file (Err f) = Err f

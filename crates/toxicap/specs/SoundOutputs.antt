@@ -9,7 +9,6 @@ use Rattle.run_files.specs.declared.outputs.Output.{Output}
 use Rattle.scenarios.specs.declared.proxies.Proxy.{Proxy}
 use Rattle.toxicap.specs.Rehearsal.{answer}
 
--- after an instant, each stamp is the one before it or later
 abbrev pub NeverFall : ℕ → List Packet → Type 0
 NeverFall at [] = Unit {0}
 NeverFall at (p ∷ ps) = (at ≤ p.stamp) × NeverFall p.stamp ps
@@ -21,7 +20,7 @@ IsSoundFrame frame =
     × (sum16 (slice_range (datagram frame) 0 20) ≡ 0)
     × (tcp_sum (segment_fields frame).from.addr (segment_fields frame).to.addr (drop 20 (datagram frame)) ≡ 0)
 
--- a file in so many ticks a second, without a rest, in order of time, of such frames alone
+-- a file in `ticks` a second, without a rest, in order of time, of only such frames
 abbrev pub IsReadWhole : ℕ → List ℕ → Type 0
 IsReadWhole ticks bytes =
     (packets : List Packet)

@@ -24,17 +24,16 @@ pub struct Options {
     pub hosts: Hosts,
     /// What random words are drawn from.
     pub seed: u64,
-    /// How the work is spread: no answer depends on it.
+    /// How the work is spread. No answer depends on it.
     pub plan: Plan,
 }
 
-/// Reads a capture to its end and rehearses it under scenarios that are still texts, each a JSON array of proxies in
-/// Toxiproxy's form. Where the capture's first byte is a hexadecimal digit, its bytes are a dump of it.
+/// Reads a capture to its end and rehearses it under scenarios that are still texts, each a JSON array of proxies in Toxiproxy's form. If
+/// the first byte that is read is a hexadecimal digit, the bytes are a dump of the capture.
 ///
 /// # Errors
-/// In this order: [`RunFault::ReadFailed`] or [`RunFault::CaptureTooLong`] while the capture is read, [`RunFault::BadDump`],
-/// [`RunFault::BadScenario`] for the first scenario that is refused, [`RunFault::TooManyScenarios`], the faults of the capture itself;
-/// [`RunFault::Memory`] at the growth that was refused.
+/// In this order: [`RunFault::ReadFailed`] or [`RunFault::CaptureTooLong`], [`RunFault::BadDump`], [`RunFault::BadScenario`] for the first
+/// scenario that is refused, [`RunFault::TooManyScenarios`], the faults of the capture itself; [`RunFault::Memory`] when an allocation fails.
 pub fn answers<H: Threads + Wait + Sync, R: Read>(
     rt: &H,
     alloc: Global,
@@ -44,12 +43,10 @@ pub fn answers<H: Threads + Wait + Sync, R: Read>(
 ) -> Result<Outputs, RunFault>
     requires { reader.old.failed < 2 ^ 64 - 1 }
 
-    // What is answered follows from the text that was read.
     ensures answer { (text : List ℕ)
         × Consumes (R.remaining reader.old.inner) (R.remaining reader.new.inner) text
         × AnswersBy result (called_for options.now.hosts (map (λ t. t.now) texts.now) options.now.seed text) text (IsAtEnd (R.remaining reader.new.inner)) }
 
-    // A read has failed exactly where the answer says so, and one alone.
     ensures failed { reader.new.failed ≡ reader.old.failed + failed_reads result }
 {
     let text = load(alloc, reader)?;
@@ -68,9 +65,6 @@ pub fn answers<H: Threads + Wait + Sync, R: Read>(
 }
 
 /// The answer to a capture's text and the texts of scenarios, whoever does the work.
-///
-/// # Errors
-/// Those of [`answers`] but [`RunFault::ReadFailed`].
 pub(crate) fn answers_by<C: Crew>(
     crew: &C,
     alloc: Global,

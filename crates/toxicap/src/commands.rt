@@ -22,18 +22,16 @@ use std::rt::Files;
 use std::sync::Wait;
 use std::thread::Threads;
 
-// What is printed where a word is no text.
 const NO_TEXT: &[u8] = b"error: a word of the command line is not text in UTF-8";
 
-/// The whole program on the arguments after its name: it reads what they name, the capture from `input` where they name none, rehearses,
+/// The whole program on the arguments after its name: it reads what they name, the capture from `input` if they name none, rehearses,
 /// prints or stores the outputs, prints a refusal on `faults`, and answers the exit status.
 ///
-/// The status is 0, 1 for a refusal, whose line is written with a line feed, and 2 for a fault of the command line, whose text is
-/// written; nothing is read then. `--help` and `--version` are written on `output`. Refusals come in this order: hosts, scenario
-/// files as bytes, the capture's bytes, its dump, the scenarios, their number, the capture's own faults, and last a write or a file
-/// that fails; want of memory comes where it happens. Where there is no memory for a refusal's line, the line is not written; a
-/// write on `faults` that fails ends it early and leaves the status as it is. It waits for the threads of the rehearsal: its clauses
-/// hold if it returns.
+/// The status is 0, 1 for a refusal, whose line is written with a line feed, or 2 for a fault of the command line, whose text is written;
+/// nothing is read then. `--help` and `--version` are written on `output`. Refusals come in this order: hosts, scenario files as bytes, the
+/// capture's bytes, its dump, the scenarios, their number, the capture's own faults, and last a write or a file that fails. Out of memory
+/// comes when an allocation fails; without memory for its line a refusal has none. A write on `faults` that fails ends the line early and
+/// leaves the status as it is. The call waits for the threads of the rehearsal: its clauses hold if it returns.
 pub fn command<H: Files + Threads + Wait + Sync, S: AsStr, I: Read, O: Write, E: Write>(
     rt: &H,
     alloc: Global,
@@ -53,7 +51,6 @@ where
     ensures quiet { result ≡ 0 → faults.new ≡ faults.old }
     ensures usage { result ≡ 2 → (input.new ≡ input.old) × (output.new ≡ output.old) }
 
-    // The command line is read, and how the program ends follows from what it asks for.
     ensures ends { (line : Result Asked Stop) × ReadsAs (map S.text words.now) line
         × ProgramEnds line result
         (streams I.remaining input.old input.new O.contents output.old output.new) (fault_stream E.contents faults.old faults.new) }
@@ -65,12 +62,12 @@ where
 /// [`command`] over any disk: its scenario files and its capture are loaded from there, and its outputs stored there. Beside the status
 /// stands the outcome that it is the status of, and `Ok` at a fault of the command line.
 ///
-/// Where the disk tells its history, the outcome follows from it: each scenario is the text at its own path, and the capture that at
-/// its path; of several files that are at fault the first counts, in the order of the scenarios, and then the capture. After a run of
-/// status 0 the files of the outputs have got their names in the folder, and no others have; where the folder fails or memory is
-/// wanting, a first part of them has; at any other refusal, and without `--out`, the disk is as it was. Of the disk's calls that hold a
-/// folder, allow a name or give one, one has failed exactly where a file could not be stored in a folder that has a path. Whenever the run
-/// is cut off, each path holds what it held before it, or the whole file that it was to get.
+/// If the disk tells its history, the outcome follows from it: each scenario is the text at its own path, and the capture that at its path;
+/// of several files at fault the first counts, in the order of the scenarios, and then the capture. After a run of status 0 the files of the
+/// outputs have got their names in the folder, and no others have; if the folder fails or out of memory, a first part of them has; at any
+/// other refusal, and without `--out`, the disk is as it was. Of the disk's calls that hold a folder, allow a name or give one, one has failed
+/// exactly if a file could not be stored in a folder that has a path. Whenever the run is cut off, each path holds what it held before it, or
+/// the whole file that it was to get.
 pub fn command_over<
     H: Threads + Wait + Sync,
     D: ReadDisk + Sync,
@@ -123,8 +120,8 @@ where
     }
 }
 
-/// What the program answers where its command line cannot be had, for this error: 1 for want of memory, which is printed as any
-/// refusal is, and else 2, with a line that says that a word is no text.
+/// What the program answers if its command line cannot be had, for this error: 1 for out of memory, which is printed as any refusal is, and
+/// else 2, with a line that says that a word is no text.
 pub fn refuse_words<E: Write>(alloc: Global, error: &Error, faults: &mut Counted<E>) -> u8
     requires { faults.old.failed < 2 ^ 64 - 1 }
     ensures memory { error_kind error.now ≡ ErrorKind.OutOfMemory → (result ≡ 1) × Tells (Err RunFault.Memory) (faults.new ≡ faults.old)
@@ -139,7 +136,6 @@ pub fn refuse_words<E: Write>(alloc: Global, error: &Error, faults: &mut Counted
     2
 }
 
-// The exit status of an outcome: 0, or 1 for a refusal, whose line is written first, with a line feed.
 fn report_outcome<W: Write>(
     alloc: Global,
     outcome: Result<(), RunFault>,
@@ -159,7 +155,6 @@ fn report_outcome<W: Write>(
     1
 }
 
-// Writes a text, as far as the writes go.
 fn write_text<W: Write>(writer: &mut Counted<W>, text: &[u8])
     requires { writer.old.failed < 2 ^ 64 - 1 }
     ensures { WrittenSoFar text.now (Appends (W.contents writer.old.inner) (W.contents writer.new.inner))
@@ -168,7 +163,6 @@ fn write_text<W: Write>(writer: &mut Counted<W>, text: &[u8])
     let _ = write_bytes(writer, text);
 }
 
-// Writes a line and its line feed, as far as the writes go.
 fn write_line<W: Write>(writer: &mut Counted<W>, line: &[u8])
     requires { writer.old.failed < 2 ^ 64 - 1 }
     ensures { WrittenSoFar (text_with_line_feed line.now) (Appends (W.contents writer.old.inner) (W.contents writer.new.inner))

@@ -21,21 +21,13 @@ pub(crate) trait Crew {
     ghost use Rattle.conn_workers.specs.ReportTexts.{HoldLines};
     ghost use Rattle.toxicap.specs.Rehearsal.{scenario_limit};
 
-    /// What starts its threads, if it starts any, may be shared among them.
+    // What starts its threads may be shared among them.
     ghost shares: { Self → Type 0 };
 
-    /// The connection table of all records of a capture.
-    ///
-    /// # Errors
-    /// A growth was refused.
     fn table(&self, alloc: Global, capture: &Capture<'_>) -> Result<Table, AllocError>
         requires { shares self.now }
         ensures { IfOk result (λ t. t ≡ whole_table capture.now) };
 
-    /// What is recorded of each connection of a capture.
-    ///
-    /// # Errors
-    /// A growth was refused.
     fn record<'w, 'a>(
         &self,
         alloc: Global,
@@ -46,10 +38,7 @@ pub(crate) trait Crew {
         requires table { table.now ≡ whole_table capture.now }
         ensures { IfOk result (λ v. v ≡ recordings_of capture.now) };
 
-    /// The lines of the connections in the reports of all scenarios, in some shares one after another.
-    ///
-    /// # Errors
-    /// A growth was refused.
+    /// The lines of the connections in the reports of all scenarios, in shares one after another.
     fn report_texts(
         &self,
         alloc: Global,
@@ -63,10 +52,7 @@ pub(crate) trait Crew {
         requires few { length scenarios.now ≤ scenario_limit }
         ensures { IfOk result (HoldLines seed 0 scenarios.now (recordings_of capture.now)) };
 
-    /// What the connections contribute to a scenario with its number, in some shares one after another.
-    ///
-    /// # Errors
-    /// A growth was refused.
+    /// What the connections contribute to a scenario with its number, in shares one after another.
     fn deliver_row<'w, 'a>(
         &self,
         alloc: Global,
@@ -82,7 +68,7 @@ pub(crate) trait Crew {
             ≡ flat_map (λ d. d.line) (recorded_row seed (number, scenario.now) recordings.now)) };
 }
 
-/// One thread alone: that of the call.
+/// The thread of the call only.
 #[derive(Clone, Copy, Debug)]
 pub(crate) struct Alone;
 
@@ -128,9 +114,7 @@ impl Crew for Alone {
 /// The workers of a plan.
 #[derive(Drop)]
 pub(crate) struct Workers<'r, R: Threads + Sync> {
-    /// What starts their threads.
     pub(crate) rt: &'r R,
-    /// How many they are, and how many records a range has.
     pub(crate) plan: Plan,
 }
 

@@ -1,4 +1,4 @@
-//! Drafts of outputs, made by workers in rounds: in each those of a few scenarios, of which a worker makes one after another.
+//! Drafts of outputs, made by workers in rounds, each of a few scenarios.
 ghost use Rattle.std.specs.Prelude.{◌≡◌, ◌≢◌, ◌+◌, ◌<◌, ◌≤◌, IfOk, drop, get_or, length, take};
 ghost use Rattle.std.specs.List.{AllPairs};
 ghost use Rattle.run_files.specs.DraftedOutputs.{IsDraftOf};
@@ -15,7 +15,7 @@ use std::alloc::AllocError;
 use std::marker::Model;
 use std::thread::Threads;
 
-// How many scenarios a round has for each worker, where as many are left.
+// The scenarios of a round for each worker, if as many are left.
 const SCENARIOS_EACH: usize = 2;
 
 /// The output of one scenario, as drafts. Contracts see the output, and the paths of its drafts.
@@ -48,7 +48,6 @@ impl<'s, 'w, 'v, 'a, D: Disk> OutputDraft<'s, 'w, 'v, 'a, D> {
     ghost use Rattle.std.specs.Prelude.{◌≡◌};
     ghost use Rattle.run_files.specs.DraftedOutputs.{IsDraftOf};
 
-    /// The drafts of its capture and its report.
     pub(crate) fn into_drafts(self) -> DraftedOutput<D::Draft>
         ensures drafts { IsDraftOf D.holds self.entry.output result }
         ensures capture_path { D.path_of result.0 ≡ self.entry.capture_path }
@@ -76,7 +75,7 @@ impl<'j, 'f, 's, 'w, 'v, 'a, D: Disk + Sync> Work for DraftJobs<'j, 'f, 's, 'w, 
     ghost use Rattle.toxicap.specs.CaptureOutputs.{outputs_from};
     ghost use Rattle.toxicap.specs.DraftPlaces.{placed_from};
 
-    ghost values = { λ w. placed_from w.folder.now.folder 0 (take w.count (drop w.first
+    ghost values = { λ w. placed_from w.folder.now 0 (take w.count (drop w.first
         (outputs_from w.sources.now))) };
 
     fn value(&self, job: u64) -> Result<OutputDraft<'s, 'w, 'v, 'a, D>, AllocError> {
@@ -93,12 +92,8 @@ impl<'j, 'f, 's, 'w, 'v, 'a, D: Disk + Sync> Work for DraftJobs<'j, 'f, 's, 'w, 
     }
 }
 
-/// Drafts of the outputs of some scenarios from a number on, one at least: each is made by one of the workers; or, where one scenario is
-/// left, its connections are spread over the workers. One worker alone makes those of one scenario. In a folder that has a path no two of
-/// the drafts have the same one.
-///
-/// # Errors
-/// A growth was refused.
+/// Drafts of the outputs of some scenarios from a number on, one at least. Each is made by one of the workers; if one scenario is left, its
+/// connections are spread over the workers. A single worker makes those of one scenario.
 pub(crate) fn drafts_from<'s, 'w, 'v, 'a, R: Threads + Sync, D: Disk + Sync>(
     crew: &Workers<'_, R>,
     sources: &'s Sources<'w, 'v, 'a>,
@@ -110,9 +105,9 @@ where
     D::Draft: Send,
     requires { number < length sources.now.scenarios.now }
     ensures some { IfOk result (λ v. 0 < length v.items) }
-    ensures next { IfOk result (λ v. v.items ≡ placed_from folder.now.folder 0 (take (length v.items) (drop number
+    ensures next { IfOk result (λ v. v.items ≡ placed_from folder.now 0 (take (length v.items) (drop number
         (outputs_from sources.now)))) }
-    ensures apart { IfOk result (λ v. 0 < length folder.now.folder → AllPairs (λ one other. one ≢ other) (paths_in v.items)) }
+    ensures apart { IfOk result (λ v. 0 < length folder.now → AllPairs (λ one other. one ≢ other) (paths_in v.items)) }
 {
     draft_paths_differ();
     let left = sources.scenarios.len() - number;
@@ -140,7 +135,6 @@ where
     Ok(drafts.into_vec())
 }
 
-// Drafts of the output of one scenario, by all workers.
 fn draft_by_workers<'s, 'w, 'v, 'a, R: Threads + Sync, D: Disk>(
     crew: &Workers<'_, R>,
     sources: &'s Sources<'w, 'v, 'a>,
@@ -150,7 +144,7 @@ fn draft_by_workers<'s, 'w, 'v, 'a, R: Threads + Sync, D: Disk>(
 ) -> Result<Vec<OutputDraft<'s, 'w, 'v, 'a, D>>, AllocError>
     requires { number < length sources.now.scenarios.now }
     ensures some { IfOk result (λ v. 0 < length v.items) }
-    ensures next { IfOk result (λ v. v.items ≡ placed_from folder.now.folder 0 (take (length v.items) (drop number
+    ensures next { IfOk result (λ v. v.items ≡ placed_from folder.now 0 (take (length v.items) (drop number
         (outputs_from sources.now)))) }
 {
     let drafted = drafted_by(crew, sources, number, folder, disk)?;
@@ -163,7 +157,6 @@ fn draft_by_workers<'s, 'w, 'v, 'a, R: Threads + Sync, D: Disk>(
     Ok(drafts)
 }
 
-// The same, in the first place: by one worker alone, or else its connections are spread over the workers.
 fn drafted_by<R: Threads + Sync, D: Disk>(
     crew: &Workers<'_, R>,
     sources: &Sources<'_, '_, '_>,
@@ -173,7 +166,7 @@ fn drafted_by<R: Threads + Sync, D: Disk>(
 ) -> Result<DraftedOutput<D::Draft>, AllocError>
     requires { number < length sources.now.scenarios.now }
     ensures drafts { IfOk result (IsDraftOf D.holds (get_or (outputs_from sources.now) number no_output)) }
-    ensures places { IfOk result (AreAtPlace D.path_of folder.now.folder 0) }
+    ensures places { IfOk result (AreAtPlace D.path_of folder.now 0) }
 {
     if crew.plan.workers() == 1 {
         return sources.drafted(&Alone, number, folder, disk, 0);

@@ -1,4 +1,4 @@
-//! What a scenario answers, gathered of what each connection contributes to it.
+//! What a scenario answers, of what each connection contributes to it.
 ghost use Rattle.std.specs.Prelude.{◌≡◌, ◌≤◌, ◌+◌, All, IfOk, OnOk, drop, length, take};
 ghost use Rattle.std.specs.Vec.Iter.{into_iter_items, into_iter_len};
 ghost use Rattle.pcap_records.specs.CaptureView.{contents_of};
@@ -19,7 +19,6 @@ use std::alloc::{AllocError, Global};
 use std::vec::IntoIter;
 use time_merge::merge;
 
-// What the scenario of a number answers, of its row.
 #[tactic(auto, unfolding(time_merge::specs::MergedCapture::capture_of))]
 pub(crate) fn gathered_output(
     alloc: Global,
@@ -47,16 +46,11 @@ pub(crate) fn gathered_output(
 // What each connection contributes to one scenario, in order of number.
 #[derive(Drop)]
 pub(crate) struct DeliveryRow {
-    // The written segments of each connection.
     pub(crate) segments: Vec<SegList>,
-    // The line of each connection.
     pub(crate) lines: Vec<ReportText>,
 }
 
-// Takes the next row, of so many deliveries.
-//
-// # Errors
-// A growth was refused.
+// Takes the next row, of `count` deliveries.
 pub(crate) fn take_row(
     alloc: Global,
     deliveries: &mut IntoIter<Delivery>,

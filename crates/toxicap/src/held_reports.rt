@@ -1,4 +1,4 @@
-//! The reports of all scenarios, held in the texts that they are made in, which are printed one after another without being put together.
+//! The reports of all scenarios, held in the texts that they are made in and printed from there.
 ghost use Rattle.std.specs.Prelude.{◌≡◌, ◌≤◌, ◌++◌, ◌<◌, All, IfOk, OnOk, length};
 ghost use Rattle.conn_workers.specs.ReportTexts.{text_of};
 ghost use Rattle.run_files.specs.Streams.{joined};
@@ -10,7 +10,7 @@ use report::ReportText;
 use std::alloc::{AllocError, Global};
 use std::marker::Model;
 
-/// The reports of all scenarios, held in the texts that they are made in. Contracts see them one after another.
+/// The reports of all scenarios. Contracts see them one after another.
 #[derive(Drop)]
 pub(crate) struct HeldReports {
     // The first two lines of each.
@@ -35,7 +35,6 @@ impl HeldReports {
     ghost use Rattle.run_files.specs.Streams.{joined};
     ghost use Rattle.toxicap.specs.HeldReports.{reports_held};
 
-    /// Those of these texts.
     pub(crate) fn of(heads: Vec<ReportText>, shares: Values<ShareTexts>) -> HeldReports
         requires { All (λ share. length share ≡ length heads.items) shares }
         ensures { result ≡ reports_held heads.items shares }
@@ -43,20 +42,12 @@ impl HeldReports {
         HeldReports { heads, shares }
     }
 
-    /// The texts, one after another.
-    ///
-    /// # Errors
-    /// A growth was refused.
     pub(crate) fn texts<'t>(&'t self, alloc: Global) -> Result<Vec<&'t [u8]>, AllocError>
         ensures { IfOk result (λ texts. joined texts.items ≡ self.now) }
     {
         texts_in_turn(alloc, &self.heads, self.shares.as_slice())
     }
 
-    /// The reports as one text.
-    ///
-    /// # Errors
-    /// A growth was refused.
     pub(crate) fn text(&self, alloc: Global) -> Result<ReportText, AllocError>
         ensures { IfOk result (λ text. text ≡ self.now) }
     {
@@ -66,10 +57,7 @@ impl HeldReports {
     }
 }
 
-// The texts of reports, one after another: the first two lines of each, and after them the scenario's text of each share.
-//
-// # Errors
-// A growth was refused.
+// The first two lines of each report, and after them the scenario's text of each share.
 fn texts_in_turn<'t>(
     alloc: Global,
     heads: &'t [ReportText],
@@ -87,10 +75,6 @@ fn texts_in_turn<'t>(
     Ok(texts)
 }
 
-// Appends the texts of the scenario at a place, share after share.
-//
-// # Errors
-// A growth was refused.
 fn put_texts<'t>(
     texts: &mut Vec<&'t [u8]>,
     shares: &'t [ShareTexts],
@@ -105,10 +89,6 @@ fn put_texts<'t>(
     Ok(())
 }
 
-// Texts, put together.
-//
-// # Errors
-// A growth was refused.
 fn put_together(alloc: Global, texts: &[&[u8]]) -> Result<Vec<u8>, AllocError>
     ensures { IfOk result (λ whole. whole.items ≡ joined texts.now) }
 {
@@ -119,7 +99,7 @@ fn put_together(alloc: Global, texts: &[&[u8]]) -> Result<Vec<u8>, AllocError>
     Ok(whole)
 }
 
-// How many bytes texts have together, or the greatest number where they are more.
+// The number of bytes of texts together, or the greatest number if they are more.
 fn texts_len(texts: &[&[u8]]) -> usize {
     let mut len = 0usize;
     for text in texts {

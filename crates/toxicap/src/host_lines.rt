@@ -12,9 +12,6 @@ use scenarios::{HostFault, Hosts};
 use std::alloc::{AllocError, Global};
 
 /// The hosts of a command line, each `NAME=ADDR`, cut at its first `=`.
-///
-/// # Errors
-/// [`RunFault::BadHost`] for the first that has no `=` or is refused by the list; [`RunFault::Memory`].
 #[tactic(auto, unfolding(crate::specs::Inputs::hosts_from))]
 pub(crate) fn read_hosts(alloc: Global, written: &[&str]) -> Result<Hosts, RunFault>
     ensures exact { AgreesUnlessMemory run_refusal (λ hosts. hosts) result (hosts_from [] (map (λ host. host.now) written.now)) }
@@ -46,7 +43,6 @@ pub fn read_host_lines(alloc: Global, text: &[u8]) -> Result<Hosts, RunFault>
     Ok(hosts)
 }
 
-// The lines of a text that lists hosts.
 fn lines_of<'a>(alloc: Global, text: &'a [u8]) -> Result<Vec<&'a [u8]>, AllocError>
     ensures { IfOk result (λ lines. map (λ line. line.now) lines.items ≡ host_lines text.now) }
 {
@@ -56,7 +52,6 @@ fn lines_of<'a>(alloc: Global, text: &'a [u8]) -> Result<Vec<&'a [u8]>, AllocErr
     lines_within(alloc, without_last_feed(text))
 }
 
-// A text without the line feed at its end, if it has one there.
 fn without_last_feed(text: &[u8]) -> &[u8]
     requires { 0 < length text.now }
     ensures { result.now ≡ without_last_feed text.now }
@@ -75,14 +70,12 @@ fn is_line_feed(byte: u8) -> bool
     byte == b'\n'
 }
 
-// The parts of a text, cut at its line feeds.
 fn lines_within<'a>(alloc: Global, text: &'a [u8]) -> Result<Vec<&'a [u8]>, AllocError>
     ensures { IfOk result (λ lines. map (λ line. line.now) lines.items ≡ slice_split is_line_feed text.now) }
 {
     text.split(|byte| is_line_feed(*byte)).collect(alloc)
 }
 
-// Adds a host as a line writes it.
 fn add_line(hosts: &mut Hosts, at: usize, line: &[u8]) -> Result<(), RunFault>
     ensures { AddsHost result at (host_written hosts.old line.now) hosts.old hosts.new }
 {
@@ -93,7 +86,6 @@ fn add_line(hosts: &mut Hosts, at: usize, line: &[u8]) -> Result<(), RunFault>
     }
 }
 
-// Adds a host as it is written.
 fn add_host(hosts: &mut Hosts, at: usize, written: &str) -> Result<(), RunFault>
     ensures { AddsHost result at (host_written hosts.old written.now) hosts.old hosts.new }
 {
@@ -107,7 +99,6 @@ fn add_host(hosts: &mut Hosts, at: usize, written: &str) -> Result<(), RunFault>
     }
 }
 
-// What stands before the first `=` of a text, and after it.
 fn cut_at_equals(text: &str) -> Option<(&str, &str)>
     ensures { option_map (λ parts. (parts.0.now, parts.1.now)) result ≡ cut_at_first equals_sign text.now }
 {

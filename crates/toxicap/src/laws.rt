@@ -1,5 +1,4 @@
-//! Theorems about the definitions of this crate. Each function does nothing, or names the theorems that it stands on: its
-//! contract is the theorem.
+//! Theorems about the definitions of this crate: the contracts of functions that do nothing, or name the theorems that they stand on.
 ghost use Rattle.toxicap.specs.SoundOutputs.{OutputsAreRead};
 ghost use Rattle.toxicap.specs.IsolatedOutputs.{OutputsAreIsolated};
 ghost use Rattle.toxicap.specs.KilledRuns.{KilledRunsAreMended};
@@ -34,21 +33,20 @@ pub fn outputs_are_read()
     sorted_never_falls();
 }
 
-/// Named files are loaded in order, each at its own path; where some cannot be loaded, the fault of the first of them counts.
+/// Named files are loaded in order, each at its own path; if some cannot be loaded, the fault of the first of them counts.
 pub fn files_are_loaded_in_order()
     ensures { FilesAreLoadedInOrder }
 {}
 
-/// A run that is killed at any moment, and then run again to its end with the same outputs called for, leaves each path with what it would
-/// hold if the run had not been killed.
+/// A run that is killed at any moment, and then run again to its end, leaves each path with what it would hold if it had not been killed.
 pub fn killed_runs_are_mended<I: Read, O: Write>()
     ensures { KilledRunsAreMended I.remaining O.contents }
 {
     named_again();
 }
 
-/// Two captures that differ in bytes of the payloads of TCP segments alone, with the same lengths, headers and stamps, have the same reports,
-/// whatever the scenarios and the seed, or the same refusal. So who puts as many other bytes in place of a secret changes no report.
+/// Two captures that differ only in bytes of the payloads of TCP segments have the same reports, whatever the scenarios and the seed, or the
+/// same refusal. So as many other bytes in place of a secret change no report.
 pub fn reports_see_lengths()
     ensures { ReportsSeeLengths }
 {

@@ -1,4 +1,4 @@
-//! Rehearsals by one thread alone, that of the call: they start no thread, wait for nobody and take no runtime.
+//! Rehearsals by the thread of the call only. They take no runtime.
 ghost use Rattle.std.specs.Prelude.{map};
 ghost use Rattle.lists.specs.Agreement.{Agrees, AgreesUnlessMemory};
 ghost use Rattle.run_files.specs.RunFault.{run_refusal};
@@ -16,10 +16,7 @@ use run_files::{Outputs, RunFault, Text};
 use scenarios::{Hosts, Scenario};
 use std::alloc::Global;
 
-/// Rehearses a capture under each of the scenarios, as [`rehearse`](crate::rehearse) does, by this thread alone.
-///
-/// # Errors
-/// Those of `rehearse`.
+/// Rehearses a capture under each of the scenarios, as [`rehearse`](crate::rehearse) does, and with its errors.
 pub fn rehearse_alone(
     alloc: Global,
     capture: &[u8],
@@ -31,11 +28,7 @@ pub fn rehearse_alone(
     rehearse_by(&Alone, alloc, FileBytes::Whole(capture), scenarios, seed)
 }
 
-/// The reports of a rehearsal of a capture under each of the scenarios, one after another: those of the outputs that
-/// [`rehearse_alone`] gives. No segment is written.
-///
-/// # Errors
-/// Those of `rehearse`.
+/// The reports of the outputs that [`rehearse_alone`] gives, one after another, with its errors. No segment is written.
 pub fn reports_alone(
     alloc: Global,
     capture: &[u8],
@@ -49,12 +42,7 @@ pub fn reports_alone(
     Ok(text)
 }
 
-/// Rehearses the capture that a text holds under scenarios that are still texts, each a JSON array of proxies in Toxiproxy's form. Where
-/// the text's first byte is a hexadecimal digit, it is a dump of the capture; any other text is not copied.
-///
-/// # Errors
-/// In this order: [`RunFault::CaptureTooLong`], [`RunFault::BadDump`], [`RunFault::BadScenario`] for the first scenario that is refused,
-/// [`RunFault::TooManyScenarios`], the faults of the capture itself; [`RunFault::Memory`] at the growth that was refused.
+/// Rehearses the capture that a text holds, as [`answers`](crate::answers) does, and with its errors. A text that is no dump is not copied.
 pub fn answers_alone(
     alloc: Global,
     text: &[u8],
@@ -67,10 +55,7 @@ pub fn answers_alone(
     answers_by(&Alone, alloc, Text::lent(text), texts, hosts, seed)
 }
 
-/// The reports that [`answers_alone`] gives, one after another. No segment is written.
-///
-/// # Errors
-/// Those of [`answers_alone`].
+/// The reports that [`answers_alone`] gives, one after another, with its errors. No segment is written.
 pub fn report_answers_alone(
     alloc: Global,
     text: &[u8],

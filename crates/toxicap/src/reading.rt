@@ -1,4 +1,4 @@
-//! What a rehearsal takes: the bytes of a capture and scenarios, read of their texts, and the capture that the bytes are.
+//! What a rehearsal takes, read of texts.
 ghost use Rattle.std.specs.Prelude.{◌≡◌, ℕ, ◌≤◌, [], IfErr, IfOk, Err, Ok, List, length, map};
 ghost use Rattle.lists.specs.Agreement.{AgreesUnlessMemory, Refuses};
 ghost use Rattle.pcap_records.specs.CaptureView.{bytes_of};
@@ -17,21 +17,17 @@ use std::alloc::{AllocError, Global};
 /// The most scenarios of a rehearsal.
 pub(crate) const SCENARIO_LIMIT: usize = 256;
 
-/// What some texts hold: the bytes of a capture, and scenarios.
 #[derive(Drop)]
 pub(crate) struct Inputs<'t> {
-    /// The capture's bytes, as a text that is no dump.
+    // A text that is no dump.
     pub(crate) capture: Text<'t>,
-    /// The scenarios.
     pub(crate) scenarios: Vec<Scenario>,
 }
 
-/// Reads the text of a capture, which may be a dump of it, and the texts of scenarios. What they call for is then the answer to the
-/// capture's bytes under these scenarios.
+/// Reads the text of a capture, which may be a dump of it, and the texts of scenarios.
 ///
 /// # Errors
-/// What they call for, whatever the seed: `CaptureTooLong`, `BadDump`, or `BadScenario` for the first text that is refused; or
-/// `Memory`, where a growth was refused.
+/// What they call for, whatever the seed: `CaptureTooLong`, `BadDump`, or `BadScenario` for the first text that is refused; or `Memory`.
 #[tactic(auto, unfolding(crate::specs::Answering::called_for))]
 pub(crate) fn read_inputs<'t>(
     alloc: Global,
@@ -52,10 +48,6 @@ pub(crate) fn read_inputs<'t>(
     Ok(Inputs { capture, scenarios })
 }
 
-/// The scenarios of some texts.
-///
-/// # Errors
-/// The first refusal, with the number of its text; or a growth was refused.
 #[tactic(auto, unfolding(crate::specs::Answering::scenarios_from))]
 pub(crate) fn read_texts(
     alloc: Global,
@@ -72,7 +64,6 @@ pub(crate) fn read_texts(
     Ok(scenarios)
 }
 
-// The scenario of a text with its number.
 fn read_text(alloc: Global, number: usize, text: &[u8], hosts: &Hosts) -> Result<Scenario, RunFault>
     ensures { AgreesUnlessMemory run_refusal (λ s. s) result (numbered number (scenario hosts.now text.now)) }
 {
@@ -83,11 +74,10 @@ fn read_text(alloc: Global, number: usize, text: &[u8], hosts: &Hosts) -> Result
     }
 }
 
-/// Reads the capture that is to be rehearsed under these scenarios. Its answer is then an output for each of them.
+/// Reads the capture that is to be rehearsed under these scenarios.
 ///
 /// # Errors
-/// The answer, whatever the seed: `TooManyScenarios` for more than 256, before the capture is looked at; then the capture's own fault;
-/// then `Memory`, where a growth was refused.
+/// The answer, whatever the seed: `TooManyScenarios`, before the capture is looked at; then the capture's own fault; or `Memory`.
 #[tactic(auto, unfolding(crate::specs::Rehearsal::answer))]
 pub(crate) fn read_rehearsed<'a>(
     alloc: Global,

@@ -1,4 +1,4 @@
-//! Rehearsing a capture: its table, what each connection contributes to each scenario, and the outputs, one after another.
+//! Rehearsing a capture.
 ghost use Rattle.lists.specs.Agreement.{Agrees};
 ghost use Rattle.pcap_records.specs.CaptureView.{bytes_of};
 ghost use Rattle.toxicap.specs.CaptureOutputs.{outputs_for};
@@ -23,12 +23,11 @@ use std::alloc::{AllocError, Global};
 use std::sync::Wait;
 use std::thread::Threads;
 
-/// Rehearses a capture under each of the scenarios: for each, in order, a capture of what each side would have received and a
-/// report. The answer is that of the definition, `answer` in `specs/Rehearsal.antt`, whatever the plan and the gate; no scenario gives no output.
+/// Rehearses a capture under each of the scenarios, in order. The answer is that of the definition, `answer` in `specs/Rehearsal.antt`,
+/// whatever the plan and the gate.
 ///
 /// # Errors
-/// `TooManyScenarios` for more than 256, before the capture is looked at; then the capture's own fault; then `Memory`, where a
-/// growth was refused.
+/// `TooManyScenarios` for more than 256, before the capture is looked at; then the capture's own fault; then `Memory`.
 pub fn rehearse<R: Threads + Wait + Sync, G: Gate>(
     rt: &R,
     alloc: Global,
@@ -45,11 +44,8 @@ pub fn rehearse<R: Threads + Wait + Sync, G: Gate>(
     Ok(Values::of(outputs))
 }
 
-// What each scenario answers. Workers make the table of the capture, range by range, and then what each connection contributes to each
-// scenario; then one scenario after another is written, and what was made for it is let go.
-//
-// # Errors
-// A growth was refused.
+// Workers make the table of the capture, and then what each connection contributes to each scenario. Then one scenario after another is
+// written, and what was made for it is dropped.
 fn list_outputs<R: Threads + Sync, G: Gate>(
     rt: &R,
     alloc: Global,
@@ -98,11 +94,8 @@ pub(crate) fn rehearse_by<C: Crew>(
     Ok(outputs)
 }
 
-// What each scenario answers. The crew makes the table of the capture and what is recorded of each connection; then for one scenario after
-// another what each connection contributes to it, which is written and let go. The capture's records are let go before the first.
-//
-// # Errors
-// A growth was refused.
+// The crew makes the table of the capture and what is recorded of each connection, and the capture's records are dropped. Then one scenario
+// after another is made, written and dropped.
 fn outputs_by<C: Crew>(
     crew: &C,
     alloc: Global,

@@ -1,4 +1,4 @@
-//! The first two lines of the reports of scenarios, which the lines of the connections follow.
+//! The first two lines of reports.
 ghost use Rattle.std.specs.Prelude.{◌≡◌, ◌≤◌, IfOk};
 ghost use Rattle.conn_workers.specs.CaptureTables.{whole_table};
 ghost use Rattle.toxicap.specs.OutputParts.{heads_of};
@@ -9,10 +9,6 @@ use pcap_records::Capture;
 use report::{ReportText, report_head};
 use std::alloc::{AllocError, Global};
 
-/// The first two lines of the reports of a number of scenarios.
-///
-/// # Errors
-/// A growth was refused.
 pub(crate) fn report_heads(
     alloc: Global,
     capture: &Capture<'_>,

@@ -23,10 +23,7 @@ use run_files::{RunFault, SeenText, Text};
 use scenarios::{Hosts, Scenario};
 use std::alloc::{AllocError, Global};
 
-/// The reports that a capture's text and the texts of scenarios call for, one after another, of what was seen of the capture's text.
-///
-/// # Errors
-/// What they call for, or `Memory`, where a growth was refused.
+/// The reports that a capture's text and the texts of scenarios call for, of what was seen of the capture's text.
 pub(crate) fn seen_reports<C: Crew>(
     crew: &C,
     alloc: Global,
@@ -50,9 +47,6 @@ pub(crate) fn seen_reports<C: Crew>(
 }
 
 /// The same of the whole text of a capture.
-///
-/// # Errors
-/// What they call for, or `Memory`, where a growth was refused.
 pub(crate) fn text_reports<C: Crew>(
     crew: &C,
     alloc: Global,
@@ -69,10 +63,7 @@ pub(crate) fn text_reports<C: Crew>(
     rehearse_reports(crew, alloc, inputs.capture.bytes(), &inputs.scenarios, seed)
 }
 
-// The reports of a capture of which the heads of its packets were kept, or its first fault: reports see no more of it.
-//
-// # Errors
-// The answer's refusal, or `Memory`, where a growth was refused.
+// The same of the heads of a capture's packets, or its first fault.
 fn head_reports<C: Crew>(
     crew: &C,
     alloc: Global,
@@ -96,11 +87,7 @@ fn head_reports<C: Crew>(
     Ok(reports)
 }
 
-/// The reports of a rehearsal of a capture under each of the scenarios, one after another: those of the outputs that `rehearse` gives,
-/// whoever does the work.
-///
-/// # Errors
-/// Those of `rehearse`.
+/// The reports of the outputs that `rehearse` gives, whoever does the work.
 pub(crate) fn rehearse_reports<C: Crew>(
     crew: &C,
     alloc: Global,
@@ -116,11 +103,7 @@ pub(crate) fn rehearse_reports<C: Crew>(
     Ok(reports)
 }
 
-// The reports of all scenarios, one after another. The crew makes the table of the capture, and then the lines of its connections in all
-// reports at once.
-//
-// # Errors
-// A growth was refused.
+// The crew makes the table of the capture, and then the lines of its connections in all reports at once.
 fn made_reports<C: Crew>(
     crew: &C,
     alloc: Global,

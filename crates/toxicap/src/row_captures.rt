@@ -12,10 +12,10 @@ use segment_writer::SegmentRow;
 use std::alloc::{AllocError, Global};
 use time_merge::{CaptureSink, write_capture};
 
-// From how many bytes on a batch is appended to a draft. They are few enough to stay in a processor's own memory.
+// A batch with this number of bytes, or more, is appended to a draft. It fits into a processor's own memory.
 const BATCH_LEN: usize = 1 << 18;
 
-// A draft that takes a capture, in batches that have enough bytes.
+// A draft that takes a capture, in batches.
 #[derive(Drop)]
 struct DraftSink<D: Disk> {
     draft: D::Draft,
@@ -34,10 +34,7 @@ impl<D: Disk> CaptureSink for DraftSink<D> {
     }
 }
 
-// The segments of all shares, share by share. Their lines are let go.
-//
-// # Errors
-// A growth was refused.
+// The segments of all shares, share by share. Their lines are dropped.
 pub(crate) fn segments_alone<'w, 'a>(
     alloc: Global,
     row: RowShares<'w, 'a>,
@@ -52,10 +49,7 @@ pub(crate) fn segments_alone<'w, 'a>(
     Ok(rows)
 }
 
-// A draft without bytes, once the capture of the segments of all rows is written to it.
-//
-// # Errors
-// A growth was refused.
+// A draft without bytes, after the capture of the segments of all rows is written to it.
 pub(crate) fn written_draft<D: Disk>(
     alloc: Global,
     rows: &[SegmentRow<'_, '_>],

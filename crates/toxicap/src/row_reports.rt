@@ -1,4 +1,4 @@
-//! The reports of scenarios, put together: the first two lines, and after them those of the connections, of some texts one after another.
+//! The reports of scenarios, put together.
 ghost use Rattle.std.specs.Prelude.{◌≡◌, ◌++◌, [], IfOk};
 ghost use Rattle.std.specs.List.{flat_map};
 
@@ -7,10 +7,7 @@ use disks::Disk;
 use report::ReportText;
 use std::alloc::{AllocError, Global};
 
-// The first two lines of a report and the lines of all shares, as one text. Room is made for it once.
-//
-// # Errors
-// A growth was refused.
+// Room is made for all lines at once.
 pub(crate) fn whole_report(
     alloc: Global,
     head: &ReportText,
@@ -28,7 +25,7 @@ pub(crate) fn whole_report(
     Ok(ReportText::of(text))
 }
 
-// How many bytes the lines of all shares have, or the greatest number where they are more.
+// The number of bytes of the lines of all shares, or the greatest number if they are more.
 fn lines_len(shares: &[RowShare<'_, '_>]) -> usize {
     let mut len = 0usize;
     for share in shares {
@@ -37,7 +34,7 @@ fn lines_len(shares: &[RowShare<'_, '_>]) -> usize {
     len
 }
 
-// A draft without bytes, once the first two lines of a report and the lines of all shares are appended to it.
+// A draft without bytes, after a report is appended to it.
 pub(crate) fn reported_draft<D: Disk>(
     draft: D::Draft,
     head: &ReportText,

@@ -1,4 +1,4 @@
-//! A run that a command line asks for: the hosts and files that it names are read, and the answers printed or stored.
+//! A run that a command line asks for.
 ghost use Rattle.std.specs.Prelude.{◌≡◌, ◌+◌, ◌-◌, ◌^◌, ◌<◌, ◌≤◌, ℕ, List, Result, map, IfErr, [], length, IfNone, IfOk, IfSome, Some};
 ghost use Rattle.std.specs.Io.KnownBytes.{Appends, Consumes, IsAtEnd};
 ghost use Rattle.command_line.specs.Asking.{IsPlanInRange};
@@ -9,7 +9,8 @@ ghost use Rattle.disks.specs.Histories.{held_now};
 ghost use Rattle.run_files.specs.SeenTexts.{LoadsInput, SeesAs};
 ghost use Rattle.toxicap.specs.NamedFiles.{LeavesDisk, LoadsFile, RunsOver, failed_calls, texts_from};
 ghost use Rattle.toxicap.specs.PrintedReports.{PrintsLoaded};
-ghost use Rattle.toxicap.specs.StoredOutputs.{StoresUnlessMemory, failed_stores};
+ghost use Rattle.run_files.specs.Folders.{failed_stores};
+ghost use Rattle.toxicap.specs.StoredOutputs.{StoresUnlessMemory};
 ghost use Rattle.toxicap.specs.RunEnds.{failed_writes};
 ghost use Rattle.lists.specs.Agreement.{AgreesUnlessMemory};
 ghost use Rattle.pcap_records.specs.Reading.{capture_limit};
@@ -35,8 +36,8 @@ use std::io::{Read, Write};
 use std::sync::Wait;
 use std::thread::Threads;
 
-/// Does what a command line asks for: its hosts are read first, then its scenario files, then the capture, from `reader` where no
-/// file is named. The answers are stored in its folder, or where it names none the reports are printed on `writer`.
+/// Reads first the hosts of a command line, then its scenario files, then the capture, from `reader` if no file is named. The answers are
+/// stored in its folder; if it names none, the reports are printed on `writer`.
 pub(crate) fn run_asked<H: Threads + Wait + Sync, D: ReadDisk + Sync, R: Read, W: Write>(
     rt: &H,
     disk: &mut D,
@@ -74,7 +75,7 @@ where
     store_answers(rt, disk, alloc, text, folder, read, &texts, &options)
 }
 
-// The reports of the answers to the capture that a command line names. All are made before the first byte is written.
+// All reports are made before the first byte is written.
 fn print_answers<H: Threads + Wait + Sync, D: ReadDisk, R: Read, W: Write>(
     rt: &H,
     disk: &D,
@@ -106,7 +107,6 @@ fn print_answers<H: Threads + Wait + Sync, D: ReadDisk, R: Read, W: Write>(
     write_texts(writer, &texts)
 }
 
-// What reports see of the capture, from the file that a command line names, or without one from a reader.
 fn see_capture<D: ReadDisk, R: Read>(
     alloc: Global,
     disk: &D,
@@ -126,7 +126,6 @@ fn see_capture<D: ReadDisk, R: Read>(
     }
 }
 
-// The answers to a capture's text, stored in a folder as they are made.
 fn store_answers<H: Threads + Wait + Sync, D: Disk + Sync>(
     rt: &H,
     disk: &mut D,
@@ -152,14 +151,14 @@ where
         rt,
         plan: options.plan,
     };
-    let mut folder = Folder::new(alloc, folder, read)?;
+    let folder = Folder::new(folder, read);
     store_rehearsal(
         &crew,
         alloc,
         inputs.capture.bytes(),
         &inputs.scenarios,
         options.seed,
-        &mut folder,
+        &folder,
         disk,
     )
 }
@@ -167,11 +166,7 @@ where
 // A scenario without proxies.
 const BARE: &[u8] = b"[]";
 
-// The texts of the files at some paths, in order, which are added to those that were read.
-//
-// # Errors
-// [`RunFault::ReadFailed`] for the first that cannot be opened or read, [`RunFault::CaptureTooLong`] for one that is longer than
-// a capture may be; [`RunFault::Memory`].
+// The texts of the files at some paths, in order. They are added to those that were read.
 #[tactic(auto, unfolding(crate::specs::NamedFiles::texts_from))]
 fn load_files<D: ReadDisk>(
     alloc: Global,
@@ -192,8 +187,7 @@ fn load_files<D: ReadDisk>(
     Ok(files)
 }
 
-// The text of the capture, from the file that a command line names, or without one from a reader. That file, or the one that standard
-// input is read from, is added to those that were read.
+// The file of the capture, or the one that standard input is read from, is added to those that were read.
 fn load_capture<H: Threads + Sync, D: ReadDisk, R: Read>(
     rt: &H,
     alloc: Global,
@@ -222,7 +216,6 @@ where
     }
 }
 
-// The texts of the scenarios of files; without one, the text of a scenario without proxies.
 fn texts_of<'a>(alloc: Global, files: &'a [Vec<u8>]) -> Result<Vec<&'a [u8]>, AllocError>
     ensures { IfOk result (λ texts. map (λ t. t.now) texts.items ≡ texts_or_bare (map (λ f. f.items) files.now)) }
 {

@@ -17,21 +17,15 @@ use segment_writer::laws::keys_stand_once;
 use std::alloc::{AllocError, Global};
 use time_merge::merged_capture;
 
-/// What is recorded of each connection of a capture, the first two lines of each report, and the scenarios that the capture is rehearsed
-/// under. The capture itself is not among them: its records are let go before the first output is made.
+/// What outputs are made of. The capture's records are not among them: they are dropped before the first output is made.
 #[derive(Drop)]
 pub(crate) struct Sources<'w, 'v, 'a> {
-    /// Where outputs are kept.
     pub(crate) alloc: Global,
-    /// The unit of the capture's instants.
     pub(crate) unit: Unit,
-    /// The first two lines of the report of each scenario.
+    // The first two lines of each report.
     pub(crate) heads: &'w [ReportText],
-    /// What is recorded of each connection.
     pub(crate) recordings: &'w Recordings<'v, 'a>,
-    /// The scenarios.
     pub(crate) scenarios: &'w [Scenario],
-    /// The seed of the random words.
     pub(crate) seed: u64,
     ghost few: { length scenarios.now ≤ scenario_limit },
     ghost each: { length heads.now ≡ length scenarios.now },
@@ -45,7 +39,6 @@ impl<'w, 'v, 'a> Sources<'w, 'v, 'a> {
     ghost use Rattle.toxicap.specs.OutputParts.{heads_of};
     ghost use Rattle.toxicap.specs.Rehearsal.{scenario_limit};
 
-    /// Those of a capture, which is let go: of it no more is kept than its unit.
     pub(crate) fn of(
         alloc: Global,
         capture: Capture<'_>,
@@ -73,7 +66,6 @@ impl<'w, 'v, 'a> Sources<'w, 'v, 'a> {
     }
 }
 
-// Each method that returns an error had a growth refused.
 impl<'w, 'v, 'a> Sources<'w, 'v, 'a> {
     ghost use Rattle.std.specs.Prelude.{◌≡◌, ◌^◌, ◌<◌, ◌≤◌, ◌++◌, [], IfOk, get_or, length};
     ghost use Rattle.std.specs.List.{flat_map};
@@ -84,7 +76,6 @@ impl<'w, 'v, 'a> Sources<'w, 'v, 'a> {
     ghost use Rattle.toxicap.specs.CaptureOutputs.{no_output, outputs_from};
     ghost use Rattle.toxicap.specs.DraftPlaces.{AreAtPlace};
 
-    /// The outputs of all scenarios, made one after another.
     pub(crate) fn outputs<C: Crew>(&self, crew: &C) -> Result<Outputs, AllocError>
         requires { C.shares crew.now }
         ensures { IfOk result (λ outputs. outputs ≡ outputs_from self.now) }
@@ -97,7 +88,6 @@ impl<'w, 'v, 'a> Sources<'w, 'v, 'a> {
         Ok(Values::of(outputs))
     }
 
-    // The output of the scenario of a number.
     fn output<C: Crew>(&self, crew: &C, number: usize) -> Result<Output, AllocError>
         requires crew { C.shares crew.now }
         requires within { number < length self.now.scenarios.now }
@@ -127,7 +117,7 @@ impl<'w, 'v, 'a> Sources<'w, 'v, 'a> {
         requires within { number < length self.now.scenarios.now }
         requires place { place ≤ 2 ^ 32 }
         ensures drafts { IfOk result (IsDraftOf D.holds (get_or (outputs_from self.now) number no_output)) }
-        ensures places { IfOk result (AreAtPlace D.path_of folder.now.folder place) }
+        ensures places { IfOk result (AreAtPlace D.path_of folder.now place) }
     {
         let row = self.row(crew, number)?;
         let draft = folder.draft(self.alloc, disk, 2 * place + 1)?;
@@ -138,7 +128,6 @@ impl<'w, 'v, 'a> Sources<'w, 'v, 'a> {
         Ok((capture, report))
     }
 
-    // What the connections contribute to the output of the scenario of a number.
     fn row<C: Crew>(&self, crew: &C, number: usize) -> Result<RowShares<'w, 'a>, AllocError>
         requires crew { C.shares crew.now }
         requires within { number < length self.now.scenarios.now }

@@ -1,11 +1,12 @@
-//! Outputs that are stored as they are made: drafts of those of a few scenarios are made, stored and let go, and then those of the next.
-ghost use Rattle.std.specs.Prelude.{◌≡◌, ◌+◌, ◌-◌, ◌^◌, ◌<◌, ◌≤◌, Ok, length};
+//! Outputs that are stored as they are made, a few scenarios after another.
+ghost use Rattle.std.specs.Prelude.{◌≡◌, ◌+◌, ◌-◌, ◌^◌, ◌<◌, ◌≤◌, IfErr, Ok, length};
 ghost use Rattle.pcap_records.specs.CaptureView.{bytes_of};
-ghost use Rattle.run_files.specs.Folders.{TakesIn, disk_failures};
-ghost use Rattle.run_files.specs.WrittenOutputs.{PutsAfter};
+ghost use Rattle.run_files.specs.Folders.{TakesIn, failed_stores};
+ghost use Rattle.run_files.specs.RunFault.{outcome_of_storing};
+ghost use Rattle.run_files.specs.WrittenOutputs.{stored_before};
 ghost use Rattle.toxicap.specs.CaptureOutputs.{outputs_for, outputs_from};
 ghost use Rattle.toxicap.specs.Rehearsal.{answer, scenario_limit};
-ghost use Rattle.toxicap.specs.StoredOutputs.{StoresOf, TakenOf, failed_stores};
+ghost use Rattle.toxicap.specs.StoredOutputs.{FilesOf, StoresOf};
 
 use crate::crews::{Crew, Workers};
 use crate::drafting::drafts_from;
@@ -24,44 +25,39 @@ use std::thread::Threads;
 /// there are workers, and there are drafts of at most twice as many.
 ///
 /// # Errors
-/// Those of `rehearse`, and [`RunFault::ShelfFailed`] at the first file that the folder does not take. The files before that one have got
-/// their names then; where memory is wanting a first part of the files has, and at any other refusal none.
+/// Those of `rehearse`, and [`RunFault::ShelfFailed`] at the first file that the folder does not take.
 pub(crate) fn store_rehearsal<R: Threads + Sync, D: Disk + Sync>(
     crew: &Workers<'_, R>,
     alloc: Global,
     capture: FileBytes<'_>,
     scenarios: &[Scenario],
     seed: u64,
-    folder: &mut Folder<'_>,
+    folder: &Folder<'_>,
     disk: &mut D,
 ) -> Result<(), RunFault>
 where
     D::Draft: Send,
-    requires failures { folder.old.failed < 2 ^ 64 - 1 }
-    requires faults { D.faults disk.old < 2 ^ 64 - 1 }
+    requires { D.faults disk.old < 2 ^ 64 - 1 }
     ensures ends { StoresOf result (answer (bytes_of capture.entry) scenarios.now seed) }
-    ensures taken { TakenOf result (answer (bytes_of capture.entry) scenarios.now seed) (TakesIn folder.old.folder (D.history disk.old) (D.history disk.new))
-        folder.old.failed folder.new.failed }
-    ensures faults { D.faults disk.new ≡ D.faults disk.old + failed_stores folder.old.folder result }
+    ensures taken { FilesOf result (answer (bytes_of capture.entry) scenarios.now seed) (TakesIn folder.now (D.history disk.old) (D.history disk.new)) }
+    ensures faults { D.faults disk.new ≡ D.faults disk.old + failed_stores folder.now result }
 {
     let capture = read_rehearsed(alloc, capture, scenarios)?;
     hold_for(alloc, scenarios, folder, disk)?;
     store_outputs(crew, alloc, capture, scenarios, seed, folder, disk)
 }
 
-// Holds the folder for the outputs of some scenarios; where there is none, it is not looked at.
+// Without a scenario the folder is not looked at.
 fn hold_for<D: Disk>(
     alloc: Global,
     scenarios: &[Scenario],
-    folder: &mut Folder<'_>,
+    folder: &Folder<'_>,
     disk: &mut D,
 ) -> Result<(), StoreFault>
-    requires failures { folder.old.failed < 2 ^ 64 - 1 }
-    requires faults { D.faults disk.old < 2 ^ 64 - 1 }
-    ensures folder { folder.new.folder ≡ folder.old.folder }
+    requires { D.faults disk.old < 2 ^ 64 - 1 }
     ensures as_before { D.history disk.new ≡ D.history disk.old }
-    ensures faults { D.faults disk.new ≡ D.faults disk.old + disk_failures folder.old.folder result }
-    ensures holds { PutsAfter 0 (Unit {0}) (0 < length scenarios.now) folder.old.failed folder.new.failed result }
+    ensures faults { D.faults disk.new ≡ D.faults disk.old + failed_stores folder.now (outcome_of_storing result) }
+    ensures refused { IfErr result (λ fault. (stored_before fault ≡ 0) × (0 < length scenarios.now)) }
 {
     if scenarios.is_empty() {
         return Ok(());
@@ -69,26 +65,24 @@ fn hold_for<D: Disk>(
     folder.hold(alloc, disk)
 }
 
-// Stores what each scenario answers. Workers make the table of the capture, range by range, and what is recorded of each connection. Then the
-// capture's records are let go.
+// The capture's records are dropped before the first output is made.
 fn store_outputs<R: Threads + Sync, D: Disk + Sync>(
     crew: &Workers<'_, R>,
     alloc: Global,
     capture: Capture<'_>,
     scenarios: &[Scenario],
     seed: u64,
-    folder: &mut Folder<'_>,
+    folder: &Folder<'_>,
     disk: &mut D,
 ) -> Result<(), RunFault>
 where
     D::Draft: Send,
     requires few { length scenarios.now ≤ scenario_limit }
-    requires failures { folder.old.failed < 2 ^ 64 - 1 }
     requires faults { D.faults disk.old < 2 ^ 64 - 1 }
     ensures ends { StoresOf result (Ok (outputs_for capture.entry scenarios.now seed)) }
-    ensures taken { TakenOf result (Ok (outputs_for capture.entry scenarios.now seed))
-        (TakesIn folder.old.folder (D.history disk.old) (D.history disk.new)) folder.old.failed folder.new.failed }
-    ensures faults { D.faults disk.new ≡ D.faults disk.old + failed_stores folder.old.folder result }
+    ensures taken { FilesOf result (Ok (outputs_for capture.entry scenarios.now seed))
+        (TakesIn folder.now (D.history disk.old) (D.history disk.new)) }
+    ensures faults { D.faults disk.new ≡ D.faults disk.old + failed_stores folder.now result }
 {
     let table = crew.table(alloc, &capture)?;
     let heads = report_heads(alloc, &capture, &table, scenarios.len())?;
@@ -97,21 +91,19 @@ where
     store_each(crew, &sources, folder, disk)
 }
 
-// Stores the output of each scenario: drafts of some are made, given their names, and then those of the next.
 fn store_each<R: Threads + Sync, D: Disk + Sync>(
     crew: &Workers<'_, R>,
     sources: &Sources<'_, '_, '_>,
-    folder: &mut Folder<'_>,
+    folder: &Folder<'_>,
     disk: &mut D,
 ) -> Result<(), RunFault>
 where
     D::Draft: Send,
-    requires failures { folder.old.failed < 2 ^ 64 - 1 }
-    requires faults { D.faults disk.old < 2 ^ 64 - 1 }
+    requires { D.faults disk.old < 2 ^ 64 - 1 }
     ensures ends { StoresOf result (Ok (outputs_from sources.now)) }
-    ensures taken { TakenOf result (Ok (outputs_from sources.now))
-        (TakesIn folder.old.folder (D.history disk.old) (D.history disk.new)) folder.old.failed folder.new.failed }
-    ensures faults { D.faults disk.new ≡ D.faults disk.old + failed_stores folder.old.folder result }
+    ensures taken { FilesOf result (Ok (outputs_from sources.now))
+        (TakesIn folder.now (D.history disk.old) (D.history disk.new)) }
+    ensures faults { D.faults disk.new ≡ D.faults disk.old + failed_stores folder.now result }
 {
     let mut number = 0;
     while number < sources.scenarios.len() {

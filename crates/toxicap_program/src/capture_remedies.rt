@@ -1,9 +1,10 @@
 //! What helps if a capture was refused.
 use crate::run::{Run, Said, unit_of};
 use crate::shown::shown_path;
+use run_files::is_dump;
 use std::alloc::Global;
 use std::rt::Files;
-use toxicap::{RunFault, is_dump};
+use toxicap::RunFault;
 
 impl<R: Files> Run<'_, R> {
     pub fn capture_remedy(&self, fault: RunFault) -> Said {

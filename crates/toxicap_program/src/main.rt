@@ -12,6 +12,7 @@ mod summary;
 mod terminal;
 
 use command_line::{Asked, read_arguments};
+use disks::HostDisk;
 use run::{CaptureStart, Run};
 use std::io::IsTerminal;
 use std::process::ExitCode;
@@ -19,7 +20,7 @@ use std::sync::atomic::AtomicU64;
 use std::{env, io};
 use summary::{Summary, SummedUp};
 use terminal::{Announced, Counting};
-use toxicap::{Counted, HostDisk, RunFault, command_over, refuse_words};
+use toxicap::{Counted, RunFault, command_over, refuse_words};
 
 fn main(rt: HostRuntime) -> ExitCode {
     let mut faults = Counted::new(rt.stderr());

@@ -1,15 +1,14 @@
 //! Drafts of outputs: on a disk in memory, which fails or has little room, and in folders of the host's, which one run holds.
 ghost use Rattle.std.specs.Prelude.{◌≡◌, ◌-◌, ◌<◌, ◌^◌};
 
+use disks::{Disk, DiskFault, FileId, HostDisk, Lockable, MemoryDisk, ReadFiles};
+use run_files::{DraftedOutput, Folder, store_draft};
 use std::alloc::{AllocError, AllocGlobal, Global};
 use std::fs::{self, Metadata};
 use std::os::unix::fs::{MetadataExt, symlink};
 use std::process::Abort;
 use std::rt::Files;
-use toxicap::{
-    Disk, DiskFault, DraftedOutput, FileId, Folder, HostDisk, Lockable, MemoryDisk, ReadFiles,
-    ShelfError, StoreFault, store_draft,
-};
+use toxicap::StoreFault;
 
 // The files of two outputs with the numbers 7 and 8, in the order in which they are stored.
 const FILES: [(&str, &[u8]); 4] = [
@@ -19,11 +18,12 @@ const FILES: [(&str, &[u8]); 4] = [
     ("0008.txt", b"\x00\xff\r\n\x80"),
 ];
 
+// The first file is refused.
+const REFUSED: Result<(), StoreFault> = Err(StoreFault::ShelfFailed { after: 0 });
+
 // The folder at a path, for a run that has read no file.
-fn folder_at<'a>(rt: &(impl Abort + AllocGlobal), path: &'a str) -> Folder<'a>
-    ensures { result.failed ≡ 0 }
-{
-    Folder::new(rt.alloc(), path, ReadFiles::new(rt.alloc())).expect(rt, "memory")
+fn folder_at<'a>(rt: &impl AllocGlobal, path: &'a str) -> Folder<'a> {
+    Folder::new(path, ReadFiles::new(rt.alloc()))
 }
 
 // Whether a folder has a file of this name with these bytes.
@@ -94,11 +94,10 @@ fn two_drafts<D: Disk>(
 fn store_both<D: Disk>(
     alloc: Global,
     drafts: TwoDrafts<D::Draft>,
-    folder: &mut Folder<'_>,
+    folder: &Folder<'_>,
     disk: &mut D,
 ) -> Result<(), StoreFault>
-    requires failures { folder.old.failed < 2 ^ 64 - 1 }
-    requires faults { D.faults disk.old < 2 ^ 64 - 1 }
+    requires { D.faults disk.old < 2 ^ 64 - 1 }
 {
     store_draft(alloc, 7, drafts.0, folder, disk)?;
     store_draft(alloc, 8, drafts.1, folder, disk)
@@ -120,9 +119,9 @@ fn has_first(alloc: Global, disk: &MemoryDisk, many: usize) -> Result<bool, Allo
 fn are_stored(rt: &(impl Abort + AllocGlobal), mut disk: MemoryDisk, many: u64) -> bool
     requires { disk.failed ≡ 0 }
 {
-    let mut folder = folder_at(rt, "drafts");
+    let folder = folder_at(rt, "drafts");
     let drafts = two_drafts(rt.alloc(), &folder, &disk).expect(rt, "memory");
-    let stored = store_both(rt.alloc(), drafts, &mut folder, &mut disk);
+    let stored = store_both(rt.alloc(), drafts, &folder, &mut disk);
     let wanted = match many {
         4 => Ok(()),
         _ => Err(StoreFault::ShelfFailed {
@@ -132,7 +131,6 @@ fn are_stored(rt: &(impl Abort + AllocGlobal), mut disk: MemoryDisk, many: u64) 
     let failed = u64::from(wanted.is_err());
     stored == wanted
         && disk.failed() == failed
-        && folder.failed() == failed
         && has_first(rt.alloc(), &disk, many as usize) == Ok(true)
 }
 
@@ -177,13 +175,13 @@ fn drafts_of_little_room(rt: HostRuntime) {
 fn a_draft_that_has_failed(rt: HostRuntime) {
     let mut disk = MemoryDisk::new(rt.alloc());
     disk.limit_drafts(12);
-    let mut folder = folder_at(&rt, "drafts");
+    let folder = folder_at(&rt, "drafts");
     let failing = draft_with(rt.alloc(), &folder, &disk, 0, FILES[0].1);
     let mut draft = failing.expect(&rt, "memory");
     MemoryDisk::append(&mut draft, FILES[3].1);
-    let refused = folder.take(&mut disk, "0007.pcap", draft) == Err(ShelfError);
+    let refused = folder.take(rt.alloc(), &mut disk, "0007.pcap", draft, 0) == REFUSED;
     let none = has_first(rt.alloc(), &disk, 0) == Ok(true);
-    assert!(rt; refused && none && disk.failed() == 1 && folder.failed() == 1);
+    assert!(rt; refused && none && disk.failed() == 1);
 }
 
 // Two drafts in a folder become its files, in place of older ones; drafts that are dropped leave nothing.
@@ -192,15 +190,15 @@ fn a_folder_by_drafts(rt: HostRuntime) {
     fs::create_dir(&rt, "drafts").expect(&rt, "a folder");
     fs::write(&rt, "drafts/0008.txt", "an older file").expect(&rt, "a file");
     let mut disk = HostDisk::new(&rt);
-    let mut folder = folder_at(&rt, "drafts");
+    let folder = folder_at(&rt, "drafts");
     let dropped = two_drafts(rt.alloc(), &folder, &disk).expect(&rt, "memory");
     let begun = files_in(&rt, "drafts");
     drop(dropped);
     let left = files_in(&rt, "drafts");
     assert!(rt; begun == 5 && left == 1, "{begun} {left}");
     let drafts = two_drafts(rt.alloc(), &folder, &disk).expect(&rt, "memory");
-    let stored = store_both(rt.alloc(), drafts, &mut folder, &mut disk);
-    assert!(rt; stored == Ok(()) && folder.failed() == 0);
+    let stored = store_both(rt.alloc(), drafts, &folder, &mut disk);
+    assert!(rt; stored == Ok(()));
     check_files(&rt, "drafts", FILES);
     fs::remove_dir_all(&rt, "drafts").expect(&rt, "removed");
 }
@@ -209,34 +207,32 @@ fn a_folder_by_drafts(rt: HostRuntime) {
 #[test]
 fn no_folder_by_drafts(rt: HostRuntime) {
     let mut disk = HostDisk::new(&rt);
-    let mut folder = folder_at(&rt, "nowhere");
+    let folder = folder_at(&rt, "nowhere");
     let drafts = two_drafts(rt.alloc(), &folder, &disk).expect(&rt, "memory");
-    let stored = store_both(rt.alloc(), drafts, &mut folder, &mut disk);
-    let refused = stored == Err(StoreFault::ShelfFailed { after: 14 });
-    assert!(rt; refused && folder.failed() == 1);
+    let stored = store_both(rt.alloc(), drafts, &folder, &mut disk);
+    assert!(rt; stored == Err(StoreFault::ShelfFailed { after: 14 }));
 }
 
 // How a folder takes a file of this name with these bytes, written in place 0.
 fn put_in<D: Disk>(
     rt: &(impl Abort + AllocGlobal),
-    folder: &mut Folder<'_>,
+    folder: &Folder<'_>,
     disk: &mut D,
     name: &str,
     bytes: &[u8],
-) -> Result<(), ShelfError>
-    requires failures { folder.old.failed < 2 ^ 64 - 1 }
-    requires faults { D.faults disk.old < 2 ^ 64 - 1 }
+) -> Result<(), StoreFault>
+    requires { D.faults disk.old < 2 ^ 64 - 1 }
 {
     let draft = draft_with(rt.alloc(), folder, disk, 0, bytes).expect(rt, "memory");
-    folder.take(disk, name, draft)
+    folder.take(rt.alloc(), disk, name, draft, 0)
 }
 
 // No file in the folder of this path can have this name.
 fn check_no_name(rt: &(impl Abort + AllocGlobal + Files), path: &str, name: &str) {
-    let mut folder = folder_at(rt, path);
+    let folder = folder_at(rt, path);
     let mut disk = MemoryDisk::new(rt.alloc());
-    let refused = put_in(rt, &mut folder, &mut disk, name, b"") == Err(ShelfError);
-    assert!(rt; refused && folder.failed() == 1, "{name:?}");
+    let refused = put_in(rt, &folder, &mut disk, name, b"") == REFUSED;
+    assert!(rt; refused && disk.failed() == 0, "{name:?}");
 }
 
 #[test]
@@ -255,10 +251,10 @@ fn check_no_file<R: Abort + AllocGlobal + Files>(rt: &R, name: &str)
 where
     R::File: Lockable,
 {
-    let mut folder = folder_at(rt, ".");
+    let folder = folder_at(rt, ".");
     let mut disk = HostDisk::new(rt);
-    let refused = put_in(rt, &mut folder, &mut disk, name, b"") == Err(ShelfError);
-    assert!(rt; refused && folder.failed() == 1, "{name:?}");
+    let refused = put_in(rt, &folder, &mut disk, name, b"") == REFUSED;
+    assert!(rt; refused, "{name:?}");
 }
 
 #[test]
@@ -274,7 +270,7 @@ fn put_after_reading<R: Abort + AllocGlobal + Files>(
     rt: &R,
     path: &str,
     name: &str,
-) -> Result<(), ShelfError>
+) -> Result<(), StoreFault>
 where
     R::File: Lockable,
 {
@@ -283,8 +279,8 @@ where
     if let Ok(metadata) = fs::metadata(rt, path) {
         read.add(Ok(Some(id_of(&metadata)))).expect(rt, "memory");
     }
-    let mut folder = Folder::new(rt.alloc(), "spared", read).expect(rt, "memory");
-    put_in(rt, &mut folder, &mut disk, name, b"1")
+    let folder = Folder::new("spared", read);
+    put_in(rt, &folder, &mut disk, name, b"1")
 }
 
 // What sets a file apart, by its metadata.
@@ -301,8 +297,8 @@ fn a_folder_spares_what_was_read(rt: HostRuntime) {
     fs::create_dir(&rt, "spared").expect(&rt, "a folder");
     fs::write(&rt, "spared/input", "as recorded").expect(&rt, "a file");
     symlink(&rt, "input", "spared/link").expect(&rt, "a link");
-    let refused = put_after_reading(&rt, "./spared/link", "input") == Err(ShelfError);
-    let followed = put_after_reading(&rt, "spared/input", "link") == Err(ShelfError);
+    let refused = put_after_reading(&rt, "./spared/link", "input") == REFUSED;
+    let followed = put_after_reading(&rt, "spared/input", "link") == REFUSED;
     let other = put_after_reading(&rt, "spared/input", "nowhere") == Ok(());
     let stays = has_file(&rt, "spared", ("input", b"as recorded"));
     assert!(rt; refused && followed && other && stays);
@@ -323,14 +319,13 @@ fn held<D: Disk>(
 // One run at once holds a folder, and removes what others have left there.
 #[test]
 fn a_folder_is_held_by_one(rt: HostRuntime) {
-    let refused = Err(StoreFault::ShelfFailed { after: 0 });
-    let nowhere = held(&rt, "held", &mut HostDisk::new(&rt)) == refused;
+    let nowhere = held(&rt, "held", &mut HostDisk::new(&rt)) == REFUSED;
     fs::create_dir(&rt, "held").expect(&rt, "a folder");
     fs::write(&rt, "held/toxicap.unfinished-7", "left").expect(&rt, "a file");
     fs::write(&rt, "held/toxicap.unfinished-x", "a user's").expect(&rt, "a file");
     let mut first = HostDisk::new(&rt);
     let once = held(&rt, "held", &mut first) == Ok(()) && files_in(&rt, "held") == 1;
-    let not_twice = held(&rt, "held", &mut HostDisk::new(&rt)) == refused;
+    let not_twice = held(&rt, "held", &mut HostDisk::new(&rt)) == REFUSED;
     drop(first);
     let again = held(&rt, "held", &mut HostDisk::new(&rt)) == Ok(());
     assert!(rt; nowhere && once && not_twice && again);
@@ -340,13 +335,12 @@ fn a_folder_is_held_by_one(rt: HostRuntime) {
 // A folder is not held where not all is known that was read, nor where it has no path.
 #[test]
 fn a_folder_that_is_not_held(rt: HostRuntime) {
-    let refused = Err(StoreFault::ShelfFailed { after: 0 });
     let mut disk = MemoryDisk::new(rt.alloc());
     let mut read = ReadFiles::new(rt.alloc());
     read.add(Err(DiskFault::Failed)).expect(&rt, "memory");
-    let mut folder = Folder::new(rt.alloc(), "drafts", read).expect(&rt, "memory");
-    let unknown = folder.hold(rt.alloc(), &mut disk) == refused && disk.failed() == 1;
-    let no_path = held(&rt, "", &mut MemoryDisk::new(rt.alloc())) == refused;
+    let folder = Folder::new("drafts", read);
+    let unknown = folder.hold(rt.alloc(), &mut disk) == REFUSED && disk.failed() == 1;
+    let no_path = held(&rt, "", &mut MemoryDisk::new(rt.alloc())) == REFUSED;
     let known = held(&rt, "drafts", &mut MemoryDisk::new(rt.alloc())) == Ok(());
     assert!(rt; unknown && no_path && known);
 }
@@ -357,8 +351,8 @@ fn a_path_that_is_taken(rt: HostRuntime) {
     let path = "drafts/toxicap.unfinished-0";
     let mut disk = MemoryDisk::new(rt.alloc());
     disk.put_first(path, b"recorded", 0).expect(&rt, "memory");
-    let mut folder = folder_at(&rt, "drafts");
-    let refused = put_in(&rt, &mut folder, &mut disk, "0000.pcap", b"1") == Err(ShelfError);
+    let folder = folder_at(&rt, "drafts");
+    let refused = put_in(&rt, &folder, &mut disk, "0000.pcap", b"1") == REFUSED;
     let stays = disk.bytes(path) == Some(b"recorded".as_slice());
     assert!(rt; refused && stays && disk.bytes("drafts/0000.pcap").is_none());
 }

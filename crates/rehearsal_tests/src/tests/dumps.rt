@@ -1,7 +1,8 @@
 //! Dumps, and the lines of faults.
+use run_files::is_dump;
 use std::alloc::AllocGlobal;
 use std::process::Abort;
-use toxicap::{RunFault, fault_line, is_dump, undump};
+use toxicap::{RunFault, fault_line, undump};
 
 // A dump's bytes, or the place of its fault.
 fn check_dump(rt: &(impl Abort + AllocGlobal), text: &str, wanted: Result<&[u8], usize>) {

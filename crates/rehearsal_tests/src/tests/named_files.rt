@@ -2,15 +2,14 @@
 ghost use Rattle.std.specs.Prelude.{◌≡◌, ◌-◌, ◌^◌, ◌<◌, IfOk};
 
 use super::captures::PLAIN_REPORT;
+use disks::{Disk, DiskFault, DiskFile, FileId, MemoryDisk, ReadDisk, ReadFiles};
 use pcap_records::CAPTURE_LIMIT;
 use std::alloc::{AllocError, AllocGlobal, Global};
 use std::io::Read;
 use std::process::Abort;
 use std::sync::Wait;
 use std::thread::Threads;
-use toxicap::{
-    Counted, Disk, DiskFault, DiskFile, FileId, MemoryDisk, ReadDisk, ReadFiles, command_over,
-};
+use toxicap::{Counted, command_over};
 use worked_sessions::sessions::PLAIN_SESSION;
 
 // A proxy for the host `web` that holds the client's bytes for 100 ms.

@@ -1,11 +1,12 @@
 //! Gates of a rehearsal: that more than one thread does its jobs, and how many jobs pass in each phase.
 use super::again::repeated;
 use super::rehearsed::{rehearsed_by, same, scenarios_of};
+use job_matrix::{Gate, Phase};
 use std::alloc::{AllocGlobal, Global};
 use std::process::Abort;
 use std::sync::Wait;
 use std::thread::Threads;
-use toxicap::{Gate, Phase, RunFault, Through};
+use toxicap::{RunFault, Through};
 use worked_sessions::gates::{Counting, Holding};
 use worked_sessions::sessions::file;
 

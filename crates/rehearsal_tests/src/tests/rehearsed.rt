@@ -1,9 +1,10 @@
 //! What a rehearsal gives, the same under every plan.
+use job_matrix::Gate;
 use scenarios::{Hosts, Scenario, read_scenario};
 use std::alloc::{AllocError, Global};
 use std::sync::Wait;
 use std::thread::Threads;
-use toxicap::{Gate, Output, Outputs, Plan, RunFault, Through, rehearse};
+use toxicap::{Output, Outputs, Plan, RunFault, Through, rehearse};
 
 // The seed of the rows whose numbers are drawn.
 const SEED: u64 = 42;

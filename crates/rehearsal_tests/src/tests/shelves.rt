@@ -1,11 +1,11 @@
 //! The files of a rehearsal on shelves: one that fails, and one in memory.
 ghost use Rattle.std.specs.Prelude.{◌≡◌, ◌≤◌};
 
+use job_matrix::Values;
 use std::alloc::{AllocError, AllocGlobal, Global};
 use std::process::Abort;
 use toxicap::{
-    MemoryFile, MemoryShelf, Output, Outputs, RunFault, Shelf, ShelfError, StoreFault, Values,
-    store_all,
+    MemoryFile, MemoryShelf, Output, Outputs, RunFault, Shelf, ShelfError, StoreFault, store_all,
 };
 
 // The files of two outputs, in the order in which they are stored.

@@ -2,6 +2,7 @@
 use super::readers::Pieces;
 use super::running::{STORED_REPORT, STORED_RUN};
 use super::writers::{RefusesOnce, Sips};
+use disks::Lockable;
 use std::alloc::{AllocGlobal, Global};
 use std::io::{Error, ErrorKind};
 use std::os::unix::fs::FileExt;
@@ -9,7 +10,7 @@ use std::process::Abort;
 use std::rt::Files;
 use std::sync::Wait;
 use std::thread::Threads;
-use toxicap::{Counted, Lockable, command, refuse_words};
+use toxicap::{Counted, command, refuse_words};
 
 // The program ends with this status, and has written and told these texts, of words and a text as its standard input, which it reads
 // none of where the words are at fault.

@@ -8,11 +8,12 @@ use super::storing_runs::{
     BY_ONE, BY_TWO, HELD, HTTP_GET, LINE, Run, SAMPLE, SAMPLE_BY_ALL, SAMPLE_BY_TWO, SHOP_BY_THREE,
     files_of,
 };
+use disks::MemoryDisk;
 use std::alloc::{AllocError, AllocGlobal, Global};
 use std::process::Abort;
 use std::sync::Wait;
 use std::thread::Threads;
-use toxicap::{MemoryDisk, MemoryFile};
+use toxicap::MemoryFile;
 use worked_sessions::sessions::{PLAIN_SESSION, header, put_field};
 
 // An older file of a name that the runs give.

@@ -1,9 +1,10 @@
 //! Writers that fail, or take little.
+use run_files::{write_bytes, write_texts};
 use std::alloc::AllocGlobal;
 use std::io;
 use std::io::{ErrorKind, Write};
 use std::process::Abort;
-use toxicap::{Counted, RunFault, write_bytes, write_texts};
+use toxicap::{Counted, RunFault};
 
 /// Takes at most `most` bytes a call, and fails once `calls` calls were made.
 #[derive(Drop)]

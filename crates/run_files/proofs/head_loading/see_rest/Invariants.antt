@@ -1,15 +1,14 @@
-use Rattle.std.proofs.Common.{◌≡◌, ◌+◌, ◌-◌, ℕ, List, IfSome}
+use Rattle.std.proofs.Common.{◌+◌, ◌-◌, ℕ, List, take}
 use Rattle.pcap_records.specs.Reading.{capture_limit}
-use Rattle.run_files.specs.Paths.{HaveCome}
+use Rattle.run_files.specs.Loading.{ComesOn}
 use Rattle.run_files.proofs.SeenParts.{IsSeenSoFar}
 use Rattle.run_files.proofs.head_loading.see_rest.Given as goal
 
--- what came until now are the file's first bytes, and they were seen but for those that are held
+-- all that came was seen except what is held
 abbrev pub invariant-reads : goal.invariant-reads
 invariant-reads g l = record {
-  same : g.F.DiskFile.told l.file ≡ g.F.DiskFile.told l.fn.file;
-  text : (given : List ℕ) × IfSome (g.F.DiskFile.told l.fn.file) (λ f. HaveCome f given (g.F.DiskFile.place l.file))
-      × IsSeenSoFar l.reader l.buffer l.held given;
+  can : g.I.Input.can_read l.input;
+  text : (given : List ℕ) × ComesOn g.I.Input.gives l.fn.input (take l.fn.len l.fn.buffer) l.input given × IsSeenSoFar l.reader l.buffer l.held given;
 }
 
 -- each read but the last gives a byte

@@ -8,7 +8,6 @@ use Rattle.run_files.proofs.streams.write_bytes.Goals as goal
 joined : (bytes : List ℕ) (written len : ℕ) → take written bytes ++ take len (take (length bytes - written) (drop written bytes)) ≡ take (written + len) bytes
 joined bytes written len = ap (λ rest. take written bytes ++ take len rest) (take_rest bytes written) ∙ sym (take-add written len bytes)
 
--- a write takes no more than the rest
 within_rest : (bytes : List ℕ) (written len : ℕ) → written ≤ length bytes → len ≤ length (take (length bytes - written) (drop written bytes)) → written + len ≤ length bytes
 within_rest bytes written len first bound = omega (arith, ap length (take_rest bytes written), length-drop written bytes)
 

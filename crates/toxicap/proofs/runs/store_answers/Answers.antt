@@ -1,10 +1,6 @@
-use Rattle.std.proofs.Common.{◌≡◌, map, subst, Some, arith, rules}
+use Rattle.std.proofs.Common.{map, Some, arith}
 use Rattle.std.proofs.lemmas.Result.{err_from_is_err_and}
-use Rattle.run_files.specs.declared.error.RunFault.TheVariants.{Memory}
 use Rattle.toxicap.proofs.RunSteps.{input_fault, none_printed, refused}
-use Rattle.run_files.specs.Folders.{TakesIn}
-use Rattle.toxicap.specs.Rehearsal.{answer}
-use Rattle.toxicap.specs.StoredOutputs.{TakenOf}
 use Rattle.toxicap.proofs.DiskSteps.{disk_stored, disk_unused, none_asked}
 use Rattle.toxicap.proofs.StoringEnds.{stores_unless_memory}
 use Rattle.toxicap.proofs.runs.store_answers.Goals as goal
@@ -55,18 +51,8 @@ returns-in_err-inputs-clause-disk g c =
     rw (fault.1, fault.2) (disk_unused c.names_leave_whole.ensures (Some c.args.folder) _ _ (g.D.Disk.history c.args.disk.now)
     (input_fault own.hosts (map (λ t. t.now) c.args.texts.now) own.seed (Unit {0}) (λ written. Unit {0}) _ c.args.text (c.in_err-inputs.ensures.refused own.seed)))
 
-pub returns-in_err-folder-clause-disk : goal.returns-in_err-folder-clause-disk
-returns-in_err-folder-clause-disk g c =
-    let fault = err_from_is_err_and c.from_residual-in_err-folder.result c.from_residual-in_err-folder.ensures.1 in
-    rw (fault.1, fault.2) (disk_unused c.names_leave_whole.ensures (Some c.args.folder) Memory _ (g.D.Disk.history c.args.disk.now) tt)
-
 pub returns-clause-disk : goal.returns-clause-disk
 returns-clause-disk g c =
     let taken = c.in_ok-inputs.ensures.taken c.args.options.now.seed in
-    let wanted = answer c.in_ok-inputs.inputs.capture c.in_ok-inputs.inputs.scenarios.items c.args.options.now.seed in
-    let old = g.D.Disk.history c.args.disk.now in
-    let left = g.D.Disk.history c.store_rehearsal.new.disk in
-    let here : c.in_ok-folder.folder.folder ≡ c.args.folder.now = search rules in
-    let stored = rw (c.bytes.ensures, c.deref.ensures.value) at c.store_rehearsal.ensures.taken in
-    rw taken (disk_stored c.names_leave_whole.ensures c.args.folder c.store_rehearsal.result wanted old left c.in_ok-folder.folder.failed c.store_rehearsal.new.folder.failed
-    (subst (λ f. TakenOf c.store_rehearsal.result wanted (TakesIn f old left) c.in_ok-folder.folder.failed c.store_rehearsal.new.folder.failed) here stored))
+    let stored = rw (c.bytes.ensures, c.deref.ensures.value, c.new-folder.ensures) at c.store_rehearsal.ensures.taken in
+    rw taken (disk_stored c.names_leave_whole.ensures c.args.folder c.store_rehearsal.result _ (g.D.Disk.history c.args.disk.now) _ stored)

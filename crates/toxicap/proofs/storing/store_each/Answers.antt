@@ -1,34 +1,31 @@
-use Rattle.std.proofs.Common.{◌≡◌, ◌≤◌, ◌+◌, ◌*◌, ℕ, List, [], ◌∷◌, Err, subst, length, refl, ap, ◌∙◌, arith, rules}
+use Rattle.std.proofs.Common.{◌≡◌, ◌≤◌, ◌*◌, List, length, refl, ap, arith, rules}
 use Rattle.std.specs.Vec.Iter.{into_iter_items}
 use Rattle.std.proofs.lemmas.List.{take_all}
 use Rattle.std.proofs.lemmas.Result.{err_from_is_err_and}
 use Rattle.run_files.specs.declared.outputs.Output.{Output}
-use Rattle.run_files.specs.Folders.{TakesIn, disk_failures}
-use Rattle.run_files.specs.WrittenOutputs.{files_from, StoresAfter}
+use Rattle.run_files.specs.WrittenOutputs.{files_from}
 use Rattle.toxicap.specs.CaptureOutputs.{outputs_from}
 use Rattle.toxicap.specs.DraftPlaces.{outputs_in}
 use Rattle.toxicap.proofs.OutputSteps.{as_many_outputs}
 use Rattle.toxicap.proofs.ReadyDrafts.{ready_outputs, takes_first}
-use Rattle.toxicap.proofs.StoringEnds.{nothing_taken, stopped_faults}
+use Rattle.toxicap.proofs.StoringEnds.{nothing_taken}
 use Rattle.toxicap.proofs.StoredSteps.{length-files_from, taken_more, stops_at}
 use Rattle.toxicap.proofs.storing.store_each.Goals as goal
 
 pub loop-number-init : goal.loop-number-init
-loop-number-init g c = record { taken = nothing_taken c.args.folder.now.folder _; folder = refl; no_fault = refl; none_failed = refl }
+loop-number-init g c = record { taken = nothing_taken c.args.folder.now _; no_fault = refl }
 
 pub loop-draft-init : goal.loop-draft-init
 loop-draft-init g c =
     let loop = c.loop-number.invariant in
     let drafts = c.in_ok-drafts.drafts.items in
     let items : into_iter_items c.into_iter-draft-iterator.result ≡ drafts = search rules in
-    let ready = ready_outputs c.loop-number.folder.folder (outputs_from c.args.sources.now) c.loop-number.number drafts c.in_ok-drafts.ensures.next in
+    let ready = ready_outputs c.args.folder.now (outputs_from c.args.sources.now) c.loop-number.number drafts c.in_ok-drafts.ensures.next in
     record {
       can_next = tt;
       is_finite = tt;
       taken = loop.taken;
-      folder = loop.folder;
       no_fault = loop.no_fault;
-      none_failed = loop.none_failed;
       left = rw items ready;
       rises = rw items (omega (arith, c.in_ok-drafts.ensures.some));
     }
@@ -37,7 +34,7 @@ loop-draft-init g c =
 pub returns-in_err-drafts-clause-taken : goal.returns-in_err-drafts-clause-taken
 returns-in_err-drafts-clause-taken g c =
     let fault = err_from_is_err_and c.from_residual.result c.from_residual.ensures.1 in
-    rw (fault.1, fault.2) ((2 * c.loop-number.number, c.loop-number.invariant.taken), c.loop-number.invariant.none_failed)
+    rw (fault.1, fault.2) (2 * c.loop-number.number, c.loop-number.invariant.taken)
 
 pub store_draft-requires-clause-number : goal.store_draft-requires-clause-number
 store_draft-requires-clause-number g c =
@@ -54,48 +51,41 @@ returns-in_err-drafts-clause-faults g c =
     let fault = err_from_is_err_and c.from_residual.result c.from_residual.ensures.1 in
     rw (fault.1, fault.2) (omega (arith, c.loop-number.invariant.no_fault))
 
--- the shelf did not take the next one
+-- the folder did not take the next one
 pub returns-in_err-store_draft-clause-ends : goal.returns-in_err-store_draft-clause-ends
 returns-in_err-store_draft-clause-ends g c =
-    let number : ℕ = c.loop-draft.number in
     let all : List Output = outputs_from c.args.sources.now in
     let loop = c.loop-draft.invariant in
     let first = takes_first all _ _ c.loop-draft.number c.in-Some.draft.output loop.left (ap outputs_in c.in-Some.ensures.steps.0) in
     let fault = err_from_is_err_and c.from_residual-in_err-store_draft.result c.from_residual-in_err-store_draft.ensures.1 in
-    rw (fault.1, fault.2) (stops_at c.args.folder.now.folder all c.loop-draft.number c.in-Some.draft.output first.below first.is _ _ _ loop.taken _ _ _ _ loop.none_failed (subst (λ f. StoresAfter (2 * number) (files_from number (c.in-Some.draft.output ∷ [])) (TakesIn f (g.D.Disk.history c.loop-draft.disk) (g.D.Disk.history c.store_draft.new.disk))
-    c.loop-draft.folder.failed c.store_draft.new.folder.failed (Err c.in_err-store_draft.field-0.0)) loop.folder (c.in_err-store_draft.ensures.stores c.in-Some.draft.output c.into_drafts.ensures.drafts))).0
+    rw (fault.1, fault.2) (stops_at c.args.folder.now all c.loop-draft.number c.in-Some.draft.output first.below first.is _ _ _ loop.taken c.in_err-store_draft.field-0.0
+    (c.in_err-store_draft.ensures.stores c.in-Some.draft.output c.into_drafts.ensures.drafts)).0
 
 pub returns-in_err-store_draft-clause-taken : goal.returns-in_err-store_draft-clause-taken
 returns-in_err-store_draft-clause-taken g c =
-    let number : ℕ = c.loop-draft.number in
     let all : List Output = outputs_from c.args.sources.now in
     let loop = c.loop-draft.invariant in
     let first = takes_first all _ _ c.loop-draft.number c.in-Some.draft.output loop.left (ap outputs_in c.in-Some.ensures.steps.0) in
     let fault = err_from_is_err_and c.from_residual-in_err-store_draft.result c.from_residual-in_err-store_draft.ensures.1 in
-    rw (fault.1, fault.2) (stops_at c.args.folder.now.folder all c.loop-draft.number c.in-Some.draft.output first.below first.is _ _ _ loop.taken _ _ _ _ loop.none_failed (subst (λ f. StoresAfter (2 * number) (files_from number (c.in-Some.draft.output ∷ [])) (TakesIn f (g.D.Disk.history c.loop-draft.disk) (g.D.Disk.history c.store_draft.new.disk))
-    c.loop-draft.folder.failed c.store_draft.new.folder.failed (Err c.in_err-store_draft.field-0.0)) loop.folder (c.in_err-store_draft.ensures.stores c.in-Some.draft.output c.into_drafts.ensures.drafts))).1
+    rw (fault.1, fault.2) (stops_at c.args.folder.now all c.loop-draft.number c.in-Some.draft.output first.below first.is _ _ _ loop.taken c.in_err-store_draft.field-0.0
+    (c.in_err-store_draft.ensures.stores c.in-Some.draft.output c.into_drafts.ensures.drafts)).1
 
 pub returns-in_err-store_draft-clause-faults : goal.returns-in_err-store_draft-clause-faults
 returns-in_err-store_draft-clause-faults g c =
-    let loop = c.loop-draft.invariant in
     let fault = err_from_is_err_and c.from_residual-in_err-store_draft.result c.from_residual-in_err-store_draft.ensures.1 in
-    rw (fault.1, fault.2) (stopped_faults c.args.folder.now.folder c.in_err-store_draft.field-0.0 _ _ _ loop.no_fault
-    (subst (λ f. g.D.Disk.faults c.store_draft.new.disk ≡ g.D.Disk.faults c.loop-draft.disk + disk_failures f (Err c.in_err-store_draft.field-0.0)) loop.folder
-    c.in_err-store_draft.ensures.faults))
+    rw (fault.1, fault.2) (omega (arith, c.in_err-store_draft.ensures.faults, c.loop-draft.invariant.no_fault))
 
 pub loop-draft-preserved : goal.loop-draft-preserved
 loop-draft-preserved g c =
     let all : List Output = outputs_from c.args.sources.now in
     let loop = c.loop-draft.invariant in
     let first = takes_first all _ _ c.loop-draft.number c.in-Some.draft.output loop.left (ap outputs_in c.in-Some.ensures.steps.0) in
-    let stored = rw loop.folder at (c.in_ok-store_draft.ensures.stores c.in-Some.draft.output c.into_drafts.ensures.drafts) in
     record {
       can_next = tt;
       is_finite = tt;
-      taken = taken_more c.args.folder.now.folder all c.loop-draft.number c.in-Some.draft.output first.below first.is _ _ _ loop.taken stored.0;
-      folder = c.in_ok-store_draft.ensures.folder ∙ loop.folder;
+      taken = taken_more c.args.folder.now all c.loop-draft.number c.in-Some.draft.output first.below first.is _ _ _ loop.taken
+          (c.in_ok-store_draft.ensures.stores c.in-Some.draft.output c.into_drafts.ensures.drafts);
       no_fault = omega (arith, c.in_ok-store_draft.ensures.faults, loop.no_fault);
-      none_failed = stored.1 ∙ loop.none_failed;
       left = first.left;
       rises = omega (arith, loop.rises, ap length c.in-Some.ensures.steps.0);
     }
@@ -105,4 +95,4 @@ returns-clause-taken g c =
     let all : List Output = outputs_from c.args.sources.now in
     let over : length (files_from 0 all) ≤ 2 * c.loop-number.number =
     omega (arith, c.loop-number-test.false, as_many_outputs c.args.sources.now, length-files_from 0 all) in
-    (rw (take_all (2 * c.loop-number.number) (files_from 0 all) over) at c.loop-number.invariant.taken, c.loop-number.invariant.none_failed)
+    rw (take_all (2 * c.loop-number.number) (files_from 0 all) over) at c.loop-number.invariant.taken

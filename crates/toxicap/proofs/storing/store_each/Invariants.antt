@@ -6,13 +6,11 @@ use Rattle.toxicap.specs.CaptureOutputs.{outputs_from}
 use Rattle.toxicap.specs.DraftPlaces.{outputs_in}
 use Rattle.toxicap.proofs.storing.store_each.Given as goal
 
--- the folder took the files of the outputs before this number, and no call has failed
+-- the folder took the files of the outputs before this number, and no call of the disk failed
 abbrev pub invariant-loop-number : goal.invariant-loop-number
 invariant-loop-number g l = record {
-  taken : TakesIn l.fn.folder.folder (g.D.Disk.history l.fn.disk) (g.D.Disk.history l.disk) (take (2 * l.number) (files_from 0 (outputs_from l.sources)));
-  folder : l.folder.folder ≡ l.fn.folder.folder;
+  taken : TakesIn l.folder (g.D.Disk.history l.fn.disk) (g.D.Disk.history l.disk) (take (2 * l.number) (files_from 0 (outputs_from l.sources)));
   no_fault : g.D.Disk.faults l.disk ≡ g.D.Disk.faults l.fn.disk;
-  none_failed : l.folder.failed ≡ l.fn.folder.failed;
 }
 
 abbrev pub decreases-loop-number : goal.decreases-loop-number
@@ -23,10 +21,8 @@ abbrev pub invariant-loop-draft : goal.invariant-loop-draft
 invariant-loop-draft g l = record {
   can_next : (goal.iterator-loop-draft g).can_next l.draft-iterator;
   is_finite : (goal.iterator-loop-draft g).is_finite l.draft-iterator;
-  taken : TakesIn l.fn.folder.folder (g.D.Disk.history l.fn.disk) (g.D.Disk.history l.disk) (take (2 * l.number) (files_from 0 (outputs_from l.sources)));
-  folder : l.folder.folder ≡ l.fn.folder.folder;
+  taken : TakesIn l.folder (g.D.Disk.history l.fn.disk) (g.D.Disk.history l.disk) (take (2 * l.number) (files_from 0 (outputs_from l.sources)));
   no_fault : g.D.Disk.faults l.disk ≡ g.D.Disk.faults l.fn.disk;
-  none_failed : l.folder.failed ≡ l.fn.folder.failed;
   left : outputs_in (into_iter_items l.draft-iterator) ≡ take (length (outputs_in (into_iter_items l.draft-iterator))) (drop l.number (outputs_from l.sources));
   rises : l.initial.number < l.number + length (into_iter_items l.draft-iterator);
 }

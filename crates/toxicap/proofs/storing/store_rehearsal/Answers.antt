@@ -1,28 +1,26 @@
-use Rattle.std.proofs.Common.{◌≡◌, ◌<◌, ◌+◌, Err, subst, sym, refl, arith}
+use Rattle.std.proofs.Common.{arith}
 use Rattle.std.proofs.lemmas.Result.{err_from_is_err_and}
 use Rattle.pcap_records.specs.CaptureView.{bytes_of}
 use Rattle.toxicap.specs.CaptureOutputs.{outputs_for}
-use Rattle.toxicap.specs.StoredOutputs.{failed_stores}
 use Rattle.toxicap.proofs.OutputSteps.{as_many_for}
-use Rattle.run_files.specs.WrittenOutputs.{PutsAfter}
-use Rattle.toxicap.proofs.StoringEnds.{held_taken, none_stored, not_held, refused_faults, stopped_faults}
+use Rattle.toxicap.proofs.StoringEnds.{none_stored, not_held, refused_faults}
 use Rattle.toxicap.proofs.storing.store_rehearsal.Goals as goal
 
 pub returns-in_err-capture-clause-ends : goal.returns-in_err-capture-clause-ends
 returns-in_err-capture-clause-ends g c =
     let fault = err_from_is_err_and c.from_residual.result c.from_residual.ensures.1 in
     rw (fault.1, fault.2)
-    (none_stored _ (bytes_of c.args.capture) c.args.scenarios.now c.args.seed c.args.folder.now.folder (g.D.Disk.history c.args.disk.now) 0 (c.in_err-capture.ensures.refused c.args.seed)).0
+    (none_stored _ (bytes_of c.args.capture) c.args.scenarios.now c.args.seed c.args.folder.now (g.D.Disk.history c.args.disk.now) (c.in_err-capture.ensures.refused c.args.seed)).0
 
 pub returns-in_err-capture-clause-taken : goal.returns-in_err-capture-clause-taken
 returns-in_err-capture-clause-taken g c =
     let fault = err_from_is_err_and c.from_residual.result c.from_residual.ensures.1 in
-    rw (fault.1, fault.2) (none_stored _ (bytes_of c.args.capture) c.args.scenarios.now c.args.seed c.args.folder.now.folder _ _ (c.in_err-capture.ensures.refused c.args.seed)).1
+    rw (fault.1, fault.2) (none_stored _ (bytes_of c.args.capture) c.args.scenarios.now c.args.seed c.args.folder.now _ (c.in_err-capture.ensures.refused c.args.seed)).1
 
 pub returns-in_err-capture-clause-faults : goal.returns-in_err-capture-clause-faults
 returns-in_err-capture-clause-faults g c =
     let fault = err_from_is_err_and c.from_residual.result c.from_residual.ensures.1 in
-    rw (fault.1, fault.2) (omega (arith, refused_faults _ (bytes_of c.args.capture) c.args.scenarios.now c.args.seed c.args.folder.now.folder (c.in_err-capture.ensures.refused c.args.seed)))
+    rw (fault.1, fault.2) (omega (arith, refused_faults _ (bytes_of c.args.capture) c.args.scenarios.now c.args.seed c.args.folder.now (c.in_err-capture.ensures.refused c.args.seed)))
 
 -- the folder could not be held
 pub returns-in_err-hold_for-clause-ends : goal.returns-in_err-hold_for-clause-ends
@@ -32,7 +30,7 @@ returns-in_err-hold_for-clause-ends g c =
     let wanted = outputs_for c.in_ok-capture.capture c.args.scenarios.now c.args.seed in
     let many = as_many_for c.in_ok-capture.capture c.args.scenarios.now c.args.seed in
     rw (fault.1, fault.2, c.in_ok-capture.ensures.answered c.args.seed)
-    (not_held c.args.folder.now.folder wanted c.in_err-hold_for.field-0.0 _ _ _ _ held.as_before (subst (λ n. PutsAfter 0 (Unit {0}) (0 < n) c.args.folder.now.failed c.hold_for.new.folder.failed (Err c.in_err-hold_for.field-0.0)) (sym many) held.holds)).0
+    (not_held c.args.folder.now wanted c.in_err-hold_for.field-0.0 _ _ held.as_before (held.refused.0, omega (arith, many, held.refused.1))).0
 
 pub returns-in_err-hold_for-clause-taken : goal.returns-in_err-hold_for-clause-taken
 returns-in_err-hold_for-clause-taken g c =
@@ -41,23 +39,14 @@ returns-in_err-hold_for-clause-taken g c =
     let wanted = outputs_for c.in_ok-capture.capture c.args.scenarios.now c.args.seed in
     let many = as_many_for c.in_ok-capture.capture c.args.scenarios.now c.args.seed in
     rw (fault.1, fault.2, c.in_ok-capture.ensures.answered c.args.seed)
-    (not_held c.args.folder.now.folder wanted c.in_err-hold_for.field-0.0 _ _ _ _ held.as_before (subst (λ n. PutsAfter 0 (Unit {0}) (0 < n) c.args.folder.now.failed c.hold_for.new.folder.failed (Err c.in_err-hold_for.field-0.0)) (sym many) held.holds)).1
+    (not_held c.args.folder.now wanted c.in_err-hold_for.field-0.0 _ _ held.as_before (held.refused.0, omega (arith, many, held.refused.1))).1
 
 pub returns-in_err-hold_for-clause-faults : goal.returns-in_err-hold_for-clause-faults
 returns-in_err-hold_for-clause-faults g c =
     let fault = err_from_is_err_and c.from_residual-in_err-hold_for.result c.from_residual-in_err-hold_for.ensures.1 in
-    rw (fault.1, fault.2) (stopped_faults c.args.folder.now.folder c.in_err-hold_for.field-0.0 _ _ _ refl c.in_err-hold_for.ensures.faults)
+    rw (fault.1, fault.2) c.in_err-hold_for.ensures.faults
 
 -- it is held
 pub returns-clause-taken : goal.returns-clause-taken
 returns-clause-taken g c =
-    let held = c.in_ok-hold_for.ensures in
-    rw (c.in_ok-capture.ensures.answered c.args.seed)
-    (held_taken c.store_outputs.result _ c.args.folder.now.folder _ (g.D.Disk.history c.args.disk.now) _ (g.D.Disk.history c.store_outputs.new.disk) c.args.folder.now.failed _ _
-    held.folder held.as_before held.holds.1 c.store_outputs.ensures.taken)
-
-pub returns-clause-faults : goal.returns-clause-faults
-returns-clause-faults g c =
-    let held = c.in_ok-hold_for.ensures in
-    subst (λ f. g.D.Disk.faults c.store_outputs.new.disk ≡ g.D.Disk.faults c.args.disk.now + failed_stores f c.store_outputs.result) held.folder
-    (omega (arith, held.faults, c.store_outputs.ensures.faults))
+    rw (c.in_ok-capture.ensures.answered c.args.seed, ← c.in_ok-hold_for.ensures.as_before) c.store_outputs.ensures.taken

@@ -1,0 +1,17 @@
+use Rattle.std.proofs.Common.{◌≡◌, ◌-◌, ◌≤◌, length, take}
+use Rattle.pcap_records.specs.Reading.{capture_limit}
+use Rattle.run_files.specs.Loading.{ComesOn}
+use Rattle.run_files.proofs.inputs.load_rest.Given as goal
+
+-- all that came is within the limit, and begins with what came at first
+abbrev pub invariant-reads : goal.invariant-reads
+invariant-reads g l = record {
+  can : g.I.Input.can_read l.input;
+  came : ComesOn g.I.Input.gives l.fn.input l.fn.came.items l.input l.bytes.items;
+  within : length l.bytes.items ≤ capture_limit;
+  first : take (length l.fn.came.items) l.bytes.items ≡ l.fn.came.items;
+}
+
+-- each read but the last gives a byte
+abbrev pub decreases-reads : goal.decreases-reads
+decreases-reads g l = capture_limit - length l.bytes.items

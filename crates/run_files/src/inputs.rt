@@ -1,0 +1,107 @@
+//! What a text is read of, a file of a disk or a reader, and loading all of it.
+ghost use Rattle.std.specs.Prelude.{◌≡◌, ◌≤◌, ◌<◌, ℕ, List, length, take, IfOk};
+ghost use Rattle.pcap_records.specs.Reading.{capture_limit};
+ghost use Rattle.run_files.specs.Loading.{ComesOn, LoadsAfter};
+
+use crate::error::RunFault;
+use crate::streams::Counted;
+use disks::DiskFile;
+use pcap_records::CAPTURE_LIMIT;
+use std::io::Read;
+
+pub(crate) trait Input {
+    ghost use Rattle.std.specs.Prelude.{◌≡◌, ◌<◌, ◌≤◌, ◌++◌, ℕ, List, length, take, IfNone, IfSome};
+    ghost use Rattle.run_files.specs.Loading.{ComesOn};
+
+    ghost can_read: { Self → Type 0 };
+
+    // Since it was in the first state it gave these bytes, and no read failed.
+    ghost gives: { Self → Self → List ℕ → Type 0 };
+
+    // It gave them, and then a read failed.
+    ghost fails: { Self → Self → List ℕ → Type 0 };
+
+    ghost is_at_end: { Self → Type 0 };
+
+    /// Reads once, at most as many bytes as `room` has; 0 of them only at the end. None if the read failed.
+    fn read_more(&mut self, room: &mut [u8]) -> Option<usize>
+        requires { can_read self.old }
+        ensures within { IfSome result (λ n. n ≤ length room.new) }
+        ensures again { IfSome result (λ n. can_read self.new) }
+        ensures came { IfSome result (λ n. (bytes : List ℕ) → ComesOn gives self.old bytes self.new (bytes ++ take n room.new)) }
+        ensures at_end { IfSome result (λ n. n ≡ 0 → 0 < length room.new → is_at_end self.new) }
+        ensures failed { IfNone result ((before : Self) (bytes : List ℕ) → gives before self.old bytes → fails before self.new bytes) };
+}
+
+impl<R: Read> Input for Counted<R> {
+    ghost use Rattle.std.specs.Prelude.{◌≡◌, ◌+◌, ◌-◌, ◌<◌, ◌^◌};
+    ghost use Rattle.std.specs.Io.KnownBytes.{Consumes, IsAtEnd};
+
+    ghost can_read = { λ c. c.failed < 2 ^ 64 - 1 };
+
+    ghost gives = { λ before now bytes. Consumes (R.remaining before.inner) (R.remaining now.inner) bytes × (now.failed ≡ before.failed) };
+
+    ghost fails = { λ before now bytes. Consumes (R.remaining before.inner) (R.remaining now.inner) bytes × (now.failed ≡ before.failed + 1) };
+
+    ghost is_at_end = { λ c. IsAtEnd (R.remaining c.inner) };
+
+    fn read_more(&mut self, room: &mut [u8]) -> Option<usize> {
+        match self.read_some(room) {
+            Ok(len) => Some(len),
+            Err(_) => None,
+        }
+    }
+}
+
+/// A file that is read from where it is.
+#[derive(Drop)]
+pub(crate) struct OpenFile<F> {
+    pub(crate) file: F,
+}
+
+impl<F: DiskFile> Input for OpenFile<F> {
+    ghost use Rattle.run_files.specs.Loading.{CameOf, FailedAfter, IsPast};
+
+    ghost can_read = { λ o. Unit {0} };
+
+    ghost gives = { λ before now bytes. CameOf (F.told before.file) (F.told now.file) (F.place now.file) bytes };
+
+    ghost fails = { λ before now bytes. FailedAfter (F.told before.file) (F.told now.file) (F.place now.file) bytes };
+
+    ghost is_at_end = { λ o. IsPast (F.told o.file) (F.place o.file) };
+
+    fn read_more(&mut self, room: &mut [u8]) -> Option<usize> {
+        match self.file.read(room) {
+            Ok(len) => Some(len),
+            Err(_) => None,
+        }
+    }
+}
+
+/// Loads all bytes of an input after its first ones, which came already.
+pub(crate) fn load_rest<I: Input>(
+    input: &mut I,
+    came: Vec<u8>,
+    buffer: &mut [u8],
+) -> Result<Vec<u8>, RunFault>
+    requires can { I.can_read input.old }
+    requires short { length came.items ≤ capture_limit }
+    requires room { 0 < length buffer.old }
+    ensures loads { LoadsAfter I.gives I.fails I.is_at_end input.old came.items input.new (λ bytes. bytes.items) result }
+    ensures first { IfOk result (λ bytes. take (length came.items) bytes.items ≡ came.items) }
+    ensures within { IfOk result (λ bytes. length bytes.items ≤ capture_limit) }
+{
+    let mut bytes = came;
+    'reads: loop {
+        let Some(len) = input.read_more(buffer) else {
+            return Err(RunFault::ReadFailed);
+        };
+        if len == 0 {
+            return Ok(bytes);
+        }
+        if len > CAPTURE_LIMIT - bytes.len() {
+            return Err(RunFault::CaptureTooLong);
+        }
+        bytes.extend_from_slice(&buffer[..len])?;
+    }
+}

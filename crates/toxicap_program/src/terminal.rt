@@ -8,8 +8,7 @@ use std::sync::Wait;
 use std::sync::atomic::{AtomicU64, Ordering};
 use std::thread::Threads;
 
-/// Standard input. Standard error says that it is read, unless that is announced, before the first read, which waits. The first bytes are
-/// kept.
+/// Standard input, whose first bytes are kept. Before the first read, which waits, standard error says that it is read, unless that is said.
 #[derive(Drop)]
 pub struct Announced<R> {
     pub input: R,
@@ -34,8 +33,7 @@ impl<R: Read> Read for Announced<R> {
     }
 }
 
-/// The files of a runtime. Standard error says how many of `all` scenarios are stored, if these are at least two, each time the second
-/// file of one has taken its name.
+/// The files of a runtime. Standard error counts the stored scenarios, if `all` are at least two, when the second file of one is named.
 #[derive(Drop)]
 pub struct Counting<'a, R> {
     pub rt: &'a R,

@@ -12,7 +12,7 @@
 --   9. a write of the reports, or a file of the folder, fails (`PrintsBy` and `StoresBy`, in RunEnds).
 -- Out of memory comes when an allocation fails, anywhere among them, but before the first byte of the reports is written. `NamedFiles` says
 -- what named files hold: there 3 is the first scenario file at fault, and comes before 4.
-use Rattle.std.specs.Prelude.{◌≡◌, ℕ, ◌+◌, ◌<◌, ◌⊎◌, List, length, take, Option, Some, None, Result, Ok, Err}
+use Rattle.std.specs.Prelude.{◌≡◌, ℕ, ◌+◌, ◌<◌, ◌⊎◌, List, length, take, Option, Some, None, Result, Ok, Err, IsOk}
 use Rattle.std.specs.Borrow.{Bor}
 use Rattle.std.specs.Io.KnownBytes.{Appends, Consumes, IsAtEnd}
 use Rattle.std.specs.String.{string_bytes}
@@ -93,11 +93,10 @@ CommandEnds (Err (stop.Shown text)) outcome s = WritesText outcome (string_bytes
 CommandEnds (Err (stop.Usage text)) outcome s = ⊥
 CommandEnds (Err stop.Memory) outcome s = (outcome ≡ Err Memory) × s.Unread × s.Unwritten
 
--- How the program ends with a status. After a fault of the command line nothing is read, and only the fault is written. Else an outcome
--- says what was read and written, the status, and what was told.
-abbrev pub ProgramEnds : Result Asked Stop → ℕ → Streams → FaultStream → Type 0
-ProgramEnds (Err (stop.Usage text)) status s t =
-    (status ≡ usage_status) × WrittenSoFar (string_bytes text) t.Told t.before t.now × s.Unread × s.Unwritten
-ProgramEnds line status s t =
-    (outcome : Result (Unit {0}) RunFault) × CommandEnds line outcome s
-    × s.WritesFailed (failed_writes outcome) × (status ≡ status_of outcome) × Tells outcome t.Untold t.Told t.before t.now
+-- How the program ends with a status, and the outcome that it is the status of. After a fault of the command line the outcome is Ok, and
+-- nothing is read or written except what tells the fault.
+abbrev pub ProgramEnds : Result Asked Stop → ℕ → Result (Unit {0}) RunFault → Streams → FaultStream → Type 0
+ProgramEnds (Err (stop.Usage text)) status outcome s t =
+    (status ≡ usage_status) × IsOk outcome × WrittenSoFar (string_bytes text) t.Told t.before t.now × s.Unread × s.Unwritten
+ProgramEnds line status outcome s t =
+    CommandEnds line outcome s × s.WritesFailed (failed_writes outcome) × (status ≡ status_of outcome) × Tells outcome t.Untold t.Told t.before t.now

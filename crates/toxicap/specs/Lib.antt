@@ -13,7 +13,6 @@ pub mod Inputs
 pub mod HostLines
 pub mod Commands
 pub mod NamedFiles
-pub mod Outcomes
 pub mod KilledRuns
 pub mod WrittenRows
 pub mod GroupingRows

@@ -21,7 +21,6 @@ use Rattle.toxicap.specs.Answering.{called_for}
 use Rattle.toxicap.specs.Commands.{FaultStream, ProgramEnds, Streams}
 use Rattle.toxicap.specs.Inputs.{hosts_asked, texts_or_bare}
 use Rattle.toxicap.specs.PrintedReports.{PrintsOf}
-use Rattle.toxicap.specs.RunEnds.{Tells, status_of}
 use Rattle.toxicap.specs.StoredOutputs.{FilesOf, StoresUnlessMemory, files_in}
 
 -- the texts at some paths, after those loaded earlier, or the first refusal
@@ -74,17 +73,16 @@ abbrev pub failed_calls : Option (Bor (List ℕ)) → Result (Unit {0}) RunFault
 failed_calls None outcome = 0
 failed_calls (Some folder) outcome = failed_stores folder.now outcome
 
--- How the program ends over a disk that tells its history. `HaveFailed n` means that n calls of the disk have failed.
-abbrev pub EndsOver : History → Result Asked Stop → ℕ → Streams → FaultStream → Option History → (ℕ → Type 0) → Type 0
-EndsOver h (Ok asked) status s t new HaveFailed =
-    (outcome : Result (Unit {0}) RunFault) × RunsOver h asked outcome s new × HaveFailed (failed_calls asked.out outcome)
-    × (status ≡ status_of outcome) × Tells outcome t.Untold t.Told t.before t.now
-EndsOver h (Err stop) status s t new HaveFailed = (new ≡ Some h) × HaveFailed 0
+-- what the outcome of a run is by the disk's history, and the number of failed calls; on any other command line the disk is as it was
+abbrev pub EndsOver : History → Result Asked Stop → Result (Unit {0}) RunFault → Streams → Option History → (ℕ → Type 0) → Type 0
+EndsOver h (Ok asked) outcome s new HaveFailed = RunsOver h asked outcome s new × HaveFailed (failed_calls asked.out outcome)
+EndsOver h (Err stop) outcome s new HaveFailed = (new ≡ Some h) × HaveFailed 0
 
--- how the program ends over any disk
-abbrev pub ProgramEndsOver : Option History → Option History → (ℕ → Type 0) → Result Asked Stop → ℕ → Streams → FaultStream → Type 0
-ProgramEndsOver old new HaveFailed line status s t =
-    ProgramEnds line status s t × IfSome old (λ h. EndsOver h line status s t new HaveFailed)
+-- How the program ends, whatever its disk holds; and by its histories before and after, if the disk tells them, and by its failed calls.
+abbrev pub ProgramEndsOver : Option History → Option History → (ℕ → Type 0) → Result Asked Stop → ℕ → Result (Unit {0}) RunFault → Streams → FaultStream
+    → Type 0
+ProgramEndsOver old new HaveFailed line status outcome s t =
+    ProgramEnds line status outcome s t × IfSome old (λ h. EndsOver h line outcome s new HaveFailed)
 
 -- how a capture is loaded of a file, where `Unread` means that standard input is not read
 abbrev pub LoadsFile : {A : Type 0} → (A → List ℕ) → Result A RunFault → Option History → List ℕ → Type 0 → Type 0

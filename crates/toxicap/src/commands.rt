@@ -7,7 +7,6 @@ ghost use Rattle.command_line.specs.declared.asked.Asked.{Asked};
 ghost use Rattle.command_line.specs.declared.error.Stop.{Stop};
 ghost use Rattle.toxicap.specs.Commands.{ProgramEnds, fault_stream, streams};
 ghost use Rattle.toxicap.specs.NamedFiles.{ProgramEndsOver};
-ghost use Rattle.toxicap.specs.Outcomes.{EndsWith};
 ghost use Rattle.toxicap.specs.RunEnds.{no_text, status_of, text_with_line_feed, usage_status, Tells, WrittenSoFar};
 
 use crate::runs::run_asked;
@@ -51,8 +50,8 @@ where
     ensures quiet { result ≡ 0 → faults.new ≡ faults.old }
     ensures usage { result ≡ 2 → (input.new ≡ input.old) × (output.new ≡ output.old) }
 
-    ensures ends { (line : Result Asked Stop) × ReadsAs (map S.text words.now) line
-        × ProgramEnds line result
+    ensures ends { (line : Result Asked Stop) × (outcome : Result (Unit {0}) RunFault) × ReadsAs (map S.text words.now) line
+        × ProgramEnds line result outcome
         (streams I.remaining input.old input.new O.contents output.old output.new) (fault_stream E.contents faults.old faults.new) }
 {
     let mut disk = HostDisk::new(rt);
@@ -95,9 +94,7 @@ where
     ensures quiet { result.0 ≡ 0 → faults.new ≡ faults.old }
     ensures usage { result.0 ≡ 2 → (input.new ≡ input.old) × (output.new ≡ output.old) }
     ensures ends { (line : Result Asked Stop) × ReadsAs (map S.text words.now) line
-        × ProgramEndsOver (D.history disk.old) (D.history disk.new) (λ n. D.faults disk.new ≡ D.faults disk.old + n) line result.0
-        (streams I.remaining input.old input.new O.contents output.old output.new) (fault_stream E.contents faults.old faults.new)
-        × EndsWith (D.history disk.old) (D.history disk.new) (λ n. D.faults disk.new ≡ D.faults disk.old + n) line result.0 result.1
+        × ProgramEndsOver (D.history disk.old) (D.history disk.new) (λ n. D.faults disk.new ≡ D.faults disk.old + n) line result.0 result.1
         (streams I.remaining input.old input.new O.contents output.old output.new) (fault_stream E.contents faults.old faults.new) }
 {
     match read_arguments(alloc, words) {

@@ -6,16 +6,9 @@ use Rattle.toxicap.proofs.commands.command_over.Goals as goal
 pub returns-in-Ok-clause-ends : goal.returns-in-Ok-clause-ends
 returns-in-Ok-clause-ends g c =
     let ran = c.run_asked-outcome.ensures in
-    let outcome = c.run_asked-outcome.result in
     let told = c.report_outcome.ensures in (
       Ok c.in-Ok.asked,
       c.in-Ok.ensures,
-      (
-        (outcome, ran.runs, ran.failed_writes, told.status, told.told),
-        IfSome_then (g.D.Disk.history c.args.disk.now) ran.named (λ h over. (outcome, over, ran.failed_calls, told.status, told.told)),
-      ),
-      (
-        (ran.runs, ran.failed_writes, told.status, told.told),
-        IfSome_then (g.D.Disk.history c.args.disk.now) ran.named (λ h over. (over, ran.failed_calls)),
-      ),
+      (ran.runs, ran.failed_writes, told.status, told.told),
+      IfSome_then (g.D.Disk.history c.args.disk.now) ran.named (λ h over. (over, ran.failed_calls)),
     )

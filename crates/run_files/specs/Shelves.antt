@@ -1,5 +1,5 @@
 -- Files that are put on a shelf, and what contracts see of a shelf in memory.
-use Rattle.std.specs.Prelude.{◌≡◌, ⊤, List, ◌++◌, Option, Some, None}
+use Rattle.std.specs.Prelude.{◌≡◌, ⊤, ℕ, List, ◌++◌, Option, Some, None}
 use Rattle.run_files.specs.StoredFiles.{StoredFile}
 
 -- A shelf has taken some files, and no other, by the files that it had and has. Nothing is said of a shelf that does not tell them.

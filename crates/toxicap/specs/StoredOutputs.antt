@@ -25,7 +25,7 @@ abbrev pub StoresUnlessMemory : Result (Unit {0}) RunFault → Result (List Outp
 StoresUnlessMemory (Err Memory) wanted = Unit {0}
 StoresUnlessMemory outcome wanted = StoresOf outcome wanted
 
--- The files that are stored then, where `Took` means that some were: all of them; a first part if the folder failed or out of memory; and
+-- The files that are stored then, where `Took` means that some were: all of them; a first part if the folder failed or memory ran out; and
 -- none if the run was refused.
 abbrev pub FilesOf : Result (Unit {0}) RunFault → Result (List Output) RunFault → (List StoredFile → Type 0) → Type 0
 FilesOf (Ok _) wanted Took = Took (files_in wanted)

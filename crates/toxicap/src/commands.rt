@@ -63,7 +63,7 @@ where
 ///
 /// If the disk tells its history, the outcome follows from it: each scenario is the text at its own path, and the capture that at its path;
 /// of several files at fault the first counts, in the order of the scenarios, and then the capture. After a run of status 0 the files of the
-/// outputs have got their names in the folder, and no others have; if the folder fails or out of memory, a first part of them has; at any
+/// outputs have got their names in the folder, and no others have; if the folder fails or memory runs out, a first part of them has; at any
 /// other refusal, and without `--out`, the disk is as it was. Of the disk's calls that hold a folder, allow a name or give one, one has failed
 /// exactly if a file could not be stored in a folder that has a path. Whenever the run is cut off, each path holds what it held before it, or
 /// the whole file that it was to get.

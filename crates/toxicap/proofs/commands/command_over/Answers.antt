@@ -9,6 +9,8 @@ returns-in-Ok-clause-ends g c =
     let told = c.report_outcome.ensures in (
       Ok c.in-Ok.asked,
       c.in-Ok.ensures,
-      (ran.runs, ran.failed_writes, told.status, told.told),
-      IfSome_then (g.D.Disk.history c.args.disk.now) ran.named (λ h over. (over, ran.failed_calls)),
+      (
+        (ran.runs, ran.failed_writes, told.status, told.told),
+        IfSome_then (g.D.Disk.history c.args.disk.now) ran.named (λ h over. (over, ran.failed_calls)),
+      ),
     )

@@ -10,18 +10,11 @@ most_workers = 16
 abbrev pub most_cut : ℕ
 most_cut = 2 ^ 20
 
--- the defaults, also as clap takes them
 abbrev pub default_workers : ℕ
 default_workers = 1
 
-abbrev pub default_workers_text : Text
-default_workers_text = codes "1"
-
 abbrev pub default_cut : ℕ
 default_cut = 4096
-
-abbrev pub default_cut_text : Text
-default_cut_text = codes "4096"
 
 -- an option with a value, which may stand once
 abbrev pub option_rule : Text → Rule
@@ -51,6 +44,6 @@ abbrev pub program_options : App
 program_options =
     with_rule (with_rule (with_rule (with_rule path_options
     (number_rule (codes "seed") 0 (2 ^ 64 - 1) (codes "0")))
-    (number_rule (codes "workers") 1 most_workers default_workers_text))
-    (number_rule (codes "cut") 1 most_cut default_cut_text))
+    (number_rule (codes "workers") 1 most_workers (codes "1")))
+    (number_rule (codes "cut") 1 most_cut (codes "4096")))
     (option_rule (codes "out"))

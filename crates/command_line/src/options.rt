@@ -16,11 +16,7 @@ pub(crate) const MOST_CUT: u32 = 1 << 20;
 
 pub(crate) const DEFAULT_WORKERS: u32 = 1;
 
-const DEFAULT_WORKERS_TEXT: &str = "1";
-
 pub(crate) const DEFAULT_CUT: u32 = 4096;
-
-const DEFAULT_CUT_TEXT: &str = "4096";
 
 // An option that takes a value and may stand once.
 fn option<'a>(alloc: Global, name: &'a str, value: &'a str, help: &'a str) -> Arg<'a>
@@ -39,11 +35,7 @@ fn repeated<'a>(alloc: Global, name: &'a str, value: &'a str, help: &'a str) -> 
     ensures rule { rule_of result ≡ repeated_rule name.entry.now }
     ensures local { result.global ≡ false }
 {
-    Arg::new(alloc, name)
-        .long(name)
-        .value_name(value)
-        .help(help)
-        .action(ArgAction::Append)
+    option(alloc, name, value, help).action(ArgAction::Append)
 }
 
 fn number<'a>(
@@ -57,11 +49,7 @@ fn number<'a>(
     ensures rule { rule_of result ≡ number_rule name.entry.now least most default.entry.now }
     ensures local { result.global ≡ false }
 {
-    Arg::new(alloc, name)
-        .long(name)
-        .value_name("N")
-        .help(help)
-        .action(ArgAction::Set)
+    option(alloc, name, "N", help)
         .value_parser(ValueParser::unsigned(least, most))
         .default_value(default)
 }
@@ -92,14 +80,7 @@ pub(crate) fn program<'a>(alloc: Global) -> Result<Command<'a>, AllocError>
 {
     with_inputs(alloc)?
         .arg(number(alloc, "seed", SEED, 0, u64::MAX, "0"))?
-        .arg(number(
-            alloc,
-            "workers",
-            WORKERS,
-            1,
-            MOST_WORKERS as u64,
-            DEFAULT_WORKERS_TEXT,
-        ))?
-        .arg(number(alloc, "cut", CUT, 1, MOST_CUT as u64, DEFAULT_CUT_TEXT))?
+        .arg(number(alloc, "workers", WORKERS, 1, MOST_WORKERS as u64, "1"))?
+        .arg(number(alloc, "cut", CUT, 1, MOST_CUT as u64, "4096"))?
         .arg(option(alloc, "out", "DIR", OUT))
 }

@@ -1,6 +1,7 @@
 -- What is seen of a disk in memory.
 use Rattle.std.specs.Prelude.{ℕ, List, fold, Option, Some, None}
 use Rattle.std.specs.Borrow.{Bor}
+use Rattle.disks.specs.declared.disk.FileId.{FileId}
 use Rattle.disks.specs.ToldFiles.{Held, ToldFile}
 use Rattle.disks.specs.Histories.{History, NamedFile, held_with}
 
@@ -22,6 +23,6 @@ first_held files = fold (λ had f. held_with had f.path f.file) nothing_held fil
 abbrev pub history_of : MemoryDiskView → History
 history_of disk = record { first = first_held disk.first; names = disk.names }
 
-abbrev pub told_file : Option (Bor (List ℕ) × ℕ) → Option ToldFile
+abbrev pub told_file : Option (Bor (List ℕ) × ℕ × FileId) → Option ToldFile
 told_file None = None
 told_file (Some found) = Some (record { bytes = found.0.now; lost = found.1 })

@@ -1,5 +1,5 @@
 //! What is asked of a disk: to open files and read them, and to keep drafts of files until they get their names.
-ghost use Rattle.std.specs.Prelude.{◌≡◌};
+ghost use Rattle.std.specs.Prelude.{◌≡◌, ◌+◌, ◌-◌, ◌^◌, ◌<◌, is_ok, if◌then◌else◌};
 
 use crate::read_files::ReadFiles;
 use std::alloc::{AllocError, Global};
@@ -32,6 +32,16 @@ impl From<AllocError> for DiskFault {
 
     fn from(_refused: AllocError) -> DiskFault {
         DiskFault::Memory
+    }
+}
+
+/// Counts a call if it failed.
+pub fn count_failure<T, E>(outcome: &Result<T, E>, failed: &mut u64)
+    requires { failed.old < 2 ^ 64 - 1 }
+    ensures { failed.new ≡ (if is_ok outcome.now then failed.old else failed.old + 1) }
+{
+    if outcome.is_err() {
+        *failed += 1;
     }
 }
 

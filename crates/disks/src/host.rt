@@ -1,7 +1,7 @@
 //! The disk of the host, which tells nothing of what its paths hold, since others may change them: each method is a call or two of std.
 ghost use Rattle.std.specs.Prelude.{None};
 
-use crate::disk::{Disk, DiskFault, DiskFile, FileId, ReadDisk};
+use crate::disk::{Disk, DiskFault, DiskFile, FileId, ReadDisk, count_failure};
 use crate::read_files::ReadFiles;
 use std::alloc::{AllocError, Global};
 use std::fs::{self, DirEntry, File, Metadata, OpenFile, OpenOptions, TryLockError};
@@ -123,23 +123,17 @@ impl<'a, F: Files> HostDraft<'a, F> {
     fn begun(files: &'a F, path: String) -> HostDraft<'a, F>
         ensures { result.path ≡ path }
     {
-        match OpenOptions::new()
+        let opened = OpenOptions::new()
             .write(true)
             .create_new(true)
-            .open(files, &path)
-        {
-            Ok(file) => HostDraft {
-                files,
-                path,
-                file: Some(file),
-                is_there: true,
-            },
-            Err(_) => HostDraft {
-                files,
-                path,
-                file: None,
-                is_there: false,
-            },
+            .open(files, &path);
+        let file = opened.ok();
+        let is_there = file.is_some();
+        HostDraft {
+            files,
+            path,
+            file,
+            is_there,
         }
     }
 
@@ -186,16 +180,10 @@ where
     ghost path_of = { λ d. string_bytes d.path };
 
     fn hold(&mut self, folder: &str, read: &ReadFiles) -> Result<(), DiskFault> {
-        match self.held_folder(folder, read) {
-            Ok(held) => {
-                self.held = held;
-                Ok(())
-            }
-            Err(fault) => {
-                self.failed += 1;
-                Err(fault)
-            }
-        }
+        let held = self.held_folder(folder, read);
+        count_failure(&held, &mut self.failed);
+        self.held = held?;
+        Ok(())
     }
 
     fn sweep(&self, alloc: Global, folder: &str, read: &ReadFiles) -> Result<(), AllocError> {
@@ -230,17 +218,13 @@ where
 
     fn allow_name(&mut self, path: &str, read: &ReadFiles) -> Result<(), DiskFault> {
         let allowed = self.look_at_name(path, read);
-        if allowed.is_err() {
-            self.failed += 1;
-        }
+        count_failure(&allowed, &mut self.failed);
         allowed
     }
 
     fn name(&mut self, draft: HostDraft<'a, F>, path: &str) -> Result<(), DiskFault> {
         let named = draft.named(path);
-        if named.is_err() {
-            self.failed += 1;
-        }
+        count_failure(&named, &mut self.failed);
         named
     }
 

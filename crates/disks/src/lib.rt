@@ -8,7 +8,7 @@ mod memory;
 mod memory_files;
 mod read_files;
 
-pub use disk::{Disk, DiskFault, DiskFile, FileId, ReadDisk};
+pub use disk::{Disk, DiskFault, DiskFile, FileId, ReadDisk, count_failure};
 pub use host::{HostDisk, HostDraft, HostFile, Lockable};
 pub use memory::{MemoryDisk, MemoryDraft};
 pub use memory_files::MemoryDiskFile;

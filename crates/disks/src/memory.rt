@@ -1,7 +1,6 @@
 //! A disk in memory, which tells what its paths hold, and fails when it is told to.
-ghost use Rattle.std.specs.Prelude.{◌≡◌, ◌+◌, ◌-◌, ◌^◌, ◌<◌, is_ok, if◌then◌else◌};
 
-use crate::disk::{Disk, DiskFault, FileId, ReadDisk};
+use crate::disk::{Disk, DiskFault, FileId, ReadDisk, count_failure};
 use crate::memory_files::MemoryDiskFile;
 use crate::read_files::ReadFiles;
 use std::alloc::{AllocError, Global};
@@ -136,45 +135,47 @@ impl MemoryDisk {
     pub fn bytes(&self, path: &str) -> Option<&[u8]>
         ensures { option_map (λ bytes. bytes.now) result ≡ option_map (λ file. file.bytes) (held_now (history_of self.now) path.now) }
     {
-        match self.find(path) {
-            Some((bytes, _)) => Some(bytes),
-            None => None,
-        }
+        self.find(path).map(|found| found.0)
     }
 
-    fn find(&self, path: &str) -> Option<(&[u8], u32)>
+    // The bytes of the file at a path, the number of lost ones after them, and its id: its place among the files that stand at paths, or did.
+    fn find(&self, path: &str) -> Option<(&[u8], u32, FileId)>
         ensures { told_file result ≡ held_now (history_of self.now) path.now }
     {
-        let mut found: Option<(&[u8], u32)> = None;
+        let mut found: Option<(&[u8], u32, FileId)> = None;
         for place in 0..self.first.len() {
             let file = &self.first[place];
             if path == file.path.as_str() {
-                found = Some((file.bytes.as_slice(), file.lost));
+                found = Some((file.bytes.as_slice(), file.lost, id_at(0, place)));
             }
         }
         for place in 0..self.names.len() {
             let file = &self.names[place];
             if path == file.path.as_str() {
-                found = Some((file.bytes.as_slice(), 0));
+                found = Some((file.bytes.as_slice(), 0, id_at(1, place)));
             }
         }
         found
     }
 
+    fn look_at_name(&mut self, path: &str, read: &ReadFiles) -> Result<(), DiskFault>
+        ensures { self.new ≡ self.old }
+    {
+        if self.fails_now() {
+            return Err(DiskFault::Failed);
+        }
+        match self.find(path) {
+            Some((_, _, id)) if read.contains(id) => Err(DiskFault::Failed),
+            _ => Ok(()),
+        }
+    }
+
     fn fails_now(&mut self) -> bool
         ensures { self.new ≡ self.old }
     {
-        match self.good_calls {
-            None => false,
-            Some(0) => {
-                self.good_calls = None;
-                true
-            }
-            Some(calls) => {
-                self.good_calls = Some(calls - 1);
-                false
-            }
-        }
+        let calls = self.good_calls;
+        self.good_calls = calls.and_then(|left| left.checked_sub(1));
+        calls == Some(0)
     }
 
     fn keep(&mut self, draft: MemoryDraft, path: &str) -> Result<(), DiskFault>
@@ -200,12 +201,10 @@ impl MemoryDisk {
     }
 }
 
-fn count_failure(outcome: &Result<(), DiskFault>, failed: &mut u64)
-    requires { failed.old < 2 ^ 64 - 1 }
-    ensures { failed.new ≡ (if is_ok outcome.now then failed.old else failed.old + 1) }
-{
-    if outcome.is_err() {
-        *failed += 1;
+fn id_at(device: u64, place: usize) -> FileId {
+    FileId {
+        device,
+        inode: place as u64,
     }
 }
 
@@ -273,53 +272,15 @@ impl Disk for MemoryDisk {
     }
 }
 
-impl MemoryDisk {
-    ghost use Rattle.std.specs.Prelude.{◌≡◌};
-
-    // A file's id is its place among the files that stand at paths, or did.
-    fn id_of(&self, path: &str) -> Option<FileId> {
-        let named = self
-            .names
-            .iter()
-            .rposition(|file| path == file.path.as_str());
-        if let Some(place) = named {
-            return Some(FileId {
-                device: 1,
-                inode: place as u64,
-            });
-        }
-        let first = self
-            .first
-            .iter()
-            .rposition(|file| path == file.path.as_str())?;
-        Some(FileId {
-            device: 0,
-            inode: first as u64,
-        })
-    }
-
-    fn look_at_name(&mut self, path: &str, read: &ReadFiles) -> Result<(), DiskFault>
-        ensures { self.new ≡ self.old }
-    {
-        if self.fails_now() {
-            return Err(DiskFault::Failed);
-        }
-        match self.id_of(path) {
-            Some(id) if read.contains(id) => Err(DiskFault::Failed),
-            _ => Ok(()),
-        }
-    }
-}
-
 impl ReadDisk for MemoryDisk {
     type File = MemoryDiskFile;
 
     fn open(&self, alloc: Global, path: &str) -> Result<MemoryDiskFile, DiskFault> {
-        let Some((bytes, lost)) = self.find(path) else {
+        let Some((bytes, lost, id)) = self.find(path) else {
             return Err(DiskFault::Failed);
         };
         Ok(MemoryDiskFile {
-            id: self.id_of(path),
+            id: Some(id),
             bytes: Vec::from_slice(alloc, bytes)?,
             lost,
             place: 0,

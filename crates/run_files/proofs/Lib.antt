@@ -7,4 +7,3 @@ mod PrintedPart
 mod SeenParts
 mod LoadedTexts
 pub mod StoredFiles
-pub mod DraftedFiles

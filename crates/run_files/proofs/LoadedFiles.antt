@@ -1,52 +1,41 @@
 -- How the bytes of a file come, read after read.
-use Rattle.std.proofs.Common.{◌≡◌, ◌<◌, ◌≤◌, ℕ, ◌+◌, ◌-◌, Bool, true, false, ◌&&◌, nat_lt, List, ◌++◌, length, take, drop, Option, Some, None, Ok, Result, IfSome, refl, sym, ap, ap₂, subst, ◌∙◌, arith, length-append, length-drop, length-take, take-add}
+use Rattle.std.proofs.Common.{◌≡◌, ◌<◌, ◌≤◌, ℕ, ◌+◌, ◌-◌, Bool, true, false, ◌&&◌, nat_lt, List, ◌++◌, length, take, drop, Option, Some, None, Ok, Result, IfSome, refl, sym, ap, ap₂, subst, ◌∙◌, arith, length-append, length-drop, take-add}
 use Rattle.std.proofs.lemmas.Bool.{le-ltb}
-use Rattle.std.proofs.lemmas.List.{drop-drop, length-take-le, take-append-le, take-take, take_all}
+use Rattle.std.proofs.lemmas.List.{drop-drop, length-take-le, take-take, take_all}
 use Rattle.disks.specs.ToldFiles.{ToldFile, Gives, IsFileAt, file_len}
 use Rattle.disks.specs.Histories.{History, held_now}
+use Rattle.lists.specs.Agreement.{AgreesUnlessMemory}
 use Rattle.run_files.specs.declared.error.RunFault.{RunFault}
-use Rattle.run_files.specs.Paths.{text_at, text_of}
+use Rattle.run_files.specs.Paths.{HaveCome, text_at, text_of}
+use Rattle.run_files.specs.RunFault.{run_refusal}
 use Rattle.pcap_records.specs.Blocks.{block_len}
 use Rattle.run_files.specs.LoadedBlocks.{part_at}
 
--- some first bytes of a file from a start on, and those that one read gives after them
-module _ (file : List ℕ) (start : ℕ) (part room more : List ℕ) (n : ℕ) (first : part ≡ take (length part) (drop start file)) (within : length part ≤ length file - start)
-    (gives : take n room ≡ take n (drop (start + length part) file)) (fits : n ≤ length file - (start + length part)) (all : more ≡ part ++ take n room) where
-  after : take n room ≡ take n (drop (length part) (drop start file))
-  after = gives ∙ ap (take n) (sym (drop-drop (length part) start file))
-
-  many : length (take n room) ≡ n
-  many = ap length after ∙ length-take-le n (drop (length part) (drop start file)) (omega (arith, fits, length-drop (length part) (drop start file), length-drop start file))
-
-  pub longer : length more ≡ length part + n
-  longer = ap length all ∙ length-append part (take n room) ∙ ap (λ k. length part + k) many
-
-  pub next_bytes : more ≡ take (length more) (drop start file)
-  next_bytes =
-      all ∙ ap₂ (λ (xs ys : List ℕ). xs ++ ys) first after ∙ sym (take-add (length part) n (drop start file)) ∙ ap (λ k. take k (drop start file)) (sym longer)
-
-  pub still_within : length more ≤ length file - start
-  still_within = omega (arith, longer, fits, within)
+-- some first bytes of a file from a start on, and the first ones that one read gives after them
+one_read : (f : ToldFile) (start : ℕ) (part room more : List ℕ) (n own : ℕ) → own ≤ n → part ≡ take (length part) (drop start f.bytes)
+    → length part ≤ length f.bytes - start → Gives f (start + length part) room n → more ≡ part ++ take own room
+    → (more ≡ take (length more) (drop start f.bytes)) × (length more ≤ length f.bytes - start) × (length more ≡ length part + own)
+one_read f start part room more n own fewer first within gives all =
+    let rest : List ℕ = drop start f.bytes in
+    let came : take own room ≡ take own (drop (length part) rest) =
+    sym (take-take own n room fewer) ∙ ap (take own) gives.bytes ∙ take-take own n (drop (start + length part) f.bytes) fewer
+    ∙ ap (take own) (sym (drop-drop (length part) start f.bytes)) in
+    let many : length (take own room) ≡ own =
+    ap length came ∙ length-take-le own (drop (length part) rest) (omega (arith, fewer, gives.within, length-drop (length part) rest, length-drop start f.bytes)) in
+    let longer : length more ≡ length part + own = ap length all ∙ length-append part (take own room) ∙ ap (λ k. length part + k) many in (
+      all ∙ ap₂ (λ (xs ys : List ℕ). xs ++ ys) first came ∙ sym (take-add (length part) own rest) ∙ ap (λ k. take k rest) (sym longer),
+      omega (arith, longer, fewer, gives.within, within),
+      longer,
+    )
 
 -- a read at the place of the bytes that came
-pub whole_step : (told : Option ToldFile) (bytes room more : List ℕ) (place next n : ℕ)
-    → IfSome told (λ f. (bytes ≡ take (length bytes) f.bytes) × (length bytes ≤ length f.bytes) × (place ≡ length bytes))
-    → IfSome told (λ f. Gives f place room n) → IfSome told (λ f. next ≡ place + n) → more ≡ bytes ++ take n room
-    → IfSome told (λ f. (more ≡ take (length more) f.bytes) × (length more ≤ length f.bytes) × (next ≡ length more))
+pub whole_step : (told : Option ToldFile) (bytes room more : List ℕ) (place next n : ℕ) → IfSome told (λ f. HaveCome f bytes place)
+    → IfSome told (λ f. Gives f place room n) → IfSome told (λ f. next ≡ place + n) → more ≡ bytes ++ take n room → IfSome told (λ f. HaveCome f more next)
 whole_step None bytes room more place next n first gives moved all = tt
 whole_step (Some f) bytes room more place next n first gives moved all =
     let here : place ≡ 0 + length bytes = omega (arith, first.2) in
-    let came : take n room ≡ take n (drop (0 + length bytes) f.bytes) = subst (λ k. take n room ≡ take n (drop k f.bytes)) here gives.bytes in
-    let fits : n ≤ length f.bytes - (0 + length bytes) = subst (λ k. n ≤ length f.bytes - k) here gives.within in (
-      next_bytes f.bytes 0 bytes room more n first.0 (omega (arith, first.1)) came fits all,
-      omega (arith, still_within f.bytes 0 bytes room more n first.0 (omega (arith, first.1)) came fits all),
-      omega (arith, moved, first.2, longer f.bytes 0 bytes room more n first.0 (omega (arith, first.1)) came fits all),
-    )
-
--- what came at first stays in front
-pub still_first : (first bytes last more : List ℕ) → take (length first) bytes ≡ first → more ≡ bytes ++ last → take (length first) more ≡ first
-still_first first bytes last more begins all =
-    ap (take (length first)) all ∙ take-append-le (length first) bytes last (omega (arith, ap length begins, length-take (length first) bytes)) ∙ begins
+    let read = one_read f 0 bytes room more n n (omega arith) first.0 (omega (arith, first.1)) (subst (λ k. Gives f k room n) here gives) all in
+    (read.0, omega (arith, read.1), omega (arith, moved, first.2, read.2))
 
 -- the first bytes of a read, after those that came of a part
 pub part_step : (told : Option ToldFile) (start : ℕ) (part room more : List ℕ) (n own : ℕ) → own ≤ n
@@ -55,12 +44,7 @@ pub part_step : (told : Option ToldFile) (start : ℕ) (part room more : List �
     → IfSome told (λ f. (more ≡ take (length more) (drop start f.bytes)) × (length more ≤ length f.bytes - start))
 part_step None start part room more n own fewer first gives all = tt
 part_step (Some f) start part room more n own fewer first gives all =
-    let came : take own room ≡ take own (drop (start + length part) f.bytes) =
-    sym (take-take own n room fewer) ∙ ap (take own) gives.bytes ∙ take-take own n (drop (start + length part) f.bytes) fewer in
-    let fits : own ≤ length f.bytes - (start + length part) = omega (arith, fewer, gives.within) in (
-      next_bytes f.bytes start part room more own first.0 first.1 came fits all,
-      still_within f.bytes start part room more own first.0 first.1 came fits all,
-    )
+    let read = one_read f start part room more n own fewer first.0 first.1 gives all in (read.0, read.1)
 
 -- ---- a part that is loaded
 
@@ -91,12 +75,16 @@ last_part (Some f) start part room short some within first gives =
 
 -- ---- the file at a path
 
-from_held : (P : Result (List ℕ) RunFault → Type 0) (held told : Option ToldFile) → IsFileAt held told → IfSome told (λ f. P (text_of (Some f))) → P (text_of held)
-from_held P None told is of = absurd is
-from_held P (Some f) told is of = subst (λ t. IfSome t (λ file. P (text_of (Some file)))) is of
+module _ {A : Type 0} (view : A → List ℕ) (result : Result A RunFault) where
+  abbrev Loaded : Result (List ℕ) RunFault → Type 0
+  Loaded wanted = AgreesUnlessMemory run_refusal view result wanted
 
--- what holds for the text of the file that was opened holds for the text at its path
-pub text_of_path : (P : Result (List ℕ) RunFault → Type 0) (history : Option History) (path : List ℕ) (told : Option ToldFile) → IfSome history (λ h. IsFileAt (held_now h path) told)
-    → IfSome told (λ f. P (text_of (Some f))) → IfSome history (λ h. P (text_at (held_now h) path))
-text_of_path P None path told is of = tt
-text_of_path P (Some h) path told is of = from_held P (held_now h path) told is of
+  from_held : (held told : Option ToldFile) → IsFileAt held told → IfSome told (λ f. Loaded (text_of (Some f))) → Loaded (text_of held)
+  from_held None told is of = absurd is
+  from_held (Some f) told is of = subst (λ t. IfSome t (λ file. Loaded (text_of (Some file)))) is of
+
+  -- what is loaded of the file that was opened is so of its path
+  pub text_of_path : (history : Option History) (path : List ℕ) (told : Option ToldFile) → IfSome history (λ h. IsFileAt (held_now h path) told)
+      → IfSome told (λ f. Loaded (text_of (Some f))) → IfSome history (λ h. Loaded (text_at (held_now h) path))
+  text_of_path None path told is of = tt
+  text_of_path (Some h) path told is of = from_held (held_now h path) told is of

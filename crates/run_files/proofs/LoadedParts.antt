@@ -1,16 +1,16 @@
 -- How the blocks of a file are gathered, and that they are its bytes.
-use Rattle.std.proofs.Common.{◌≡◌, ◌<◌, ◌≤◌, ◌+◌, ◌*◌, ◌++◌, ℕ, zero, suc, Bool, true, false, cond, ◌&&◌, nat_lt, List, [], ◌∷◌, length, length-append, map, take, drop, get_or, All, Option, Some, None, Ok, Err, IfSome, refl, sym, ap, subst, ◌∙◌, arith, append-nil, append_assoc}
+use Rattle.std.proofs.Common.{◌≡◌, ◌<◌, ◌≤◌, ◌+◌, ◌*◌, ◌++◌, ℕ, zero, suc, Bool, true, false, cond, nat_lt, List, [], ◌∷◌, length, length-append, map, take, drop, get_or, All, Option, Some, None, Ok, Err, IfSome, refl, sym, ap, ap₂, subst, ◌∙◌, arith, append-nil, append_assoc}
 use Rattle.std.specs.Option.{ForSome}
-use Rattle.std.proofs.lemmas.Bool.{le-ltb, ltb-false, ltb-true}
-use Rattle.std.proofs.lemmas.List.{drop-drop, drop_all, length-take, take_all, take-append-drop}
+use Rattle.std.proofs.lemmas.Bool.{le-ltb, ltb-true}
+use Rattle.std.proofs.lemmas.Bool.Decides.{nat_tests}
+use Rattle.std.proofs.lemmas.List.{drop-drop, drop_all, drop_more, length-drop, length-take, take_all, take-append-drop}
 use Rattle.std.proofs.lemmas.List.Elements.{All-tail}
+use Rattle.std.proofs.lemmas.List.FromFn.{get_or-map-range_with_len, length-map-range_with_len}
 use Rattle.disks.specs.ToldFiles.{ToldFile, file_len}
 use Rattle.pcap_records.specs.Blocks.{block_len, block_limit, bytes_until_short}
 use Rattle.pcap_records.specs.Reading.{capture_limit}
-use Rattle.scenarios.specs.Refusals.{and_then}
 use Rattle.run_files.specs.declared.error.RunFault.{RunFault}
-use Rattle.run_files.specs.declared.error.RunFault.TheVariants.{ReadFailed}
-use Rattle.run_files.specs.LoadedBlocks.{BlockView, block_view, blocks_from, part_at, parts_from, HasBlocks}
+use Rattle.run_files.specs.LoadedBlocks.{BlockView, block_view, blocks_of, part_at, HasBlocks}
 use Rattle.run_files.specs.Paths.{text_of}
 
 module _ {A : Type 0} (bytes_of : A → List ℕ) where
@@ -27,172 +27,115 @@ module _ {A : Type 0} (bytes_of : A → List ℕ) where
 
 -- ---- the blocks of a file
 
-block_at : (told : Option ToldFile) (from n job : ℕ) (d : BlockView) → job < n → block_view told (from + job * block_len) ≡ get_or (blocks_from told from n) job d
-block_at told from zero job d within = absurd (omega (arith, within))
-block_at told from (suc n) zero d within = ap (block_view told) (omega arith)
-block_at told from (suc n) (suc job) d within = ap (block_view told) (omega arith) ∙ block_at told (from + block_len) n job d (omega (arith, within))
+module _ (told : Option ToldFile) (count : ℕ) where
+  pub length-blocks : length (blocks_of told count) ≡ count
+  length-blocks = length-map-range_with_len (λ i. block_view told (i * block_len)) 0 count
 
-pub block_of_job : (told : Option ToldFile) (count job place : ℕ) (d : BlockView) → job < count → place ≡ job * block_len → block_view told place ≡ get_or (blocks_from told 0 count) job d
-block_of_job told count job place d within is = ap (block_view told) (omega (arith, is)) ∙ block_at told 0 count job d within
+  pub block_of_job : (job : ℕ) (d : BlockView) → job < count → block_view told (job * block_len) ≡ get_or (blocks_of told count) job d
+  block_of_job job d within = sym (get_or-map-range_with_len (λ i. block_view told (i * block_len)) 0 count job job d within (omega arith))
 
-pub block_within : (told : Option ToldFile) (count job place : ℕ) → ForSome told (HasBlocks count) → job < count → place ≡ job * block_len → IfSome told (λ f. place < file_len f)
-block_within None count job place has within is = tt
-block_within (Some f) count job place has within is = let counted : HasBlocks count f = has f refl in omega (arith, counted.0, within, is)
+pub block_within : (told : Option ToldFile) (count job : ℕ) → ForSome told (HasBlocks count) → job < count → IfSome told (λ f. job * block_len < file_len f)
+block_within None count job has within = tt
+block_within (Some f) count job has within = let counted : HasBlocks count f = has f refl in omega (arith, counted.0, within)
 
--- ---- gathered one after another
+-- ---- the parts that are loaded
 
-pub length-blocks : (told : Option ToldFile) (at n : ℕ) → length (blocks_from told at n) ≡ n
-length-blocks told at zero = refl
-length-blocks told at (suc n) = ap suc (length-blocks told (at + block_len) n)
+-- These parts are the first of a file, and none of their bytes is lost. With the bytes that are left of it behind them they are all of it.
+pub record AreFirst (f : ToldFile) (parts : List (List ℕ)) : Type 0 where
+  pub whole : 0 < f.lost → length parts * block_len ≤ length f.bytes
+  pub same : (others : List (List ℕ)) → bytes_until_short others ≡ drop (length parts * block_len) f.bytes → bytes_until_short (parts ++ others) ≡ f.bytes
+
+none_lost : (f : ToldFile) (at : ℕ) (part : List ℕ) → part_at f at ≡ Ok part → 0 < f.lost → at + block_len ≤ length f.bytes
+none_lost f at part is lost = grind (arith, nat_tests)
+
+part_is : (f : ToldFile) (at : ℕ) (part : List ℕ) → part_at f at ≡ Ok part → part ≡ take block_len (drop at f.bytes)
+part_is f at part is = grind (arith, nat_tests)
+
+part_refused : (f : ToldFile) (count at : ℕ) (refused : RunFault) → HasBlocks count f → count ≤ block_limit → part_at f at ≡ Err refused → text_of (Some f) ≡ Err refused
+part_refused f count at refused has few is = grind (arith, nat_tests)
+
+with_part : (bytes : List ℕ) (at : ℕ) (part : List ℕ) (others : List (List ℕ)) → part ≡ take block_len (drop at bytes)
+    → bytes_until_short others ≡ drop (at + block_len) bytes → bytes_until_short (part ∷ others) ≡ drop at bytes
+unfolding bytes_until_short
+with_part bytes at part others is rest = by (nat_lt (length part) block_len) refl
+  where
+    by : (b : Bool) → nat_lt (length part) block_len ≡ b → cond b part (part ++ bytes_until_short others) ≡ drop at bytes
+    by true short =
+        is ∙ take_all block_len (drop at bytes) (omega (arith, ltb-true (length part) block_len short, ap length is, length-take block_len (drop at bytes)))
+    by false full = ap₂ (λ (xs ys : List ℕ). xs ++ ys) is (rest ∙ sym (drop-drop block_len at bytes)) ∙ take-append-drop block_len (drop at bytes)
 
 -- of `count` blocks these parts were gathered, and these blocks are left
 pub record Gathers (told : Option ToldFile) (count : ℕ) (left : List BlockView) (parts : List (List ℕ)) : Type 0 where
-  pub counted : length parts + length left ≡ count
-  pub left_are : left ≡ blocks_from told (length parts * block_len) (length left)
-  pub parts_are : IfSome told (λ f. parts_from f [] 0 count ≡ parts_from f parts (length parts * block_len) (length left))
+  pub few : length parts ≤ count
+  pub left_are : left ≡ drop (length parts) (blocks_of told count)
+  pub parts_are : IfSome told (λ f. AreFirst f parts)
 
-same_count : (told : Option ToldFile) (count n : ℕ) → n ≡ count → IfSome told (λ f. parts_from f [] 0 count ≡ parts_from f [] 0 n)
-same_count None count n is = tt
-same_count (Some f) count n is = ap (parts_from f [] 0) (sym is)
-
-pub gathers_none : (told : Option ToldFile) (count : ℕ) (left : List BlockView) → left ≡ blocks_from told 0 count → Gathers told count left []
-gathers_none told count left is =
-    let many : length left ≡ count = ap length is ∙ length-blocks told 0 count in record {
-      counted = omega (arith, many);
-      left_are = subst (λ n. left ≡ blocks_from told 0 n) (sym many) is;
-      parts_are = same_count told count (length left) many;
-    }
-
-nothing_of : {A : Type 0} (o : Option A) → IfSome o (λ x. Unit {0})
-nothing_of None = tt
-nothing_of (Some x) = tt
-
-abbrev first_of : BlockView → List BlockView → BlockView
-first_of b [] = b
-first_of b (c ∷ blocks) = c
-
-abbrev others_of : List BlockView → List BlockView
-others_of [] = []
-others_of (b ∷ blocks) = blocks
+pub gathers_none : (told : Option ToldFile) (count : ℕ) (left : List BlockView) → left ≡ blocks_of told count → Gathers told count left []
+gathers_none told count left is = record { few = omega arith; left_are = is; parts_are = none_first told }
+  where
+    none_first : (t : Option ToldFile) → IfSome t (λ f. AreFirst f [])
+    none_first None = tt
+    none_first (Some f) = record { whole = λ lost. omega arith; same = λ others rest. rest }
 
 module _ (told : Option ToldFile) (count : ℕ) (b : BlockView) (left : List BlockView) (parts : List (List ℕ)) (was : Gathers told count (b ∷ left) parts) where
   abbrev at : ℕ
   at = length parts * block_len
 
-  first_is : b ≡ block_view told at
-  first_is = ap (first_of b) was.left_are
+  within : length parts < count
+  within = omega (arith, length-blocks told count, length-drop (length parts) (blocks_of told count), ap length was.left_are)
 
-  others_are : left ≡ blocks_from told (at + block_len) (length left)
-  others_are = ap others_of was.left_are
+  next : b ∷ left ≡ get_or (blocks_of told count) (length parts) b ∷ drop (length parts + 1) (blocks_of told count)
+  next = was.left_are ∙ drop_more (blocks_of told count) (length parts) b (omega (arith, within, length-blocks told count))
 
-  next_part : (t : Option ToldFile) (bytes : List ℕ) → IfSome t (λ f. parts_from f [] 0 count ≡ parts_from f parts at (suc (length left)))
-      → IfSome t (λ f. part_at f at ≡ Ok bytes) → IfSome t (λ f. parts_from f [] 0 count ≡ parts_from f (parts ++ bytes ∷ []) (at + block_len) (length left))
-  unfolding parts_from
-  next_part None bytes are part = tt
-  next_part (Some f) bytes are part = are ∙ ap (λ r. and_then r (λ p. parts_from f (parts ++ p ∷ []) (at + block_len) (length left))) part
+  block_is : b ≡ block_view told at
+  block_is = let own = block_of_job told count (length parts) b within in cc (next, own)
 
   pub gathers_one : (bytes : List ℕ) → IfSome b.told (λ f. part_at f b.at ≡ Ok bytes) → Gathers told count left (parts ++ bytes ∷ [])
-  gathers_one bytes part =
-      let more : length (parts ++ bytes ∷ []) ≡ length parts + 1 = length-append parts (bytes ∷ []) in
-      let after : at + block_len ≡ length (parts ++ bytes ∷ []) * block_len = omega (arith, more) in
-      let here : IfSome told (λ f. part_at f at ≡ Ok bytes) = subst (λ (x : BlockView). IfSome x.told (λ f. part_at f x.at ≡ Ok bytes)) first_is part in record {
-        counted = omega (arith, more, was.counted);
-        left_are = subst (λ n. left ≡ blocks_from told n (length left)) after others_are;
-        parts_are = subst (λ n. IfSome told (λ f. parts_from f [] 0 count ≡ parts_from f (parts ++ bytes ∷ []) n (length left))) after (next_part told bytes was.parts_are here);
+  gathers_one bytes part = record {
+    few = omega (arith, more, within);
+    left_are = let others : left ≡ drop (length parts + 1) (blocks_of told count) = cc next in others ∙ ap (λ n. drop n (blocks_of told count)) (sym more);
+    parts_are = one_more told (subst (λ (x : BlockView). IfSome x.told (λ f. part_at f x.at ≡ Ok bytes)) block_is part) was.parts_are;
+  }
+    where
+      more : length (parts ++ bytes ∷ []) ≡ length parts + 1
+      more = length-append parts (bytes ∷ [])
+
+      one_more : (t : Option ToldFile) → IfSome t (λ f. part_at f at ≡ Ok bytes) → IfSome t (λ f. AreFirst f parts) → IfSome t (λ f. AreFirst f (parts ++ bytes ∷ []))
+      one_more None is first = tt
+      one_more (Some f) is first = record {
+        whole = λ lost. omega (arith, more, none_lost f at bytes is lost);
+        same = λ others rest.
+            let place : length (parts ++ bytes ∷ []) * block_len ≡ at + block_len = omega (arith, more) in
+            ap bytes_until_short (append_assoc parts (bytes ∷ []) others)
+            ∙ first.same (bytes ∷ others) (with_part f.bytes at bytes others (part_is f at bytes is) (rest ∙ ap (λ n. drop n f.bytes) place));
       }
 
-  no_part : (t : Option ToldFile) (refused : RunFault) → IfSome t (λ f. parts_from f [] 0 count ≡ parts_from f parts at (suc (length left)))
-      → IfSome t (λ f. part_at f at ≡ Err refused) → IfSome t (λ f. parts_from f [] 0 count ≡ Err refused)
-  unfolding parts_from
-  no_part None refused are part = tt
-  no_part (Some f) refused are part = are ∙ ap (λ r. and_then r (λ p. parts_from f (parts ++ p ∷ []) (at + block_len) (length left))) part
+  pub gathers_no_more : (refused : Option RunFault) → IfSome told (HasBlocks count) → count ≤ block_limit → IfSome b.told (λ f. IfSome refused (λ r. part_at f b.at ≡ Err r))
+      → IfSome told (λ f. IfSome refused (λ r. text_of (Some f) ≡ Err r))
+  gathers_no_more refused has few part = by told refused has (subst (λ (x : BlockView). IfSome x.told (λ f. IfSome refused (λ r. part_at f x.at ≡ Err r))) block_is part)
+    where
+      by : (t : Option ToldFile) (o : Option RunFault) → IfSome t (HasBlocks count) → IfSome t (λ f. IfSome o (λ r. part_at f at ≡ Err r))
+          → IfSome t (λ f. IfSome o (λ r. text_of (Some f) ≡ Err r))
+      by None o has is = tt
+      by (Some f) None has is = tt
+      by (Some f) (Some r) has is = part_refused f count at r has few is
 
-  refused_part : (refused : RunFault) → IfSome b.told (λ f. part_at f b.at ≡ Err refused) → IfSome told (λ f. parts_from f [] 0 count ≡ Err refused)
-  refused_part refused part =
-      no_part told refused was.parts_are (subst (λ (x : BlockView). IfSome x.told (λ f. part_at f x.at ≡ Err refused)) first_is part)
+none_left : (lost len count many : ℕ) → (0 < lost → many * block_len ≤ len) → len + lost ≤ count * block_len → count ≤ many → lost ≤ 0
+none_left zero len count many whole within all = omega arith
+none_left (suc lost) len count many whole within all = absurd (omega (arith, whole (omega arith), within, all))
 
-  pub gathers_no_more : (refused : Option RunFault) → IfSome b.told (λ f. IfSome refused (λ r. part_at f b.at ≡ Err r))
-      → IfSome told (λ f. IfSome refused (λ r. parts_from f [] 0 count ≡ Err r))
-  gathers_no_more None part = nothing_of told
-  gathers_no_more (Some refused) part = refused_part refused part
-
-pub gathers_all : (told : Option ToldFile) (count : ℕ) (parts : List (List ℕ)) → Gathers told count [] parts → IfSome told (λ f. parts_from f [] 0 count ≡ Ok parts)
-unfolding parts_from
-gathers_all None count parts was = tt
-gathers_all (Some f) count parts was = was.parts_are
-
--- ---- the bytes of the file
-
-abbrev chunks : List ℕ → ℕ → ℕ → List (List ℕ)
-chunks bytes from zero = []
-chunks bytes from (suc n) = take block_len (drop from bytes) ∷ chunks bytes (from + block_len) n
-
-none_right : (a b : Bool) → b ≡ false → (a && b) ≡ false
-none_right true b is = is
-none_right false b is = refl
-
-all_parts : (f : ToldFile) (earlier : List (List ℕ)) (from n : ℕ) → nat_lt 0 f.lost ≡ false → parts_from f earlier from n ≡ Ok (earlier ++ chunks f.bytes from n)
-unfolding parts_from
-all_parts f earlier from zero whole = ap (λ (xs : List (List ℕ)). Ok xs) (sym (append-nil earlier))
-all_parts f earlier from (suc n) whole =
-    let part : part_at f from ≡ Ok (take block_len (drop from f.bytes)) = rw (none_right (nat_lt (length f.bytes) (from + block_len)) (nat_lt 0 f.lost) whole) refl in
-    ap (λ r. and_then r (λ p. parts_from f (earlier ++ p ∷ []) (from + block_len) n)) part
-    ∙ all_parts f (earlier ++ take block_len (drop from f.bytes) ∷ []) (from + block_len) n whole
-    ∙ ap (λ (xs : List (List ℕ)). Ok xs) (append_assoc {A = List ℕ} earlier (take block_len (drop from f.bytes) ∷ []) (chunks f.bytes (from + block_len) n))
-
-lost_part : (f : ToldFile) (earlier : List (List ℕ)) (from n : ℕ) → nat_lt 0 f.lost ≡ true → file_len f ≤ from + n * block_len → from < file_len f
-    → parts_from f earlier from n ≡ Err ReadFailed
-unfolding parts_from
-lost_part f earlier from zero lost within more = absurd (omega (arith, within, more))
-lost_part f earlier from (suc n) lost within more =
-    by (nat_lt (length f.bytes) (from + block_len)) refl (lost_part f (earlier ++ take block_len (drop from f.bytes) ∷ []) (from + block_len) n lost (omega (arith, within)))
-  where
-    by : (b : Bool) → nat_lt (length f.bytes) (from + block_len) ≡ b
-        → (from + block_len < file_len f → parts_from f (earlier ++ take block_len (drop from f.bytes) ∷ []) (from + block_len) n ≡ Err ReadFailed)
-        → and_then (part_at f from) (λ p. parts_from f (earlier ++ p ∷ []) (from + block_len) n) ≡ Err ReadFailed
-    by true ends rest = rw (ends, lost) refl
-    by false ends rest = rw ends (rest (omega (arith, ltb-false (length f.bytes) (from + block_len) ends, ltb-true 0 f.lost lost)))
-
--- the parts up to the end are the bytes
-chunks_are : (bytes : List ℕ) (from n : ℕ) → length bytes ≤ from + n * block_len → bytes_until_short (chunks bytes from n) ≡ drop from bytes
+pub gathers_all : (told : Option ToldFile) (count : ℕ) (parts : List (List ℕ)) → IfSome told (HasBlocks count) → count ≤ block_limit → Gathers told count [] parts
+    → IfSome told (λ f. text_of (Some f) ≡ Ok (bytes_until_short parts))
 unfolding bytes_until_short
-chunks_are bytes from zero within = sym (drop_all from bytes (omega (arith, within)))
-chunks_are bytes from (suc n) within =
-    by (nat_lt (length (take block_len (drop from bytes))) block_len) refl (chunks_are bytes (from + block_len) n (omega (arith, within)))
+gathers_all told count parts has few was =
+    by told has was.parts_are (omega (arith, length-blocks told count, length-drop (length parts) (blocks_of told count), ap length was.left_are))
   where
-    by : (b : Bool) → nat_lt (length (take block_len (drop from bytes))) block_len ≡ b
-        → bytes_until_short (chunks bytes (from + block_len) n) ≡ drop (from + block_len) bytes
-        → cond b (take block_len (drop from bytes)) (take block_len (drop from bytes) ++ bytes_until_short (chunks bytes (from + block_len) n)) ≡ drop from bytes
-    by true short rest = take_all block_len (drop from bytes) (omega (arith, ltb-true (length (take block_len (drop from bytes))) block_len short, length-take block_len (drop from bytes)))
-    by false full rest =
-        ap (λ xs. take block_len (drop from bytes) ++ xs) (rest ∙ sym (drop-drop block_len from bytes))
-        ∙ take-append-drop block_len (drop from bytes)
-
--- the text of a file is that of its parts
-pub text_of_blocks : (f : ToldFile) (count : ℕ) → HasBlocks count f → count ≤ block_limit
-    → text_of (Some f) ≡ and_then (parts_from f [] 0 count) (λ parts. Ok (bytes_until_short parts))
-text_of_blocks f count has few = by (nat_lt 0 f.lost) refl
-  where
-    fits : nat_lt capture_limit (length f.bytes) ≡ false
-    fits = le-ltb capture_limit (length f.bytes) (omega (arith, has.1, few))
-
-    by : (b : Bool) → nat_lt 0 f.lost ≡ b → text_of (Some f) ≡ and_then (parts_from f [] 0 count) (λ parts. Ok (bytes_until_short parts))
-    by true lost =
-        let parts : parts_from f [] 0 count ≡ Err ReadFailed = lost_part f [] 0 count lost (omega (arith, has.1)) (omega (arith, ltb-true 0 f.lost lost)) in
-        rw (fits, lost, parts) refl
-    by false whole =
-        let parts : parts_from f [] 0 count ≡ Ok (chunks f.bytes 0 count) = all_parts f [] 0 count whole in
-        let bytes : bytes_until_short (chunks f.bytes 0 count) ≡ f.bytes = chunks_are f.bytes 0 count (omega (arith, has.1)) in
-        rw (fits, whole, parts, bytes) refl
-
-pub blocks_refused : (told : Option ToldFile) (count : ℕ) (refused : Option RunFault) → IfSome told (HasBlocks count) → count ≤ block_limit
-    → IfSome told (λ f. IfSome refused (λ r. parts_from f [] 0 count ≡ Err r)) → IfSome told (λ f. IfSome refused (λ r. text_of (Some f) ≡ Err r))
-blocks_refused None count refused has few parts = tt
-blocks_refused (Some f) count None has few parts = tt
-blocks_refused (Some f) count (Some r) has few parts = text_of_blocks f count has few ∙ ap (λ x. and_then x (λ ps. Ok (bytes_until_short ps))) parts
-
-pub blocks_loaded : (told : Option ToldFile) (count : ℕ) (parts : List (List ℕ)) (bytes : List ℕ) → IfSome told (HasBlocks count) → count ≤ block_limit
-    → IfSome told (λ f. parts_from f [] 0 count ≡ Ok parts) → bytes ≡ bytes_until_short parts → IfSome told (λ f. text_of (Some f) ≡ Ok bytes)
-blocks_loaded None count parts bytes has few are is = tt
-blocks_loaded (Some f) count parts bytes has few are is =
-    text_of_blocks f count has few ∙ ap (λ x. and_then x (λ ps. Ok (bytes_until_short ps))) are ∙ ap (λ (xs : List ℕ). Ok xs) (sym is)
+    by : (t : Option ToldFile) → IfSome t (HasBlocks count) → IfSome t (λ f. AreFirst f parts) → count ≤ length parts
+        → IfSome t (λ f. text_of (Some f) ≡ Ok (bytes_until_short parts))
+    by None has first all = tt
+    by (Some f) has first all =
+        let fits : nat_lt capture_limit (length f.bytes) ≡ false = le-ltb capture_limit (length f.bytes) (omega (arith, has.1, few)) in
+        let whole : nat_lt 0 f.lost ≡ false = le-ltb 0 f.lost (none_left f.lost (length f.bytes) count (length parts) first.whole has.1 all) in
+        let rest : [] ≡ drop (length parts * block_len) f.bytes = sym (drop_all (length parts * block_len) f.bytes (omega (arith, has.1, all))) in
+        let bytes : f.bytes ≡ bytes_until_short parts = sym (first.same [] rest) ∙ ap bytes_until_short (append-nil parts) in
+        rw (fits, whole) (ap (λ (xs : List ℕ). Ok xs) bytes)

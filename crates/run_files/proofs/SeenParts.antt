@@ -1,6 +1,6 @@
 -- A text whose heads are taken as it is read.
-use Rattle.std.proofs.Common.{◌≡◌, ◌<◌, ◌≤◌, ℕ, ◌+◌, true, false, List, [], ◌∷◌, ◌++◌, length, take, drop, Result, refl, sym, ap, subst, ◌∙◌, ◌-◌, arith, length-append, length-drop, length-take, append-nil, append_assoc}
-use Rattle.std.proofs.lemmas.List.{length-take-le, take-append-le, take-append-drop}
+use Rattle.std.proofs.Common.{◌≡◌, ◌<◌, ◌≤◌, ℕ, ◌+◌, false, List, [], ◌∷◌, ◌++◌, length, take, drop, Result, refl, sym, ap, subst, ◌∙◌, ◌-◌, arith, length-append, length-drop, length-take, append-nil, append_assoc}
+use Rattle.std.proofs.lemmas.List.{length-take-le, take-append-le}
 use Rattle.std.proofs.Math.Seq.{take-append-add}
 use Rattle.lists.specs.Agreement.{AgreesUnlessMemory}
 use Rattle.pcap_records.specs.Heads.{Heads, HeadReaderView, no_header, heads_in, read_on}
@@ -14,7 +14,6 @@ use Rattle.run_files.specs.Dumps.{is_dump}
 pub record IsSeenSoFar (reader : HeadReaderView) (buffer : List ℕ) (held : ℕ) (given : List ℕ) : Type 0 where
   pub held_within : held ≤ length buffer
   pub counted : length given ≡ reader.taken + held
-  pub within : length given ≤ capture_limit
   pub some : 0 < length given
   pub no_dump : is_dump given ≡ false
   pub same : (more : List ℕ) → length given + length more ≤ capture_limit → heads_in (reading (given ++ more)) ≡ read_on reader.found (take held buffer ++ more)
@@ -24,12 +23,6 @@ pub same_first : (xs ys : List ℕ) → 0 < length xs → is_dump (xs ++ ys) ≡
 same_first [] ys some = absurd (omega (arith, some))
 same_first (x ∷ xs) ys some = refl
 
--- a text that begins with a dump's first bytes is one
-pub dump_goes_on : (first whole : List ℕ) → 0 < length first → is_dump first ≡ true → take (length first) whole ≡ first → is_dump whole ≡ true
-dump_goes_on first whole some dump begins =
-    let parts : first ++ drop (length first) whole ≡ whole = ap (λ (xs : List ℕ). xs ++ drop (length first) whole) (sym begins) ∙ take-append-drop (length first) whole in
-    ap is_dump (sym parts) ∙ same_first first (drop (length first) whole) some ∙ dump
-
 pub fits_taken : (taken held : ℕ) (buffer : List ℕ) → taken + held ≤ capture_limit → taken + length (take held buffer) ≤ capture_limit
 fits_taken taken held buffer within = omega (arith, within, length-take held buffer)
 
@@ -37,13 +30,12 @@ pub room_left : (buffer room : List ℕ) (held : ℕ) → held < length buffer �
 room_left buffer room held less is = omega (arith, less, is, length-take (length buffer - held) (drop held buffer), length-drop held buffer)
 
 pub seen_first : (reader : HeadReaderView) (buffer : List ℕ) (len : ℕ) → reader.taken ≡ 0 → reader.found ≡ no_header → 0 < len → len ≤ length buffer
-    → length buffer ≤ capture_limit → is_dump (take len buffer) ≡ false → IsSeenSoFar reader buffer len (take len buffer)
+    → is_dump (take len buffer) ≡ false → IsSeenSoFar reader buffer len (take len buffer)
 unfolding read_on
-seen_first reader buffer len none nothing some within short no_dump =
+seen_first reader buffer len none nothing some within no_dump =
     let long : length (take len buffer) ≡ len = length-take-le len buffer within in record {
       held_within = within;
       counted = omega (arith, long, none);
-      within = omega (arith, long, within, short);
       some = omega (arith, long, some);
       no_dump = no_dump;
       same = λ more m. rw nothing refl;
@@ -56,7 +48,6 @@ pub seen_taken : (old new : HeadReaderView) (buffer after : List ℕ) (held left
 seen_taken old new buffer after held left given seen len counted fits same = record {
   held_within = fits;
   counted = omega (arith, counted, seen.counted);
-  within = seen.within;
   some = seen.some;
   no_dump = seen.no_dump;
   same = λ more m. seen.same more m ∙ same more (omega (arith, m, seen.counted));
@@ -64,8 +55,8 @@ seen_taken old new buffer after held left given seen len counted fits same = rec
 
 -- `n` bytes more came, after those that are held
 pub seen_read : (reader : HeadReaderView) (buffer part post after : List ℕ) (held n : ℕ) (given : List ℕ) → IsSeenSoFar reader buffer held given
-    → after ≡ take held buffer ++ (part ++ post) → n ≤ length part → length given + n ≤ capture_limit → IsSeenSoFar reader after (held + n) (given ++ take n part)
-seen_read reader buffer part post after held n given seen is fits short =
+    → after ≡ take held buffer ++ (part ++ post) → n ≤ length part → IsSeenSoFar reader after (held + n) (given ++ take n part)
+seen_read reader buffer part post after held n given seen is fits =
     let front : length (take held buffer) ≡ held = length-take-le held buffer seen.held_within in
     let many : length (take n part) ≡ n = length-take-le n part fits in
     let long : length (given ++ take n part) ≡ length given + n = length-append given (take n part) ∙ ap (λ k. length given + k) many in
@@ -74,7 +65,6 @@ seen_read reader buffer part post after held n given seen is fits short =
     ∙ ap (λ (xs : List ℕ). take held buffer ++ xs) (take-append-le n part post fits) in record {
       held_within = omega (arith, ap length is, length-append (take held buffer) (part ++ post), length-append part post, front, fits);
       counted = omega (arith, long, seen.counted);
-      within = omega (arith, long, short);
       some = omega (arith, long, seen.some);
       no_dump = same_first given (take n part) seen.some ∙ seen.no_dump;
       same = λ more m.
@@ -84,11 +74,11 @@ seen_read reader buffer part post after held n given seen is fits short =
     }
 
 pub seen_whole : (reader : HeadReaderView) (buffer : List ℕ) (held : ℕ) (given : List ℕ) (heads : Result Heads CaptureFault) → IsSeenSoFar reader buffer held given
-    → AgreesUnlessMemory capture_refusal (λ h. h) heads (read_on reader.found (take held buffer))
+    → length given ≤ capture_limit → AgreesUnlessMemory capture_refusal (λ h. h) heads (read_on reader.found (take held buffer))
     → AgreesUnlessMemory capture_refusal (λ h. h) heads (heads_in (reading given))
-seen_whole reader buffer held given heads seen finds =
+seen_whole reader buffer held given heads seen within finds =
     let same : heads_in (reading given) ≡ read_on reader.found (take held buffer) =
-    ap (λ xs. heads_in (reading xs)) (sym (append-nil given)) ∙ seen.same [] (omega (arith, seen.within)) ∙ ap (read_on reader.found) (append-nil (take held buffer)) in
+    ap (λ xs. heads_in (reading xs)) (sym (append-nil given)) ∙ seen.same [] (omega (arith, within)) ∙ ap (read_on reader.found) (append-nil (take held buffer)) in
     subst (AgreesUnlessMemory capture_refusal (λ h. h) heads) (sym same) finds
 
 pub seen_nothing : (reader : HeadReaderView) (heads : Result Heads CaptureFault) → reader.found ≡ no_header

@@ -14,17 +14,18 @@ name_limit = 255
 abbrev pub is_refused : List ℕ → List ℕ → Bool
 is_refused folder name = length folder == 0 || nat_lt name_limit (length name) || has_slash name || is_draft_name name
 
--- the number of failed calls of the disk where storing in a folder ended so: a folder without a path refuses each name itself
+-- the number of the disk's calls that failed, if storing ended so: 0 in an empty path, since the folder then refuses every name itself
 abbrev pub failed_stores : List ℕ → Result (Unit {0}) RunFault → ℕ
 failed_stores folder outcome = failed_puts (length folder == 0) outcome
 
 abbrev pub draft_name : ℕ → List ℕ
 draft_name place = unfinished ++ codes "-" ++ decimal place
 
--- in a folder without a path it is the empty one, at which no file can be
+-- In an empty path the draft's path is empty, and no file can be there.
 abbrev pub draft_path : List ℕ → ℕ → List ℕ
 draft_path folder place = if length folder == 0 then [] else path_in folder (draft_name place)
 
+-- two drafts in different places have different paths
 abbrev pub DraftPathsDiffer : Type 0
 DraftPathsDiffer = (folder : List ℕ) (one other : ℕ) → 0 < length folder → one < 2 ^ 64 → other < 2 ^ 64
     → draft_path folder one ≡ draft_path folder other → one ≡ other
@@ -32,6 +33,6 @@ DraftPathsDiffer = (folder : List ℕ) (one other : ℕ) → 0 < length folder �
 abbrev pub in_folder : List ℕ → StoredFile → NamedFile
 in_folder folder file = named_file (path_in folder file.name) file.bytes
 
--- a folder took some files, and its disk named no other
+-- exactly these files got names, in this order, all in this folder
 abbrev pub TakesIn : List ℕ → Option History → Option History → List StoredFile → Type 0
 TakesIn folder old new files = Names old new (map (in_folder folder) files)

@@ -42,14 +42,6 @@ run_refusal fault = Some fault
 
 -- ---- the line of a fault
 
-pub record FaultEntry : Type 0 where
-  pub number : ℕ
-  pub name : List ℕ
-  pub place : FaultPlace
-
-abbrev pub entry : ℕ → List ℕ → FaultPlace → FaultEntry
-entry number name place = record { number = number; name = name; place = place }
-
 abbrev pub cause_entry : Cause → ℕ × List ℕ
 cause_entry causes.NotJson = (10, codes "NotJson")
 cause_entry causes.NotArray = (11, codes "NotArray")
@@ -64,22 +56,22 @@ cause_entry causes.AttributeRange = (19, codes "AttributeRange")
 cause_entry causes.TooMany = (20, codes "TooMany")
 cause_entry causes.BadToxicity = (21, codes "BadToxicity")
 
-abbrev pub fault_entry : RunFault → FaultEntry
-fault_entry of_run.ShortHeader = entry 1 (codes "ShortHeader") Nowhere
-fault_entry of_run.BadMagic = entry 2 (codes "BadMagic") Nowhere
-fault_entry of_run.BadVersion = entry 3 (codes "BadVersion") Nowhere
-fault_entry of_run.BadLink = entry 4 (codes "BadLink") Nowhere
-fault_entry (of_run.RecordTooLong at) = entry 5 (codes "RecordTooLong") (At at)
-fault_entry of_run.CaptureTooLong = entry 6 (codes "CaptureTooLong") Nowhere
+abbrev pub fault_entry : RunFault → ℕ × List ℕ × FaultPlace
+fault_entry of_run.ShortHeader = (1, codes "ShortHeader", Nowhere)
+fault_entry of_run.BadMagic = (2, codes "BadMagic", Nowhere)
+fault_entry of_run.BadVersion = (3, codes "BadVersion", Nowhere)
+fault_entry of_run.BadLink = (4, codes "BadLink", Nowhere)
+fault_entry (of_run.RecordTooLong at) = (5, codes "RecordTooLong", At at)
+fault_entry of_run.CaptureTooLong = (6, codes "CaptureTooLong", Nowhere)
 fault_entry (of_run.BadScenario number refusal) =
-    entry (cause_entry refusal.cause).0 (cause_entry refusal.cause).1 (In number refusal.proxy refusal.toxic)
-fault_entry of_run.TooManyScenarios = entry 22 (codes "TooManyScenarios") Nowhere
-fault_entry (of_run.BadHost at) = entry 23 (codes "BadHost") (Host at)
-fault_entry of_run.Memory = entry 40 (codes "Memory") Nowhere
-fault_entry (of_run.BadDump at) = entry 55 (codes "BadDump") (At at)
-fault_entry (of_run.ShelfFailed after) = entry 60 (codes "ShelfFailed") (After after)
-fault_entry of_run.ReadFailed = entry 61 (codes "ReadFailed") Nowhere
-fault_entry of_run.WriteFailed = entry 62 (codes "WriteFailed") Nowhere
+    ((cause_entry refusal.cause).0, (cause_entry refusal.cause).1, In number refusal.proxy refusal.toxic)
+fault_entry of_run.TooManyScenarios = (22, codes "TooManyScenarios", Nowhere)
+fault_entry (of_run.BadHost at) = (23, codes "BadHost", Host at)
+fault_entry of_run.Memory = (40, codes "Memory", Nowhere)
+fault_entry (of_run.BadDump at) = (55, codes "BadDump", At at)
+fault_entry (of_run.ShelfFailed after) = (60, codes "ShelfFailed", After after)
+fault_entry of_run.ReadFailed = (61, codes "ReadFailed", Nowhere)
+fault_entry of_run.WriteFailed = (62, codes "WriteFailed", Nowhere)
 
 -- a number that is known, after the name of what it counts
 abbrev pub known_text : List ℕ → Option ℕ → List ℕ
@@ -95,8 +87,7 @@ place_text (In scenario proxy toxic) =
     (known_text (codes " scenario ") (Some scenario) ++ known_text (codes " proxy ") proxy) ++ known_text (codes " toxic ") toxic
 
 -- refused NUMBER NAME, and its place
-abbrev pub entry_text : FaultEntry → List ℕ
-entry_text e = (codes "refused " ++ (decimal e.number ++ (codes " " ++ e.name))) ++ place_text e.place
-
 unfoldable pub fault_text : RunFault → List ℕ
-fault_text fault = entry_text (fault_entry fault)
+fault_text fault =
+    let entry = fault_entry fault in
+    (codes "refused " ++ (decimal entry.0 ++ (codes " " ++ entry.1))) ++ place_text entry.2

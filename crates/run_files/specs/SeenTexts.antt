@@ -1,4 +1,4 @@
--- What is loaded of the text of a capture whose reports alone are wanted.
+-- What is kept of a capture's text if only reports are wanted.
 use Rattle.std.specs.Prelude.{◌≡◌, ℕ, ◌≤◌, true, false, List, length, IfOk, Result, Ok, Err}
 use Rattle.lists.specs.Agreement.{AgreesUnlessMemory}
 use Rattle.pcap_records.specs.Heads.{heads_in}
@@ -10,24 +10,24 @@ use Rattle.run_files.specs.declared.seen_parts.SeenText.TheVariants.{Dump, Heads
 use Rattle.run_files.specs.Dumps.{is_dump}
 use Rattle.run_files.specs.Streams.{StopsLoading}
 
--- what is loaded of a text: all of it where it is taken for a dump, and else the heads in it
+-- what is kept of a text: all of a dump, and else the heads in it, or the capture's first fault
 abbrev pub IsSeenOf : SeenText → List ℕ → Type 0
 IsSeenOf (Dump whole) text = (is_dump text ≡ true) × (whole ≡ text)
 IsSeenOf (Heads heads) text = (is_dump text ≡ false) × AgreesUnlessMemory capture_refusal (λ h. h) heads (heads_in (reading text))
 
--- a text was loaded, and this was seen of it; or none was, for that cause
+-- a text was loaded, and this was kept of it; or none was, and the result is the same fault
 abbrev pub SeesAs : Result SeenText RunFault → Result (List ℕ) RunFault → Type 0
 SeesAs (Ok seen) (Ok text) = IsSeenOf seen text
 SeesAs (Err fault) (Err cause) = fault ≡ cause
 SeesAs _ _ = ⊥
 
--- this was seen of a text that was loaded so, within the limit
+-- this was kept of a text within the limit that was loaded as `LoadedSo` says
 abbrev pub Sees : Result SeenText RunFault → (Result (List ℕ) RunFault → Type 0) → Type 0
 Sees result LoadedSo =
     (loaded : Result (List ℕ) RunFault) × SeesAs result loaded × IfOk loaded (λ text. length text ≤ capture_limit) × LoadedSo loaded
 
--- how the text of a reader was loaded, where `Lost` means that it gave some bytes: to its end, or as far as loading came
+-- how the text of a reader was loaded, where `Gave` means that it gave some bytes: to its end, or as far as loading came
 abbrev pub LoadsInput : {A : Type 0} → (A → List ℕ) → Result A RunFault → (List ℕ → Type 0) → Type 0 → ℕ → ℕ → Type 0
-LoadsInput view (Ok text) Lost AtEnd old_failed new_failed = Lost (view text) × AtEnd × (new_failed ≡ old_failed)
-LoadsInput view (Err fault) Lost AtEnd old_failed new_failed =
-    (given : List ℕ) × Lost given × StopsLoading fault (length given) old_failed new_failed
+LoadsInput view (Ok text) Gave AtEnd old_failed new_failed = Gave (view text) × AtEnd × (new_failed ≡ old_failed)
+LoadsInput view (Err fault) Gave AtEnd old_failed new_failed =
+    (given : List ℕ) × Gave given × StopsLoading fault (length given) old_failed new_failed

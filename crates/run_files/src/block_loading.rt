@@ -1,15 +1,16 @@
-//! Loading a file in blocks, by workers.
-ghost use Rattle.std.specs.Prelude.{◌≡◌, ◌≤◌, ◌<◌, length, map, [], All, IfErr, IfOk, IfSome, Ok, Err, Some};
+//! Loading the text of a file, of a large one block by block, by workers.
+ghost use Rattle.std.specs.Prelude.{◌≡◌, ◌≤◌, ◌<◌, length, map, All, IfErr, IfOk, IfSome, Some};
 ghost use Rattle.std.specs.Option.{ForSome};
 ghost use Rattle.disks.specs.ToldFiles.{file_len};
 ghost use Rattle.lists.specs.Agreement.{AgreesUnlessMemory};
-ghost use Rattle.pcap_records.specs.Blocks.{block_len, block_limit};
+ghost use Rattle.pcap_records.specs.Blocks.{block_len, block_limit, bytes_until_short};
 ghost use Rattle.pcap_records.specs.Reading.{capture_limit};
-ghost use Rattle.run_files.specs.LoadedBlocks.{HasBlocks, blocks_from, part_at, parts_from};
+ghost use Rattle.run_files.specs.LoadedBlocks.{HasBlocks, blocks_of, part_at};
 ghost use Rattle.run_files.specs.Paths.{IsOfFile, text_of};
 ghost use Rattle.run_files.specs.RunFault.{run_refusal};
 
 use crate::error::RunFault;
+use crate::inputs::load_whole;
 use crate::streams::room_to_read;
 use crate::texts::Text;
 use disks::DiskFile;
@@ -21,24 +22,26 @@ use std::thread::Threads;
 
 const BLOCK_LIMIT: usize = CAPTURE_LIMIT / BLOCK_LEN;
 
-// The text of a file in blocks, unless it is to be loaded in one piece.
-pub(crate) fn text_in_blocks<R: Threads + Sync, F: DiskFile + Sync>(
+// Loads the text of a file from its first byte on, that of several blocks by the workers of a plan.
+pub(crate) fn load_text<R: Threads + Sync, F: DiskFile + Sync + Drop>(
     rt: &R,
     alloc: Global,
-    file: &F,
+    file: F,
     plan: Plan,
-) -> Result<Option<Text<'static>>, RunFault>
-    ensures text { IfSome (F.told file.now) (λ f. IfOk result (λ text. IfSome text (λ text. text_of (Some f) ≡ Ok text))) }
-    ensures refused { IfSome (F.told file.now) (λ f. IfErr result (λ fault. IfSome (run_refusal fault) (λ refused. text_of (Some f) ≡ Err refused))) }
-    ensures within { IfOk result (λ text. IfSome text (λ text. length text ≤ capture_limit)) }
+) -> Result<Text<'static>, RunFault>
+    requires { F.place file ≡ 0 }
+    ensures told { IfSome (F.told file) (λ f. AgreesUnlessMemory run_refusal (λ text. text) result (text_of (Some f))) }
+    ensures within { IfOk result (λ text. length text ≤ capture_limit) }
     ensures of_file { IfErr result IsOfFile }
 {
-    let count = block_count(file);
-    if plan.workers() < 2 || count < 2 || count > BLOCK_LIMIT {
-        return Ok(None);
+    let count = block_count(&file);
+    if plan.workers() > 1 && count > 1 && count <= BLOCK_LIMIT {
+        let blocks = blocks_by_workers(rt, alloc, &file, count, plan)?;
+        if let Some(text) = Text::of_blocks(blocks) {
+            return Ok(text);
+        }
     }
-    let blocks = blocks_by_workers(rt, alloc, file, count, plan)?;
-    Ok(Text::of_blocks(blocks))
+    Ok(Text::of(load_whole(alloc, file)?))
 }
 
 // 0 if it is not known.
@@ -51,7 +54,6 @@ fn block_count<F: DiskFile>(file: &F) -> usize
     }
 }
 
-// Its fault is that of the first block that could not be loaded.
 fn blocks_by_workers<R: Threads + Sync, F: DiskFile + Sync>(
     rt: &R,
     alloc: Global,
@@ -96,9 +98,9 @@ impl<'f, F: DiskFile + Sync> Work for BlockJobs<'f, F> {
 
     ghost use Rattle.std.specs.Prelude.{◌≡◌, ◌<◌, ◌≤◌, IfOk, get_or, length};
     ghost use Rattle.pcap_records.specs.Blocks.{block_limit};
-    ghost use Rattle.run_files.specs.LoadedBlocks.{blocks_from};
+    ghost use Rattle.run_files.specs.LoadedBlocks.{blocks_of};
 
-    ghost values = { λ w. blocks_from (F.told w.file.now) 0 w.count };
+    ghost values = { λ w. blocks_of (F.told w.file.now) w.count };
 
     fn value(&self, job: u64) -> Result<LoadedBlock<'f, F>, AllocError> {
         let at = job as usize * BLOCK_LEN;
@@ -136,13 +138,6 @@ impl<'f, F: DiskFile> Model for LoadedBlock<'f, F> {
 }
 
 impl<'f, F: DiskFile> LoadedBlock<'f, F> {
-    ghost use Rattle.std.specs.Prelude.{◌≤◌, IfErr, IfOk, IfSome, length};
-    ghost use Rattle.lists.specs.Agreement.{AgreesUnlessMemory};
-    ghost use Rattle.pcap_records.specs.Blocks.{block_len};
-    ghost use Rattle.run_files.specs.LoadedBlocks.{part_at};
-    ghost use Rattle.run_files.specs.Paths.{IsOfFile};
-    ghost use Rattle.run_files.specs.RunFault.{run_refusal};
-
     fn into_bytes(self) -> Result<Vec<u8>, RunFault>
         ensures told { IfSome self.entry.told (λ f. AgreesUnlessMemory run_refusal (λ bytes. bytes.items) result (part_at f self.entry.at)) }
         ensures short { IfOk result (λ bytes. length bytes.items ≤ block_len) }
@@ -152,18 +147,20 @@ impl<'f, F: DiskFile> LoadedBlock<'f, F> {
     }
 }
 
-#[tactic(auto, unfolding(crate::specs::LoadedBlocks::parts_from))]
+// The parts of blocks in order. Its fault is that of the first block that could not be loaded.
 fn parts_of<F: DiskFile>(
     alloc: Global,
     file: &F,
     count: usize,
     blocks: Values<LoadedBlock<'_, F>>,
 ) -> Result<Vec<Vec<u8>>, RunFault>
-    requires { blocks ≡ blocks_from (F.told file.now) 0 count }
+    requires few { count ≤ block_limit }
+    requires counted { IfSome (F.told file.now) (HasBlocks count) }
+    requires blocks { blocks ≡ blocks_of (F.told file.now) count }
     ensures told { IfSome (F.told file.now) (λ f.
-        AgreesUnlessMemory run_refusal (λ parts. map (λ part. part.items) parts.items) result (parts_from f [] 0 count)) }
+        AgreesUnlessMemory run_refusal (λ parts. bytes_until_short (map (λ part. part.items) parts.items)) result (text_of (Some f))) }
     ensures short { IfOk result (λ parts. All (λ part. length part.items ≤ block_len) parts.items) }
-    ensures count { IfOk result (λ parts. length parts.items ≡ count) }
+    ensures count { IfOk result (λ parts. length parts.items ≤ count) }
     ensures of_file { IfErr result IsOfFile }
 {
     let blocks = blocks.into_vec();

@@ -1,5 +1,5 @@
 //! Bytes from their hexadecimal digits.
-ghost use Rattle.std.specs.Prelude.{◌≡◌, ◌<◌, ◌+◌, ◌*◌, ◌∷◌, [], if◌then◌else◌, length, Ok, IfOk, IfSome, MatchOption, count_by, position};
+ghost use Rattle.std.specs.Prelude.{◌≡◌, ◌<◌, ◌+◌, ◌*◌, ◌∷◌, [], length, Ok, IfOk, IfSome, MatchOption, count_by, position};
 ghost use Rattle.hex.specs.Hex.{decode_of, is_hex_digit, pair_value};
 ghost use Rattle.lists.specs.Agreement.{Agrees, Refuses};
 ghost use Rattle.run_files.specs.RunFault.{run_refusal};
@@ -41,9 +41,7 @@ fn decoded(alloc: Global, text: &[u8]) -> Result<Vec<u8>, FromHexError>
     let mut bytes = Vec::with_capacity(alloc, text.len() / 2)?;
     let mut rest = text;
     'pairs: while let Some((byte, left)) = next_byte(&pairs, rest)? {
-        if bytes.push(byte).is_err() {
-            return Err(FromHexError::OutOfMemory);
-        }
+        bytes.push(byte).map_err(AllocError::from)?;
         rest = left;
     }
     Ok(bytes)
@@ -146,16 +144,6 @@ fn pair_byte(high: u8, low: u8) -> Result<u8, FromHexError>
     let mut byte = [0];
     hex::decode_to_slice([high, low], &mut byte)?;
     Ok(byte[0])
-}
-
-// The bytes of the capture that a text holds; a text that is no dump is not copied.
-pub(crate) fn capture_bytes(alloc: Global, text: Vec<u8>) -> Result<Vec<u8>, RunFault>
-    ensures { Agrees run_refusal (λ bytes. bytes.items) result (if is_dump text.items then dump_reading text.items else Ok text.items) }
-{
-    if is_dump(&text) {
-        return undump(alloc, &text);
-    }
-    Ok(text)
 }
 
 // The fault of a text that was not decoded. It is out of memory only if the text has no fault of its own.

@@ -1,32 +1,21 @@
 //! The line of a fault.
 ghost use Rattle.std.specs.Prelude.{◌≡◌, ◌++◌, IfOk, OnOk, Some};
 ghost use Rattle.std.specs.String.{string_bytes};
-ghost use Rattle.run_files.specs.declared.error.RunFault.TheVariants as RunFault;
 ghost use Rattle.run_files.specs.RunFault.{cause_entry, fault_entry, fault_text, known_text, place_text};
 
 use crate::error::RunFault;
-use scenarios::{Cause, Refusal};
+use scenarios::Cause;
 use std::alloc::{AllocError, Global};
 
-// Where a fault lies: a number is that of a record or a byte, of a host, or of the files that were stored.
+// Where a fault lies: a number is that of a record or a byte, of a host, or of the files that were stored. `In` has those of a scenario, a proxy
+// and a toxic.
 #[derive(Clone, Copy)]
 pub(crate) enum FaultPlace {
     Nowhere,
     At(u64),
     Host(u64),
     After(u64),
-    In {
-        scenario: usize,
-        proxy: Option<usize>,
-        toxic: Option<usize>,
-    },
-}
-
-#[derive(Clone, Copy)]
-pub(crate) struct FaultEntry {
-    pub number: u32,
-    pub name: &'static str,
-    pub place: FaultPlace,
+    In(usize, Option<usize>, Option<usize>),
 }
 
 fn entry_of_cause(cause: Cause) -> (u32, &'static str)
@@ -49,38 +38,23 @@ fn entry_of_cause(cause: Cause) -> (u32, &'static str)
     }
 }
 
-fn entry_of_refusal(scenario: usize, refusal: &Refusal) -> FaultEntry
-    ensures number { result.number ≡ (fault_entry (RunFault.BadScenario scenario refusal.now)).number }
-    ensures name { result.name.now ≡ (fault_entry (RunFault.BadScenario scenario refusal.now)).name }
-    ensures place { result.place ≡ (fault_entry (RunFault.BadScenario scenario refusal.now)).place }
+fn entry_of(fault: &RunFault) -> (u32, &'static str, FaultPlace)
+    ensures number { result.0 ≡ (fault_entry fault.now).0 }
+    ensures name { result.1.now ≡ (fault_entry fault.now).1 }
+    ensures place { result.2 ≡ (fault_entry fault.now).2 }
 {
-    let (number, name) = entry_of_cause(refusal.cause);
-    let place = FaultPlace::In {
-        scenario,
-        proxy: refusal.proxy,
-        toxic: refusal.toxic,
-    };
-    FaultEntry {
-        number,
-        name,
-        place,
-    }
-}
-
-fn entry_of(fault: &RunFault) -> FaultEntry
-    ensures number { result.number ≡ (fault_entry fault.now).number }
-    ensures name { result.name.now ≡ (fault_entry fault.now).name }
-    ensures place { result.place ≡ (fault_entry fault.now).place }
-{
-    use FaultPlace::{After, At, Host, Nowhere};
-    let (number, name, place) = match fault {
-        RunFault::BadScenario { number, refusal } => return entry_of_refusal(*number, refusal),
+    use FaultPlace::{After, At, Host, In, Nowhere};
+    match fault {
         RunFault::ShortHeader => (1, "ShortHeader", Nowhere),
         RunFault::BadMagic => (2, "BadMagic", Nowhere),
         RunFault::BadVersion => (3, "BadVersion", Nowhere),
         RunFault::BadLink => (4, "BadLink", Nowhere),
         RunFault::RecordTooLong { at } => (5, "RecordTooLong", At(u64::from(*at))),
         RunFault::CaptureTooLong => (6, "CaptureTooLong", Nowhere),
+        RunFault::BadScenario { number, refusal } => {
+            let (cause, name) = entry_of_cause(refusal.cause);
+            (cause, name, In(*number, refusal.proxy, refusal.toxic))
+        }
         RunFault::TooManyScenarios => (22, "TooManyScenarios", Nowhere),
         RunFault::BadHost { at } => (23, "BadHost", Host(*at as u64)),
         RunFault::Memory => (40, "Memory", Nowhere),
@@ -88,11 +62,6 @@ fn entry_of(fault: &RunFault) -> FaultEntry
         RunFault::ShelfFailed { after } => (60, "ShelfFailed", After(*after)),
         RunFault::ReadFailed => (61, "ReadFailed", Nowhere),
         RunFault::WriteFailed => (62, "WriteFailed", Nowhere),
-    };
-    FaultEntry {
-        number,
-        name,
-        place,
     }
 }
 
@@ -119,11 +88,7 @@ fn push_place(line: &mut String, place: &FaultPlace) -> Result<(), AllocError>
         FaultPlace::At(at) => push_number(line, " at ", *at),
         FaultPlace::Host(at) => push_number(line, " host ", *at),
         FaultPlace::After(files) => push_number(line, " after ", *files),
-        FaultPlace::In {
-            scenario,
-            proxy,
-            toxic,
-        } => {
+        FaultPlace::In(scenario, proxy, toxic) => {
             push_number(line, " scenario ", *scenario as u64)?;
             push_known(line, " proxy ", *proxy)?;
             push_known(line, " toxic ", *toxic)
@@ -136,11 +101,7 @@ fn push_place(line: &mut String, place: &FaultPlace) -> Result<(), AllocError>
 pub fn fault_line(alloc: Global, fault: &RunFault) -> Result<String, AllocError>
     ensures { IfOk result (λ line. string_bytes line ≡ fault_text fault.now) }
 {
-    let FaultEntry {
-        number,
-        name,
-        place,
-    } = entry_of(fault);
+    let (number, name, place) = entry_of(fault);
     let mut line = format!(in alloc; "refused {number} {name}")?;
     push_place(&mut line, &place)?;
     Ok(line)

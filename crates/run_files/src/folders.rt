@@ -37,7 +37,7 @@ impl<'a> Model for Folder<'a> {
 }
 
 impl<'a> Folder<'a> {
-    ghost use Rattle.std.specs.Prelude.{◌≡◌, ◌||◌, ℕ, List, length, ◌+◌, ◌-◌, ◌^◌, ◌<◌, ◌∷◌, [], false, IfErr, IfOk, OnOk, if◌then◌else◌};
+    ghost use Rattle.std.specs.Prelude.{◌≡◌, ◌||◌, ℕ, List, length, ◌+◌, ◌-◌, ◌^◌, ◌<◌, ◌∷◌, [], false, Err, IfErr, IfOk, IsTrue, OnErr, OnOk};
     ghost use Rattle.std.specs.String.{string_bytes};
     ghost use Rattle.disks.specs.DraftPaths.{IsDraftPath};
     ghost use Rattle.run_files.specs.Folders.{draft_path, failed_stores, is_refused, TakesIn};
@@ -61,18 +61,14 @@ impl<'a> Folder<'a> {
         ensures as_before { D.history disk.new ≡ D.history disk.old }
         ensures faults { D.faults disk.new ≡ D.faults disk.old + failed_stores self.now (outcome_of_storing result) }
         ensures path { OnOk result (0 < length self.now) }
+        ensures without_path { length self.now ≡ 0 → result ≡ Err (StoreFault.ShelfFailed 0) }
         ensures none { IfErr result (λ fault. stored_before fault ≡ 0) }
     {
-        if self.path.is_empty() {
+        if self.path.is_empty() || disk.hold(self.path, &self.read).is_err() {
             return Err(StoreFault::ShelfFailed { after: 0 });
         }
-        if disk.hold(self.path, &self.read).is_err() {
-            return Err(StoreFault::ShelfFailed { after: 0 });
-        }
-        match disk.sweep(alloc, self.path, &self.read) {
-            Ok(()) => Ok(()),
-            Err(_) => Err(StoreFault::Memory { after: 0 }),
-        }
+        disk.sweep(alloc, self.path, &self.read)
+            .map_err(|_| StoreFault::Memory { after: 0 })
     }
 
     /// Begins a draft without bytes, at the path of its place. Drafts that exist at once need places of their own, and so have paths of their
@@ -120,6 +116,8 @@ impl<'a> Folder<'a> {
         ensures puts { (bytes : List ℕ) → D.holds draft bytes → PutsAfter after
             (TakesIn self.now (D.history disk.old) (D.history disk.new) (stored_file name.now bytes ∷ [])) (D.history disk.new ≡ D.history disk.old) result }
         ensures allowed { OnOk result (is_refused self.now name.now ≡ false) }
+        ensures refused { IsTrue (is_refused self.now name.now) → result ≡ Err (StoreFault.ShelfFailed after) }
+        ensures as_before { OnErr result (D.history disk.new ≡ D.history disk.old) }
         ensures faults { D.faults disk.new ≡ D.faults disk.old + failed_puts (is_refused self.now name.now) (outcome_of_storing result) }
     {
         drafts_are_named();
@@ -132,10 +130,8 @@ impl<'a> Folder<'a> {
         if disk.allow_name(&path, &self.read).is_err() {
             return Err(StoreFault::ShelfFailed { after });
         }
-        match disk.name(draft, &path) {
-            Ok(()) => Ok(()),
-            Err(_) => Err(StoreFault::ShelfFailed { after }),
-        }
+        disk.name(draft, &path)
+            .map_err(|_| StoreFault::ShelfFailed { after })
     }
 
     fn refuses(&self, name: &str) -> bool

@@ -1,25 +1,25 @@
 //! Loading a capture by its heads, as it is read.
-ghost use Rattle.std.specs.Prelude.{◌≡◌, ◌-◌, ◌<◌, ◌≤◌, ◌^◌, false, ℕ, List, [], Result, length, take, IfErr, IfOk, IfSome};
 ghost use Rattle.std.specs.Io.KnownBytes.{Consumes, IsAtEnd};
-ghost use Rattle.disks.specs.Histories.{held_now};
-ghost use Rattle.lists.specs.Agreement.{AgreesUnlessMemory};
-ghost use Rattle.pcap_records.specs.Blocks.{slice_limit};
-ghost use Rattle.pcap_records.specs.Reading.{capture_limit};
-ghost use Rattle.run_files.specs.Dumps.{is_dump};
-ghost use Rattle.run_files.specs.Loading.{Loads};
-ghost use Rattle.run_files.specs.Paths.{IsOfFile, text_at};
-ghost use Rattle.run_files.specs.RunFault.{run_refusal};
 ghost use Rattle.run_files.specs.SeenTexts.{LoadsInput, Sees, SeesAs};
+ghost use Rattle.lists.specs.Agreement.{AgreesUnlessMemory};
+ghost use Rattle.run_files.specs.RunFault.{run_refusal};
+ghost use Rattle.run_files.specs.Paths.{IsOfFile, text_at};
+ghost use Rattle.pcap_records.specs.Blocks.{slice_limit};
+ghost use Rattle.run_files.specs.Loading.{Loads};
+ghost use Rattle.std.specs.Prelude.{◌≡◌, ◌-◌, ◌<◌, ◌≤◌, ◌^◌, false, ℕ, List, [], Result, length, take, IfErr, IfOk, IfSome};
+ghost use Rattle.run_files.specs.Dumps.{is_dump};
+ghost use Rattle.disks.specs.Histories.{held_now};
+ghost use Rattle.pcap_records.specs.Reading.{capture_limit};
 
 use crate::dumps::is_dump;
 use crate::error::RunFault;
-use crate::inputs::{Input, OpenFile, load_rest};
+use crate::inputs::{Input, OpenFile, load_rest, read_next};
 use crate::loading::opened;
 use crate::seen_parts::{SeenText, room_for_heads, take_front};
 use crate::streams::Counted;
 use crate::texts::Text;
 use disks::ReadDisk;
-use pcap_records::{CAPTURE_LIMIT, HeadReader};
+use pcap_records::HeadReader;
 use std::alloc::Global;
 use std::io::Read;
 
@@ -58,15 +58,12 @@ fn see_whole<I: Input>(alloc: Global, input: &mut I) -> Result<SeenText, RunFaul
 {
     let mut room = room_for_heads(alloc)?;
     let buffer = room.as_mut_slice();
-    let Some(len) = input.read_more(buffer) else {
-        return Err(RunFault::ReadFailed);
-    };
+    let len = read_next(input, buffer, 0)?;
     if len == 0 {
         return Ok(SeenText::Heads(HeadReader::new(alloc).finish(&[])));
     }
     if is_dump(&buffer[..len]) {
-        let mut bytes = Vec::new(alloc);
-        bytes.extend_from_slice(&buffer[..len])?;
+        let bytes = Vec::from_slice(alloc, &buffer[..len])?;
         return Ok(SeenText::Dump(Text::of(load_rest(input, bytes, buffer)?)));
     }
     see_rest(alloc, input, buffer, len)
@@ -92,14 +89,9 @@ fn see_rest<I: Input>(
     let mut held = len;
     'reads: loop {
         held = take_front(&mut reader, buffer, held)?;
-        let Some(more) = input.read_more(&mut buffer[held..]) else {
-            return Err(RunFault::ReadFailed);
-        };
+        let more = read_next(input, &mut buffer[held..], reader.taken() + held)?;
         if more == 0 {
             return Ok(SeenText::Heads(reader.finish(&buffer[..held])));
-        }
-        if more > CAPTURE_LIMIT - (reader.taken() + held) {
-            return Err(RunFault::CaptureTooLong);
         }
         held += more;
     }

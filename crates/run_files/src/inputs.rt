@@ -1,12 +1,16 @@
 //! What a text is read of, a file of a disk or a reader, and loading all of it.
-ghost use Rattle.std.specs.Prelude.{◌≡◌, ◌≤◌, ◌<◌, ℕ, List, length, take, IfOk};
+ghost use Rattle.std.specs.Prelude.{◌≡◌, ◌≤◌, ◌<◌, ◌+◌, ◌++◌, ℕ, List, length, take, IfErr, IfOk, IfSome, Some};
+ghost use Rattle.lists.specs.Agreement.{AgreesUnlessMemory};
 ghost use Rattle.pcap_records.specs.Reading.{capture_limit};
-ghost use Rattle.run_files.specs.Loading.{ComesOn, LoadsAfter};
+ghost use Rattle.run_files.specs.Loading.{ComesOn, LoadsAfter, Stops};
+ghost use Rattle.run_files.specs.Paths.{IsOfFile, text_of};
+ghost use Rattle.run_files.specs.RunFault.{run_refusal};
 
 use crate::error::RunFault;
-use crate::streams::Counted;
+use crate::streams::{Counted, room_to_read};
 use disks::DiskFile;
 use pcap_records::CAPTURE_LIMIT;
+use std::alloc::Global;
 use std::io::Read;
 
 pub(crate) trait Input {
@@ -78,6 +82,30 @@ impl<F: DiskFile> Input for OpenFile<F> {
     }
 }
 
+// Reads once more after `came` bytes. Gives the number of bytes that came then, 0 only at the end.
+pub(crate) fn read_next<I: Input>(
+    input: &mut I,
+    room: &mut [u8],
+    came: usize,
+) -> Result<usize, RunFault>
+    requires can { I.can_read input.old }
+    requires short { came ≤ capture_limit }
+    ensures within { IfOk result (λ n. (n ≤ length room.new) × (came + n ≤ capture_limit)) }
+    ensures again { IfOk result (λ n. I.can_read input.new) }
+    ensures came { IfOk result (λ n. (bytes : List ℕ) → ComesOn I.gives input.old bytes input.new (bytes ++ take n room.new)) }
+    ensures at_end { IfOk result (λ n. n ≡ 0 → 0 < length room.new → I.is_at_end input.new) }
+    ensures stops { IfErr result (λ fault. (before : I) (bytes : List ℕ) → length bytes ≡ came → I.gives before input.old bytes
+        → Stops (I.gives before input.new) (I.fails before input.new) fault) }
+{
+    let Some(len) = input.read_more(room) else {
+        return Err(RunFault::ReadFailed);
+    };
+    if len > CAPTURE_LIMIT - came {
+        return Err(RunFault::CaptureTooLong);
+    }
+    Ok(len)
+}
+
 /// Loads all bytes of an input after its first ones, which came already.
 pub(crate) fn load_rest<I: Input>(
     input: &mut I,
@@ -88,20 +116,26 @@ pub(crate) fn load_rest<I: Input>(
     requires short { length came.items ≤ capture_limit }
     requires room { 0 < length buffer.old }
     ensures loads { LoadsAfter I.gives I.fails I.is_at_end input.old came.items input.new (λ bytes. bytes.items) result }
-    ensures first { IfOk result (λ bytes. take (length came.items) bytes.items ≡ came.items) }
+    ensures first { IfOk result (λ bytes. (rest : List ℕ) × (bytes.items ≡ came.items ++ rest)) }
     ensures within { IfOk result (λ bytes. length bytes.items ≤ capture_limit) }
 {
     let mut bytes = came;
     'reads: loop {
-        let Some(len) = input.read_more(buffer) else {
-            return Err(RunFault::ReadFailed);
-        };
+        let len = read_next(input, buffer, bytes.len())?;
         if len == 0 {
             return Ok(bytes);
         }
-        if len > CAPTURE_LIMIT - bytes.len() {
-            return Err(RunFault::CaptureTooLong);
-        }
         bytes.extend_from_slice(&buffer[..len])?;
     }
+}
+
+// Loads all bytes of a file from its first on.
+pub(crate) fn load_whole<F: DiskFile + Drop>(alloc: Global, file: F) -> Result<Vec<u8>, RunFault>
+    requires { F.place file ≡ 0 }
+    ensures told { IfSome (F.told file) (λ f. AgreesUnlessMemory run_refusal (λ bytes. bytes.items) result (text_of (Some f))) }
+    ensures within { IfOk result (λ bytes. length bytes.items ≤ capture_limit) }
+    ensures of_file { IfErr result IsOfFile }
+{
+    let mut room = room_to_read(alloc)?;
+    load_rest(&mut OpenFile { file }, Vec::new(alloc), room.as_mut_slice())
 }

@@ -1,16 +1,15 @@
 //! Loading a file of a disk by its path: a large one by workers, block by block.
-ghost use Rattle.std.specs.Prelude.{◌≡◌, ◌≤◌, length, IfErr, IfOk, IfSome, Err, Some};
-ghost use Rattle.disks.specs.ToldFiles.{IsFileAt};
-ghost use Rattle.disks.specs.Histories.{held_now};
 ghost use Rattle.lists.specs.Agreement.{AgreesUnlessMemory};
-ghost use Rattle.pcap_records.specs.Reading.{capture_limit};
-ghost use Rattle.run_files.specs.Paths.{IsOfFile, text_at, text_of};
+ghost use Rattle.disks.specs.Histories.{held_now};
+ghost use Rattle.run_files.specs.Paths.{IsOfFile, text_at};
 ghost use Rattle.run_files.specs.RunFault.{run_refusal};
+ghost use Rattle.std.specs.Prelude.{◌≡◌, ◌≤◌, length, IfErr, IfOk, IfSome, Err};
+ghost use Rattle.disks.specs.ToldFiles.{IsFileAt};
+ghost use Rattle.pcap_records.specs.Reading.{capture_limit};
 
-use crate::block_loading::text_in_blocks;
+use crate::block_loading::load_text;
 use crate::error::RunFault;
-use crate::inputs::{OpenFile, load_rest};
-use crate::streams::room_to_read;
+use crate::inputs::load_whole;
 use crate::texts::Text;
 use disks::{DiskFault, DiskFile, ReadDisk, ReadFiles};
 use job_matrix::Plan;
@@ -55,10 +54,7 @@ where
 {
     let file = opened(alloc, disk, path)?;
     read.add(file.id())?;
-    if let Some(text) = text_in_blocks(rt, alloc, &file, plan)? {
-        return Ok(text);
-    }
-    Ok(Text::of(load_whole(alloc, file)?))
+    load_text(rt, alloc, file, plan)
 }
 
 pub(crate) fn opened<D: ReadDisk>(alloc: Global, disk: &D, path: &str) -> Result<D::File, RunFault>
@@ -73,15 +69,4 @@ pub(crate) fn opened<D: ReadDisk>(alloc: Global, disk: &D, path: &str) -> Result
         Err(DiskFault::Failed) => Err(RunFault::ReadFailed),
         Err(DiskFault::Memory) => Err(RunFault::Memory),
     }
-}
-
-// Loads all bytes of a file from its first on.
-fn load_whole<F: DiskFile + Drop>(alloc: Global, file: F) -> Result<Vec<u8>, RunFault>
-    requires { F.place file ≡ 0 }
-    ensures told { IfSome (F.told file) (λ f. AgreesUnlessMemory run_refusal (λ bytes. bytes.items) result (text_of (Some f))) }
-    ensures within { IfOk result (λ bytes. length bytes.items ≤ capture_limit) }
-    ensures of_file { IfErr result IsOfFile }
-{
-    let mut room = room_to_read(alloc)?;
-    load_rest(&mut OpenFile { file }, Vec::new(alloc), room.as_mut_slice())
 }

@@ -1,5 +1,5 @@
 //! What a rehearsal answers, its reports printed and its files stored.
-ghost use Rattle.std.specs.Prelude.{◌≡◌, false, ℕ, ◌+◌, ◌-◌, ◌^◌, ◌<◌, length, take, OnOk, OnErr, IfErr, ◌≤◌, ◌*◌, ◌++◌, [], ◌∷◌, IfOk};
+ghost use Rattle.std.specs.Prelude.{◌≡◌, false, ℕ, ◌+◌, ◌-◌, ◌^◌, ◌<◌, length, take, OnOk, OnErr, IfErr, ◌*◌, ◌++◌, [], ◌∷◌, IfOk};
 ghost use Rattle.std.specs.Io.KnownBytes.{Appends};
 ghost use Rattle.run_files.specs.WrittenOutputs.{reports_of};
 ghost use Rattle.std.specs.String.{string_bytes};
@@ -62,15 +62,8 @@ pub fn store_all<S: Shelf>(
     ensures stores { Stores 0 (files_from 0 outputs.now) (Takes (S.files shelf.old) (S.files shelf.new)) result }
     ensures failures { S.failures shelf.new ≡ S.failures shelf.old + failed_puts false (outcome_of_storing result) }
 {
-    store_each(alloc, outputs.as_slice(), shelf)
-}
-
-fn store_each<S: Shelf>(alloc: Global, outputs: &[Output], shelf: &mut S) -> Result<(), StoreFault>
-    requires { S.failures shelf.old < 2 ^ 64 - 1 }
-    ensures stores { Stores 0 (files_from 0 outputs.now) (Takes (S.files shelf.old) (S.files shelf.new)) result }
-    ensures failures { S.failures shelf.new ≡ S.failures shelf.old + failed_puts false (outcome_of_storing result) }
-{
-    for (number, output) in outputs.iter().enumerate() {
+    let all = outputs.as_slice();
+    for (number, output) in all.iter().enumerate() {
         let after = 2 * number as u64;
         let capture = output.capture.as_slice();
         put_file(alloc, number, ".pcap", capture, shelf, after)?;
@@ -96,10 +89,9 @@ fn put_file<S: Shelf>(
     let Ok(name) = file_name(alloc, number, ending) else {
         return Err(StoreFault::Memory { after });
     };
-    match shelf.put(&name, bytes) {
-        Ok(()) => Ok(()),
-        Err(_) => Err(StoreFault::ShelfFailed { after }),
-    }
+    shelf
+        .put(&name, bytes)
+        .map_err(|_| StoreFault::ShelfFailed { after })
 }
 
 pub(crate) fn file_name(alloc: Global, number: usize, ending: &str) -> Result<String, AllocError>

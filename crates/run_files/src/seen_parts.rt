@@ -43,9 +43,6 @@ pub(crate) fn take_front(
     let before = reader.taken();
     reader.take(&buffer[..held])?;
     let taken = reader.taken() - before;
-    if taken == 0 {
-        return Ok(held);
-    }
     buffer.copy_within(taken..held, 0);
     Ok(held - taken)
 }

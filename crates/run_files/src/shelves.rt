@@ -2,7 +2,7 @@
 ghost use Rattle.std.specs.Prelude.{◌≡◌};
 
 use crate::error::ShelfError;
-use crate::streams::count_failure;
+use disks::count_failure;
 use std::alloc::{AllocError, Global};
 use std::marker::Model;
 

@@ -1,5 +1,5 @@
 //! Readers and writers that count their failed calls.
-ghost use Rattle.std.specs.Prelude.{◌≡◌, ◌+◌, ◌-◌, ◌^◌, ◌<◌, length, IfOk, is_ok, if◌then◌else◌, ℕ, ◌≤◌, List, OnOk, IfErr, IfSome, take, drop, OnErr};
+ghost use Rattle.std.specs.Prelude.{◌≡◌, ◌+◌, ◌-◌, ◌^◌, ◌<◌, length, IfOk, is_ok, if◌then◌else◌, ℕ, ◌≤◌, List, OnOk, IfErr, IfSome, take, OnErr};
 ghost use Rattle.std.specs.Io.{ReadsAtMost, WritesAtMost};
 ghost use Rattle.std.specs.Io.KnownBytes.{ReadConsumes, WriteAppends, Consumes, IsAtEnd, Appends};
 ghost use Rattle.pcap_records.specs.Reading.{capture_limit};
@@ -7,6 +7,7 @@ ghost use Rattle.run_files.specs.Streams.{StopsLoading, joined};
 
 use crate::error::RunFault;
 use crate::inputs::load_rest;
+use disks::count_failure;
 use std::alloc::{AllocError, Global};
 use std::io;
 use std::io::{ErrorKind, Read, Write};
@@ -82,15 +83,6 @@ impl<W: Write> Counted<W> {
         };
         count_failure(&result, &mut self.failed);
         result
-    }
-}
-
-pub(crate) fn count_failure<T, E>(outcome: &Result<T, E>, failed: &mut u64)
-    requires { failed.old < 2 ^ 64 - 1 }
-    ensures { failed.new ≡ (if is_ok outcome.now then failed.old else failed.old + 1) }
-{
-    if outcome.is_err() {
-        *failed += 1;
     }
 }
 

@@ -5,7 +5,7 @@ ghost use Rattle.pcap_records.specs.CaptureView.{bytes_of};
 ghost use Rattle.run_files.specs.Dumps.{is_dump, dump_reading};
 ghost use Rattle.run_files.specs.RunFault.{run_refusal};
 
-use crate::dumps::{capture_bytes, is_dump, undump};
+use crate::dumps::{is_dump, undump};
 use crate::error::RunFault;
 use pcap_records::{Blocks, FileBytes};
 use std::alloc::Global;
@@ -84,13 +84,10 @@ impl<'t> Text<'t> {
     pub fn undumped(self, alloc: Global) -> Result<Text<'t>, RunFault>
         ensures { Agrees run_refusal (λ text. text) result (if is_dump self.entry then dump_reading self.entry else Ok self.entry) }
     {
-        match self.bytes {
-            TextBytes::Whole(bytes) => Ok(Text::of(capture_bytes(alloc, bytes)?)),
+        match &self.bytes {
+            TextBytes::Whole(bytes) if is_dump(bytes) => Ok(Text::of(undump(alloc, bytes)?)),
             TextBytes::Lent(bytes) if is_dump(bytes) => Ok(Text::of(undump(alloc, bytes)?)),
-            TextBytes::Lent(bytes) => Ok(Text::lent(bytes)),
-            TextBytes::InBlocks(blocks) => Ok(Text {
-                bytes: TextBytes::InBlocks(blocks),
-            }),
+            _ => Ok(self),
         }
     }
 }

@@ -6,14 +6,14 @@ use Rattle.std.proofs.lemmas.List.Elements.{All-append}
 use Rattle.pcap_records.specs.Blocks.{block_len}
 use Rattle.run_files.proofs.LoadedParts.{Gathers, gathers_none, gathers_one, gathers_no_more, gathers_all}
 use Rattle.run_files.specs.RunFault.{run_refusal}
-use Rattle.run_files.specs.LoadedBlocks.{blocks_from}
+use Rattle.run_files.specs.LoadedBlocks.{blocks_of}
 use Rattle.run_files.proofs.block_loading.parts_of.Goals as goal
 
 pub loop-block-init : goal.loop-block-init
 loop-block-init g c =
     let told = g.F.DiskFile.told c.args.file.now in
     let left = into_iter_items c.into_iter-block-iterator.result in
-    let are : left ≡ blocks_from told 0 c.args.count = c.into_iter-block-iterator.ensures.into_iter_gives.0 ∙ c.into_vec-blocks.ensures ∙ c.requires in
+    let are : left ≡ blocks_of told c.args.count = c.into_iter-block-iterator.ensures.into_iter_gives.0 ∙ c.into_vec-blocks.ensures ∙ c.requires.blocks in
     record {
       can_next = tt;
       is_finite = tt;
@@ -43,7 +43,8 @@ returns-in_err-part-clause-told g c =
     let parts = map (λ part. part.items) c.loop-block.parts.items in
     let fault = err_from_is_err_and c.from_residual-in_err-part.result c.from_residual-in_err-part.ensures.1 in
     rw (fault.1, fault.2) (gathers_no_more told c.args.count c.in-Some.block (into_iter_items c.next.new.self) parts
-    (subst (λ xs. Gathers told c.args.count xs parts) c.in-Some.ensures.steps.0 c.loop-block.invariant.gathers) (run_refusal c.in_err-part.field-0.0) c.in_err-part.ensures.told)
+    (subst (λ xs. Gathers told c.args.count xs parts) c.in-Some.ensures.steps.0 c.loop-block.invariant.gathers) (run_refusal c.in_err-part.field-0.0) c.requires.counted c.requires.few
+    c.in_err-part.ensures.told)
 
 pub returns-clause-told : goal.returns-clause-told
 returns-clause-told g c =
@@ -51,4 +52,4 @@ returns-clause-told g c =
     let parts = map (λ part. part.items) c.loop-block.parts.items in
     let none : into_iter_items c.loop-block.block-iterator ≡ [] =
     nil_from_length (into_iter_items c.loop-block.block-iterator) (omega (arith, c.in-None.ensures.steps.0, c.loop-block.block-iterator.rest.ok.0)) in
-    gathers_all told c.args.count parts (subst (λ xs. Gathers told c.args.count xs parts) none c.loop-block.invariant.gathers)
+    gathers_all told c.args.count parts c.requires.counted c.requires.few (subst (λ xs. Gathers told c.args.count xs parts) none c.loop-block.invariant.gathers)

@@ -1,8 +1,5 @@
-use Rattle.std.proofs.Common.{ℕ, List, Result, Err, refl}
+use Rattle.std.proofs.Common.{Err, refl}
 use Rattle.std.proofs.lemmas.Result.{err_from_is_err_and}
-use Rattle.lists.specs.Agreement.{AgreesUnlessMemory}
-use Rattle.run_files.specs.declared.error.RunFault.{RunFault}
-use Rattle.run_files.specs.RunFault.{run_refusal}
 use Rattle.run_files.proofs.LoadedFiles.{text_of_path}
 use Rattle.run_files.proofs.LoadedTexts.{file_loaded, none_come}
 use Rattle.run_files.proofs.head_loading.see_file.Goals as goal
@@ -23,6 +20,6 @@ returns g c =
       seen.1,
       seen.2,
       own.0,
-      text_of_path (λ (wanted : Result (List ℕ) RunFault). AgreesUnlessMemory run_refusal (λ text. text) seen.0 wanted)
-          (g.D.Disk.history c.args.disk.now) c.args.path.now (g.D.File.DiskFile.told c.in_ok-file.file) c.in_ok-file.ensures.told own.1,
+      text_of_path (λ text. text) seen.0 (g.D.Disk.history c.args.disk.now) c.args.path.now (g.D.File.DiskFile.told c.in_ok-file.file)
+          c.in_ok-file.ensures.told own.1,
     )

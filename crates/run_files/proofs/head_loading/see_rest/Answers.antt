@@ -1,5 +1,4 @@
-use Rattle.std.proofs.Common.{◌-◌, ◌<◌, ◌≤◌, ◌++◌, ◌∙◌, Ok, Err, ap, length, take, refl, subst, arith, append-nil, length-append}
-use Rattle.std.proofs.lemmas.List.{length-take-le}
+use Rattle.std.proofs.Common.{◌-◌, ◌<◌, ◌≤◌, ◌++◌, ◌∙◌, Ok, Err, ap, length, take, refl, subst, arith, append-nil}
 use Rattle.std.proofs.lemmas.Result.{err_from_is_err_and}
 use Rattle.std.proofs.lemmas.Slice.{take-put_mid_below}
 use Rattle.lists.specs.Agreement.{AgreesUnlessMemory}
@@ -12,34 +11,32 @@ use Rattle.run_files.proofs.head_loading.see_rest.Goals as goal
 pub reads-init : goal.reads-init
 reads-init g c = record {
   can = c.requires.can;
+  within = omega (arith, c.new-reader.ensures.taken, c.requires.came, c.requires.short);
   text = (
     take c.args.len c.args.buffer.now,
     λ before is. is,
-    seen_first c.new-reader.result c.args.buffer.now c.args.len c.new-reader.ensures.taken c.new-reader.ensures.found c.requires.some c.requires.came c.requires.short c.requires.no_dump,
+    seen_first c.new-reader.result c.args.buffer.now c.args.len c.new-reader.ensures.taken c.new-reader.ensures.found c.requires.some c.requires.came c.requires.no_dump,
   );
 }
 
 pub take_front-requires-clause-held : goal.take_front-requires-clause-held
 take_front-requires-clause-held g c = c.reads.invariant.text.2.held_within
 
-pub take_front-requires-clause-short : goal.take_front-requires-clause-short
-take_front-requires-clause-short g c = let seen = c.reads.invariant.text.2 in omega (arith, seen.counted, seen.within)
-
 pub returns-in_err-held : goal.returns-in_err-held
 returns-in_err-held g c =
     let text = c.reads.invariant.text in
     let fault = err_from_is_err_and c.from_residual.result c.from_residual.ensures.1 in
-    rw (fault.1, fault.2) (λ before is. (Err _, refl, tt, (text.0, text.1 before is, text.2.within)))
+    rw (fault.1, fault.2) (λ before is. (Err _, refl, tt, (text.0, text.1 before is, omega (arith, text.2.counted, c.reads.invariant.within))))
 
-pub returns-in_default : goal.returns-in_default
-returns-in_default g c = λ before is.
+pub returns-in_err-more : goal.returns-in_err-more
+returns-in_err-more g c =
     let text = c.reads.invariant.text in
-    (Err _, refl, tt, (text.0, c.in_default.ensures.failed before text.0 (text.1 before is), text.2.within))
+    let fault = err_from_is_err_and c.from_residual-in_err-more.result c.from_residual-in_err-more.ensures.1 in
+    rw (fault.1, fault.2)
+    (λ before is. (Err _, refl, tt, c.in_err-more.ensures.stops before text.0 (omega (arith, text.2.counted, c.in_ok-held.ensures.counted, c.taken.ensures)) (text.1 before is)))
 
 pub finish-requires : goal.finish-requires
-finish-requires g c =
-    let seen = c.reads.invariant.text.2 in
-    fits_taken c.take_front.new.reader.taken c.in_ok-held.held _ (omega (arith, seen.counted, seen.within, c.in_ok-held.ensures.counted))
+finish-requires g c = fits_taken c.take_front.new.reader.taken c.in_ok-held.held _ (omega (arith, c.reads.invariant.within, c.in_ok-held.ensures.counted))
 
 pub returns-then-more-eq0 : goal.returns-then-more-eq0
 returns-then-more-eq0 g c = λ before is.
@@ -47,63 +44,36 @@ returns-then-more-eq0 g c = λ before is.
     let reader = c.take_front.new.reader in
     let left = c.in_ok-held.held in
     let after = c.take_front.new.buffer in
-    let room = c.read_more.new.room in
+    let room = c.read_next.new.room in
+    let within : length text.0 ≤ capture_limit = omega (arith, text.2.counted, c.reads.invariant.within) in
     let fits : left < length after = omega (arith, c.in_ok-held.ensures.few, c.in_ok-held.ensures.len, c.requires.room, c.reads.auto.buffer) in
     let seen = seen_taken c.reads.reader reader c.reads.buffer after c.reads.held left text.0 text.2 c.in_ok-held.ensures.len c.in_ok-held.ensures.counted (omega (arith, fits))
     c.in_ok-held.ensures.same in
     let finds = subst (λ xs. AgreesUnlessMemory capture_refusal (λ h. h) c.finish.result (read_on reader.found xs))
     (take-put_mid_below left (length after - left) after room left (omega arith) (omega (arith, fits))) c.finish.ensures in
-    let came = subst (g.I.Input.gives before c.read_more.new.self) (ap (λ k. text.0 ++ take k room) c.if-more-eq0.true ∙ append-nil text.0)
-    (c.in-Some.ensures.came text.0 before (text.1 before is)) in (
+    let came = subst (g.I.Input.gives before c.read_next.new.input) (ap (λ k. text.0 ++ take k room) c.if-more-eq0.true ∙ append-nil text.0)
+    (c.in_ok-more.ensures.came text.0 before (text.1 before is)) in (
       Ok text.0,
-      (seen.no_dump, seen_whole reader after left text.0 c.finish.result seen finds),
-      seen.within,
-      (came, c.in-Some.ensures.at_end c.if-more-eq0.true (room_left after room left fits c.read_more.auto.room)),
+      (seen.no_dump, seen_whole reader after left text.0 c.finish.result seen within finds),
+      within,
+      (came, c.in_ok-more.ensures.at_end c.if-more-eq0.true (room_left after room left fits c.read_next.auto.room)),
     )
-
-pub overflow_add-taken : goal.overflow_add-taken
-overflow_add-taken g c = let seen = c.reads.invariant.text.2 in omega (arith, seen.counted, seen.within, c.in_ok-held.ensures.counted, c.taken.ensures)
-
-pub overflow_sub-taken : goal.overflow_sub-taken
-overflow_sub-taken g c = let seen = c.reads.invariant.text.2 in omega (arith, seen.counted, seen.within, c.in_ok-held.ensures.counted, c.taken.ensures)
-
-pub returns-then-more-taken : goal.returns-then-more-taken
-returns-then-more-taken g c = λ before is.
-    let text = c.reads.invariant.text in
-    let last = take c.in-Some.more c.read_more.new.room in
-    let over : capture_limit < length (text.0 ++ last) =
-    omega (
-      arith,
-      text.2.counted,
-      text.2.within,
-      c.in_ok-held.ensures.counted,
-      c.taken.ensures,
-      c.if-more-taken.true,
-      length-append text.0 last,
-      length-take-le c.in-Some.more c.read_more.new.room c.in-Some.ensures.within,
-    ) in
-    (Err _, refl, tt, (text.0 ++ last, c.in-Some.ensures.came text.0 before (text.1 before is), over))
-
-pub reads-smaller : goal.reads-smaller
-reads-smaller g c =
-    let seen = c.reads.invariant.text.2 in
-    omega (arith, seen.counted, seen.within, c.in_ok-held.ensures.counted, c.taken.ensures, c.if-more-taken.false, c.if-more-eq0.false)
 
 pub reads-preserved : goal.reads-preserved
 reads-preserved g c =
     let text = c.reads.invariant.text in
-    let room = c.read_more.new.room in
-    let n = c.in-Some.more in
+    let room = c.read_next.new.room in
+    let n = c.in_ok-more.more in
     let left = c.in_ok-held.held in
     let after = c.take_front.new.buffer in
     let fits : left ≤ length after = omega (arith, c.in_ok-held.ensures.few, c.in_ok-held.ensures.len, c.requires.room, c.reads.auto.buffer) in
     let seen = seen_taken c.reads.reader c.take_front.new.reader c.reads.buffer after c.reads.held left text.0 text.2 c.in_ok-held.ensures.len c.in_ok-held.ensures.counted fits
     c.in_ok-held.ensures.same in record {
-      can = c.in-Some.ensures.again;
+      can = c.in_ok-more.ensures.again;
+      within = omega (arith, c.taken.ensures, c.in_ok-more.ensures.within.1);
       text = (
         text.0 ++ take n room,
-        λ before is. c.in-Some.ensures.came text.0 before (text.1 before is),
-        seen_read c.take_front.new.reader after room _ _ left n text.0 seen refl c.in-Some.ensures.within
-            (omega (arith, seen.counted, c.taken.ensures, c.if-more-taken.false)),
+        λ before is. c.in_ok-more.ensures.came text.0 before (text.1 before is),
+        seen_read c.take_front.new.reader after room _ _ left n text.0 seen refl c.in_ok-more.ensures.within.0,
       );
     }

@@ -1,4 +1,4 @@
-use Rattle.std.proofs.Common.{◌+◌, ◌-◌, ℕ, List, take}
+use Rattle.std.proofs.Common.{◌+◌, ◌-◌, ◌≤◌, ℕ, List, take}
 use Rattle.pcap_records.specs.Reading.{capture_limit}
 use Rattle.run_files.specs.Loading.{ComesOn}
 use Rattle.run_files.proofs.SeenParts.{IsSeenSoFar}
@@ -8,6 +8,7 @@ use Rattle.run_files.proofs.head_loading.see_rest.Given as goal
 abbrev pub invariant-reads : goal.invariant-reads
 invariant-reads g l = record {
   can : g.I.Input.can_read l.input;
+  within : l.reader.taken + l.held ≤ capture_limit;
   text : (given : List ℕ) × ComesOn g.I.Input.gives l.fn.input (take l.fn.len l.fn.buffer) l.input given × IsSeenSoFar l.reader l.buffer l.held given;
 }
 

@@ -1,4 +1,4 @@
-use Rattle.std.proofs.Common.{◌≡◌, ◌-◌, ◌≤◌, length, take}
+use Rattle.std.proofs.Common.{◌≡◌, ◌-◌, ◌≤◌, ◌++◌, ℕ, List, length}
 use Rattle.pcap_records.specs.Reading.{capture_limit}
 use Rattle.run_files.specs.Loading.{ComesOn}
 use Rattle.run_files.proofs.inputs.load_rest.Given as goal
@@ -9,7 +9,7 @@ invariant-reads g l = record {
   can : g.I.Input.can_read l.input;
   came : ComesOn g.I.Input.gives l.fn.input l.fn.came.items l.input l.bytes.items;
   within : length l.bytes.items ≤ capture_limit;
-  first : take (length l.fn.came.items) l.bytes.items ≡ l.fn.came.items;
+  first : (rest : List ℕ) × (l.bytes.items ≡ l.fn.came.items ++ rest);
 }
 
 -- each read but the last gives a byte

@@ -6,7 +6,6 @@ use Rattle.std.proofs.lemmas.Slice.{between_is}
 use Rattle.pcap_records.specs.Heads.{read_on}
 use Rattle.run_files.proofs.seen_parts.take_front.Goals as goal
 
--- what was not taken stands at the front now
 pub returns-clause-same : goal.returns-clause-same
 returns-clause-same c = λ more m.
     let held = c.args.held in
@@ -21,13 +20,3 @@ returns-clause-same c = λ more m.
     ∙ take-paste old 0 (drop taken old) (held - taken) (omega arith) (omega (arith, length-drop taken old, c.requires.held)) ∙ between_is old taken held in
     takes.same more (omega (arith, m, long))
     ∙ ap (λ (xs : List ℕ). read_on c.take.new.self.found (xs ++ more)) (ap (λ k. drop k (take held old)) (sym is) ∙ sym moved)
-
--- nothing was taken, and all stands where it stood
-pub returns-then-taken-eq0-clause-same : goal.returns-then-taken-eq0-clause-same
-returns-then-taken-eq0-clause-same c = λ more m.
-    let held = c.args.held in
-    let old = c.args.buffer.now in
-    let takes = c.in_ok-take.ensures.takes in
-    let none : c.take.new.self.taken - c.args.reader.now.taken ≡ 0 = omega (arith, c.taken.ensures, c.taken-before.ensures, c.if-taken-eq0.true) in
-    let long : length (take held old) ≡ held = length-take-le held old c.requires.held in
-    takes.same more (omega (arith, m, long)) ∙ ap (λ k. read_on c.take.new.self.found (drop k (take held old) ++ more)) none

@@ -10,16 +10,15 @@ returns-in_err-bytes-clause-refused g c =
     rw (fault.1, fault.2)
     (reader_stops _ _ _ _ c.in_err-bytes.field-0.0 (c.in_err-bytes.ensures.loads c.args.reader.now (rw c.new.ensures.items (Consumes-nil _, refl))))
 
-pub returns-clause-whole : goal.returns-clause-whole
-returns-clause-whole g c =
+pub returns : goal.returns
+returns g c =
+    let bytes = c.in_ok-bytes.bytes.items in
     let loads = c.in_ok-bytes.ensures.loads c.args.reader.now (rw c.new.ensures.items (Consumes-nil _, refl)) in
-    Consumes-all _ _ c.in_ok-bytes.bytes.items [] c.in_ok-bytes.bytes.items loads.0.0 loads.1 refl
-
-pub returns-clause-lost : goal.returns-clause-lost
-returns-clause-lost g c = (c.in_ok-bytes.ensures.loads c.args.reader.now (rw c.new.ensures.items (Consumes-nil _, refl))).0.0
-
-pub returns-clause-at_end : goal.returns-clause-at_end
-returns-clause-at_end g c = (c.in_ok-bytes.ensures.loads c.args.reader.now (rw c.new.ensures.items (Consumes-nil _, refl))).1
-
-pub returns-clause-none_failed : goal.returns-clause-none_failed
-returns-clause-none_failed g c = (c.in_ok-bytes.ensures.loads c.args.reader.now (rw c.new.ensures.items (Consumes-nil _, refl))).0.1
+    record {
+      whole = Consumes-all _ _ bytes [] bytes loads.0.0 loads.1 refl;
+      lost = loads.0.0;
+      at_end = loads.1;
+      within = c.in_ok-bytes.ensures.within;
+      none_failed = loads.0.1;
+      refused = tt;
+    }

@@ -1,5 +1,5 @@
 use Rattle.run_files.proofs.LoadedTexts.{file_loaded, none_come}
-use Rattle.run_files.proofs.loading.load_whole.Goals as goal
+use Rattle.run_files.proofs.inputs.load_whole.Goals as goal
 
 pub returns-clause-told : goal.returns-clause-told
 returns-clause-told g c =

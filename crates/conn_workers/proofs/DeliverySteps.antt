@@ -1,10 +1,10 @@
 -- What is made of recordings, against the definition of what connections contribute.
-use Rattle.std.proofs.Common.{◌≡◌, ◌<◌, ℕ, ◌+◌, ◌*◌, ◌/◌, ◌%◌, List, length, map, get_or, refl, sym, ap, ◌∙◌, arith}
+use Rattle.std.proofs.Common.{◌≡◌, ◌<◌, ℕ, ◌*◌, ◌/◌, ◌%◌, List, length, map, get_or, refl, sym, ap, ◌∙◌, arith}
 use Rattle.std.specs.List.{enumerate_from}
 use Rattle.std.proofs.lemmas.Nat.{div_below}
 use Rattle.std.proofs.lemmas.List.{length-map}
 use Rattle.std.proofs.lemmas.Simd.{map-map}
-use Rattle.std.proofs.lemmas.List.FromFn.{length-enumerate_from, get_or-enumerate_from}
+use Rattle.std.proofs.lemmas.List.FromFn.{length-enumerate_from}
 use Rattle.pcap_records.specs.CaptureView.{CaptureView, contents_of}
 use Rattle.conn_table.specs.SeenCapture.{seen_capture}
 use Rattle.conn_table.specs.IndexedConnections.{IndexedConnection, without_indices, IndexedConnectionsAgree}
@@ -17,7 +17,7 @@ use Rattle.conn_workers.specs.DeliveryLaws.{LinesAreContributed, RowsAreContribu
 use Rattle.conn_workers.specs.DeliveryRows.{connections_of, delivery_of, deliveries}
 use Rattle.conn_workers.specs.CaptureTables.{whole_table, whole_connections}
 use Rattle.conn_workers.specs.Recordings.{RecordingView, recording_in, recordings_of, recorded_delivery, recorded_deliveries}
-use Rattle.conn_workers.proofs.RowLemmas.{length-rows, some_columns, at_place, row_alike, rows_alike}
+use Rattle.conn_workers.proofs.RowLemmas.{length-rows, some_columns, at_place, get_or-numbered, row_alike, rows_alike}
 use Rattle.conn_workers.proofs.TableConnections.{connections_are, conns_are}
 
 -- of the table's connection and what is recorded of it, or of the connection
@@ -61,13 +61,9 @@ job_is seed recordings scenarios job r proxies other within =
     let below : job < length scenarios * count = omega (arith, within, length-recorded_deliveries seed recordings scenarios) in
     let some : 0 < count = some_columns job (length scenarios) count below in
     let row : job / count < length scenarios = div_below job count (length scenarios) some below in
-    let zero_on : 0 + job / count ≡ job / count = omega arith in
-    let numbered : get_or (enumerate_from 0 scenarios) (job / count) (0, proxies) ≡ (job / count, get_or scenarios (job / count) proxies) =
-    get_or-enumerate_from 0 scenarios (job / count) (0, proxies) row
-    ∙ ap (λ (n : ℕ). let p : ℕ × List Proxy = (n, get_or scenarios (job / count) proxies) in p) zero_on in
     let inside : job < length (enumerate_from 0 scenarios) * count = rw (length-enumerate_from 0 scenarios) below in
     sym (at_place (recorded_delivery seed) (enumerate_from 0 scenarios) recordings job other (0, proxies) r some inside
-    ∙ ap (λ s. recorded_delivery seed s (get_or recordings (job % count) r)) numbered)
+    ∙ ap (λ s. recorded_delivery seed s (get_or recordings (job % count) r)) (get_or-numbered scenarios (job / count) proxies row))
 
 pub as_many : (c : CaptureView) → length (recordings_of c) ≡ length (whole_table c).conns
 as_many c = length-map (whole_connections c) (recording_in c) ∙ sym (length-map (whole_connections c) (conn_in c)) ∙ ap length (sym (conns_are c))

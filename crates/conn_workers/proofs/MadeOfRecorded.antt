@@ -1,14 +1,15 @@
 -- What is delivered of a capture's connections is made of what was recorded of them.
-use Rattle.std.proofs.Common.{◌≡◌, ℕ, suc, ◌+◌, Bool, true, false, List, [], ◌∷◌, map, find, Option, Some, None, option_map, refl, sym, ap, ◌∙◌, arith}
+use Rattle.std.proofs.Common.{◌≡◌, ℕ, suc, ◌+◌, true, false, List, [], ◌∷◌, map, find, Option, Some, None, option_map, refl, sym, ap, ◌∙◌, arith}
 use Rattle.std.specs.List.{AllByRecursion, enumerate_from, flat_map, slice_get}
 use Rattle.pcap_records.specs.CaptureView.{CaptureView, contents_of}
-use Rattle.lists.proofs.Lists.{all_append, all_found}
+use Rattle.lists.proofs.Lists.{all_append, all_found, all_map}
 use Rattle.frame_headers.specs.declared.peers.Peer.{Peer}
 use Rattle.conn_table.specs.SeenCapture.{seen_capture}
 use Rattle.conn_table.specs.IndexedSegments.{indexed_segments}
 use Rattle.conn_table.specs.Connections.{Connection}
 use Rattle.reassembly.specs.Positions.{server_of}
 use Rattle.reassembly.specs.RecordedLines.{Line, RecordedConnection, recorded_connection}
+use Rattle.reassembly.proofs.MappedLists.{and_both}
 use Rattle.toxic_defs.specs.Toxics.{chain}
 use Rattle.toxic_defs.specs.DeliveredLines.{MetProxy, DeliveredConnection, connection_by_cut, connection_by_proxy, delivered_connection}
 use Rattle.toxic_defs.specs.Laws.{IsBeforeHorizon, Delays, MetInRange, IsRecordedInTime, CutLinesEndInTime, DelayedBytesAreTheFirst, DeliveredIsRecorded}
@@ -48,11 +49,11 @@ cut_before_horizon law ticks proxy up down = record { up = law ticks up down up;
 before_horizon : CutLinesEndInTime → (ticks seed s c : ℕ) (met : Option MetProxy) (r : RecordedConnection) → AreBeforeHorizon ticks (delivered_connection ticks seed s c met r)
 unfolding delivered_connection
 before_horizon law ticks seed s c None r = cut_before_horizon law ticks None r.up.line r.down.line
-before_horizon law ticks seed s c (Some met) r = by met.enabled
-  where
-    by : (b : Bool) → AreBeforeHorizon ticks (connection_by_proxy b ticks seed s c met r)
-    by true = cut_before_horizon law ticks (Some met.number) (chain ticks met.up r.opened seed s c 0 r.up.line) (chain ticks met.down r.opened seed s c 1 r.down.line)
-    by false = record { up = record { bytes = tt; ends = tt }; down = record { bytes = tt; ends = tt } }
+before_horizon law ticks seed s c (Some met) r =
+    elim met.enabled as (λ enabled. AreBeforeHorizon ticks (connection_by_proxy enabled ticks seed s c met r)) [
+      | true ↦ cut_before_horizon law ticks (Some met.number) (chain ticks met.up r.opened seed s c 0 r.up.line) (chain ticks met.down r.opened seed s c 1 r.down.line)
+      | false ↦ record { up = record { bytes = tt; ends = tt }; down = record { bytes = tt; ends = tt } }
+    ]
 
 line_made : DelayedBytesAreTheFirst → (ticks opened : ℕ) (recorded delivered : Line) → Delays ticks opened recorded.bytes delivered → IsBeforeHorizon ticks delivered → IsDeliveredOf ticks opened recorded delivered
 line_made first ticks opened recorded delivered is before = record {
@@ -101,15 +102,12 @@ delivery_made laws c seed s x sound placed is = record {
   made = connection_made laws c.ticks seed s.0 x.number (met_proxy (server_of x) s.1) (recorded_connection x) (met_in_range (server_of x) s.1 sound) is;
 }
 
-row_made : Theorems → (c : CaptureView) (seed : ℕ) (s : ℕ × List Proxy) → AllByRecursion IsSound s.1 → (xs : List Connection)
-    → AllByRecursion (λ x. slice_get (table_connections c) x.number ≡ Some x) xs → AllByRecursion (λ x. IsRecordedInTime c.ticks (recorded_connection x)) xs
-    → AllByRecursion (IsOfRecorded c seed s) (map (delivery_of c.ticks seed s) xs)
-row_made laws c seed s sound [] placed in_time = tt
-row_made laws c seed s sound (x ∷ xs) placed in_time = (delivery_made laws c seed s x sound placed.0 in_time.0, row_made laws c seed s sound xs placed.1 in_time.1)
-
 pub row_is_recorded : Theorems → (c : CaptureView) (seed : ℕ) (s : ℕ × List Proxy) → AllByRecursion IsSound s.1 → AllByRecursion (λ x. IsRecordedInTime c.ticks (recorded_connection x)) (table_connections c)
     → AllByRecursion (IsOfRecorded c seed s) (map (delivery_of c.ticks seed s) (table_connections c))
-row_is_recorded laws c seed s sound in_time = row_made laws c seed s sound (table_connections c) (own_places c) in_time
+row_is_recorded laws c seed s sound in_time =
+    all_map (IsOfRecorded c seed s) (delivery_of c.ticks seed s) (table_connections c)
+    (and_both (λ x. slice_get (table_connections c) x.number ≡ Some x) (λ x. IsRecordedInTime c.ticks (recorded_connection x)) (λ x. IsOfRecorded c seed s (delivery_of c.ticks seed s x))
+    (λ x placed is. delivery_made laws c seed s x sound placed is) (table_connections c) (own_places c) in_time)
 
 -- ---- of all scenarios
 

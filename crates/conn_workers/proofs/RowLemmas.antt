@@ -4,6 +4,7 @@ use Rattle.std.specs.List.{enumerate_from, slice_get}
 use Rattle.std.proofs.Math.Nat.{suc-mul, mul-le-mul_right}
 use Rattle.std.proofs.lemmas.Nat.{div-add-mod', div_below, mod_below}
 use Rattle.std.proofs.lemmas.List.{length-append, length-map, get_or-map, get_or_append_left, get_or-append-add}
+use Rattle.std.proofs.lemmas.List.FromFn.{get_or-enumerate_from, length-enumerate_from}
 use Rattle.std.proofs.lemmas.Option.{slice_get-get_or, slice_get_within, get_or_from_slice_get}
 use Rattle.conn_workers.specs.DeliveryRows.{rows}
 
@@ -64,13 +65,15 @@ module _ {R C D E V : Type 0} (f : R → C → V) (g : R → D → V) (a : E →
 
 -- ---- lists whose elements are numbered
 
-numbered_from : {X : Type 0} (n : ℕ) (xs : List X) (k : ℕ) (x : X) → slice_get xs k ≡ Some x → slice_get (enumerate_from n xs) k ≡ Some (n + k, x)
-numbered_from n [] k x is = absurd (omega (arith, slice_get_within [] k x is))
-numbered_from n (y ∷ xs) zero x is = let e : n ≡ n + zero = omega arith in ap₂ (λ i o. let p : ℕ × _ = (i, o) in Some p) e (let same : y ≡ x = cc in same)
-numbered_from n (y ∷ xs) (suc k) x is = numbered_from (n + 1) xs k x is ∙ ap (λ i. let p : ℕ × _ = (i, x) in Some p) (let e : n + 1 + k ≡ n + suc k = omega arith in e)
+pub get_or-numbered : {X : Type 0} (xs : List X) (k : ℕ) (d : X) → k < length xs → get_or (enumerate_from 0 xs) k (0, d) ≡ (k, get_or xs k d)
+get_or-numbered xs k d within =
+    get_or-enumerate_from 0 xs k (0, d) within ∙ ap (λ i. let p : ℕ × _ = (i, get_or xs k d) in p) (let e : 0 + k ≡ k = omega arith in e)
 
 pub numbered : {X : Type 0} (xs : List X) (k : ℕ) (x : X) → slice_get xs k ≡ Some x → slice_get (enumerate_from 0 xs) k ≡ Some (k, x)
-numbered xs k x is = numbered_from 0 xs k x is ∙ ap (λ i. let p : ℕ × _ = (i, x) in Some p) (let e : 0 + k ≡ k = omega arith in e)
+numbered xs k x is =
+    let within : k < length xs = slice_get_within xs k x is in
+    slice_get-get_or (enumerate_from 0 xs) k (0, x) (omega (arith, within, length-enumerate_from 0 xs))
+    ∙ ap Some (get_or-numbered xs k x within) ∙ ap (λ y. let p : ℕ × _ = (k, y) in Some p) (get_or_from_slice_get xs k x x is)
 
 -- what is made of numbered elements, and tells their numbers, has its own place for its number
 pub number_is : {X C : Type 0} (f : ℕ × X → C) (number : C → ℕ) → ((p : ℕ × X) → number (f p) ≡ p.0)

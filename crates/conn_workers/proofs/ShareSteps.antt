@@ -1,20 +1,19 @@
 -- What ranges of connections contribute, against what all of them do.
-use Rattle.std.proofs.Common.{◌≡◌, ◌<◌, ◌≤◌, ℕ, zero, suc, ◌+◌, ◌*◌, List, [], ◌∷◌, ◌++◌, length, map, take, drop, get_or, refl, sym, ap, ap₂, ◌∙◌, arith}
+use Rattle.std.proofs.Common.{◌≡◌, ◌<◌, ◌≤◌, ℕ, zero, suc, ◌+◌, ◌*◌, List, [], ◌∷◌, ◌++◌, length, map, take, drop, get_or, refl, sym, ap, ◌∙◌, arith}
 use Rattle.std.specs.List.{enumerate_from, flat_map}
-use Rattle.std.specs.Prelude.{All}
 use Rattle.std.proofs.Math.Nat.{suc-mul}
+use Rattle.std.proofs.Math.Path.{fun_ext}
 use Rattle.std.proofs.Math.Seq.{drop-drop}
 use Rattle.std.proofs.lemmas.Grind.{flat_map-append}
 use Rattle.std.proofs.lemmas.List.{length-map, length-drop, get_or-map, take-append-drop}
-use Rattle.std.proofs.lemmas.List.Elements.{All-cons, All-map, All-nil}
+use Rattle.std.proofs.lemmas.List.Elements.{All-from_get_or, All-map}
 use Rattle.std.proofs.lemmas.List.Folds.{flat_map-map}
-use Rattle.std.proofs.lemmas.List.FromFn.{get_or-enumerate_from, length-enumerate_from}
+use Rattle.std.proofs.lemmas.List.FromFn.{length-enumerate_from}
 use Rattle.scenarios.specs.declared.proxies.Proxy.{Proxy}
-use Rattle.conn_workers.specs.declared.deliveries.Delivery.{Delivery}
-use Rattle.conn_workers.specs.declared.row_shares.RowShare.{RowShare}
-use Rattle.conn_workers.specs.Recordings.{RecordingView, recorded_delivery, recorded_row, recorded_lines}
+use Rattle.conn_workers.specs.Recordings.{RecordingView, recorded_delivery}
 use Rattle.conn_workers.specs.ReportTexts.{HoldLines, text_shares, texts_under}
-use Rattle.conn_workers.specs.RowShares.{row_segments, row_text, row_share, ranges_of, row_shares}
+use Rattle.conn_workers.specs.RowShares.{HoldRow, row_text, row_share, ranges_of, row_shares}
+use Rattle.conn_workers.proofs.RowLemmas.{get_or-numbered}
 
 -- ---- ranges
 
@@ -56,64 +55,42 @@ module _ {X V : Type 0} (f : List X → V) (size count : ℕ) (xs : List X) wher
 
 -- ---- all shares together
 
-module _ (seed : ℕ) (s : ℕ × List Proxy) (recordings : List RecordingView) where
-  pub segments_in_row : row_segments seed s recordings ≡ flat_map (λ (d : Delivery). d.segments) (recorded_row seed s recordings)
-  segments_in_row = sym (flat_map-map (λ (d : Delivery). d.segments) (recorded_delivery seed s) recordings)
+-- If what is read of what is made of a range is what each element makes, it is all together what all elements make.
+module _ {X D V Y : Type 0} (make : List X → V) (read : V → List Y) (f : X → D) (own : D → List Y) (same : (xs : List X) → read (make xs) ≡ flat_map (λ x. own (f x)) xs) where
+  read_together : (size count : ℕ) (xs : List X) → length xs ≤ count * size → flat_map read (map make (ranges_of size count xs)) ≡ flat_map own (map f xs)
+  read_together size count xs whole =
+      flat_map-map read make (ranges_of size count xs) ∙ ap (λ (g : List X → List Y). flat_map g (ranges_of size count xs)) (fun_ext same)
+      ∙ together (λ x. own (f x)) size count xs whole ∙ sym (flat_map-map own f xs)
 
-  pub text_in_row : row_text seed s recordings ≡ flat_map (λ (d : Delivery). d.line) (recorded_row seed s recordings)
-  text_in_row = sym (flat_map-map (λ (d : Delivery). d.line) (recorded_delivery seed s) recordings)
+pub row_together : (seed : ℕ) (s : ℕ × List Proxy) (recordings : List RecordingView) (size count : ℕ) → length recordings ≤ count * size
+    → HoldRow seed s recordings (row_shares size count seed s recordings)
+row_together seed s recordings size count whole = record {
+  segments = read_together (row_share seed s) (λ x. x.segments) (recorded_delivery seed s) (λ d. d.segments) (λ rs. refl) size count recordings whole;
+  lines = read_together (row_share seed s) (λ x. x.lines) (recorded_delivery seed s) (λ d. d.line) (λ rs. refl) size count recordings whole;
+}
 
-  pub text_in_lines : row_text seed s recordings ≡ flat_map (λ (line : List ℕ). line) (recorded_lines seed s recordings)
-  text_in_lines = sym (flat_map-map (λ (line : List ℕ). line) (λ r. (recorded_delivery seed s r).line) recordings)
+module _ (seed : ℕ) (scenarios : List (List Proxy)) where
+  -- a text for each
+  pub length-texts_under : (recordings : List RecordingView) → length (texts_under seed scenarios recordings) ≡ length scenarios
+  unfolding texts_under
+  length-texts_under recordings = length-map (enumerate_from 0 scenarios) (λ s. row_text seed s recordings) ∙ length-enumerate_from 0 scenarios
 
-  module _ (size count : ℕ) (whole : length recordings ≤ count * size) where
-    pub segments_together : flat_map (λ (x : RowShare). x.segments) (row_shares size count seed s recordings)
-        ≡ flat_map (λ (d : Delivery). d.segments) (recorded_row seed s recordings)
-    segments_together =
-        flat_map-map (λ (x : RowShare). x.segments) (row_share seed s) (ranges_of size count recordings)
-        ∙ together (λ r. (recorded_delivery seed s r).segments) size count recordings whole ∙ segments_in_row
-
-    pub lines_together : flat_map (λ (x : RowShare). x.lines) (row_shares size count seed s recordings)
-        ≡ flat_map (λ (d : Delivery). d.line) (recorded_row seed s recordings)
-    lines_together =
-        flat_map-map (λ (x : RowShare). x.lines) (row_share seed s) (ranges_of size count recordings)
-        ∙ together (λ r. (recorded_delivery seed s r).line) size count recordings whole ∙ text_in_row
-
--- ---- texts of all scenarios
-
--- a text for each
-pub length-texts_under : (seed first : ℕ) (scenarios : List (List Proxy)) (recordings : List RecordingView) → length (texts_under seed first scenarios recordings) ≡ length scenarios
-unfolding texts_under
-length-texts_under seed first scenarios recordings = length-map (enumerate_from first scenarios) (λ s. row_text seed s recordings) ∙ length-enumerate_from first scenarios
-
--- that of the scenario at a place
-pub text_at : (seed first : ℕ) (scenarios : List (List Proxy)) (recordings : List RecordingView) (place : ℕ) (other : List Proxy) → place < length scenarios
-    → row_text seed (first + place, get_or scenarios place other) recordings ≡ get_or (texts_under seed first scenarios recordings) place []
-unfolding texts_under
-text_at seed first scenarios recordings place other within =
-    let text : ℕ × List Proxy → List ℕ = λ s. row_text seed s recordings in
-    let inside : place < length (enumerate_from first scenarios) = omega (arith, within, length-enumerate_from first scenarios) in
-    ap text (sym (get_or-enumerate_from first scenarios place (0, other) within)) ∙ sym (get_or-map text (enumerate_from first scenarios) place (0, other) [] inside)
-
-module _ (seed first : ℕ) (scenarios : List (List Proxy)) where
-  -- what holds of all
-  each_has : {X : Type 0} {P : X → Type 0} → ((x : X) → P x) → (xs : List X) → All P xs
-  each_has {X} {P} has [] = All-nil P
-  each_has {X} {P} has (x ∷ xs) = All-cons P x xs (has x) (each_has has xs)
-
-  -- what is read of all shares at one place
-  read_alike : {X : Type 0} (f g : X → List ℕ) → ((x : X) → f x ≡ g x) → (xs : List X) → flat_map f xs ≡ flat_map g xs
-  read_alike f g alike [] = refl
-  read_alike f g alike (x ∷ xs) = ap₂ (λ (a b : List ℕ). a ++ b) (alike x) (read_alike f g alike xs)
+  -- that of the scenario with a number
+  pub text_at : (recordings : List RecordingView) (number : ℕ) (other : List Proxy) → number < length scenarios
+      → get_or (texts_under seed scenarios recordings) number [] ≡ row_text seed (number, get_or scenarios number other) recordings
+  unfolding texts_under
+  text_at recordings number other within =
+      let text : ℕ × List Proxy → List ℕ = λ s. row_text seed s recordings in
+      get_or-map text (enumerate_from 0 scenarios) number (0, other) [] (omega (arith, within, length-enumerate_from 0 scenarios))
+      ∙ ap text (get_or-numbered scenarios number other within)
 
   pub texts_together : (size count : ℕ) (recordings : List RecordingView) → length recordings ≤ count * size
-      → HoldLines seed first scenarios recordings (text_shares size count seed first scenarios recordings)
+      → HoldLines seed scenarios recordings (text_shares size count seed scenarios recordings)
   texts_together size count recordings whole = record {
-    each = All-map (λ (share : List (List ℕ)). length share ≡ length scenarios) (texts_under seed first scenarios) (ranges_of size count recordings)
-        (each_has (length-texts_under seed first scenarios) (ranges_of size count recordings));
-    lines = λ place within.
-        let s : ℕ × List Proxy = (first + place, get_or scenarios place []) in
-        flat_map-map (λ (share : List (List ℕ)). get_or share place []) (texts_under seed first scenarios) (ranges_of size count recordings)
-        ∙ read_alike (λ rs. get_or (texts_under seed first scenarios rs) place []) (row_text seed s) (λ rs. sym (text_at seed first scenarios rs place [] within)) (ranges_of size count recordings)
-        ∙ together (λ r. (recorded_delivery seed s r).line) size count recordings whole ∙ text_in_lines seed s recordings;
+    each = All-map (λ (share : List (List ℕ)). length share ≡ length scenarios) (texts_under seed scenarios) (ranges_of size count recordings)
+        (All-from_get_or (λ rs. length (texts_under seed scenarios rs) ≡ length scenarios) (ranges_of size count recordings) [] (λ i within. length-texts_under _));
+    lines = λ number within.
+        let s : ℕ × List Proxy = (number, get_or scenarios number []) in
+        read_together (texts_under seed scenarios) (λ share. get_or share number []) (λ r. (recorded_delivery seed s r).line) (λ line. line)
+        (λ rs. text_at rs number [] within) size count recordings whole;
   }

@@ -42,11 +42,9 @@ connections_are agree c = agree (segments_between c 0 (length c.records) 0) ∙ 
 
 fewer_mapped : {X Y : Type 0} (h : X → Option Y) (xs : List X) → length (filter_map h xs) ≤ length xs
 fewer_mapped h [] = omega arith
-fewer_mapped {X} {Y} h (x ∷ xs) = by (h x) (fewer_mapped h xs)
-  where
-    by : (o : Option Y) → length (filter_map h xs) ≤ length xs → length (cons_option o (filter_map h xs)) ≤ suc (length xs)
-    by (Some y) rest = omega (arith, rest)
-    by None rest = omega (arith, rest)
+fewer_mapped h (x ∷ xs) =
+    let rest : length (filter_map h xs) ≤ length xs = fewer_mapped h xs in
+    elim (h x) as (λ o. length (cons_option o (filter_map h xs)) ≤ suc (length xs)) [ Some y ↦ omega (arith, rest) | None ↦ omega (arith, rest) ]
 
 few_segments : (packets : List SeenPacket) → length (indexed_segments 0 packets) ≤ length packets
 unfolding indexed_segments

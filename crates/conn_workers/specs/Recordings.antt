@@ -1,4 +1,4 @@
--- What the table of a capture shows of its connections, with what is recorded of them, and what they contribute by that.
+-- For each connection: its row in the table, what is recorded of it, and what it contributes to a scenario.
 use Rattle.std.specs.Prelude.{◌≡◌, List, map, ℕ}
 use Rattle.pcap_records.specs.CaptureView.{CaptureView}
 use Rattle.conn_table.specs.IndexedConnections.{IndexedConnection, without_indices}
@@ -31,6 +31,7 @@ recording_in c x = record { ticks = c.ticks; conn = conn_in c x; recorded = reco
 abbrev pub recordings_of : CaptureView → List RecordingView
 recordings_of c = map (recording_in c) (whole_connections c)
 
+-- both lines keep the rules of lines, in one unit, and the endpoints are this connection's
 pub record IsRecording (conn : Conn) (r : Recorded) (e : EndpointsView) : Type 0 where
   pub up : IsLine r.up.line
   pub down : IsLine r.down.line
@@ -39,7 +40,7 @@ pub record IsRecording (conn : Conn) (r : Recorded) (e : EndpointsView) : Type 0
 
 -- ---- what they contribute to scenarios
 
--- what a connection contributes, by what is delivered of it
+-- what a connection contributes to the scenario of this number, if `d` is delivered of it
 abbrev pub recorded_delivery_by : ℕ → RecordingView → DeliveredConnection → Delivery
 recorded_delivery_by number r d = record {
   scenario = number;
@@ -55,7 +56,7 @@ recorded_delivered seed (number, proxies) r =
 abbrev pub recorded_delivery : ℕ → ℕ × List Proxy → RecordingView → Delivery
 recorded_delivery seed (number, proxies) r = recorded_delivery_by number r (recorded_delivered seed (number, proxies) r)
 
--- what all contribute to all scenarios, row by row
+-- what all contribute: first to scenario 0, then to scenario 1, and so on
 unfoldable pub recorded_deliveries : ℕ → List RecordingView → List (List Proxy) → List Delivery
 recorded_deliveries seed recordings scenarios =
     rows (recorded_delivery seed) (enumerate_from 0 scenarios) recordings

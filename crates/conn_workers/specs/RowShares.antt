@@ -1,10 +1,10 @@
 -- What connections contribute to a scenario together, and how a row of them is cut into ranges.
-use Rattle.std.specs.Prelude.{ℕ, zero, suc, List, [], ◌∷◌, map, take, drop}
+use Rattle.std.specs.Prelude.{◌≡◌, ℕ, zero, suc, List, [], ◌∷◌, map, take, drop}
 use Rattle.std.specs.List.{flat_map}
 use Rattle.segment_writer.specs.declared.framed.Framed.{Framed}
 use Rattle.scenarios.specs.declared.proxies.Proxy.{Proxy}
 use Rattle.conn_workers.specs.declared.row_shares.RowShare.{RowShare}
-use Rattle.conn_workers.specs.Recordings.{RecordingView, recorded_delivery}
+use Rattle.conn_workers.specs.Recordings.{RecordingView, recorded_delivery, recorded_row}
 
 abbrev pub row_segments : ℕ → ℕ × List Proxy → List RecordingView → List Framed
 row_segments seed s recordings = flat_map (λ r. (recorded_delivery seed s r).segments) recordings
@@ -24,3 +24,8 @@ ranges_of size (suc count) xs = take size xs ∷ ranges_of size count (drop size
 
 abbrev pub row_shares : ℕ → ℕ → ℕ → ℕ × List Proxy → List RecordingView → List RowShare
 row_shares size count seed s recordings = map (row_share seed s) (ranges_of size count recordings)
+
+-- shares hold together what all connections contribute to a scenario
+pub record HoldRow (seed : ℕ) (s : ℕ × List Proxy) (recordings : List RecordingView) (shares : List RowShare) : Type 0 where
+  pub segments : flat_map (λ x. x.segments) shares ≡ flat_map (λ d. d.segments) (recorded_row seed s recordings)
+  pub lines : flat_map (λ x. x.lines) shares ≡ flat_map (λ d. d.line) (recorded_row seed s recordings)

@@ -1,11 +1,13 @@
 //! The jobs of workers.
-ghost use Rattle.std.specs.Prelude.{◌≡◌, ◌≤◌, ◌+◌, ◌*◌, length};
+ghost use Rattle.std.specs.Prelude.{◌≡◌, ◌≤◌, ◌*◌, length};
 ghost use Rattle.conn_workers.specs.CaptureTables.{whole_table};
 ghost use Rattle.conn_workers.specs.DeliveryRows.{scenario_limit};
 ghost use Rattle.conn_workers.specs.Recordings.{recorded_deliveries, recordings_of};
+ghost use Rattle.conn_workers.specs.ReportTexts.{HoldLines, text_shares};
+ghost use Rattle.conn_workers.specs.RowShares.{HoldRow, row_shares};
 
 use crate::deliveries::Delivery;
-use crate::recordings::Recording;
+use crate::recordings::{Recording, Recordings};
 use crate::row_ranges::RowRanges;
 use crate::row_shares::RowShare;
 use crate::scenario_texts::{ShareTexts, texts_under};
@@ -117,10 +119,34 @@ impl<'w, 'v, 'a> Work for ContributionJobs<'w, 'v, 'a> {
 /// Job r makes what the connections of range r contribute to the scenario.
 #[derive(Drop)]
 pub(crate) struct ShareJobs<'s, 'w, 'v, 'a> {
-    pub(crate) under: UnderScenario<'s>,
-    pub(crate) recordings: &'w [Recording<'v, 'a>],
+    under: UnderScenario<'s>,
+    recordings: &'w [Recording<'v, 'a>],
     pub(crate) ranges: RowRanges,
     ghost all: { ranges.all ≡ length recordings.now },
+    ghost each: { ranges.count ≡ length (row_shares ranges.size ranges.count under.seed (under.number, under.scenario.now) recordings.now) },
+}
+
+impl<'s, 'w, 'v, 'a> ShareJobs<'s, 'w, 'v, 'a> {
+    pub(crate) fn of(
+        alloc: Global,
+        recordings: &'w Recordings<'v, 'a>,
+        number: u32,
+        scenario: &'s Scenario,
+        seed: u64,
+        plan: Plan,
+    ) -> Self
+        ensures { HoldRow seed (number, scenario.now) recordings.now
+            (row_shares result.ranges.size result.ranges.count result.under.seed (result.under.number, result.under.scenario.now) result.recordings.now) }
+    {
+        let recordings = recordings.as_slice();
+        let ranges = RowRanges::of(recordings.len(), usize::MAX, plan);
+        let under = UnderScenario::of(alloc, number, scenario, seed);
+        ShareJobs {
+            under,
+            recordings,
+            ranges,
+        }
+    }
 }
 
 impl<'s, 'w, 'v, 'a> Work for ShareJobs<'s, 'w, 'v, 'a> {
@@ -142,43 +168,37 @@ const LINES_LIMIT: usize = 4096;
 // The number of connections that a range may have in any case.
 const RANGE_LEAST: usize = 256;
 
-/// Job r makes the lines of the connections of range r in the report of each scenario. `first` is the number of the first one.
+/// Job r makes the lines of the connections of range r in the report of each scenario.
 #[derive(Drop)]
 pub(crate) struct TextJobs<'c, 'w, 'a> {
-    pub(crate) lines: LineJobs<'c, 'w, 'a>,
-    pub(crate) first: usize,
-    pub(crate) scenarios: &'w [Scenario],
-    pub(crate) seed: u64,
+    lines: LineJobs<'c, 'w, 'a>,
+    scenarios: &'w [Scenario],
+    seed: u64,
     pub(crate) ranges: RowRanges,
     ghost all: { ranges.all ≡ length lines.conns.now },
-    ghost few: { first + length scenarios.now ≤ scenario_limit },
+    ghost few: { length scenarios.now ≤ scenario_limit },
+    ghost each: { ranges.count ≡ length (text_shares ranges.size ranges.count seed scenarios.now (recordings_of lines.capture.now)) },
 }
 
 impl<'c, 'w, 'a> TextJobs<'c, 'w, 'a> {
-    ghost use Rattle.std.specs.Prelude.{◌≡◌, ◌+◌, ◌≤◌, length};
-
     pub(crate) fn of(
         alloc: Global,
         capture: &'c Capture<'a>,
         table: &'w Table,
-        first: usize,
         scenarios: &'w [Scenario],
         seed: u64,
         plan: Plan,
     ) -> Self
         requires table { table.now ≡ whole_table capture.now }
-        requires few { first + length scenarios.now ≤ scenario_limit }
-        ensures capture { result.lines.capture.now ≡ capture.now }
-        ensures first { result.first ≡ first }
-        ensures scenarios { result.scenarios.now ≡ scenarios.now }
-        ensures seed { result.seed ≡ seed }
+        requires few { length scenarios.now ≤ scenario_limit }
+        ensures { HoldLines seed scenarios.now (recordings_of capture.now)
+            (text_shares result.ranges.size result.ranges.count result.seed result.scenarios.now (recordings_of result.lines.capture.now)) }
     {
         let lines = LineJobs::of(alloc, capture, table);
         let most = (LINES_LIMIT / scenarios.len().max(1)).max(RANGE_LEAST);
-        let ranges = RowRanges::of_at_most(lines.conns.len(), most, plan);
+        let ranges = RowRanges::of(lines.conns.len(), most, plan);
         TextJobs {
             lines,
-            first,
             scenarios,
             seed,
             ranges,
@@ -193,17 +213,11 @@ impl<'c, 'w, 'a> Work for TextJobs<'c, 'w, 'a> {
     ghost use Rattle.conn_workers.specs.Recordings.{recordings_of};
     ghost use Rattle.conn_workers.specs.ReportTexts.{text_shares};
 
-    ghost values = { λ w. text_shares w.ranges.size w.ranges.count w.seed w.first w.scenarios.now (recordings_of w.lines.capture.now) };
+    ghost values = { λ w. text_shares w.ranges.size w.ranges.count w.seed w.scenarios.now (recordings_of w.lines.capture.now) };
 
     fn value(&self, job: u64) -> Result<ShareTexts, AllocError> {
         let first = self.ranges.first(job);
         let recordings = self.lines.recorded(first, self.ranges.size)?;
-        texts_under(
-            self.lines.alloc,
-            &recordings,
-            self.first,
-            self.scenarios,
-            self.seed,
-        )
+        texts_under(self.lines.alloc, &recordings, self.scenarios, self.seed)
     }
 }

@@ -4,6 +4,7 @@
 //! (`specs/RowShares.antt`). `report_texts` gives only the lines (`specs/ReportTexts.antt`). The program calls the last two.
 #![tactic(auto)]
 
+mod crews;
 mod deliveries;
 mod jobs;
 pub mod laws;
@@ -14,6 +15,7 @@ mod row_shares;
 mod scenario_texts;
 mod under_scenario;
 
+pub use crews::Workers;
 pub use deliveries::{Deliveries, Delivery, deliver};
 pub use recordings::{Recording, Recordings, record, record_alone};
 pub use row_shares::{RowShare, RowShares, deliver_row, deliver_row_alone};

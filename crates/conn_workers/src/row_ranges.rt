@@ -18,15 +18,8 @@ pub(crate) struct RowRanges {
 }
 
 impl RowRanges {
-    /// At most eight ranges for each worker of a plan.
-    pub(crate) fn of(all: usize, plan: Plan) -> RowRanges
-        ensures { result.all ≡ all }
-    {
-        RowRanges::of_size(all, even_size(all, plan))
-    }
-
     /// Ranges of at most `most` connections: as few as possible for one worker, else at most eight for each worker if `most` allows it.
-    pub(crate) fn of_at_most(all: usize, most: usize, plan: Plan) -> RowRanges
+    pub(crate) fn of(all: usize, most: usize, plan: Plan) -> RowRanges
         requires { 1 ≤ most }
         ensures { result.all ≡ all }
     {

@@ -1,13 +1,11 @@
 //! What the connections of a capture contribute to one scenario, in shares.
-ghost use Rattle.std.specs.Prelude.{◌≡◌, [], ◌∷◌, IfOk};
-ghost use Rattle.std.specs.List.{flat_map};
-ghost use Rattle.conn_workers.specs.Recordings.{recorded_row};
+ghost use Rattle.std.specs.Prelude.{IfOk};
+ghost use Rattle.conn_workers.specs.RowShares.{HoldRow};
 
+use crate::crews::Workers;
 use crate::jobs::ShareJobs;
 use crate::recordings::Recordings;
-use crate::row_ranges::RowRanges;
-use crate::under_scenario::UnderScenario;
-use job_matrix::{Gate, Phase, Plan, Values, work_all};
+use job_matrix::{Gate, Phase, Plan, Through, Values, work_all, work_alone};
 use report::ReportText;
 use scenarios::Scenario;
 use segment_writer::{Keys, SegKey, SegmentRow};
@@ -53,30 +51,20 @@ pub type RowShares<'w, 'a> = Values<RowShare<'w, 'a>>;
 /// What each connection contributes to the scenario with this number. Workers make it in phase `Jobs`, with one job for each range of
 /// connections.
 pub fn deliver_row<'w, 'a, R: Threads + Sync, G: Gate>(
-    rt: &R,
+    crew: &Workers<'_, R>,
     alloc: Global,
     recordings: &'w Recordings<'_, 'a>,
     number: u32,
     scenario: &Scenario,
     seed: u64,
-    plan: Plan,
     gate: &G,
 ) -> Result<RowShares<'w, 'a>, AllocError>
-    ensures segments { IfOk result (λ v. flat_map (λ s. s.segments) v
-        ≡ flat_map (λ d. d.segments) (recorded_row seed (number, scenario.now) recordings.now)) }
-    ensures lines { IfOk result (λ v. flat_map (λ s. s.lines) v
-        ≡ flat_map (λ d. d.line) (recorded_row seed (number, scenario.now) recordings.now)) }
+    ensures { IfOk result (HoldRow seed (number, scenario.now) recordings.now) }
 {
-    let recordings = recordings.as_slice();
-    let ranges = RowRanges::of(recordings.len(), plan);
-    let under = UnderScenario::of(alloc, number, scenario, seed);
-    let jobs = ShareJobs {
-        under,
-        recordings,
-        ranges,
-    };
-    let workers = plan.workers() as u64;
-    work_all(rt, alloc, ranges.count, workers, Phase::Jobs, gate, &jobs)
+    let jobs = ShareJobs::of(alloc, recordings, number, scenario, seed, crew.plan);
+    let count = jobs.ranges.count;
+    let workers = crew.plan.workers() as u64;
+    work_all(crew.rt, alloc, count, workers, Phase::Jobs, gate, &jobs)
 }
 
 /// The same as [`deliver_row`], made by this thread in one share.
@@ -87,20 +75,9 @@ pub fn deliver_row_alone<'w, 'a>(
     scenario: &Scenario,
     seed: u64,
 ) -> Result<RowShares<'w, 'a>, AllocError>
-    ensures segments { IfOk result (λ v. flat_map (λ s. s.segments) v
-        ≡ flat_map (λ d. d.segments) (recorded_row seed (number, scenario.now) recordings.now)) }
-    ensures lines { IfOk result (λ v. flat_map (λ s. s.lines) v
-        ≡ flat_map (λ d. d.line) (recorded_row seed (number, scenario.now) recordings.now)) }
+    ensures { IfOk result (HoldRow seed (number, scenario.now) recordings.now) }
 {
-    let under = UnderScenario::of(alloc, number, scenario, seed);
-    let share = under.share(recordings.as_slice())?;
-    one(alloc, share)
-}
-
-fn one<V: Drop>(alloc: Global, value: V) -> Result<Values<V>, AllocError>
-    ensures { IfOk result (λ v. v ≡ value ∷ []) }
-{
-    let mut values = Vec::with_capacity(alloc, 1)?;
-    values.push(value)?;
-    Ok(Values::of(values))
+    let one = Plan::new(1, 1).unwrap();
+    let jobs = ShareJobs::of(alloc, recordings, number, scenario, seed, one);
+    work_alone(alloc, jobs.ranges.count, Phase::Jobs, &Through, &jobs)
 }

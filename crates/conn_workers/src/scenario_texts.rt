@@ -1,11 +1,12 @@
-//! The lines of connections in the reports of scenarios that follow one another. What is recorded of a connection is dropped once its lines
-//! are made, so that each worker holds only what is recorded of one range.
-ghost use Rattle.std.specs.Prelude.{◌≡◌, ◌+◌, ◌≤◌, ◌<◌, [], IfOk, get_or, length};
+//! The lines of connections in the reports of scenarios. What is recorded of a connection is dropped once its lines are made, so that each
+//! worker holds only what is recorded of one range.
+ghost use Rattle.std.specs.Prelude.{◌≡◌, ◌≤◌, IfOk, length};
 ghost use Rattle.conn_workers.specs.CaptureTables.{whole_table};
 ghost use Rattle.conn_workers.specs.DeliveryRows.{scenario_limit};
 ghost use Rattle.conn_workers.specs.Recordings.{recordings_of};
 ghost use Rattle.conn_workers.specs.ReportTexts.{HoldLines, texts_under};
 
+use crate::crews::Workers;
 use crate::jobs::TextJobs;
 use crate::recordings::Recording;
 use crate::under_scenario::UnderScenario;
@@ -17,74 +18,48 @@ use scenarios::Scenario;
 use std::alloc::{AllocError, Global};
 use std::thread::Threads;
 
-/// The lines of some connections in the reports of scenarios that follow one another: a text for each scenario.
+/// The lines of some connections in the reports of scenarios: a text for each scenario.
 pub type ShareTexts = Values<ReportText>;
 
 /// The lines of some connections in the report of each scenario.
 pub(crate) fn texts_under(
     alloc: Global,
     recordings: &[Recording<'_, '_>],
-    first: usize,
     scenarios: &[Scenario],
     seed: u64,
 ) -> Result<ShareTexts, AllocError>
-    requires { first + length scenarios.now ≤ scenario_limit }
-    ensures { IfOk result (λ v. v ≡ texts_under seed first scenarios.now recordings.now) }
+    requires { length scenarios.now ≤ scenario_limit }
+    ensures { IfOk result (λ v. v ≡ texts_under seed scenarios.now recordings.now) }
 {
     let mut texts = Vec::with_capacity(alloc, scenarios.len())?;
-    for place in 0..scenarios.len() {
-        let text = text_under(alloc, recordings, first, scenarios, place, seed)?;
+    for number in 0..scenarios.len() {
+        let under = UnderScenario::of(alloc, number as u32, &scenarios[number], seed);
+        let text = under.text(recordings)?;
         texts.push(text)?;
     }
     Ok(Values::of(texts))
 }
 
-fn text_under(
-    alloc: Global,
-    recordings: &[Recording<'_, '_>],
-    first: usize,
-    scenarios: &[Scenario],
-    place: usize,
-    seed: u64,
-) -> Result<ReportText, AllocError>
-    requires few { first + length scenarios.now ≤ scenario_limit }
-    requires within { place < length scenarios.now }
-    ensures { IfOk result (λ text. text ≡ get_or (texts_under seed first scenarios.now recordings.now) place []) }
-{
-    let number = (first + place) as u32;
-    let under = UnderScenario::of(alloc, number, &scenarios[place], seed);
-    under.text(recordings)
-}
-
-/// The lines of all connections in the reports of scenarios that follow one another, the first with the number `first`. Each share has the
-/// lines of some connections, as a text for each scenario. Workers make them in phase `Jobs`, with one job for each range of connections.
-/// The texts of a scenario hold the same together for every plan and gate.
+/// The lines of all connections in the reports of scenarios. Each share has the lines of some connections, as a text for each scenario.
+/// Workers make them in phase `Jobs`, with one job for each range of connections. The texts of a scenario hold the same together for every
+/// plan and gate.
 pub fn report_texts<R: Threads + Sync, G: Gate>(
-    rt: &R,
+    crew: &Workers<'_, R>,
     alloc: Global,
     capture: &Capture<'_>,
     table: &Table,
-    first: usize,
     scenarios: &[Scenario],
     seed: u64,
-    plan: Plan,
     gate: &G,
 ) -> Result<Values<ShareTexts>, AllocError>
     requires table { table.now ≡ whole_table capture.now }
-    requires few { first + length scenarios.now ≤ scenario_limit }
-    ensures { IfOk result (HoldLines seed first scenarios.now (recordings_of capture.now)) }
+    requires few { length scenarios.now ≤ scenario_limit }
+    ensures { IfOk result (HoldLines seed scenarios.now (recordings_of capture.now)) }
 {
-    let jobs = TextJobs::of(alloc, capture, table, first, scenarios, seed, plan);
-    let workers = plan.workers() as u64;
-    work_all(
-        rt,
-        alloc,
-        jobs.ranges.count,
-        workers,
-        Phase::Jobs,
-        gate,
-        &jobs,
-    )
+    let jobs = TextJobs::of(alloc, capture, table, scenarios, seed, crew.plan);
+    let count = jobs.ranges.count;
+    let workers = crew.plan.workers() as u64;
+    work_all(crew.rt, alloc, count, workers, Phase::Jobs, gate, &jobs)
 }
 
 /// The same as [`report_texts`], made by this thread.
@@ -92,15 +67,14 @@ pub fn report_texts_alone(
     alloc: Global,
     capture: &Capture<'_>,
     table: &Table,
-    first: usize,
     scenarios: &[Scenario],
     seed: u64,
 ) -> Result<Values<ShareTexts>, AllocError>
     requires table { table.now ≡ whole_table capture.now }
-    requires few { first + length scenarios.now ≤ scenario_limit }
-    ensures { IfOk result (HoldLines seed first scenarios.now (recordings_of capture.now)) }
+    requires few { length scenarios.now ≤ scenario_limit }
+    ensures { IfOk result (HoldLines seed scenarios.now (recordings_of capture.now)) }
 {
     let one = Plan::new(1, 1).unwrap();
-    let jobs = TextJobs::of(alloc, capture, table, first, scenarios, seed, one);
+    let jobs = TextJobs::of(alloc, capture, table, scenarios, seed, one);
     work_alone(alloc, jobs.ranges.count, Phase::Jobs, &Through, &jobs)
 }

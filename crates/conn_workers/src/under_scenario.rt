@@ -102,7 +102,7 @@ impl<'w> UnderScenario<'w> {
         ensures { IfOk result (λ share. share
             ≡ row_share self.now.seed (self.now.number, self.now.scenario.now) recordings.now) }
     {
-        let mut segments = SegmentRow::none(self.alloc);
+        let mut segments = SegmentRow::with_room(self.alloc, recordings.len())?;
         let mut lines = self.room_for_lines(recordings.len())?;
         for recording in recordings {
             let delivered = self.put_line_of(&mut lines, recording)?;

@@ -1,6 +1,7 @@
 -- Lists of equal length that begin with the same numbers.
-use Rattle.std.proofs.Common.{◌≡◌, ◌≤◌, ◌<◌, ℕ, zero, suc, ◌+◌, ◌-◌, min, List, [], ◌∷◌, length, take, drop, slice_index, slice_range, refl, sym, ap, ap₂, ◌∙◌, arith}
+use Rattle.std.proofs.Common.{◌≡◌, ◌≤◌, ◌<◌, ℕ, zero, suc, ◌+◌, ◌-◌, min, List, [], ◌∷◌, length, take, drop, slice_index, refl, sym, ap, ◌∙◌, arith}
 use Rattle.std.proofs.lemmas.List.{length-take, length-drop, take-take, drop-take, get_or-take}
+use Rattle.std.proofs.lemmas.Simd.{splat_is_map}
 use Rattle.byteorder.specs.Endian.{big_number}
 use Rattle.byteorder.specs.Numbers.{big_from-take}
 use Rattle.frame_headers.specs.Frame.{number_at}
@@ -18,14 +19,8 @@ take_swap (suc m) zero xs = refl
 take_swap (suc m) (suc n) [] = refl
 take_swap (suc m) (suc n) (x ∷ xs) = ap (λ ys. x ∷ ys) (take_swap m n xs)
 
-pub range_long : (xs : List ℕ) (from to : ℕ) → length (slice_range xs from to) ≡ min (to - from) (length xs - from)
-range_long xs from to = length-take (to - from) (drop from xs) ∙ ap (λ n. min (to - from) n) (length-drop from xs)
-
 pub zeroed_same : (xs ys : List ℕ) → length xs ≡ length ys → zeroed xs ≡ zeroed ys
-zeroed_same [] [] same = refl
-zeroed_same [] (y ∷ ys) same = absurd (omega (arith, same))
-zeroed_same (x ∷ xs) [] same = absurd (omega (arith, same))
-zeroed_same (x ∷ xs) (y ∷ ys) same = ap (λ zs. 0 ∷ zs) (zeroed_same xs ys (omega (arith, same)))
+zeroed_same xs ys same = sym (splat_is_map xs (length ys) 0 same) ∙ splat_is_map ys (length ys) 0 refl
 
 module _ (a b : List ℕ) where
   pub fewer : (m n : ℕ) → m ≤ n → Alike n a b → Alike m a b
@@ -50,13 +45,3 @@ module _ (a b : List ℕ) where
   same_number m place n within x =
       let d = dropped place m (fewer (place + m) n within x) in
       sym (big_from-take 0 m m (drop place a) (omega arith)) ∙ ap (big_number m) d.first ∙ big_from-take 0 m m (drop place b) (omega arith)
-
--- a range of both, whose bounds may be written in two ways
-pub same_range : (a b : List ℕ) (from to from' to' m n : ℕ) → from ≡ from' → to ≡ to' → from + m ≤ n → Alike n a b → Alike m (slice_range a from to) (slice_range b from' to')
-same_range a b from to from' to' m n begins ends within x =
-    let r : Alike m (slice_range a from to) (slice_range b from to) =
-    taken (drop from a) (drop from b) (to - from) m (dropped a b from m (fewer a b (from + m) n within x)) in
-    record {
-      first = r.first ∙ ap₂ (λ f t. take m (slice_range b f t)) begins ends;
-      long = r.long ∙ ap₂ (λ f t. length (slice_range b f t)) begins ends;
-    }

@@ -1,9 +1,10 @@
 -- Frames of equal length that begin with the same bytes are seen alike, except for the bytes of a payload.
-use Rattle.std.proofs.Common.{◌≡◌, ◌≤◌, ℕ, ◌+◌, ◌-◌, ◌*◌, ◌/◌, ◌%◌, min, Bool, true, false, ◌||◌, ◌&&◌, not, nat_lt, nat_le, ◌==◌, if◌then◌else◌, List, length, refl, sym, ap, ap₂, ◌∙◌, arith}
-use Rattle.frame_headers.specs.Layout.{ethernet_len, link_len, tag_type, vlan_limit, ipv4_type, ipv4_len, total_len_at, fragment_at, protocol_at, source_at, destination_at, tcp_protocol, tcp_len, to_port_at, seq_at, ack_at, data_offset_at, flags_at}
-use Rattle.frame_headers.specs.Frame.{link_type, is_tagged, vlan_numbered, vlan_in, datagram_in, header_len, total_len, ip_payload, data_offset, payload_of, short, not_ipv4, bad_ipv4, fragment, not_tcp, cut, bad_tcp, same_ends, segment, frame_class_in, frame_class, segment_fields_in, segment_fields, SeenFrame}
+use Rattle.std.proofs.Common.{◌≡◌, ◌≤◌, ℕ, ◌+◌, ◌-◌, ◌*◌, ◌/◌, ◌%◌, Bool, true, false, ◌||◌, ◌&&◌, not, nat_lt, nat_le, ◌==◌, if◌then◌else◌, List, drop, length, slice_range, refl, ap, ap₂, ◌∙◌, subst, arith}
+use Rattle.std.proofs.lemmas.List.{length-take, length-drop}
+use Rattle.frame_headers.specs.Layout.{ethernet_len, link_len, type_len, tag_type, vlan_limit, ipv4_type, ipv4_len, total_len_at, fragment_at, protocol_at, source_at, destination_at, tcp_protocol, tcp_len, to_port_at, seq_at, ack_at, data_offset_at, flags_at}
+use Rattle.frame_headers.specs.Frame.{is_tagged, vlan_numbered, vlan_in, datagram_in, header_len, total_len, ip_payload, data_offset, payload_of, short, not_ipv4, bad_ipv4, fragment, not_tcp, cut, bad_tcp, same_ends, segment, frame_class_in, frame_class, segment_fields_in, segment_fields, SeenFrame}
 use Rattle.report_laws.specs.ZeroedPayloads.{zeroed, zeroed_frame}
-use Rattle.report_laws.proofs.AlikeLists.{Alike, range_long, zeroed_same, fewer, dropped, same_index, same_number, same_range}
+use Rattle.report_laws.proofs.AlikeLists.{Alike, zeroed_same, fewer, dropped, taken, same_index, same_number}
 
 -- The first bytes that are looked at: of Ethernet's header at most 18, of IPv4's at most 60, and of TCP's 14.
 abbrev looked_at : ℕ
@@ -13,21 +14,9 @@ looked_at = 92
 abbrev pub seen_in : Bool → List ℕ → SeenFrame
 seen_in tagged frame = zeroed_frame (record { class = frame_class_in tagged frame; fields = segment_fields_in tagged frame })
 
-module _ (a b : List ℕ) (x : Alike looked_at a b) where
-  types_same : (tagged : Bool) → link_type tagged a ≡ link_type tagged b
-  types_same true = same_number a b 2 16 looked_at (omega arith) x
-  types_same false = same_number a b 2 12 looked_at (omega arith) x
-
-  tags_same : is_tagged a ≡ is_tagged b
-  tags_same = λ i. nat_le ethernet_len (x.long i) && types_same false i == tag_type
-
-  vlans_same : (tagged : Bool) → vlan_in tagged a ≡ vlan_in tagged b
-  vlans_same true = ap (λ n. vlan_numbered (n % vlan_limit)) (same_number a b 2 ethernet_len looked_at (omega arith) x)
-  vlans_same false = refl
-
-  datagrams_alike : (tagged : Bool) → Alike 74 (datagram_in tagged a) (datagram_in tagged b)
-  datagrams_alike true = dropped a b 18 74 x
-  datagrams_alike false = dropped a b 14 74 (fewer a b 88 looked_at (omega arith) x)
+vlans_same : (tagged : Bool) (a b : List ℕ) (m : ℕ) → 16 ≤ m → Alike m a b → vlan_in tagged a ≡ vlan_in tagged b
+vlans_same true a b m far x = ap (λ n. vlan_numbered (n % vlan_limit)) (same_number a b 2 ethernet_len m (omega arith) x)
+vlans_same false a b m far x = refl
 
 -- datagrams whose first n bytes are the same
 module _ (a b : List ℕ) (n : ℕ) (many : 20 ≤ n) (x : Alike n a b) where
@@ -37,8 +26,11 @@ module _ (a b : List ℕ) (n : ℕ) (many : 20 ≤ n) (x : Alike n a b) where
   totals_same : total_len a ≡ total_len b
   totals_same = same_number a b 2 total_len_at n (omega arith) x
 
-  pub payloads_alike : header_len a + 14 ≤ n → Alike 14 (ip_payload a) (ip_payload b)
-  payloads_alike far = same_range a b (header_len a) (total_len a) (header_len b) (total_len b) 14 n headers_same totals_same far x
+  payloads_alike : header_len a + 14 ≤ n → Alike 14 (ip_payload a) (ip_payload b)
+  payloads_alike far =
+      let rest : Alike 14 (drop (header_len a) a) (drop (header_len a) b) = dropped a b (header_len a) 14 (fewer a b (header_len a + 14) n far x) in
+      subst (λ (ys : List ℕ). Alike 14 (ip_payload a) ys) (ap₂ (slice_range b) headers_same totals_same)
+      (taken (drop (header_len a) a) (drop (header_len a) b) (total_len a - header_len a) 14 rest)
 
 module _ (a b : List ℕ) (x : Alike 14 a b) where
   offsets_same : data_offset a ≡ data_offset b
@@ -46,19 +38,19 @@ module _ (a b : List ℕ) (x : Alike 14 a b) where
 
   zeroed_payloads : zeroed (payload_of a) ≡ zeroed (payload_of b)
   zeroed_payloads =
-      zeroed_same (payload_of a) (payload_of b)
-      (range_long a (data_offset a) (length a) ∙ ap₂ (λ n offset. min (n - offset) (n - offset)) x.long offsets_same
-      ∙ sym (range_long b (data_offset b) (length b)))
+      let long : (c : List ℕ) → length (payload_of c) ≡ length c - data_offset c = λ c. omega (arith, length-take (length c - data_offset c) (drop (data_offset c) c), length-drop (data_offset c) c) in
+      zeroed_same (payload_of a) (payload_of b) (omega (arith, long a, long b, x.long, offsets_same))
 
 -- frames with the same Ethernet and IPv4 headers, and TCP headers up to their flags
-pub seen_alike : (tagged : Bool) (a b : List ℕ) (m n : ℕ) → 16 ≤ m → 20 ≤ n → Alike m a b → Alike n (datagram_in tagged a) (datagram_in tagged b)
-    → Alike 14 (ip_payload (datagram_in tagged a)) (ip_payload (datagram_in tagged b)) → link_type tagged a ≡ link_type tagged b → vlan_in tagged a ≡ vlan_in tagged b
-    → seen_in tagged a ≡ seen_in tagged b
-seen_alike tagged a b m n far many x d t type vlan =
+pub seen_alike : (tagged : Bool) (a b : List ℕ) (m n : ℕ) → 20 ≤ n → link_len tagged + n ≤ m → header_len (datagram_in tagged a) + 14 ≤ n → Alike m a b → seen_in tagged a ≡ seen_in tagged b
+seen_alike tagged a b m n many room far x =
     let ip = datagram_in tagged a in
     let ip' = datagram_in tagged b in
     let tcp = ip_payload ip in
     let tcp' = ip_payload ip' in
+    let d = dropped a b (link_len tagged) n (fewer a b (link_len tagged + n) m room x) in
+    let t = payloads_alike ip ip' n many d far in
+    let type = same_number a b 2 (link_len tagged - type_len) m (omega (arith, many, room)) x in
     let first = same_index ip ip' 0 n (omega arith) d in
     let total = totals_same ip ip' n many d in
     let bits = same_number ip ip' 2 fragment_at n (omega arith) d in
@@ -82,7 +74,7 @@ seen_alike tagged a b m n far many x d t type vlan =
       fields = record {
         mac_from = (dropped a b 6 6 (fewer a b 12 m (omega arith) x)).first i;
         mac_to = (fewer a b 6 m (omega arith) x).first i;
-        vlan = vlan i;
+        vlan = vlans_same tagged a b m (omega arith) x i;
         from = record { addr = source i; port = from i };
         to = record { addr = destination i; port = to i };
         seq = same_number tcp tcp' 4 seq_at 14 (omega arith) t i;
@@ -92,15 +84,11 @@ seen_alike tagged a b m n far many x d t type vlan =
       };
     }
 
-seen_same : (tagged : Bool) (a b : List ℕ) → Alike looked_at a b → seen_in tagged a ≡ seen_in tagged b
-seen_same tagged a b x =
-    let d = datagrams_alike a b x tagged in
-    let t = payloads_alike (datagram_in tagged a) (datagram_in tagged b) 74 (omega arith) d (omega arith) in
-    seen_alike tagged a b looked_at 74 (omega arith) (omega arith) x d t (types_same a b x tagged) (vlans_same a b x tagged)
-
-pub frames_same : (a b : List ℕ) (n : ℕ) → Alike n a b → looked_at ≤ n
+pub frames_same : (a b : List ℕ) → Alike looked_at a b
     → zeroed_frame (record { class = frame_class a; fields = segment_fields a }) ≡ zeroed_frame (record { class = frame_class b; fields = segment_fields b })
 unfolding frame_class segment_fields
-frames_same a b n alike enough =
-    let x = fewer a b looked_at n enough alike in
-    ap (λ tagged. seen_in tagged a) (tags_same a b x) ∙ seen_same (is_tagged b) a b x
+frames_same a b x =
+    let type = same_number a b 2 12 looked_at (omega arith) x in
+    let tags : is_tagged a ≡ is_tagged b = λ i. nat_le ethernet_len (x.long i) && type i == tag_type in
+    let room : (t : Bool) → link_len t + 74 ≤ looked_at = elim [ true ↦ omega arith | false ↦ omega arith ] in
+    ap (λ tagged. seen_in tagged a) tags ∙ seen_alike (is_tagged b) a b looked_at 74 (omega arith) (room (is_tagged b)) (omega arith) x

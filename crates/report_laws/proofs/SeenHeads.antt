@@ -1,6 +1,7 @@
 -- Captures with the same heads are seen alike, except for the bytes of payloads.
 use Rattle.std.proofs.Common.{◌≡◌, ℕ, List, [], ◌∷◌, length, map, drop, get_or, refl, sym, ap, ap₂, ◌∙◌, arith}
 use Rattle.std.specs.List.{zip}
+use Rattle.std.proofs.lemmas.Simd.{map-map}
 use Rattle.pcap_records.specs.Instants.{instants}
 use Rattle.pcap_records.specs.Reading.{Packet, Contents}
 use Rattle.pcap_records.specs.Heads.{head_of, heads_of}
@@ -8,7 +9,6 @@ use Rattle.frame_headers.specs.Frame.{seen_frame}
 use Rattle.conn_table.specs.SeenCapture.{SeenPacket, seen_packet, seen_packets, seen_capture}
 use Rattle.report_laws.specs.ZeroedPayloads.{zeroed_frame, zeroed_packet, zeroed_seen}
 use Rattle.report_laws.specs.SeenHeads.{ReportSeesHeads}
-use Rattle.report_laws.proofs.MappedLists.{map_map}
 use Rattle.report_laws.proofs.UsualHeads.{frame_sees_head}
 use Rattle.report_laws.proofs.ZeroedReports.{report_sees_lengths}
 
@@ -30,7 +30,7 @@ packets_same : (ps qs : List Packet) → map head_of ps ≡ map head_of qs → m
 unfolding seen_packets
 packets_same ps qs same =
     let stamps : map (λ p. p.stamp) ps ≡ map (λ p. p.stamp) qs =
-    sym (map_map (λ h. h.stamp) head_of ps) ∙ ap (map (λ h. h.stamp)) same ∙ map_map (λ h. h.stamp) head_of qs in
+    sym (map-map (λ h. h.stamp) head_of ps) ∙ ap (map (λ h. h.stamp)) same ∙ map-map (λ h. h.stamp) head_of qs in
     zipped_same (instants 0 (map (λ p. p.stamp) ps)) ps qs same
     ∙ ap (λ stamps. map zeroed_packet (map seen_packet (zip (instants 0 stamps) qs))) stamps
 

@@ -6,8 +6,8 @@ use Rattle.pcap_records.specs.Heads.{head_len, is_usual}
 use Rattle.frame_headers.specs.Frame.{link_type, is_tagged, datagram_in, header_len, frame_class, segment_fields, seen_frame}
 use Rattle.report_laws.specs.ZeroedPayloads.{zeroed_frame}
 use Rattle.report_laws.specs.SeenHeads.{HaveSameFirst, FrameSeesHead}
-use Rattle.report_laws.proofs.AlikeLists.{Alike, dropped, same_index, same_number}
-use Rattle.report_laws.proofs.FrameHeads.{frames_same, payloads_alike, seen_alike, seen_in}
+use Rattle.report_laws.proofs.AlikeLists.{Alike, same_index}
+use Rattle.report_laws.proofs.FrameHeads.{frames_same, seen_alike, seen_in}
 
 -- ---- usual headers
 
@@ -34,21 +34,15 @@ usual_same : (a b : List ℕ) → is_usual a ≡ true → is_usual b ≡ true �
     → zeroed_frame (record { class = frame_class a; fields = segment_fields a }) ≡ zeroed_frame (record { class = frame_class b; fields = segment_fields b })
 unfolding frame_class segment_fields
 usual_same a b one other x =
-    let d = dropped a b 14 34 x in
-    let t = payloads_alike (datagram_in false a) (datagram_in false b) 34 (omega arith) d (omega (arith, usual_len a one)) in
     ap (λ tagged. seen_in tagged a) (not_tagged a one)
-    ∙ seen_alike false a b 48 34 (omega arith) (omega arith) x d t (same_number a b 2 12 48 (omega arith) x) refl
+    ∙ seen_alike false a b 48 34 (omega arith) (omega arith) (omega (arith, usual_len a one)) x
     ∙ sym (ap (λ tagged. seen_in tagged b) (not_tagged b other))
 
 -- ---- any headers
 
 len_least : (a : List ℕ) → 48 ≤ head_len a
 unfolding head_len
-len_least a = by (is_usual a)
-  where
-    by : (usual : Bool) → 48 ≤ (if usual then 48 else 98)
-    by true = omega arith
-    by false = omega arith
+len_least a = elim (is_usual a) as (λ usual. 48 ≤ (if usual then 48 else 98)) [ true ↦ omega arith | false ↦ omega arith ]
 
 len_other : (a : List ℕ) → is_usual a ≡ false → head_len a ≡ 98
 unfolding head_len
@@ -68,7 +62,7 @@ module _ (kept : List ℕ → ℕ) (least : (p : List ℕ) → 48 ≤ kept p) (o
 
   seen_by : (usual : Bool) → is_usual a ≡ usual → zeroed_frame (seen_frame a) ≡ zeroed_frame (seen_frame b)
   seen_by true is = usual_same a b is (sym both_usual ∙ is) (alike 48 (least a) (least b))
-  seen_by false is = frames_same a b 92 (alike 92 (others a is) (others b (sym both_usual ∙ is))) (omega arith)
+  seen_by false is = frames_same a b (alike 92 (others a is) (others b (sym both_usual ∙ is)))
 
 pub frame_sees_head : FrameSeesHead
 frame_sees_head a b same = seen_by _ (λ p. omega (arith, len_least p)) (λ p other. omega (arith, len_other p other)) a b same (is_usual a) refl

@@ -1,7 +1,10 @@
 -- Reports of a capture whose payloads are zeroed: those of the capture.
 use Rattle.std.proofs.Common.{◌≡◌, ℕ, ◌+◌, ◌-◌, cond, ◌==◌, List, ◌++◌, length, map, codes, decimal, Bool, Option, refl, sym, ap, ap₂, ◌∙◌}
 use Rattle.std.specs.List.{flat_map}
+use Rattle.std.proofs.Math.Path.{fun_ext}
 use Rattle.std.proofs.lemmas.List.{length-map}
+use Rattle.std.proofs.lemmas.List.Folds.{fold-map}
+use Rattle.std.proofs.lemmas.Simd.{map-map}
 use Rattle.pcap_records.specs.Instants.{greatest}
 use Rattle.frame_headers.specs.Frame.{FrameClass, short, not_ipv4, bad_ipv4, fragment, not_tcp, cut, bad_tcp, same_ends, segment}
 use Rattle.frame_headers.specs.declared.peers.Peer.{Peer}
@@ -17,7 +20,7 @@ use Rattle.scenarios.specs.declared.proxies.Proxy.{Proxy}
 use Rattle.conn_workers.specs.MetProxies.{met_proxy}
 use Rattle.conn_workers.specs.Contributions.{contribution, contribution_of}
 use Rattle.report_laws.specs.ZeroedPayloads.{zeroed_packet, zeroed_seen, report_of, ReportSeesLengths}
-use Rattle.report_laws.proofs.MappedLists.{map_same, map_map, fold_mapped, zip_mapped}
+use Rattle.report_laws.proofs.MappedLists.{zip_mapped}
 use Rattle.report_laws.proofs.ZeroedConnections.{zeroed_connection, indexed_zeroed, connections_zeroed, unopened_same}
 use Rattle.report_laws.proofs.ZeroedLines.{zeroed_byte, zeroed_line, zeroed_side, zeroed_recorded, connection_recorded}
 use Rattle.report_laws.proofs.ZeroedToxics.{zeroed_delivered, delivered_zeroed}
@@ -25,7 +28,7 @@ use Rattle.report_laws.proofs.ZeroedToxics.{zeroed_delivered, delivered_zeroed}
 -- ---- counts
 
 count_zeroed : (k : FrameClass) (packets : List SeenPacket) → count_of k (map zeroed_packet packets) ≡ count_of k packets
-count_zeroed k packets = fold_mapped (λ (n : ℕ) (p : SeenPacket). n + cond (class_number p.frame.class == class_number k) 1 0) zeroed_packet 0 packets
+count_zeroed k packets = fold-map (λ (n : ℕ) (p : SeenPacket). n + cond (class_number p.frame.class == class_number k) 1 0) zeroed_packet 0 packets
 
 counts_zeroed : (packets : List SeenPacket) → counts_of (map zeroed_packet packets) ≡ counts_of packets
 unfolding counts_of
@@ -81,10 +84,10 @@ module _ (c : SeenCapture) (seed : ℕ) where
       let contributed = contribution_of c.ticks seed s in
       ap (λ xs. map (λ p. p.line) (map contributed (connections xs))) (indexed_zeroed 0 c.packets)
       ∙ ap (λ cs. map (λ p. p.line) (map contributed cs)) (connections_zeroed segs)
-      ∙ map_map (λ p. p.line) contributed (map zeroed_connection (connections segs))
-      ∙ map_map (λ x. (contributed x).line) zeroed_connection (connections segs)
-      ∙ map_same (λ x. (contributed (zeroed_connection x)).line) (λ x. (contributed x).line) (line_zeroed c.ticks seed s) (connections segs)
-      ∙ sym (map_map (λ p. p.line) contributed (connections segs))
+      ∙ map-map (λ p. p.line) contributed (map zeroed_connection (connections segs))
+      ∙ map-map (λ x. (contributed x).line) zeroed_connection (connections segs)
+      ∙ ap (λ (line : Connection → List ℕ). map line (connections segs)) (fun_ext (line_zeroed c.ticks seed s))
+      ∙ sym (map-map (λ p. p.line) contributed (connections segs))
 
   counts_text_zeroed : (s : ℕ) → counts_text s (zeroed_seen c) ≡ counts_text s c
   unfolding counts_text

@@ -1,6 +1,7 @@
 -- Toxics make of lines with zeroed bytes what they make of the lines, with zeroed bytes.
 use Rattle.std.proofs.Common.{◌≡◌, ℕ, ◌+◌, ◌-◌, ◌*◌, ◌==◌, min, Bool, true, false, ◌||◌, nat_le, nat_lt, if◌then◌else◌, List, [], ◌∷◌, ◌++◌, length, map, slice_index, Option, Some, None, refl, sym, ap, ap₂, ◌∙◌}
 use Rattle.std.proofs.lemmas.List.{length-map, map-append, take-map}
+use Rattle.std.proofs.lemmas.Simd.{map-map}
 use Rattle.pcap_records.specs.Instants.{horizon, millisecond, microsecond}
 use Rattle.reassembly.specs.RecordedLines.{LineByte, End, Line, RecordedConnection}
 use Rattle.reassembly.specs.LineLaws.{last_instant}
@@ -19,7 +20,7 @@ use Rattle.toxic_defs.specs.DeliveredLines.{MetProxy, DeliveredConnection, deliv
 use Rattle.toxic_defs.specs.declared.kinds.Kind.{Kind}
 use Rattle.toxic_defs.specs.declared.kinds.Kind.TheVariants.{Latency, Bandwidth, SlowClose, Timeout, ResetPeer, Slicer, LimitData}
 use Rattle.toxic_defs.specs.declared.words.Key.{Key}
-use Rattle.report_laws.proofs.MappedLists.{map_map, filter_mapped}
+use Rattle.reassembly.proofs.MappedLists.{filter-map}
 use Rattle.report_laws.proofs.ZeroedLines.{zeroed_byte, zeroed_line, zeroed_recorded}
 
 abbrev zeros : List LineByte → List LineByte
@@ -31,7 +32,7 @@ zeroed_delivered d = record d { up = zeroed_line d.up; down = zeroed_line d.down
 -- ---- instants stay
 
 instants_zeroed : (bytes : List LineByte) → instants_of (zeros bytes) ≡ instants_of bytes
-instants_zeroed bytes = map_map (λ b. b.at) zeroed_byte bytes
+instants_zeroed bytes = map-map (λ b. b.at) zeroed_byte bytes
 
 begins_zeroed : (bytes : List LineByte) → begins (zeros bytes) ≡ begins bytes
 begins_zeroed [] = refl
@@ -54,26 +55,18 @@ module _ (leaves : List LineByte → ℕ) (blind : (bytes : List LineByte) → l
   moved_zeroed : (bytes : List LineByte) → moved leaves (zeros bytes) ≡ zeros (moved leaves bytes)
   moved_zeroed bytes = along_zeroed [] bytes
 
-slice_zeroed : (size : ℕ → ℕ) (k left : ℕ) (b : LineByte) (test : Bool) (first later bytes : List LineByte) → sliced size (k + 1) (size k - 1) (zeros bytes) ≡ zeros first
-    → sliced size k (left - 1) (zeros bytes) ≡ zeros later
-    → (if test then (let x : LineByte = record { value = 0; at = b.at; starts = true } in x) ∷ sliced size (k + 1) (size k - 1) (zeros bytes) else zeroed_byte b ∷ sliced size k (left - 1) (zeros bytes))
-    ≡ zeros (if test then (let x : LineByte = record { value = b.value; at = b.at; starts = true } in x) ∷ first else b ∷ later)
-slice_zeroed size k left b true first later bytes starts goes_on = ap (λ rest. (let x : LineByte = record { value = 0; at = b.at; starts = true } in x) ∷ rest) starts
-slice_zeroed size k left b false first later bytes starts goes_on = ap (λ rest. zeroed_byte b ∷ rest) goes_on
-
 sliced_zeroed : (size : ℕ → ℕ) (k left : ℕ) (bytes : List LineByte) → sliced size k left (zeros bytes) ≡ zeros (sliced size k left bytes)
 sliced_zeroed size k left [] = refl
 sliced_zeroed size k left (b ∷ bytes) =
-    slice_zeroed size k left b (b.starts || left == 0) (sliced size (k + 1) (size k - 1) bytes) (sliced size k (left - 1) bytes) bytes
-    (sliced_zeroed size (k + 1) (size k - 1) bytes) (sliced_zeroed size k (left - 1) bytes)
+    let first : LineByte → LineByte = λ x. record { value = x.value; at = x.at; starts = true } in
+    elim (b.starts || left == 0) as (λ t. (if t then first (zeroed_byte b) ∷ sliced size (k + 1) (size k - 1) (zeros bytes) else zeroed_byte b ∷ sliced size k (left - 1) (zeros bytes))
+    ≡ zeros (if t then first b ∷ sliced size (k + 1) (size k - 1) bytes else b ∷ sliced size k (left - 1) bytes))
+    [ true ↦ ap (λ rest. first (zeroed_byte b) ∷ rest) (sliced_zeroed size (k + 1) (size k - 1) bytes) | false ↦ ap (λ rest. zeroed_byte b ∷ rest) (sliced_zeroed size k (left - 1) bytes) ]
 
 joined_zeroed : (b : LineByte) (bytes : List LineByte) → joined (zeroed_byte b) (zeros bytes) ≡ zeroed_byte (joined b bytes)
 joined_zeroed b [] = refl
-joined_zeroed b (next ∷ bytes) = by next.starts
-  where
-    by : (starts : Bool) → (if starts then zeroed_byte b else at_instant next.at (zeroed_byte b)) ≡ zeroed_byte (if starts then b else at_instant next.at b)
-    by true = refl
-    by false = refl
+joined_zeroed b (next ∷ bytes) =
+    elim next.starts as (λ t. (if t then zeroed_byte b else at_instant next.at (zeroed_byte b)) ≡ zeroed_byte (if t then b else at_instant next.at b)) [ true ↦ refl | false ↦ refl ]
 
 settled_zeroed : (bytes : List LineByte) → settled (zeros bytes) ≡ zeros (settled bytes)
 settled_zeroed [] = refl
@@ -110,7 +103,7 @@ effect_zeroed ticks random opened (LimitData n) f =
     λ i. record { bytes = bytes i; end = end i }
 effect_zeroed ticks random opened (Timeout time) f = refl
 effect_zeroed ticks random opened (ResetPeer time) f =
-    let bytes = filter_mapped zeroed_byte (λ b. nat_lt b.at (after ticks opened time)) f.bytes in
+    let bytes = filter-map (λ b. nat_lt b.at (after ticks opened time)) zeroed_byte f.bytes in
     λ i. record { bytes = bytes i; end = (reset_at (after ticks opened time) f).end }
 effect_zeroed ticks random opened (SlowClose delay) f = refl
 
@@ -119,11 +112,10 @@ ended_zeroed f = λ i. record { bytes = zeros f.bytes; end = not_before (last_ze
 
 run_zeroed : (ticks : ℕ) (toxic : RatedKind) (key : Key) (opened : ℕ) (f : Line) → run ticks toxic key opened (zeroed_line f) ≡ zeroed_line (run ticks toxic key opened f)
 unfolding run
-run_zeroed ticks toxic key opened f = by (applies toxic key)
-  where
-    by : (b : Bool) → (if b then ended (effect ticks (word_of key) opened toxic.kind (zeroed_line f)) else zeroed_line f) ≡ zeroed_line (if b then ended (effect ticks (word_of key) opened toxic.kind f) else f)
-    by true = ap ended (effect_zeroed ticks (word_of key) opened toxic.kind f) ∙ ended_zeroed (effect ticks (word_of key) opened toxic.kind f)
-    by false = refl
+run_zeroed ticks toxic key opened f =
+    let run_by : Bool → Line → Line = λ b g. if b then ended (effect ticks (word_of key) opened toxic.kind g) else g in
+    elim (applies toxic key) as (λ b. run_by b (zeroed_line f) ≡ zeroed_line (run_by b f))
+    [ true ↦ ap ended (effect_zeroed ticks (word_of key) opened toxic.kind f) ∙ ended_zeroed (effect ticks (word_of key) opened toxic.kind f) | false ↦ refl ]
 
 chained_zeroed : (ticks opened seed s c d t : ℕ) (toxics : List RatedKind) (f : Line) → chain_from ticks opened seed s c d t toxics (zeroed_line f) ≡ zeroed_line (chain_from ticks opened seed s c d t toxics f)
 chained_zeroed ticks opened seed s c d t [] f = refl
@@ -131,10 +123,6 @@ chained_zeroed ticks opened seed s c d t (toxic ∷ toxics) f =
     let key : Key = record { seed = seed; s = s; c = c; d = d; t = t } in
     ap (chain_from ticks opened seed s c d (t + 1) toxics) (run_zeroed ticks toxic key opened f)
     ∙ chained_zeroed ticks opened seed s c d (t + 1) toxics (run ticks toxic key opened f)
-
-chain_zeroed : (ticks : ℕ) (toxics : List RatedKind) (opened seed s c d : ℕ) (f : Line) → chain ticks toxics opened seed s c d (zeroed_line f) ≡ zeroed_line (chain ticks toxics opened seed s c d f)
-unfolding chain
-chain_zeroed ticks toxics opened seed s c d f = chained_zeroed ticks opened seed s c d 0 toxics f
 
 -- ---- the cut
 
@@ -144,22 +132,22 @@ cut_zeroed ticks up down f = ap (line_before (horizon ticks)) (until (first_clos
   where
     until : (closing : Option (ℕ × End)) → line_up_to closing (zeroed_line f) ≡ zeroed_line (line_up_to closing f)
     until None = refl
-    until (Some c) = let bytes = filter_mapped zeroed_byte (λ b. nat_le b.at c.0) f.bytes in λ i. record { bytes = bytes i; end = (line_up_to (Some c) f).end }
+    until (Some c) = let bytes = filter-map (λ b. nat_le b.at c.0) zeroed_byte f.bytes in λ i. record { bytes = bytes i; end = (line_up_to (Some c) f).end }
 
     before : (limit : ℕ) (g : Line) → line_before limit (zeroed_line g) ≡ zeroed_line (line_before limit g)
-    before limit g = let bytes = filter_mapped zeroed_byte (λ b. nat_lt b.at limit) g.bytes in λ i. record { bytes = bytes i; end = (line_before limit g).end }
+    before limit g = let bytes = filter-map (λ b. nat_lt b.at limit) zeroed_byte g.bytes in λ i. record { bytes = bytes i; end = (line_before limit g).end }
 
 by_cut_zeroed : (ticks : ℕ) (proxy : Option ℕ) (up down : Line) → connection_by_cut ticks proxy (zeroed_line up) (zeroed_line down) ≡ zeroed_delivered (connection_by_cut ticks proxy up down)
 by_cut_zeroed ticks proxy up down = λ i. record { proxy = proxy; refused = false; up = cut_zeroed ticks up down up i; down = cut_zeroed ticks up down down i }
 
 pub delivered_zeroed : (ticks seed s c : ℕ) (met : Option MetProxy) (r : RecordedConnection)
     → delivered_connection ticks seed s c met (zeroed_recorded r) ≡ zeroed_delivered (delivered_connection ticks seed s c met r)
-unfolding delivered_connection
+unfolding delivered_connection chain
 delivered_zeroed ticks seed s c None r = by_cut_zeroed ticks None r.up.line r.down.line
-delivered_zeroed ticks seed s c (Some met) r = by met.enabled
-  where
-    by : (enabled : Bool) → connection_by_proxy enabled ticks seed s c met (zeroed_recorded r) ≡ zeroed_delivered (connection_by_proxy enabled ticks seed s c met r)
-    by true =
-        ap₂ (connection_by_cut ticks (Some met.number)) (chain_zeroed ticks met.up r.opened seed s c 0 r.up.line) (chain_zeroed ticks met.down r.opened seed s c 1 r.down.line)
-        ∙ by_cut_zeroed ticks (Some met.number) (chain ticks met.up r.opened seed s c 0 r.up.line) (chain ticks met.down r.opened seed s c 1 r.down.line)
-    by false = refl
+delivered_zeroed ticks seed s c (Some met) r =
+    elim met.enabled as (λ enabled. connection_by_proxy enabled ticks seed s c met (zeroed_recorded r) ≡ zeroed_delivered (connection_by_proxy enabled ticks seed s c met r)) [
+      | true ↦
+          ap₂ (connection_by_cut ticks (Some met.number)) (chained_zeroed ticks r.opened seed s c 0 0 met.up r.up.line) (chained_zeroed ticks r.opened seed s c 1 0 met.down r.down.line)
+          ∙ by_cut_zeroed ticks (Some met.number) (chain ticks met.up r.opened seed s c 0 r.up.line) (chain ticks met.down r.opened seed s c 1 r.down.line)
+      | false ↦ refl
+    ]

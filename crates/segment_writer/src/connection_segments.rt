@@ -50,7 +50,7 @@ pub fn segments(
         down,
     };
     let endpoints = Endpoints::of(conn, recorded);
-    let row = SegmentRow::none(alloc).with_connection(&endpoints, copy)?;
+    let row = SegmentRow::with_room(alloc, 0)?.with_connection(&endpoints, copy)?;
     row.written(alloc)
 }
 

@@ -11,7 +11,7 @@ ghost use Rattle.segment_writer.specs.WrittenSegments.{written_segments};
 use crate::connection_segments::put_connection;
 use crate::endpoints::Endpoints;
 use crate::framed::{Framed, Keys, SegKey, SegList};
-use crate::open_rows::OpenRow;
+use crate::open_rows::{BARE_SEGMENTS, OpenRow};
 use crate::payloads::payload_bytes;
 use crate::records::{put_record, record_len};
 use crate::segment_outline::side_sender;
@@ -41,16 +41,16 @@ impl<'w, 'a> Model for SegmentRow<'w, 'a> {
 }
 
 impl<'w, 'a> SegmentRow<'w, 'a> {
-    /// A row without segments.
-    pub fn none(alloc: Global) -> SegmentRow<'w, 'a>
-        ensures { result ≡ [] }
+    /// A row without segments, with room for those of `connections` connections that carry no bytes.
+    pub fn with_room(alloc: Global, connections: usize) -> Result<SegmentRow<'w, 'a>, AllocError>
+        ensures { IfOk result (λ row. row ≡ []) }
     {
-        SegmentRow {
-            row: OpenRow {
-                gathered: Vec::new(alloc),
-                segments: Vec::new(alloc),
-            },
-        }
+        let room = connections.saturating_mul(BARE_SEGMENTS);
+        let row = OpenRow {
+            gathered: Vec::new(alloc),
+            segments: Vec::with_capacity(alloc, room)?,
+        };
+        Ok(SegmentRow { row })
     }
 
     /// Adds the segments of a connection between these endpoints, as [`segments`](crate::segments) gives them.

@@ -1,11 +1,12 @@
 -- Each list is a source of the merge, and gives its keyed segments in order.
-use Rattle.std.proofs.Common.{◌≡◌, ℕ, ◌+◌, true, List, [], ◌∷◌, ◌++◌, Option, map, refl, sym, ap, ◌∙◌, subst, append-nil}
-use Rattle.std.specs.List.{All, enumerate_from, flat_map}
+use Rattle.std.proofs.Common.{◌≡◌, ℕ, ◌+◌, true, List, [], ◌∷◌, ◌++◌, Option, map, sym, ap, ◌∙◌, subst, append-nil}
+use Rattle.std.specs.List.{All, enumerate_from}
 use Rattle.std.specs.List.Sorted.{IsSorted, IsSortedBy, IsPermutation}
 use Rattle.std.specs.Iterator.{YieldsFirst, DrainsIf}
 use Rattle.std.specs.Iterator.Runs.{Run, WholeRun, YieldsRun}
 use Rattle.std.proofs.lemmas.Iterator.{YieldsList, items_from_drains}
 use Rattle.std.proofs.lemmas.Iterator.Consumers.{YieldsList-from_first}
+use Rattle.std.proofs.lemmas.List.Folds.{flat_map-map}
 use Rattle.std.proofs.lemmas.List.Elements.{All-nil, All-cons, All-head, All-tail}
 use Rattle.itertools.specs.KMerge.{SourcesGive, joined_lists}
 use Rattle.segment_writer.specs.declared.framed.Framed.{Framed}
@@ -22,13 +23,18 @@ module _ {Source : Type 0} (left : Source → List KeyedSegment) where
   sources_give (s ∷ sources) = ((λ j same. (YieldsList-from_first (λ x. x) left (left s) (ap left same)).runs), sources_give sources)
 
   -- a run that is to give sources of these lists gave them
-  pub run_gives : {S : Type 0} {steps : S → Option Source → S → Type 0} {s : S} {P : Run steps → Type 0} (lists : List (List KeyedSegment)) (run : WholeRun steps s P) → YieldsList steps left s lists
+  run_gives : {S : Type 0} {steps : S → Option Source → S → Type 0} {s : S} {P : Run steps → Type 0} (lists : List (List KeyedSegment)) (run : WholeRun steps s P) → YieldsList steps left s lists
       → SourcesGive (λ (s r : Source). r ≡ s) (YieldsFirst left) run.0.items lists
   unfolding YieldsRun
   run_gives {steps = steps} lists run chain =
       let drained = subst (λ s. DrainsIf steps (run.0.whole ≡ true) s run.0.items) run.1 run.0.gave.0 in
       let read : map left run.0.items ≡ lists = items_from_drains run.0.items (drained.0, drained.1, λ _. drained.2 run.2) chain in
       subst (λ (ls : List (List KeyedSegment)). SourcesGive (λ (s r : Source). r ≡ s) (YieldsFirst left) run.0.items ls) read (sources_give run.0.items)
+
+  -- two runs of the same steps
+  pub runs_give : {S : Type 0} {steps : S → Option Source → S → Type 0} {s : S} {P Q : Run steps → Type 0} (lists : List (List KeyedSegment)) (one : WholeRun steps s P) (other : WholeRun steps s Q)
+      → YieldsList steps left s lists → SourcesGive (λ (t r : Source). r ≡ t) (YieldsFirst left) one.0.items lists × SourcesGive (λ (t r : Source). r ≡ t) (YieldsFirst left) other.0.items lists
+  runs_give lists one other chain = (run_gives lists one chain, run_gives lists other chain)
 
 module _ {L : Type 0} (segments : L → List Framed) where
   -- the keyed segments of each list
@@ -37,10 +43,6 @@ module _ {L : Type 0} (segments : L → List Framed) where
 
   abbrev pub keys_of_lists : List L → List (List KeyedSegment)
   keys_of_lists lists = map keys_of_list (enumerate_from 0 lists)
-
-  joined : (zs : List (ℕ × L)) → joined_lists (map keys_of_list zs) ≡ flat_map keys_of_list zs
-  joined [] = refl
-  joined (z ∷ zs) = ap (λ ks. keys_of_list z ++ ks) (joined zs)
 
   -- a list in order
   abbrev pub InOrder : L → Type 0
@@ -60,7 +62,7 @@ module _ {L : Type 0} (segments : L → List Framed) where
   pub gave_all : (lists : List L) (xs rest items : List KeyedSegment) → IsPermutation (joined_lists (keys_of_lists lists)) (xs ++ rest) → rest ≡ [] → items ≡ xs → IsPermutation (all_keyed_segments segments lists) items
   gave_all lists xs rest items moved none are =
       let gave : xs ++ rest ≡ items = ap (λ ys. xs ++ ys) none ∙ append-nil xs ∙ sym are in
-      subst (λ ks. IsPermutation ks items) (joined (enumerate_from 0 lists)) (subst (λ ys. IsPermutation (joined_lists (keys_of_lists lists)) ys) gave moved)
+      subst (λ ks. IsPermutation ks items) (flat_map-map (λ (ks : List KeyedSegment). ks) keys_of_list (enumerate_from 0 lists)) (subst (λ ys. IsPermutation (joined_lists (keys_of_lists lists)) ys) gave moved)
 
 pub gave_in_order : (xs items : List KeyedSegment) → IsSortedBy derived xs → items ≡ xs → IsSorted keyed_cmp items
 gave_in_order xs items sorted are = subst (λ ys. IsSorted keyed_cmp ys) (sym are) (subst (λ lt. IsSortedBy lt xs) derived_is_below sorted)

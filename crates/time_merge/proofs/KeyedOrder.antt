@@ -1,10 +1,10 @@
 -- The order of keyed segments: it is that of keys, and a list in order of key has its keyed segments in order.
-use Rattle.std.proofs.Common.{◌≡◌, ℕ, zero, suc, ◌+◌, ◌<◌, ◌≤◌, Bool, false, nat_cmp, is_lt, List, [], ◌∷◌, length, map, slice_index_or, refl, sym, ap, ap₂, ◌∙◌, subst, Ordering, Less, Equal, Greater, arith, add-one}
+use Rattle.std.proofs.Common.{◌≡◌, ℕ, zero, suc, ◌+◌, ◌<◌, ◌≤◌, Bool, false, nat_cmp, is_lt, List, [], ◌∷◌, length, map, slice_index_or, refl, sym, ap₂, ◌∙◌, subst, Ordering, Less, Equal, Greater, arith, add-one}
 use Rattle.std.specs.Ordering.{ordering_then, is_some_and, partial_lt}
 use Rattle.std.specs.Cmp.{IsStrictWeakOrder, nat_cmp_is}
 use Rattle.std.specs.List.{All, flat_map}
 use Rattle.std.specs.List.Sorted.{IsSortedBy, IsSorted, IsPermutation}
-use Rattle.std.proofs.lemmas.List.Elements.{All-nil, All-cons, All-head, All-tail}
+use Rattle.std.proofs.lemmas.List.Elements.{All-head, All-map, All-tail, All-weaker}
 use Rattle.std.proofs.lemmas.List.Sorted.{ranks_by, sorted_far, IsPermutation-map, All-permutation}
 use Rattle.segment_writer.specs.declared.framed.SegKey.{SegKey}
 use Rattle.segment_writer.specs.declared.framed.Framed.{Framed}
@@ -15,7 +15,7 @@ use Rattle.segment_writer.proofs.InOrder.{derived_is_lower}
 use Rattle.time_merge.specs.declared.key_order.KeyedSegment.{KeyedSegment}
 use Rattle.time_merge.specs.contracts.key_order.KeyedSegmentOrd.TheImpl.Laws.{total-law, matches_partial_cmp-law}
 use Rattle.time_merge.specs.contracts.key_order.KeyedSegmentPartialOrd.TheImpl.{ghosts as partial}
-use Rattle.time_merge.specs.KeyedSegments.{key_cmp, keyed_cmp, keyed_segments, all_keyed_segments, place_of, segment_at, segment_of, IsKeyed, IsPlace}
+use Rattle.time_merge.specs.KeyedSegments.{key_cmp, keyed_cmp, keyed_segments, all_keyed_segments, place_of, segment_of, IsKeyed, IsPlace}
 use Rattle.time_merge.proofs.WalkedLists.{all_keyed, all_shown}
 
 -- ---- comparisons
@@ -102,10 +102,5 @@ module _ {L : Type 0} (segments : L → List Framed) (lists : List L) where
       (never_falls ks (merged_keyed ks moved) (sorted_far below below_order ks sorted))
 
   pub places_stand : (ks : List KeyedSegment) → All (IsKeyed segments lists) ks → All (IsPlace segments lists) (map place_of ks)
-  places_stand [] all = All-nil (IsPlace segments lists)
-  places_stand (k ∷ ks) all =
-      All-cons (IsPlace segments lists) (place_of k) (map place_of ks) (All-head (IsKeyed segments lists) k ks all).stands (places_stand ks (All-tail (IsKeyed segments lists) k ks all))
-
-  pub places_show : (ks : List KeyedSegment) → map (segment_at segments lists) (map place_of ks) ≡ map (segment_of segments lists) ks
-  places_show [] = refl
-  places_show (k ∷ ks) = ap (λ (xs : List Framed). segment_of segments lists k ∷ xs) (places_show ks)
+  places_stand ks all =
+      All-map (IsPlace segments lists) place_of ks (All-weaker (IsKeyed segments lists) (λ k. IsPlace segments lists (place_of k)) (λ k keyed. keyed.stands) ks all)

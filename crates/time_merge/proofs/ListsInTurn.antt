@@ -1,7 +1,8 @@
 -- The keyed segments of lists, one segment after another and one list after another.
-use Rattle.std.proofs.Common.{◌≡◌, ℕ, ◌+◌, ◌<◌, List, [], ◌∷◌, ◌++◌, length, take, slice_index_or, sym, ap, ◌∙◌, append-nil, append_assoc, arith}
+use Rattle.std.proofs.Common.{◌≡◌, ℕ, ◌+◌, ◌<◌, List, [], ◌∷◌, ◌++◌, length, take, slice_index_or, sym, ap, ◌∙◌, arith}
 use Rattle.std.specs.List.{enumerate_from, flat_map}
-use Rattle.std.proofs.lemmas.List.{length-take-le, take_all, take_more}
+use Rattle.std.proofs.lemmas.List.{flat_map_more, length-take-le, take_all, take_more}
+use Rattle.conn_table.proofs.RangeSteps.{enumerate_from-append}
 use Rattle.segment_writer.specs.declared.framed.Framed.{Framed}
 use Rattle.time_merge.specs.declared.key_order.KeyedSegment.{KeyedSegment}
 use Rattle.time_merge.specs.KeyedSegments.{all_keyed_segments, keyed_segments}
@@ -20,20 +21,15 @@ segment_more list index xs d within =
     ∙ ap (λ (i : ℕ). keyed_segments list 0 (take index xs) ++ record { key = (slice_index_or xs index d).key; list = list; index = i } ∷ []) (omega (arith, length-take-le index xs (omega (arith, within))))
 
 module _ {L : Type 0} (segments : L → List Framed) where
-  abbrev gathered : ℕ → List L → List KeyedSegment
-  gathered n lists = flat_map (λ (list, l). keyed_segments list 0 (segments l)) (enumerate_from n lists)
-
-  gathered_end : (n : ℕ) (lists : List L) (l : L) → gathered n (lists ++ l ∷ []) ≡ gathered n lists ++ keyed_segments (n + length lists) 0 (segments l)
-  gathered_end n [] l = append-nil (keyed_segments n 0 (segments l)) ∙ ap (λ (i : ℕ). keyed_segments i 0 (segments l)) (omega arith)
-  gathered_end n (k ∷ lists) l =
-      ap (λ (ks : List KeyedSegment). keyed_segments n 0 (segments k) ++ ks) (gathered_end (n + 1) lists l ∙ ap (λ (i : ℕ). gathered (n + 1) lists ++ keyed_segments i 0 (segments l)) (omega arith))
-      ∙ sym (append_assoc (keyed_segments n 0 (segments k)) (gathered (n + 1) lists) (keyed_segments (n + length (k ∷ lists)) 0 (segments l)))
-
   pub list_more : (lists : List L) (n : ℕ) (l : L) → n < length lists → l ≡ slice_index_or lists n l
       → all_keyed_segments segments (take (n + 1) lists) ≡ all_keyed_segments segments (take n lists) ++ keyed_segments n 0 (segments l)
   list_more lists n l within is =
-      ap (all_keyed_segments segments) (take_more lists n l within ∙ ap (λ (x : L). take n lists ++ x ∷ []) (sym is)) ∙ gathered_end 0 (take n lists) l
-      ∙ ap (λ (i : ℕ). all_keyed_segments segments (take n lists) ++ keyed_segments i 0 (segments l)) (omega (arith, length-take-le n lists (omega (arith, within))))
+      let own : ℕ × L → List KeyedSegment = λ (list, x). keyed_segments list 0 (segments x) in
+      let before : List L = take n lists in
+      let many : 0 + length before ≡ n = omega (arith, length-take-le n lists (omega (arith, within))) in
+      ap (all_keyed_segments segments) (take_more lists n l within ∙ ap (λ (x : L). before ++ x ∷ []) (sym is))
+      ∙ ap (flat_map own) (enumerate_from-append 0 before (l ∷ [])) ∙ sym (flat_map_more own [] (enumerate_from 0 before) (0 + length before, l))
+      ∙ ap (λ (i : ℕ). all_keyed_segments segments before ++ keyed_segments i 0 (segments l)) many
 
   pub one_list : (lists : List L) (l : L) → length lists ≡ 1 → l ≡ slice_index_or lists 0 l → all_keyed_segments segments lists ≡ keyed_segments 0 0 (segments l)
   one_list lists l many is = ap (all_keyed_segments segments) (sym (take_all 1 lists (omega (arith, many)))) ∙ list_more lists 0 l (omega (arith, many)) is

@@ -1,13 +1,14 @@
 -- Places in the order in which they stand, by their numbers.
-use Rattle.std.proofs.Common.{◌≡◌, ℕ, zero, suc, ◌+◌, ◌<◌, List, [], ◌∷◌, length, map, slice_index_or, refl, sym, ap, ◌∙◌, arith}
-use Rattle.std.specs.List.{All}
+use Rattle.std.proofs.Common.{◌≡◌, ℕ, ◌+◌, ◌<◌, List, [], ◌∷◌, length, map, slice_index_or, refl, sym, ap, ◌∙◌, arith}
+use Rattle.std.specs.List.{All, range_with_len}
 use Rattle.std.proofs.lemmas.List.{get_or-map, get_or_default, length-map, same_lists}
 use Rattle.std.proofs.lemmas.List.Elements.{All-from_get_or}
+use Rattle.std.proofs.lemmas.List.FromFn.{get_or-map-range_with_len, length-map-range_with_len}
 use Rattle.segment_writer.specs.declared.framed.Framed.{Framed}
 use Rattle.time_merge.specs.declared.orders.Place.{Place}
 use Rattle.time_merge.specs.declared.orders.Places.{Places}
 use Rattle.time_merge.specs.declared.orders.Places.TheVariants.{OfOneList}
-use Rattle.time_merge.specs.KeyedSegments.{keyed_segments, no_place, one_list_places, place_of, places_in}
+use Rattle.time_merge.specs.KeyedSegments.{keyed_segments, no_place, place_in_first, place_of, places_in}
 
 -- the numbers below n, in order
 pub record AreCounted (n : ℕ) (numbers : List ℕ) : Type 0 where
@@ -24,20 +25,12 @@ counted_show n numbers places are many = same_lists (map (λ number. slice_index
 
 -- ---- the places of only one list
 
-one_list_len : (index n : ℕ) → length (one_list_places index n) ≡ n
-one_list_len index zero = refl
-one_list_len index (suc n) = omega (arith, one_list_len (index + 1) n)
-
-one_list_at : (index n i : ℕ) → i < n → slice_index_or (one_list_places index n) i no_place ≡ record { list = 0; index = index + i }
-one_list_at index zero i within = absurd (omega (arith, within))
-one_list_at index (suc n) zero within = ap (λ (k : ℕ). record { list = 0; index = k }) (omega arith)
-one_list_at index (suc n) (suc i) within = one_list_at (index + 1) n i (omega (arith, within)) ∙ ap (λ (k : ℕ). record { list = 0; index = k }) (omega arith)
-
-pub place_of_one : (places : Places) (n number : ℕ) → places ≡ OfOneList n → number < length (places_in places) → record { list = 0; index = number } ≡ slice_index_or (places_in places) number no_place
+pub place_of_one : (places : Places) (n number : ℕ) → places ≡ OfOneList n → number < length (places_in places) → place_in_first number ≡ slice_index_or (places_in places) number no_place
 place_of_one places n number is within =
-    let listed : places_in places ≡ one_list_places 0 n = ap places_in is in
-    sym (ap (λ (ps : List Place). slice_index_or ps number no_place) listed ∙ one_list_at 0 n number (omega (arith, within, ap length listed, one_list_len 0 n)) ∙ ap (λ (k : ℕ). record { list = 0; index = k }) (omega arith))
+    let listed : places_in places ≡ map place_in_first (range_with_len 0 n) = ap places_in is in
+    let below : number < n = omega (arith, within, ap length listed, length-map-range_with_len place_in_first 0 n) in
+    sym (ap (λ (ps : List Place). slice_index_or ps number no_place) listed ∙ get_or-map-range_with_len place_in_first 0 n number number no_place below (omega arith))
 
-pub one_list_keyed : (index : ℕ) (xs : List Framed) → one_list_places index (length xs) ≡ map place_of (keyed_segments 0 index xs)
+pub one_list_keyed : (index : ℕ) (xs : List Framed) → map place_in_first (range_with_len index (length xs)) ≡ map place_of (keyed_segments 0 index xs)
 one_list_keyed index [] = refl
-one_list_keyed index (x ∷ xs) = ap (λ (ps : List Place). record { list = 0; index = index } ∷ ps) (one_list_keyed (index + 1) xs)
+one_list_keyed index (x ∷ xs) = ap (λ (ps : List Place). place_in_first index ∷ ps) (one_list_keyed (index + 1) xs)

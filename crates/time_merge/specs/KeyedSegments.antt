@@ -1,6 +1,6 @@
 -- Segments by their keys, with the list and index where they stand: what is merged, or sorted, in place of segments.
-use Rattle.std.specs.Prelude.{◌≡◌, ◌<◌, ℕ, zero, suc, ◌+◌, List, [], ◌∷◌, length, drop, map, slice_index_or}
-use Rattle.std.specs.List.{enumerate_from, flat_map}
+use Rattle.std.specs.Prelude.{◌≡◌, ◌<◌, ℕ, ◌+◌, List, [], ◌∷◌, length, drop, map, slice_index_or}
+use Rattle.std.specs.List.{enumerate_from, flat_map, range_with_len}
 use Rattle.std.specs.List.Sorted.{IsPermutation, IsSorted}
 use Rattle.std.specs.Ordering.{then_cmp, on, nat_cmp}
 use Rattle.std.specs.declared.cmp.Ordering.{Ordering}
@@ -22,14 +22,12 @@ keyed_cmp = then_cmp (on (λ l. l.key) key_cmp) (then_cmp (on (λ l. l.list) nat
 abbrev pub no_place : Place
 no_place = record { list = 0; index = 0 }
 
--- the places of `n` segments of list 0, the first of them at this index
-abbrev pub one_list_places : ℕ → ℕ → List Place
-one_list_places index zero = []
-one_list_places index (suc n) = record { list = 0; index = index } ∷ one_list_places (index + 1) n
+abbrev pub place_in_first : ℕ → Place
+place_in_first index = record { list = 0; index = index }
 
 abbrev pub places_in : Places → List Place
 places_in (Listed places) = places.items
-places_in (OfOneList n) = one_list_places 0 n
+places_in (OfOneList n) = map place_in_first (range_with_len 0 n)
 
 abbrev pub place_of : KeyedSegment → Place
 place_of l = record { list = l.list; index = l.index }

@@ -6,7 +6,7 @@ use super::checks::check;
 use conn_table::laws::tables_agree;
 use conn_table::{Partial, Table, finish};
 use conn_workers::{
-    Delivery, Recordings, RowShares, deliver, deliver_row, deliver_row_alone, record,
+    Delivery, Recordings, RowShares, Workers, deliver, deliver_row, deliver_row_alone, record,
 };
 use job_matrix::{Gate, Phase, Plan, Through};
 use pcap_records::{Capture, Moment, read_capture};
@@ -155,7 +155,8 @@ fn check_second_row<R: Abort + Threads + Sync>(
     let row = deliver_row_alone(alloc, recordings, 1, &second, 42).expect(rt, "memory");
     let alone = is_second_row(rt, alloc, row);
     check(rt, "alone", alone);
-    let row = deliver_row(rt, alloc, recordings, 1, &second, 42, plan, &Through);
+    let crew = Workers { rt, plan };
+    let row = deliver_row(&crew, alloc, recordings, 1, &second, 42, &Through);
     let by_workers = is_second_row(rt, alloc, row.expect(rt, "memory"));
     check(rt, "by workers", by_workers);
 }

@@ -1,7 +1,7 @@
 //! The lines of connections in the reports of two scenarios, by one thread alone and by workers, with values from outside.
 use super::checks::check;
 use super::deliveries::{DISABLED, FIRST_LINE, REFUSED_LINE, SECOND_LINE, scenario, segments};
-use conn_workers::{ShareTexts, report_texts, report_texts_alone};
+use conn_workers::{ShareTexts, Workers, report_texts, report_texts_alone};
 use job_matrix::{Gate, Phase, Plan, Through};
 use pcap_records::read_capture;
 use range_workers::table_alone;
@@ -37,7 +37,6 @@ fn check_shares(rt: &impl Abort, alloc: Global, shares: &[ShareTexts], count: us
     check_lines(rt, alloc, shares, 1, (FIRST_LINE, REFUSED_LINE));
 }
 
-// The last two scenarios that there may be.
 #[test]
 fn texts_by_one_thread(rt: HostRuntime) {
     let alloc = rt.alloc();
@@ -45,9 +44,7 @@ fn texts_by_one_thread(rt: HostRuntime) {
     let capture = read_capture(alloc, &bytes).expect(&rt, "a capture");
     let table = table_alone(alloc, &capture).expect(&rt, "memory");
     let scenarios = [scenario(&rt, alloc, &[]), scenario(&rt, alloc, &[DISABLED])];
-    let shares = report_texts_alone(alloc, &capture, &table, 254, &scenarios, 42).expect(
-        &rt, "memory",
-    );
+    let shares = report_texts_alone(alloc, &capture, &table, &scenarios, 42).expect(&rt, "memory");
     check_shares(&rt, alloc, shares.as_slice(), 1);
 }
 
@@ -64,7 +61,8 @@ fn check_workers<R: Abort + Threads + Sync, G: Gate>(
     let table = table_alone(alloc, &capture).expect(rt, "memory");
     let scenarios = [scenario(rt, alloc, &[]), scenario(rt, alloc, &[DISABLED])];
     let plan = Plan::new(workers, 4096).expect(rt, "a plan");
-    let made = report_texts(rt, alloc, &capture, &table, 0, &scenarios, 42, plan, gate);
+    let crew = Workers { rt, plan };
+    let made = report_texts(&crew, alloc, &capture, &table, &scenarios, 42, gate);
     check_shares(rt, alloc, made.expect(rt, "memory").as_slice(), count);
 }
 

@@ -2,5 +2,5 @@ use Rattle.std.proofs.Common.{◌≡◌, take}
 use Rattle.conn_workers.specs.ReportTexts.{texts_under}
 use Rattle.conn_workers.proofs.scenario_texts.texts_under.Given as goal
 
-abbrev pub invariant-loop-place : goal.invariant-loop-place
-invariant-loop-place l = l.texts.items ≡ take l.place (texts_under l.seed l.first l.scenarios l.recordings)
+abbrev pub invariant-loop-number : goal.invariant-loop-number
+invariant-loop-number l = l.texts.items ≡ take l.number (texts_under l.seed l.scenarios l.recordings)

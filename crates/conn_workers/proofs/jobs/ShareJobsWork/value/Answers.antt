@@ -1,13 +1,8 @@
-use Rattle.std.proofs.Common.{ap, ◌∙◌, arith}
+use Rattle.std.proofs.Common.{ap, ◌∙◌}
 use Rattle.std.proofs.lemmas.Result.{IfOk-weaker}
 use Rattle.conn_workers.specs.RowShares.{row_share}
-use Rattle.conn_workers.proofs.ShareSteps.{length-by_range, by_range}
+use Rattle.conn_workers.proofs.ShareSteps.{by_range}
 use Rattle.conn_workers.proofs.jobs.ShareJobsWork.value.Goals as goal
-
-pub range-requires-clause-below : goal.range-requires-clause-below
-range-requires-clause-below c =
-    let work = c.args.self.now in
-    omega (arith, c.requires, length-by_range (row_share work.under.seed (work.under.number, work.under.scenario.now)) work.ranges.size work.ranges.count work.recordings.now)
 
 pub returns : goal.returns
 returns c =

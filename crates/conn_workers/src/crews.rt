@@ -1,0 +1,10 @@
+//! The workers of a plan.
+use job_matrix::Plan;
+use std::thread::Threads;
+
+/// The workers of a plan, in threads that `rt` starts.
+#[derive(Drop)]
+pub struct Workers<'r, R: Threads + Sync> {
+    pub rt: &'r R,
+    pub plan: Plan,
+}

@@ -9,7 +9,7 @@ use Rattle.std.proofs.lemmas.List.FromFn.{fill_by_all, length-map-range_with_len
 use Rattle.pcap_records.specs.CaptureView.{CaptureView}
 use Rattle.scenarios.specs.declared.proxies.Proxy.{Proxy}
 use Rattle.conn_workers.specs.DeliveryLaws.{LinesAreContributed}
-use Rattle.conn_workers.specs.Recordings.{recorded_lines, recordings_of}
+use Rattle.conn_workers.specs.Recordings.{recordings_of}
 use Rattle.conn_workers.specs.ReportTexts.{HoldLines, text_of}
 use Rattle.run_files.specs.Streams.{joined}
 use Rattle.run_files.specs.declared.outputs.Output.{Output}
@@ -31,7 +31,7 @@ joined_more texts text = flat_map-append (λ (t : Bor (List ℕ)). t.now) texts 
 -- those of all scenarios
 module _ (capture : CaptureView) (scenarios : List (List Proxy)) (seed : ℕ) (contributed : LinesAreContributed)
     (heads : List (List ℕ)) (heads_are : heads ≡ heads_of capture (length scenarios))
-    (shares : List (List (List ℕ))) (hold : HoldLines seed 0 scenarios (recordings_of capture) shares) where
+    (shares : List (List (List ℕ))) (hold : HoldLines seed scenarios (recordings_of capture) shares) where
   abbrev outputs : List Output
   outputs = outputs_for capture scenarios seed
 
@@ -40,11 +40,8 @@ module _ (capture : CaptureView) (scenarios : List (List Proxy)) (seed : ℕ) (c
 
   each : (number : ℕ) → number < length scenarios → get_or (map (λ (o : Output). o.report) outputs) number [] ≡ report_at heads shares number
   each number within =
-      let zero_on : 0 + number ≡ number = omega arith in
-      let lines = hold.lines number within
-      ∙ ap (λ (n : ℕ). flat_map (λ (line : List ℕ). line) (recorded_lines seed (n, get_or scenarios number []) (recordings_of capture))) zero_on in
       get_or-map (λ (o : Output). o.report) outputs number no_output [] (omega (arith, within, as_many_for capture scenarios seed))
-      ∙ sym (report_is capture scenarios seed contributed number within (text_of number shares) lines)
+      ∙ sym (report_is capture scenarios seed contributed number within (text_of number shares) (hold.lines number within))
       ∙ ap (λ (h : List ℕ). h ++ text_of number shares) (sym (head_at capture heads (length scenarios) heads_are number within))
 
   pub held_are : reports_held heads shares ≡ reports_of outputs

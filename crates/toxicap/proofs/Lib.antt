@@ -1,4 +1,3 @@
-mod DiskSteps
 mod EachElement
 mod WrittenFrames
 mod SoundConnections
@@ -8,7 +7,7 @@ mod AnswerSteps
 mod StoredSteps
 mod TextsTaken
 mod StoringEnds
-mod NamedSteps
+mod FilesInOrder
 mod RunSteps
 mod HostTexts
 mod WholeTables
@@ -17,7 +16,6 @@ mod GatheredRows
 mod OutputSteps
 mod HeldReportSteps
 mod ReadyDrafts
-mod PrintedSteps
 mod SeenReports
 mod ReportLines
 mod OutputsIsolated

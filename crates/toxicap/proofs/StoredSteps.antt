@@ -1,5 +1,5 @@
 -- The files of outputs, stored one output after another.
-use Rattle.std.proofs.Common.{◌≡◌, ◌<◌, ◌≤◌, ℕ, zero, suc, ◌+◌, ◌*◌, List, [], ◌∷◌, ◌++◌, length, map, take, drop, get_or, Option, Some, None, Ok, Err, refl, sym, ap, ap₂, subst, ◌∙◌, arith, append_assoc, take-add}
+use Rattle.std.proofs.Common.{◌≡◌, ◌<◌, ◌≤◌, ℕ, zero, suc, ◌+◌, ◌*◌, List, [], ◌∷◌, ◌++◌, length, map, take, drop, get_or, Option, Some, None, Err, refl, sym, ap, ap₂, subst, ◌∙◌, arith, append_assoc, take-add}
 use Rattle.std.proofs.lemmas.List.{map-append, take-take}
 use Rattle.run_files.specs.declared.error.StoreFault.{StoreFault}
 use Rattle.run_files.specs.declared.error.StoreFault.TheVariants as store
@@ -10,7 +10,7 @@ use Rattle.run_files.specs.Folders.{in_folder, TakesIn}
 use Rattle.run_files.specs.StoredFiles.{StoredFile}
 use Rattle.run_files.specs.WrittenOutputs.{files_from, Stores}
 use Rattle.toxicap.specs.CaptureOutputs.{no_output}
-use Rattle.toxicap.specs.StoredOutputs.{FilesOf, StoresOf}
+use Rattle.toxicap.specs.StoredOutputs.{StoresFiles}
 
 pub length-files_from : (n : ℕ) (xs : List Output) → length (files_from n xs) ≡ 2 * length xs
 length-files_from n [] = refl
@@ -53,9 +53,9 @@ module _ (folder : List ℕ) (all : List Output) (number : ℕ) (this : Output) 
 
   -- storing stopped among them
   pub stops_at : (fault : StoreFault) → Stores (2 * number) (files_from number (this ∷ [])) (TakesIn folder a b) (Err fault)
-      → StoresOf (Err (run_fault_of_storing fault)) (Ok all) × FilesOf (Err (run_fault_of_storing fault)) (Ok all) (TakesIn folder had b)
+      → StoresFiles (Err (run_fault_of_storing fault)) (files_from 0 all) (TakesIn folder had b)
   stops_at (store.ShelfFailed after) stores =
       let inside : 2 * number + stores.0 < length (files_from 0 all) = omega (arith, length-files_from 0 all, stores.2, below) in
       let at : after ≡ 2 * number + stores.0 = stores.1 in
       rw at (inside, taken_part stores.0 (omega (arith, stores.2)) stores.3)
-  stops_at (store.Memory after) stores = (refl, (2 * number + stores.0, taken_part stores.0 (omega (arith, stores.2)) stores.3))
+  stops_at (store.Memory after) stores = (2 * number + stores.0, taken_part stores.0 (omega (arith, stores.2)) stores.3)

@@ -1,49 +1,30 @@
--- How storing ends, by what a text calls for.
-use Rattle.std.proofs.Common.{◌≡◌, ℕ, ◌<◌, ◌≤◌, List, [], ◌∷◌, length, Option, Some, None, Result, Ok, Err, IfErr, refl, sym, ap, subst, append-nil, arith}
-use Rattle.std.specs.Io.KnownBytes.{Consumes}
-use Rattle.lists.specs.Agreement.{Refuses}
-use Rattle.pcap_records.specs.Reading.{capture_limit}
-use Rattle.scenarios.specs.declared.hosts.KnownHost.{KnownHost}
-use Rattle.scenarios.specs.declared.proxies.Proxy.{Proxy}
+-- How storing ends, by what is called for, and what it leaves of a disk.
+use Rattle.std.proofs.Common.{◌≡◌, ℕ, ◌<◌, List, [], ◌∷◌, length, map, take, Option, Some, None, Result, Ok, Err, IfErr, refl, sym, ap, subst, append-nil, arith}
+use Rattle.std.proofs.Math.Seq.{take-length}
+use Rattle.std.proofs.lemmas.List.{take-map}
+use Rattle.lists.specs.Agreement.{Agrees}
+use Rattle.disks.specs.Histories.{History, LeavesWhole, NamedFile, Names, NamesLeaveWhole}
 use Rattle.run_files.specs.declared.error.RunFault.{RunFault}
-use Rattle.run_files.specs.declared.error.RunFault.TheVariants.{Memory, ReadFailed, ShelfFailed}
+use Rattle.run_files.specs.declared.error.RunFault.TheVariants.{Memory, ShelfFailed}
 use Rattle.run_files.specs.declared.error.StoreFault.{StoreFault}
 use Rattle.run_files.specs.declared.error.StoreFault.TheVariants as store
 use Rattle.run_files.specs.declared.outputs.Output.{Output}
 use Rattle.run_files.specs.RunFault.{run_fault_of_storing, run_refusal}
-use Rattle.disks.specs.Histories.{History, NamedFile}
-use Rattle.run_files.specs.Folders.{TakesIn, failed_stores}
+use Rattle.run_files.specs.Folders.{TakesIn, failed_stores, in_folder}
+use Rattle.run_files.specs.StoredFiles.{StoredFile}
 use Rattle.run_files.specs.WrittenOutputs.{files_from, stored_before}
-use Rattle.toxicap.specs.Answering.{IsOfText, called_for}
-use Rattle.toxicap.specs.Rehearsal.{answer}
-use Rattle.toxicap.specs.RunEnds.{StoresBy, failed_reads}
-use Rattle.toxicap.specs.StoredOutputs.{FilesOf, StoresOf, StoresUnlessMemory}
-use Rattle.toxicap.proofs.AnswerSteps.{answered, never, of_answer}
+use Rattle.toxicap.specs.Answering.{IsOfText}
+use Rattle.toxicap.specs.RunEnds.{GoesOn, Step, UnlessMemory}
+use Rattle.toxicap.specs.StoredOutputs.{StoresFiles, StoresIn, told_disk}
+use Rattle.toxicap.proofs.TextsTaken.{agrees_unless_memory}
 
 pub nothing_taken : (folder : List ℕ) (had : Option History) → TakesIn folder had had []
 nothing_taken folder None = tt
 nothing_taken folder (Some h) = ap (λ (names : List NamedFile). Some (record { first = h.first; names = names })) (sym (append-nil h.names))
 
 -- nor did it since, where the disk's history is the same
-pub still_none : (folder : List ℕ) (had now : Option History) → now ≡ had → TakesIn folder had now []
+still_none : (folder : List ℕ) (had now : Option History) → now ≡ had → TakesIn folder had now []
 still_none folder had now same = subst (λ h. TakesIn folder had h []) (sym same) (nothing_taken folder had)
-
-pub none_consumed : (left : Option (List ℕ)) → Consumes left left []
-none_consumed None = tt
-none_consumed (Some bytes) = refl
-
--- out of memory is told where it may be
-pub stores_unless_memory : (result : Result (Unit {0}) RunFault) (wanted : Result (List Output) RunFault) → StoresOf result wanted → StoresUnlessMemory result wanted
-stores_unless_memory (Ok u) wanted is = is
-stores_unless_memory (Err Memory) wanted is = tt
-stores_unless_memory (Err fault) wanted is = is
-
-pub none_stored : (fault : RunFault) (bytes : List ℕ) (scenarios : List (List Proxy)) (seed : ℕ) (folder : List ℕ) (had : Option History)
-    → Refuses (run_refusal fault) (answer bytes scenarios seed)
-    → StoresOf (Err fault) (answer bytes scenarios seed) × FilesOf (Err fault) (answer bytes scenarios seed) (TakesIn folder had had)
-none_stored Memory bytes scenarios seed folder had is = (is, (0, nothing_taken folder had))
-none_stored (ShelfFailed after) bytes scenarios seed folder had is = absurd (subst (λ wanted. IfErr wanted IsOfText) is (of_answer bytes scenarios seed))
-none_stored fault bytes scenarios seed folder had is = (is, nothing_taken folder had)
 
 -- nor where the folder could not be held for the files of some outputs
 some_files : (outputs : List Output) → 0 < length outputs → 0 < length (files_from 0 outputs)
@@ -51,33 +32,37 @@ some_files [] some = absurd (omega (arith, some))
 some_files (o ∷ outputs) some = omega arith
 
 pub not_held : (folder : List ℕ) (outputs : List Output) (fault : StoreFault) (had now : Option History) → now ≡ had
-    → (stored_before fault ≡ 0) × (0 < length outputs)
-    → StoresOf (Err (run_fault_of_storing fault)) (Ok outputs) × FilesOf (Err (run_fault_of_storing fault)) (Ok outputs) (TakesIn folder had now)
+    → (stored_before fault ≡ 0) × (0 < length outputs) → StoresFiles (Err (run_fault_of_storing fault)) (files_from 0 outputs) (TakesIn folder had now)
 not_held folder outputs (store.ShelfFailed after) had now same first =
     let none : after ≡ 0 = first.0 in rw none (some_files outputs first.1, still_none folder had now same)
-not_held folder outputs (store.Memory after) had now same first = (refl, (0, still_none folder had now same))
+not_held folder outputs (store.Memory after) had now same first = (0, still_none folder had now same)
 
-module _ (hosts : List KnownHost) (texts : List (List ℕ)) (seed : ℕ) where
-  -- how storing ends, by the text that was read
-  pub stores_by : (result : Result (Unit {0}) RunFault) (text : List ℕ) (AtEnd : Type 0) → length text ≤ capture_limit → AtEnd → StoresUnlessMemory result (called_for hosts texts seed text)
-      → StoresBy result (called_for hosts texts seed text) text AtEnd
-  stores_by (Ok u) text AtEnd within at_end is = (at_end, is)
-  stores_by (Err (ShelfFailed after)) text AtEnd within at_end is = (at_end, of_files (called_for hosts texts seed text) is)
+-- no call of the disk has failed where texts or a capture are refused
+pub refused_faults : (folder : List ℕ) (fault : RunFault) (wanted : Result (List Output) RunFault) → IfErr wanted IsOfText
+    → UnlessMemory wanted (Err fault) → failed_stores folder (Err fault) ≡ 0
+refused_faults folder (ShelfFailed after) wanted own is = absurd (subst (λ w. IfErr w IsOfText) is own)
+refused_faults folder fault wanted own is = refl
+
+-- ---- runs that are cut off
+
+module _ (whole : NamesLeaveWhole) (folder : List ℕ) (old new : Option History) where
+  first_part : (files : List StoredFile) (n : ℕ) → TakesIn folder old new (take n files) → LeavesWhole old new (map (in_folder folder) files)
+  first_part files n took = whole old new (map (in_folder folder) files) n (subst (Names old new) (sym (take-map (in_folder folder) n files)) took)
+
+  files_whole : (outcome : Result (Unit {0}) RunFault) (files : List StoredFile) → StoresFiles outcome files (TakesIn folder old new)
+      → LeavesWhole old new (map (in_folder folder) files)
+  files_whole (Ok u) files took = first_part files (length files) (subst (TakesIn folder old new) (sym (take-length files)) took)
+  files_whole (Err (ShelfFailed after)) files stores = first_part files after stores.1
+  files_whole (Err Memory) files stores = first_part files stores.0 stores.1
+  files_whole (Err fault) files stores = absurd stores
+
+  pub stores_in : (outcome : Result (Unit {0}) RunFault) (wanted : Result (List Output) RunFault)
+      → Step (λ (made : Result (List Output) RunFault). Agrees run_refusal (λ (outputs : List Output). outputs) made wanted) outcome (new ≡ old)
+      (λ outputs. StoresFiles outcome (files_from 0 outputs) (TakesIn folder old new))
+      → StoresIn folder outcome wanted (told_disk old new)
+  stores_in outcome wanted step = (step.0, agrees_unless_memory run_refusal (λ (outputs : List Output). outputs) step.0 wanted step.1, by step.0 step.2)
     where
-      of_files : (wanted : Result (List Output) RunFault) → StoresUnlessMemory (Err (ShelfFailed after)) wanted
-          → (outputs : List Output) × (wanted ≡ Ok outputs) × (after < length (files_from 0 outputs))
-      of_files (Ok outputs) is = (outputs, refl, is)
-      of_files (Err fault) is = absurd (omega arith)
-  stores_by (Err fault) text AtEnd within at_end is = answered hosts texts seed (Err fault) text AtEnd within at_end is
-
-  -- and no read has failed
-  pub none_failed : (result : Result (Unit {0}) RunFault) (text : List ℕ) → StoresUnlessMemory result (called_for hosts texts seed text) → failed_reads result ≡ 0
-  none_failed (Ok u) text is = refl
-  none_failed (Err ReadFailed) text is = never hosts texts seed text is (λ own. own)
-  none_failed (Err _) text is = refl
-
--- no call of the disk has failed where a rehearsal is refused
-pub refused_faults : (fault : RunFault) (bytes : List ℕ) (scenarios : List (List Proxy)) (seed : ℕ) (folder : List ℕ)
-    → Refuses (run_refusal fault) (answer bytes scenarios seed) → failed_stores folder (Err fault) ≡ 0
-refused_faults (ShelfFailed after) bytes scenarios seed folder is = absurd (subst (λ wanted. IfErr wanted IsOfText) is (of_answer bytes scenarios seed))
-refused_faults fault bytes scenarios seed folder is = refl
+      by : (made : Result (List Output) RunFault) → GoesOn made outcome (new ≡ old) (λ outputs. StoresFiles outcome (files_from 0 outputs) (TakesIn folder old new))
+          → GoesOn made outcome (new ≡ old) (λ outputs. StoresFiles outcome (files_from 0 outputs) (TakesIn folder old new) × LeavesWhole old new (map (in_folder folder) (files_from 0 outputs)))
+      by (Ok outputs) stores = (stores, files_whole outcome (files_from 0 outputs) stores)
+      by (Err fault) ends = ends

@@ -1,6 +1,6 @@
 -- What texts call for, by what is read of them: a refusal, or a rehearsal.
-use Rattle.std.proofs.Common.{◌≡◌, ℕ, ◌≤◌, false, List, [], length, Option, Some, None, Result, Ok, Err, refl, ap, subst}
-use Rattle.std.specs.Prelude.{IfErr, IfSome}
+use Rattle.std.proofs.Common.{◌≡◌, ℕ, ◌≤◌, false, List, [], length, Option, Some, None, Result, Ok, Err, refl, ap}
+use Rattle.std.specs.Prelude.{IfSome}
 use Rattle.std.proofs.lemmas.Bool.{le-ltb}
 use Rattle.std.proofs.lemmas.Option.{IfSome_then}
 use Rattle.lists.specs.Agreement.{Agrees, AgreesUnlessMemory, Refuses}
@@ -12,9 +12,10 @@ use Rattle.run_files.specs.declared.error.RunFault.TheVariants.{Memory}
 use Rattle.run_files.specs.declared.outputs.Output.{Output}
 use Rattle.run_files.specs.Dumps.{is_dump}
 use Rattle.run_files.specs.RunFault.{run_refusal}
-use Rattle.toxicap.specs.Answering.{IsOfText, called_for, capture_bytes_of, scenarios_from}
+use Rattle.toxicap.specs.Answering.{called_for, capture_bytes_of, scenarios_from}
 use Rattle.toxicap.specs.PrintedReports.{reports_in}
 use Rattle.toxicap.specs.Rehearsal.{answer}
+use Rattle.toxicap.specs.RunEnds.{UnlessMemory}
 
 -- out of memory is told where it may be
 pub told_refusal : {G B : Type 0} (refusal : Option G) (wanted : Result B G) → Refuses refusal wanted → IfSome refusal (λ refused. wanted ≡ Err refused)
@@ -45,13 +46,13 @@ module _ (hosts : List KnownHost) (texts : List (List ℕ)) (seed : ℕ) where
   called_rehearsal text bytes scenarios within is read = rw (le-ltb, is, read) refl
 
   pub refused_bytes : (fault : RunFault) (text : List ℕ) → length text ≤ capture_limit → Agrees run_refusal (λ (bytes : List ℕ). bytes) (Err fault) (capture_bytes_of text)
-      → AgreesUnlessMemory run_refusal (λ (outputs : List Output). outputs) (Err fault) (called_for hosts texts seed text)
+      → UnlessMemory (called_for hosts texts seed text) (Err fault)
   refused_bytes Memory text within is = tt
   refused_bytes fault text within is = called_bytes fault text within is
 
   pub refused_scenarios : (fault : RunFault) (text bytes : List ℕ) → length text ≤ capture_limit → capture_bytes_of text ≡ Ok bytes
       → AgreesUnlessMemory run_refusal (λ (scenarios : List (List Proxy)). scenarios) (Err fault) (scenarios_from hosts [] texts)
-      → AgreesUnlessMemory run_refusal (λ (outputs : List Output). outputs) (Err fault) (called_for hosts texts seed text)
+      → UnlessMemory (called_for hosts texts seed text) (Err fault)
   refused_scenarios Memory text bytes within is refused = tt
   refused_scenarios fault text bytes within is refused = called_scenarios fault text bytes within is refused
 
@@ -66,20 +67,6 @@ is_fault (Ok outputs) fault is = absurd cc
 is_fault (Err other) fault is = let same : other ≡ fault = cc in ap Err same
 
 pub of_fault_printed : (fault : RunFault) (wanted : Result (List Output) RunFault)
-    → AgreesUnlessMemory run_refusal (λ (outputs : List Output). outputs) (Err fault) wanted
-    → AgreesUnlessMemory run_refusal (λ (reports : List ℕ). reports) (Err fault) (reports_in wanted)
+    → UnlessMemory wanted (Err fault)
+    → UnlessMemory (reports_in wanted) (Err fault)
 of_fault_printed fault wanted is = IfSome_then (run_refusal fault) is (λ f refused. ap reports_in refused)
-
-pub of_reports : (wanted : Result (List Output) RunFault) → IfErr wanted IsOfText → IfErr (reports_in wanted) IsOfText
-of_reports (Ok outputs) own = tt
-of_reports (Err fault) own = own
-
--- what is told is a fault of the texts if what is called for can only be one
-pub of_refused : {A : Type 0} (wanted : Result A RunFault) → IfErr wanted IsOfText → (fault : RunFault) → IfSome (run_refusal fault) (λ refused. wanted ≡ Err refused) → IsOfText fault
-of_refused wanted own Memory is = tt
-of_refused wanted own fault is = subst (λ w. IfErr w IsOfText) is own
-
-pub of_told : {A B : Type 0} (view : A → B) (result : Result A RunFault) (wanted : Result B RunFault) → IfErr wanted IsOfText
-    → AgreesUnlessMemory run_refusal view result wanted → IfErr result IsOfText
-of_told view (Ok x) wanted own is = tt
-of_told view (Err fault) wanted own is = of_refused wanted own fault is

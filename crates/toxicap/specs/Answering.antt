@@ -1,5 +1,5 @@
 -- From the text of a capture and the texts of scenarios to what each scenario answers.
-use Rattle.std.specs.Prelude.{◌≡◌, ℕ, ◌≤◌, nat_lt, if◌then◌else◌, List, [], ◌∷◌, ◌++◌, length, Result, Ok, Err}
+use Rattle.std.specs.Prelude.{ℕ, nat_lt, if◌then◌else◌, List, [], ◌∷◌, ◌++◌, length, IfErr, Result, Ok, Err}
 use Rattle.pcap_records.specs.Reading.{capture_limit}
 use Rattle.scenarios.specs.Refusals.{and_then}
 use Rattle.scenarios.specs.Populate.{scenario}
@@ -7,7 +7,7 @@ use Rattle.scenarios.specs.declared.error.Refusal.{Refusal}
 use Rattle.scenarios.specs.declared.hosts.KnownHost.{KnownHost}
 use Rattle.scenarios.specs.declared.proxies.Proxy.{Proxy}
 use Rattle.run_files.specs.declared.error.RunFault.{RunFault}
-use Rattle.run_files.specs.declared.error.RunFault.TheVariants.{BadHost, BadScenario, CaptureTooLong, Memory, ReadFailed, ShelfFailed, WriteFailed}
+use Rattle.run_files.specs.declared.error.RunFault.TheVariants.{BadHost, BadScenario, CaptureTooLong, ReadFailed, ShelfFailed, WriteFailed}
 use Rattle.run_files.specs.declared.outputs.Output.{Output}
 use Rattle.run_files.specs.Dumps.{is_dump, dump_reading}
 use Rattle.toxicap.specs.Rehearsal.{answer}
@@ -44,14 +44,6 @@ IsOfText (ShelfFailed after) = ⊥
 IsOfText (BadHost at) = ⊥
 IsOfText _ = Unit {0}
 
--- How an answer comes of what was called for by the text that was read, where `AtEnd` means that the reader is at its end. A failed read and
--- out of memory come within the limit; that the text is too long is answered as soon as it is.
-abbrev pub AnswersBy : Result (List Output) RunFault → Result (List Output) RunFault → List ℕ → Type 0 → Type 0
-AnswersBy (Ok outputs) wanted text AtEnd = AtEnd × (wanted ≡ Ok outputs)
-AnswersBy (Err ReadFailed) wanted text AtEnd = length text ≤ capture_limit
-AnswersBy (Err Memory) wanted text AtEnd = length text ≤ capture_limit
-AnswersBy (Err CaptureTooLong) wanted text AtEnd = wanted ≡ Err CaptureTooLong
-AnswersBy (Err WriteFailed) wanted text AtEnd = ⊥
-AnswersBy (Err (ShelfFailed after)) wanted text AtEnd = ⊥
-AnswersBy (Err (BadHost at)) wanted text AtEnd = ⊥
-AnswersBy (Err fault) wanted text AtEnd = AtEnd × (wanted ≡ Err fault)
+-- what a text calls for is refused by no other fault
+abbrev pub RefusedByTexts : Type 0
+RefusedByTexts = (hosts : List KnownHost) (texts : List (List ℕ)) (seed : ℕ) (text : List ℕ) → IfErr (called_for hosts texts seed text) IsOfText

@@ -2,101 +2,86 @@
 --
 -- The order of refusals, each told only where none before it came:
 --   1. a fault of the command line, status 2: nothing is read or written but what tells it (`ProgramEnds`);
---   2. a host (`RefusesInputs`, in Inputs: `hosts_asked`);
---   3. a scenario file that cannot be opened or read, or is too long (`RefusesInputs`, in Inputs: `IsOfFiles`);
---   4. the capture, from a named file or standard input: it cannot be opened or read, or is too long (`called_for`, in Answering);
+--   2. a host (`hosts_asked`, in Inputs);
+--   3. a scenario file that cannot be opened or read, or is too long: the first in order (`LoadsFiles`, in Inputs);
+--   4. the capture, from a named file or standard input: it cannot be opened or read, or is too long (`LoadsCapture`, in Inputs);
 --   5. its dump is broken (`capture_bytes_of`, in Answering);
 --   6. a scenario is refused, the first in order (`scenarios_from`, in Answering);
 --   7. there are too many scenarios (`answer`, in Rehearsal);
 --   8. the capture's own faults, in the order of `reading` (pcap_records, Reading);
---   9. a write of the reports, or a file of the folder, fails (`PrintsBy` and `StoresBy`, in RunEnds).
--- Out of memory comes when an allocation fails, anywhere among them, but before the first byte of the reports is written. `NamedFiles` says
--- what named files hold: there 3 is the first scenario file at fault, and comes before 4.
-use Rattle.std.specs.Prelude.{◌≡◌, ℕ, ◌+◌, ◌<◌, ◌⊎◌, List, length, take, Option, Some, None, Result, Ok, Err, IsOk}
+--   9. writing the reports fails (`WritesText`, in RunEnds), or a file cannot be stored (`StoresFiles`, in StoredOutputs).
+-- Out of memory may come anywhere among them: if reports are printed, before their first byte; if outputs are stored, perhaps after some files.
+use Rattle.std.specs.Prelude.{◌≡◌, ℕ, List, Option, Some, None, Result, Ok, Err, IsOk}
 use Rattle.std.specs.Borrow.{Bor}
-use Rattle.std.specs.Io.KnownBytes.{Appends, Consumes, IsAtEnd}
 use Rattle.std.specs.String.{string_bytes}
-use Rattle.scenarios.specs.declared.hosts.KnownHost.{KnownHost}
 use Rattle.command_line.specs.declared.asked.Asked.{Asked}
 use Rattle.command_line.specs.declared.error.Stop.{Stop}
 use Rattle.command_line.specs.declared.error.Stop.TheVariants as stop
 use Rattle.run_files.specs.declared.error.RunFault.{RunFault}
-use Rattle.run_files.specs.declared.error.RunFault.TheVariants.{Memory, WriteFailed}
+use Rattle.run_files.specs.declared.error.RunFault.TheVariants.{Memory}
 use Rattle.run_files.specs.declared.outputs.Output.{Output}
+use Rattle.run_files.specs.Folders.{failed_stores}
 use Rattle.run_files.specs.Streams.{CountedView}
 use Rattle.toxicap.specs.Answering.{called_for}
-use Rattle.toxicap.specs.Inputs.{RefusesInputs, TakesInputs}
-use Rattle.toxicap.specs.RunEnds.{PrintsBy, StoresBy, Tells, WrittenSoFar, failed_reads, failed_writes, status_of, usage_status}
+use Rattle.toxicap.specs.Inputs.{LoadedBy, LoadsCapture, LoadsFiles, hosts_asked, texts_or_bare}
+use Rattle.toxicap.specs.PrintedReports.{PrintsOf}
+use Rattle.toxicap.specs.RunEnds.{Step, Tells, UnlessMemory, WritesText, Written, WrittenSoFar, status_of, usage_status, written}
+use Rattle.toxicap.specs.StoredOutputs.{StoresIn, ToldDisk}
 
--- What is said of standard input and output over a run. `Read` has the text that was read and the number of failed reads.
+-- What is said of standard input and output over a run: that nothing was read, how a text was loaded, and what was written.
 pub record Streams : Type 1 where
   pub Unread : Type 0
-  pub Read : List ℕ → ℕ → Type 0
-  pub AtEnd : Type 0
-  pub Unwritten : Type 0
-  pub Wrote : List ℕ → Type 0
-  pub WritesFailed : ℕ → Type 0
+  pub Loaded : Result (List ℕ) RunFault → Type 0
+  pub output : Written
 
--- by the bytes that a reader has left and a writer holds, each as it was and as it is
+-- the streams of a run: a reader is seen by the bytes that it has left, a writer by those that it holds, before and after
 abbrev pub streams : {R W : Type 0} → (R → Option (List ℕ)) → CountedView R → CountedView R → (W → Option (List ℕ)) → CountedView W → CountedView W → Streams
-streams remaining r s contents w x = record {
-  Unread = s ≡ r;
-  Read = λ text n. Consumes (remaining r.inner) (remaining s.inner) text × (s.failed ≡ r.failed + n);
-  AtEnd = IsAtEnd (remaining s.inner);
-  Unwritten = x ≡ w;
-  Wrote = Appends (contents w.inner) (contents x.inner);
-  WritesFailed = λ n. x.failed ≡ w.failed + n;
-}
+streams remaining r s contents w x = record { Unread = s ≡ r; Loaded = LoadedBy remaining r s; output = written contents w x }
 
--- what is said of standard error, with the numbers of its failed writes before and now
-pub record FaultStream : Type 1 where
-  pub Untold : Type 0
-  pub Told : List ℕ → Type 0
-  pub before : ℕ
-  pub now : ℕ
+-- nothing was written, and no file got a name
+abbrev pub Unchanged : ToldDisk → Streams → Type 0
+Unchanged disk s = s.output.Unwritten × (disk.after ≡ disk.before)
 
-abbrev pub fault_stream : {W : Type 0} → (W → Option (List ℕ)) → CountedView W → CountedView W → FaultStream
-fault_stream contents w x = record {
-  Untold = x ≡ w;
-  Told = Appends (contents w.inner) (contents x.inner);
-  before = w.failed;
-  now = x.failed;
-}
+-- standard input was not read either
+abbrev pub Untouched : ToldDisk → Streams → Type 0
+Untouched disk s = s.Unread × Unchanged disk s
 
-abbrev pub AnswersInto : Option (Bor (List ℕ)) → Result (Unit {0}) RunFault → Result (List Output) RunFault → List ℕ → Type 0 → Type 0
-    → (List ℕ → Type 0) → Type 0
-AnswersInto None outcome wanted text AtEnd Unwritten Wrote = PrintsBy outcome wanted text AtEnd Unwritten Wrote
-AnswersInto (Some folder) outcome wanted text AtEnd Unwritten Wrote = StoresBy outcome wanted text AtEnd × Unwritten
+-- Without a folder the reports are printed. With one the outputs are stored, and nothing is printed.
+abbrev pub AnswersInto : Option (Bor (List ℕ)) → Result (Unit {0}) RunFault → Result (List Output) RunFault → ToldDisk → Streams → Type 0
+AnswersInto None outcome wanted disk s = PrintsOf outcome wanted s.output × (disk.after ≡ disk.before)
+AnswersInto (Some folder) outcome wanted disk s = StoresIn folder.now outcome wanted disk × s.output.Unwritten
 
--- what a file holds is not said
-abbrev pub AnswersFrom : Option (Bor (List ℕ)) → Result (Unit {0}) RunFault → (List ℕ → Type 0 → Type 0) → Streams → Type 0
-AnswersFrom None outcome Answers s = (text : List ℕ) × s.Read text (failed_reads outcome) × Answers text s.AtEnd
-AnswersFrom (Some path) outcome Answers s = (text : List ℕ) × s.Unread × Answers text (Unit {0})
+-- How a run ends that a command line asks for, step by step: it reads the hosts, loads the scenario files and then the capture, and answers what
+-- the capture's text calls for. The fault of a step is the outcome.
+abbrev pub RunsBy : Asked → Result (Unit {0}) RunFault → ToldDisk → Streams → Type 0
+RunsBy asked outcome disk s =
+    Step (UnlessMemory (hosts_asked asked)) outcome (Untouched disk s) (λ hosts.
+    Step (LoadsFiles disk.before asked.scenarios.items) outcome (Untouched disk s) (λ files.
+    Step (LoadsCapture disk.before asked.capture s.Unread s.Loaded) outcome (Unchanged disk s) (λ text.
+    AnswersInto asked.out outcome (called_for hosts (texts_or_bare files) asked.seed text) disk s)))
 
--- What a command line names is refused, and no stream is used; or what the capture's text calls for under it is answered.
-abbrev pub RunsBy : Asked → Result (Unit {0}) RunFault → Streams → Type 0
-RunsBy asked outcome s =
-    (RefusesInputs asked outcome × s.Unread × s.Unwritten)
-    ⊎ ((hosts : List KnownHost) × (texts : List (List ℕ)) × TakesInputs asked hosts texts
-    × AnswersFrom asked.capture outcome (λ text AtEnd. AnswersInto asked.out outcome (called_for hosts texts asked.seed text) text AtEnd s.Unwritten s.Wrote) s)
+-- how the program ends if its words have no usage fault
+abbrev pub CommandEnds : Result Asked Stop → Result (Unit {0}) RunFault → ToldDisk → Streams → Type 0
+CommandEnds (Ok asked) outcome disk s = RunsBy asked outcome disk s
+CommandEnds (Err (stop.Shown text)) outcome disk s = WritesText outcome (string_bytes text) s.output × s.Unread × (disk.after ≡ disk.before)
+CommandEnds (Err (stop.Usage text)) outcome disk s = ⊥
+CommandEnds (Err stop.Memory) outcome disk s = (outcome ≡ Err Memory) × Untouched disk s
 
--- a text was written, or one write failed and a first part of it was
-abbrev pub WritesText : Result (Unit {0}) RunFault → List ℕ → (List ℕ → Type 0) → Type 0
-WritesText (Ok _) text Wrote = Wrote text
-WritesText (Err WriteFailed) text Wrote = (written : ℕ) × (written < length text) × Wrote (take written text)
-WritesText (Err _) text Wrote = ⊥
-
--- the outcome of the program on a command line that has no fault
-abbrev pub CommandEnds : Result Asked Stop → Result (Unit {0}) RunFault → Streams → Type 0
-CommandEnds (Ok asked) outcome s = RunsBy asked outcome s
-CommandEnds (Err (stop.Shown text)) outcome s = WritesText outcome (string_bytes text) s.Wrote × s.Unread
-CommandEnds (Err (stop.Usage text)) outcome s = ⊥
-CommandEnds (Err stop.Memory) outcome s = (outcome ≡ Err Memory) × s.Unread × s.Unwritten
-
--- How the program ends with a status, and the outcome that it is the status of. After a fault of the command line the outcome is Ok, and
+-- The exit status of the program, and the outcome that it stands for. A usage fault has status 2. Its outcome is Ok, since no run was begun, and
 -- nothing is read or written except what tells the fault.
-abbrev pub ProgramEnds : Result Asked Stop → ℕ → Result (Unit {0}) RunFault → Streams → FaultStream → Type 0
-ProgramEnds (Err (stop.Usage text)) status outcome s t =
-    (status ≡ usage_status) × IsOk outcome × WrittenSoFar (string_bytes text) t.Told t.before t.now × s.Unread × s.Unwritten
-ProgramEnds line status outcome s t =
-    CommandEnds line outcome s × s.WritesFailed (failed_writes outcome) × (status ≡ status_of outcome) × Tells outcome t.Untold t.Told t.before t.now
+abbrev pub ProgramEnds : Result Asked Stop → ℕ → Result (Unit {0}) RunFault → ToldDisk → Streams → Written → Type 0
+ProgramEnds (Err (stop.Usage text)) status outcome disk s faults =
+    (status ≡ usage_status) × IsOk outcome × WrittenSoFar (string_bytes text) faults × Untouched disk s
+ProgramEnds line status outcome disk s faults = CommandEnds line outcome disk s × (status ≡ status_of outcome) × Tells outcome faults
+
+-- ---- calls of the disk
+
+-- the folder that a command line names
+abbrev pub folder_of : Result Asked Stop → Option (Bor (List ℕ))
+folder_of (Ok asked) = asked.out
+folder_of (Err _) = None
+
+-- the number of the disk's calls that failed in a run that ended so, of those that hold a folder, allow a name or give one
+abbrev pub failed_calls : Option (Bor (List ℕ)) → Result (Unit {0}) RunFault → ℕ
+failed_calls None outcome = 0
+failed_calls (Some folder) outcome = failed_stores folder.now outcome

@@ -1,27 +1,35 @@
--- What a command line names: hosts, and scenario files.
-use Rattle.std.specs.Prelude.{◌≡◌, ℕ, ◌+◌, ◌<◌, ◌==◌, List, [], ◌∷◌, ◌++◌, length, map, take, drop, position, codes, Option, Some, None, option_map, option_and_then, Result, Ok, Err, IsOk}
+-- What a command line names: hosts, scenario files, and a capture.
+use Rattle.std.specs.Prelude.{◌≡◌, ℕ, ◌+◌, ◌<◌, ◌≤◌, ◌==◌, List, [], ◌∷◌, ◌++◌, length, map, take, drop, position, codes, Option, Some, None, option_map, option_and_then, IfErr, IfNone, IfOk, IfSome, Result, Ok, Err}
+use Rattle.std.specs.Borrow.{Bor}
+use Rattle.std.specs.Io.KnownBytes.{Consumes, IsAtEnd}
+use Rattle.pcap_records.specs.Reading.{capture_limit}
 use Rattle.scenarios.specs.Hosts.{host_for}
-use Rattle.scenarios.specs.Refusals.{with}
+use Rattle.scenarios.specs.Refusals.{and_then, with}
 use Rattle.scenarios.specs.declared.hosts.KnownHost.{KnownHost}
 use Rattle.command_line.specs.declared.asked.Asked.{Asked}
+use Rattle.disks.specs.ToldFiles.{Held}
+use Rattle.disks.specs.Histories.{History, held_now}
 use Rattle.run_files.specs.declared.error.RunFault.{RunFault}
 use Rattle.run_files.specs.declared.error.RunFault.TheVariants.{BadHost, CaptureTooLong, Memory, ReadFailed}
+use Rattle.run_files.specs.Paths.{IsOfFile, text_at}
+use Rattle.run_files.specs.SeenTexts.{LoadsInput}
+use Rattle.run_files.specs.Streams.{CountedView}
+use Rattle.toxicap.specs.RunEnds.{UnlessMemory}
 
-abbrev pub bare_text : List ℕ
-bare_text = codes "[]"
+-- ---- hosts
 
--- what stands before the first place of a byte, and after it
+-- the text before the first such byte, and the text after it, if there is one
 abbrev pub cut_at_first : ℕ → List ℕ → Option (List ℕ × List ℕ)
 cut_at_first byte text = option_map (λ at. (take at text, drop (at + 1) text)) (position (λ b. b == byte) text)
 
 abbrev pub equals_sign : ℕ
 equals_sign = 61
 
--- the host that NAME=ADDR makes beside those that are known, if it makes one
+-- the host that NAME=ADDR adds to those that are known, unless it is not valid or its name is known
 abbrev pub host_written : List KnownHost → List ℕ → Option KnownHost
 host_written hosts written = option_and_then (λ parts. host_for hosts parts.0 parts.1) (cut_at_first equals_sign written)
 
--- the hosts of a command line, after those that are known; the first that makes none is refused with its place
+-- the hosts of a command line, after those that are known; the first that is not valid is refused with its place
 unfoldable pub hosts_from : List KnownHost → List (List ℕ) → Result (List KnownHost) RunFault
 hosts_from hosts [] = Ok hosts
 hosts_from hosts (written ∷ rest) =
@@ -37,31 +45,57 @@ AddsHost (Err (BadHost place)) at wanted old new = (wanted ≡ None) × (place �
 AddsHost (Err Memory) at wanted old new = Unit {0}
 AddsHost (Err _) at wanted old new = ⊥
 
--- a fault of a host, and one of `count` files
 abbrev pub IsOfHost : RunFault → Type 0
 IsOfHost (BadHost at) = Unit {0}
 IsOfHost Memory = Unit {0}
 IsOfHost _ = ⊥
 
+-- ---- scenario files
+
+-- the texts at some paths, after those loaded earlier, or the first refusal
+unfoldable pub texts_from : Held → List (List ℕ) → List (List ℕ) → Result (List (List ℕ)) RunFault
+texts_from held earlier [] = Ok earlier
+texts_from held earlier (path ∷ paths) = and_then (text_at held path) (λ text. texts_from held (earlier ++ text ∷ []) paths)
+
+-- Each file that is loaded is the text at its own path, in order; and of files at fault the first counts.
+abbrev pub FilesAreLoadedInOrder : Type 0
+FilesAreLoadedInOrder = (held : Held) (paths texts : List (List ℕ)) → map (text_at held) paths ≡ map Ok texts
+    → (texts_from held [] paths ≡ Ok texts)
+    × ((path : List ℕ) (rest : List (List ℕ)) (fault : RunFault) → text_at held path ≡ Err fault → texts_from held [] (paths ++ path ∷ rest) ≡ Err fault)
+
+-- a fault of some of `count` files
 abbrev pub IsOfFiles : ℕ → RunFault → Type 0
-IsOfFiles files ReadFailed = 0 < files
-IsOfFiles files CaptureTooLong = 0 < files
-IsOfFiles files Memory = Unit {0}
-IsOfFiles files _ = ⊥
+IsOfFiles count ReadFailed = 0 < count
+IsOfFiles count CaptureTooLong = 0 < count
+IsOfFiles count Memory = Unit {0}
+IsOfFiles count _ = ⊥
+
+-- How the files at some paths are loaded: each gives one text, or a fault of one is given. If the disk tells what its paths hold, it is by that.
+abbrev pub LoadsFiles : Option History → List (Bor (List ℕ)) → Result (List (List ℕ)) RunFault → Type 0
+LoadsFiles told paths given =
+    IfOk given (λ texts. length texts ≡ length paths) × IfErr given (IsOfFiles (length paths))
+    × IfSome told (λ h. UnlessMemory (texts_from (held_now h) [] (map (λ path. path.now) paths)) given)
+
+-- the scenario without proxies, which is used if no scenario is named
+abbrev pub bare_text : List ℕ
+bare_text = codes "[]"
 
 abbrev pub texts_or_bare : List (List ℕ) → List (List ℕ)
 texts_or_bare [] = bare_text ∷ []
 texts_or_bare (text ∷ texts) = text ∷ texts
 
--- What a command line names was read: its hosts are these, and these are the texts of its scenario files, one of each.
-abbrev pub TakesInputs : Asked → List KnownHost → List (List ℕ) → Type 0
-TakesInputs asked hosts texts =
-    (hosts_asked asked ≡ Ok hosts)
-    × ((files : List (List ℕ)) × (length files ≡ length asked.scenarios.items) × (texts ≡ texts_or_bare files))
+-- ---- the capture
 
--- What a command line names was refused before its capture was read: a host, or after all hosts a scenario file.
-abbrev pub RefusesInputs : Asked → Result (Unit {0}) RunFault → Type 0
-RefusesInputs asked (Ok _) = ⊥
-RefusesInputs asked (Err (BadHost at)) = hosts_asked asked ≡ Err (BadHost at)
-RefusesInputs asked (Err Memory) = Unit {0}
-RefusesInputs asked (Err fault) = IsOk (hosts_asked asked) × IsOfFiles (length asked.scenarios.items) fault
+-- how a text is loaded from a reader, by what it has left before and after, and its failed calls
+abbrev pub LoadedBy : {R : Type 0} → (R → Option (List ℕ)) → CountedView R → CountedView R → Result (List ℕ) RunFault → Type 0
+LoadedBy remaining r s given =
+    IfOk given (λ text. length text ≤ capture_limit)
+    × LoadsInput (λ text. text) given (Consumes (remaining r.inner) (remaining s.inner)) (IsAtEnd (remaining s.inner)) r.failed s.failed
+
+-- How the capture is loaded. If no path is named, it comes from standard input (`Loaded`). Else it comes from the file at the path, within the
+-- limit, and standard input is not read (`Unread`).
+abbrev pub LoadsCapture : Option History → Option (Bor (List ℕ)) → Type 0 → (Result (List ℕ) RunFault → Type 0) → Result (List ℕ) RunFault → Type 0
+LoadsCapture told path Unread Loaded given =
+    IfNone path (Loaded given)
+    × IfSome path (λ p. Unread × IfOk given (λ text. length text ≤ capture_limit) × IfErr given IsOfFile
+    × IfSome told (λ h. UnlessMemory (text_at (held_now h) p.now) given))

@@ -1,19 +1,28 @@
 -- Runs of the program that are cut off at any moment, and then begun anew.
-use Rattle.std.specs.Prelude.{◌≡◌, ◌≤◌, ℕ, List, length, Option, Some, Result, Ok}
+use Rattle.std.specs.Prelude.{◌≡◌, ◌≤◌, ℕ, List, [], length, map, Option, Some, Result, Ok}
+use Rattle.scenarios.specs.Refusals.{and_then}
 use Rattle.disks.specs.ToldFiles.{Held}
 use Rattle.disks.specs.Histories.{History, held_at, held_now}
 use Rattle.command_line.specs.Asking.{ReadsAs}
 use Rattle.command_line.specs.declared.asked.Asked.{Asked}
 use Rattle.run_files.specs.declared.error.RunFault.{RunFault}
+use Rattle.run_files.specs.declared.outputs.Output.{Output}
 use Rattle.run_files.specs.Streams.{CountedView}
-use Rattle.toxicap.specs.Commands.{Streams, streams}
-use Rattle.toxicap.specs.NamedFiles.{ReadsCapture, RunsOver, outputs_asked}
+use Rattle.toxicap.specs.Answering.{called_for}
+use Rattle.toxicap.specs.Commands.{RunsBy, Streams, streams}
+use Rattle.toxicap.specs.Inputs.{LoadsCapture, hosts_asked, texts_from, texts_or_bare}
+use Rattle.toxicap.specs.StoredOutputs.{told_disk}
 
--- two runs call for the same outputs, whatever each may have read as its capture
-abbrev pub CallForTheSame : Held → Asked → Streams → Held → Asked → Streams → Type 0
-CallForTheSame held asked s other again t =
-    (one two : Result (List ℕ) RunFault) → ReadsCapture held asked.capture one s → ReadsCapture other again.capture two t
-    → outputs_asked other again two ≡ outputs_asked held asked one
+-- what a command line calls for, by what paths hold, and with the text of its capture
+abbrev pub outputs_asked : Held → Asked → List ℕ → Result (List Output) RunFault
+outputs_asked held asked text = and_then (hosts_asked asked) (λ hosts.
+    and_then (texts_from held [] (map (λ path. path.now) asked.scenarios.items)) (λ files. called_for hosts (texts_or_bare files) asked.seed text))
+
+-- two runs call for the same outputs, whatever text each may have loaded as its capture
+abbrev pub CallForTheSame : History → Asked → Streams → History → Asked → Streams → Type 0
+CallForTheSame old asked s cut again t =
+    (one two : List ℕ) → LoadsCapture (Some old) asked.capture s.Unread s.Loaded (Ok one) → LoadsCapture (Some cut) again.capture t.Unread t.Loaded (Ok two)
+    → outputs_asked (held_now cut) again two ≡ outputs_asked (held_now old) asked one
 
 -- A run ends well over a disk with the history `old`, and leaves `new`. At a moment of that run n files had names; the same words are run
 -- over a disk whose paths hold what they held then. If this run calls for the same outputs and ends well, each path holds what it holds after
@@ -22,8 +31,8 @@ abbrev pub KilledRunsAreMended : {R W : Type 0} → (R → Option (List ℕ)) �
 KilledRunsAreMended remaining contents =
     (words : List (List ℕ)) (asked again : Asked) (old new cut mended : History) (n : ℕ) (path : List ℕ)
     (r r2 s s2 : CountedView _) (w w2 x x2 : CountedView _)
-    → ReadsAs words (Ok asked) → RunsOver old asked (Ok tt) (streams remaining r r2 contents w w2) (Some new)
+    → ReadsAs words (Ok asked) → RunsBy asked (Ok tt) (told_disk (Some old) (Some new)) (streams remaining r r2 contents w w2)
     → length old.names ≤ n → ((p : List ℕ) → held_now cut p ≡ held_at new n p)
-    → ReadsAs words (Ok again) → RunsOver cut again (Ok tt) (streams remaining s s2 contents x x2) (Some mended)
-    → CallForTheSame (held_now old) asked (streams remaining r r2 contents w w2) (held_now cut) again (streams remaining s s2 contents x x2)
+    → ReadsAs words (Ok again) → RunsBy again (Ok tt) (told_disk (Some cut) (Some mended)) (streams remaining s s2 contents x x2)
+    → CallForTheSame old asked (streams remaining r r2 contents w w2) cut again (streams remaining s s2 contents x x2)
     → held_now mended path ≡ held_now new path

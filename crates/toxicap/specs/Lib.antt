@@ -12,7 +12,6 @@ pub mod RunEnds
 pub mod Inputs
 pub mod HostLines
 pub mod Commands
-pub mod NamedFiles
 pub mod KilledRuns
 pub mod WrittenRows
 pub mod GroupingRows

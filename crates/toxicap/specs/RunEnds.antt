@@ -1,38 +1,50 @@
--- How a run ends, its exit status, and the line that it prints on standard error.
-use Rattle.std.specs.Prelude.{◌≡◌, ℕ, ◌+◌, ◌<◌, ◌⊎◌, List, ◌++◌, length, take, codes, Result, Ok, Err, IsOk}
+-- How a run ends, step by step; what it writes; its exit status, and the line that it prints on standard error.
+use Rattle.std.specs.Prelude.{◌≡◌, ℕ, ◌+◌, ◌<◌, ◌⊎◌, List, ◌++◌, length, take, codes, Option, Result, Ok, Err}
+use Rattle.std.specs.Io.KnownBytes.{Appends}
+use Rattle.lists.specs.Agreement.{AgreesUnlessMemory}
 use Rattle.run_files.specs.declared.error.RunFault.{RunFault}
-use Rattle.run_files.specs.declared.error.RunFault.TheVariants.{ReadFailed, ShelfFailed, WriteFailed}
-use Rattle.run_files.specs.declared.outputs.Output.{Output}
-use Rattle.run_files.specs.RunFault.{fault_text}
-use Rattle.run_files.specs.WrittenOutputs.{files_from, reports_of}
-use Rattle.toxicap.specs.Answering.{AnswersBy}
+use Rattle.run_files.specs.declared.error.RunFault.TheVariants.{WriteFailed}
+use Rattle.run_files.specs.RunFault.{fault_text, run_refusal}
+use Rattle.run_files.specs.Streams.{CountedView}
 
--- How a run ends that prints, by what the text that it read calls for, where `AtEnd` means that the reader is at its end. On Ok the reports
--- that were called for were written, whole and once. A failed write comes after all was read, and a first part of the reports was written.
--- Any other refusal is what was called for, or came while the text was read, or is out of memory; nothing was written.
-abbrev pub PrintsBy : Result (Unit {0}) RunFault → Result (List Output) RunFault → List ℕ → Type 0 → Type 0 → (List ℕ → Type 0) → Type 0
-PrintsBy (Ok _) wanted text AtEnd Unwritten Wrote = AtEnd × ((outputs : List Output) × (wanted ≡ Ok outputs) × Wrote (reports_of outputs))
-PrintsBy (Err WriteFailed) wanted text AtEnd Unwritten Wrote =
-    AtEnd × ((outputs : List Output) × (written : ℕ) × (wanted ≡ Ok outputs)
-    × (written < length (reports_of outputs)) × Wrote (take written (reports_of outputs)))
-PrintsBy (Err fault) wanted text AtEnd Unwritten Wrote = AnswersBy (Err fault) wanted text AtEnd × Unwritten
+-- the result is what is wanted, or out of memory
+abbrev pub UnlessMemory : {A : Type 0} → Result A RunFault → Result A RunFault → Type 0
+UnlessMemory wanted given = AgreesUnlessMemory run_refusal (λ x. x) given wanted
 
--- How a run ends that stores: on Ok there were outputs to store; a folder fails after fewer files than they have; any other refusal is what
--- was called for, or came while the text was read.
-abbrev pub StoresBy : Result (Unit {0}) RunFault → Result (List Output) RunFault → List ℕ → Type 0 → Type 0
-StoresBy (Ok _) wanted text AtEnd = AtEnd × IsOk wanted
-StoresBy (Err (ShelfFailed after)) wanted text AtEnd =
-    AtEnd × ((outputs : List Output) × (wanted ≡ Ok outputs) × (after < length (files_from 0 outputs)))
-StoresBy (Err fault) wanted text AtEnd = AnswersBy (Err fault) wanted text AtEnd
+-- If a step gave a value, the run goes on with it. If it gave a fault, that is the outcome, and `AsBefore` holds.
+abbrev pub GoesOn : {A B : Type 0} → Result A RunFault → Result B RunFault → Type 0 → (A → Type 0) → Type 0
+GoesOn (Ok x) outcome AsBefore Next = Next x
+GoesOn (Err fault) outcome AsBefore Next = (outcome ≡ Err fault) × AsBefore
 
--- the numbers of failed reads and writes in a run that ends so
-abbrev pub failed_reads : {A : Type 0} → Result A RunFault → ℕ
-failed_reads (Err ReadFailed) = 1
-failed_reads _ = 0
+-- one step of a run: what it may give, and how the run ends after it
+abbrev pub Step : {A B : Type 0} → (Result A RunFault → Type 0) → Result B RunFault → Type 0 → (A → Type 0) → Type 0
+Step {A} Gives outcome AsBefore Next = (given : Result A RunFault) × Gives given × GoesOn given outcome AsBefore Next
 
-abbrev pub failed_writes : {A : Type 0} → Result A RunFault → ℕ
-failed_writes (Err WriteFailed) = 1
-failed_writes _ = 0
+-- ---- what is written
+
+-- What is said of a writer over a run: nothing was written; this whole text was, and no write failed; this text was, and then one write failed.
+pub record Written : Type 1 where
+  pub Unwritten : Type 0
+  pub Wrote : List ℕ → Type 0
+  pub FailedAfter : List ℕ → Type 0
+
+-- a writer, seen by the bytes that it holds, before and after
+abbrev pub written : {W : Type 0} → (W → Option (List ℕ)) → CountedView W → CountedView W → Written
+written contents w x = record {
+  Unwritten = x ≡ w;
+  Wrote = λ text. Appends (contents w.inner) (contents x.inner) text × (x.failed ≡ w.failed);
+  FailedAfter = λ text. Appends (contents w.inner) (contents x.inner) text × (x.failed ≡ w.failed + 1);
+}
+
+-- On Ok the whole text was written. If a write failed, a first part of it was, not all.
+abbrev pub WritesText : Result (Unit {0}) RunFault → List ℕ → Written → Type 0
+WritesText (Ok _) text w = w.Wrote text
+WritesText (Err WriteFailed) text w = (written : ℕ) × (written < length text) × w.FailedAfter (take written text)
+WritesText (Err _) text w = ⊥
+
+-- the whole text was written, or a first part, and then a write failed
+abbrev pub WrittenSoFar : List ℕ → Written → Type 0
+WrittenSoFar text w = w.Wrote text ⊎ ((written : ℕ) × (written < length text) × w.FailedAfter (take written text))
 
 -- ---- what is printed of it
 
@@ -51,12 +63,7 @@ no_text = codes "error: a word of the command line is not text in UTF-8"
 abbrev pub text_with_line_feed : List ℕ → List ℕ
 text_with_line_feed text = text ++ codes "\n"
 
--- A text was written whole and no write failed, or one write failed and only a first part was written.
-abbrev pub WrittenSoFar : List ℕ → (List ℕ → Type 0) → ℕ → ℕ → Type 0
-WrittenSoFar text Wrote old_failed new_failed =
-    (Wrote text × (new_failed ≡ old_failed)) ⊎ ((written : ℕ) × (written < length text) × Wrote (take written text) × (new_failed ≡ old_failed + 1))
-
--- What is printed of an outcome: of a refusal its line, as far as the writes go, or nothing if there was no memory for the line.
-abbrev pub Tells : Result (Unit {0}) RunFault → Type 0 → (List ℕ → Type 0) → ℕ → ℕ → Type 0
-Tells (Ok _) Untouched Wrote old_failed new_failed = Untouched
-Tells (Err fault) Untouched Wrote old_failed new_failed = Untouched ⊎ WrittenSoFar (text_with_line_feed (fault_text fault)) Wrote old_failed new_failed
+-- What is printed of an outcome: of a fault its line, as far as the writes go, or nothing.
+abbrev pub Tells : Result (Unit {0}) RunFault → Written → Type 0
+Tells (Ok _) w = w.Unwritten
+Tells (Err fault) w = w.Unwritten ⊎ WrittenSoFar (text_with_line_feed (fault_text fault)) w

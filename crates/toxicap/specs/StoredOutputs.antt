@@ -1,34 +1,33 @@
--- Outputs that are stored as they are made: the files of each scenario before the next ones are made.
-use Rattle.std.specs.Prelude.{ℕ, ◌<◌, List, [], length, take, Result, Ok, Err, IsOk}
-use Rattle.lists.specs.Agreement.{Refuses}
+-- Outputs that are stored: the files of each scenario, in order.
+use Rattle.std.specs.Prelude.{◌≡◌, ℕ, ◌<◌, List, length, map, take, Option, Result, Ok, Err}
+use Rattle.disks.specs.Histories.{History, LeavesWhole}
 use Rattle.run_files.specs.declared.error.RunFault.{RunFault}
 use Rattle.run_files.specs.declared.error.RunFault.TheVariants.{Memory, ShelfFailed}
 use Rattle.run_files.specs.declared.outputs.Output.{Output}
-use Rattle.run_files.specs.RunFault.{run_refusal}
+use Rattle.run_files.specs.Folders.{TakesIn, in_folder}
 use Rattle.run_files.specs.StoredFiles.{StoredFile}
 use Rattle.run_files.specs.WrittenOutputs.{files_from}
+use Rattle.toxicap.specs.RunEnds.{Step, UnlessMemory}
 
--- the files of the outputs that are called for; a refusal calls for none
-abbrev pub files_in : Result (List Output) RunFault → List StoredFile
-files_in (Ok outputs) = files_from 0 outputs
-files_in (Err fault) = []
+-- a disk's history before and after a run, or none if the disk tells none
+pub record ToldDisk : Type 0 where
+  pub before : Option History
+  pub after : Option History
 
--- How storing ends, by what is called for: well if outputs are; the folder fails before it has all files; any other refusal is what is called
--- for, and out of memory is answered only if nothing is refused.
-abbrev pub StoresOf : Result (Unit {0}) RunFault → Result (List Output) RunFault → Type 0
-StoresOf (Ok _) wanted = IsOk wanted
-StoresOf (Err (ShelfFailed after)) wanted = after < length (files_in wanted)
-StoresOf (Err fault) wanted = Refuses (run_refusal fault) wanted
+abbrev pub told_disk : Option History → Option History → ToldDisk
+told_disk before after = record { before = before; after = after }
 
--- the same of a call that may be out of memory before it has seen every fault
-abbrev pub StoresUnlessMemory : Result (Unit {0}) RunFault → Result (List Output) RunFault → Type 0
-StoresUnlessMemory (Err Memory) wanted = Unit {0}
-StoresUnlessMemory outcome wanted = StoresOf outcome wanted
+-- How storing files ends, where `Took` says which files got names: all; the first `after`, if the folder fails then; some first ones, if memory
+-- runs out.
+abbrev pub StoresFiles : Result (Unit {0}) RunFault → List StoredFile → (List StoredFile → Type 0) → Type 0
+StoresFiles (Ok _) files Took = Took files
+StoresFiles (Err (ShelfFailed after)) files Took = (after < length files) × Took (take after files)
+StoresFiles (Err Memory) files Took = (stored : ℕ) × Took (take stored files)
+StoresFiles (Err _) files Took = ⊥
 
--- The files that are stored then, where `Took` means that some were: all of them; a first part if the folder failed or memory ran out; and
--- none if the run was refused.
-abbrev pub FilesOf : Result (Unit {0}) RunFault → Result (List Output) RunFault → (List StoredFile → Type 0) → Type 0
-FilesOf (Ok _) wanted Took = Took (files_in wanted)
-FilesOf (Err (ShelfFailed after)) wanted Took = Took (take after (files_in wanted))
-FilesOf (Err Memory) wanted Took = (stored : ℕ) × Took (take stored (files_in wanted))
-FilesOf (Err fault) wanted Took = Took []
+-- How storing in a folder ends, by what is called for: on a refusal no file gets a name. Else files are stored in order until one fails.
+-- Whenever the run was cut off, each path held what it had held before, or one of these files whole.
+abbrev pub StoresIn : List ℕ → Result (Unit {0}) RunFault → Result (List Output) RunFault → ToldDisk → Type 0
+StoresIn folder outcome wanted disk = Step (UnlessMemory wanted) outcome (disk.after ≡ disk.before) (λ outputs.
+    StoresFiles outcome (files_from 0 outputs) (TakesIn folder disk.before disk.after)
+    × LeavesWhole disk.before disk.after (map (in_folder folder) (files_from 0 outputs)))

@@ -1,10 +1,8 @@
 //! From the text of a capture and the texts of scenarios to what each scenario answers.
-ghost use Rattle.std.specs.Prelude.{◌≡◌, ℕ, ◌+◌, ◌-◌, ◌^◌, ◌<◌, List, map};
-ghost use Rattle.std.specs.Io.KnownBytes.{Consumes, IsAtEnd};
-ghost use Rattle.lists.specs.Agreement.{AgreesUnlessMemory};
-ghost use Rattle.toxicap.specs.Answering.{AnswersBy, called_for};
-ghost use Rattle.toxicap.specs.RunEnds.{failed_reads};
-ghost use Rattle.run_files.specs.RunFault.{run_refusal};
+ghost use Rattle.std.specs.Prelude.{◌-◌, ◌^◌, ◌<◌, map};
+ghost use Rattle.toxicap.specs.Answering.{called_for};
+ghost use Rattle.toxicap.specs.Inputs.{LoadedBy};
+ghost use Rattle.toxicap.specs.RunEnds.{Step, UnlessMemory};
 
 use crate::crews::{Crew, Workers};
 use crate::reading::read_inputs;
@@ -42,12 +40,8 @@ pub fn answers<H: Threads + Wait + Sync, R: Read>(
     options: &Options,
 ) -> Result<Outputs, RunFault>
     requires { reader.old.failed < 2 ^ 64 - 1 }
-
-    ensures answer { (text : List ℕ)
-        × Consumes (R.remaining reader.old.inner) (R.remaining reader.new.inner) text
-        × AnswersBy result (called_for options.now.hosts (map (λ t. t.now) texts.now) options.now.seed text) text (IsAtEnd (R.remaining reader.new.inner)) }
-
-    ensures failed { reader.new.failed ≡ reader.old.failed + failed_reads result }
+    ensures { Step (LoadedBy R.remaining reader.old reader.new) result (Unit {0})
+        (λ text. UnlessMemory (called_for options.now.hosts (map (λ t. t.now) texts.now) options.now.seed text) result) }
 {
     let text = load(alloc, reader)?;
     let crew = Workers {
@@ -74,7 +68,7 @@ pub(crate) fn answers_by<C: Crew>(
     seed: u64,
 ) -> Result<Outputs, RunFault>
     requires { C.shares crew.now }
-    ensures { AgreesUnlessMemory run_refusal (λ outputs. outputs) result (called_for hosts.now (map (λ t. t.now) texts.now) seed text.entry) }
+    ensures { UnlessMemory (called_for hosts.now (map (λ t. t.now) texts.now) seed text.entry) result }
 {
     let inputs = read_inputs(alloc, text, texts, hosts)?;
     rehearse_by(crew, alloc, inputs.capture.bytes(), &inputs.scenarios, seed)

@@ -1,18 +1,17 @@
 //! The program: from the words of its command line to an exit status.
-ghost use Rattle.std.specs.Prelude.{◌≡◌, ◌≢◌, ◌+◌, ◌-◌, ◌^◌, ◌<◌, ◌≤◌, map, Result, Err};
+ghost use Rattle.std.specs.Prelude.{◌≡◌, ◌≢◌, ◌+◌, ◌-◌, ◌^◌, ◌<◌, ◌≤◌, map, None, Result, Err};
 ghost use Rattle.std.specs.IoError.{error_kind};
-ghost use Rattle.std.specs.Io.KnownBytes.{Appends};
 ghost use Rattle.command_line.specs.Asking.{ReadsAs};
 ghost use Rattle.command_line.specs.declared.asked.Asked.{Asked};
 ghost use Rattle.command_line.specs.declared.error.Stop.{Stop};
-ghost use Rattle.toxicap.specs.Commands.{ProgramEnds, fault_stream, streams};
-ghost use Rattle.toxicap.specs.NamedFiles.{ProgramEndsOver};
-ghost use Rattle.toxicap.specs.RunEnds.{no_text, status_of, text_with_line_feed, usage_status, Tells, WrittenSoFar};
+ghost use Rattle.toxicap.specs.Commands.{ProgramEnds, failed_calls, folder_of, streams};
+ghost use Rattle.toxicap.specs.RunEnds.{Tells, WrittenSoFar, no_text, status_of, text_with_line_feed, usage_status, written};
+ghost use Rattle.toxicap.specs.StoredOutputs.{told_disk};
 
 use crate::runs::run_asked;
 use command_line::{Stop, read_arguments};
 use disks::{HostDisk, Lockable, ReadDisk};
-use run_files::{Counted, RunFault, fault_line, write_bytes};
+use run_files::{Counted, RunFault, fault_line, write_bytes, write_texts};
 use std::alloc::Global;
 use std::convert::AsStr;
 use std::io::{Error, ErrorKind, Read, Write};
@@ -51,8 +50,8 @@ where
     ensures usage { result ≡ 2 → (input.new ≡ input.old) × (output.new ≡ output.old) }
 
     ensures ends { (line : Result Asked Stop) × (outcome : Result (Unit {0}) RunFault) × ReadsAs (map S.text words.now) line
-        × ProgramEnds line result outcome
-        (streams I.remaining input.old input.new O.contents output.old output.new) (fault_stream E.contents faults.old faults.new) }
+        × ProgramEnds line result outcome (told_disk None None)
+        (streams I.remaining input.old input.new O.contents output.old output.new) (written E.contents faults.old faults.new) }
 {
     let mut disk = HostDisk::new(rt);
     command_over(rt, &mut disk, alloc, words, input, output, faults).0
@@ -94,8 +93,9 @@ where
     ensures quiet { result.0 ≡ 0 → faults.new ≡ faults.old }
     ensures usage { result.0 ≡ 2 → (input.new ≡ input.old) × (output.new ≡ output.old) }
     ensures ends { (line : Result Asked Stop) × ReadsAs (map S.text words.now) line
-        × ProgramEndsOver (D.history disk.old) (D.history disk.new) (λ n. D.faults disk.new ≡ D.faults disk.old + n) line result.0 result.1
-        (streams I.remaining input.old input.new O.contents output.old output.new) (fault_stream E.contents faults.old faults.new) }
+        × ProgramEnds line result.0 result.1 (told_disk (D.history disk.old) (D.history disk.new))
+        (streams I.remaining input.old input.new O.contents output.old output.new) (written E.contents faults.old faults.new)
+        × (D.faults disk.new ≡ D.faults disk.old + failed_calls (folder_of line) result.1) }
 {
     match read_arguments(alloc, words) {
         Ok(asked) => {
@@ -121,10 +121,9 @@ where
 /// else 2, with a line that says that a word is no text.
 pub fn refuse_words<E: Write>(alloc: Global, error: &Error, faults: &mut Counted<E>) -> u8
     requires { faults.old.failed < 2 ^ 64 - 1 }
-    ensures memory { error_kind error.now ≡ ErrorKind.OutOfMemory → (result ≡ 1) × Tells (Err RunFault.Memory) (faults.new ≡ faults.old)
-        (Appends (E.contents faults.old.inner) (E.contents faults.new.inner)) faults.old.failed faults.new.failed }
-    ensures no_text { error_kind error.now ≢ ErrorKind.OutOfMemory → (result ≡ usage_status) × WrittenSoFar (text_with_line_feed no_text)
-        (Appends (E.contents faults.old.inner) (E.contents faults.new.inner)) faults.old.failed faults.new.failed }
+    ensures memory { error_kind error.now ≡ ErrorKind.OutOfMemory → (result ≡ 1) × Tells (Err RunFault.Memory) (written E.contents faults.old faults.new) }
+    ensures no_text { error_kind error.now ≢ ErrorKind.OutOfMemory → (result ≡ usage_status)
+        × WrittenSoFar (text_with_line_feed no_text) (written E.contents faults.old faults.new) }
 {
     if error.kind() == ErrorKind::OutOfMemory {
         return report_outcome(alloc, Err(RunFault::Memory), faults);
@@ -140,8 +139,7 @@ fn report_outcome<W: Write>(
 ) -> u8
     requires { faults.old.failed < 2 ^ 64 - 1 }
     ensures status { result ≡ status_of outcome }
-    ensures told { Tells outcome (faults.new ≡ faults.old)
-        (Appends (W.contents faults.old.inner) (W.contents faults.new.inner)) faults.old.failed faults.new.failed }
+    ensures told { Tells outcome (written W.contents faults.old faults.new) }
 {
     let Err(fault) = outcome else {
         return 0;
@@ -154,19 +152,14 @@ fn report_outcome<W: Write>(
 
 fn write_text<W: Write>(writer: &mut Counted<W>, text: &[u8])
     requires { writer.old.failed < 2 ^ 64 - 1 }
-    ensures { WrittenSoFar text.now (Appends (W.contents writer.old.inner) (W.contents writer.new.inner))
-        writer.old.failed writer.new.failed }
+    ensures { WrittenSoFar text.now (written W.contents writer.old writer.new) }
 {
     let _ = write_bytes(writer, text);
 }
 
 fn write_line<W: Write>(writer: &mut Counted<W>, line: &[u8])
     requires { writer.old.failed < 2 ^ 64 - 1 }
-    ensures { WrittenSoFar (text_with_line_feed line.now) (Appends (W.contents writer.old.inner) (W.contents writer.new.inner))
-        writer.old.failed writer.new.failed }
+    ensures { WrittenSoFar (text_with_line_feed line.now) (written W.contents writer.old writer.new) }
 {
-    let Ok(()) = write_bytes(writer, line) else {
-        return;
-    };
-    write_text(writer, b"\n");
+    let _ = write_texts(writer, &[line, b"\n"]);
 }

@@ -1,10 +1,11 @@
 //! Who does the work of a rehearsal: workers in threads, or one thread alone.
 use conn_table::Table;
+pub(crate) use conn_workers::Workers;
 use conn_workers::{
     Recordings, RowShares, ShareTexts, deliver_row, deliver_row_alone, record, record_alone,
     report_texts, report_texts_alone,
 };
-use job_matrix::{Plan, Through};
+use job_matrix::Through;
 use pcap_records::{Capture, Values};
 use range_workers::{table, table_alone};
 use scenarios::Scenario;
@@ -14,11 +15,11 @@ use std::thread::Threads;
 /// Who makes the table of a capture, what is recorded of its connections, and what these contribute to a scenario. No answer depends on
 /// who it is.
 pub(crate) trait Crew {
-    ghost use Rattle.std.specs.Prelude.{◌≡◌, ◌+◌, ◌≤◌, IfOk, length};
-    ghost use Rattle.std.specs.List.{flat_map};
+    ghost use Rattle.std.specs.Prelude.{◌≡◌, ◌≤◌, IfOk, length};
     ghost use Rattle.conn_workers.specs.CaptureTables.{whole_table};
-    ghost use Rattle.conn_workers.specs.Recordings.{recordings_of, recorded_row};
+    ghost use Rattle.conn_workers.specs.Recordings.{recordings_of};
     ghost use Rattle.conn_workers.specs.ReportTexts.{HoldLines};
+    ghost use Rattle.conn_workers.specs.RowShares.{HoldRow};
     ghost use Rattle.toxicap.specs.Rehearsal.{scenario_limit};
 
     // What starts its threads may be shared among them.
@@ -50,7 +51,7 @@ pub(crate) trait Crew {
         requires shares { shares self.now }
         requires table { table.now ≡ whole_table capture.now }
         requires few { length scenarios.now ≤ scenario_limit }
-        ensures { IfOk result (HoldLines seed 0 scenarios.now (recordings_of capture.now)) };
+        ensures { IfOk result (HoldLines seed scenarios.now (recordings_of capture.now)) };
 
     /// What the connections contribute to a scenario with its number, in shares one after another.
     fn deliver_row<'w, 'a>(
@@ -62,10 +63,7 @@ pub(crate) trait Crew {
         seed: u64,
     ) -> Result<RowShares<'w, 'a>, AllocError>
         requires { shares self.now }
-        ensures segments { IfOk result (λ v. flat_map (λ s. s.segments) v
-            ≡ flat_map (λ d. d.segments) (recorded_row seed (number, scenario.now) recordings.now)) }
-        ensures lines { IfOk result (λ v. flat_map (λ s. s.lines) v
-            ≡ flat_map (λ d. d.line) (recorded_row seed (number, scenario.now) recordings.now)) };
+        ensures { IfOk result (HoldRow seed (number, scenario.now) recordings.now) };
 }
 
 /// The thread of the call only.
@@ -96,7 +94,7 @@ impl Crew for Alone {
         scenarios: &[Scenario],
         seed: u64,
     ) -> Result<Values<ShareTexts>, AllocError> {
-        report_texts_alone(alloc, capture, table, 0, scenarios, seed)
+        report_texts_alone(alloc, capture, table, scenarios, seed)
     }
 
     fn deliver_row<'w, 'a>(
@@ -109,13 +107,6 @@ impl Crew for Alone {
     ) -> Result<RowShares<'w, 'a>, AllocError> {
         deliver_row_alone(alloc, recordings, number, scenario, seed)
     }
-}
-
-/// The workers of a plan.
-#[derive(Drop)]
-pub(crate) struct Workers<'r, R: Threads + Sync> {
-    pub(crate) rt: &'r R,
-    pub(crate) plan: Plan,
 }
 
 impl<'r, R: Threads + Sync> Crew for Workers<'r, R> {
@@ -144,9 +135,7 @@ impl<'r, R: Threads + Sync> Crew for Workers<'r, R> {
         scenarios: &[Scenario],
         seed: u64,
     ) -> Result<Values<ShareTexts>, AllocError> {
-        report_texts(
-            self.rt, alloc, capture, table, 0, scenarios, seed, self.plan, &Through,
-        )
+        report_texts(self, alloc, capture, table, scenarios, seed, &Through)
     }
 
     fn deliver_row<'w, 'a>(
@@ -157,8 +146,6 @@ impl<'r, R: Threads + Sync> Crew for Workers<'r, R> {
         scenario: &Scenario,
         seed: u64,
     ) -> Result<RowShares<'w, 'a>, AllocError> {
-        deliver_row(
-            self.rt, alloc, recordings, number, scenario, seed, self.plan, &Through,
-        )
+        deliver_row(self, alloc, recordings, number, scenario, seed, &Through)
     }
 }

@@ -1,13 +1,13 @@
 //! What a scenario answers, of what each connection contributes to it.
-ghost use Rattle.std.specs.Prelude.{◌≡◌, ◌≤◌, ◌+◌, All, IfOk, OnOk, drop, length, take};
+ghost use Rattle.toxicap.specs.GatheredOutputs.{gathered_output, lines_in, segments_in};
+ghost use Rattle.conn_table.specs.SeenCapture.{seen_capture};
 ghost use Rattle.std.specs.Vec.Iter.{into_iter_items, into_iter_len};
 ghost use Rattle.pcap_records.specs.CaptureView.{contents_of};
-ghost use Rattle.conn_table.specs.SeenCapture.{seen_capture};
 ghost use Rattle.segment_writer.specs.KeyLaws.{HasNoKeyTwice};
-ghost use Rattle.segment_writer.specs.WrittenSegments.{sorted_by_key};
-ghost use Rattle.time_merge.specs.MergedCapture.{all_segments};
 ghost use Rattle.conn_workers.specs.CaptureTables.{whole_table};
-ghost use Rattle.toxicap.specs.GatheredOutputs.{gathered_output, lines_in, segments_in};
+ghost use Rattle.segment_writer.specs.WrittenSegments.{sorted_by_key};
+ghost use Rattle.std.specs.Prelude.{◌≡◌, ◌≤◌, ◌+◌, All, IfOk, OnOk, drop, length, take};
+ghost use Rattle.time_merge.specs.MergedCapture.{all_segments};
 
 use conn_table::Table;
 use conn_workers::Delivery;

@@ -1,10 +1,9 @@
 //! Hosts as they are written, each `NAME=ADDR`: words of a command line, or the lines of a text.
 ghost use Rattle.std.specs.Prelude.{◌≡◌, ◌<◌, [], length, map, option_map, IfErr, IfOk};
 ghost use Rattle.std.specs.List.{slice_split};
-ghost use Rattle.lists.specs.Agreement.{AgreesUnlessMemory};
-ghost use Rattle.run_files.specs.RunFault.{run_refusal};
 ghost use Rattle.toxicap.specs.HostLines.{host_lines, is_line_feed, without_last_feed};
 ghost use Rattle.toxicap.specs.Inputs.{AddsHost, IsOfHost, cut_at_first, equals_sign, host_written, hosts_from};
+ghost use Rattle.toxicap.specs.RunEnds.{UnlessMemory};
 
 use run_files::RunFault;
 use scenarios::laws::addresses_are_dotted;
@@ -14,7 +13,7 @@ use std::alloc::{AllocError, Global};
 /// The hosts of a command line, each `NAME=ADDR`, cut at its first `=`.
 #[tactic(auto, unfolding(crate::specs::Inputs::hosts_from))]
 pub(crate) fn read_hosts(alloc: Global, written: &[&str]) -> Result<Hosts, RunFault>
-    ensures exact { AgreesUnlessMemory run_refusal (λ hosts. hosts) result (hosts_from [] (map (λ host. host.now) written.now)) }
+    ensures exact { UnlessMemory (hosts_from [] (map (λ host. host.now) written.now)) result }
     ensures of_host { IfErr result IsOfHost }
 {
     let mut hosts = Hosts::new(alloc);
@@ -32,7 +31,7 @@ pub(crate) fn read_hosts(alloc: Global, written: &[&str]) -> Result<Hosts, RunFa
 /// [`RunFault::Memory`].
 #[tactic(auto, unfolding(crate::specs::Inputs::hosts_from))]
 pub fn read_host_lines(alloc: Global, text: &[u8]) -> Result<Hosts, RunFault>
-    ensures exact { AgreesUnlessMemory run_refusal (λ hosts. hosts) result (hosts_from [] (host_lines text.now)) }
+    ensures exact { UnlessMemory (hosts_from [] (host_lines text.now)) result }
     ensures of_host { IfErr result IsOfHost }
 {
     let lines = lines_of(alloc, text)?;

@@ -1,8 +1,9 @@
 //! Theorems about the definitions of this crate: the contracts of functions that do nothing, or name the theorems that they stand on.
+ghost use Rattle.toxicap.specs.Answering.{RefusedByTexts};
 ghost use Rattle.toxicap.specs.SoundOutputs.{OutputsAreRead};
 ghost use Rattle.toxicap.specs.IsolatedOutputs.{OutputsAreIsolated};
 ghost use Rattle.toxicap.specs.KilledRuns.{KilledRunsAreMended};
-ghost use Rattle.toxicap.specs.NamedFiles.{FilesAreLoadedInOrder};
+ghost use Rattle.toxicap.specs.Inputs.{FilesAreLoadedInOrder};
 ghost use Rattle.toxicap.specs.Rehearsal.{ByteOrderDoesNotMatter};
 ghost use Rattle.toxicap.specs.SeenLengths.{ReportsSeeLengths};
 
@@ -32,6 +33,11 @@ pub fn outputs_are_read()
     segments_fit();
     sorted_never_falls();
 }
+
+/// What a text calls for is refused only by a fault of the texts: no host is refused then, and no call of a reader, a writer or a shelf has failed.
+pub fn refused_by_texts()
+    ensures { RefusedByTexts }
+{}
 
 /// Named files are loaded in order, each at its own path; if some cannot be loaded, the fault of the first of them counts.
 pub fn files_are_loaded_in_order()

@@ -1,10 +1,11 @@
 //! Rehearsals by the thread of the call only. They take no runtime.
 ghost use Rattle.std.specs.Prelude.{map};
-ghost use Rattle.lists.specs.Agreement.{Agrees, AgreesUnlessMemory};
+ghost use Rattle.lists.specs.Agreement.{Agrees};
 ghost use Rattle.run_files.specs.RunFault.{run_refusal};
 ghost use Rattle.toxicap.specs.Answering.{called_for};
 ghost use Rattle.toxicap.specs.PrintedReports.{reports_in};
 ghost use Rattle.toxicap.specs.Rehearsal.{answer};
+ghost use Rattle.toxicap.specs.RunEnds.{UnlessMemory};
 
 use crate::answering::answers_by;
 use crate::crews::Alone;
@@ -50,7 +51,7 @@ pub fn answers_alone(
     hosts: &Hosts,
     seed: u64,
 ) -> Result<Outputs, RunFault>
-    ensures { AgreesUnlessMemory run_refusal (λ outputs. outputs) result (called_for hosts.now (map (λ t. t.now) texts.now) seed text.now) }
+    ensures { UnlessMemory (called_for hosts.now (map (λ t. t.now) texts.now) seed text.now) result }
 {
     answers_by(&Alone, alloc, Text::lent(text), texts, hosts, seed)
 }
@@ -63,7 +64,7 @@ pub fn report_answers_alone(
     hosts: &Hosts,
     seed: u64,
 ) -> Result<ReportText, RunFault>
-    ensures { AgreesUnlessMemory run_refusal (λ reports. reports) result (reports_in (called_for hosts.now (map (λ t. t.now) texts.now) seed text.now)) }
+    ensures { UnlessMemory (reports_in (called_for hosts.now (map (λ t. t.now) texts.now) seed text.now)) result }
 {
     let reports = text_reports(&Alone, alloc, Text::lent(text), texts, hosts, seed)?;
     let text = reports.text(alloc)?;

@@ -1,13 +1,13 @@
 //! What a rehearsal takes, read of texts.
-ghost use Rattle.std.specs.Prelude.{◌≡◌, ℕ, ◌≤◌, [], IfErr, IfOk, Err, Ok, List, length, map};
+ghost use Rattle.std.specs.Prelude.{◌≡◌, ℕ, ◌≤◌, [], IfErr, IfOk, Err, Ok, length, map};
 ghost use Rattle.lists.specs.Agreement.{AgreesUnlessMemory, Refuses};
 ghost use Rattle.pcap_records.specs.CaptureView.{bytes_of};
 ghost use Rattle.run_files.specs.RunFault.{run_refusal};
-ghost use Rattle.run_files.specs.declared.outputs.Output.{Output};
 ghost use Rattle.scenarios.specs.Populate.{scenario};
 ghost use Rattle.toxicap.specs.Answering.{called_for, numbered, scenarios_from};
 ghost use Rattle.toxicap.specs.CaptureOutputs.{outputs_for};
 ghost use Rattle.toxicap.specs.Rehearsal.{answer, scenario_limit};
+ghost use Rattle.toxicap.specs.RunEnds.{UnlessMemory};
 
 use pcap_records::{CAPTURE_LIMIT, Capture, FileBytes, read_file};
 use run_files::{RunFault, Text};
@@ -36,8 +36,7 @@ pub(crate) fn read_inputs<'t>(
     hosts: &Hosts,
 ) -> Result<Inputs<'t>, RunFault>
     ensures taken { IfOk result (λ i. (seed : ℕ) → called_for hosts.now (map (λ t. t.now) texts.now) seed text.entry ≡ answer i.capture i.scenarios.items seed) }
-    ensures refused { IfErr result (λ fault. (seed : ℕ) → AgreesUnlessMemory run_refusal (λ (outputs : List Output). outputs) (Err fault)
-        (called_for hosts.now (map (λ t. t.now) texts.now) seed text.entry)) }
+    ensures refused { IfErr result (λ fault. (seed : ℕ) → UnlessMemory (called_for hosts.now (map (λ t. t.now) texts.now) seed text.entry) (Err fault)) }
 {
     let len = text.bytes().len();
     if len > CAPTURE_LIMIT {
@@ -65,7 +64,7 @@ pub(crate) fn read_texts(
 }
 
 fn read_text(alloc: Global, number: usize, text: &[u8], hosts: &Hosts) -> Result<Scenario, RunFault>
-    ensures { AgreesUnlessMemory run_refusal (λ s. s) result (numbered number (scenario hosts.now text.now)) }
+    ensures { UnlessMemory (numbered number (scenario hosts.now text.now)) result }
 {
     match read_scenario(alloc, text, hosts) {
         Ok(scenario) => Ok(scenario),

@@ -1,16 +1,17 @@
 //! The reports of a rehearsal alone, held in memory: no segment is written, and no capture made.
-ghost use Rattle.std.specs.Prelude.{◌≡◌, ◌≤◌, IfErr, IfOk, List, length, map, ℕ};
-ghost use Rattle.lists.specs.Agreement.{Agrees, AgreesUnlessMemory};
-ghost use Rattle.pcap_records.specs.CaptureView.{bytes_of, capture_refusal};
-ghost use Rattle.pcap_records.specs.Heads.{heads_in};
-ghost use Rattle.pcap_records.specs.Reading.{capture_limit, reading};
 ghost use Rattle.run_files.specs.RunFault.{run_refusal};
-ghost use Rattle.run_files.specs.SeenTexts.{IsSeenOf};
-ghost use Rattle.run_files.specs.WrittenOutputs.{reports_of};
-ghost use Rattle.toxicap.specs.Answering.{IsOfText, called_for};
-ghost use Rattle.toxicap.specs.CaptureOutputs.{outputs_for};
 ghost use Rattle.toxicap.specs.PrintedReports.{reports_in};
+ghost use Rattle.run_files.specs.WrittenOutputs.{reports_of};
+ghost use Rattle.toxicap.specs.Answering.{called_for};
+ghost use Rattle.pcap_records.specs.CaptureView.{bytes_of, capture_refusal};
+ghost use Rattle.lists.specs.Agreement.{Agrees, AgreesUnlessMemory};
+ghost use Rattle.pcap_records.specs.Reading.{capture_limit, reading};
 ghost use Rattle.toxicap.specs.Rehearsal.{answer, scenario_limit};
+ghost use Rattle.pcap_records.specs.Heads.{heads_in};
+ghost use Rattle.std.specs.Prelude.{◌≡◌, ◌≤◌, IfOk, List, length, map, ℕ};
+ghost use Rattle.run_files.specs.SeenTexts.{IsSeenOf};
+ghost use Rattle.toxicap.specs.RunEnds.{UnlessMemory};
+ghost use Rattle.toxicap.specs.CaptureOutputs.{outputs_for};
 
 use crate::crews::Crew;
 use crate::held_reports::HeldReports;
@@ -33,9 +34,8 @@ pub(crate) fn seen_reports<C: Crew>(
     seed: u64,
 ) -> Result<HeldReports, RunFault>
     requires { C.shares crew.now }
-    ensures told { (text : List ℕ) → length text ≤ capture_limit → IsSeenOf seen text → AgreesUnlessMemory run_refusal (λ reports. reports) result
-        (reports_in (called_for hosts.now (map (λ t. t.now) texts.now) seed text)) }
-    ensures of_text { IfErr result IsOfText }
+    ensures { (text : List ℕ) → length text ≤ capture_limit → IsSeenOf seen text
+        → UnlessMemory (reports_in (called_for hosts.now (map (λ t. t.now) texts.now) seed text)) result }
 {
     match seen {
         SeenText::Dump(text) => text_reports(crew, alloc, text, texts, hosts, seed),
@@ -56,8 +56,7 @@ pub(crate) fn text_reports<C: Crew>(
     seed: u64,
 ) -> Result<HeldReports, RunFault>
     requires { C.shares crew.now }
-    ensures { AgreesUnlessMemory run_refusal (λ reports. reports) result
-        (reports_in (called_for hosts.now (map (λ t. t.now) texts.now) seed text.entry)) }
+    ensures { UnlessMemory (reports_in (called_for hosts.now (map (λ t. t.now) texts.now) seed text.entry)) result }
 {
     let inputs = read_inputs(alloc, text, texts, hosts)?;
     rehearse_reports(crew, alloc, inputs.capture.bytes(), &inputs.scenarios, seed)
@@ -72,9 +71,8 @@ fn head_reports<C: Crew>(
     seed: u64,
 ) -> Result<HeldReports, RunFault>
     requires { C.shares crew.now }
-    ensures told { (bytes : List ℕ) → AgreesUnlessMemory capture_refusal (λ h. h) heads (heads_in (reading bytes))
-        → AgreesUnlessMemory run_refusal (λ reports. reports) result (reports_in (answer bytes scenarios.now seed)) }
-    ensures of_text { IfErr result IsOfText }
+    ensures { (bytes : List ℕ) → AgreesUnlessMemory capture_refusal (λ h. h) heads (heads_in (reading bytes))
+        → UnlessMemory (reports_in (answer bytes scenarios.now seed)) result }
 {
     report_sees_heads();
     if scenarios.len() > SCENARIO_LIMIT {

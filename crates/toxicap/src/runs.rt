@@ -1,20 +1,18 @@
 //! A run that a command line asks for.
-ghost use Rattle.std.specs.Prelude.{◌≡◌, ◌+◌, ◌-◌, ◌^◌, ◌<◌, ◌≤◌, ℕ, List, Result, map, IfErr, [], length, IfNone, IfOk, IfSome, Some};
-ghost use Rattle.std.specs.Io.KnownBytes.{Appends, Consumes, IsAtEnd};
+ghost use Rattle.toxicap.specs.Inputs.{IsOfFiles, LoadedBy, LoadsCapture, texts_from, texts_or_bare};
+ghost use Rattle.disks.specs.Histories.{held_now};
+ghost use Rattle.std.specs.Prelude.{◌≡◌, ◌+◌, ◌-◌, ◌^◌, ◌<◌, ◌≤◌, ℕ, List, Result, map, IfErr, [], length, IfOk, IfSome};
+ghost use Rattle.lists.specs.Agreement.{AgreesUnlessMemory};
+ghost use Rattle.toxicap.specs.PrintedReports.{PrintsOf};
 ghost use Rattle.command_line.specs.Asking.{IsPlanInRange};
 ghost use Rattle.run_files.specs.declared.error.RunFault.{RunFault};
+ghost use Rattle.toxicap.specs.RunEnds.{written};
 ghost use Rattle.toxicap.specs.Answering.{called_for};
-ghost use Rattle.toxicap.specs.Commands.{RunsBy, streams};
-ghost use Rattle.disks.specs.Histories.{held_now};
-ghost use Rattle.run_files.specs.SeenTexts.{LoadsInput, SeesAs};
-ghost use Rattle.toxicap.specs.NamedFiles.{LeavesDisk, LoadsFile, RunsOver, failed_calls, texts_from};
-ghost use Rattle.toxicap.specs.PrintedReports.{PrintsLoaded};
-ghost use Rattle.run_files.specs.Folders.{failed_stores};
-ghost use Rattle.toxicap.specs.StoredOutputs.{StoresUnlessMemory};
-ghost use Rattle.toxicap.specs.RunEnds.{failed_writes};
-ghost use Rattle.lists.specs.Agreement.{AgreesUnlessMemory};
+ghost use Rattle.toxicap.specs.StoredOutputs.{StoresIn, told_disk};
 ghost use Rattle.pcap_records.specs.Reading.{capture_limit};
-ghost use Rattle.toxicap.specs.Inputs.{IsOfFiles, texts_or_bare};
+ghost use Rattle.run_files.specs.Folders.{failed_stores};
+ghost use Rattle.run_files.specs.SeenTexts.{IsSeenOf, SeesAs};
+ghost use Rattle.toxicap.specs.Commands.{RunsBy, failed_calls, streams};
 ghost use Rattle.run_files.specs.RunFault.{run_refusal};
 
 use crate::answering::Options;
@@ -53,12 +51,10 @@ where
     requires faults { D.faults disk.old < 2 ^ 64 - 1 }
     requires reads { reader.old.failed < 2 ^ 64 - 1 }
     requires writes { writer.old.failed < 2 ^ 64 - 1 }
-    ensures runs { RunsBy asked.now result (streams R.remaining reader.old reader.new W.contents writer.old writer.new) }
-    ensures named { IfSome (D.history disk.old) (λ h. RunsOver h asked.now result (streams R.remaining reader.old reader.new W.contents writer.old writer.new) (D.history disk.new)) }
+    ensures runs { RunsBy asked.now result (told_disk (D.history disk.old) (D.history disk.new))
+        (streams R.remaining reader.old reader.new W.contents writer.old writer.new) }
     ensures failed_calls { D.faults disk.new ≡ D.faults disk.old + failed_calls asked.now.out result }
-    ensures failed_writes { writer.new.failed ≡ writer.old.failed + failed_writes result }
 {
-    names_leave_whole();
     let hosts = read_hosts(alloc, &asked.hosts)?;
     let mut read = ReadFiles::new(alloc);
     let files = load_files(alloc, disk, &asked.scenarios, &mut read)?;
@@ -69,35 +65,27 @@ where
         plan: Plan::new(asked.workers, asked.cut).unwrap(),
     };
     let Some(folder) = asked.out else {
-        return print_answers(rt, disk, alloc, asked, reader, writer, &texts, &options);
+        let seen = see_capture(alloc, disk, asked, reader)?;
+        return print_answers(rt, alloc, seen, writer, &texts, &options);
     };
     let text = load_capture(rt, alloc, disk, asked, options.plan, reader, &mut read)?;
-    store_answers(rt, disk, alloc, text, folder, read, &texts, &options)
+    let folder = Folder::new(folder, read);
+    store_answers(rt, disk, alloc, text, &folder, &texts, &options)
 }
 
 // All reports are made before the first byte is written.
-fn print_answers<H: Threads + Wait + Sync, D: ReadDisk, R: Read, W: Write>(
+fn print_answers<H: Threads + Wait + Sync, W: Write>(
     rt: &H,
-    disk: &D,
     alloc: Global,
-    asked: &Asked<'_>,
-    reader: &mut Counted<R>,
+    seen: SeenText,
     writer: &mut Counted<W>,
     texts: &[&[u8]],
     options: &Options,
 ) -> Result<(), RunFault>
-    requires reads { reader.old.failed < 2 ^ 64 - 1 }
-    requires writes { writer.old.failed < 2 ^ 64 - 1 }
-    ensures printed { (loaded : Result (List ℕ) RunFault) × IfOk loaded (λ text. length text ≤ capture_limit)
-        × PrintsLoaded result loaded (called_for options.now.hosts (map (λ t. t.now) texts.now) options.now.seed) (writer.new ≡ writer.old)
-        (Appends (W.contents writer.old.inner) (W.contents writer.new.inner))
-        × IfNone asked.now.capture (LoadsInput (λ text. text) loaded
-        (Consumes (R.remaining reader.old.inner) (R.remaining reader.new.inner)) (IsAtEnd (R.remaining reader.new.inner))
-        reader.old.failed reader.new.failed)
-        × IfSome asked.now.capture (λ path. LoadsFile (λ text. text) loaded (D.history disk.now) path.now (reader.new ≡ reader.old)) }
-    ensures failed_writes { writer.new.failed ≡ writer.old.failed + failed_writes result }
+    requires { writer.old.failed < 2 ^ 64 - 1 }
+    ensures { (text : List ℕ) → length text ≤ capture_limit → IsSeenOf seen text
+        → PrintsOf result (called_for options.now.hosts (map (λ t. t.now) texts.now) options.now.seed text) (written W.contents writer.old writer.new) }
 {
-    let seen = see_capture(alloc, disk, asked, reader)?;
     let crew = Workers {
         rt,
         plan: options.plan,
@@ -115,10 +103,7 @@ fn see_capture<D: ReadDisk, R: Read>(
 ) -> Result<SeenText, RunFault>
     requires { reader.old.failed < 2 ^ 64 - 1 }
     ensures { (loaded : Result (List ℕ) RunFault) × SeesAs result loaded × IfOk loaded (λ text. length text ≤ capture_limit)
-        × IfNone asked.now.capture (LoadsInput (λ text. text) loaded
-        (Consumes (R.remaining reader.old.inner) (R.remaining reader.new.inner)) (IsAtEnd (R.remaining reader.new.inner))
-        reader.old.failed reader.new.failed)
-        × IfSome asked.now.capture (λ path. LoadsFile (λ text. text) loaded (D.history disk.now) path.now (reader.new ≡ reader.old)) }
+        × LoadsCapture (D.history disk.now) asked.now.capture (reader.new ≡ reader.old) (LoadedBy R.remaining reader.old reader.new) loaded }
 {
     match asked.capture {
         Some(path) => see_file(alloc, disk, path),
@@ -131,19 +116,16 @@ fn store_answers<H: Threads + Wait + Sync, D: Disk + Sync>(
     disk: &mut D,
     alloc: Global,
     text: Text<'_>,
-    folder: &str,
-    read: ReadFiles,
+    folder: &Folder<'_>,
     texts: &[&[u8]],
     options: &Options,
 ) -> Result<(), RunFault>
 where
     D::Draft: Send,
-    requires faults { D.faults disk.old < 2 ^ 64 - 1 }
-    ensures disk { IfSome (D.history disk.old) (λ h. LeavesDisk (Some folder.entry) result
-        (called_for options.now.hosts (map (λ t. t.now) texts.now) options.now.seed text.entry) h (D.history disk.new)) }
-    ensures ends { StoresUnlessMemory result (called_for options.now.hosts (map (λ t. t.now) texts.now) options.now.seed text.entry) }
-    ensures faults { D.faults disk.new ≡ D.faults disk.old + failed_stores folder.entry.now result }
-    ensures none_printed { failed_writes result ≡ 0 }
+    requires { D.faults disk.old < 2 ^ 64 - 1 }
+    ensures stored { StoresIn folder.now result (called_for options.now.hosts (map (λ t. t.now) texts.now) options.now.seed text.entry)
+        (told_disk (D.history disk.old) (D.history disk.new)) }
+    ensures faults { D.faults disk.new ≡ D.faults disk.old + failed_stores folder.now result }
 {
     names_leave_whole();
     let inputs = read_inputs(alloc, text, texts, &options.hosts)?;
@@ -151,14 +133,13 @@ where
         rt,
         plan: options.plan,
     };
-    let folder = Folder::new(folder, read);
     store_rehearsal(
         &crew,
         alloc,
         inputs.capture.bytes(),
         &inputs.scenarios,
         options.seed,
-        &folder,
+        folder,
         disk,
     )
 }
@@ -167,7 +148,7 @@ where
 const BARE: &[u8] = b"[]";
 
 // The texts of the files at some paths, in order. They are added to those that were read.
-#[tactic(auto, unfolding(crate::specs::NamedFiles::texts_from))]
+#[tactic(auto, unfolding(crate::specs::Inputs::texts_from))]
 fn load_files<D: ReadDisk>(
     alloc: Global,
     disk: &D,
@@ -200,12 +181,7 @@ fn load_capture<H: Threads + Sync, D: ReadDisk, R: Read>(
 where
     D::File: Sync,
     requires { reader.old.failed < 2 ^ 64 - 1 }
-    ensures within { IfOk result (λ text. length text ≤ capture_limit) }
-    ensures input { IfNone asked.now.capture (LoadsInput (λ text. text) result
-        (Consumes (R.remaining reader.old.inner) (R.remaining reader.new.inner)) (IsAtEnd (R.remaining reader.new.inner))
-        reader.old.failed reader.new.failed) }
-    ensures file { IfSome asked.now.capture (λ path. LoadsFile (λ text. text) result (D.history disk.now) path.now
-        (reader.new ≡ reader.old)) }
+    ensures { LoadsCapture (D.history disk.now) asked.now.capture (reader.new ≡ reader.old) (LoadedBy R.remaining reader.old reader.new) result }
 {
     match asked.capture {
         Some(path) => load_by_workers(rt, alloc, disk, path, plan, read),

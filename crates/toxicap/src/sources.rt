@@ -67,14 +67,14 @@ impl<'w, 'v, 'a> Sources<'w, 'v, 'a> {
 }
 
 impl<'w, 'v, 'a> Sources<'w, 'v, 'a> {
-    ghost use Rattle.std.specs.Prelude.{◌≡◌, ◌^◌, ◌<◌, ◌≤◌, ◌++◌, [], IfOk, get_or, length};
-    ghost use Rattle.std.specs.List.{flat_map};
-    ghost use Rattle.pcap_records.specs.Instants.{ticks_of};
-    ghost use Rattle.segment_writer.specs.KeyLaws.{HasNoKeyTwice};
-    ghost use Rattle.time_merge.specs.MergedCapture.{capture_of};
     ghost use Rattle.run_files.specs.DraftedOutputs.{IsDraftOf};
     ghost use Rattle.toxicap.specs.CaptureOutputs.{no_output, outputs_from};
+    ghost use Rattle.std.specs.Prelude.{◌≡◌, ◌^◌, ◌<◌, ◌≤◌, ◌++◌, [], IfOk, get_or, length};
+    ghost use Rattle.pcap_records.specs.Instants.{ticks_of};
     ghost use Rattle.toxicap.specs.DraftPlaces.{AreAtPlace};
+    ghost use Rattle.segment_writer.specs.KeyLaws.{HasNoKeyTwice};
+    ghost use Rattle.time_merge.specs.MergedCapture.{capture_of};
+    ghost use Rattle.std.specs.List.{flat_map};
 
     pub(crate) fn outputs<C: Crew>(&self, crew: &C) -> Result<Outputs, AllocError>
         requires { C.shares crew.now }

@@ -1,12 +1,16 @@
 //! Outputs that are stored as they are made, a few scenarios after another.
-ghost use Rattle.std.specs.Prelude.{◌≡◌, ◌+◌, ◌-◌, ◌^◌, ◌<◌, ◌≤◌, IfErr, Ok, length};
+ghost use Rattle.std.specs.Prelude.{◌≡◌, ◌+◌, ◌-◌, ◌^◌, ◌<◌, ◌≤◌, IfErr, List, Result, length};
+ghost use Rattle.lists.specs.Agreement.{Agrees};
 ghost use Rattle.pcap_records.specs.CaptureView.{bytes_of};
+ghost use Rattle.run_files.specs.declared.error.RunFault.{RunFault};
+ghost use Rattle.run_files.specs.declared.outputs.Output.{Output};
 ghost use Rattle.run_files.specs.Folders.{TakesIn, failed_stores};
-ghost use Rattle.run_files.specs.RunFault.{outcome_of_storing};
-ghost use Rattle.run_files.specs.WrittenOutputs.{stored_before};
+ghost use Rattle.run_files.specs.RunFault.{outcome_of_storing, run_refusal};
+ghost use Rattle.run_files.specs.WrittenOutputs.{files_from, stored_before};
 ghost use Rattle.toxicap.specs.CaptureOutputs.{outputs_for, outputs_from};
 ghost use Rattle.toxicap.specs.Rehearsal.{answer, scenario_limit};
-ghost use Rattle.toxicap.specs.StoredOutputs.{FilesOf, StoresOf};
+ghost use Rattle.toxicap.specs.RunEnds.{Step};
+ghost use Rattle.toxicap.specs.StoredOutputs.{StoresFiles};
 
 use crate::crews::{Crew, Workers};
 use crate::drafting::drafts_from;
@@ -38,8 +42,9 @@ pub(crate) fn store_rehearsal<R: Threads + Sync, D: Disk + Sync>(
 where
     D::Draft: Send,
     requires { D.faults disk.old < 2 ^ 64 - 1 }
-    ensures ends { StoresOf result (answer (bytes_of capture.entry) scenarios.now seed) }
-    ensures taken { FilesOf result (answer (bytes_of capture.entry) scenarios.now seed) (TakesIn folder.now (D.history disk.old) (D.history disk.new)) }
+    ensures stored { Step (λ (made : Result (List Output) RunFault). Agrees run_refusal (λ outputs. outputs) made
+        (answer (bytes_of capture.entry) scenarios.now seed)) result (D.history disk.new ≡ D.history disk.old)
+        (λ outputs. StoresFiles result (files_from 0 outputs) (TakesIn folder.now (D.history disk.old) (D.history disk.new))) }
     ensures faults { D.faults disk.new ≡ D.faults disk.old + failed_stores folder.now result }
 {
     let capture = read_rehearsed(alloc, capture, scenarios)?;
@@ -79,8 +84,7 @@ where
     D::Draft: Send,
     requires few { length scenarios.now ≤ scenario_limit }
     requires faults { D.faults disk.old < 2 ^ 64 - 1 }
-    ensures ends { StoresOf result (Ok (outputs_for capture.entry scenarios.now seed)) }
-    ensures taken { FilesOf result (Ok (outputs_for capture.entry scenarios.now seed))
+    ensures stored { StoresFiles result (files_from 0 (outputs_for capture.entry scenarios.now seed))
         (TakesIn folder.now (D.history disk.old) (D.history disk.new)) }
     ensures faults { D.faults disk.new ≡ D.faults disk.old + failed_stores folder.now result }
 {
@@ -100,8 +104,7 @@ fn store_each<R: Threads + Sync, D: Disk + Sync>(
 where
     D::Draft: Send,
     requires { D.faults disk.old < 2 ^ 64 - 1 }
-    ensures ends { StoresOf result (Ok (outputs_from sources.now)) }
-    ensures taken { FilesOf result (Ok (outputs_from sources.now))
+    ensures stored { StoresFiles result (files_from 0 (outputs_from sources.now))
         (TakesIn folder.now (D.history disk.old) (D.history disk.new)) }
     ensures faults { D.faults disk.new ≡ D.faults disk.old + failed_stores folder.now result }
 {

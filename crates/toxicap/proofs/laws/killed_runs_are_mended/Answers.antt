@@ -1,15 +1,23 @@
-use Rattle.std.proofs.Common.{◌≡◌, ◌≤◌, ℕ, ◌+◌, ◌-◌, List, [], length, map, take, Option, Some, None, Result, Ok, option_map, sym, ap, ◌∙◌, arith, append-nil}
+use Rattle.std.proofs.Common.{◌≡◌, ◌≤◌, ℕ, ◌+◌, ◌-◌, List, [], length, map, take, Option, Some, None, Result, Ok, option_map, refl, sym, ap, subst, ◌∙◌, arith, append-nil}
 use Rattle.std.specs.Borrow.{Bor}
 use Rattle.std.proofs.Math.Path.{fun_ext}
 use Rattle.std.proofs.Math.Seq.{take-append-add}
 use Rattle.std.proofs.lemmas.List.Sums.{fold-append}
 use Rattle.disks.specs.ToldFiles.{Held}
 use Rattle.disks.specs.Histories.{History, NamedAgain, NamedFile, Names, held_after, held_at, held_now, with_names}
+use Rattle.scenarios.specs.declared.hosts.KnownHost.{KnownHost}
+use Rattle.command_line.specs.declared.asked.Asked.{Asked}
 use Rattle.run_files.specs.declared.error.RunFault.{RunFault}
 use Rattle.run_files.specs.declared.outputs.Output.{Output}
 use Rattle.run_files.specs.Folders.{in_folder}
-use Rattle.toxicap.specs.NamedFiles.{LeavesDisk}
-use Rattle.toxicap.specs.StoredOutputs.{files_in}
+use Rattle.run_files.specs.WrittenOutputs.{files_from}
+use Rattle.toxicap.specs.Answering.{called_for}
+use Rattle.toxicap.specs.Commands.{AnswersInto, RunsBy, Streams}
+use Rattle.toxicap.specs.Inputs.{LoadsCapture, LoadsFiles, hosts_asked, texts_from, texts_or_bare}
+use Rattle.toxicap.specs.KilledRuns.{outputs_asked}
+use Rattle.toxicap.specs.RunEnds.{UnlessMemory}
+use Rattle.toxicap.specs.StoredOutputs.{told_disk}
+use Rattle.toxicap.proofs.RunSteps.{went_on}
 use Rattle.toxicap.proofs.laws.killed_runs_are_mended.Goals as goal
 
 none_named : (h : History) → Some h ≡ Some (with_names h [])
@@ -32,16 +40,36 @@ module _ (named_again : NamedAgain) (old new cut mended : History) (n : ℕ) (pa
       let at : Held → Option _ = λ held. held path in
       ap at again ∙ named_again (held_now old) files (n - length old.names) path ∙ ap at (sym whole)
 
-  leaves_same : (out two : Option (Bor (List ℕ))) → option_map (λ f. f.now) out ≡ option_map (λ f. f.now) two → (wanted again : Result (List Output) RunFault) → again ≡ wanted
-      → LeavesDisk out (Ok tt) wanted old (Some new) → LeavesDisk two (Ok tt) again cut (Some mended) → held_now mended path ≡ held_now new path
-  leaves_same None None into wanted again is one twice = named_twice [] (one ∙ none_named old) (twice ∙ none_named cut)
-  leaves_same (Some folder) (Some same) into wanted again is one twice =
+  answers_same : (out two : Option (Bor (List ℕ))) → option_map (λ f. f.now) out ≡ option_map (λ f. f.now) two → (wanted again : Result (List Output) RunFault) → again ≡ wanted
+      → (s t : Streams) → AnswersInto out (Ok tt) wanted (told_disk (Some old) (Some new)) s → AnswersInto two (Ok tt) again (told_disk (Some cut) (Some mended)) t
+      → held_now mended path ≡ held_now new path
+  answers_same None None into wanted again is s t one twice = named_twice [] (one.1 ∙ none_named old) (twice.1 ∙ none_named cut)
+  answers_same (Some folder) (Some same) into wanted again is s t one twice =
       let into2 : same.now ≡ folder.now = cc in
-      named_twice (map (in_folder folder.now) (files_in wanted)) one.0 (twice.0 ∙ ap (λ (files : List NamedFile). Some (with_names cut files)) (cc))
-  leaves_same None (Some folder) into wanted again is one twice = absurd (cc)
-  leaves_same (Some folder) None into wanted again is one twice = absurd (cc)
+      let (outputs, are, once) = went_on (UnlessMemory wanted) tt _ _ one.0 in
+      let (others, are2, again2) = went_on (UnlessMemory again) tt _ _ twice.0 in
+      let equal : others ≡ outputs = cc in
+      named_twice (map (in_folder folder.now) (files_from 0 outputs)) once.0 (again2.0 ∙ ap (λ (files : List NamedFile). Some (with_names cut files)) (cc))
+  answers_same None (Some folder) into wanted again is s t one twice = absurd (cc)
+  answers_same (Some folder) None into wanted again is s t one twice = absurd (cc)
+
+asked_for : (held : Held) (asked : Asked) (text : List ℕ) (hosts : List KnownHost) (files : List (List ℕ)) → hosts_asked asked ≡ Ok hosts
+    → texts_from held [] (map (λ path. path.now) asked.scenarios.items) ≡ Ok files → outputs_asked held asked text ≡ called_for hosts (texts_or_bare files) asked.seed text
+asked_for held asked text hosts files known read = rw (known, read) refl
+
+-- what a run that ended well called for
+called : (old : History) (after : Option History) (asked : Asked) (s : Streams) → RunsBy asked (Ok tt) (told_disk (Some old) after) s
+    → (text : List ℕ) × LoadsCapture (Some old) asked.capture s.Unread s.Loaded (Ok text)
+    × AnswersInto asked.out (Ok tt) (outputs_asked (held_now old) asked text) (told_disk (Some old) after) s
+called old after asked s run =
+    let (hosts, known, from_hosts) = went_on (UnlessMemory (hosts_asked asked)) tt _ _ run in
+    let (files, read, from_files) = went_on (LoadsFiles (Some old) asked.scenarios.items) tt _ _ from_hosts in
+    let (text, loaded, ends) = went_on (LoadsCapture (Some old) asked.capture s.Unread s.Loaded) tt _ _ from_files in
+    let calls = asked_for (held_now old) asked text hosts files known read.2 in
+    (text, loaded, subst (λ (wanted : Result (List Output) RunFault). AnswersInto asked.out (Ok tt) wanted (told_disk (Some old) after) s) (sym calls) ends)
 
 pub returns : goal.returns
-returns g c = λ words asked again old new cut mended n path r r2 s s2 w w2 x x2 reads one later begins reads2 two calls.
-    leaves_same c.named_again.ensures old new cut mended n path later begins asked.out again.out (cc (reads.2.out, reads2.2.out)) _ _
-    (calls one.0 two.0 one.1 two.1) one.3 two.3
+returns g c = λ words asked again old new cut mended n path r r2 s s2 w w2 x x2 reads run later begins reads2 run2 calls.
+    let (one, loaded, ends) = called old (Some new) asked _ run in
+    let (two, loaded2, ends2) = called cut (Some mended) again _ run2 in
+    answers_same c.named_again.ensures old new cut mended n path later begins asked.out again.out (cc (reads.2.out, reads2.2.out)) _ _ (calls one two loaded loaded2) _ _ ends ends2

@@ -4,30 +4,24 @@ use Rattle.pcap_records.specs.CaptureView.{contents_of}
 use Rattle.pcap_records.specs.Heads.{heads_of}
 use Rattle.toxicap.specs.PrintedReports.{reports_in}
 use Rattle.toxicap.specs.Rehearsal.{answer}
-use Rattle.toxicap.proofs.AnswerSteps.{of_capture_fault}
 use Rattle.toxicap.proofs.SeenReports.{heads_reported, refused_heads, too_many}
 use Rattle.toxicap.proofs.TextsTaken.{of_fault_printed}
 use Rattle.toxicap.proofs.reports.head_reports.Goals as goal
 
-pub returns-then-scenarios-gt-SCENARIO_LIMIT-clause-told :
-    goal.returns-then-scenarios-gt-SCENARIO_LIMIT-clause-told
-returns-then-scenarios-gt-SCENARIO_LIMIT-clause-told g c = λ bytes told.
+pub returns-then-scenarios-gt-SCENARIO_LIMIT :
+    goal.returns-then-scenarios-gt-SCENARIO_LIMIT
+returns-then-scenarios-gt-SCENARIO_LIMIT g c = λ bytes told.
     ap reports_in (too_many bytes c.args.scenarios.now c.args.seed (omega (arith, c.if-scenarios-gt-SCENARIO_LIMIT.true)))
 
-pub returns-in_err-heads-clause-told : goal.returns-in_err-heads-clause-told
-returns-in_err-heads-clause-told g c = λ bytes told.
+pub returns-in_err-heads : goal.returns-in_err-heads
+returns-in_err-heads g c = λ bytes told.
     let fault = err_from_is_err_and c.from_residual.result c.from_residual.ensures.1 in
     let refused = refused_heads bytes c.args.scenarios.now c.args.seed (omega (arith, c.if-scenarios-gt-SCENARIO_LIMIT.false)) _ (rw c.in_err-heads.was at told) in
     rw (fault.1, fault.2) (of_fault_printed _ (answer bytes c.args.scenarios.now c.args.seed) refused)
 
-pub returns-in_err-heads-clause-of_text : goal.returns-in_err-heads-clause-of_text
-returns-in_err-heads-clause-of_text g c =
-    let fault = err_from_is_err_and c.from_residual.result c.from_residual.ensures.1 in
-    rw (fault.1, fault.2) (of_capture_fault _)
-
 -- the reports are those of a capture with the same heads
-pub returns-clause-told : goal.returns-clause-told
-returns-clause-told g c = λ bytes told.
+pub returns : goal.returns
+returns g c = λ bytes told.
     let is = rw c.in_ok-heads.was at told in
     let same : heads_of (contents_of c.over-capture.result) ≡ c.in_ok-heads.heads = rw (c.over-capture.ensures, c.deref.ensures.value) c.split-bytes.ensures.same in
     heads_reported bytes c.args.scenarios.now c.args.seed c.report_sees_heads.ensures (omega (arith, c.if-scenarios-gt-SCENARIO_LIMIT.false)) (contents_of c.over-capture.result)

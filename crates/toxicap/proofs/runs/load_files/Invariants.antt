@@ -1,7 +1,7 @@
 use Rattle.std.proofs.Common.{◌≡◌, [], drop, length, map}
 use Rattle.std.specs.Prelude.{IfSome}
 use Rattle.disks.specs.Histories.{held_now}
-use Rattle.toxicap.specs.NamedFiles.{texts_from}
+use Rattle.toxicap.specs.Inputs.{texts_from}
 use Rattle.toxicap.proofs.runs.load_files.Given as goal
 
 abbrev pub invariant-loop-path : goal.invariant-loop-path

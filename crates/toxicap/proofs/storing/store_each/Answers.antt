@@ -31,8 +31,8 @@ loop-draft-init g c =
     }
 
 -- there was no memory for the next drafts
-pub returns-in_err-drafts-clause-taken : goal.returns-in_err-drafts-clause-taken
-returns-in_err-drafts-clause-taken g c =
+pub returns-in_err-drafts-clause-stored : goal.returns-in_err-drafts-clause-stored
+returns-in_err-drafts-clause-stored g c =
     let fault = err_from_is_err_and c.from_residual.result c.from_residual.ensures.1 in
     rw (fault.1, fault.2) (2 * c.loop-number.number, c.loop-number.invariant.taken)
 
@@ -52,23 +52,14 @@ returns-in_err-drafts-clause-faults g c =
     rw (fault.1, fault.2) (omega (arith, c.loop-number.invariant.no_fault))
 
 -- the folder did not take the next one
-pub returns-in_err-store_draft-clause-ends : goal.returns-in_err-store_draft-clause-ends
-returns-in_err-store_draft-clause-ends g c =
+pub returns-in_err-store_draft-clause-stored : goal.returns-in_err-store_draft-clause-stored
+returns-in_err-store_draft-clause-stored g c =
     let all : List Output = outputs_from c.args.sources.now in
     let loop = c.loop-draft.invariant in
     let first = takes_first all _ _ c.loop-draft.number c.in-Some.draft.output loop.left (ap outputs_in c.in-Some.ensures.steps.0) in
     let fault = err_from_is_err_and c.from_residual-in_err-store_draft.result c.from_residual-in_err-store_draft.ensures.1 in
     rw (fault.1, fault.2) (stops_at c.args.folder.now all c.loop-draft.number c.in-Some.draft.output first.below first.is _ _ _ loop.taken c.in_err-store_draft.field-0.0
-    (c.in_err-store_draft.ensures.stores c.in-Some.draft.output c.into_drafts.ensures.drafts)).0
-
-pub returns-in_err-store_draft-clause-taken : goal.returns-in_err-store_draft-clause-taken
-returns-in_err-store_draft-clause-taken g c =
-    let all : List Output = outputs_from c.args.sources.now in
-    let loop = c.loop-draft.invariant in
-    let first = takes_first all _ _ c.loop-draft.number c.in-Some.draft.output loop.left (ap outputs_in c.in-Some.ensures.steps.0) in
-    let fault = err_from_is_err_and c.from_residual-in_err-store_draft.result c.from_residual-in_err-store_draft.ensures.1 in
-    rw (fault.1, fault.2) (stops_at c.args.folder.now all c.loop-draft.number c.in-Some.draft.output first.below first.is _ _ _ loop.taken c.in_err-store_draft.field-0.0
-    (c.in_err-store_draft.ensures.stores c.in-Some.draft.output c.into_drafts.ensures.drafts)).1
+    (c.in_err-store_draft.ensures.stores c.in-Some.draft.output c.into_drafts.ensures.drafts))
 
 pub returns-in_err-store_draft-clause-faults : goal.returns-in_err-store_draft-clause-faults
 returns-in_err-store_draft-clause-faults g c =
@@ -90,8 +81,8 @@ loop-draft-preserved g c =
       rises = omega (arith, loop.rises, ap length c.in-Some.ensures.steps.0);
     }
 
-pub returns-clause-taken : goal.returns-clause-taken
-returns-clause-taken g c =
+pub returns-clause-stored : goal.returns-clause-stored
+returns-clause-stored g c =
     let all : List Output = outputs_from c.args.sources.now in
     let over : length (files_from 0 all) ≤ 2 * c.loop-number.number =
     omega (arith, c.loop-number-test.false, as_many_outputs c.args.sources.now, length-files_from 0 all) in

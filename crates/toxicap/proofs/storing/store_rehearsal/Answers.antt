@@ -1,45 +1,39 @@
-use Rattle.std.proofs.Common.{arith}
+use Rattle.std.proofs.Common.{Ok, Err, refl, arith}
 use Rattle.std.proofs.lemmas.Result.{err_from_is_err_and}
 use Rattle.pcap_records.specs.CaptureView.{bytes_of}
 use Rattle.toxicap.specs.CaptureOutputs.{outputs_for}
+use Rattle.toxicap.specs.Rehearsal.{answer}
+use Rattle.toxicap.proofs.AnswerSteps.{of_answer}
 use Rattle.toxicap.proofs.OutputSteps.{as_many_for}
-use Rattle.toxicap.proofs.StoringEnds.{none_stored, not_held, refused_faults}
+use Rattle.toxicap.proofs.StoringEnds.{not_held, refused_faults}
+use Rattle.toxicap.proofs.TextsTaken.{told_refusal}
 use Rattle.toxicap.proofs.storing.store_rehearsal.Goals as goal
 
-pub returns-in_err-capture-clause-ends : goal.returns-in_err-capture-clause-ends
-returns-in_err-capture-clause-ends g c =
+pub returns-in_err-capture-clause-stored : goal.returns-in_err-capture-clause-stored
+returns-in_err-capture-clause-stored g c =
     let fault = err_from_is_err_and c.from_residual.result c.from_residual.ensures.1 in
-    rw (fault.1, fault.2)
-    (none_stored _ (bytes_of c.args.capture) c.args.scenarios.now c.args.seed c.args.folder.now (g.D.Disk.history c.args.disk.now) (c.in_err-capture.ensures.refused c.args.seed)).0
-
-pub returns-in_err-capture-clause-taken : goal.returns-in_err-capture-clause-taken
-returns-in_err-capture-clause-taken g c =
-    let fault = err_from_is_err_and c.from_residual.result c.from_residual.ensures.1 in
-    rw (fault.1, fault.2) (none_stored _ (bytes_of c.args.capture) c.args.scenarios.now c.args.seed c.args.folder.now _ (c.in_err-capture.ensures.refused c.args.seed)).1
+    rw (fault.1, fault.2) (Err _, c.in_err-capture.ensures.refused c.args.seed, (refl, refl))
 
 pub returns-in_err-capture-clause-faults : goal.returns-in_err-capture-clause-faults
 returns-in_err-capture-clause-faults g c =
     let fault = err_from_is_err_and c.from_residual.result c.from_residual.ensures.1 in
-    rw (fault.1, fault.2) (omega (arith, refused_faults _ (bytes_of c.args.capture) c.args.scenarios.now c.args.seed c.args.folder.now (c.in_err-capture.ensures.refused c.args.seed)))
+    let wanted = answer (bytes_of c.args.capture) c.args.scenarios.now c.args.seed in
+    let none = refused_faults c.args.folder.now _ wanted (of_answer (bytes_of c.args.capture) c.args.scenarios.now c.args.seed)
+    (told_refusal _ wanted (c.in_err-capture.ensures.refused c.args.seed)) in
+    rw (fault.1, fault.2) (omega (arith, none))
 
 -- the folder could not be held
-pub returns-in_err-hold_for-clause-ends : goal.returns-in_err-hold_for-clause-ends
-returns-in_err-hold_for-clause-ends g c =
+pub returns-in_err-hold_for-clause-stored : goal.returns-in_err-hold_for-clause-stored
+returns-in_err-hold_for-clause-stored g c =
     let held = c.in_err-hold_for.ensures in
     let fault = err_from_is_err_and c.from_residual-in_err-hold_for.result c.from_residual-in_err-hold_for.ensures.1 in
     let wanted = outputs_for c.in_ok-capture.capture c.args.scenarios.now c.args.seed in
     let many = as_many_for c.in_ok-capture.capture c.args.scenarios.now c.args.seed in
-    rw (fault.1, fault.2, c.in_ok-capture.ensures.answered c.args.seed)
-    (not_held c.args.folder.now wanted c.in_err-hold_for.field-0.0 _ _ held.as_before (held.refused.0, omega (arith, many, held.refused.1))).0
-
-pub returns-in_err-hold_for-clause-taken : goal.returns-in_err-hold_for-clause-taken
-returns-in_err-hold_for-clause-taken g c =
-    let held = c.in_err-hold_for.ensures in
-    let fault = err_from_is_err_and c.from_residual-in_err-hold_for.result c.from_residual-in_err-hold_for.ensures.1 in
-    let wanted = outputs_for c.in_ok-capture.capture c.args.scenarios.now c.args.seed in
-    let many = as_many_for c.in_ok-capture.capture c.args.scenarios.now c.args.seed in
-    rw (fault.1, fault.2, c.in_ok-capture.ensures.answered c.args.seed)
-    (not_held c.args.folder.now wanted c.in_err-hold_for.field-0.0 _ _ held.as_before (held.refused.0, omega (arith, many, held.refused.1))).1
+    rw (fault.1, fault.2) (
+      Ok wanted,
+      c.in_ok-capture.ensures.answered c.args.seed,
+      not_held c.args.folder.now wanted c.in_err-hold_for.field-0.0 _ _ held.as_before (held.refused.0, omega (arith, many, held.refused.1)),
+    )
 
 pub returns-in_err-hold_for-clause-faults : goal.returns-in_err-hold_for-clause-faults
 returns-in_err-hold_for-clause-faults g c =
@@ -47,6 +41,9 @@ returns-in_err-hold_for-clause-faults g c =
     rw (fault.1, fault.2) c.in_err-hold_for.ensures.faults
 
 -- it is held
-pub returns-clause-taken : goal.returns-clause-taken
-returns-clause-taken g c =
-    rw (c.in_ok-capture.ensures.answered c.args.seed, ← c.in_ok-hold_for.ensures.as_before) c.store_outputs.ensures.taken
+pub returns-clause-stored : goal.returns-clause-stored
+returns-clause-stored g c = (
+  Ok (outputs_for c.in_ok-capture.capture c.args.scenarios.now c.args.seed),
+  c.in_ok-capture.ensures.answered c.args.seed,
+  rw (← c.in_ok-hold_for.ensures.as_before) c.store_outputs.ensures.stored,
+)

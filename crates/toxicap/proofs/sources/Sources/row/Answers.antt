@@ -7,19 +7,19 @@ use Rattle.toxicap.proofs.sources.Sources.row.Goals as goal
 
 pub returns-clause-once : goal.returns-clause-once
 returns-clause-once g c =
-    IfOk-weaker c.deliver_row.result _ _ (λ row is. rw is (c.args.self.now.once _)) c.deliver_row.ensures.segments
+    IfOk-weaker c.deliver_row.result _ _ (λ row hold. rw hold.segments (c.args.self.now.once _)) c.deliver_row.ensures
 
 pub returns-clause-capture : goal.returns-clause-capture
 returns-clause-capture g c =
     let own = c.args.self.now in
     IfOk-weaker c.deliver_row.result _ _
-    (λ row is. ap (capture_of (ticks_of own.unit)) is ∙ ap (λ o. o.capture) (output_is own c.args.number c.requires.within _))
-    c.deliver_row.ensures.segments
+    (λ row hold. ap (capture_of (ticks_of own.unit)) hold.segments ∙ ap (λ o. o.capture) (output_is own c.args.number c.requires.within _))
+    c.deliver_row.ensures
 
 pub returns-clause-report : goal.returns-clause-report
 returns-clause-report g c =
     let own = c.args.self.now in
     let number = c.args.number in
     IfOk-weaker c.deliver_row.result _ _
-    (λ row is. ap (λ lines. get_or own.heads.now number [] ++ lines) is ∙ ap (λ o. o.report) (output_is own number c.requires.within _))
-    c.deliver_row.ensures.lines
+    (λ row hold. ap (λ lines. get_or own.heads.now number [] ++ lines) hold.lines ∙ ap (λ o. o.report) (output_is own number c.requires.within _))
+    c.deliver_row.ensures

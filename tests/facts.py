@@ -316,7 +316,7 @@ def of_fault_lines(refusals):
     faults = re.findall(r'RunFault::(\w+)(?: \{ \w+ \})? => \((\d+), "(\w+)", (\w+)', code)
     for variant, _, name, *_ in causes + faults: fact(f'fault_lines.rt: the name of {variant}', variant == name, name)
     in_code = sorted((int(number), name) for _, number, name, *_ in causes + faults)
-    in_specs = sorted((int(number), name) for number, name in re.findall(r'= (?:\(|entry )(\d+),? \(?codes "(\w+)"\)', specs))
+    in_specs = sorted((int(number), name) for number, name in re.findall(r'= \((\d+), codes "(\w+)"', specs))
     wanted = [(int(each['number']), each['name']) for each in refusals]
     fact('fault_lines.rt: numbers and names', in_code == wanted, set(in_code) ^ set(wanted))
     fact('RunFault.antt: numbers and names', in_specs == wanted, set(in_specs) ^ set(wanted))

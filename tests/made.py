@@ -106,7 +106,7 @@ def stands_on(crate):
 def files_by_text(crate):
     """The names of a crate's files by what is told of them: of files of specs/ what the name does not say. With one goes that of src/ of its name."""
     src = [path.stem for path in files(crate, 'src', '.rt') if path.stem not in ('laws', 'rows')]
-    specs = [path for path in files(crate, 'specs', '.antt') if not re.search('(?<!Delivery)Rows$|Before$|^Row', path.stem)]
+    specs = [path for path in files(crate, 'specs', '.antt') if not re.search('worked rows', sentence(path), re.I) and not path.stem.endswith('Before')]
     found, twins = {'': []}, {snake(path.stem) for path in specs} & set(src)
     for path in specs:
         name, text = path.stem, short(bare(sentence(path), path.stem), FILE_WIDTH)

@@ -1,6 +1,6 @@
 #!/usr/bin/env bash
 # What the built program says on a terminal and nowhere else: that it reads its standard input, how many scenarios are stored, and in a line more
-# what helps after a refusal, or what would be missed in the reports. The terminals are those of util-linux's `script`.
+# what helps after a refusal (by TOXICAP_HINTS=1 elsewhere too), or what would be missed in the reports. The terminals are those of util-linux's `script`.
 set -euo pipefail
 cd "$(dirname "$0")/.."
 . tests/lib.sh
@@ -51,6 +51,13 @@ verdict "a refusal is written over the count" "$(
 anew
 run /dev/null "${three[@]}" --out "$folder"
 verdict "without a terminal nothing is said" "$(fault 0; cat "$work/output" "$work/faults"; diff -r "$work/counted" "$folder" || true)"
+for hints in 1 0; do
+    anew
+    TOXICAP_HINTS=$hints run /dev/null "${three[@]}" --out "$folder"
+    verdict "an answer, TOXICAP_HINTS=$hints" "$(fault 0; cat "$work/output" "$work/faults"; diff -r "$work/counted" "$folder" || true)"
+done
+TOXICAP_HINTS=0 run /dev/null
+verdict "a refusal, TOXICAP_HINTS=0" "$(refusal 'refused 1 ShortHeader')"
 
 # What helps after each refusal. The commands run in a folder with what they name.
 here=$work/here
@@ -62,6 +69,8 @@ helps() {
     verdict "$1: $2" "$(said "$1\r\ntoxicap: $2\r\n" "cd '$here' && '$program' $3")"
     (cd "$here" && eval "'$program' $3" > "$work/output" 2> "$work/faults") || true
     verdict "$1, where standard error is no terminal" "$(printf '%s\n' "$1" | cmp - "$work/faults" 2>&1 || true)"
+    (cd "$here" && eval "TOXICAP_HINTS=1 '$program' $3" > "$work/output" 2> "$work/faults") || true
+    verdict "$1, by TOXICAP_HINTS" "$(printf '%b\n' "$1" "toxicap: $2" | cmp - "$work/faults" 2>&1 || true)"
 }
 
 # capture FILE DIGITS..: a file of these bytes.

@@ -140,7 +140,7 @@ Reports:
   but all on one line: its number, client and server, and the number of the
   proxy that it goes through, - for none. up is what the client sent, down
   what the server sent: bytes delivered/recorded/lost after a gap of the
-  capture; its end, so long after the opening SYN; and the longest that a
+  capture; its end, by its time after the opening SYN; and the longest that a
   byte was held back.
 
   The end is fin+N where the peer closes, close+N where a toxic does, reset+N
@@ -152,8 +152,8 @@ Reports:
 Refusals:
   A line on standard error has the number, the name and the place: records,
   hosts, scenarios, a scenario's proxies, a proxy's toxics and the bytes of a
-  dump count from 0. On a terminal a second line names the file and the
-  field, and says what to do.
+  dump count from 0. On a terminal, or if TOXICAP_HINTS of the environment
+  is 1, a second line names the file and the field, and says what to do.
 
    1 ShortHeader       the capture has fewer than 24 bytes
    2 BadMagic          it is no classic pcap: pcapng, or gzipped
@@ -177,7 +177,7 @@ Refusals:
   23 BadHost           a --host is not NAME=ADDR, or was given before
   40 Memory            memory was refused
   55 BadDump           a byte of a dump is no hexadecimal digit
-  60 ShelfFailed       a file of --out could not be written, after so many
+  60 ShelfFailed       a file of --out could not be stored, after N others
   61 ReadFailed        a file cannot be opened or read
   62 WriteFailed       standard output took no more
 

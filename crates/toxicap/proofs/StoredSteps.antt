@@ -58,4 +58,4 @@ module _ (folder : List ℕ) (all : List Output) (number : ℕ) (this : Output) 
       let inside : 2 * number + stores.0 < length (files_from 0 all) = omega (arith, length-files_from 0 all, stores.2, below) in
       let at : after ≡ 2 * number + stores.0 = stores.1 in
       rw at (inside, taken_part stores.0 (omega (arith, stores.2)) stores.3)
-  stops_at (store.Memory after) stores = (2 * number + stores.0, taken_part stores.0 (omega (arith, stores.2)) stores.3)
+  stops_at (store.Memory after) stores = (2 * number + stores.0, omega (arith, length-files_from 0 all, stores.2, below), taken_part stores.0 (omega (arith, stores.2)) stores.3)

@@ -35,7 +35,7 @@ pub not_held : (folder : List ℕ) (outputs : List Output) (fault : StoreFault) 
     → (stored_before fault ≡ 0) × (0 < length outputs) → StoresFiles (Err (run_fault_of_storing fault)) (files_from 0 outputs) (TakesIn folder had now)
 not_held folder outputs (store.ShelfFailed after) had now same first =
     let none : after ≡ 0 = first.0 in rw none (some_files outputs first.1, still_none folder had now same)
-not_held folder outputs (store.Memory after) had now same first = (0, still_none folder had now same)
+not_held folder outputs (store.Memory after) had now same first = (0, omega arith, still_none folder had now same)
 
 -- no call of the disk has failed where texts or a capture are refused
 pub refused_faults : (folder : List ℕ) (fault : RunFault) (wanted : Result (List Output) RunFault) → IfErr wanted IsOfText
@@ -53,7 +53,7 @@ module _ (whole : NamesLeaveWhole) (folder : List ℕ) (old new : Option History
       → LeavesWhole old new (map (in_folder folder) files)
   files_whole (Ok u) files took = first_part files (length files) (subst (TakesIn folder old new) (sym (take-length files)) took)
   files_whole (Err (ShelfFailed after)) files stores = first_part files after stores.1
-  files_whole (Err Memory) files stores = first_part files stores.0 stores.1
+  files_whole (Err Memory) files stores = first_part files stores.0 stores.2
   files_whole (Err fault) files stores = absurd stores
 
   pub stores_in : (outcome : Result (Unit {0}) RunFault) (wanted : Result (List Output) RunFault)

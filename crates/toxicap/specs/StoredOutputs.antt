@@ -1,5 +1,5 @@
 -- Outputs that are stored: the files of each scenario, in order.
-use Rattle.std.specs.Prelude.{◌≡◌, ℕ, ◌<◌, List, length, map, take, Option, Result, Ok, Err}
+use Rattle.std.specs.Prelude.{◌≡◌, ℕ, ◌-◌, ◌<◌, ◌≤◌, List, length, map, take, Option, Result, Ok, Err}
 use Rattle.disks.specs.Histories.{History, LeavesWhole}
 use Rattle.run_files.specs.declared.error.RunFault.{RunFault}
 use Rattle.run_files.specs.declared.error.RunFault.TheVariants.{Memory, ShelfFailed}
@@ -17,12 +17,12 @@ pub record ToldDisk : Type 0 where
 abbrev pub told_disk : Option History → Option History → ToldDisk
 told_disk before after = record { before = before; after = after }
 
--- How storing files ends, where `Took` says which files got names: all; the first `after`, if the folder fails then; some first ones, if memory
--- runs out.
+-- How storing files ends, where `Took` says which files got names: all; the first `after`, if the folder fails then; some first ones, never
+-- the last, if memory runs out.
 abbrev pub StoresFiles : Result (Unit {0}) RunFault → List StoredFile → (List StoredFile → Type 0) → Type 0
 StoresFiles (Ok _) files Took = Took files
 StoresFiles (Err (ShelfFailed after)) files Took = (after < length files) × Took (take after files)
-StoresFiles (Err Memory) files Took = (stored : ℕ) × Took (take stored files)
+StoresFiles (Err Memory) files Took = (stored : ℕ) × (stored ≤ length files - 1) × Took (take stored files)
 StoresFiles (Err _) files Took = ⊥
 
 -- How storing in a folder ends, by what is called for: on a refusal no file gets a name. Else files are stored in order until one fails.

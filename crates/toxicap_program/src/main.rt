@@ -1,5 +1,6 @@
 //! The program `toxicap`: the library's `command_over` on the command line, the host's disk and the standard streams. On a terminal it
 //! also says that it reads standard input, how many scenarios are stored, and last what helps after a refusal or is missed in a report.
+//! What helps it says too if `TOXICAP_HINTS` of the environment is 1.
 #![tactic(auto)]
 
 mod capture_remedies;
@@ -29,21 +30,21 @@ fn main(rt: HostRuntime) -> ExitCode {
         Err(error) => return ExitCode::from(refuse_words(rt.alloc(), &error, &mut faults)),
     };
     let is_terminal = rt.stderr().is_terminal();
-    let asked = is_terminal.then(|| read_arguments(rt.alloc(), &words).ok());
+    let is_hinted = env::var(&rt, "TOXICAP_HINTS").is_ok_and(|word| word.as_str() == "1");
+    let asked = (is_terminal || is_hinted).then(|| read_arguments(rt.alloc(), &words).ok());
     let asked = asked.flatten();
+    let on_terminal = asked.as_ref().filter(|_| is_terminal);
     let mut input = Counted::new(Announced {
         input: rt.stdin(),
         faults: rt.stderr(),
-        is_announced: asked.is_none() || !rt.stdin().is_terminal(),
+        is_announced: on_terminal.is_none() || !rt.stdin().is_terminal(),
         first_bytes: CaptureStart::default(),
     });
-    let summary = asked.as_ref().map(|_| Summary::default());
+    let summary = on_terminal.map(|_| Summary::default());
     let mut output = Counted::new(SummedUp::new(rt.stdout(), summary));
     let files = Counting {
         rt: &rt,
-        all: asked
-            .as_ref()
-            .map_or(0, |asked| asked.scenarios.len() as u64),
+        all: on_terminal.map_or(0, |asked| asked.scenarios.len() as u64),
         named: AtomicU64::new(0),
     };
     let (status, outcome) = command_over(
@@ -55,9 +56,8 @@ fn main(rt: HostRuntime) -> ExitCode {
         &mut output,
         &mut faults,
     );
-    if let Some(asked) = &asked {
-        let first_bytes = input.into_inner().first_bytes;
-        let printed = output.into_inner().summary;
+    if let Some(asked) = asked.as_ref().filter(|_| is_terminal || outcome.is_err()) {
+        let (first_bytes, printed) = (input.into_inner().first_bytes, output.into_inner().summary);
         print_line(&rt, asked, first_bytes, outcome, printed);
     }
     ExitCode::from(status)

@@ -34,7 +34,11 @@ loop-draft-init g c =
 pub returns-in_err-drafts-clause-stored : goal.returns-in_err-drafts-clause-stored
 returns-in_err-drafts-clause-stored g c =
     let fault = err_from_is_err_and c.from_residual.result c.from_residual.ensures.1 in
-    rw (fault.1, fault.2) (2 * c.loop-number.number, c.loop-number.invariant.taken)
+    rw (fault.1, fault.2) (
+      2 * c.loop-number.number,
+      omega (arith, c.loop-number-test.true, as_many_outputs c.args.sources.now, length-files_from 0 (outputs_from c.args.sources.now)),
+      c.loop-number.invariant.taken,
+    )
 
 pub store_draft-requires-clause-number : goal.store_draft-requires-clause-number
 store_draft-requires-clause-number g c =

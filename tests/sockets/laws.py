@@ -1,0 +1,130 @@
+"""The laws of sockets and streams, over the output captures in the folder OUTPUTS: reads of any sizes give the delivered bytes in order, each at its
+time, and ends and timeouts come at theirs. What is wanted is worked out here from the time of each byte."""
+import asyncio, bisect, collections, os, pathlib, random, socket, unittest
+from events import delivered
+from sockets import Clock, Socket, StillOpen
+from streams import run, streams
+
+CONNECTIONS = [each for path in sorted(pathlib.Path(os.environ['OUTPUTS']).glob('*/*.pcap')) for each in delivered(path.read_bytes())]
+NEVER = 1 << 70
+
+
+class Wanted:
+    """What a line gives to one who reads it. Its instants count from the opening."""
+
+    def __init__(self, line, opened):
+        self.bytes = b''.join(what for _, what in line.chunks)
+        self.times = [opened + time for time, what in line.chunks for _ in what]
+        self.end_time, self.end = (opened + line.end[0], line.end[1]) if line.end else (NEVER, None)
+        self.place = 0
+
+    def due(self, count=1):
+        """When this number of bytes has come, or the end."""
+        last = self.place + count
+        return self.times[last - 1] if last <= len(self.times) else self.end_time
+
+    def take(self, size, now):
+        """What one read gives then."""
+        start, self.place = self.place, min(bisect.bisect_right(self.times, now, self.place), self.place + size)
+        return self.bytes[start:self.place]
+
+
+def sides():
+    """Each side of each connection that was not refused, the line that comes to it, and random numbers of its own."""
+    for number, connection in enumerate(CONNECTIONS):
+        for side, line in zip(('server', 'client'), connection):
+            if not line.end or line.end[1] != 'refused': yield connection, side, line, random.Random(f'{number} {side}')
+
+
+def size_by(drawn): return drawn.randint(1, drawn.choice([1, 10, 300, 1460, 65536]))
+
+
+class Laws(unittest.TestCase):
+    def setUp(self): self.met = collections.Counter()
+
+    def tearDown(self):
+        for what in 'bytes', 'fin', 'reset', None, 'late': self.assertGreater(self.met[what], 30, (what, self.met))
+
+    def test_sockets(self):
+        for connection, side, line, drawn in sides():
+            clock = Clock()
+            clock.sleep(drawn.choice([0, 1.5]))
+            self.read(Socket(connection, side, clock), Wanted(line, clock.nanoseconds), drawn)
+
+    def read(self, reader, wanted, drawn):
+        """Reads to the end, with pauses and timeouts."""
+        clock, end = reader.clock, 'bytes'
+        while end == 'bytes':
+            if drawn.random() < 0.2: clock.sleep(drawn.random() / 10)
+            now, limit, size = clock.nanoseconds, drawn.choice([None, None, 0, 10**drawn.randint(0, 9)]), size_by(drawn)
+            reader.settimeout(limit if limit is None else limit / 10**9)
+            due, found, kind = wanted.due(), None, None
+            try: found = self.read_once(reader, size, drawn)
+            except (OSError, StillOpen) as error: kind = type(error)
+            if limit is not None and due > now + limit:
+                self.assertEqual((kind, clock.nanoseconds), (socket.timeout if limit else BlockingIOError, now + limit))
+                self.met['late'] += 1
+                continue
+            if wanted.place == len(wanted.bytes): end = wanted.end
+            self.assertEqual(kind, {'reset': ConnectionResetError, None: StillOpen}.get(end))
+            if end: self.assertEqual(clock.nanoseconds, max(now, due))
+            if not kind: self.assertEqual(found, wanted.take(size, clock.nanoseconds))
+            self.met[end] += 1
+        if end: self.assertEqual(reader.recv(9), b'')
+
+    def read_once(self, reader, size, drawn):
+        if drawn.random() < 0.5: return reader.recv(size)
+        room = bytearray(size)
+        return bytes(room[:reader.recv_into(room)])
+
+    def test_files(self):
+        """Reads of whole lengths, by makefile."""
+        for connection, side, line, drawn in sides():
+            reader = Socket(connection, side)
+            wanted, end = Wanted(line, 0), 'bytes'
+            with reader, reader.makefile('rb') as file:
+                while end == 'bytes':
+                    size, now = size_by(drawn), reader.clock.nanoseconds
+                    due, found, kind = wanted.due(size), b'', None
+                    try: found = file.read(size)
+                    except (OSError, StillOpen) as error: kind = type(error)
+                    if len(wanted.bytes) - wanted.place < size: end = wanted.end
+                    self.assertEqual(kind, {'reset': ConnectionResetError, None: StillOpen}.get(end))
+                    if end: self.assertEqual(reader.clock.nanoseconds, max(now, due))
+                    if not kind: self.assertEqual(found, wanted.take(size, reader.clock.nanoseconds))
+                    self.met[end] += 1
+        self.met['late'] = 99  # there are no timeouts here
+
+    def test_streams(self):
+        for connection, side, line, drawn in sides():
+            clock = Clock()
+            clock.sleep(drawn.choice([0, 1.5]))
+            run(self.follow(connection, side, Wanted(line, clock.nanoseconds), drawn), clock)
+
+    async def follow(self, connection, side, wanted, drawn):
+        """Reads to the end, with pauses and timeouts. A reset takes what was not read, as in asyncio."""
+        (reader, writer), clock, end = streams(connection, side), asyncio.get_running_loop().clock, 'bytes'
+        while end == 'bytes':
+            if drawn.random() < 0.2: await asyncio.sleep(drawn.random() / 10)
+            now, limit, size = clock.nanoseconds, drawn.choice([None, None, 10**drawn.uniform(0, 9)]), size_by(drawn)
+            exactly, found, kind = drawn.random() < 0.3, None, None
+            due = wanted.due(size if exactly else 1)
+            try: found = await asyncio.wait_for(reader.readexactly(size) if exactly else reader.read(size), limit and limit / 10**9)
+            except asyncio.TimeoutError:
+                self.assertGreater(due, now + limit - 1)
+                self.assertLessEqual(abs(clock.nanoseconds - now - limit), 2)
+                self.met['late'] += 1
+                continue
+            except asyncio.IncompleteReadError as error: found, end = error.partial, 'fin'
+            except (ConnectionResetError, StillOpen) as error: kind = type(error)
+            if kind or found == b'': end = wanted.end
+            self.assertEqual(kind, {'reset': ConnectionResetError, None: StillOpen}.get(end))
+            if end == 'reset': self.assertEqual(clock.nanoseconds, max(now, wanted.end_time))
+            elif end: self.assertEqual(clock.nanoseconds, max(now, due))
+            if not kind: self.assertEqual(found, wanted.take(size, clock.nanoseconds))
+            self.met[end] += 1
+        if end == 'fin': self.assertEqual((wanted.place, clock.nanoseconds >= wanted.end_time), (len(wanted.bytes), True))
+        writer.close()
+
+
+if __name__ == '__main__': unittest.main()

@@ -34,11 +34,11 @@ toxics() {
     echo "\"toxics\":[${text#,}]"
 }
 
-# serve LANGUAGE NAME [CONNECTION]: runs a player as a command, and sets `port`.
+# serve LANGUAGE NAME [OPTION..]: runs a player as a command, and sets `port`.
 serve() {
     local tries
     : > "$work/port"
-    timeout 600 "$work/player-$1" "$outputs/$2/0000.pcap" "$outputs/$2/0001.pcap" > "$work/port" 2> "$work/told" &
+    timeout 600 "$work/player-$1" "${@:3}" "$outputs/$2/0000.pcap" "$outputs/$2/0001.pcap" > "$work/port" 2> "$work/told" &
     players+=($!)
     for ((tries = 0; tries < 2400; tries++)); do
         [ ! -s "$work/port" ] || break
@@ -59,7 +59,7 @@ if ! can "players" python3; then close; exit; fi
 
 printf '[]' > "$work/untouched.json"
 http=10.77.0.2:80 sessions=(10.0.0.2:6379 10.0.0.2:7001 10.0.0.2:7002 10.0.0.2:7003)
-for made in sessions pause; do awk -f tests/capture.awk "tests/player/$made" > "$work/$made.dump"; done
+for made in sessions pause rounds; do awk -f tests/capture.awk "tests/player/$made" > "$work/$made.dump"; done
 python3 -B tests/player/much.py > "$work/much.pcap"
 for case in untouched late:'latency latency=300' in-a-year:'latency latency=1000000000' cut:'limit_data bytes=100' cut-body:'limit_data bytes=200' closed:'timeout timeout=250' \
     late-up:'latency latency=300 upstream' silent-up:'timeout timeout=0 upstream' silent:'timeout timeout=0;timeout timeout=0 upstream' reset:'bandwidth rate=1;reset_peer timeout=205'; do
@@ -67,6 +67,7 @@ for case in untouched late:'latency latency=300' in-a-year:'latency latency=1000
     outputs_of "http-${case%%:*}" samples/http-get.pcap $http -- "$(toxics "${list[@]}")"
 done
 outputs_of http-down samples/http-get.pcap $http -- '"enabled":false'
+outputs_of http-slices samples/http-get.pcap $http -- '"toxics":[{"type":"slicer","attributes":{"average_size":20,"delay":5000}}]'
 outputs_of http-late-pauses "$work/pause.dump" 10.0.0.2:80 -- "$(toxics 'latency latency=250')"
 outputs_of much "$work/much.pcap" 10.0.0.2:80 -- "$(toxics)"
 outputs_of sessions-untouched "$work/sessions.dump" "${sessions[@]}" -- "$(toxics)"
@@ -75,6 +76,8 @@ outputs_of sessions-reset "$work/sessions.dump" "${sessions[@]}" -- "$(toxics 'r
 outputs_of sessions-cut "$work/sessions.dump" "${sessions[@]}" -- "$(toxics 'limit_data bytes=2')"
 outputs_of sessions-closed "$work/sessions.dump" "${sessions[@]}" -- "$(toxics 'timeout timeout=50')"
 outputs_of sessions-down "$work/sessions.dump" "${sessions[@]}" -- '"enabled":false'
+outputs_of sessions-mixed "$work/sessions.dump" 10.0.0.2:7001 -- '"enabled":false'
+outputs_of slices "$work/rounds.dump" 10.0.0.2:80 -- '"toxics":[{"type":"slicer","attributes":{"average_size":2,"delay":5000}}]'
 
 verdict "steps" "$(
     (cd "$outputs" && python3 -B "$OLDPWD/tests/player/dump_steps.py" sessions-{late,reset,cut,closed,down}) > "$work/steps" 2>&1 || echo "  status $?"
@@ -92,13 +95,15 @@ verdict "steps of the examples" "$(
     [ "$(wc -l < "$work/steps")" -gt 300 ] || wc -l < "$work/steps"
 )"
 
-verdict "Python" "$(timeout 900 python3 -B tests/player/clients.py > "$work/output" 2>&1 || cat "$work/output")"
+for tests in clients limits; do
+    verdict "Python, $tests" "$(timeout 900 python3 -B tests/player/$tests.py > "$work/output" 2>&1 || cat "$work/output")"
+done
 printf '#!/bin/sh\nexec python3 -B %q --limit 60 "$@"\n' "$suites/python/player.py" > "$work/player-python"
 chmod +x "$work/player-python"
 languages=(python)
 if can "Go" go; then
     mkdir "$work/clients"
-    cp tests/player/clients_test.go "$work/clients"
+    cp tests/player/*_test.go "$work/clients"
     printf 'module clients\n\ngo 1.18\n\nrequire toxicap v0.0.0\n\nreplace toxicap => %s\n' "$suites/go" > "$work/clients/go.mod"
     go_here() { (cd "$1" && GOFLAGS=-mod=mod GOPROXY=off GO111MODULE=on timeout 1200 go "${@:2}"); }
     verdict "Go, net/http" "$(STEPS=$work/steps go_here "$work/clients" test -count=1 -timeout 900s ./... > "$work/output" 2>&1 || cat "$work/output")"
@@ -128,6 +133,14 @@ for language in "${languages[@]}"; do
         serve "$language" sessions-cut
         client "redis-cli, $language, cut" 1 '' redis-cli -p "$port" PING
     fi
+    serve "$language" sessions-untouched --connection 3,1
+    found=$(
+        exec 3<> "/dev/tcp/127.0.0.1/$port" 4<> "/dev/tcp/127.0.0.1/$port"
+        printf 'one?' >&4
+        timeout 60 head -c 1 <&4
+        timeout 60 head -c 5 <&3
+    ) || true
+    verdict "$language, two connections" "$([ "$found" = 1hello ] || echo "  $found")"
     verdict "$language, a fault" "$(
         status=0
         timeout 60 "$work/player-$language" samples/http-get.pcap samples/http-get.pcap > "$work/output" 2> "$work/faults" || status=$?

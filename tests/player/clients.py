@@ -1,16 +1,19 @@
 """Real clients at players: the tests of examples/suites/python/player.py, over the folder of outputs that OUTPUTS names. Nothing waits longer than a
 minute; what has to come late is looked at for its least time alone."""
-import contextlib, http.client, io, os, pathlib, socket, threading, time, unittest
+import contextlib, http.client, os, pathlib, selectors, socket, statistics, time, unittest, unittest.mock
+from measure import measure
 from player import Player
 
 BODY = b'Hello from the sample server.\n'
 HEADER = (b'HTTP/1.0 200 OK\r\nServer: SimpleHTTP/0.6 Python/3.11.7\r\nDate: Sun, 22 Nov 2026 10:16:21 GMT\r\nContent-type: text/plain\r\n'
           b'Content-Length: 30\r\nLast-Modified: Sun, 22 Nov 2026 10:16:19 GMT\r\n\r\n')
 LATE = 0.5  # seconds in which nothing may come
-SHORT = 4  # a limit that is waited for
 
 
-def outputs(name): return tuple(pathlib.Path(os.environ['OUTPUTS'], name, file).read_bytes() for file in ('0000.pcap', '0001.pcap'))
+def files(name): return [pathlib.Path(os.environ['OUTPUTS'], name, file) for file in ('0000.pcap', '0001.pcap')]
+
+
+def outputs(name): return tuple(file.read_bytes() for file in files(name))
 
 
 def play(name, connection=0, **settings):
@@ -46,19 +49,6 @@ class Clients(unittest.TestCase):
         client.settimeout(LATE)
         with self.assertRaises(socket.timeout): client.recv(1)
         client.settimeout(60)
-
-    def told(self, name, talk, connection=0, **settings):
-        """What a player tells on standard error while a client talks; a client that `talk` gives stays till the player has ended."""
-        said = io.StringIO()
-        with contextlib.redirect_stderr(said):
-            player = play(name, connection, **settings)
-            thread = threading.Thread(target=player.serve, daemon=True)
-            thread.start()
-            client = talk(player)
-            thread.join(60)
-            self.assertFalse(thread.is_alive())
-            if client: client.close()
-        return said.getvalue()
 
     def test_an_answer(self):
         with play('http-untouched') as player: self.assertEqual(ask(player), BODY)
@@ -138,51 +128,41 @@ class Clients(unittest.TestCase):
             self.assertEqual(read(client, 5), b'hello')
             with self.assertRaises(ConnectionRefusedError): connect(player)
 
-    def test_fewer_bytes(self):
-        def talk(player):
-            with connect(player) as client:
-                client.sendall(b'on')
-                self.assertEqual(read(client, 1), b'1')
-                client.sendall(b'two')
-                self.assertEqual(read(client, 5), b'22333')
-        self.assertRegex(self.told('sessions-untouched', talk, 1, limit=SHORT), '^player: port [0-9]+: the client sent 2 of 4 bytes [(]limit 4 s[)]\n'
-                         'player: port [0-9]+: the client sent 7 of 8 bytes [(]limit 4 s[)]\n$')
-
     def test_fewer_bytes_and_a_close(self):
-        def talk(player):
-            with connect(player) as client:
-                client.sendall(b'on')
-                client.shutdown(socket.SHUT_WR)
-                self.assertEqual(read(client), b'122333')
-        self.assertRegex(self.told('sessions-untouched', talk, 1), 'the client sent 2 of 4 bytes and closed .*\n.* sent 4 of 8 bytes and closed ')
-
-    def test_a_client_that_stays(self):
-        def talk(player):
-            client = connect(player)
-            self.assertEqual(read(client, 5), b'hello')
-            client.sendall(b'bye')
+        with play('sessions-untouched', 1) as player, connect(player) as client:
+            client.sendall(b'on')
+            client.shutdown(socket.SHUT_WR)
             self.assertEqual(read(client), b'')
-            return client
-        self.assertRegex(self.told('sessions-untouched', talk, 3, limit=SHORT), '^[^\n]*: the client did not close [^\n]*\n$')
-
-    def test_a_client_that_reads_nothing(self):
-        def talk(player):
-            client = connect(player)
-            client.sendall(b'?')
-            return client
-        self.assertRegex(self.told('much', talk, limit=SHORT), '^[^\n]*: the client left [0-9]+ bytes [^\n]*\n$')
-
-    def test_no_client(self):
-        self.assertRegex(self.told('http-late', lambda player: None, limit=SHORT), 'no client came')
+        self.assertEqual((player.received, player.late), ([b'on'], None))
 
     def test_an_end_at_any_time(self):
         with play('http-in-a-year', limit=3600) as player, connect(player) as client: client.sendall(b'x' * 82)
         with play('much', limit=3600) as player, connect(player) as client: client.sendall(b'?')
-        with play('http-late', limit=3600), play('http-down', limit=3600): pass
+        with play('http-late', limit=3600) as player, connect(player): pass
+        with play('http-in-a-year', factor=1e6, limit=float('inf')) as player, connect(player) as client: client.sendall(b'x' * 82)
+        with play('http-down', limit=float('inf')): pass
+
+    def test_slices_stay_apart(self):
+        for threads, settings, most in (False, {}, 0.05), (True, {}, 0.05), (False, {'factor': 0, 'gap': 0.005}, None):
+            for _ in range(5):  # a machine that does much else may need some
+                found = measure(*files('slices'), threads=threads, **settings)
+                if found.kept >= 0.95 * found.borders > 90 and (not most or statistics.median(found.late) < most): break
+            else: self.fail(f'{settings}: {found.kept} of {found.borders}, {statistics.median(found.late)} s late')
+            self.assertGreater(min(found.late), -0.001)
+
+    def test_slices_of_a_late_player(self):
+        class Late(selectors.DefaultSelector):
+            def select(self, timeout=None):
+                if timeout: time.sleep(0.01)
+                return super().select(timeout)
+        with unittest.mock.patch('selectors.DefaultSelector', Late): found = measure(*files('slices'))
+        self.assertGreater(found.kept, 0.8 * found.borders)
 
     def test_faults(self):
         (late, untouched), (other, _) = outputs('http-late'), outputs('sessions-late')
         for fault, arguments in (('there is no connection 1', (late, untouched, 1)), ('there is no connection -1', (late, untouched, -1)),
+                                 ('there is no connection 2', (late, untouched, [0, 2])),
+                                 ('there is no connection', (late, untouched, [])),
                                  ('the outputs are not of one capture', (late, other)), ('no output capture of toxicap: it has', (late, b''))):
             with self.assertRaisesRegex(ValueError, f'^{fault}'): Player(*arguments)
 
@@ -190,25 +170,12 @@ class Clients(unittest.TestCase):
         for name in 'http-late', 'http-late-up', 'http-cut', 'http-reset', 'http-closed', 'http-silent-up', 'http-down', 'sessions-late', 'sessions-cut':
             with self.assertRaisesRegex(ValueError, '^connection 0 has more or earlier bytes in the first output: the output under the scenario has to '
                                         'come first, the untouched one second$'): Player(*reversed(outputs(name)))
-            with play(name): pass
-
-    def test_a_limit_below_the_clients(self):
-        with self.assertRaisesRegex(TimeoutError, '^player: port [0-9]+: the client did not close [(]limit 1 s[)]$'):
-            with play('http-silent', limit=1) as player, connect(player) as client:
-                client.sendall(b'x' * 82)
-                self.assertEqual(read(client), b'')
-        self.assertRegex(player.late, 'did not close')
-
-    def test_a_limit_in_a_test_that_fails(self):
-        with self.assertRaises(ZeroDivisionError):
-            with play('http-silent', limit=1) as player, connect(player) as client:
-                self.assertEqual(read(client), b'')
-                raise ZeroDivisionError
+            play(name)
 
     def test_a_client_that_gives_up(self):
         with play('http-in-a-year') as player:
             with connect(player) as client: client.sendall(b'x')
-            player.thread.join(LATE)
+            player.join()
         self.assertIsNone(player.late)
 
 

@@ -166,68 +166,6 @@ func TestSessions(t *testing.T) {
 	read(t, client, 1, "")
 }
 
-// told wants what a player tells on standard error while a client talks, which ends with the player.
-func told(t *testing.T, name string, connection int, limit time.Duration, talk func(*toxicap.Player), wanted ...string) {
-	t.Helper()
-	both := outputs(t, name)
-	player, err := toxicap.NewPlayer(both[0], both[1], connection)
-	if err != nil {
-		t.Fatal(err)
-	}
-	reader, writer, err := os.Pipe()
-	if err != nil {
-		t.Fatal(err)
-	}
-	before := os.Stderr
-	os.Stderr = writer
-	player.Limit = limit
-	done := make(chan struct{})
-	go func() { player.Serve(); close(done) }()
-	talk(player)
-	select {
-	case <-done:
-	case <-time.After(time.Minute):
-		t.Error("the player goes on")
-	}
-	os.Stderr = before
-	writer.Close()
-	player.Close()
-	said, _ := io.ReadAll(reader)
-	lines := strings.Split(strings.TrimSpace(string(said)), "\n")
-	for place, line := range lines {
-		if len(lines) != len(wanted) || !strings.Contains(line, wanted[place]) {
-			t.Errorf("wanted: %q, told: %q", wanted, said)
-		}
-	}
-}
-
-func TestWarnings(t *testing.T) {
-	told(t, "sessions-untouched", 1, short, func(p *toxicap.Player) {
-		client := connect(t, p)
-		fmt.Fprint(client, "on")
-		read(t, client, 1, "1")
-		fmt.Fprint(client, "two")
-		read(t, client, 5, "22333")
-		client.Close()
-	}, "the client sent 2 of 4 bytes (limit 4s)", "the client sent 7 of 8 bytes (")
-	told(t, "sessions-untouched", 1, time.Minute, func(p *toxicap.Player) {
-		client := connect(t, p)
-		fmt.Fprint(client, "on")
-		client.(*net.TCPConn).CloseWrite()
-		read(t, client, 7, "122333")
-	}, "the client sent 2 of 4 bytes and closed (", "the client sent 4 of 8 bytes and closed (")
-	told(t, "sessions-untouched", 3, short, func(p *toxicap.Player) {
-		client := connect(t, p)
-		read(t, client, 5, "hello")
-		fmt.Fprint(client, "bye")
-		read(t, client, 1, "")
-	}, "the client did not close (")
-	told(t, "much", 0, short, func(p *toxicap.Player) {
-		fmt.Fprint(connect(t, p), "?")
-	}, "the client left ")
-	told(t, "http-late", 0, short, func(p *toxicap.Player) {}, "no client came (")
-}
-
 func TestAnEndAtAnyTime(t *testing.T) {
 	for _, name := range []string{"http-in-a-year", "http-late", "http-down", "much"} {
 		both := outputs(t, name)
@@ -275,12 +213,24 @@ func TestSwappedOutputs(t *testing.T) {
 	}
 }
 
+// Connections that are refused and others do not go with one port, and an empty list is none.
+func TestConnectionsThatDoNotGoTogether(t *testing.T) {
+	shop := outputs(t, "shop-redis-down")
+	if _, err := toxicap.NewPlayer(shop[0], shop[1]); err == nil || !strings.HasSuffix(err.Error(),
+		" is not: one port cannot do both, name the connections of one server") {
+		t.Error(err)
+	}
+	if _, err := toxicap.NewPlayer(shop[0], shop[1], []int{}...); err == nil || err.Error() != "there is no connection" {
+		t.Error(err)
+	}
+}
+
 func TestALimitBelowTheClients(t *testing.T) {
 	player := play(t, "http-silent", 0, func(p *toxicap.Player) { p.Limit = time.Second })
 	client := connect(t, player)
 	fmt.Fprint(client, strings.Repeat("x", 82))
 	read(t, client, 1, "")
-	if err := player.Close(); err == nil || !strings.HasSuffix(err.Error(), ": the client did not close (limit 1s)") {
+	if err := player.Close(); err == nil || !strings.HasSuffix(err.Error(), ": connection 0: the client did not close (limit 1s)") {
 		t.Errorf("at the limit: %v", err)
 	}
 

@@ -2,113 +2,244 @@ package toxicap
 
 import (
 	"context"
+	"errors"
 	"fmt"
+	"io"
 	"net"
-	"os"
 	"sync"
-	"sync/atomic"
-	"syscall"
 	"time"
 )
 
-// A Player serves the server's side of one connection of an output capture to a real client on 127.0.0.1, chunk by chunk, and ends as the capture
-// does: by a FIN, by a reset, or not at all. It serves one client; any other is refused, and so is each where the proxy was disabled.
+// A Player serves the server's side of connections of an output capture to real clients on 127.0.0.1, chunk by chunk, and ends each as the capture
+// does: by a FIN, by a reset, or not at all. Each client that comes gets the next connection; after the last one others are refused, and so is each
+// when the proxy was disabled.
 //
-// An answer waits until the client has sent as many bytes as the recorded one had before it (and has closed, where that one had). From then on it
+// An answer waits until the client has sent as many bytes as the recorded one had before it (and has closed, when that one had). From then on it
 // takes as long as in the output: the recorded server's pause and what the toxics added, both times Factor (0: at once), and without the recorded
-// pause where NoPauses is set. Where the client is to do something (to come, to send enough, to take bytes, to close after the last step) the player
-// waits for Limit at most, tells on standard error what was missing, and goes on; Close then gives that as an error, by which a client that hangs is
-// found where Limit is below its own timeout too. Record the client that is tested: a shorter request is answered after the limit, and after longer
-// ones an answer may come early. A client that reads late may miss bytes before a reset.
+// pause when NoPauses is set. Record the client that is tested: for a shorter request there is no answer, and after longer ones an answer may come
+// early. A client that closes before that gets no further answer.
+//
+// For Limit in all the player waits for clients: to come, to send enough, to take bytes, to close after the last step. It does not run while an
+// answer waits for its time. When it has run out the player ends, and the error tells what was missing: so a client that hangs is found, if Limit is
+// below its own timeout.
+//
+// Each chunk is sent at once (TCP_NODELAY), and chunks that are 2 ms or more apart stay 1 ms apart when the machine is late. The kernel still joins
+// chunks that the client is late to read, and gives a chunk that is longer than its room in pieces. A client that reads late may miss bytes before a
+// reset.
 type Player struct {
-	Port     int // of 127.0.0.1
-	Factor   float64
-	NoPauses bool
-	Limit    time.Duration
+	Port         int // of 127.0.0.1
+	Factor       float64
+	NoPauses     bool
+	Limit        time.Duration
+	Gap          time.Duration // from the end of a chunk to the next one, at the least
+	SameRequests bool          // whether a client that sends other bytes than the recorded one ends the player, with an error
 
-	steps    []Step
-	listener *net.TCPListener // nil where the client is refused
-	held     int              // the socket that holds the port then
-	life     context.Context  // till Close
+	parts    []part           // what clients get, in order
+	listener *net.TCPListener // nil if clients are refused
+	held     io.Closer        // what holds the port then
+	life     context.Context
 	end      context.CancelFunc
-	news     chan struct{} // that the client sent something, or closed
-	late     atomic.Value  // the error of what was missing first at the limit
+	patience patience
 
-	mutex  sync.Mutex // of what follows
-	client *net.TCPConn
-	heard  []heard
-	closed time.Time // when the client closed
-	over   bool      // whether nothing more can come of it
+	mutex   sync.Mutex    // of what follows
+	served  chan struct{} // closed when Serve has ended; nil before it has begun
+	clients []*client
+	fault   error // what ended the player first
 }
 
-type heard struct {
-	at    time.Time
-	count int // bytes of the client so far
+// A part is a connection that is played.
+type part struct {
+	number   int // in the report
+	steps    []Step
+	requests []byte // what the recorded client sent
 }
 
-// NewPlayer makes a player of a connection, by its number in the report. Both captures are outputs of one recording, the second under the scenario
-// without toxics, `[]`: it tells what the client had sent before each answer, and when the server answered. Its times are those of the capture, its
-// limit 10 seconds; change them before Serve is called. The port is open at once; Close ends it.
-func NewPlayer(output, untouched []byte, connection int) (*Player, error) {
-	steps, err := Steps(output, untouched, connection)
+// NewPlayer makes a player of connections, by their numbers in the report, or of all of them. Both captures are outputs of one recording, the second
+// under the scenario without toxics, `[]`: it tells what the client had sent before each answer, and when the server answered. Its times are those of
+// the capture, its limit 10 seconds; change them before Serve is called. The port is open at once; Close ends it.
+func NewPlayer(output, untouched []byte, connections ...int) (*Player, error) {
+	parts, refused, err := partsOf(output, untouched, connections)
 	if err != nil {
 		return nil, err
 	}
-	p := &Player{Factor: 1, Limit: 10 * time.Second, steps: steps, held: -1, news: make(chan struct{}, 1)}
+	p := &Player{Factor: 1, Limit: 10 * time.Second, parts: parts}
 	p.life, p.end = context.WithCancel(context.Background())
-	if len(steps) == 1 && steps[0].End == "refused" {
-		return p, p.hold()
-	}
-	p.listener, err = net.ListenTCP("tcp4", &net.TCPAddr{IP: net.IPv4(127, 0, 0, 1)})
-	if err == nil {
+	if refused {
+		p.Port, p.held, err = hold()
+	} else if p.listener, err = net.ListenTCP("tcp4", &net.TCPAddr{IP: net.IPv4(127, 0, 0, 1)}); err == nil {
 		p.Port = p.listener.Addr().(*net.TCPAddr).Port
 	}
-	return p, err
+	if err != nil {
+		return nil, err
+	}
+	return p, nil
 }
 
-// Close ends the connection, wherever it is. It gives an error where the client had not done at the limit what it was to do.
-func (p *Player) Close() error {
-	p.end()
-	late, _ := p.late.Load().(error)
+// partsOf gives what is played of two outputs, and whether each client is refused.
+func partsOf(output, untouched []byte, connections []int) (parts []part, refused bool, err error) {
+	here, there, err := both(output, untouched)
+	if err != nil {
+		return nil, false, err
+	}
+	numbers, err := chosen(connections, len(here))
+	if err != nil {
+		return nil, false, err
+	}
+	taken, without := -1, -1
+	for _, number := range numbers {
+		steps := stepsOf(here[number][1], there[number])
+		if is := len(steps) == 1 && steps[0].End == "refused"; is && without < 0 {
+			without = number
+		} else if !is && taken < 0 {
+			taken = number
+		}
+		parts = append(parts, part{number, steps, whole(there[number][0])})
+	}
+	if taken >= 0 && without >= 0 {
+		return nil, false, fmt.Errorf("connection %d is refused and connection %d is not: one port cannot do both, name the connections of one server",
+			without, taken)
+	}
+	return parts, without >= 0, nil
+}
+
+// chosen gives the numbers of connections, or of all.
+func chosen(numbers []int, count int) ([]int, error) {
+	if numbers == nil {
+		for number := 0; number < count; number++ {
+			numbers = append(numbers, number)
+		}
+	}
+	for _, number := range numbers {
+		if number < 0 || number >= count {
+			return nil, noConnection(number)
+		}
+	}
+	if len(numbers) == 0 {
+		return nil, errors.New("there is no connection")
+	}
+	return numbers, nil
+}
+
+// Serve serves the clients, each to its end, and returns when the last one is done, when the limit has run out, or at Close; its error is that of
+// Close. If clients are refused it returns at Close or after Limit. It can be called once.
+func (p *Player) Serve() error {
+	p.mutex.Lock()
+	again := p.served != nil
+	if !again {
+		p.served = make(chan struct{})
+	}
+	p.mutex.Unlock()
+	if again {
+		return errors.New("player: Serve is called for the second time")
+	}
+	defer close(p.served)
 	if p.listener == nil {
-		syscall.Close(p.held)
-		return late
+		pause(p.life, p.Limit)
+		return nil
+	}
+	p.patience.begin(p.Limit, p.stop)
+	p.serve()
+	ranOut := p.patience.end()
+	p.stop()
+	if missing := p.missing(); ranOut && missing != "" {
+		p.fail(fmt.Sprintf("%s (limit %v)", missing, p.Limit))
+	}
+	return p.result()
+}
+
+// serve serves each client that comes, up to the last.
+func (p *Player) serve() {
+	var each sync.WaitGroup
+	defer each.Wait()
+	for _, part := range p.parts {
+		socket, err := p.listener.AcceptTCP()
+		if err != nil {
+			return
+		}
+		came := p.welcome(socket, part)
+		each.Add(1)
+		go func() {
+			defer each.Done()
+			came.serve()
+		}()
 	}
 	p.listener.Close()
+}
+
+// Close ends all connections, wherever they are, waits for Serve, and gives its error: what was missing when the limit had run out, other requests
+// than the recorded ones, or that no client came. Each further call gives the same.
+func (p *Player) Close() error {
+	p.stop()
+	if p.held != nil {
+		p.held.Close()
+	}
+	p.mutex.Lock()
+	served := p.served
+	p.mutex.Unlock()
+	if served != nil {
+		<-served
+	}
+	return p.result()
+}
+
+// Received gives what each client sent, in the order in which they came; all of it after Close or Serve.
+func (p *Player) Received() [][]byte {
+	p.mutex.Lock()
+	clients := p.clients
+	p.mutex.Unlock()
+	all := make([][]byte, len(clients))
+	for place, client := range clients {
+		client.mutex.Lock()
+		all[place] = append([]byte{}, client.received...)
+		client.mutex.Unlock()
+	}
+	return all
+}
+
+// stop ends all connections.
+func (p *Player) stop() {
+	p.end()
+	if p.listener != nil {
+		p.listener.Close()
+	}
 	p.mutex.Lock()
 	defer p.mutex.Unlock()
-	if p.client != nil {
-		p.client.SetDeadline(time.Now())
-	}
-	return late
-}
-
-// Serve serves one client, to its end.
-func (p *Player) Serve() {
-	if p.listener == nil {
-		p.wait(p.Limit, func() bool { return false })
-		return
-	}
-	p.listener.SetDeadline(time.Now().Add(p.Limit))
-	client, err := p.listener.AcceptTCP()
-	p.listener.Close()
-	if err == nil {
-		defer client.Close()
-		p.mutex.Lock()
-		p.client, p.heard = client, []heard{{time.Now(), 0}}
-		p.mutex.Unlock()
-		go p.read(client)
-		p.play(client)
-	} else if os.IsTimeout(err) {
-		p.tell(true, "no client came")
+	for _, client := range p.clients {
+		client.stop()
 	}
 }
 
-// tell prints what the client has not done; late where the limit ran out by it.
-func (p *Player) tell(late bool, fault string) {
-	told := fmt.Errorf("player: port %d: %s (limit %v)", p.Port, fault, p.Limit)
-	if late {
-		p.late.CompareAndSwap(nil, told)
+// fail keeps what ended the player, if nothing did before.
+func (p *Player) fail(fault string) {
+	p.mutex.Lock()
+	defer p.mutex.Unlock()
+	if p.fault == nil {
+		p.fault = fmt.Errorf("player: port %d: %s", p.Port, fault)
 	}
-	fmt.Fprintln(os.Stderr, told)
+}
+
+func (p *Player) result() error {
+	p.mutex.Lock()
+	defer p.mutex.Unlock()
+	if p.fault == nil && p.listener != nil && len(p.clients) == 0 {
+		return fmt.Errorf("player: port %d: no client came", p.Port)
+	}
+	return p.fault
+}
+
+// missing tells what the player had waited for longest when it ended, if anything.
+func (p *Player) missing() (told string) {
+	first := time.Time{}
+	for _, client := range p.clients {
+		if client.missing != "" && (first.IsZero() || client.asked.Before(first)) {
+			first, told = client.asked, fmt.Sprintf("connection %d: %s", client.number, client.missing)
+		}
+	}
+	switch {
+	case told != "" || len(p.clients) == len(p.parts):
+		return told
+	case len(p.clients) == 0:
+		return "no client came"
+	}
+	return fmt.Sprintf("%d of %d clients came", len(p.clients), len(p.parts))
 }

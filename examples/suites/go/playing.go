@@ -4,86 +4,190 @@ import (
 	"fmt"
 	"net"
 	"os"
+	"sync"
 	"time"
 )
 
-// play does the steps, and ends early where the client has gone or the player is closed.
-func (p *Player) play(client *net.TCPConn) {
-	for _, step := range p.steps {
-		delay := step.Delay
-		if !p.NoPauses {
-			delay += step.Pause
+const (
+	apartInOutput = 2 * time.Millisecond  // chunks that are this far apart in the output
+	apartAtLeast  = time.Millisecond      // are so far apart when they are sent late, too
+	unread        = 10 * time.Millisecond // for what lies unread when a player ends
+)
+
+// A client is one that has come, and its connection.
+type client struct {
+	part
+	player  *Player
+	socket  *net.TCPConn
+	news    chan struct{} // that it sent something, or closed
+	read    chan struct{} // closed when nothing more is read of it
+	asked   time.Time     // since when the player waits for it
+	missing string        // what was missing when the player ended, while it waited
+
+	mutex    sync.Mutex // of what follows
+	received []byte
+	heard    []heard
+	closed   time.Time // when it closed, or broke off
+}
+
+type heard struct {
+	at    time.Time
+	count int // bytes of the client so far
+}
+
+// welcome takes a client that has come.
+func (p *Player) welcome(socket *net.TCPConn, part part) *client {
+	socket.SetNoDelay(true)
+	c := &client{part: part, player: p, socket: socket, news: make(chan struct{}, 1), read: make(chan struct{}), heard: []heard{{time.Now(), 0}}}
+	p.mutex.Lock()
+	defer p.mutex.Unlock()
+	if p.clients = append(p.clients, c); p.life.Err() != nil {
+		c.stop()
+	}
+	return c
+}
+
+// stop has what waits for the client come to its end.
+func (c *client) stop() {
+	c.socket.SetReadDeadline(time.Now().Add(unread))
+	c.socket.SetWriteDeadline(time.Now())
+}
+
+// serve plays the connection, and closes it.
+func (c *client) serve() {
+	go c.receive()
+	c.play()
+	if c.player.life.Err() != nil {
+		<-c.read
+	}
+	c.socket.Close()
+	<-c.read
+}
+
+// play does the steps, and ends early if the client has gone or the player ends.
+func (c *client) play() {
+	var due, wrote time.Time
+	for _, step := range c.steps {
+		since, done := c.since(step)
+		if !done {
+			return
 		}
-		due := p.since(step).Add(time.Duration(float64(delay) * p.Factor))
-		p.wait(time.Until(due), func() bool { return false })
-		if p.life.Err() != nil {
+		before := due
+		due = since.Add(c.length(step))
+		at := due
+		if next := wrote.Add(c.apart(due.Sub(before))); step.End == "" && next.After(at) {
+			at = next
+		}
+		if left := time.Until(at); left > 0 && !c.player.patience.during(c.player.life, left) {
 			return
 		}
 		switch step.End {
 		case "fin":
-			client.CloseWrite()
+			c.socket.CloseWrite()
 		case "reset":
-			client.SetLinger(0)
+			c.socket.SetLinger(0)
 			return
 		default:
-			client.SetWriteDeadline(time.Now().Add(p.Limit))
-			if sent, err := client.Write(step.Bytes); err != nil {
-				if os.IsTimeout(err) && p.life.Err() == nil {
-					p.tell(true, fmt.Sprintf("the client left %d bytes", len(step.Bytes)-sent))
-				}
+			if !c.write(step.Bytes) {
 				return
 			}
+			wrote = time.Now()
 		}
 	}
-	if !p.wait(p.Limit, func() bool { return p.over }) && p.life.Err() == nil {
-		p.tell(true, "the client did not close")
-	}
+	c.await(func() bool { return !c.closed.IsZero() }, func() string { return "the client did not close" })
 }
 
-// since is when the client had done what a step waits for. What it has not done at the limit, or when it closed, counts as done then.
-func (p *Player) since(step Step) time.Time {
-	ready := func() bool { return p.heard[len(p.heard)-1].count >= step.Need && (!p.closed.IsZero() || !step.Closed) }
-	p.wait(p.Limit, func() bool { return ready() || p.over })
-	p.mutex.Lock()
-	defer p.mutex.Unlock()
-	if !ready() && p.life.Err() == nil {
-		count, closed := p.heard[len(p.heard)-1].count, ""
-		if p.over {
-			closed = " and closed"
-		} else if step.Closed {
-			closed = " and did not close"
-		}
-		p.tell(!p.over, fmt.Sprintf("the client sent %d of %d bytes%s", count, step.Need, closed))
-		if count < step.Need {
-			p.heard = append(p.heard, heard{time.Now(), step.Need})
-		}
-		if p.closed.IsZero() && step.Closed {
-			p.closed = time.Now()
-		}
+// length is how long a step takes once the client has done what it waits for.
+func (c *client) length(step Step) time.Duration {
+	length := step.Delay
+	if !c.player.NoPauses {
+		length += step.Pause
 	}
-	for _, heard := range p.heard {
-		if heard.count >= step.Need {
-			if step.Closed && p.closed.After(heard.at) {
-				return p.closed
-			}
-			return heard.at
-		}
-	}
-	return time.Now()
+	return time.Duration(float64(length) * c.player.Factor)
 }
 
-// read reads what the client sends, until it closes.
-func (p *Player) read(client *net.TCPConn) {
-	room := make([]byte, 65536)
+// apart is the least time between the end of a chunk and a chunk that is due that much later.
+func (c *client) apart(later time.Duration) time.Duration {
+	if c.player.Gap < apartAtLeast && later >= apartInOutput {
+		return apartAtLeast
+	}
+	return c.player.Gap
+}
+
+// write sends a chunk; false if the client has gone, or the player ended before the client had taken all of it.
+func (c *client) write(chunk []byte) bool {
+	c.asked = time.Now()
+	sent, err := c.socket.Write(chunk)
+	if os.IsTimeout(err) {
+		c.missing = fmt.Sprintf("the client left %d bytes", len(chunk)-sent)
+	}
+	return err == nil
+}
+
+// since is when the client had done what a step waits for; false if it never will, or the player ended before.
+func (c *client) since(step Step) (at time.Time, done bool) {
+	ready := func() bool { return len(c.received) >= step.Need && (!step.Closed || !c.closed.IsZero()) }
+	c.await(func() bool { return ready() || !c.closed.IsZero() }, func() string {
+		text := fmt.Sprintf("the client sent %d of %d bytes", len(c.received), step.Need)
+		if step.Closed {
+			text += " and did not close"
+		}
+		return text
+	})
+	c.mutex.Lock()
+	defer c.mutex.Unlock()
+	if !ready() || c.player.life.Err() != nil {
+		return at, false
+	}
+	for c.heard[0].count < step.Need { // a later step needs no fewer bytes
+		c.heard = c.heard[1:]
+	}
+	if at = c.heard[0].at; step.Closed && c.closed.After(at) {
+		at = c.closed
+	}
+	return at, true
+}
+
+// await waits until it is enough; if the player ends before, what was missing is kept.
+func (c *client) await(enough func() bool, missing func() string) {
+	c.asked = time.Now()
 	for {
-		length, err := client.Read(room)
-		p.mutex.Lock()
-		if p.heard = append(p.heard, heard{time.Now(), p.heard[len(p.heard)-1].count + length}); err != nil {
-			p.closed, p.over = time.Now(), true
+		c.mutex.Lock()
+		done := enough()
+		c.mutex.Unlock()
+		if done {
+			return
 		}
-		p.mutex.Unlock()
 		select {
-		case p.news <- struct{}{}:
+		case <-c.news:
+		case <-c.player.life.Done():
+			c.mutex.Lock()
+			c.missing = missing()
+			c.mutex.Unlock()
+			return
+		}
+	}
+}
+
+// receive reads what the client sends, until it closes or the player ends.
+func (c *client) receive() {
+	defer close(c.read)
+	room, same := make([]byte, 65536), true
+	for {
+		length, err := c.socket.Read(room)
+		c.mutex.Lock()
+		c.received = append(c.received, room[:length]...)
+		if c.heard = append(c.heard, heard{time.Now(), len(c.received)}); err != nil && !os.IsTimeout(err) {
+			c.closed = time.Now()
+		}
+		other := same && c.player.SameRequests && !c.compare(len(c.received)-length)
+		c.mutex.Unlock()
+		if other {
+			same = false
+			c.player.stop()
+		}
+		select {
+		case c.news <- struct{}{}:
 		default:
 		}
 		if err != nil {
@@ -92,23 +196,22 @@ func (p *Player) read(client *net.TCPConn) {
 	}
 }
 
-// wait waits so long, or until it is enough; whether it is. A player that is closed waits no more.
-func (p *Player) wait(most time.Duration, enough func() bool) bool {
-	timer := time.NewTimer(most)
-	defer timer.Stop()
-	for {
-		p.mutex.Lock()
-		done := enough()
-		p.mutex.Unlock()
-		if done {
-			return true
-		}
-		select {
-		case <-p.news:
-		case <-timer.C:
-			return false
-		case <-p.life.Done():
-			return false
-		}
+// compare tells whether the client's bytes from a place on are those of the recorded one; else it is the player's fault.
+func (c *client) compare(place int) bool {
+	for ; place < len(c.received) && place < len(c.requests) && c.received[place] == c.requests[place]; place++ {
 	}
+	if place < len(c.received) {
+		c.player.fail(fmt.Sprintf("connection %d: the client sent %q at byte %d, and the recorded one %q", c.number, few(c.received[place:]), place,
+			few(c.requests[place:])))
+		return false
+	}
+	return true
+}
+
+// few gives the first bytes of more.
+func few(bytes []byte) []byte {
+	if len(bytes) > 20 {
+		return bytes[:20]
+	}
+	return bytes
 }

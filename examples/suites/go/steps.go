@@ -5,6 +5,7 @@ import (
 	"errors"
 	"fmt"
 	"math"
+	"sort"
 	"time"
 )
 
@@ -21,45 +22,62 @@ type Step struct {
 	End    string        // "fin", "reset", "refused", or "" for a chunk
 }
 
-// Steps gives what a player does, in order. A chunk stands for the recorded one that has its last byte, an end for the first byte that no longer comes
-// or for the recorded end. An end that a toxic made earlier than that stands for what was recorded last before it, of either side.
+// Steps gives what a player does, in order. A chunk stands for the recorded one that has its last byte, an end for the first byte that no longer
+// comes or for the recorded end. An end that a toxic made earlier than that stands for what was recorded last before it, of either side.
 func Steps(output, untouched []byte, connection int) ([]Step, error) {
-	here, err := Delivered(output)
+	here, there, err := both(output, untouched)
+	if err != nil {
+		return nil, err
+	}
+	if connection < 0 || connection >= len(here) {
+		return nil, noConnection(connection)
+	}
+	return stepsOf(here[connection][1], there[connection]), nil
+}
+
+// both gives the lines of each connection of two outputs, of which the second is the untouched one.
+func both(output, untouched []byte) (here, there [][2]Line, err error) {
+	here, err = Delivered(output)
 	there, other := Delivered(untouched)
 	if err != nil || other != nil {
-		return nil, firstOf(err, other)
+		return nil, nil, firstOf(err, other)
 	}
 	if len(here) != len(there) {
-		return nil, errors.New("the outputs are not of one capture")
+		return nil, nil, errors.New("the outputs are not of one capture")
 	}
 	for number := range here {
 		for side := range here[number] {
 			ordered, err := inOrder(here[number][side], there[number][side])
 			if err != nil {
-				return nil, err
+				return nil, nil, err
 			}
 			if !ordered {
-				return nil, fmt.Errorf("connection %d %s", number, swapped)
+				return nil, nil, fmt.Errorf("connection %d %s", number, swapped)
 			}
 		}
 	}
-	if connection < 0 || connection >= len(here) {
-		return nil, fmt.Errorf("there is no connection %d", connection)
-	}
-	down, up, recorded := here[connection][1], there[connection][0], there[connection][1]
-	steps, place := []Step{}, 0
+	return here, there, nil
+}
+
+func noConnection(number int) error {
+	return fmt.Errorf("there is no connection %d", number)
+}
+
+// stepsOf gives the steps of a connection, of which the server's line and the recorded lines are known.
+func stepsOf(down Line, there [2]Line) []Step {
+	r, steps, place := recordingOf(there), []Step{}, 0
 	for _, chunk := range down.Chunks {
 		place += len(chunk.Bytes)
-		steps = append(steps, stepOf(up, answeredAt(recorded, place-1), chunk))
+		steps = append(steps, r.step(r.answeredAt(place-1), chunk))
 	}
 	if down.End != nil {
-		recordedAt := answeredAt(recorded, place)
+		recordedAt := r.answeredAt(place)
 		if recordedAt > down.End.Time {
-			recordedAt = lastBefore(down.End.Time, up, recorded)
+			recordedAt = r.lastBefore(down.End.Time)
 		}
-		steps = append(steps, stepOf(up, recordedAt, *down.End))
+		steps = append(steps, r.step(recordedAt, *down.End))
 	}
-	return steps, nil
+	return steps
 }
 
 // inOrder tells whether a line has no byte earlier than the recorded one, and none more; an error where its bytes are others.
@@ -99,39 +117,57 @@ func whole(line Line) (all []byte) {
 	return all
 }
 
-// answeredAt is when the byte at a place of a line was recorded, or the line's end after its last byte.
-func answeredAt(line Line, place int) time.Duration {
-	for _, chunk := range line.Chunks {
-		if place < len(chunk.Bytes) {
-			return chunk.Time
+// A recording is a connection's recorded lines, and how many bytes each has up to the end of each chunk.
+type recording struct {
+	lines [2]Line
+	ends  [2][]int
+}
+
+func recordingOf(lines [2]Line) recording {
+	r := recording{lines: lines}
+	for side, line := range lines {
+		end := 0
+		for _, chunk := range line.Chunks {
+			end += len(chunk.Bytes)
+			r.ends[side] = append(r.ends[side], end)
 		}
-		place -= len(chunk.Bytes)
 	}
-	if line.End != nil {
-		return line.End.Time
+	return r
+}
+
+// answeredAt is when the server's byte at a place was recorded, or the end after its last byte.
+func (r recording) answeredAt(place int) time.Duration {
+	down := r.lines[1]
+	if number := sort.SearchInts(r.ends[1], place+1); number < len(down.Chunks) {
+		return down.Chunks[number].Time
+	}
+	if down.End != nil {
+		return down.End.Time
 	}
 	return math.MaxInt64
 }
 
-// lastBefore is when the last chunk of these lines was recorded that is not later than an instant, or the opening.
-func lastBefore(instant time.Duration, lines ...Line) (last time.Duration) {
-	for _, line := range lines {
-		for _, chunk := range line.Chunks {
-			if chunk.Time <= instant && chunk.Time > last {
-				last = chunk.Time
-			}
+// until is how many chunks of a side were recorded up to an instant.
+func (r recording) until(side int, instant time.Duration) int {
+	chunks := r.lines[side].Chunks
+	return sort.Search(len(chunks), func(number int) bool { return chunks[number].Time > instant })
+}
+
+// lastBefore is when the last chunk was recorded that is not later than an instant, or the opening.
+func (r recording) lastBefore(instant time.Duration) (last time.Duration) {
+	for side, line := range r.lines {
+		if count := r.until(side, instant); count > 0 && line.Chunks[count-1].Time > last {
+			last = line.Chunks[count-1].Time
 		}
 	}
 	return last
 }
 
-// stepOf is the step of an event that stands for what was recorded at an instant.
-func stepOf(up Line, recordedAt time.Duration, event Event) Step {
-	step, last := Step{Bytes: event.Bytes, End: event.End, Delay: event.Time - recordedAt}, time.Duration(0)
-	for _, chunk := range up.Chunks {
-		if chunk.Time <= recordedAt {
-			step.Need, last = step.Need+len(chunk.Bytes), chunk.Time
-		}
+// step is the step of an event that stands for what was recorded at an instant.
+func (r recording) step(recordedAt time.Duration, event Event) Step {
+	step, last, up := Step{Bytes: event.Bytes, End: event.End, Delay: event.Time - recordedAt}, time.Duration(0), r.lines[0]
+	if count := r.until(0, recordedAt); count > 0 {
+		step.Need, last = r.ends[0][count-1], up.Chunks[count-1].Time
 	}
 	if up.End != nil && up.End.End == "fin" && up.End.Time < recordedAt {
 		step.Closed, last = true, up.End.Time

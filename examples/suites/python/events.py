@@ -139,6 +139,11 @@ class Line(NamedTuple):
     chunks: List[Tuple[int, bytes]]
     end: Optional[Tuple[int, str]]
 
+    @property
+    def data(self) -> bytes:
+        """All its bytes, those of each chunk after those of the one before."""
+        return b''.join(what for _, what in self.chunks)
+
 
 def delivered(capture: bytes) -> List[Tuple[Line, Line]]:
     """The same as two lines for each connection, (up, down); times are those of `events`."""

@@ -1,0 +1,112 @@
+"""The closed loop against real time: sessions of three protocols, recorded, and again through a proxy in real time.
+
+    live.py TOOL FOLDER
+
+Each chunk of the closed loop, which TOOL (examples/closed_loop) stores in the folder, has to have come through the proxy within 50 ms or a fifth of
+its time, with IDLE=1 within 10 ms or a twentieth; a session that misses that is recorded and tried anew, four times. Prints what misses, with IDLE=1
+a table, and at last how many sessions are as they should be."""
+import contextlib
+import itertools
+import os
+import pathlib
+import subprocess
+import sys
+
+TOP = pathlib.Path(__file__).resolve().parents[2]
+sys.path.insert(0, str(TOP / "examples/suites/python"))
+from captures import ACK, FIN, PSH, SYN, Talk, pcap, scenario
+from events import delivered
+from protocols import PROTOCOLS
+from proxy import Proxy
+
+IDLE = os.environ.get("IDLE") == "1"
+LEAST, PART = (0.010, 0.05) if IDLE else (0.050, 0.2)  # seconds, of the time
+WEATHER = [
+    [("latency", "downstream", {"latency": 30})],
+    [("latency", "downstream", {"latency": 20}), ("latency", "upstream", {"latency": 25})],
+    [("bandwidth", "downstream", {"rate": 20})],
+    [("slicer", "downstream", {"average_size": 200, "size_variation": 0, "delay": 3000})],
+    [("limit_data", "downstream", {"bytes": 2000})],
+    [("latency", "upstream", {"latency": 15}), ("bandwidth", "downstream", {"rate": 40})],
+    [("latency", "downstream", {"latency": 10}), ("slicer", "downstream", {"average_size": 500, "size_variation": 0, "delay": 8000})],
+]
+
+
+def recorded(came):
+    """A capture of what a session sent, in microseconds."""
+    talk = Talk()
+    records = [(10**6, talk.send(side, flags)) for side, flags in ((0, SYN), (1, SYN | ACK), (0, ACK))]
+    for seconds, side, data in sorted(came):
+        records.append((10**6 + round(seconds * 10**6), talk.send(side, ACK | (PSH if data else FIN), data)))
+    return pcap(records)
+
+
+def reached(line):
+    """The seconds of each chunk of a line with the number of bytes up to its end."""
+    return list(zip((at for at, _ in line), itertools.accumulate(len(data) for _, data in line)))
+
+
+def differences(loop, went):
+    """Of each chunk of the closed loop its time, and how much later it came through the proxy; None where bytes are missing or too many."""
+    found = []
+    for side, line in enumerate(loop):
+        wanted = reached([(at / 1e9, data) for at, data in line.chunks])
+        live = reached([(at, data) for at, of, data in went if of == side and data])
+        if [count for _, count in wanted[-1:]] != [count for _, count in live[-1:]]:
+            return None
+        for at, count in wanted:
+            found.append((at, next(when for when, upto in live if upto >= count) - at))
+    return found
+
+
+def session(server, client, toxics):
+    """A session through a proxy, before all else that this machine does, where that is allowed."""
+    usual = os.sched_getscheduler(0), os.sched_getparam(0)
+    with contextlib.suppress(OSError):
+        os.sched_setscheduler(0, os.SCHED_FIFO, os.sched_param(1))
+    try:
+        return Proxy(server, client, toxics)
+    finally:
+        os.sched_setscheduler(0, *usual)
+
+
+def tried(tool, folder, protocol, toxics):
+    """A session, recorded and live: its open loop, its closed loop, and what went through the proxy."""
+    server, client = PROTOCOLS[protocol]
+    capture, text, outputs = folder / "capture", folder / "scenario", []
+    capture.write_bytes(recorded(session(server, client, []).came))
+    text.write_bytes(scenario(toxics))
+    for command in [os.environ["TOXICAP"]], [sys.executable, "-B", tool]:
+        subprocess.run([*command, "--capture", capture, "--scenario", text, "--out", folder], check=True, stdin=subprocess.DEVNULL)
+        outputs += delivered((folder / "0000.pcap").read_bytes())
+    return (*outputs, session(server, client, toxics).went)
+
+
+def missed(found):
+    """Those differences that are too large."""
+    return [(at, late) for at, late in found if abs(late) > max(LEAST, PART * at)]
+
+
+def main(tool, folder):
+    count = 0
+    if IDLE:
+        print("| protocol | toxics | open loop | closed loop | live | greatest difference |\n|---|---|---|---|---|---|")
+    for protocol, toxics in itertools.product(PROTOCOLS, WEATHER):
+        for _ in range(5):
+            opened, loop, went = tried(tool, folder, protocol, toxics)
+            found = differences(loop, went)
+            if found and not missed(found):
+                break
+        name = ", ".join(f"{kind} {stream}" for kind, stream, _ in toxics)
+        if found and not missed(found):
+            count += 1
+        else:
+            print(f"  {protocol}, {name}: {f'late: {missed(found)}' if found else 'other bytes'}")
+        if IDLE and found:
+            last = [line[1].chunks[-1][0] / 1e9 for line in (opened, loop)] + [max(at for at, side, data in went if side == 1 and data)]
+            print(f"| {protocol} | {name} |", *(f"{each * 1000:.1f} |" for each in (*last, max((late for _, late in found), key=abs))))
+    print(count, "sessions")
+
+
+if __name__ == "__main__":
+    main(sys.argv[1], pathlib.Path(sys.argv[2]))

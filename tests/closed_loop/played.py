@@ -1,0 +1,35 @@
+"""Plays the closed loop of a session whose answers queue: played.py TOOL CAPTURE SCENARIO FOLDER. A client that waits for each answer of 100 bytes has all
+of them when the closed loop has them; within 0.2 seconds, and in five tries if the machine is busy."""
+import pathlib
+import socket
+import subprocess
+import sys
+import time
+
+sys.path.append("examples/suites/python")
+from events import delivered
+from player import Player
+
+
+def played(output, untouched, questions):
+    """How many seconds the client takes."""
+    with Player(output, untouched, limit=60) as player, socket.create_connection(("127.0.0.1", player.port), 60) as client:
+        begin = time.monotonic()
+        for _ in range(questions):
+            client.sendall(b"?")
+            client.recv(100, socket.MSG_WAITALL)
+        return time.monotonic() - begin
+
+
+def main(tool, capture, scenario, folder):
+    subprocess.run([tool, "--capture", capture, "--scenario", scenario, "--out", folder], check=True)
+    output, untouched = (pathlib.Path(folder, name).read_bytes() for name in ("0000.pcap", "0001.pcap"))
+    [(up, down)] = delivered(output)
+    wanted, found = down.chunks[-1][0] / 10**9, []
+    while len(found) < 5 and not (found and wanted <= found[-1] <= wanted + 0.2):
+        found.append(played(output, untouched, len(up.data)))
+    print("played" if found[-1] <= wanted + 0.2 else f"{found} seconds, and {wanted} wanted")
+
+
+if __name__ == "__main__":
+    main(*sys.argv[1:])

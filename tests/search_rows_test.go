@@ -4,6 +4,7 @@ package main
 // beside it, in a copy.
 
 import (
+	"context"
 	"encoding/json"
 	"fmt"
 	"os"
@@ -59,14 +60,14 @@ func tryRow(t *testing.T, row row) {
 	for i, scenario := range row.Scenarios {
 		texts[i] = scenario
 	}
-	seed, found, err := LeastSeed(capture, texts, []byte(row.Hosts), finds, row.Below)
+	seed, found, err := LeastSeed(context.Background(), capture, texts, []byte(row.Hosts), finds, row.Below)
 	if err != nil || found != (row.Seed != nil) || found && seed != *row.Seed {
 		t.Error("least seed", seed, found, err)
 	}
 	if row.Smallest == nil {
 		return
 	}
-	text, seed, err := Shrink(capture, texts[0], []byte(row.Hosts), finds, row.Below)
+	text, seed, err := Shrink(context.Background(), capture, texts[0], []byte(row.Hosts), finds, row.Below)
 	var smallest any
 	if err != nil || json.Unmarshal(text, &smallest) != nil || !reflect.DeepEqual(smallest, row.Smallest) || seed != *row.Seed {
 		t.Error("smallest", seed, string(text), err)
@@ -76,24 +77,57 @@ func tryRow(t *testing.T, row row) {
 func TestWrongUses(t *testing.T) {
 	capture := read(t, "../../samples/http-get.pcap")
 	answer := func(answered bool) func([]Output) bool { return func([]Output) bool { return answered } }
-	_, _, noSeed := LeastSeed(capture, [][]byte{[]byte("[]")}, nil, answer(true), 0)
-	_, _, refused := LeastSeed(capture, [][]byte{[]byte("[]"), []byte("[")}, nil, answer(true), 1)
-	_, _, shrinkNoSeed := Shrink(capture, []byte("[]"), nil, answer(true), 0)
-	_, _, shrinkRefused := Shrink(capture, []byte("["), nil, answer(true), 1)
-	_, _, passes := Shrink(capture, []byte("[]"), nil, answer(false), 3)
+	_, _, noSeed := LeastSeed(context.Background(), capture, [][]byte{[]byte("[]")}, nil, answer(true), 0)
+	_, _, refused := LeastSeed(context.Background(), capture, [][]byte{[]byte("[]"), []byte("[")}, nil, answer(true), 1)
+	ended, end := context.WithCancel(context.Background())
+	end()
+	_, _, leastEnded := LeastSeed(ended, capture, [][]byte{[]byte("[]")}, nil, answer(false), 1<<40)
+	_, _, shrinkEnded := Shrink(ended, capture, []byte("[]"), nil, answer(true), 0)
+	_, _, shrinkRefused := Shrink(context.Background(), capture, []byte("["), nil, answer(true), 1)
+	_, _, passes := Shrink(context.Background(), capture, []byte("[]"), nil, answer(false), 3)
 	for _, use := range []struct {
 		err    error
 		wanted string
 	}{
 		{noSeed, "below is 0, so there is no seed to try"},
-		{shrinkNoSeed, "below is 0, so there is no seed to try"},
-		{refused, "refused 10 NotJson scenario 1"},
-		{shrinkRefused, "refused 10 NotJson scenario 0"},
+		{leastEnded, "context canceled"},
+		{shrinkEnded, "context canceled"},
+		{refused, "refused 10 NotJson scenario 1: scenario 1 ends before its JSON does"},
+		{shrinkRefused, "refused 10 NotJson scenario 0: scenario 0 ends before its JSON does"},
 		{passes, "the scenario does not fail under these seeds: there is nothing to shrink"},
 	} {
 		if use.err == nil || use.err.Error() != use.wanted {
 			t.Errorf("%v in place of %s", use.err, use.wanted)
 		}
+	}
+}
+
+// A function that panics is true, Shrink tries seeds by itself, and leaves out what has no effect without a call of the function.
+func TestPanics(t *testing.T) {
+	capture := read(t, "../../samples/http-get.pcap")
+	proxies := []Proxy{{Upstream: "10.77.0.2:80", Toxics: []Toxic{{Type: "limit_data", Toxicity: 0.2, Bytes: 50}}}}
+	for number := 1; number < 30; number++ {
+		proxies = append(proxies, Proxy{Upstream: fmt.Sprintf("10.77.0.9:%d", number), Toxics: []Toxic{{Type: "timeout"}}})
+	}
+	seed, found, err := LeastSeed(context.Background(), capture, [][]byte{Scenario(proxies...)}, nil, func([]Output) bool { panic("broken") }, 9)
+	if seed != 0 || !found || err != nil {
+		t.Error(seed, found, err)
+	}
+	answered, panicked := 0, 0
+	smallest, seed, err := Shrink(context.Background(), capture, Scenario(proxies...), nil, func(outputs []Output) bool {
+		if strings.Contains(string(outputs[0].Report), " down 216/216/0 ") {
+			answered++
+			return false
+		}
+		panicked++
+		panic("cut")
+	}, 0)
+	wanted := `[{"name":"10.77.0.2:80","toxics":[{"attributes":{"bytes":0},"type":"limit_data"}],"upstream":"10.77.0.2:80"}]`
+	if string(smallest) != wanted || seed != 0 || err != nil {
+		t.Error(string(smallest), seed, err)
+	}
+	if panicked > 10 { // none for the 29 proxies
+		t.Error(panicked, answered)
 	}
 }
 
@@ -141,6 +175,14 @@ func TestFeedPrefixes(t *testing.T) {
 		if told := fmt.Sprint(messages); size != row.size || told != row.messages || fmt.Sprint(err) != row.err {
 			t.Errorf("%q: %d %s %v", row.stream, size, told, err)
 		}
+	}
+	joined := func(messages []string) string { return strings.Join(messages, "") }
+	asTheyCome := forgetful(func(text string) ([]string, error) { return []string{text}, nil })
+	if size, messages, err := FeedPrefixesBy(asTheyCome, []byte("abc"), joined); size != 0 || messages != nil || err != nil {
+		t.Error(size, messages, err)
+	}
+	if size, messages, err := FeedPrefixesBy(numbers, []byte("7 12 "), joined); size != 0 || messages != nil || err != nil {
+		t.Error(size, messages, err)
 	}
 	if whole, err := Parser[string](lines).Feed([]byte("+O"), []byte("K\n:1"), []byte("\n:2")); fmt.Sprint(whole, err) != "[+OK :1] <nil>" {
 		t.Error(whole, err)

@@ -22,6 +22,9 @@ func main() {
 		texts[i] = text
 	}
 	outputs, err := Rehearse(texts[0], texts[1:], []byte(os.Getenv("HOSTS")), 0)
+	if refusal := (*Refusal)(nil); errors.As(err, &refusal) {
+		err = errors.New(refusal.Line())
+	}
 	stopOn(err, 1)
 	for i, output := range outputs {
 		stopOn(os.WriteFile(fmt.Sprintf("%04d.pcap", i), output.Capture, 0o666), 2)

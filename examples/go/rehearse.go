@@ -1,3 +1,5 @@
+//go:build cgo && linux && amd64
+
 package main
 
 /*
@@ -8,36 +10,17 @@ import "C"
 
 import (
 	"bytes"
-	"strconv"
-	"strings"
 )
 
-// An Output is what one scenario gives.
-type Output struct{ Capture, Report []byte }
-
-// A Refusal is what toxicap refuses: its number (the guide has a table of them), its name, and where it stands, as "scenario 0 proxy 1", or "" where
-// there is no place; numbers there count from 0. Want of memory is the number 40. In a chain of errors it is found by errors.As, as a *Refusal.
-type Refusal struct {
-	Number      int
-	Name, Place string
-}
-
-// Error gives the program's line, as "refused 15 UnknownHost scenario 0 proxy 1".
-func (r *Refusal) Error() string {
-	return strings.TrimSuffix("refused "+strconv.Itoa(r.Number)+" "+r.Name+" "+r.Place, " ")
-}
-
-// errorOf gives the error of a call, nil where it was answered.
-func errorOf(status C.uint8_t, line []byte) error {
+// errorOf gives the error of a call with these inputs, nil if it was answered.
+func errorOf(status C.uint8_t, line, capture []byte, scenarios [][]byte, hosts []byte) error {
 	switch status {
 	case C.TOXICAP_ANSWERED:
 		return nil
 	case C.TOXICAP_REFUSED:
-		words := append(strings.SplitN(string(line), " ", 4), "")
-		number, _ := strconv.Atoi(words[1])
-		return &Refusal{number, words[2], words[3]}
+		return refusalOf(string(line), capture, scenarios, hosts)
 	}
-	return &Refusal{Number: 40, Name: "Memory"}
+	return refusalOf("refused 40 Memory", capture, scenarios, hosts)
 }
 
 // ptr gives the address of the first value, or nil where there is none.
@@ -57,25 +40,35 @@ func texts(scenarios [][]byte) ([]byte, []C.size_t) {
 	return bytes.Join(scenarios, nil), lens
 }
 
-// reportRoom is a first guess: a connection takes some 120 bytes of a report, and mostly 1,000 or more of the capture; 256 KiB at most.
-func reportRoom(capture []byte, count int) C.size_t {
-	each := len(capture) / 8
-	if each > 262144 {
-		each = 262144
+// firstRoom is the most room in bytes that a call gets before it has said how much it takes.
+const firstRoom = 4 << 20
+
+// room gives a first guess for count outputs of some bytes each: more than most take, and within firstRoom.
+func room(count, each int) C.size_t {
+	if count*each > firstRoom {
+		return firstRoom
 	}
-	return C.size_t(count * (1024 + each))
+	return C.size_t(count * each)
+}
+
+// fitted gives the first bytes of a room, in one of their own if much would be left over.
+func fitted(room []byte, used C.size_t) []byte {
+	if len(room) == firstRoom && int(used) < firstRoom/6*5 {
+		return append([]byte(nil), room[:used]...)
+	}
+	return room[:used]
 }
 
 // Rehearse gives the output of each scenario, made in this process: the bytes that `toxicap --out` stores. The capture is a classic pcap or a dump of
 // one in hexadecimal, scenarios are JSON in Toxiproxy's populate form, hosts are lines NAME=ADDR, and all drawing depends on the seed. Any goroutine
-// may call. A refusal is an error of the type *Refusal.
+// may call. A refusal is an error of the type *Refusal. Outputs above 4 MiB are made twice, so that they take no more memory than their bytes.
 func Rehearse(capture []byte, scenarios [][]byte, hosts []byte, seed uint64) ([]Output, error) {
 	text, scenarioLens := texts(scenarios)
 	var captures, reports []byte
 	var lens []C.size_t
 	count := len(scenarios)
-	room := count*(len(capture)+len(capture)/4) + 4096
-	sizes := C.ToxicapSizes{captures: C.size_t(room), reports: reportRoom(capture, count), lens: C.size_t(2 * count)}
+	sizes := C.ToxicapSizes{
+		captures: room(count, len(capture)+len(capture)/4+4096), reports: room(count, len(capture)/8+1024), lens: C.size_t(2 * count)}
 	status := C.uint8_t(C.TOXICAP_NO_ROOM)
 	for status == C.TOXICAP_NO_ROOM {
 		captures, reports, lens = make([]byte, sizes.captures), make([]byte, sizes.reports), make([]C.size_t, sizes.lens)
@@ -85,15 +78,16 @@ func Rehearse(capture []byte, scenarios [][]byte, hosts []byte, seed uint64) ([]
 			(*C.uint8_t)(ptr(captures)), C.size_t(len(captures)), (*C.uint8_t)(ptr(reports)), C.size_t(len(reports)),
 			ptr(lens), C.size_t(len(lens)), &sizes)
 	}
-	if err := errorOf(status, reports[:sizes.reports]); err != nil {
+	if err := errorOf(status, reports[:sizes.reports], capture, scenarios, hosts); err != nil {
 		return nil, err
 	}
+	captures, reports = fitted(captures, sizes.captures), fitted(reports, sizes.reports)
 	outputs := make([]Output, count)
 	for i := range outputs {
-		capture, report := lens[2*i], lens[2*i+1]
+		capture, report, scenario := lens[2*i], lens[2*i+1], scenarioLens[i]
 		// without room at their ends, so that what is appended to one does not go over the next
-		outputs[i] = Output{captures[:capture:capture], reports[:report:report]}
-		captures, reports = captures[capture:], reports[report:]
+		outputs[i] = Output{captures[:capture:capture], reports[:report:report], text[:scenario:scenario]}
+		captures, reports, text = captures[capture:], reports[report:], text[scenario:]
 	}
 	return outputs, nil
 }
@@ -102,7 +96,7 @@ func Rehearse(capture []byte, scenarios [][]byte, hosts []byte, seed uint64) ([]
 func Reports(capture []byte, scenarios [][]byte, hosts []byte, seed uint64) ([]byte, error) {
 	text, scenarioLens := texts(scenarios)
 	var reports []byte
-	sizes := C.ToxicapSizes{reports: reportRoom(capture, len(scenarios))}
+	sizes := C.ToxicapSizes{reports: room(len(scenarios), len(capture)/8+1024)}
 	status := C.uint8_t(C.TOXICAP_NO_ROOM)
 	for status == C.TOXICAP_NO_ROOM {
 		reports = make([]byte, sizes.reports)
@@ -111,8 +105,8 @@ func Reports(capture []byte, scenarios [][]byte, hosts []byte, seed uint64) ([]b
 			ptr(scenarioLens), C.size_t(len(scenarios)), (*C.uint8_t)(ptr(hosts)), C.size_t(len(hosts)), C.uint64_t(seed),
 			(*C.uint8_t)(ptr(reports)), C.size_t(len(reports)), &sizes)
 	}
-	if err := errorOf(status, reports[:sizes.reports]); err != nil {
+	if err := errorOf(status, reports[:sizes.reports], capture, scenarios, hosts); err != nil {
 		return nil, err
 	}
-	return reports[:sizes.reports], nil
+	return fitted(reports, sizes.reports), nil
 }

@@ -2,6 +2,7 @@ package main
 
 import (
 	"bytes"
+	"context"
 	"fmt"
 	"log"
 	"os"
@@ -11,14 +12,14 @@ import (
 	toxicap "example.org/toxicap/suite"
 )
 
-var hosts = []byte("redis=10.77.0.3\n")
+var hosts = Hosts(map[string]string{"redis": "10.77.0.3"})
 
-var line = []byte(`[
-  {"name": "web", "upstream": "10.77.0.2:80", "toxics": [{"type": "bandwidth", "attributes": {"rate": 20}}]},
-  {"name": "redis", "upstream": "redis:6379", "toxics": [
-    {"type": "latency", "attributes": {"latency": 150, "jitter": 50}},
-    {"type": "bandwidth", "attributes": {"rate": 20}},
-    {"type": "slicer", "toxicity_ppm": 500000, "attributes": {"average_size": 40, "size_variation": 20, "delay": 3000}}]}]`)
+var line = Scenario(
+	Proxy{Name: "web", Upstream: "10.77.0.2:80", Toxics: []Toxic{{Type: "bandwidth", Rate: 20}}},
+	Proxy{Name: "redis", Upstream: "redis:6379", Toxics: []Toxic{
+		{Type: "latency", Latency: 150, Jitter: 50},
+		{Type: "bandwidth", Rate: 20},
+		{Type: "slicer", Toxicity: 0.5, AverageSize: 40, SizeVariation: 20, Delay: 3000}}})
 
 // replies makes a parser of Redis's replies: lines, and texts after a line with their length.
 func replies() func([]byte) ([]string, error) {
@@ -69,13 +70,14 @@ func fails(outputs []Output) bool {
 func Example() {
 	capture, err := os.ReadFile("../../samples/shop.pcap")
 	stopOn(err, 1)
-	seed, found, err := LeastSeed(capture, [][]byte{line}, hosts, fails, 1000)
+	ctx := context.Background()
+	seed, found, err := LeastSeed(ctx, capture, [][]byte{line}, hosts, fails, 1000)
 	stopOn(err, 1)
 	if !found {
 		log.Fatal("no seed below 1000 finds a bug")
 	}
 	fmt.Println("least seed", seed)
-	scenario, seed, err := Shrink(capture, line, hosts, fails, seed+1)
+	scenario, seed, err := Shrink(ctx, capture, line, hosts, fails, seed+1)
 	stopOn(err, 1)
 	fmt.Println("seed", seed, "of", string(scenario))
 	recorded, err := Rehearse(capture, [][]byte{[]byte("[]")}, nil, 0)

@@ -15,93 +15,110 @@ import (
 	"example.org/toxicap"
 )
 
-const limit = `[{"name": "web", "upstream": "10.77.0.2:80", "toxics": [{"type": "limit_data", "attributes": {"bytes": 200}}]}]`
+const web = "10.77.0.2:80" // the server of the sample
+
+var limit = toxicap.Scenario(toxicap.Proxy{Upstream: web, Toxics: []toxicap.Toxic{{Type: "limit_data", Bytes: 200}}})
+
+// sample gives the bytes of a sample.
+func sample(name string) []byte {
+	capture, err := os.ReadFile("share/toxicap/samples/" + name)
+	if err != nil {
+		panic(err)
+	}
+	return capture
+}
+
+// outputs gives what the sample of an HTTP session gives under scenarios.
+func outputs(scenarios ...[]byte) []toxicap.Output {
+	outputs, err := toxicap.Rehearse(sample("http-get.pcap"), scenarios, nil, 7)
+	if err != nil {
+		panic(err)
+	}
+	return outputs
+}
 
 // An answer that is cut after 200 bytes, and a scenario whose host nobody names.
 func Example() {
-	capture, err := os.ReadFile("share/toxicap/samples/http-get.pcap")
+	report, err := toxicap.ParseReport(outputs(limit)[0].Report)
 	if err != nil {
 		panic(err)
 	}
-	outputs, err := toxicap.Rehearse(capture, [][]byte{[]byte(limit)}, nil, 7)
-	if err != nil {
-		panic(err)
-	}
-	connections, err := toxicap.Delivered(outputs[0].Capture)
-	if err != nil {
-		panic(err)
-	}
-	down, count := connections[0][1], 0
-	for _, chunk := range down.Chunks {
-		count += len(chunk.Bytes)
-	}
-	fmt.Println(count, "bytes of the answer came, then", down.End.End)
-	_, err = toxicap.Reports(capture, [][]byte{[]byte(strings.Replace(limit, "10.77.0.2", "redis", 1))}, nil, 7)
-	var refusal *toxicap.Refusal
-	if errors.As(err, &refusal) {
-		fmt.Println(refusal.Number, refusal.Name, refusal.Place)
-	}
+	down := report.Connections[0].Down
+	fmt.Println(down.Delivered, "of", down.Recorded, "bytes of the answer came, then", down.End)
+	named := toxicap.Scenario(toxicap.Proxy{Name: "db", Upstream: "redis:6379"})
+	_, err = toxicap.Reports(sample("shop.pcap"), [][]byte{named}, nil, 7)
+	fmt.Println(errors.Is(err, toxicap.UnknownHost))
+	fmt.Println(err)
 	// Output:
-	// 200 bytes of the answer came, then fin
-	// 15 UnknownHost scenario 0 proxy 0
+	// 200 of 216 bytes of the answer came, then close
+	// true
+	// refused 15 UnknownHost scenario 0 proxy 0: scenario 0, proxy 0 "db": the address of its host is wanted: redis=ADDR among the hosts, as the capture has it
 }
 
-// chunks gives one chunk for each read, as a socket may do.
-type chunks struct {
-	next []toxicap.Event
-	rest []byte
-}
-
-func (c *chunks) Read(to []byte) (int, error) {
-	if len(c.rest) == 0 {
-		if len(c.next) == 0 {
-			return 0, io.EOF
-		}
-		c.rest, c.next = c.next[0].Bytes, c.next[1:]
-	}
-	size := copy(to, c.rest)
-	c.rest = c.rest[size:]
-	return size, nil
-}
-
-// What a client reads: as recorded, a first read gives all headers of the answer, and in slices a part of them. So a client that takes one read for the
-// headers passes with the one and fails with the other; net/http reads on.
-func ExampleDelivered() {
-	capture, err := os.ReadFile("share/toxicap/samples/http-get.pcap")
-	if err != nil {
-		panic(err)
-	}
-	slicer := `[{"name": "web", "upstream": "10.77.0.2:80", "toxics": [{"type": "slicer", "attributes": {"average_size": 50, "delay": 1000}}]}]`
-	outputs, err := toxicap.Rehearse(capture, [][]byte{[]byte("[]"), []byte(slicer)}, nil, 0)
-	if err != nil {
-		panic(err)
-	}
-	for _, output := range outputs {
+// What a client reads: as recorded, a first read gives all headers of the answer, and in slices a part of them. So a client that takes one read for
+// the headers passes with the one and fails with the other; net/http reads on.
+func ExampleNewConn() {
+	slices := toxicap.Scenario(toxicap.Proxy{Upstream: web, Toxics: []toxicap.Toxic{{Type: "slicer", AverageSize: 50, Delay: 1000}}})
+	for _, output := range outputs([]byte("[]"), slices) {
 		connections, err := toxicap.Delivered(output.Capture)
 		if err != nil {
 			panic(err)
 		}
-		answer := connections[0][1].Chunks
-		size, _ := (&chunks{next: answer}).Read(make([]byte, 65536))
-		response, err := http.ReadResponse(bufio.NewReader(&chunks{next: answer}), nil)
+		one, err := toxicap.NewConn(connections[0])
+		if err != nil {
+			panic(err)
+		}
+		size, _ := one.Read(make([]byte, 65536))
+		conn, _ := toxicap.NewConn(connections[0])
+		response, err := http.ReadResponse(bufio.NewReader(conn), nil)
 		if err != nil {
 			panic(err)
 		}
 		body, err := io.ReadAll(response.Body)
-		fmt.Printf("one read: %d bytes; net/http: %q, %v\n", size, body, err)
+		fmt.Printf("one read: %d bytes; net/http: %q, %v, after %v\n", size, body, err, conn.Now())
 	}
 	// Output:
-	// one read: 186 bytes; net/http: "Hello from the sample server.\n", <nil>
-	// one read: 50 bytes; net/http: "Hello from the sample server.\n", <nil>
+	// one read: 186 bytes; net/http: "Hello from the sample server.\n", <nil>, after 3.653ms
+	// one read: 50 bytes; net/http: "Hello from the sample server.\n", <nil>, after 7.61ms
+}
+
+// Why a scenario has no effect.
+func ExampleExplain() {
+	scenario := []byte(`[{"name": "web", "upstream": "10.77.0.2:8080", "Enabled": false}]`)
+	lines, err := toxicap.Explain(sample("http-get.pcap"), [][]byte{scenario}, nil, 0)
+	if err != nil {
+		panic(err)
+	}
+	fmt.Println(strings.Join(lines, "\n"))
+	// Output:
+	// scenario 0 proxy 0: unknown field Enabled (is it enabled?)
+	// scenario 0 proxy 0 "web" (10.77.0.2:8080): no connection meets it; servers of the capture: 10.77.0.2:80
+}
+
+// Scenarios of any bytes: whatever the network does, a client gets a front part of the recorded answer, in some pieces.
+func FuzzScenario(f *testing.F) {
+	f.Add([]byte{2, 5, 0, 0, 9, 0, 50, 0, 0, 0, 8, 3, 232, 6, 0, 0, 10, 0, 200})
+	f.Add([]byte{1, 4, 0, 0, 5, 0, 9})
+	f.Fuzz(func(t *testing.T, data []byte) {
+		var answers [2]string
+		for number, output := range outputs([]byte("[]"), toxicap.FuzzScenario(data, web)) {
+			connections, err := toxicap.Delivered(output.Capture)
+			if err != nil {
+				t.Fatal(err)
+			}
+			for _, chunk := range connections[0][1].Chunks {
+				answers[number] += string(chunk.Bytes)
+			}
+		}
+		if !strings.HasPrefix(answers[0], answers[1]) {
+			t.Errorf("%q", answers[1])
+		}
+	})
 }
 
 // The reports alone are those of the outputs, also of a hundred openings, for which the first room is too small, and each refusal is its line.
 func TestReports(t *testing.T) {
-	capture, err := os.ReadFile("share/toxicap/samples/http-get.pcap")
-	if err != nil {
-		t.Fatal(err)
-	}
-	scenarios := [][]byte{[]byte("[]"), []byte(limit)}
+	capture, scenarios := sample("http-get.pcap"), [][]byte{[]byte("[]"), limit}
 	opening := capture[24 : 40+binary.LittleEndian.Uint32(capture[32:])]
 	openings := append([]byte{}, capture[:24]...)
 	for port := byte(0); port < 100; port++ {
@@ -118,7 +135,7 @@ func TestReports(t *testing.T) {
 			t.Errorf("%v, %s", err, reports)
 		}
 	}
-	if _, err := toxicap.Rehearse(nil, scenarios, nil, 0); err == nil || err.Error() != "refused 1 ShortHeader" {
+	if _, err := toxicap.Rehearse(nil, scenarios, nil, 0); !errors.Is(err, toxicap.ShortHeader) {
 		t.Error(err)
 	}
 	if outputs, err := toxicap.Rehearse(capture, nil, nil, 0); err != nil || len(outputs) != 0 {
@@ -128,11 +145,7 @@ func TestReports(t *testing.T) {
 
 // Any goroutine may call: eight at once get the bytes that one alone gets.
 func TestManyAtOnce(t *testing.T) {
-	capture, err := os.ReadFile("share/toxicap/samples/shop.pcap")
-	if err != nil {
-		t.Fatal(err)
-	}
-	scenarios := [][]byte{[]byte("[]"), []byte(limit)}
+	capture, scenarios := sample("shop.pcap"), [][]byte{[]byte("[]"), limit}
 	alone, err := toxicap.Rehearse(capture, scenarios, nil, 7)
 	if err != nil {
 		t.Fatal(err)

@@ -1,7 +1,8 @@
 // Package golden compares outputs with golden files, which have what a capture gave under a scenario when somebody last looked at it.
 //
 // The flag -toxicap-update of `go test` writes golden files that are missing or differ. It has a name of its own, since a second flag -update would
-// stop each test that has one. Name the packages that use golden with it, since go test refuses a flag that a package does not know.
+// stop each test that has one. Name the packages that use golden with it, since go test refuses a flag that a package does not know; for ./... set
+// TOXICAP_UPDATE=1 in the environment. With -v the files that are written are listed.
 package golden
 
 import (
@@ -12,6 +13,8 @@ import (
 	"io/fs"
 	"os"
 	"path/filepath"
+	"strings"
+	"sync"
 	"testing"
 
 	"example.org/toxicap"
@@ -19,44 +22,88 @@ import (
 
 var update = flag.Bool("toxicap-update", false, "write golden files of toxicap that are missing or differ")
 
-// Compare fails the test where an output's capture is not the file PATH.pcap, or its report not PATH.txt. A relative path counts from the test's folder.
+// The paths, without an ending, that were compared.
+var compared sync.Map
+
+// Rehearse rehearses a capture under one scenario, compares what comes as Compare does, and gives it. A refusal ends the test.
+func Rehearse(t testing.TB, path string, capture, scenario, hosts []byte, seed uint64) toxicap.Output {
+	t.Helper()
+	outputs, err := toxicap.Rehearse(capture, [][]byte{scenario}, hosts, seed)
+	if err != nil {
+		t.Fatal(err)
+	}
+	Compare(t, path, outputs[0])
+	return outputs[0]
+}
+
+// Compare fails the test if an output's capture is not the file PATH.pcap, or its report not PATH.txt. A relative path counts from the test's
+// folder. It also fails, and writes nothing, if the output has Warnings: its scenario has an unknown field, or a proxy that no connection meets,
+// or there is no connection.
 func Compare(t testing.TB, path string, output toxicap.Output) {
 	t.Helper()
-	failed := false
-	for _, file := range []struct {
-		ending string
-		found  []byte
-	}{{".pcap", output.Capture}, {".txt", output.Report}} {
-		if err := compared(path+file.ending, file.found, *update); err != nil {
-			t.Error(err)
-			failed = true
-		}
+	if warnings := output.Warnings(); len(warnings) > 0 {
+		t.Errorf("the golden file %s would show nothing (golden.Same takes it):\n%s", path, strings.Join(warnings, "\n"))
+		return
 	}
-	if failed {
-		t.Log("go test -toxicap-update writes golden files")
+	Same(t, path, output)
+}
+
+// Same compares as Compare does, also if nothing happens in the output.
+func Same(t testing.TB, path string, output toxicap.Output) {
+	t.Helper()
+	compared.Store(filepath.Clean(path), true)
+	value := os.Getenv("TOXICAP_UPDATE")
+	writes, failed := *update || value != "" && value != "0", false
+	for _, file := range []struct {
+		ending     string
+		found      []byte
+		difference func(wanted, found []byte) string
+	}{{".pcap", output.Capture, captureDifference}, {".txt", output.Report, textDifference}} {
+		wanted, err := os.ReadFile(path + file.ending)
+		isMissing := errors.Is(err, fs.ErrNotExist)
+		switch {
+		case err == nil && bytes.Equal(wanted, file.found):
+			continue
+		case writes && (err == nil || isMissing):
+			if err = write(path+file.ending, file.found); err == nil {
+				t.Logf("wrote %s (%d bytes)", path+file.ending, len(file.found))
+				continue
+			}
+		case isMissing:
+			err = fmt.Errorf("there is no golden file %s", path+file.ending)
+		case err == nil:
+			err = fmt.Errorf("the golden file %s differs %s", path+file.ending, file.difference(wanted, file.found))
+		}
+		t.Error(err)
+		failed = true
+	}
+	if failed && !writes {
+		t.Log("go test -toxicap-update, or TOXICAP_UPDATE=1, writes golden files")
 	}
 }
 
-// compared gives what is wrong with a golden file, if anything; where it is to be written it is made right.
-func compared(path string, found []byte, writes bool) error {
-	wanted, err := os.ReadFile(path)
-	missing := errors.Is(err, fs.ErrNotExist)
-	switch {
-	case err != nil && !missing:
+func write(path string, text []byte) error {
+	if err := os.MkdirAll(filepath.Dir(path), 0o777); err != nil {
 		return err
-	case !missing && bytes.Equal(wanted, found):
-		return nil
-	case writes:
-		if err := os.MkdirAll(filepath.Dir(path), 0o777); err != nil {
-			return err
+	}
+	return os.WriteFile(path, text, 0o666)
+}
+
+// Stale fails the test at its end, that is after its subtests, if the folder has golden files (a .pcap with a .txt beside it) with which nothing
+// was compared. With the flag -run, by which tests are left out, it looks at nothing.
+func Stale(t testing.TB, folder string) {
+	t.Helper()
+	t.Cleanup(func() {
+		if filter := flag.Lookup("test.run"); filter != nil && filter.Value.String() != "" {
+			return
 		}
-		return os.WriteFile(path, found, 0o666)
-	case missing:
-		return fmt.Errorf("there is no golden file %s", path)
-	}
-	place := 0
-	for place < len(wanted) && place < len(found) && wanted[place] == found[place] {
-		place++
-	}
-	return fmt.Errorf("the golden file %s differs from byte %d on: it has %d bytes, and %d came", path, place, len(wanted), len(found))
+		reports, _ := filepath.Glob(filepath.Join(folder, "*.txt"))
+		for _, report := range reports {
+			path := strings.TrimSuffix(report, ".txt")
+			_, err := os.Stat(path + ".pcap")
+			if _, isCompared := compared.Load(filepath.Clean(path)); err == nil && !isCompared {
+				t.Errorf("the golden files %s.pcap and .txt are stale: no test compares with them", path)
+			}
+		}
+	})
 }

@@ -1,0 +1,271 @@
+package main
+
+import (
+	"encoding/json"
+	"fmt"
+	"strconv"
+	"strings"
+	"unicode"
+)
+
+// A wantedField is a field of a proxy or of a toxic: what it is, and whether it has to be there.
+type wantedField struct {
+	name, wanted string
+	required     bool
+}
+
+// An attribute is one of a type of toxics: what it counts, and its least and greatest number.
+type attribute struct {
+	of, name, unit string
+	least, most    uint64
+}
+
+var proxyFields = []wantedField{
+	{"name", "a text", true}, {"upstream", "a text", true}, {"enabled", "true or false", false}, {"toxics", "an array", false},
+	{"listen", "a text", false}}
+
+var toxicFields = []wantedField{{"type", "a text", true}, {"name", "a text", false}, {"stream", "a text", false}, {"attributes", "an object", false}}
+
+// scenarioHint gives what helps if a scenario was refused, after its number; proxy and toxic are -1 if the place has none.
+func scenarioHint(kind Kind, scenario []byte, proxy, toxic int) string {
+	fault := faultOf(scenario)
+	tree := parsed(scenario)
+	switch {
+	case kind == NotJson && fault.isShort:
+		return " ends before its JSON does"
+	case kind == NotJson:
+		line, column := lineAndColumn(scenario[:fault.place])
+		if fault.place == len(scenario) {
+			column--
+		}
+		return fmt.Sprintf(" is no JSON from line %d column %d on", line, column)
+	case proxy < 0:
+		return " is " + kindOf(tree) + ", and an array of proxies is wanted, as toxicap --help shows"
+	}
+	of := item(tree, proxy)
+	about := ", " + named("proxy", proxy, of)
+	if toxic < 0 {
+		return about + ": " + proxyHint(kind, tree, of)
+	}
+	it := item(field(of, "toxics"), toxic)
+	return about + ", " + named("toxic", toxic, it) + ": " + toxicHint(kind, it)
+}
+
+func proxyHint(kind Kind, tree, proxy any) string {
+	upstream := textAt(proxy, "upstream")
+	switch kind {
+	case BadMember:
+		return wrongField(proxy, proxyFields)
+	case DuplicateProxy:
+		earlier := 0
+		for textAt(item(tree, earlier), "name") != textAt(proxy, "name") {
+			earlier++
+		}
+		return fmt.Sprintf("proxy %d has the name: rename one of them", earlier)
+	case BadUpstream:
+		return wrongText("upstream", upstream, "HOST:PORT is wanted, as 10.0.0.2:6379")
+	case UnknownHost:
+		host := upstream
+		if cut := strings.LastIndexByte(upstream, ':'); cut >= 0 {
+			host = upstream[:cut]
+		}
+		return "the address of its host is wanted: " + shown(host, 200) + "=ADDR among the hosts, as the capture has it"
+	}
+	return "it is the 65th: a scenario has at most 64 proxies"
+}
+
+func toxicHint(kind Kind, toxic any) string {
+	of, stream, name := textAt(toxic, "type"), textAt(toxic, "stream"), textAt(toxic, "name")
+	switch kind {
+	case BadMember:
+		return wrongField(toxic, toxicFields)
+	case UnknownToxic:
+		return wrongText("type", of, "latency, bandwidth, slow_close, timeout, reset_peer, slicer or limit_data is wanted")
+	case BadStream:
+		return wrongText("stream", stream, "upstream or downstream is wanted")
+	case DuplicateToxic:
+		if name != "" {
+			return "an earlier toxic of the proxy has the name " + quoted(name) + ": rename one of them"
+		}
+		return "an earlier toxic of the proxy has the name \"" + of + "_" + streamOf(stream) + "\", which it has too without a \"name\": give it one"
+	case AttributeRange:
+		return wrongAttribute(of, field(toxic, "attributes"))
+	case TooMany:
+		return "it is the ninth of its stream: a stream has at most 8 toxics"
+	}
+	if toxicity, is := wholeNumber(field(toxic, "toxicity")); toxicity < 2 && is || field(toxic, "toxicity") == nil {
+		return "its " + whatIs(toxic, "toxicity_ppm") + ", and a whole number from 0 to 1000000 is wanted"
+	}
+	return "its " + whatIs(toxic, "toxicity") + ", and 0 or 1 is wanted, or \"toxicity_ppm\", up to 1000000"
+}
+
+// streamOf gives a toxic's stream, which is downstream if it names none.
+func streamOf(stream string) string {
+	if stream == "" {
+		return "downstream"
+	}
+	return stream
+}
+
+// wrongField tells of the first field that is not as it is to be. If each is, a name is empty.
+func wrongField(value any, fields []wantedField) string {
+	if kind := kindOf(value); kind != "an object" {
+		return "it is " + kind + ", and an object is wanted"
+	}
+	for _, each := range fields {
+		found := field(value, each.name)
+		switch {
+		case found == nil && each.required:
+			return "its \"" + each.name + "\" is missing, and " + each.wanted + " is wanted"
+		case found != nil && kindOf(found) != each.wanted:
+			return "its \"" + each.name + "\" is " + kindOf(found) + ", and " + each.wanted + " is wanted"
+		}
+	}
+	return "its \"name\" is empty, and a name is wanted"
+}
+
+func wrongText(name, text, wanted string) string {
+	return "its \"" + name + "\" is " + quoted(text) + ", and " + wanted
+}
+
+// wrongAttribute tells of the first attribute that is out of its range. If none is, slices vary by too much.
+func wrongAttribute(of string, its any) string {
+	for _, each := range attributes {
+		number, is := wholeNumber(field(its, each.name))
+		if field(its, each.name) == nil {
+			number, is = 0, true
+		}
+		if each.of == of && (!is || number < each.least || number > each.most) {
+			return fmt.Sprintf("its %s, and a whole number of %s from %d to %d is wanted", whatIs(its, each.name), each.unit, each.least, each.most)
+		}
+	}
+	return "its " + whatIs(its, "size_variation") + ", and less than \"average_size\" is wanted"
+}
+
+// whatIs gives a field with its value.
+func whatIs(value any, name string) string {
+	found := field(value, name)
+	if found == nil {
+		return "\"" + name + "\" is missing"
+	}
+	return "\"" + name + "\" is " + shown(textOf(found), 60)
+}
+
+// named gives the number of a proxy or a toxic, and its name if it has one.
+func named(what string, number int, value any) string {
+	if name := textAt(value, "name"); name != "" {
+		return fmt.Sprintf("%s %d %s", what, number, quoted(name))
+	}
+	return fmt.Sprintf("%s %d", what, number)
+}
+
+// item gives an item of an array, nil if there is none.
+func item(array any, number int) any {
+	items, _ := array.([]any)
+	if number < 0 || number >= len(items) {
+		return nil
+	}
+	return items[number]
+}
+
+// field gives a field of an object, nil if it has none, or null.
+func field(object any, name string) any {
+	fields, _ := object.(map[string]any)
+	return fields[name]
+}
+
+func textAt(object any, name string) string {
+	text, _ := field(object, name).(string)
+	return text
+}
+
+// wholeNumber gives a whole number from 0 on, and whether a value is one.
+func wholeNumber(value any) (uint64, bool) {
+	number, _ := value.(json.Number)
+	found, err := strconv.ParseUint(string(number), 10, 64)
+	return found, err == nil
+}
+
+func kindOf(value any) string {
+	switch value.(type) {
+	case bool:
+		return "true or false"
+	case json.Number:
+		return "a number"
+	case string:
+		return "a text"
+	case []any:
+		return "an array"
+	case map[string]any:
+		return "an object"
+	}
+	return "null"
+}
+
+// textOf gives a value as JSON, numbers as the program writes them.
+func textOf(value any) string {
+	switch value := value.(type) {
+	case json.Number:
+		return numberText(string(value))
+	case []any:
+		texts := make([]string, len(value))
+		for i := range value {
+			texts[i] = textOf(value[i])
+		}
+		return "[" + strings.Join(texts, ",") + "]"
+	case map[string]any:
+		texts := []string{}
+		for _, name := range sortedNames(value) {
+			texts = append(texts, textOf(name)+":"+textOf(value[name]))
+		}
+		return "{" + strings.Join(texts, ",") + "}"
+	}
+	var text strings.Builder
+	encoder := json.NewEncoder(&text)
+	encoder.SetEscapeHTML(false)
+	_ = encoder.Encode(value)
+	return strings.TrimSuffix(text.String(), "\n")
+}
+
+// numberText gives a number that fits 64 bits as it is, and any other as a float.
+func numberText(number string) string {
+	_, signed := strconv.ParseInt(number, 10, 64)
+	_, unsigned := strconv.ParseUint(number, 10, 64)
+	if number != "-0" && (signed == nil || unsigned == nil) {
+		return number
+	}
+	float, _ := strconv.ParseFloat(number, 64)
+	text := strconv.FormatFloat(float, 'e', -1, 64)
+	exponent, _ := strconv.Atoi(text[strings.IndexByte(text, 'e')+1:])
+	if exponent < -5 || exponent > 15 {
+		return strings.NewReplacer("e-0", "e-", "e+0", "e+").Replace(text)
+	}
+	text = strconv.FormatFloat(float, 'f', -1, 64)
+	if !strings.Contains(text, ".") {
+		text += ".0"
+	}
+	return text
+}
+
+func quoted(text string) string { return "\"" + shown(text, 60) + "\"" }
+
+// shown gives the first characters of a text, escaped if they do not print, and two dots if it is longer.
+func shown(text string, most int) string {
+	var told strings.Builder
+	for _, c := range text {
+		if most--; most < 0 {
+			return told.String() + ".."
+		}
+		switch {
+		case strings.ContainsRune("\t\r\n", c):
+			told.WriteString(strings.Trim(strconv.QuoteRune(c), "'"))
+		case c == 0:
+			told.WriteString("\\0")
+		case !unicode.IsPrint(c) || unicode.In(c, unicode.Mn, unicode.Me):
+			fmt.Fprintf(&told, "\\u{%x}", c)
+		default:
+			told.WriteRune(c)
+		}
+	}
+	return told.String()
+}

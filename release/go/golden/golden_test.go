@@ -1,0 +1,112 @@
+package golden_test
+
+import (
+	"encoding/binary"
+	"fmt"
+	"os"
+	"path/filepath"
+	"strings"
+	"testing"
+
+	"example.org/toxicap"
+	"example.org/toxicap/golden"
+)
+
+// told is a test that only keeps what it is told.
+type told struct {
+	testing.TB
+	errors, logs string
+	ends         []func()
+}
+
+func (t *told) Helper()                           {}
+func (t *told) Error(values ...any)               { t.errors += fmt.Sprintln(values...) }
+func (t *told) Errorf(format string, v ...any)    { t.Error(fmt.Sprintf(format, v...)) }
+func (t *told) Log(values ...any)                 { t.logs += fmt.Sprintln(values...) }
+func (t *told) Logf(format string, values ...any) { t.Log(fmt.Sprintf(format, values...)) }
+func (t *told) Cleanup(end func())                { t.ends = append(t.ends, end) }
+
+// check compares what a test was told.
+func check(t *testing.T, found, wanted string) {
+	t.Helper()
+	if found != wanted {
+		t.Errorf("%s\nin place of\n%s", found, wanted)
+	}
+}
+
+var slow = toxicap.Scenario(toxicap.Proxy{Upstream: "10.77.0.2:80", Toxics: []toxicap.Toxic{{Type: "slicer", AverageSize: 150, Delay: 1000}}})
+
+func TestGolden(t *testing.T) {
+	capture, err := os.ReadFile("../share/toxicap/samples/http-get.pcap")
+	if err != nil {
+		t.Fatal(err)
+	}
+	path := filepath.Join(t.TempDir(), "golden", "slow")
+	fake := &told{}
+	output := golden.Rehearse(fake, path, capture, slow, nil, 0)
+	check(t, fake.errors, fmt.Sprintf("there is no golden file %s.pcap\nthere is no golden file %s.txt\n", path, path))
+	t.Setenv("TOXICAP_UPDATE", "1")
+	fake = &told{}
+	golden.Compare(fake, path, output)
+	wrote := fmt.Sprintf("wrote %s.pcap (%d bytes)\nwrote %s.txt (%d bytes)\n", path, len(output.Capture), path, len(output.Report))
+	check(t, fake.errors+fake.logs, wrote)
+	t.Setenv("TOXICAP_UPDATE", "")
+	golden.Compare(t, path, output)
+
+	// what differs is named
+	later := append([]byte{}, output.Capture...)
+	binary.LittleEndian.PutUint32(later[len(later)-66:], 999999) // the last record's microseconds
+	other := []byte(strings.Replace(string(output.Capture), "sample", "simple", 1))
+	report := []byte(strings.Replace(string(output.Report), "\nconnections 1", "\nconnections 2", 1))
+	for found, wanted := range map[*toxicap.Output]string{
+		{Capture: output.Capture, Report: report}: ".txt differs in line 2:\nwanted: connections 1 unopened 0\nfound:  connections 2 unopened 0\n",
+		{Capture: other, Report: output.Report}:   ".pcap differs in connection 0 down, chunk 2 (30 bytes at 5.61ms): wanted ",
+		{Capture: later, Report: output.Report}:   ".pcap differs in connection 0 down, its end: wanted fin at ",
+		{Capture: capture, Report: output.Report}: ".pcap differs from byte ",
+	} {
+		fake := &told{}
+		golden.Same(fake, path, *found)
+		if !strings.HasPrefix(fake.errors, "the golden file "+path+wanted) {
+			t.Errorf("%s\nin place of\n%s", fake.errors, wanted)
+		}
+	}
+
+	// files with which nothing was compared are stale
+	for _, name := range []string{"slow.pcap", "slow.txt"} {
+		if err := os.Rename(path+filepath.Ext(name), filepath.Join(filepath.Dir(path), "old"+filepath.Ext(name))); err != nil {
+			t.Fatal(err)
+		}
+	}
+	fake = &told{}
+	golden.Stale(fake, filepath.Dir(path))
+	fake.ends[0]()
+	old := filepath.Join(filepath.Dir(path), "old")
+	check(t, fake.errors, fmt.Sprintf("the golden files %s.pcap and .txt are stale: no test compares with them\n", old))
+}
+
+// An output in which nothing happens is none for a golden file.
+func TestNothingHappened(t *testing.T) {
+	capture, err := os.ReadFile("../share/toxicap/samples/http-get.pcap")
+	if err != nil {
+		t.Fatal(err)
+	}
+	t.Setenv("TOXICAP_UPDATE", "1")
+	path := filepath.Join(t.TempDir(), "idle")
+	for text, scenario := range map[string][]byte{
+		`proxy 0 "web" (10.77.0.2:81): no connection meets it`: []byte(`[{"name": "web", "upstream": "10.77.0.2:81"}]`),
+		"proxy 0: unknown field Enabled (is it enabled?)":      []byte(`[{"name": "web", "upstream": "10.77.0.2:80", "Enabled": false}]`),
+	} {
+		fake := &told{}
+		golden.Rehearse(fake, path, capture, scenario, nil, 0)
+		if !strings.Contains(fake.errors, text) || fake.logs != "" {
+			t.Error(fake.errors, fake.logs)
+		}
+	}
+	fake := &told{}
+	golden.Rehearse(fake, path, capture[:24], []byte("[]"), nil, 0)
+	if !strings.Contains(fake.errors, "capture: it has no connection and no record") {
+		t.Error(fake.errors)
+	}
+	golden.Same(t, path, toxicap.Output{Capture: capture[:24]})
+	golden.Rehearse(t, path, capture, []byte("[]"), nil, 0)
+}

@@ -1,0 +1,175 @@
+package main
+
+// The helpers examples/go/{scenario,report,explain,fuzz}.go, and what Rehearse allocates. tests/search.sh puts this file beside them, in a copy.
+
+import (
+	"bytes"
+	"encoding/binary"
+	"math/rand"
+	"reflect"
+	"runtime"
+	"strings"
+	"testing"
+)
+
+func TestScenario(t *testing.T) {
+	cut := Toxic{Type: "limit_data", Bytes: 200}
+	for wanted, scenario := range map[string][]byte{
+		`[]`: Scenario(),
+		`[{"enabled":false,"name":"db","upstream":"db:1"}]`: Scenario(Proxy{Upstream: "db:1", Name: "db", Disabled: true}),
+		`[{"name":"a:1","upstream":"a:1"},{"name":"a:1_3","upstream":"a:1"},{"name":"a:1_2","upstream":"b:1"}]`: Scenario(
+			Proxy{Upstream: "a:1"}, Proxy{Upstream: "a:1"}, Proxy{Upstream: "b:1", Name: "a:1_2"}),
+		`{"attributes":{"bytes":200},"type":"limit_data"}`: cut.JSON(),
+		`{"attributes":{},"stream":"upstream","toxicity_ppm":250000,"type":"timeout"}`: Toxic{
+			Type: "timeout", Stream: "upstream", Toxicity: 0.25}.JSON(),
+		`{"name":"a:1","toxics":[{"attributes":{"bytes":200},"type":"limit_data"},` +
+			`{"attributes":{"bytes":200},"name":"limit_data_downstream_2","type":"limit_data"},` +
+			`{"attributes":{"bytes":200},"stream":"upstream","type":"limit_data"}],"upstream":"a:1"}`: Proxy{Upstream: "a:1", Toxics: []Toxic{
+			cut, cut, {Type: "limit_data", Stream: "upstream", Bytes: 200}}}.JSON(),
+		"a=10.0.0.1\nb=10.0.0.2\n": Hosts(map[string]string{"b": "10.0.0.2", "a": "10.0.0.1"}),
+	} {
+		if string(scenario) != wanted {
+			t.Errorf("%s in place of %s", scenario, wanted)
+		}
+	}
+}
+
+func TestReport(t *testing.T) {
+	text, err := Reports(read(t, "../../samples/shop.pcap"), [][]byte{[]byte("[]"), read(t, "../../examples/redis-down.json")}, hosts, 0)
+	if err != nil {
+		t.Fatal(err)
+	}
+	reports, err := ParseReports(text)
+	if err != nil || len(reports) != 2 || len(reports[0].Connections) != 4 || reports[1].Scenario != 1 {
+		t.Fatal(reports, err)
+	}
+	for _, row := range []struct{ found, wanted any }{
+		{reports[0].Records, reports[0].Classes["segment"]},
+		{reports[0].Connections[2].Server, "10.77.0.3:6379"},
+		{reports[0].Connections[2].Proxy, -1},
+		{reports[0].Connections[2].Down.Recorded, int64(3009)},
+		{reports[1].Connections[2].Proxy, 1},
+		{reports[1].Connections[2].Down, Direction{0, 3009, 0, "refused", -1, 0}},
+	} {
+		if row.found != row.wanted {
+			t.Errorf("%v in place of %v", row.found, row.wanted)
+		}
+	}
+	tagged := "scenario 3 records 7 rest 5 segment 6 cut 1\nconnections 1 unopened 2\n" +
+		"0 10.0.0.1:5 > 10.0.0.2:80 vlan 7 proxy 1 up 1/2/3 close+4 max 5 down 6/7/8 open max 9\n"
+	wanted := Report{3, 7, 5, map[string]int{"segment": 6, "cut": 1}, 2, []Connection{
+		{"10.0.0.1:5", "10.0.0.2:80", 7, 1, Direction{1, 2, 3, "close", 4, 5}, Direction{6, 7, 8, "open", -1, 9}}}}
+	if report, err := ParseReport([]byte(tagged)); err != nil || !reflect.DeepEqual(report, wanted) {
+		t.Error(report, err)
+	}
+	for place := strings.Index(tagged, "0 10."); place < len(tagged)-2; place++ {
+		if _, err := ParseReport([]byte(tagged[:place])); err == nil && tagged[place-1] != '\n' {
+			t.Errorf("%q is taken", tagged[:place])
+		}
+	}
+	if _, err := ParseReport([]byte("refused 1 ShortHeader")); err == nil || err.Error() != `no report of toxicap: line 1 is "refused 1 ShortHeader"` {
+		t.Error(err)
+	}
+}
+
+// captured gives the sample with its frames changed.
+func captured(t *testing.T, change func(frame []byte)) []byte {
+	capture := read(t, "../../samples/http-get.pcap")
+	for place := 24; place < len(capture); {
+		size := int(binary.LittleEndian.Uint32(capture[place+8:]))
+		change(capture[place+16 : place+16+size])
+		place += 16 + size
+	}
+	return capture
+}
+
+func TestExplain(t *testing.T) {
+	whole := read(t, "../../samples/http-get.pcap")
+	unopened := captured(t, func(frame []byte) { frame[47] &^= 2 })
+	newer := captured(t, func(frame []byte) { frame[12], frame[13] = 0x86, 0xdd })
+	for _, row := range []struct {
+		capture          []byte
+		scenario, wanted string
+	}{
+		{whole, `[{"name": "web", "upstream": "10.77.0.2:80", "listen": "x", "toxics": [{"type": "timeout"}]}]`, ""},
+		{whole, `[]`, ""},
+		{whole, `[{"name": "web", "upstream": "10.77.0.2:8080"}]`,
+			`scenario 1 proxy 0 "web" (10.77.0.2:8080): no connection meets it; servers of the capture: 10.77.0.2:80`},
+		{whole, `[{"name": "web", "upstream": "10.77.0.2:80"}, {"name": "late", "upstream": "10.77.0.2:80"}]`,
+			`scenario 1 proxy 1 "late" (10.77.0.2:80): no connection meets it; proxy 0 stands before the same server, and is met first`},
+		{whole, `[{"name": "web", "upstream": "10.77.0.2:80", "Enabled": false, "toxics": [{"type": "latency", "attributes": {"latencyy": 1, "rate": 1}},
+			{"type": "timeout", "timeout": 7, "enabled": false}], "stream": 1}]`, `scenario 1 proxy 0: unknown field Enabled (is it enabled?)
+scenario 1 proxy 0: unknown field stream (it belongs in the toxic)
+scenario 1 proxy 0 toxic 0 attributes: unknown field latencyy (is it latency?)
+scenario 1 proxy 0 toxic 0 attributes: unknown field rate (known are latency, jitter)
+scenario 1 proxy 0 toxic 1: unknown field enabled (only a proxy can be disabled; for a toxic write "toxicity": 0)
+scenario 1 proxy 0 toxic 1: unknown field timeout (it belongs in "attributes")`},
+		{whole[:24], `[]`, "capture: it has no connection and no record: the filter of the recording matched nothing, or it was stopped too early"},
+		{unopened, `[]`, "capture: it has no connection; 12 of 12 segments are unopened: the opening of their sessions is not in the capture; " +
+			"start recording before the client connects"},
+		{newer, `[]`, "capture: it has no connection; 12 of 12 records are notipv4: IPv6 (localhost may be ::1), ARP, or two VLAN tags; " +
+			"only IPv4 is rehearsed: connect to an IPv4 address, such as 127.0.0.1"},
+	} {
+		lines, err := Explain(row.capture, [][]byte{[]byte("[]"), []byte(row.scenario)}, nil, 0)
+		if told := strings.Join(lines, "\n"); err != nil || told != row.wanted {
+			t.Errorf("%v:\n%s\nin place of\n%s", err, told, row.wanted)
+		}
+		outputs, err := Rehearse(row.capture, [][]byte{[]byte("[]"), []byte(row.scenario)}, nil, 0)
+		if told := strings.Join(outputs[1].Warnings(), "\n"); err != nil || told != row.wanted {
+			t.Error(err, told)
+		}
+	}
+}
+
+// 250 scenarios of any bytes are taken, and have each toxic in each direction.
+func TestFuzzScenario(t *testing.T) {
+	source, scenarios := rand.New(rand.NewSource(1)), [][]byte{FuzzScenario(nil, "10.77.0.2:80")}
+	for len(scenarios) < 250 {
+		data := make([]byte, source.Intn(60))
+		source.Read(data)
+		scenarios = append(scenarios, FuzzScenario(data, "10.77.0.2:80", "redis:6379"))
+		if again := FuzzScenario(data, "10.77.0.2:80", "redis:6379"); !bytes.Equal(again, scenarios[len(scenarios)-1]) {
+			t.Error(again)
+		}
+	}
+	if _, err := Reports(read(t, "../../samples/shop.pcap"), scenarios, hosts, 0); err != nil {
+		t.Error(err)
+	}
+	if string(scenarios[0]) != `[{"name":"10.77.0.2:80","upstream":"10.77.0.2:80"}]` {
+		t.Error(string(scenarios[0]))
+	}
+	all := string(bytes.Join(scenarios, nil))
+	for _, text := range []string{`"latency"`, `"bandwidth"`, `"slow_close"`, `"timeout"`, `"reset_peer"`, `"slicer"`, `"limit_data"`} {
+		if count := strings.Count(all, `"type":`+text); count < 20 || !strings.Contains(all, `"stream":"upstream","type":`+text) {
+			t.Error(text, count)
+		}
+	}
+	if !strings.Contains(all, `"enabled":false`) || !strings.Contains(all, `"toxicity_ppm"`) {
+		t.Error("each proxy is enabled, or each toxic applies to all")
+	}
+}
+
+// What Rehearse allocates of a capture of 8 MB: at most 1.2 times its outputs, and the room of the first try.
+func TestRoom(t *testing.T) {
+	capture := read(t, "../../samples/shop.pcap")
+	for records := append([]byte{}, capture[24:]...); len(capture) < 8<<20; {
+		capture = append(capture, records...)
+	}
+	cut := Scenario(Proxy{Upstream: "10.77.0.2:80", Disabled: true}, Proxy{Upstream: "10.77.0.3:6379", Disabled: true})
+	for _, scenarios := range [][][]byte{{cut, cut, cut, cut, cut, cut, cut, cut}, {[]byte("[]"), cut}} {
+		var before, after runtime.MemStats
+		runtime.ReadMemStats(&before)
+		outputs, err := Rehearse(capture, scenarios, nil, 0)
+		runtime.ReadMemStats(&after)
+		if err != nil {
+			t.Fatal(err)
+		}
+		size := 0
+		for _, output := range outputs {
+			size += len(output.Capture) + len(output.Report)
+		}
+		if taken := int(after.TotalAlloc - before.TotalAlloc); taken > size/5*6+firstRoom*9/4 {
+			t.Errorf("%d bytes for outputs of %d", taken, size)
+		}
+	}
+}

@@ -1,23 +1,18 @@
 """Finds the planted bug of a small parser in three ways: find_bug.py CAPTURE, where samples/shop.pcap is the capture. TOXICAP_LIBRARY is as for
 in_process.py."""
-import json
 import pathlib
 import sys
 
 sys.path.append(str(pathlib.Path(__file__).resolve().parents[1] / "suites/python"))
+from builders import proxy, toxic
 from events import delivered
 from in_process import rehearse
 from search import feed, feed_prefixes, least_seed, shrink
 
-HOSTS = b"redis=10.77.0.3\n"
-LINE = json.dumps([
-    {"name": "web", "upstream": "10.77.0.2:80", "toxics": [{"type": "bandwidth", "attributes": {"rate": 20}}]},
-    {"name": "redis", "upstream": "redis:6379", "toxics": [
-        {"type": "latency", "attributes": {"latency": 150, "jitter": 50}},
-        {"type": "bandwidth", "attributes": {"rate": 20}},
-        {"type": "slicer", "toxicity_ppm": 500000, "attributes": {"average_size": 40, "size_variation": 20, "delay": 3000}},
-    ]},
-]).encode()
+HOSTS = {"redis": "10.77.0.3"}
+LATE, CUT = toxic("latency", latency=150, jitter=50), toxic("slicer", average_size=40, size_variation=20, delay=3000, toxicity=0.5)
+SLOW = toxic("bandwidth", rate=20)
+LINE = [proxy("10.77.0.2:80", SLOW, name="web"), proxy("redis:6379", LATE, SLOW, CUT, name="redis")]
 
 
 def replies():
@@ -41,27 +36,25 @@ def replies():
 
 
 def received(outputs):
-    """The chunks that the client of connection 2 gets, which asks for a basket of 3,000 bytes."""
-    [(output, report)] = outputs
-    up, down = delivered(output)[2]
-    return [chunk for time, chunk in down.chunks]
+    """What the client of connection 2 gets, which asks for a basket of 3,000 bytes."""
+    up, down = delivered(outputs[0].capture)[2]
+    return down
 
 
-def fails(outputs):
-    """Whether the parser gives other replies for the chunks than for all their bytes at once."""
-    chunks = received(outputs)
-    return feed(replies, chunks) != feed(replies, [b"".join(chunks)])
+def check(outputs):
+    """The parser has to give the same replies for the chunks as for all their bytes at once."""
+    down = received(outputs)
+    assert feed(replies, [chunk for time, chunk in down.chunks]) == feed(replies, [down.data])
 
 
-def main(path):
-    capture = pathlib.Path(path).read_bytes()
-    seed = least_seed(capture, [LINE], HOSTS, fails, below=1000)
+def main(capture):
+    seed = least_seed(capture, [LINE], HOSTS, check, below=1000)
     if seed is None:
         sys.exit("no seed below 1000 finds a bug")
     print("least seed", seed)
-    scenario, seed = shrink(capture, LINE, fails, HOSTS, below=seed + 1)
+    scenario, seed = shrink(capture, LINE, check, HOSTS, below=seed + 1)
     print("seed", seed, "of", scenario.decode())
-    size, found = feed_prefixes(replies, b"".join(received(rehearse(capture, [b"[]"]))))
+    size, found = feed_prefixes(replies, received(rehearse(capture, [[]])).data)
     print("prefix of", size, "bytes, then replies of", *map(len, found), "bytes")
 
 

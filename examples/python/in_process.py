@@ -2,24 +2,38 @@
 
 As a command it stores what `toxicap --out .` does: in_process.py CAPTURE SCENARIO..
 HOSTS of the environment has the addresses of names, in lines NAME=ADDR. The library is the one that TOXICAP_LIBRARY names by its path, else the one
-beside this file, else the system's."""
+beside this file, else the system's. Beside it are hints.py, inputs.py and outputs.py."""
 import argparse
 import ctypes
 import functools
+import json
+import mmap
 import os
 import pathlib
 import re
-import sys
 import threading
 import time
-from typing import Any, List, NamedTuple, Sequence, Tuple
+from typing import Any, List, NamedTuple, Optional, Tuple
+
+from hints import hint_of
+from inputs import Capture, Hosts, Scenarios, capture_bytes, host_lines, scenario_texts, seed_number
+from outputs import Output as Output
 
 ANSWERED, REFUSED, NO_ROOM, NO_MEMORY = range(4)
+LITTLE = 262144  # bytes of room that are had at once; more is had page by page
+LARGE = 2**24  # bytes of all outputs that are had by one call
+PARTS = 8  # calls that have more, at most
+FEW = 8192  # bytes of a capture for each connection, at least, where these are few
 
 
 class Refusal(ValueError):
-    """What toxicap refuses. Its text is the program's line, as `refused 15 UnknownHost scenario 0 proxy 1`; the numbers there count from 0."""
+    """What toxicap refuses. Its text is the program's line, and after a colon what helps. The numbers in it count from 0."""
 
+    line: str
+    """The program's line, such as `refused 15 UnknownHost scenario 0 proxy 1`."""
+    hint: str
+    """What helps, such as `scenario 0, proxy 1 "db": its "upstream" is "db", and HOST:PORT is wanted, as 10.0.0.2:6379`. It is empty if nothing is
+    known."""
     number: int
     """What it is, as 15: the guide has a table of all numbers."""
     name: str
@@ -27,23 +41,18 @@ class Refusal(ValueError):
     place: str
     """Where it stands, as `scenario 0 proxy 1` or `at 0`; empty where there is no place."""
 
-    def __init__(self, line: str) -> None:
-        super().__init__(line)
+    def __init__(self, line: str, hint: str = "") -> None:
+        super().__init__(line, hint)
+        self.line, self.hint = line, hint
         _, number, self.name, *place = line.split(" ", 3)
         self.number, self.place = int(number), "".join(place)
 
+    def __str__(self) -> str:
+        return f"{self.line}: {self.hint}" if self.hint else self.line
 
-class WantOfMemory(Refusal, MemoryError):
+
+class OutOfMemory(Refusal, MemoryError):
     """`refused 40 Memory`, which is a MemoryError too."""
-
-
-class Output(NamedTuple):
-    """What one scenario gives."""
-
-    capture: bytes
-    """A classic pcap of what each side received."""
-    report: bytes
-    """UTF-8 text: a line of counts, a line of connections, and a line for each connection."""
 
 
 class Sizes(ctypes.Structure):
@@ -94,74 +103,144 @@ def after_fork() -> None:
 os.register_at_fork(before=before_fork, after_in_child=after_fork)
 
 
-def inputs_of(capture: bytes, scenarios: Sequence[bytes], hosts: bytes, seed: int) -> Tuple[Any, ...]:
-    """The inputs of a call. Bytes are taken as they are, and anything else that has bytes is copied, so that nobody changes or releases them during
-    the call."""
+class Inputs(NamedTuple):
+    """What a call is given, as bytes."""
+
+    capture: bytes
+    scenarios: List[bytes]
+    hosts: bytes
+    seed: int
+
+    def words(self) -> Tuple[Any, ...]:
+        """The same as the library takes it."""
+        text, lens = b"".join(self.scenarios), (ctypes.c_size_t * len(self.scenarios))(*map(len, self.scenarios))
+        return self.capture, len(self.capture), text, len(text), lens, len(lens), self.hosts, len(self.hosts), self.seed
+
+
+def inputs_of(capture: Capture, scenarios: Scenarios, hosts: Hosts, seed: int) -> Inputs:
     if os.getpid() != caller:
         raise RuntimeError("toxicap: this process was forked from one with threads: start it by spawn or forkserver, or fork before there are threads")
-    if not 0 <= seed < 2**64:
-        raise ValueError(f"the seed {seed} is not from 0 to 2^64 - 1")
-    capture, hosts, *texts = (text if type(text) is bytes else bytes(memoryview(text)) for text in (capture, hosts, *scenarios))
-    text, lens = b"".join(texts), (ctypes.c_size_t * len(texts))(*map(len, texts))
-    return capture, len(capture), text, len(text), lens, len(lens), hosts, len(hosts), seed
+    return Inputs(capture_bytes(capture), scenario_texts(scenarios), host_lines(hosts), seed_number(seed))
 
 
-def room_for(size: int) -> "ctypes.Array[ctypes.c_char]":
-    return ctypes.create_string_buffer(size)
+class Room:
+    """Room for what the library writes. Where it is large it takes memory as it is written, page by page, and gives back the pages that were taken
+    out: so room that stays empty costs nothing, and no output is held twice for long."""
+
+    __slots__ = "size", "taken", "given_back", "pages", "buffer"
+
+    def __init__(self, size: int) -> None:
+        self.size, self.taken, self.given_back = size, 0, 0  # bytes
+        self.pages: Optional[mmap.mmap] = None
+        if size <= LITTLE:
+            self.buffer = (ctypes.c_char * size)()
+            return
+        try:
+            self.pages = mmap.mmap(-1, size, flags=mmap.MAP_PRIVATE | mmap.MAP_ANONYMOUS)
+        except OSError:
+            raise MemoryError(f"{size} bytes of room") from None
+        self.buffer = (ctypes.c_char * size).from_buffer(self.pages)
+
+    def at_least(self, size: int) -> "Room":
+        """This room, or a new one where it is smaller."""
+        return self if size <= self.size else Room(size)
+
+    def take(self, size: int) -> bytes:
+        """The next bytes."""
+        start, self.taken = self.taken, self.taken + size
+        taken = memoryview(self.buffer)[start : self.taken].tobytes()
+        if self.pages:
+            whole = self.taken - self.taken % mmap.PAGESIZE
+            if whole > self.given_back:
+                self.pages.madvise(mmap.MADV_DONTNEED, self.given_back, whole - self.given_back)
+            self.given_back = whole
+        return taken
 
 
-def report_room(capture_len: int, count: int) -> int:
+def guessed_room(size: int) -> Room:
+    """Room of a size that is guessed. If it is refused there is none, and the library says how much there has to be."""
+    try:
+        return Room(size)
+    except MemoryError:
+        return Room(0)
+
+
+def report_room(inputs: Inputs) -> Room:
     """A first guess: a connection takes some 120 bytes of a report, and mostly 1,000 or more of the capture; 256 KiB at most."""
-    return count * (1024 + min(capture_len // 8, 262144))
+    return guessed_room(len(inputs.scenarios) * (1024 + min(len(inputs.capture) // 8, 262144)))
 
 
-def part(room: "ctypes.Array[ctypes.c_char]", place: int, size: int) -> bytes:
-    """A number of bytes of a buffer, from a place on."""
-    return memoryview(room)[place : place + size].tobytes()
-
-
-def raise_refusal(status: int, reports: "ctypes.Array[ctypes.c_char]", sizes: Sizes) -> None:
+def raise_refusal(status: int, reports: Room, sizes: Sizes, inputs: Inputs) -> None:
     """Raises the refusal of a call, if it was refused."""
     if status == ANSWERED:
         return
-    line = "refused 40 Memory" if status == NO_MEMORY else part(reports, 0, sizes.reports).decode()
-    raise (WantOfMemory if line == "refused 40 Memory" else Refusal)(line)
+    line = "refused 40 Memory" if status == NO_MEMORY else reports.take(sizes.reports).decode()
+    hint = hint_of(line, inputs.capture, inputs.scenarios, inputs.hosts)
+    raise (OutOfMemory if line == "refused 40 Memory" else Refusal)(line, hint)
 
 
-def rehearse(capture: bytes, scenarios: Sequence[bytes], hosts: bytes = b"", seed: int = 0) -> List[Output]:
+def rehearse(capture: Capture, scenarios: Scenarios, hosts: Hosts = b"", seed: int = 0) -> List[Output]:
     """The capture and the report of each scenario, in their order: the bytes that `toxicap --out` stores.
 
-    capture    a classic pcap of Ethernet frames, in microseconds or nanoseconds, or a dump of one in hexadecimal; at most 2^30 bytes
-    scenarios  the texts of scenarios: JSON in Toxiproxy's populate form, with the field `toxics`; at most 256. `[]` leaves all as recorded
-    hosts      the addresses of the names that scenarios use: lines NAME=ADDR, each ended by a line feed, which the last one may do without
+    capture    a classic pcap of Ethernet frames, in microseconds or nanoseconds, or a dump of one in hexadecimal; at most 2^30 bytes. It is given as
+               bytes, as the path of a file (a str or a Path), or as an Output, whose capture it is
+    scenarios  a list of scenarios, at most 256: JSON in Toxiproxy's populate form, with the field `toxics`. Each is given as bytes, as the path of a
+               file, or as a list of proxies, which are dicts. A single one may stand for the list; a list of dicts is one scenario. `[]` is no
+               scenario, and `[[]]` or `b"[]"` one that leaves all as recorded
+    hosts      the addresses of the names that scenarios use: a dict, or lines NAME=ADDR as bytes, each ended by a line feed, which the last one may
+               do without
     seed       a number from 0 to 2^64 - 1, which all drawing depends on
 
     Equal arguments give equal bytes. Any thread may call, and other threads run meanwhile; a thread wants 256 KB of stack. A refusal is raised as
-    Refusal, want of memory as WantOfMemory or MemoryError, another seed as ValueError. In a process that was forked from one with threads no call
-    is made, and RuntimeError is raised."""
+    Refusal, lack of memory as OutOfMemory or MemoryError, another seed as ValueError, an argument of another type as TypeError. In a process that
+    was forked from one with threads no call is made, and RuntimeError is raised."""
     inputs = inputs_of(capture, scenarios, hosts, seed)
-    capture_len, count = inputs[1], inputs[5]
-    status, sizes = NO_ROOM, Sizes(count * (capture_len + capture_len // 2) + 4096, report_room(capture_len, count), 2 * count)
+    is_large = len(inputs.capture) * len(inputs.scenarios) > LARGE
+    return in_parts(inputs) if is_large and 1 < len(inputs.scenarios) <= 256 else outputs_of(inputs, len(inputs.scenarios))
+
+
+def outputs_of(inputs: Inputs, large: int) -> List[Output]:
+    """The outputs by one call, of which as many may be as large as the capture."""
+    words, half = inputs.words(), len(inputs.capture) // 2
+    captures, reports = guessed_room(3 * half * large + 4096), report_room(inputs)
+    status, sizes, lens = NO_ROOM, Sizes(), (ctypes.c_size_t * (2 * len(inputs.scenarios)))()
     while status == NO_ROOM:
-        captures, reports, lens = room_for(sizes.captures), room_for(sizes.reports), (ctypes.c_size_t * sizes.lens)()
-        status = library().toxicap_rehearse(*inputs, captures, len(captures), reports, len(reports), lens, len(lens), sizes)
-    raise_refusal(status, reports, sizes)
-    outputs, capture_at, report_at = [], 0, 0
-    for capture_len, report_len in zip(lens[::2], lens[1::2]):
-        outputs.append(Output(part(captures, capture_at, capture_len), part(reports, report_at, report_len)))
-        capture_at, report_at = capture_at + capture_len, report_at + report_len
+        captures, reports = captures.at_least(sizes.captures), reports.at_least(sizes.reports)
+        status = library().toxicap_rehearse(*words, captures.buffer, captures.size, reports.buffer, reports.size, lens, len(lens), sizes)
+    raise_refusal(status, reports, sizes, inputs)
+    return [Output(captures.take(capture_len), reports.take(report_len)) for capture_len, report_len in zip(lens[::2], lens[1::2])]
+
+
+def in_parts(inputs: Inputs) -> List[Output]:
+    """The outputs by several calls one after another, since the library holds those of a call a second time while it answers. A scenario draws by its
+    number, which it keeps: before those of a call stand others, which refuse all connections. They cost little where connections are few."""
+    count, outputs = len(inputs.scenarios), []
+    try:
+        [report] = reports_of(inputs._replace(scenarios=[b"[]"]))
+    except Refusal:
+        return outputs_of(inputs, count)
+    servers = sorted({server.decode() for server in re.findall(rb"^\d+ \S+ > (\S+)", report, flags=re.MULTILINE)})
+    if len(servers) > 64 or report.count(b"\n") * FEW > len(inputs.capture):
+        return outputs_of(inputs, count)
+    refuses_all = json.dumps([{"name": server, "upstream": server, "enabled": False} for server in servers]).encode()
+    step = -(-count // PARTS)
+    for at in range(0, count, step):
+        outputs += outputs_of(inputs._replace(scenarios=[refuses_all] * at + inputs.scenarios[at : at + step]), step + 2)[at:]
     return outputs
 
 
-def reports(capture: bytes, scenarios: Sequence[bytes], hosts: bytes = b"", seed: int = 0) -> List[bytes]:
+def reports(capture: Capture, scenarios: Scenarios, hosts: Hosts = b"", seed: int = 0) -> List[bytes]:
     """The reports alone, the same bytes as of `rehearse`, in less time and memory. Arguments and errors are those of `rehearse`."""
-    inputs = inputs_of(capture, scenarios, hosts, seed)
-    status, sizes = NO_ROOM, Sizes(0, report_room(inputs[1], inputs[5]), 0)
+    return reports_of(inputs_of(capture, scenarios, hosts, seed))
+
+
+def reports_of(inputs: Inputs) -> List[bytes]:
+    words, texts, status, sizes = inputs.words(), report_room(inputs), NO_ROOM, Sizes()
     while status == NO_ROOM:
-        texts = room_for(sizes.reports)
-        status = library().toxicap_reports(*inputs, texts, len(texts), sizes)
-    raise_refusal(status, texts, sizes)
-    return re.split(rb"^(?=scenario )", part(texts, 0, sizes.reports), flags=re.MULTILINE)[1:]
+        texts = texts.at_least(sizes.reports)
+        status = library().toxicap_reports(*words, texts.buffer, texts.size, sizes)
+    raise_refusal(status, texts, sizes, inputs)
+    return re.split(rb"^(?=scenario )", texts.take(sizes.reports), flags=re.MULTILINE)[1:]
 
 
 if __name__ == "__main__":
@@ -170,10 +249,11 @@ if __name__ == "__main__":
     parser.add_argument("scenarios", type=pathlib.Path, nargs="+")
     files = parser.parse_args()
     try:
-        scenarios = [path.read_bytes() for path in files.scenarios]
-        answers = rehearse(files.capture.read_bytes(), scenarios, os.environ.get("HOSTS", "").encode())
-    except (MemoryError, ValueError) as refusal:
-        sys.exit(str(refusal))
+        answers = rehearse(files.capture, files.scenarios, os.environ.get("HOSTS", "").encode())
+    except Refusal as refusal:
+        parser.exit(1, f"{refusal.line}\n")
+    except MemoryError:
+        parser.exit(1, "refused 40 Memory\n")
     for number, output in enumerate(answers):
         pathlib.Path(f"{number:04}.pcap").write_bytes(output.capture)
         pathlib.Path(f"{number:04}.txt").write_bytes(output.report)

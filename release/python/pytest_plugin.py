@@ -3,57 +3,132 @@
     def test_client(rehearse):
         output = rehearse("shop.pcap", "slow.json", hosts=b"redis=10.77.0.3", golden="slow")
 
-rehearses a capture under a scenario and compares what comes with slow.pcap and slow.txt. `pytest --toxicap-update` writes them."""
+rehearses a capture under a scenario and compares what comes with slow.pcap and slow.txt. `pytest --toxicap-update` writes them, and
+`pytest --toxicap-stale` finds those that no test compared with."""
 from __future__ import annotations
 
-import difflib
-import json
 import os
 import pathlib
-from typing import Any, Iterator, List, Optional, Union
+from typing import Any, Callable, Dict, Iterator, List, Optional, TypeVar, Union
 
 import pytest
 
 from . import Output, rehearse as rehearse_all
+from ._explain import findings
+from ._golden import differences
+from ._inputs import Capture, Hosts, Scenario, scenario_text
+
+Source = TypeVar("Source")
+Around = Callable[..., Iterator[None]]
+around: Callable[[Around], Around] = pytest.hookimpl(hookwrapper=True)
+
+ENDINGS = ".txt", ".pcap"
+COMPARED = pytest.StashKey[Dict[str, List[str]]]()  # of a test: each golden path that it compared with, and the files that it wrote for it
 
 
 def pytest_addoption(parser: pytest.Parser) -> None:
-    about = "write golden files of the fixture `rehearse` that are missing or differ"
-    parser.getgroup("toxicap").addoption("--toxicap-update", action="store_true", help=about)
+    group = parser.getgroup("toxicap")
+    group.addoption("--toxicap-update", action="store_true", help="write golden files of the fixture `rehearse` that are missing or differ")
+    group.addoption("--toxicap-stale", action="store_true", help="fail if a folder of golden files has some that no test compared with")
+
+
+def pytest_configure(config: pytest.Config) -> None:
+    config.pluginmanager.register(Comparisons(config), "toxicap_comparisons")
+
+
+class Comparisons:
+    """The golden files of a run: what was written, and what no test compared with. With pytest-xdist it is told what the workers' tests did."""
+
+    def __init__(self, config: pytest.Config) -> None:
+        self.config, self.left_out = config, 0
+        self.compared: Dict[str, List[str]] = {}
+        self.stale: List[str] = []
+
+    @around
+    def pytest_runtest_makereport(self, item: pytest.Item, call: pytest.CallInfo[None]) -> Iterator[None]:
+        outcome: Any = yield
+        outcome.get_result().toxicap_compared = item.stash.get(COMPARED, {})
+
+    def pytest_runtest_logreport(self, report: pytest.TestReport) -> None:
+        self.left_out += not report.passed
+        for path, written in getattr(report, "toxicap_compared", {}).items() if report.when == "teardown" else ():
+            self.compared.setdefault(path, []).extend(written)
+
+    def pytest_collectreport(self, report: pytest.CollectReport) -> None:
+        self.left_out += not report.passed
+
+    def pytest_deselected(self, items: List[pytest.Item]) -> None:
+        self.left_out += len(items)
+
+    def why_unknown(self) -> Optional[str]:
+        """Why a golden file without a test can't be told from one whose test was left out."""
+        folder = self.config.invocation_params.dir
+        if self.left_out:
+            return "a test failed, or was skipped or deselected"
+        if not all((folder / name).is_dir() for name in self.config.args):
+            return "some modules of a folder were named; name folders"
+        return "tests ran in workers; run without -n" if self.config.getoption("dist", "no") != "no" else None
+
+    def pytest_sessionfinish(self, session: pytest.Session, exitstatus: int) -> None:
+        if not self.config.getoption("toxicap_stale") or exitstatus != pytest.ExitCode.OK or self.why_unknown():
+            return
+        for folder in sorted({pathlib.Path(path).parent for path in self.compared}):
+            for report in sorted(folder.glob("*.txt")):
+                files = [report.with_suffix(ending) for ending in ENDINGS]
+                if str(report.with_suffix("")) not in self.compared and files[1].exists() and report.read_bytes().startswith(b"scenario "):
+                    self.stale += map(str, files)
+        if self.stale:
+            session.exitstatus = pytest.ExitCode.TESTS_FAILED
+
+    def pytest_terminal_summary(self, terminalreporter: Any) -> None:
+        written, why = [file for files in self.compared.values() for file in files], self.why_unknown()
+        for title, files in ("golden files written", written), ("stale golden files, which no test compared with", self.stale):
+            if files:
+                terminalreporter.section(f"toxicap: {title}", "-")
+            for file in sorted(files):
+                terminalreporter.write_line(os.path.relpath(file, self.config.invocation_params.dir))
+        if self.config.getoption("toxicap_stale") and why:
+            terminalreporter.write_line(f"toxicap: stale golden files were not looked for: {why}")
 
 
 class Rehearsals:
     """What the fixture gives: a function. Relative paths are those from the folder of the test's file."""
 
-    def __init__(self, folder: pathlib.Path, updates: bool) -> None:
-        self.folder, self.updates = folder, updates
+    def __init__(self, folder: pathlib.Path, updates: bool, compared: Dict[str, List[str]]) -> None:
+        self.folder, self.updates, self.compared = folder, updates, compared
 
     def __call__(
         self,
-        capture: Union[bytes, str, os.PathLike[str]],
-        scenario: Union[bytes, str, os.PathLike[str], List[Any]],
-        hosts: bytes = b"",
+        capture: Capture,
+        scenario: Scenario,
+        hosts: Hosts = b"",
         seed: int = 0,
         golden: Union[None, str, os.PathLike[str]] = None,
+        strict: bool = True,
     ) -> Output:
-        """The output of a capture under one scenario. Both are a path or bytes, and the scenario may be a list of proxies too. Hosts and seed are
-        those of toxicap.rehearse, and so are the errors. With `golden`, a path without ending, the test fails where the capture is not the file
-        of that name with `.pcap`, or the report the one with `.txt`; with the option --toxicap-update they are written."""
-        text = json.dumps(scenario).encode() if isinstance(scenario, list) else self._bytes_of(scenario)
-        [output] = rehearse_all(self._bytes_of(capture), [text], hosts, seed)
+        """The output of a capture under one scenario. Arguments and errors are those of toxicap.rehearse. The test fails if the rehearsal can do
+        nothing: a field is unknown, a proxy meets no connection, or the capture has none (toxicap.explain); strict=False takes it. With `golden`, a
+        path without ending, the test fails if the capture is not the file of that name with `.pcap`, or the report the one with `.txt`; with the
+        option --toxicap-update they are written."""
+        texts = [scenario_text("scenario", self._from_here(scenario))]
+        [output] = rehearse_all(self._from_here(capture), texts, hosts, seed)
+        found = findings(texts, [output.report], hosts) if strict else []
+        if found:
+            pytest.fail("\n".join([*map(str, found), "strict=False takes a rehearsal that does nothing"]), pytrace=False)
         if golden is not None:
-            path = self.folder / golden
-            files = {".txt": output.report, ".pcap": output.capture}
-            faults = [fault for ending, found in files.items() for fault in self._fault(path.with_name(path.name + ending), found)]
+            path = pathlib.Path(os.path.normpath(self.folder / golden))
+            written = self.compared.setdefault(str(path), [])
+            files = [path.with_name(path.name + ending) for ending in ENDINGS]
+            faults = [fault for file, came in zip(files, (output.report, output.capture)) for fault in self._fault(file, came, written)]
             if faults:
                 pytest.fail("\n".join([*faults, "`pytest --toxicap-update` writes golden files"]), pytrace=False)
         return output
 
-    def _bytes_of(self, source: Union[bytes, str, os.PathLike[str]]) -> bytes:
-        return (self.folder / source).read_bytes() if isinstance(source, (str, os.PathLike)) else source
+    def _from_here(self, source: Source) -> Union[Source, pathlib.Path]:
+        return self.folder / source if isinstance(source, (str, os.PathLike)) else source
 
-    def _fault(self, path: pathlib.Path, found: bytes) -> Iterator[str]:
-        """What is wrong with a golden file, if anything; where they are written it is made right."""
+    def _fault(self, path: pathlib.Path, found: bytes, written: List[str]) -> Iterator[str]:
+        """What is wrong with a golden file, if anything; with --toxicap-update it is made right."""
         wanted: Optional[bytes] = path.read_bytes() if path.exists() else None
         if wanted == found:
             return
@@ -62,17 +137,14 @@ class Rehearsals:
             draft = path.with_name(f"{path.name}.{os.getpid()}")
             draft.write_bytes(found)
             draft.replace(path)
+            written.append(str(path))
         elif wanted is None:
             yield f"there is no golden file {path}"
-        elif path.suffix == ".txt":
-            before, after = (text.decode("utf-8", "replace").splitlines() for text in (wanted, found))
-            yield "\n".join(difflib.unified_diff(before, after, str(path), "what came", lineterm=""))
         else:
-            place = next((place for place, (one, other) in enumerate(zip(wanted, found)) if one != other), min(len(wanted), len(found)))
-            yield f"the golden file {path} differs from byte {place} on: it has {len(wanted)} bytes, and {len(found)} came"
+            yield "\n".join([f"the golden file {path} differs:", *differences(path.suffix, wanted, found)])
 
 
 @pytest.fixture
 def rehearse(request: pytest.FixtureRequest) -> Rehearsals:
     """Rehearses a capture under a scenario, and compares what comes with golden files: see toxicap.pytest_plugin.Rehearsals."""
-    return Rehearsals(request.path.parent, request.config.getoption("toxicap_update"))
+    return Rehearsals(request.path.parent, request.config.getoption("toxicap_update"), request.node.stash.setdefault(COMPARED, {}))

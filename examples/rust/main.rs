@@ -1,6 +1,9 @@
 //! Rehearses a capture under scenarios in this process, and stores what `toxicap --out .` does: main CAPTURE SCENARIO..
 //! HOSTS of the environment has lines NAME=ADDR. Built by rustc -L lib -o rehearse examples/rust/main.rs
+mod hints;
+mod json;
 mod rehearse;
+mod shown;
 
 use std::{env, fs, io, process};
 
@@ -14,8 +17,8 @@ fn main() -> io::Result<()> {
         return Err(io::Error::other("main CAPTURE SCENARIO.."));
     };
     match rehearse::rehearse(capture, scenarios, &hosts, 0) {
-        Err(line) => {
-            eprintln!("{line}");
+        Err(refusal) => {
+            eprintln!("{}", refusal.line());
             process::exit(1)
         }
         Ok(outputs) => {

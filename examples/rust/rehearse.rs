@@ -1,5 +1,6 @@
 //! Rehearses recorded sessions in this process.
 #![allow(dead_code)] // a program may do without some of it
+use crate::hints::hint_of;
 use std::fmt;
 
 /// What one scenario gives.
@@ -11,37 +12,47 @@ pub struct Output {
     pub report: Vec<u8>,
 }
 
-/// What toxicap refuses. As text it is the program's line, as `refused 15 UnknownHost scenario 0 proxy 1`; the numbers there count from 0.
+/// What toxicap refuses. As text it is the program's line, and after a colon what helps. The numbers in it count from 0.
 #[derive(Clone, Debug, PartialEq, Eq)]
 pub struct Refusal {
     /// What it is: `docs/GUIDE.md` has a table of all numbers. Lack of memory is 40.
     pub number: u32,
-    /// The same as a word, as `UnknownHost`.
+    /// The same as a word, such as `UnknownHost`.
     pub name: String,
-    /// Where it stands, as `scenario 0 proxy 1`; empty where there is no place.
+    /// Its place, such as `scenario 0 proxy 1`; empty if it has none.
     pub place: String,
+    /// What helps: the field that it is about, what that is, what is wanted there, and what to do. It is empty if nothing is known.
+    pub hint: String,
 }
 
 impl fmt::Display for Refusal {
     fn fmt(&self, to: &mut fmt::Formatter) -> fmt::Result {
-        let line = format!("refused {} {} {}", self.number, self.name, self.place);
-        to.write_str(line.trim_end())
+        match &*self.hint {
+            "" => to.write_str(&self.line()),
+            hint => write!(to, "{}: {hint}", self.line()),
+        }
     }
 }
 
 impl std::error::Error for Refusal {}
 
 impl Refusal {
-    /// The refusal that a line tells.
-    fn of(line: &[u8]) -> Refusal {
+    /// The program's line, such as `refused 15 UnknownHost scenario 0 proxy 1`.
+    pub fn line(&self) -> String {
+        let line = format!("refused {} {} {}", self.number, self.name, self.place);
+        line.trim_end().to_string()
+    }
+
+    /// The refusal that a line tells, of a call with these inputs.
+    #[rustfmt::skip]
+    fn of(line: &[u8], capture: &[u8], scenarios: &[impl AsRef<[u8]>], hosts: &str) -> Refusal {
         let line = String::from_utf8_lossy(line);
-        let mut words = line.splitn(4, ' ').skip(1).map(str::to_string);
-        let number = words.next().and_then(|word| word.parse().ok());
-        Refusal {
-            number: number.unwrap_or_default(),
-            name: words.next().unwrap_or_default(),
-            place: words.next().unwrap_or_default(),
-        }
+        let mut words = line.splitn(4, ' ').skip(1);
+        let number = words.next().and_then(|word| word.parse().ok()).unwrap_or_default();
+        let [name, place] = [(); 2].map(|()| words.next().unwrap_or_default());
+        let scenarios: Vec<&[u8]> = scenarios.iter().map(AsRef::as_ref).collect();
+        let hint = hint_of(number, place, capture, &scenarios, hosts);
+        Refusal { number, name: name.to_string(), place: place.to_string(), hint }
     }
 }
 
@@ -111,9 +122,9 @@ pub fn rehearse(capture: &[u8], scenarios: &[impl AsRef<[u8]>], hosts: &str, see
         let (mut captures, mut reports) = (&captures[..], &reports[..]);
         match status {
             0 => return Ok(lens.chunks(2).map(|two| Output { capture: first(&mut captures, two[0]), report: first(&mut reports, two[1]) }).collect()),
-            1 => return Err(Refusal::of(&reports[..sizes.reports])),
+            1 => return Err(Refusal::of(&reports[..sizes.reports], capture, scenarios, hosts)),
             2 => continue,
-            _ => return Err(Refusal::of(b"refused 40 Memory")),
+            _ => return Err(Refusal::of(b"refused 40 Memory", capture, scenarios, hosts)),
         }
     }
 }
@@ -140,8 +151,8 @@ pub fn reports(capture: &[u8], scenarios: &[impl AsRef<[u8]>], hosts: &str, seed
         reports.truncate(sizes.reports);
         match status {
             0 => return Ok(reports),
-            1 => return Err(Refusal::of(&reports)),
-            _ => return Err(Refusal::of(b"refused 40 Memory")),
+            1 => return Err(Refusal::of(&reports, capture, scenarios, hosts)),
+            _ => return Err(Refusal::of(b"refused 40 Memory", capture, scenarios, hosts)),
         }
     }
 }

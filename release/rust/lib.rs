@@ -14,48 +14,27 @@
 //!
 //! let refusal = reports(capture, &[limit.replace("10.77.0.2", "redis")], "", 7).unwrap_err();
 //! assert_eq!((refusal.number, &*refusal.name, &*refusal.place), (15, "UnknownHost", "scenario 0 proxy 0"));
-//! assert_eq!(refusal.to_string(), "refused 15 UnknownHost scenario 0 proxy 0");
+//! assert_eq!(refusal.line(), "refused 15 UnknownHost scenario 0 proxy 0");
+//! let hint = "scenario 0, proxy 0 \"web\": the address of its host is wanted: redis=ADDR among the hosts, as the capture has it";
+//! assert_eq!(refusal.to_string(), format!("{}: {hint}", refusal.line()));
 //! # Ok::<(), Box<dyn std::error::Error>>(())
 //! ```
 //!
 //! What a client reads: recorded, a first read gives all headers of the answer, and in slices a part of them. So a client that takes one read for
-//! the headers passes with the one and fails with the other. The scenario `[]` has no proxies: the session is as recorded.
+//! the headers passes with the one and fails with the other. The scenario `[]` has no proxies: the session is as recorded. A [`Socket`] stands for
+//! the client's `TcpStream`: each byte and end comes at its time, by a clock of its own, and nothing waits.
 //!
 //! ```
-//! use std::io::{self, BufRead, BufReader, Read};
-//! use toxicap::Line;
-//!
-//! /// Gives of one chunk for each read, as a socket may do. (It ends at a reset, and where a line has no end, as at a FIN: look at the line's end.)
-//! struct Chunks {
-//!     left: std::vec::IntoIter<(u64, Vec<u8>)>,
-//!     chunk: Vec<u8>,
-//! }
-//!
-//! impl From<Line> for Chunks {
-//!     fn from(line: Line) -> Self {
-//!         Chunks { left: line.chunks.into_iter(), chunk: Vec::new() }
-//!     }
-//! }
-//!
-//! impl Read for Chunks {
-//!     fn read(&mut self, to: &mut [u8]) -> io::Result<usize> {
-//!         if self.chunk.is_empty() {
-//!             self.chunk = self.left.next().unwrap_or_default().1;
-//!         }
-//!         let len = to.len().min(self.chunk.len());
-//!         to[..len].copy_from_slice(&self.chunk[..len]);
-//!         self.chunk.drain(..len);
-//!         Ok(len)
-//!     }
-//! }
+//! use std::io::{BufRead, BufReader, Read};
+//! use toxicap::{delivered, rehearse, Socket};
 //!
 //! let capture = include_bytes!("../share/toxicap/samples/http-get.pcap");
 //! let slicer = r#"[{"name": "web", "upstream": "10.77.0.2:80", "toxics": [{"type": "slicer", "attributes": {"average_size": 50, "delay": 1000}}]}]"#;
 //! let mut reads = Vec::new();
-//! for output in toxicap::rehearse(capture, &["[]", slicer], "", 0)? {
-//!     let [_, down] = toxicap::delivered(&output.capture)?.remove(0);
-//!     reads.push(Chunks::from(down.clone()).read(&mut [0; 65536])?);
-//!     let last = BufReader::new(Chunks::from(down)).lines().last().unwrap()?;
+//! for output in rehearse(capture, &["[]", slicer], "", 0)? {
+//!     let connection = delivered(&output.capture)?.remove(0);
+//!     reads.push(Socket::new(connection.clone())?.read(&mut [0; 65536])?);
+//!     let last = BufReader::new(Socket::new(connection)?).lines().last().unwrap()?;
 //!     assert_eq!(last, "Hello from the sample server.");
 //! }
 //! assert_eq!(reads, [186, 50]);
@@ -69,7 +48,12 @@
 #![deny(missing_docs)]
 
 mod events;
+mod hints;
+mod json;
 mod rehearse;
+mod shown;
+mod sockets;
 
 pub use events::{delivered, events, Direction, Event, Line, NotOutput, What};
 pub use rehearse::{rehearse, reports, Output, Refusal};
+pub use sockets::Socket;

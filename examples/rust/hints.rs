@@ -1,0 +1,291 @@
+//! What helps after a refusal, as the program says it on a terminal: the field that it is about, what that is, what is wanted there, and what to do.
+//! Here `scenario 0` and `the capture` stand for the names of files.
+use crate::json::{self, Fault, Value};
+use crate::shown::{quoted, shown, written};
+use std::fmt::Display;
+use std::net::Ipv4Addr;
+
+// made: hints (by tests/made.py, of docs/toxics.tsv and docs/refusals.tsv)
+/// The attributes of each type of toxics: what they count, and their least and greatest number.
+#[rustfmt::skip]
+const ATTRIBUTES: [(&str, &str, &str, u64, u64); 10] = [
+    ("latency", "latency", "milliseconds", 0, 1000000000),
+    ("latency", "jitter", "milliseconds", 0, 1000000000),
+    ("bandwidth", "rate", "KB a second", 1, 1000000),
+    ("slow_close", "delay", "milliseconds", 0, 1000000000),
+    ("timeout", "timeout", "milliseconds", 0, 1000000000),
+    ("reset_peer", "timeout", "milliseconds", 0, 1000000000),
+    ("slicer", "average_size", "bytes", 1, 1000000000),
+    ("slicer", "size_variation", "bytes", 0, 1000000000),
+    ("slicer", "delay", "microseconds", 0, 1000000000),
+    ("limit_data", "bytes", "bytes", 0, 1000000000000),
+];
+
+/// The parts of the remedy of each refusal.
+#[rustfmt::skip]
+const REMEDIES: [(u32, &[&str]); 22] = [
+    (1, &["the recording was stopped too early, or it is another file"]),
+    (2, &["editcap -F pcap IN OUT writes one of most captures", "xxd -r -p IN OUT makes a file of it first"]),
+    (3, &["editcap -F pcap IN OUT writes it again", "xxd -r -p IN OUT makes a file of it first"]),
+    (4, &["record on one Ethernet interface, tcpdump -i eth0, not any"]),
+    (5, &["editcap -F pcap -r IN OUT 1-{at} keeps what is before", "xxd -r -p IN OUT makes a file of it first"]),
+    (6, &["tshark -r IN -Y 'tcp.port == 6379' -F pcap -w OUT keeps what matters", "xxd -r -p IN OUT makes a file of it, of half its length at most"]),
+    (10, &["is no JSON from line {line} column {column} on"]),
+    (11, &["an array of proxies is wanted, as toxicap --help shows"]),
+    (12, &["is {is}, and {wanted} is wanted"]),
+    (13, &["proxy {earlier} has the name: rename one of them"]),
+    (14, &["HOST:PORT is wanted, as 10.0.0.2:6379"]),
+    (15, &["the address of its host is wanted: {host}=ADDR among the hosts, as the capture has it"]),
+    (16, &["latency, bandwidth, slow_close, timeout, reset_peer, slicer or limit_data"]),
+    (17, &["upstream or downstream is wanted"]),
+    (18, &["an earlier toxic of the proxy has the name {name}: rename one of them"]),
+    (19, &["a whole number of {unit} from {least} to {most} is wanted"]),
+    (20, &["a scenario has at most 64 proxies", "a stream has at most 8 toxics"]),
+    (21, &["a whole number from 0 to 1000000 is wanted", "0 or 1 is wanted"]),
+    (22, &["a call takes 256: call more than once"]),
+    (23, &["NAME=ADDR with an IPv4 address is wanted, as redis=10.0.0.9"]),
+    (40, &["memory was refused: fewer scenarios in a call, or a smaller capture, take less"]),
+    (55, &["no hexadecimal digit is at line {line} column {column}"]),
+];
+// end
+
+/// A field of a proxy or a toxic: its name, what it is, and whether it has to be there.
+type Field = (&'static str, &'static str, bool);
+
+#[rustfmt::skip]
+const PROXY_FIELDS: [Field; 5] = [
+    ("name", "a text", true), ("upstream", "a text", true), ("enabled", "true or false", false), ("toxics", "an array", false),
+    ("listen", "a text", false),
+];
+
+#[rustfmt::skip]
+const TOXIC_FIELDS: [Field; 4] = [
+    ("type", "a text", true), ("name", "a text", false), ("stream", "a text", false), ("attributes", "an object", false),
+];
+
+/// How many bytes a capture or a scenario has at most.
+const LONGEST: usize = 1 << 30;
+
+/// What helps after a refusal with this number and place, of a call with these inputs; empty if nothing is known of it.
+#[rustfmt::skip]
+pub fn hint_of(number: u32, place: &str, capture: &[u8], scenarios: &[&[u8]], hosts: &str) -> String {
+    let words: Vec<&str> = place.split(' ').collect();
+    let at = |what: &str| -> Option<usize> {
+        let found = words.chunks(2).find(|pair| pair[0] == what)?;
+        found.get(1)?.parse().ok()
+    };
+    let too_long = scenarios.iter().position(|text| text.len() > LONGEST);
+    match (number, at("scenario"), too_long) {
+        (_, Some(scenario), _) => {
+            let hint = of_scenario(number, scenarios[scenario], at("proxy"), at("toxic"));
+            format!("scenario {scenario}{hint}")
+        }
+        (6, _, Some(long)) => format!("scenario {long} has more than 2^30 bytes: it is no scenario"),
+        (22, ..) => format!("{} scenarios were given, and {}", scenarios.len(), part(22, 0)),
+        (23, ..) => of_host(at("host").unwrap_or_default(), hosts),
+        (40, ..) => part(40, 0).to_string(),
+        _ if part(number, 0).is_empty() => String::new(),
+        _ => {
+            let hint = of_capture(number, at("at").unwrap_or_default(), capture);
+            format!("the capture {hint}")
+        }
+    }
+}
+
+/// A part of the remedy of a refusal; empty if the refusal is not known.
+fn part(number: u32, part: usize) -> &'static str {
+    let found = REMEDIES.iter().find(|(of, _)| *of == number);
+    found.map_or("", |(_, parts)| parts[part])
+}
+
+/// The first part, with values in place of names in braces.
+fn filled(number: u32, values: &[(&str, &dyn Display)]) -> String {
+    let remedy = part(number, 0).to_string();
+    values.iter().fold(remedy, |text, (name, value)| {
+        text.replace(&format!("{{{name}}}"), &value.to_string())
+    })
+}
+
+fn of_host(at: usize, hosts: &str) -> String {
+    let lines: Vec<&str> = hosts.split('\n').collect();
+    let (name, address) = lines[at].split_once('=').unwrap_or((lines[at], ""));
+    let mut earlier = lines[..at].iter();
+    let is_given = earlier.any(|line| line.split('=').next() == Some(name));
+    let fault = match is_given && address.parse::<Ipv4Addr>().is_ok() {
+        true => "an earlier host has the name",
+        false => part(23, 0),
+    };
+    format!("host {at} {}: {fault}", quoted(lines[at]))
+}
+
+fn of_capture(number: u32, at: usize, capture: &[u8]) -> String {
+    let is_dump = capture.first().is_some_and(u8::is_ascii_hexdigit);
+    // The command that helps reads no dump, only the file that is made of it.
+    let by_command = |fault: &str, command: &str| match is_dump {
+        true => format!("is a dump, and {fault}: {}, then {command}", part(2, 1)),
+        false => format!("{fault}: {command}"),
+    };
+    let of_digits = "is a dump, by its first byte, and";
+    match number {
+        2 if capture.starts_with(b"\n\r\r\n") => {
+            by_command("is a pcapng file", "editcap -F pcap IN OUT converts it")
+        }
+        2 if capture.starts_with(b"\x1f\x8b") => {
+            by_command("is gzipped", "gunzip -c IN > OUT unzips it")
+        }
+        2 => by_command("is no classic pcap", part(2, 0)),
+        3 => by_command("is of another pcap version than 2.4", part(3, 0)),
+        4 => of_link(capture),
+        5 if at == 0 => "is damaged where its first record begins: record it again".to_string(),
+        5 => {
+            let fault = format!("is damaged where record {at} begins");
+            by_command(&fault, &filled(5, &[("at", &at)]))
+        }
+        6 if is_dump => format!("is a dump, and has more than 2^30 bytes: {}", part(6, 1)),
+        6 => format!("has more than 2^30 bytes: {}", part(6, 0)),
+        55 if at == capture.len() => {
+            format!("{of_digits} its last byte has but one hexadecimal digit")
+        }
+        55 => format!("{of_digits} {}", placed(55, capture, at)),
+        _ => format!("has fewer than 24 bytes: {}", part(1, 0)),
+    }
+}
+
+fn of_link(capture: &[u8]) -> String {
+    let link = capture.get(20..24).and_then(|link| link.try_into().ok());
+    let number = match (capture.first(), link) {
+        (Some(0x4d | 0xd4), Some(link)) => u32::from_le_bytes(link),
+        (Some(0xa1), Some(link)) => u32::from_be_bytes(link),
+        _ => return format!("is not of Ethernet: {}", part(4, 0)),
+    };
+    match number {
+        113 | 276 => format!("is an \"any\" capture (link type {number}): record on one interface, tcpdump -i eth0, not any"),
+        _ => format!("is of link type {number}, and Ethernet, 1, is wanted: record on an Ethernet interface"),
+    }
+}
+
+/// The remedy of a refusal that has a place, at a byte of a text. Lines and columns count from 1.
+fn placed(number: u32, text: &[u8], at: usize) -> String {
+    let (mut line, mut column) = (1, 0);
+    for byte in &text[..at] {
+        match byte {
+            b'\n' => (line, column) = (line + 1, 0),
+            _ => column += 1,
+        }
+    }
+    column += usize::from(at < text.len()); // past the text it is that of the last byte
+    filled(number, &[("line", &line), ("column", &column)])
+}
+
+/// What helps if a scenario was refused, after its number.
+fn of_scenario(number: u32, text: &[u8], proxy: Option<usize>, toxic: Option<usize>) -> String {
+    let tree = match json::read(text) {
+        Err(Fault::Short) => return " ends before its JSON does".to_string(),
+        Err(Fault::At(at)) => return format!(" {}", placed(10, text, at)),
+        Ok(tree) => tree,
+    };
+    let Some(at) = proxy else {
+        return format!(" is {}, and {}", tree.kind(), part(11, 0));
+    };
+    let proxy = &tree.items()[at];
+    let about = format!(", {}", named("proxy", at, proxy));
+    let Some(at) = toxic else {
+        return format!("{about}: {}", of_proxy(number, &tree, proxy));
+    };
+    let toxic = &proxy.field("toxics").map_or(&[][..], Value::items)[at];
+    let about = format!("{about}, {}", named("toxic", at, toxic));
+    format!("{about}: {}", of_toxic(number, toxic))
+}
+
+fn of_proxy(number: u32, tree: &Value, proxy: &Value) -> String {
+    let (name, upstream) = (proxy.text_at("name"), proxy.text_at("upstream"));
+    match number {
+        12 => wrong_field(proxy, &PROXY_FIELDS),
+        13 => {
+            let mut proxies = tree.items().iter();
+            let earlier = proxies.position(|each| each.text_at("name") == name);
+            filled(13, &[("earlier", &earlier.unwrap_or_default())])
+        }
+        14 => its_text("upstream", upstream, part(14, 0)),
+        15 => {
+            let host = upstream.rsplit_once(':').map_or(upstream, |(host, _)| host);
+            filled(15, &[("host", &shown(host, 200))])
+        }
+        _ => format!("it is the 65th: {}", part(20, 0)),
+    }
+}
+
+fn of_toxic(number: u32, toxic: &Value) -> String {
+    let [kind, name, stream] = ["type", "name", "stream"].map(|field| toxic.text_at(field));
+    match number {
+        12 => wrong_field(toxic, &TOXIC_FIELDS),
+        16 => its_text("type", kind, &format!("{} is wanted", part(16, 0))),
+        17 => its_text("stream", stream, part(17, 0)),
+        18 if name.is_empty() => {
+            let stream = [stream, "downstream"][usize::from(stream.is_empty())];
+            format!("an earlier toxic of the proxy has the name \"{kind}_{stream}\", which it has too without a \"name\": give it one")
+        }
+        18 => filled(18, &[("name", &quoted(name))]),
+        19 => wrong_attribute(kind, toxic.field("attributes").unwrap_or(&Value::Null)),
+        20 => format!("it is the ninth of its stream: {}", part(20, 1)),
+        _ => match toxic.field("toxicity").map_or(Some(1), Value::whole_number) {
+            Some(0 | 1) => its(toxic, "toxicity_ppm", part(21, 0)),
+            _ => {
+                let wanted = format!("{}, or \"toxicity_ppm\", up to 1000000", part(21, 1));
+                its(toxic, "toxicity", &wanted)
+            }
+        },
+    }
+}
+
+/// The first field that is not as it has to be. If each is, a name is empty.
+fn wrong_field(value: &Value, fields: &[Field]) -> String {
+    if !matches!(value, Value::Object(_)) {
+        return format!("it is {}, and an object is wanted", value.kind());
+    }
+    for (name, wanted, is_required) in fields {
+        let kind = value.field(name).map(Value::kind);
+        if kind.map_or(*is_required, |kind| kind != *wanted) {
+            let is = kind.unwrap_or("missing");
+            let told = filled(12, &[("is", &is), ("wanted", wanted)]);
+            return format!("its \"{name}\" {told}");
+        }
+    }
+    "its \"name\" is empty, and a name is wanted".to_string()
+}
+
+/// The first attribute that is out of its range. If none is, slices vary by too much.
+fn wrong_attribute(kind: &str, attributes: &Value) -> String {
+    for (_, name, unit, least, most) in ATTRIBUTES.iter().filter(|(of, ..)| *of == kind) {
+        let number = attributes.field(name).map_or(Some(0), Value::whole_number);
+        if !number.is_some_and(|number| (*least..=*most).contains(&number)) {
+            let wanted = filled(19, &[("unit", unit), ("least", least), ("most", most)]);
+            return its(attributes, name, &wanted);
+        }
+    }
+    let wanted = "less than \"average_size\" is wanted";
+    its(attributes, "size_variation", wanted)
+}
+
+/// A field with its value, and what is wanted.
+fn its(value: &Value, name: &str, wanted: &str) -> String {
+    match value.field(name) {
+        Some(found) => {
+            let is = shown(&written(found), 60);
+            format!("its \"{name}\" is {is}, and {wanted}")
+        }
+        None => format!("its \"{name}\" is missing, and {wanted}"),
+    }
+}
+
+fn its_text(name: &str, text: &str, wanted: &str) -> String {
+    format!("its \"{name}\" is {}, and {wanted}", quoted(text))
+}
+
+/// The number of a proxy or a toxic, and its name if it has one.
+fn named(what: &str, number: usize, value: &Value) -> String {
+    match value.text_at("name") {
+        "" => format!("{what} {number}"),
+        name => format!("{what} {number} {}", quoted(name)),
+    }
+}

@@ -181,8 +181,9 @@ def judged(path):
 def explained(paths):
     """The files whose unknown fields are not those of `unknown` for examples/explain."""
     explain = types.ModuleType('explain')
+    explain.__file__ = str(EXAMPLES / 'explain')
     sys.dont_write_bytecode = True
-    importlib.machinery.SourceFileLoader('explain', str(EXAMPLES / 'explain')).exec_module(explain)
+    importlib.machinery.SourceFileLoader('explain', explain.__file__).exec_module(explain)
     files = [(path, json.loads(path.read_text())) for path in paths]
     return [str(path) for path, file in files if sorted(found[:2] for found in explain.unknown_fields(file)) != sorted(unknown(file))]
 

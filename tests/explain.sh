@@ -128,6 +128,30 @@ explains "connections of the same peers" 0 "a.json: proxy 0 (s, 10.0.0.2:80): me
 a.json: proxy 0 toxic 0 (slicer_downstream): effect on 1 of 2 connections; on 1: it is not drawn (toxicity_ppm 500000)
 a.json: proxy 0 toxic 1 (latency_downstream): effect on 2 of 2 connections" --capture twice.dump --scenario a.json
 
+# 8,000 connections of the same peers, all open at once until their bytes come: in seconds
+python3 - > open.pcap <<'END'
+import struct, sys
+def record(time, number, is_up, flags, sequence, acknowledged, payload):
+    ends = [bytes([10, 0, 0, 1]) + b'\x9c\x40', bytes([10, 0, 0, 2]) + b'\0P']
+    sender, receiver = ends if is_up else ends[::-1]
+    tcp = sender[4:] + receiver[4:] + struct.pack('>IIBBHI', sequence, acknowledged, 0x50, flags, 65535, 0) + payload
+    frame = bytes(12) + b'\x08\0E\0' + struct.pack('>H', 20 + len(tcp)) + bytes.fromhex('0000400040060000') + sender[:4] + receiver[:4] + tcp
+    return struct.pack('<IIII', 1, 100 * number + time, len(frame), len(frame)) + frame
+parts = [bytes.fromhex('d4c3b2a1 0200 0400 00000000 00000000 ffff0000 01000000')]
+for number in range(8000):
+    base = 6 + 5 * number
+    parts += [record(0, number, True, 2, base, 0, b''), record(1, number, False, 18, 5000, base + 1, b''),
+              record(2, number, True, 24, base + 1, 5001, b'hello'), record(3, number, False, 24, 5001, base + 6, b'world')]
+sys.stdout.buffer.write(b''.join(parts))
+END
+server a.json '{"type": "latency", "attributes": {"latency": 1000}}, {"type": "timeout", "toxicity_ppm": 500000, "stream": "upstream", "attributes": {"timeout": 1500}}'
+status=0
+timeout 100 "$explain" --capture open.pcap --scenario a.json > output 2> faults || status=$?
+verdict "connections of the same peers, all open" "$(well; told output 'a.json: proxy 0 (s, 10.0.0.2:80): met by 8000 connections
+a.json: proxy 0 toxic 0 (latency_downstream): effect on 8000 of 8000 connections
+a.json: proxy 0 toxic 1 (timeout_upstream): effect on 4048 of 8000 connections; on 3952: it is not drawn (toxicity_ppm 500000)
+')"
+
 # proxies
 cat > a.json <<'END'
 [{"name": "db", "upstream": "10.77.0.9:5432", "toxics": [{"type": "timeout"}]}, {"name": "web", "upstream": "10.77.0.2:80"},
@@ -240,7 +264,7 @@ warns "a tenth unopened" "1 of 10 segments are unopened: the opening of their se
 { echo "$opening"; many 8 "$full"; echo '3.000000 d>s PSH ACK 1001 5001 "hello"'; } | made unopened11.dump
 warns "less than a tenth unopened" "" unopened11.dump
 { echo "$opening"; many 7 "$full"; echo 'record 3.000000 02000000000202000000000186dd60000000'; } | made notipv4.dump
-warns "a tenth notipv4" "1 of 10 frames are notipv4: IPv6 (localhost may be ::1), ARP, or two VLAN tags; only IPv4 is rehearsed: connect to an IPv4 address, as 127.0.0.1" notipv4.dump
+warns "a tenth notipv4" "1 of 10 frames are notipv4: IPv6 (localhost may be ::1), ARP, or two VLAN tags; only IPv4 is rehearsed: connect to an IPv4 address, such as 127.0.0.1" notipv4.dump
 { echo "$opening"; many 7 "$full"; echo 'record 3.000000 0200000000020200000000010800450000ff00004000400600000a0000010a000002'; } | made cut.dump
 warns "a tenth cut" "1 of 10 frames are cut: recorded without their ends, their bytes are missing; record whole packets (tcpdump -s 0)" cut.dump
 { echo "$opening"; echo '2.000000 c>s PSH ACK 1001 5001 "ninebytes"'; echo '2.100000 c>s PSH ACK 1011 5001 "x"'; } | made lost.dump
@@ -256,6 +280,24 @@ status=0
 grep -F 'proxy 0 toxic 0 (' output > line || true
 verdict "no SYN ACK: the reason" "$(fault 1; silent faults; one_line \
     "s.json: proxy 0 toxic 0 $(idle latency_downstream "no bytes flow downstream: the server's SYN ACK was not recorded")" line)"
+
+# standard output that takes nothing, and the name of the command
+ln -s "$explain" toxicap-explain
+status=0
+./toxicap-explain --scenario b.json > /dev/full 2> faults || status=$?
+verdict "standard output full" "$(fault 2; told faults $'toxicap-explain: standard output: No space left on device\n')"
+status=0
+./toxicap-explain --scenario b.json >&- 2> faults || status=$?
+verdict "standard output closed" "$(fault 2; told faults $'toxicap-explain: standard output is closed\n')"
+status=0
+./toxicap-explain --help > output 2> faults || status=$?
+verdict "its name" "$(well; [ "$(grep -cE '^(usage:|   ) toxicap-explain ' output)" = 3 ] || cat output)"
+# beside no program, in a folder of few parents
+mkdir alone
+cp -r "$explain" "${explain%/*}/python" alone
+status=0
+(env -u TOXICAP PATH="$(dirname "$(type -P python3)"):/usr/bin:/bin" alone/explain --scenario b.json > output 2> faults) || status=$?
+verdict "no program anywhere" "$(fault 2; told faults $'explain: there is no program toxicap: put it on the path, or name it in TOXICAP\n')"
 
 cd "$OLDPWD"
 for row in a-hole-that-fills bytes-after-a-reset openings-in-other-vlans; do awk -f tests/capture.awk tests/rows/$row/segments > "$work/$row.dump"; done

@@ -6,7 +6,7 @@ set -euo pipefail
 cd "$(dirname "$0")/.."
 . tests/lib.sh
 if ! can "fixtures" python3; then close; exit; fi
-examples=$PWD/examples killed=$PWD/tests/killed.py
+examples=$PWD/examples killed=$PWD/tests/killed.py recipes=$PWD/tests/recipes.py
 export TOXICAP=$program PYTHONDONTWRITEBYTECODE=1
 version=$("$program" -V)
 
@@ -204,7 +204,7 @@ fails "a misspelt field that must be there" \
     "fixtures.json: unknown field \"capture\"; its fields are captures and scenarios, and where they are needed hosts and seed"
 project
 edit fixtures.json 's/"seed": 0/"seed": "7"/'
-fails "a seed that is a text" "fixtures.json: seed is no whole number"
+fails "a seed that is a text" "fixtures.json: seed is no whole number from 0 to 2^64 - 1"
 project
 edit fixtures.json 's|\["captures/shop.pcap"\]|"captures/shop.pcap"|'
 fails "a capture that is no array" "fixtures.json: captures is no array of paths"
@@ -218,6 +218,69 @@ fails "a manifest that is no JSON" "fixtures/manifest.json is no JSON: Expecting
 project
 TOXICAP=/none/toxicap fails "no program" "there is no program /none/toxicap: put it on the path, or name it in TOXICAP"
 TOXICAP=no-toxicap fails "no command" "there is no program no-toxicap: put it on the path, or name it in TOXICAP"
+
+for number in -1 18446744073709551616; do
+    project
+    edit fixtures.json "s/\"seed\": 0/\"seed\": $number/"
+    fails "the seed $number" "fixtures.json: seed is no whole number from 0 to 2^64 - 1"
+done
+# What is no regular file: a FIFO, which nobody writes to, and a folder. Each call ends.
+for each in fixtures.json captures/shop.pcap scenarios/redis-down.json; do
+    project
+    rm "$work/project/$each"
+    mkdir "$work/project/$each"
+    fails "a folder in place of $each" "$each is no regular file"
+    rmdir "$work/project/$each"
+    mkfifo "$work/project/$each"
+    for command in verify make; do
+        status=0
+        (cd "$work/project" && timeout 60 "$examples/fixtures" $command > "$work/output" 2> "$work/faults") || status=$?
+        verdict "a FIFO in place of $each: $command" "$(fault 2; silent output; told faults "fixtures: $each is no regular file"$'\n')"
+    done
+done
+# Names of files and hosts, and a version, that would write lines of their own.
+project
+evil=$'captures/a\nadded host b\e[31m.pcap'
+cp "$work/project/captures/shop.pcap" "$work/project/$evil"
+edit fixtures.json 's|"captures/shop.pcap"|"captures/a\\nadded host b\\u001b[31m.pcap"|; s|"redis"|"\\u001b", "redis"|; s|"\\u001b"|"k\\u001b]": "10.0.0.9", "\\u001b"|'
+sed -i 's|"\\u001b", ||' "$work/project/fixtures.json"
+sed -i 's|"toxicap |"toxi\\ncap |' "$work/project/fixtures/manifest.json"
+fixtures verify
+verdict "names with control characters" "$(
+    fault 2
+    silent output
+    told faults 'fixtures: captures/a\nadded host b\x1b[31m.pcap under scenarios/slow-database.json: refused 23 BadHost host 0'$'\n'
+)"
+sed -i 's|"k\\u001b]": "10.0.0.9", ||' "$work/project/fixtures.json"
+fixtures verify
+verdict "lines with control characters" "$(listed 1 "changed program toxi\\ncap ${version#toxicap } to $version" 'added input captures/a\nadded host b\x1b[31m.pcap' \
+    "stale input captures/shop.pcap")"
+# Recipes of all shapes: each ends with a line.
+project
+verdict "recipes of all shapes" "$(cd "$work/project" && python3 "$recipes" "$examples/fixtures" 60 1 2>&1)"
+# Standard output that takes nothing; the program beside the tool, and the name of both.
+project
+rm "$work/project/fixtures/redis-down.txt"
+status=0
+(cd "$work/project" && "$examples/fixtures" verify > /dev/full 2> "$work/faults") || status=$?
+verdict "standard output full" "$(fault 2; told faults $'fixtures: standard output: No space left on device\n')"
+status=0
+(cd "$work/project" && "$examples/fixtures" verify >&- 2> "$work/faults") || status=$?
+verdict "standard output closed" "$(fault 2; told faults $'fixtures: standard output is closed\n')"
+mkdir -p "$work/release/bin" "$work/release/share/toxicap/examples"
+cp "$examples/fixtures" "$work/release/share/toxicap/examples"
+ln -s ../share/toxicap/examples/fixtures "$work/release/bin/toxicap-fixtures"
+# beside: runs the tool of that release, with no toxicap on the path.
+beside() {
+    status=0
+    (cd "$work/project" && env -u TOXICAP PATH="$(dirname "$(type -P python3)"):/usr/bin:/bin" "$work/release/bin/toxicap-fixtures" verify \
+        > "$work/output" 2> "$work/faults") || status=$?
+}
+beside
+verdict "no program beside it" "$(fault 2; told faults $'toxicap-fixtures: there is no program toxicap: put it on the path, or name it in TOXICAP\n')"
+ln -s "$program" "$work/release/bin/toxicap"
+beside
+verdict "the program beside it" "$(listed 1 "gone output redis-down.txt")"
 
 # foreign files
 # kept WHAT FILE: verify tells that this file of the folder is foreign, and make stops before it.
@@ -329,7 +392,7 @@ for words in "" "prune" "make fixtures.json more"; do
     verdict "words: $words" "$(fault 2; silent output; told faults $'usage: fixtures make|verify [FILE]\n')"
 done
 fixtures make fixtures
-verdict "a file without .json" "$(fault 2; silent output; told faults $'fixtures: fixtures does not end in .json\n')"
+verdict "a file without .json" "$(fault 2; silent output; told faults $'fixtures: fixtures does not end in .json, or has no name before it\n')"
 
 # the hook, in a repository of its own
 # commit MESSAGE: commits what is staged; `status`, `output` and `faults` are as of `run`.

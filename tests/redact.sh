@@ -1,7 +1,8 @@
 #!/usr/bin/env bash
 # examples/redact: captures are written down by hand as segments (tests/capture.awk), once as they are recorded and once as they have to be then, with
 # every checksum filled by lines of its own (tests/summed.py), and are compared byte for byte. Then a sample: its report stays, its secrets are in no
-# byte of the file, and tshark finds the checksums of what changed right. It wants python3.
+# byte of the file, and tshark finds the checksums of what changed right. Then random captures (tests/redacted.py): no secret is delivered of what it
+# writes, nor in a payload. CAPTURES is how many (else 300). It wants python3.
 set -euo pipefail
 cd "$(dirname "$0")/.."
 . tests/lib.sh
@@ -128,6 +129,98 @@ capture wanted << 'END'
 END
 redacted "sequence numbers" 2 --text secret
 
+# What toxicap joins: a SYN ACK with another number changes nothing, nor do bytes of the server that were recorded before it.
+capture recorded << 'END'
+1.000000 c>s SYN 1000 0
+1.000100 s>c SYN ACK 5000 1001
+1.001000 s>c PSH ACK 5001 1001 "sec"
+1.002000 s>c SYN ACK 7000 1001
+1.003000 s>c PSH ACK 5004 1001 "ret"
+2.000000 d>s SYN 1000 0
+2.001000 s>d PSH ACK 5001 1001 "sec"
+2.002000 s>d SYN ACK 5000 1001
+2.003000 s>d PSH ACK 5004 1001 "ret"
+END
+capture wanted << 'END'
+1.000000 c>s SYN 1000 0
+1.000100 s>c SYN ACK 5000 1001
+1.001000 s>c PSH ACK 5001 1001 "xxx"
+1.002000 s>c SYN ACK 7000 1001
+1.003000 s>c PSH ACK 5004 1001 "xxx"
+2.000000 d>s SYN 1000 0
+2.001000 s>d PSH ACK 5001 1001 "xxx"
+2.002000 s>d SYN ACK 5000 1001
+2.003000 s>d PSH ACK 5004 1001 "xxx"
+END
+redacted "a SYN ACK" 2 --text secret
+
+# What others may join: over a SYN of the other side, and over one that begins a connection. A payload between copies that differ. What stands between
+# two SYN, and nowhere else: first, here "-secr-" and "et-", or last.
+capture recorded << 'END'
+1.000000 c>s SYN 1000 0
+1.001000 c>s PSH ACK 1001 5001 "sec"
+1.002000 s>c SYN 9000 0
+1.003000 c>s PSH ACK 1004 5001 "ret,sec"
+1.004000 c>s SYN 2000 0
+1.005000 c>s PSH ACK 1011 5001 "ret"
+2.000000 d>s SYN 1000 0
+2.001000 d>s PSH ACK 1001 5001 "earlier-bytes"
+2.002000 d>s PSH ACK 1001 5001 "a-secret"
+2.002500 d>s PSH ACK 1001 5001 "further-bytes"
+2.003000 s>d SYN ACK 9000 0
+2.004000 d>s SYN ACK 2000 0
+2.005000 d>s PSH ACK 1001 5001 "-secr"
+2.006000 d>s PSH ACK 1006 5001 "et-"
+2.007000 d>s SYN ACK 3000 0
+2.008000 d>s PSH ACK 1001 5001 "later---bytes"
+END
+capture wanted << 'END'
+1.000000 c>s SYN 1000 0
+1.001000 c>s PSH ACK 1001 5001 "xxx"
+1.002000 s>c SYN 9000 0
+1.003000 c>s PSH ACK 1004 5001 "xxx,xxx"
+1.004000 c>s SYN 2000 0
+1.005000 c>s PSH ACK 1011 5001 "xxx"
+2.000000 d>s SYN 1000 0
+2.001000 d>s PSH ACK 1001 5001 "earlier-bytes"
+2.002000 d>s PSH ACK 1001 5001 "a-xxxxxx"
+2.002500 d>s PSH ACK 1001 5001 "further-bytes"
+2.003000 s>d SYN ACK 9000 0
+2.004000 d>s SYN ACK 2000 0
+2.005000 d>s PSH ACK 1001 5001 "-xxxx"
+2.006000 d>s PSH ACK 1006 5001 "xx-"
+2.007000 d>s SYN ACK 3000 0
+2.008000 d>s PSH ACK 1001 5001 "later---bytes"
+END
+redacted "what others may join" 4 --text secret
+
+# What was replaced matches again, with the bytes after it.
+capture recorded << 'END'
+1.000000 c>s SYN 1000 0
+1.001000 c>s PSH ACK 1001 5001 "xaxax,xxx"
+END
+capture wanted << 'END'
+1.000000 c>s SYN 1000 0
+1.001000 c>s PSH ACK 1001 5001 "xxxxx,xxx"
+END
+redacted "a text that begins and ends with x" 2 --text xax
+
+# Frames with a total length of 0, as segments that the network card was to cut have it.
+offloaded() { echo "020000000002020000000001080045000000000040004006$(printf '00000a0000010a0000029c400050%08x%08x5018ffff%s0000' "$1" 5001 "$2")"; }
+sum() { python3 -c 'import sys
+print("%04x" % (-int("0a0000010a000002000600179c400050%08x%08x5018ffff0000000078787800" % (int(sys.argv[1]), 5001), 16) % 65535))' "$1"; }
+capture recorded << END
+1.000000 c>s SYN 1000 0
+record 1.001000 $(offloaded 1001 0000)736563
+record 1.002000 $(offloaded 1004 0000)726574
+END
+capture wanted << END
+1.000000 c>s SYN 1000 0
+record 1.001000 $(offloaded 1001 "$(sum 1001)")787878
+record 1.002000 $(offloaded 1004 "$(sum 1004)")787878
+END
+redacted "a total length of 0" 1 --text secret
+
 # A VLAN whose priority changes, the same peers without one, in nanoseconds, the highest byte first.
 capture recorded << 'END'
 nanoseconds
@@ -206,8 +299,36 @@ sed '1s/00000001$/00000071/; 1s/ 01000000$/ 71000000/' <(awk -f tests/capture.aw
 refused "another link" "$work/others" "this capture is not of Ethernet" --text secret
 redact /dev/null
 verdict "no pattern" "$(fault 2; silent output; grep -q 'error: there is no --text and no --regex$' "$work/faults" || cat "$work/faults")"
+redact /dev/null --text xx
+verdict "a text that would stay" "$(
+    fault 2
+    silent output
+    grep -q 'error: argument --text: a text needs a byte other than x$' "$work/faults" || cat "$work/faults"
+)"
 redact /dev/null --regex '('
 verdict "a pattern that is none" "$(fault 2; silent output; grep -q 'error: argument --regex: (: missing )' "$work/faults" || cat "$work/faults")"
+
+capture others << 'END'
+1.000000 c>s SYN 1000 0
+1.001000 c>s PSH ACK 1001 5001 "x"
+1.002000 c>s PSH ACK 1002 5001 "a"*900
+END
+refused "a pattern that matches what it replaced, again and again" "$work/others" \
+    "after 100 rounds the patterns still match what they replace, with bytes beside it: write them so that they take these too" --text xa
+
+# Standard output that takes nothing; the name of the command.
+ln -s "$PWD/examples/redact" "$work/toxicap-redact"
+# stopped LINE WHERE: it was to end with status 2 and this line.
+stopped() {
+    status=0
+    eval '"$work/toxicap-redact" --text crowns < samples/shop.pcap 2> "$work/faults" '"$2" || status=$?
+    verdict "standard output $2" "$(fault 2; told faults "toxicap-redact: standard output$1"$'\n')"
+}
+stopped ": No space left on device" "> /dev/full"
+stopped " is closed" ">&-"
+status=0
+"$work/toxicap-redact" --help > "$work/output" 2> "$work/faults" || status=$?
+verdict "its name" "$(well; [ "$(grep -c '^\(usage:\|   \) toxicap-redact \[' "$work/output")" = 2 ] || cat "$work/output")"
 
 # A sample: 200 lines of a web server, some over two segments, and three times 96 crowns of Redis.
 cp samples/shop.pcap "$work/recorded"
@@ -239,4 +360,8 @@ if can "a sample, by tshark" tshark; then
         awk -F '\t' '$1 != $2 { print $3 }' | sort | uniq -c > "$work/statuses"
     verdict "a sample: checksums, by tshark" "$(awk '$2 != 1 || $1 != 15 { print "  " $0 }' "$work/statuses"; [ -s "$work/statuses" ] || echo "  none")"
 fi
+
+tests/redacted.py "$program" examples/redact "${CAPTURES:-300}" 1 > "$work/random"
+tail -n 1 "$work/random"
+verdict "random captures" "$(grep -v ' 0 leak one, 0 faults$' "$work/random" || true)"
 close

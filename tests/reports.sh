@@ -187,5 +187,48 @@ writes "a proxy that the file has not" 2 "report: scenario 0 names.json has no p
 writes "too few scenario files" 2 "report: there is no --scenario for scenario 1" --form table --scenario "$work/names.json" "$work/new"
 writes "too few scenario files for a diff" 2 "report: there is no --scenario for scenario 1" --form diff --scenario "$work/names.json" "$work/both"
 writes "no scenario file" 2 "report: old is no scenario file" --form table --scenario "$work/old" "$work/old"
+# Peers that the program does not write: a cell that a table calculates, one that takes a terminal over, numbers that are none.
+refused() {
+    sed "3s|10.0.0.1:4000|$1|" "$work/old" > "$work/forged"
+    for form in json csv table diff; do
+        status=0
+        examples/report --form $form "$work/forged" > "$work/output" 2> "$work/faults" || status=$?
+        verdict "a peer of another form, $form: $1" "$(
+            fault 2
+            grep -qx "report: $work/forged: line 3 is no report's: .*" "$work/faults" || cat -A "$work/faults"
+            [ "$(tr -d '\n' < "$work/faults" | tr -d '[:print:]' | wc -c)" = 0 ] || echo '  it has control characters'
+            grep -qaF -- "${1%%:*}" "$work/output" && cat "$work/output" || true
+        )"
+    done
+}
+refused '=HYPERLINK("http://192.0.2.1","x")'
+refused $'\e[2J:4000'
+refused '+10.0.0.1:4000'
+refused '010.0.0.1:4000'
+refused '10.0.0.256:4000'
+refused '10.0.0.1'
+printf 'scenario 00\n' > "$work/forged"
+writes "a number with zeros before it" 2 "report: forged: line 1 is no report's: 'scenario 00'" "$work/forged"
+evil=$work/$'old\e[31m\n'
+cp "$work/old" "$evil"
+cp "$work/names.json" "$evil.json"
+status=0
+examples/report --form table --scenario "$evil.json" "$evil" "$evil" > "$work/output" 2> "$work/faults" || status=$?
+sed -n "1s|^$work/||p" "$work/output" > "$work/line"
+printf '%s\n' 'old\x1b[31m\n scenario 0 old\x1b[31m\n.json: records 9, notipv4 1, connections 2' > "$work/wanted"
+verdict "names with control characters" "$(well; difference "$work/wanted" "$work/line")"
+# Standard output that takes nothing, and the name of the command.
+ln -s "$PWD/examples/report" "$work/toxicap-report"
+for form in json csv table diff; do
+    status=0
+    "$work/toxicap-report" --form $form "$work/old" "$work/old" > /dev/full 2> "$work/faults" || status=$?
+    verdict "standard output full, $form" "$(fault 2; told faults $'toxicap-report: standard output: No space left on device\n')"
+done
+status=0
+"$work/toxicap-report" "$work/old" >&- 2> "$work/faults" || status=$?
+verdict "standard output closed" "$(fault 2; told faults $'toxicap-report: standard output is closed\n')"
+status=0
+examples/report <&- > "$work/output" 2> "$work/faults" || status=$?
+verdict "standard input closed" "$(fault 2; silent output; told faults $'report: standard input is closed\n')"
 writes "no such file" 2 "report: absent: No such file or directory" "$work/absent"
 close

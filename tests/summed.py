@@ -12,7 +12,7 @@ while at < len(file):
     end = at + 16 + int.from_bytes(file[at + 8:at + 12], order)
     ip = at + 16 + (18 if file[at + 28:at + 30] == b'\x81\x00' else 14)
     after = ip + int.from_bytes(file[ip + 2:ip + 4], 'big')
-    if file[ip - 2:ip] == b'\x08\x00' and file[ip + 9] == 6 and after <= end:
+    if file[ip - 2:ip] == b'\x08\x00' and file[ip + 9] == 6 and ip < after <= end:
         tcp = ip + 20
         length = after - tcp
         summed = file[ip + 12:tcp] + bytes([0, 6]) + length.to_bytes(2, 'big') + file[tcp:after] + bytes(length % 2)

@@ -105,5 +105,12 @@ refuses "a recording" "samples/shop.pcap $no: it has another file header $first"
 refuses "a capture that is torn" "torn $no: record 1: it is cut, or no TCP segment $first" "$work/torn"
 refuses "captures of other sessions" "recorded/0000.pcap and mobile-line/0000.pcap are not of the same sessions" "$here" "$work/mobile-line/0000.pcap"
 refuses "a connection that is not there" "recorded/0000.pcap has no connection 4: it has 4" --connection 4 "$here"
+ln -s "$timeline" "$work/toxicap-timeline"
+for where in "> /dev/full" ">&-"; do
+    status=0
+    eval '"$work/toxicap-timeline" "$here" 2> "$work/faults" '"$where" || status=$?
+    case $where in *full) why=": No space left on device" ;; *) why=" is closed" ;; esac
+    verdict "standard output $where" "$(fault 2; told faults "toxicap-timeline: standard output$why"$'\n')"
+done
 refuses "no file" "absent: No such file or directory" "$work/absent"
 close

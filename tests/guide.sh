@@ -15,7 +15,8 @@ top=${1:-$PWD} release=${1:-}
 [ -z "$release" ] || program=$release/toxicap
 unset TOXICAP
 tools=(go rustc cc tshark editcap tcprewrite jq git xxd gzip parallel gcc python3 jsonschema tcpdump dumpcap ethtool curl)
-pages=({,examples/}README.md docs/{TUTORIAL,GUIDE,FROM-TOXIPROXY,OTHER-CAPTURES,SUITES,IN-PROCESS,SCALE,TRUST,SECRETS}.md)
+pages=({,examples/}README.md docs/{TUTORIAL,GUIDE,TROUBLESHOOTING,FROM-TOXIPROXY,OTHER-CAPTURES,SUITES,CLOSED-LOOP,IN-PROCESS,SCALE,TRUST,SECRETS}.md
+    docs/SENSORS.md)
 client=toxicap-client-$$ server=toxicap-server-$$ network=no webs=()
 
 clean_up() {
@@ -74,7 +75,7 @@ captures_of() { grep -oE '[A-Za-z0-9_./-]+\.pcap' <<< "$1" | tr '\n' ' '; }
 run_block() {
     local tool file wanted=() stop=(-e -o pipefail)
     ran=no status=0
-    [[ $3 != *examples/report* && $3 != *examples/timeline* ]] || wanted+=(python3)
+    [[ $3 != *examples/report* && $3 != *examples/timeline* && $3 != *examples/closed_loop* && $3 != *examples/for_sensors* ]] || wanted+=(python3)
     for tool in "${tools[@]}"; do ! grep -qw -- "$tool" <<< "$3" || wanted+=("$tool"); done
     can "$1" "${wanted[@]}" || { missed+=" $(captures_of "$3")"; return; }
     for file in $(captures_of "$3"); do

@@ -1,6 +1,7 @@
 #!/usr/bin/env bash
 # The library for C that release/library makes, against the program: the same bytes and lines of refusals, buffers that are left as they were
-# but for the answer, ten thousand calls, eight threads, growths of memory that are refused, and the examples in C, Python, Go and Rust.
+# but for the answer, ten thousand calls, eight threads, growths of memory that are refused, and the examples in C, Python, Go and Rust;
+# and what helps after refusals in Rust, against tests/hints/rows.
 # LIBRARY names another libtoxicap_c.a by its whole path, as for release/library. tests/library.c makes the calls.
 set -euo pipefail
 cd "$(dirname "$0")/.."
@@ -220,5 +221,7 @@ fi
 if can "the example in Rust" rustc cc; then
     verdict "the example in Rust, compiled" "$(rustc --edition 2021 -D warnings -L "$kit/lib" -o "$work/rust" examples/rust/main.rs 2>&1 || true)"
     example Rust "$work/rust"
+    verdict "hints in Rust, compiled" "$(rustc --edition 2021 -D warnings --test -L "$kit/lib" -o "$work/rows" tests/hints/rows.rs 2>&1 || true)"
+    verdict "hints in Rust" "$(timeout 60 "$work/rows" -q > "$work/told" 2>&1 || cat "$work/told")"
 fi
 close

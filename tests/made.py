@@ -3,9 +3,9 @@
 
 A page of docs/ has such a part between two lines, `<!-- made: NAME -->` and `<!-- end -->`. Without an argument each part is written anew. With
 `--check` nothing is written: a part that is not what would be written fails, and so does one that no page has. The larger sample as a dump, for
-tests in Rattle, is made, or compared, too. The last line is `N passed, M failed`. A further argument is the folder of another copy of the
-repository."""
-import pathlib, re, sys
+tests in Rattle, is made, or compared, too; and so are the tables of what helps after a refusal, in code between `made: hints` and `end`. The last
+line is `N passed, M failed`. A further argument is the folder of another copy of the repository."""
+import json, pathlib, re, sys
 
 FOLDERS = [word for word in sys.argv[1:] if word != '--check']
 TREE = pathlib.Path(FOLDERS[0] if FOLDERS else pathlib.Path(__file__).resolve().parent.parent)
@@ -226,6 +226,90 @@ def made_dump():
     return f'//! The sample `samples/shop.pcap` as a dump, made by `tests/made.py`.\n\npub const SHOP: &str =\n    "{lines}";\n'
 
 
+# ---- tables in code
+
+CODE_MADE = re.compile(r'((?:#|//) made: (\w+)[^\n]*\n)(.*?)((?:#|//) end\n)', re.S)
+IN_PROCESS = {  # what a remedy says of a command line, and what it says in a call
+    'as --help': 'as toxicap --help',
+    '--host {host}=ADDR,': '{host}=ADDR among the hosts,',
+    'a run takes 256: run it more than once': 'a call takes 256: call more than once',
+    'fewer --workers,': 'fewer scenarios in a call,',
+}
+
+
+def rows_of(path):
+    head, *rows = [line.split('\t') for line in read(TREE / path).splitlines()]
+    return [dict(zip(head, row)) for row in rows]
+
+
+def attributes():
+    """The attributes of each type of toxics: name, unit, least, greatest, and whether it has to be there."""
+    for row in rows_of('docs/toxics.tsv'):
+        if row['toxic'] == 'any': continue
+        most = 10**9 if row['greatest'] == 'below average_size' else int(row['greatest'])
+        unit = row['unit'].replace(' of 1000 bytes', '')
+        yield row['toxic'], row['attribute'], unit, int(row['least']), most, row['default'] == 'required'
+
+
+def remedies():
+    """The parts of the remedy of each refusal of a call, by its number."""
+    for row in rows_of('docs/refusals.tsv'):
+        if int(row['number']) >= 60: continue  # of files
+        text = row['remedy']
+        for words, called in IN_PROCESS.items(): text = text.replace(words, called)
+        yield int(row['number']), text.split('; ')
+
+
+def python_hints():
+    """Both tables for Python."""
+    yield 'ATTRIBUTES: Dict[str, Dict[str, Tuple[str, int, int, bool]]] = {  # of each type: unit, least, greatest, and whether it has to be there\n'
+    found = {}
+    for kind, name, *told in attributes():
+        found.setdefault(kind, []).append(f'"{name}": ("{told[0]}", {told[1]}, {told[2]}, {told[3]})')
+    for kind, told in found.items():
+        line = f'    "{kind}": {{{", ".join(told)}}},\n'
+        yield line if len(line) <= 150 else f'    "{kind}": {{\n' + ''.join(f'        {each},\n' for each in told) + '    },\n'
+    yield '}\nREMEDIES: Dict[int, List[str]] = {\n'
+    for number, parts in remedies():
+        yield f'    {number}: {json.dumps(parts)},\n'
+    yield '}\n'
+
+
+def go_tables():
+    """The kinds of refusals, and the attributes of toxics, for Go."""
+    kinds = [row for row in rows_of('docs/refusals.tsv') if int(row['number']) < 60]
+    width = max(len(row['name']) for row in kinds)
+    yield '\n// The kinds of refusals.\nconst (\n'
+    for row in kinds: yield f'\t{row["name"]:{width}} Kind = {row["number"]:2} // {row["means"]}\n'
+    yield ')\n\nvar kindNames = map[Kind]string{\n'
+    for row in kinds: yield f'\t{row["name"] + ":":{width + 1}} "{row["name"]}",\n'
+    yield '}\n\n// The attributes of each type of toxics, in the order in which they are checked.\nvar attributes = []attribute{\n'
+    for kind, name, unit, least, most, _ in attributes(): yield f'\t{{"{kind}", "{name}", "{unit}", {least}, {most}}},\n'
+    yield '}\n\n'
+
+
+def rust_hints():
+    """Both tables for Rust."""
+    rows = [f'    ("{kind}", "{name}", "{unit}", {least}, {most}),\n' for kind, name, unit, least, most, _ in attributes()]
+    yield '/// The attributes of each type of toxics: what they count, and their least and greatest number.\n#[rustfmt::skip]\n'
+    yield f'const ATTRIBUTES: [(&str, &str, &str, u64, u64); {len(rows)}] = [\n{"".join(rows)}];\n\n'
+    rows = [f'    ({number}, &{json.dumps(parts)}),\n' for number, parts in remedies()]
+    yield f'/// The parts of the remedy of each refusal.\n#[rustfmt::skip]\nconst REMEDIES: [(u32, &[&str]); {len(rows)}] = [\n{"".join(rows)}];\n'
+
+
+TABLES = {'examples/python/hints.py': python_hints, 'examples/go/tables.go': go_tables, 'examples/rust/hints.rs': rust_hints}
+
+
+def code_faults():
+    """Writes the tables into the code; with --check those that are not what would be written."""
+    for path, table in TABLES.items():
+        text, wanted = read(TREE / path), ''.join(table())
+        found = CODE_MADE.search(text)
+        if found is None: yield f'{path} has no made part'
+        elif '--check' not in sys.argv: (TREE / path).write_text(text[:found.start(3)] + wanted + text[found.end(3):], encoding='utf-8')
+        elif found[3] != wanted: yield path + difference(found[3], wanted)
+
+
 # ---- pages
 
 PARTS = {'crates': made_crates, 'limits': made_limits, 'calls': made_calls}
@@ -255,11 +339,12 @@ def main():
     wanted = made_dump()
     if '--check' not in sys.argv: DUMP.write_text(wanted, encoding='utf-8')
     elif read(DUMP) != wanted: faults.append(f'{DUMP.relative_to(TREE)} is no dump of {SAMPLE.relative_to(TREE)}')
+    faults += code_faults()
     if '--check' not in sys.argv: return
     missing = set(PARTS) - shown
     faults += [f'no page has the part: {name}' for name in sorted(missing)]
     for fault in faults: print('failed:', fault)
-    print(f'{len(shown | missing) + 1 - len(faults)} passed, {len(faults)} failed')
+    print(f'{len(shown | missing) + 1 + len(TABLES) - len(faults)} passed, {len(faults)} failed')
     sys.exit(1 if faults else 0)
 
 

@@ -77,7 +77,7 @@ if can "the wheel" python3; then
     for each in python3 /usr/bin/python3; do ! "$each" -c 'import pytest' 2> /dev/null || { host=$each; break; }; done
     the_same "the wheel, the same twice" release/wheel "$parts"
     wheel=$(echo "$made"/toxicap-*.whl)
-    verdict "the wheel below 1.5 MB" "$(size "$wheel" 1500000)"
+    verdict "the wheel below 1.7 MB" "$(size "$wheel" 1700000)"
     newest=$(readelf --dyn-syms -W "$parts/lib/libtoxicap.so.1" | grep -oE 'GLIBC_[0-9.]+' | cat - <(echo GLIBC_2.17) | sort -Vu | tail -n 1)
     verdict "the C library that the wheel asks for" "$([ "$newest" = GLIBC_2.17 ] || echo "  $newest, and manylinux2014 has GLIBC_2.17")"
     verdict "what the wheel has" "$("$host" -B tests/packages/record.py "$wheel" 2>&1)"
@@ -96,6 +96,8 @@ if can "the wheel" python3; then
         passes "a tool of the wheel" env -u TOXICAP "PATH=/usr/bin:/bin" \
             "$work/venv/bin/toxicap-explain" --capture "$work/share/samples/http-get.pcap" --scenario "$work/share/examples/limit_data.json"
         verdict "what the tool prints" "$(grep -q ': effect on 1 of 1 connection$' "$work/told" || cat "$work/told")"
+        "$work/venv/bin/toxicap-redact" --text x > "$work/told" 2>&1 < /dev/null || true
+        verdict "the name of a tool" "$(grep -q '^toxicap-redact: error: ' "$work/told" || cat "$work/told")"
     fi
     for sample in http-get shop; do
         for scenario in latency bandwidth redis-down slow-database; do
@@ -134,23 +136,22 @@ END
     if ! "$python" -c 'import pytest' 2> /dev/null; then
         skip "the plugin of pytest" "pytest is not here"
     else
-        block docs/PYTHON.md python 2 > "$away/test_cut_off.py"
+        block docs/PYTHON.md python 2 > "$away/test_page.py"
         # tested STATUS LINE OPTION..: pytest ends so, and prints a line with this text.
         tested() {
             local ended=0
-            (cd "$away" && out_of_reach "$python" -B -m pytest -q -p no:cacheprovider test_cut_off.py "${@:3}") > "$work/told" 2>&1 || ended=$?
+            (cd "$away" && out_of_reach "$python" -B -m pytest -q -p no:cacheprovider test_page.py "${@:3}") > "$work/told" 2>&1 || ended=$?
             { [ $ended = "$1" ] && grep -qF -- "$2" "$work/told"; } || { echo "  status $ended"; cat "$work/told"; }
         }
         verdict "pytest without golden files" "$(tested 1 'there is no golden file'; [ ! -e "$away/golden" ] || echo '  there is one now')"
-        verdict "pytest --toxicap-update" "$(tested 0 '1 passed' --toxicap-update; holds "$away/golden" cut-off.pcap cut-off.txt)"
-        verdict "pytest with golden files" "$(tested 0 '1 passed')"
-        mkdir -p "$away/golden"
-        touch "$away/golden"/cut-off.{txt,pcap}
-        sed -i 's:200/216:201/216:' "$away/golden/cut-off.txt"
-        verdict "pytest with another report" "$(tested 1 '-0 10.77.0.1:59690 > 10.77.0.2:80 proxy 0 up 82/82/0 close+3653 max 0 down 201/216/0')"
-        printf x >> "$away/golden/cut-off.pcap"
-        verdict "pytest with another capture" "$(tested 1 'cut-off.pcap differs from byte')"
-        verdict "pytest --toxicap-update, again" "$(tested 0 '1 passed' --toxicap-update; tested 0 '1 passed')"
+        verdict "pytest --toxicap-update" "$(tested 0 '3 passed' --toxicap-update; holds "$away/golden" cut-off.pcap cut-off.txt)"
+        verdict "pytest with golden files" "$(tested 0 '3 passed')"
+        if "$python" -c 'import hypothesis' 2> /dev/null; then
+            block docs/PYTHON.md python 3 > "$away/test_page.py"
+            verdict "the page's test by hypothesis" "$(tested 0 '1 passed')"
+        else
+            skip "the page's test by hypothesis" "hypothesis is not here"
+        fi
     fi
 fi
 
@@ -211,6 +212,9 @@ if can "the module for Go" go gcc; then
     shared "the module" "$away/toxicap-$version-go/share/toxicap"
     verdict "the module, as gofmt lays it out" "$(in_module gofmt -l . 2>&1)"
     verdict "the module, go vet" "$(quiet in_module go vet ./...)"
+    for place in linux/amd64 windows/amd64 darwin/arm64; do
+        verdict "the module without cgo, $place" "$(quiet in_module env CGO_ENABLED=0 "GOOS=${place%/*}" "GOARCH=${place#*/}" go vet ./...)"
+    done
     verdict "the module's tests, under the race detector" "$(in_module go test -race -count=1 ./... > "$work/told" 2>&1 || cat "$work/told")"
     mkdir "$away/golden-go"
     cat > "$away/golden-go/slow_test.go" <<'END'
@@ -254,8 +258,15 @@ END
     verdict "Go with another golden file" "$(
         sed -i 's:216/216:217/216:' "$away/golden-go/testdata/slow.txt"
         golden 1
-        grep -q 'the golden file testdata/slow.txt differs from byte [0-9]* on' "$work/told" || cat "$work/told"
+        grep -q 'the golden file testdata/slow.txt differs in line 3:' "$work/told" || cat "$work/told"
     )"
+    mkdir -p "$away/page-go/testdata"
+    cp "$away/http-get.pcap" "$away/page-go/testdata"
+    block docs/GO.md go 1 > "$away/page-go/page_test.go"
+    cp "$away/golden-go/go.mod" "$away/page-go"
+    verdict "docs/GO.md, as gofmt lays it out" "$(gofmt -l "$away/page-go" 2>&1)"
+    # shellcheck disable=SC2016
+    passes "docs/GO.md" bash -c 'cd "$0" && go vet . && TOXICAP_UPDATE=1 go test ./... && go test -count=1 .' "$away/page-go"
     verdict "the module, vendored" "$(
         mkdir "$away/suite"
         cd "$away/suite"
@@ -281,7 +292,8 @@ if can "the crate for Rust" cargo rustc cc; then
     in_crate cargo package --no-verify --offline --list --allow-dirty > "$work/output" 2> "$work/faults" || cat "$work/faults" >> "$work/output"
     sed -i '/^Cargo\.lock$/d' "$work/output"
     {
-        printf '%s\n' Cargo.toml Cargo.toml.orig LICENCES.md README.md build.rs native/libtoxicap.a src/events.rs src/lib.rs src/rehearse.rs
+        printf '%s\n' Cargo.toml Cargo.toml.orig LICENCES.md README.md build.rs native/libtoxicap.a \
+            src/{events,hints,json,lib,rehearse,shown,sockets}.rs
         (cd "$work" && find share -type f -printf 'share/toxicap/%P\n')
     } | LC_ALL=C sort > "$work/wanted"
     LC_ALL=C sort -o "$work/output" "$work/output"

@@ -1,7 +1,8 @@
 #!/usr/bin/env bash
 # Searches over calls of the library for C, in Python and Go: the least seed, the smallest scenario and the first prefix, against rows that were
 # worked out by hand (tests/search.json) and known parsers, by tests/search.py and tests/search_rows_test.go; and the examples, which find a planted
-# bug, and none once it is mended. LIBRARY names another libtoxicap_c.a by its whole path, as for release/library.
+# bug, and none once it is mended. The other helpers in Go have their rows in tests/hint_rows_test.go and tests/scenario_rows_test.go. LIBRARY names
+# another libtoxicap_c.a by its whole path, as for release/library.
 set -euo pipefail
 cd "$(dirname "$0")/.."
 . tests/lib.sh
@@ -12,7 +13,8 @@ export GOFLAGS=-mod=mod GOPROXY=off GO111MODULE=on
 mkdir -p "$copy/tests"
 cp -r examples samples "$copy"
 cp tests/search.{json,py} "$copy/tests"
-cp tests/search_rows_test.go "$copy/examples/go"
+cp -r tests/hints "$copy/tests"
+cp tests/*_rows_test.go "$copy/examples/go"
 
 # passes WHAT COMMAND..: a command ends well; else what it prints is told.
 passes() { verdict "$1" "$("${@:2}" > "$work/output" 2>&1 || cat "$work/output")"; }
@@ -33,6 +35,13 @@ mend() {
 
 if can "Python" python3; then
     for class in Search Prefixes; do passes "Python: $class" python3 -B "$copy/tests/search.py" $class; done
+    host=python3
+    for each in python3 /usr/bin/python3; do ! "$each" -c 'import hypothesis' 2> /dev/null || { host=$each; break; }; done
+    if "$host" -c 'import hypothesis' 2> /dev/null; then
+        passes "Python: strategies" "$host" -B "$copy/tests/search.py" Strategies
+    else
+        skip "Python: strategies" "hypothesis is not here"
+    fi
     python3 -B examples/python/find_bug.py samples/shop.pcap > "$work/found" 2>&1 || true
     cat > "$work/wanted" << 'END'
 least seed 118
@@ -44,9 +53,12 @@ END
     finds_nothing "Python: the example, mended" python3 -B "$copy/examples/python/find_bug.py" samples/shop.pcap
 fi
 if can "Go" go gcc; then
-    # go_test NAME: a test of the copy, which go vets first.
-    go_test() { (cd "$copy/examples/go" && go vet . && go test -count=1 -run "^$1\$" .); }
-    for name in TestRows TestWrongUses TestFeedPrefixes; do passes "Go: $name" go_test $name; done
+    # go_test NAMES: tests of the copy, which go vets first.
+    go_test() { (cd "$copy/examples/go" && go vet . && go test -count=1 -run "^($1)\$" .); }
+    for names in 'TestRows' 'TestWrongUses|TestPanics' 'TestFeedPrefixes' 'TestHints|TestJSONFaults|TestKinds' 'TestScenario|TestReport|TestExplain' \
+        'TestFuzzScenario|TestRoom'; do
+        passes "Go: $names" go_test "$names"
+    done
     passes "Go: the example" go_test Example
     mend go/search_test.go 'if len(rest) < end {' 'if len(rest) < end+2 {'
     finds_nothing "Go: the example, mended" go_test Example

@@ -4,6 +4,7 @@ import mmap
 import os
 import pathlib
 import pickle
+import socket
 import struct
 import sys
 import tempfile
@@ -60,10 +61,11 @@ def refusals(capture):
             refusal = raised(call, capture, scenarios, hosts)
             told(wanted, isinstance(refusal, toxicap.Refusal) and [refusal.number, refusal.name, refusal.place], wanted)
             again = pickle.loads(pickle.dumps(refusal))
-            told(wanted, [type(again), str(again)], [toxicap.Refusal, " ".join(["refused", *map(str, filter(None, wanted))])])
-    want = toxicap.WantOfMemory("refused 40 Memory")
+            told(wanted, [type(again), again.line], [toxicap.Refusal, " ".join(["refused", *map(str, filter(None, wanted))])])
+            told(wanted, [again.hint != "", str(again)], [True, f"{again.line}: {again.hint}"])
+    want = toxicap.OutOfMemory("refused 40 Memory")
     told("out of memory", [isinstance(want, kind) for kind in (MemoryError, toxicap.Refusal)], [True, True])
-    for words in ("text", [b"[]"]), (capture, ["[]"]), (5, [b"[]"]), (capture, b"[]"), (capture, [b"[]"], "a=10.0.0.1"):
+    for words in (None, [b"[]"]), (capture, ["[]"]), (5, [b"[]"]), (capture, [5]), (capture, [b"[]"], "a=10.0.0.1"):
         told(f"a wrong type, {words[1:]}", type(raised(toxicap.rehearse, *words)), TypeError)
     for seed in -1, 2**64:
         told(f"seed {seed}", str(raised(toxicap.rehearse, capture, [], b"", seed)), f"the seed {seed} is not from 0 to 2^64 - 1")
@@ -145,13 +147,30 @@ def forks(capture):
 
 def modules():
     """The modules that are not taken by the package itself."""
+    import toxicap.closed_loop
     import toxicap.player
     import toxicap.search
 
     capture = (FOLDER / "http-get.pcap").read_bytes()
     [output] = toxicap.rehearse(capture, [b"[]"])
     told("the least seed", toxicap.search.least_seed(capture, [b"[]"], b"", lambda outputs: outputs == [output], 2), 0)
-    told("a player's port", toxicap.player.Player(output.capture, output.capture).port > 0, True)
+    if pathlib.Path(sys.prefix, "share/toxicap").exists():  # pip put it there
+        told("a sample", toxicap.sample("http-get.pcap"), capture)
+    slow = toxicap.proxy("10.77.0.2:80", toxicap.toxic("latency", latency=100))
+    told("a report as data", toxicap.rehearse(capture, [slow])[0].parsed.connections[0].down.max, 100000)
+    told("what explain finds", [finding.place for finding in toxicap.explain(capture, [{**slow, "upstream": "10.77.0.2:8080"}])],
+         ['scenario 0 proxy 0 "10.77.0.2:80" (10.77.0.2:8080)'])
+    with toxicap.player.Player(output.capture, output.capture) as player:
+        socket.create_connection(("127.0.0.1", player.port)).close()
+    told("clients of a player", player.received, [b""])
+    told("the closed loop under []", toxicap.closed_loop.closed_loop(capture, b"[]").recording == capture, True)
+    connection = toxicap.delivered(output.capture)[0]
+
+    async def read():
+        reader, writer = toxicap.streams(connection)
+        return await reader.read(9)
+
+    told("what a Socket and a stream receive", [toxicap.Socket(connection).recv(9), toxicap.run(read())], [connection[1].chunks[0][1][:9]] * 2)
     told("names of the package without a docstring", [name for name in toxicap.__all__ if name != "Event" and not getattr(toxicap, name).__doc__], [])
 
 

@@ -81,7 +81,7 @@ class Socket(socket.socket):
     clock       a Clock that other sockets share, such as those of further tries; a new one without it. The connection is opened at its time
     timeout     of reads, in seconds, as by `settimeout`; without a number that of `socket.getdefaulttimeout`
 
-    A read gives all bytes that have arrived, up to its size. If none have, the clock moves on to the next chunk, which is not joined to a later one.
+    A read gives bytes of one chunk, up to its size, so that borders are met; a live read may join chunks. If none has arrived, the clock moves on.
     A timeout is raised at its time (TimeoutError, `socket.timeout` before Python 3.10); a chunk that comes at this very time is still read. Ends
     come at their time, after the bytes before them: a FIN as b"", a reset as ConnectionResetError. On an open end a read without a timeout
     raises StillOpen.
@@ -222,20 +222,19 @@ class Socket(socket.socket):
         return self._arrivals[self._place][0] if self._place < len(self._arrivals) else None
 
     def _take(self, size: int) -> bytes:
-        """What has arrived, at most this number of bytes."""
-        pieces: List[bytes] = []
-        while size and self._place < len(self._arrivals) and self._arrivals[self._place][0] <= self.clock.nanoseconds:
-            what = self._arrivals[self._place][1]
-            if isinstance(what, str):
-                if what == "reset" and not pieces:
-                    self._meet_reset()
-                break
-            pieces.append(what[self._offset : self._offset + size])
-            size -= len(pieces[-1])
-            self._offset += len(pieces[-1])
-            if self._offset == len(what):
-                self._place, self._offset = self._place + 1, 0
-        return b"".join(pieces)
+        """The next bytes of the chunk that has arrived, at most this number; none after the end."""
+        if not size or self._place == len(self._arrivals) or self._arrivals[self._place][0] > self.clock.nanoseconds:
+            return b""
+        what = self._arrivals[self._place][1]
+        if isinstance(what, str):
+            if what == "reset":
+                self._meet_reset()
+            return b""
+        piece = what[self._offset : self._offset + size]
+        self._offset += len(piece)
+        if self._offset == len(what):
+            self._place, self._offset = self._place + 1, 0
+        return piece
 
     def _end(self) -> Optional[str]:
         """The peer's end, if it has come."""

@@ -81,16 +81,17 @@ func randomScenario(drawn *rand.Rand) string {
 
 // wanted is what a line gives to one who reads it.
 type wanted struct {
-	bytes []byte
-	times []time.Duration // of each byte
-	end   *toxicap.Event
+	bytes  []byte
+	times  []time.Duration // of each byte
+	chunks []int           // the number of each byte's chunk
+	end    *toxicap.Event
 }
 
 func wantedOf(line toxicap.Line) wanted {
 	w := wanted{end: line.End}
-	for _, chunk := range line.Chunks {
+	for number, chunk := range line.Chunks {
 		for _, each := range chunk.Bytes {
-			w.bytes, w.times = append(w.bytes, each), append(w.times, chunk.Time)
+			w.bytes, w.times, w.chunks = append(w.bytes, each), append(w.times, chunk.Time), append(w.chunks, number)
 		}
 	}
 	return w
@@ -144,9 +145,9 @@ func (w wanted) due(place int) (time.Duration, string) {
 	return time.Duration(1 << 62), "open"
 }
 
-// until is the place after what a read gives then.
+// until is the place after what a read gives then: bytes of one chunk.
 func (w wanted) until(place, most int, now time.Duration) int {
-	for ; most > 0 && place < len(w.times) && w.times[place] <= now; most-- {
+	for begun := place; most > 0 && place < len(w.times) && w.times[place] <= now && w.chunks[place] == w.chunks[begun]; most-- {
 		place++
 	}
 	return place

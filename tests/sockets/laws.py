@@ -1,6 +1,6 @@
 """The laws of sockets and streams, over the output captures in the folder OUTPUTS: reads of any sizes give the delivered bytes in order, each at its
 time, and ends and timeouts come at theirs. What is wanted is worked out here from the time of each byte."""
-import asyncio, bisect, collections, os, pathlib, random, socket, unittest
+import asyncio, bisect, collections, itertools, os, pathlib, random, socket, unittest
 from events import delivered
 from sockets import Clock, Socket, StillOpen
 from streams import run, streams
@@ -15,6 +15,7 @@ class Wanted:
     def __init__(self, line, opened):
         self.bytes = b''.join(what for _, what in line.chunks)
         self.times = [opened + time for time, what in line.chunks for _ in what]
+        self.borders = list(itertools.accumulate(len(what) for _, what in line.chunks))
         self.end_time, self.end = (opened + line.end[0], line.end[1]) if line.end else (NEVER, None)
         self.place = 0
 
@@ -24,9 +25,14 @@ class Wanted:
         return self.times[last - 1] if last <= len(self.times) else self.end_time
 
     def take(self, size, now):
-        """What one read gives then."""
+        """What one read gives then, if it joins chunks."""
         start, self.place = self.place, min(bisect.bisect_right(self.times, now, self.place), self.place + size)
         return self.bytes[start:self.place]
+
+    def take_of_one(self, size, now):
+        """The same of one chunk."""
+        border = next((border for border in self.borders if border > self.place), self.place)
+        return self.take(min(size, border - self.place), now)
 
 
 def sides():
@@ -68,7 +74,7 @@ class Laws(unittest.TestCase):
             if wanted.place == len(wanted.bytes): end = wanted.end
             self.assertEqual(kind, {'reset': ConnectionResetError, None: StillOpen}.get(end))
             if end: self.assertEqual(clock.nanoseconds, max(now, due))
-            if not kind: self.assertEqual(found, wanted.take(size, clock.nanoseconds))
+            if not kind: self.assertEqual(found, wanted.take_of_one(size, clock.nanoseconds))
             self.met[end] += 1
         if end: self.assertEqual(reader.recv(9), b'')
 

@@ -13,10 +13,11 @@ import (
 
 // ErrStillOpen is the error of a Read without a deadline if nothing comes any more and the connection stays open: the client would wait forever.
 var ErrStillOpen = errors.New("toxicap: nothing comes any more, the connection stays open, and there is no deadline: " +
-	"a client without one waits forever, so give it one")
+	"a client without one waits forever, so give it one (SetReadDeadline, or Timeout of a Dialer)")
 
 // A Conn is the client's end of a connection of an output capture, with a clock of its own, which begins at 0 when the connection is opened. No call
-// waits for that clock: a Read moves it on to the time of the next chunk. It gives all bytes that have come by then, up to its room.
+// waits for that clock: a Read moves it on to the time of the next chunk. It gives bytes of one chunk, up to its room, so that borders are met; a live
+// Read may join chunks.
 //
 // A deadline is as far away on this clock as it is from time.Now() when it is set, in whole milliseconds, rounded up. If nothing comes before it, a
 // Read moves the clock there, and its error is os.ErrDeadlineExceeded. After a FIN it is io.EOF, at a reset syscall.ECONNRESET, which comes once, and
@@ -88,15 +89,12 @@ func (c *Conn) Read(room []byte) (count int, err error) {
 	if err := c.wait(); err != nil {
 		return 0, err
 	}
-	for count < len(room) && c.arrived() && c.coming[0].End == "" {
+	if c.arrived() && c.coming[0].End == "" {
 		chunk := &c.coming[0]
-		length := copy(room[count:], chunk.Bytes)
-		count += length
-		if chunk.Bytes = chunk.Bytes[length:]; len(chunk.Bytes) == 0 {
+		count = copy(room, chunk.Bytes)
+		if chunk.Bytes = chunk.Bytes[count:]; len(chunk.Bytes) == 0 {
 			c.coming, c.gate = c.coming[1:], c.gate+1
 		}
-	}
-	if count > 0 {
 		return count, nil
 	}
 	if c.coming[0].End == "reset" && !c.reset {

@@ -6,8 +6,8 @@ use std::time::Duration;
 
 /// The client's end of a connection of an output capture, in place of a `TcpStream`.
 ///
-/// A read gives the bytes that have come by the time of its clock, which begins at 0 at the opening. If none have, the clock moves on to the next
-/// chunk. A FIN reads as no bytes, a reset as `ConnectionReset`, once. A read that times out moves the clock on by its timeout, and is `WouldBlock`, as
+/// A read gives bytes of one chunk, so that borders are met; a live read may join chunks. If none has come by the time of its clock, which begins
+/// at 0 at the opening, the clock moves on to the next one. A FIN reads as no bytes, a reset as `ConnectionReset`, once. A read that times out moves the clock on by its timeout, and is `WouldBlock`, as
 /// of a `TcpStream` on Linux. If nothing comes any more and there is no timeout, the error says so: a client would wait forever. Writes take no time.
 #[derive(Clone, Debug)]
 pub struct Socket {
@@ -101,11 +101,10 @@ impl Read for Socket {
         }
         self.wait()?;
         let mut len = 0;
-        while let Some((time, bytes)) = self.coming.front_mut() {
-            if *time > self.now || len == to.len() {
-                break;
+        if let Some((time, bytes)) = self.coming.front_mut() {
+            if *time <= self.now {
+                len = bytes.read(to)?;
             }
-            len += bytes.read(&mut to[len..])?;
             if bytes.position() == bytes.get_ref().len() as u64 {
                 self.coming.pop_front();
             }

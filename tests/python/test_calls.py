@@ -119,6 +119,11 @@ class Data(unittest.TestCase):
         self.assertEqual(ends, {"open", "fin", "close", "reset", "refused"})
         self.assertEqual(outputs[3].parsed.connections[0].vlan, 7)
 
+    def test_no_bytes(self):
+        [output] = rehearse(SHOP, b"[]")
+        with self.assertRaisesRegex(TypeError, "^this Output is no capture: give its bytes, such as output.capture$"):
+            delivered(output)
+
     def test_no_reports(self):
         [report] = reports(SHOP, b"[]")
         for text, message in (

@@ -61,7 +61,7 @@ class Connection:
 def records(capture: bytes) -> List[Record]:
     """The records of an output capture, each checked alone."""
     if not isinstance(capture, (bytes, bytearray, memoryview)):
-        raise TypeError(f'a {type(capture).__name__} is no capture: give its bytes, such as output.capture')
+        raise TypeError(f'this {type(capture).__name__} is no capture: give its bytes, such as output.capture')
     tick, place = TICKS.get(bytes(capture[:4])), 24
     found: List[Record] = []
     if not tick or capture[4:24] != HEADER: raise ValueError('no output capture of toxicap: it has another file header')

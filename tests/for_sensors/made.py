@@ -112,7 +112,7 @@ def others(time):
 
 
 def generated(seed, size):
-    """A capture of about so many bytes, and its connections' ends in order of their beginning."""
+    """A capture of about this number of bytes, and its connections' ends in order of their beginning."""
     draw = random.Random(seed)
     most, start, records, ends = draw.choice((1, 4, 40)), 1_700_000_000 * 10**6, [], []
     total = 0

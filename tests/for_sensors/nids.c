@@ -2,7 +2,7 @@
 
        nids CAPTURE
 
-   A line for each connection that it sees established, in the order in which it lets go of them: client, server, how it ended (close, reset, open,
+   A line for each connection that it sees established, in the order in which it drops them: client, server, how it ended (close, reset, open,
    timeout), and of each direction, up before down, how many bytes it delivered and their sum (SHA-256). Checksums are looked at. */
 #include <arpa/inet.h>
 #include <nids.h>

@@ -1,9 +1,9 @@
 //! The texts of `--help` and `--version`. Lines are broken by hand, below 80 columns.
 
 pub(crate) const ABOUT: &str = "\
-Replays the TCP sessions of a packet capture through Toxiproxy's toxics. Each
-scenario, a list of proxies with their toxics, is answered with the capture of
-what each side would have received, and a report with a line per connection.";
+Replay a recorded TCP session through Toxiproxy's faults, offline: the same
+bytes each time. Each scenario, a list of proxies, gives the capture of what
+each side would have received, and a report with a line per connection.";
 
 pub(crate) const VERSION: &str = "1.0.0";
 
@@ -184,10 +184,11 @@ Refusals:
 ",
     "\
 Documents:
-  docs/GUIDE.md is the guide: recording, scenarios, fixtures, each refusal
-  with its remedy. examples/ has scenarios for each toxic, a JSON Schema of
-  scenario files, and tools that read reports. Both are in the repository, in
-  an unpacked release, and in /usr/share/doc/toxicap of the package.
+  docs/README.md lists the pages by task: recording, scenarios, reports, each
+  refusal with its remedy. examples/ has scenarios for each toxic, a JSON
+  Schema of scenario files, and tools that read reports. Both are in the
+  repository, in an unpacked release, and in /usr/share/doc/toxicap of the
+  package.
 
 "
 );

@@ -23,7 +23,7 @@ sender_of k = if is_from_low k then k.pair.low else k.pair.high
 abbrev pub receiver_of : KeptSegment → Peer
 receiver_of k = if is_from_low k then k.pair.high else k.pair.low
 
--- a segment of a connection whose client is the lower peer, or is not
+-- a segment as a member; `client_low` says whether the client is the lower peer
 abbrev pub member_from : Bool → KeptSegment → Member
 member_from client_low k = record k.member { from_client = beq k.member.from_client client_low }
 

@@ -1,4 +1,4 @@
--- What a table keeps of a segment, and what tells openings.
+-- What a table keeps of a segment, and which segments are openings.
 use Rattle.std.specs.Prelude.{ℕ, ◌+◌, List, length, Option, Some, None, Bool, false, ◌&&◌, ◌==◌, not, slice_get, unwrap_or, []}
 use Rattle.std.specs.Bool.{beq}
 use Rattle.std.specs.Option.{option_map_or}
@@ -10,7 +10,7 @@ use Rattle.conn_table.specs.declared.conns.Pair.{Pair}
 use Rattle.conn_table.specs.declared.entries.Opening.{Opening}
 use Rattle.conn_table.specs.IndexedSegments.{IndexedSegment, peer_le, pair_of_segment}
 
--- its pair, and the member that it is if the pair's lower peer is the client
+-- its pair, and its member as if the pair's lower peer were the client
 pub record KeptSegment : Type 0 where
   pub pair : Pair
   pub member : Member
@@ -55,7 +55,7 @@ abbrev pub opens : KeptSegment → Bool
 opens k =
     has_flag k.member.flags syn_flag && not (has_flag k.member.flags ack_flag) && not (has_flag k.member.flags rst_flag)
 
--- a repeated opening has the sender and the sequence number of the one before
+-- what tells a repeated opening: its sender and its sequence number
 abbrev pub opening_of : KeptSegment → Opening
 opening_of k = record { from_low = is_from_low k; seq = k.member.seq }
 

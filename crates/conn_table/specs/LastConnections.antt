@@ -16,7 +16,7 @@ abbrev pub current_in : Option Recent → Pair → Option Current
 current_in None p = None
 current_in (Some r) p = if same_pair r.pair p then Some r.current else None
 
--- a slot is that of the pair in it, with the connection that the map has for the pair
+-- slot i is that of the pair in it, and has the connection that the map has for the pair
 pub record IsSlot (lasts : Lasts) (i : ℕ) (r : Recent) : Type 0 where
   pub slot : slot_of (length lasts.recent.items) r.pair ≡ i
   pub current : get same_pair lasts.map r.pair ≡ Some r.current

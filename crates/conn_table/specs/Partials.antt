@@ -58,7 +58,7 @@ joined_partial left right = record {
 abbrev pub carried : CaptureView → ℕ → ℕ → ℕ → ℕ
 carried c from to carry = max carry (greatest (stamps_between c from to))
 
--- the join of the partials of two adjacent ranges is the partial of both, so every cut into ranges gives the same
+-- the join of the partials of two adjacent ranges is the partial of both
 abbrev pub JoinsAgree : Type 0
 JoinsAgree =
     (c : CaptureView) (from mid to carry : ℕ) → from ≤ mid → mid ≤ to → to ≤ length c.records

@@ -39,7 +39,7 @@ ConnsAreSound =
     (c : CaptureView) (from to carry : ℕ) → IsSoundCapture c.ticks c.bytes c.records → from ≤ to → to ≤ length c.records
     → AllByRecursion (IsSoundConn c.bytes) (table_in c from to carry).conns
 
--- the segment comes from exactly one of two peers
+-- the segment comes from exactly one of the beginning's peers
 abbrev pub HasSide : Connection → TimedSegment → Type 0
 HasSide c m = same_peer m.fields.from c.opening.fields.to ≡ not (same_peer m.fields.from c.opening.fields.from)
 

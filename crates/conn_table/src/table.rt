@@ -53,8 +53,8 @@ impl Table {
     }
 }
 
-/// The table of a partial, which covers all records of the capture. An opening that is not sent again begins a connection.
-/// Any other segment belongs to the last connection of its pair, or to none.
+/// The table of a partial, which covers all records of the capture. Each beginning begins a connection ([`Conn`]).
+/// Any other segment belongs to the last one of its pair, or to none.
 pub fn finish(alloc: Global, partial: Partial) -> Result<Table, AllocError>
     ensures { IfOk result (λ table. table ≡ finished partial) }
 {

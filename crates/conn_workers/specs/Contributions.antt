@@ -21,7 +21,7 @@ contribution_by ticks c r d = record {
   line = connection_text c.number (vlan_of c) (client_of c) (server_of c) r d;
 }
 
--- It depends on these parameters only.
+-- it depends on these only
 unfoldable pub contribution : ℕ → Connection → ℕ → ℕ → Option MetProxy → Contribution
 contribution ticks c scenario seed met =
     contribution_by ticks c (recorded_connection c)

@@ -20,7 +20,7 @@ pub record Rehearsed : Type 0 where
   pub seen : SeenCapture
   pub scenarios : List (List Proxy)
 
--- the connection of a number, and scenario s
+-- c has this number, and scenario s has these proxies
 pub record Has (r : Rehearsed) (number s : ℕ) (c : Connection) (proxies : List Proxy) : Type 0 where
   pub connection : slice_get (connections_of r.seen) number ≡ Some c
   pub scenario : slice_get r.scenarios s ≡ Some proxies
@@ -38,7 +38,7 @@ abbrev pub delivery_at : ℕ → ℕ → Rehearsed → ℕ → ℕ → Option De
 delivery_at ticks seed r number s =
     slice_get (deliveries ticks seed (connections_of r.seen) r.scenarios) (s * length (connections_of r.seen) + number)
 
--- it has both numbers, and that connection's contribution under that scenario
+-- the delivery there has both numbers and that connection's contribution
 abbrev pub DeliveriesArePlaced : Type 0
 DeliveriesArePlaced =
     (ticks seed number s : ℕ) (r : Rehearsed) (c : Connection) (proxies : List Proxy) → Has r number s c proxies
@@ -46,8 +46,7 @@ DeliveriesArePlaced =
 
 -- ---- isolation
 
--- Two captures in which the connection of one number has the same members, and two lists of scenarios in which it meets the same proxy or
--- none: its contribution and its delivery are the same.
+-- If connections of two captures have one number and the same members, and meet the same proxy or none, what they contribute is the same.
 abbrev pub ContributionsAreIsolated : Type 0
 ContributionsAreIsolated =
     (ticks seed number s : ℕ) (first second : Rehearsed) (x y : Connection) (a b : List Proxy)

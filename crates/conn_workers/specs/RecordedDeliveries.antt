@@ -14,8 +14,7 @@ use Rattle.conn_workers.specs.MetProxies.{met_proxy}
 use Rattle.conn_workers.specs.Contributions.{contribution_by}
 use Rattle.conn_workers.specs.DeliveryRows.{connections_of, delivery}
 
--- The bytes of a delivered line are the first that were recorded, none earlier than it was recorded. No end is before the opening, and all
--- instants are before the horizon.
+-- The bytes of a delivered line are the first that were recorded, none earlier. No end is before the opening, and nothing is at the horizon.
 pub record IsDeliveredOf (ticks opened : ℕ) (recorded delivered : Line) : Type 0 where
   pub first : values_of delivered.bytes ≡ take (length delivered.bytes) (values_of recorded.bytes)
   pub delayed : DelaysFirst delivered.bytes recorded.bytes
@@ -36,7 +35,7 @@ abbrev pub delivered_of : ℕ → ℕ → ℕ × List Proxy → Connection → D
 delivered_of ticks seed (number, proxies) c =
     delivered_connection ticks seed number c.number (met_proxy (server_of c) proxies) (recorded_connection c)
 
--- a delivery is told of what was recorded and what is delivered, and the latter is made of the former
+-- the delivery of a connection; what is delivered is made of what was recorded
 pub record IsOfRecorded (c : CaptureView) (seed : ℕ) (s : ℕ × List Proxy) (d : Delivery) : Type 0 where
   pub connection : Connection
   pub numbered : slice_get (table_connections c) d.conn ≡ Some connection

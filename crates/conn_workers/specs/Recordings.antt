@@ -64,5 +64,6 @@ recorded_deliveries seed recordings scenarios =
 abbrev pub recorded_row : ℕ → ℕ × List Proxy → List RecordingView → List Delivery
 recorded_row seed s recordings = map (recorded_delivery seed s) recordings
 
+-- lines of the scenario's report, and not recorded bytes
 abbrev pub recorded_lines : ℕ → ℕ × List Proxy → List RecordingView → List (List ℕ)
 recorded_lines seed s recordings = map (λ r. (recorded_delivery seed s r).line) recordings

@@ -1,4 +1,4 @@
--- The lines of connections in the reports of scenarios: for each range of connections a text for each scenario.
+-- The lines of connections in reports: for each range of connections a text for each scenario.
 use Rattle.std.specs.Prelude.{◌≡◌, ℕ, ◌<◌, List, [], length, map, get_or, All}
 use Rattle.std.specs.List.{enumerate_from, flat_map}
 use Rattle.scenarios.specs.declared.proxies.Proxy.{Proxy}
@@ -11,7 +11,7 @@ texts_under seed scenarios recordings = map (λ s. row_text seed s recordings) (
 abbrev pub text_shares : ℕ → ℕ → ℕ → List (List Proxy) → List RecordingView → List (List (List ℕ))
 text_shares size count seed scenarios recordings = map (texts_under seed scenarios) (ranges_of size count recordings)
 
--- the texts of the scenario with a number, share after share
+-- the report lines of the scenario with a number, share after share
 abbrev pub text_of : ℕ → List (List (List ℕ)) → List ℕ
 text_of number shares = flat_map (λ share. get_or share number []) shares
 

@@ -9,6 +9,7 @@ use Rattle.conn_workers.specs.Recordings.{RecordingView, recorded_delivery, reco
 abbrev pub row_segments : ℕ → ℕ × List Proxy → List RecordingView → List Framed
 row_segments seed s recordings = flat_map (λ r. (recorded_delivery seed s r).segments) recordings
 
+-- their lines of the report
 abbrev pub row_text : ℕ → ℕ × List Proxy → List RecordingView → List ℕ
 row_text seed s recordings = flat_map (λ r. (recorded_delivery seed s r).line) recordings
 

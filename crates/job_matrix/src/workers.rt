@@ -13,30 +13,36 @@ use lists::Values;
 use std::alloc::{AllocError, Global};
 use std::thread::{Threads, join};
 
+// What all workers share beside the board.
+#[derive(Drop)]
+struct Shared<'s, W: Work, G: Gate> {
+    alloc: Global,
+    phase: Phase,
+    gate: &'s G,
+    work: &'s W,
+}
+
 // The jobs that one worker claims, with their values. When it is out of memory, it claims no more.
 fn do_jobs<W: Work, G: Gate>(
-    alloc: Global,
+    shared: &Shared<'_, W, G>,
     board: &Board,
     mut pass: Pass,
-    phase: Phase,
-    gate: &G,
-    work: &W,
 ) -> (Pass, Result<Vec<(u64, W::Out)>, AllocError>)
 where
     W::Out: Drop,
     requires pass { (pass.board ≡ board.now) × (pass.jobs ≡ []) }
-    requires jobs { board.now.limit ≤ length (W.values work.now) }
+    requires jobs { board.now.limit ≤ length (W.values shared.now.work.now) }
     ensures board { result.0.board ≡ board.now }
-    ensures done { IfOk result.1 (λ v. AreDone (W.values work.now) result.0.jobs v.items) }
+    ensures done { IfOk result.1 (λ v. AreDone (W.values shared.now.work.now) result.0.jobs v.items) }
     ensures told { IfOk result.1 (λ v. result.0.told ≡ true) }
 {
-    let mut done = Vec::new(alloc);
+    let mut done = Vec::new(shared.alloc);
     'claims: loop {
         let Some(job) = board.claim(&mut pass) else {
             return (pass, Ok(done));
         };
-        gate.pass(phase, job);
-        let Ok(value) = work.value(job) else {
+        shared.gate.pass(shared.phase, job);
+        let Ok(value) = shared.work.value(job) else {
             return (pass, Err(AllocError));
         };
         if done.push((job, value)).is_err() {
@@ -60,46 +66,43 @@ fn append_jobs<V: Drop>(
 // The jobs that `workers` workers claim. This thread is one of them, and each other has a thread of its own.
 fn spread<W: Work, G: Gate, R: Threads + Sync>(
     rt: &R,
-    alloc: Global,
+    shared: &Shared<'_, W, G>,
     board: &Board,
     mut chief: Chief,
-    phase: Phase,
-    gate: &G,
-    work: &W,
     workers: u64,
 ) -> (Chief, Result<Vec<(u64, W::Out)>, AllocError>)
 where
     W::Out: Send + Drop,
     requires chief { (chief.board ≡ board.now) × (chief.jobs ≡ []) }
     requires workers { (0 < workers) × (chief.made + workers ≤ pass_limit) }
-    requires jobs { board.now.limit ≤ length (W.values work.now) }
+    requires jobs { board.now.limit ≤ length (W.values shared.now.work.now) }
     ensures board { result.0.board ≡ board.now }
     ensures back { (result.0.made ≡ chief.made + workers) × (result.0.back ≡ chief.back + workers) }
     ensures done { IfOk result.1 (λ v.
-        AreDone (W.values work.now) result.0.jobs v.items × (0 < result.0.told)) }
+        AreDone (W.values shared.now.work.now) result.0.jobs v.items × (0 < result.0.told)) }
 {
     let Ok(pass) = chief.split(board) else {
         unreachable!()
     };
     if workers == 1 {
-        let (pass, done) = do_jobs(alloc, board, pass, phase, gate, work);
+        let (pass, done) = do_jobs(shared, board, pass);
         chief.take_back(board, pass);
         return (chief, done);
     }
     let ((pass, mine), (mut chief, others)) = join(
         rt,
         move || -> (Pass, Result<Vec<(u64, W::Out)>, AllocError>)
-            requires { (pass.board ≡ board.now) × (pass.jobs ≡ []) × (board.now.limit ≤ length (W.values work.now)) }
+            requires { (pass.board ≡ board.now) × (pass.jobs ≡ []) × (board.now.limit ≤ length (W.values shared.now.work.now)) }
             ensures { (result.0.board ≡ board.entry.now) × IfOk result.1 (λ v.
-                AreDone (W.values work.entry.now) result.0.jobs v.items × (result.0.told ≡ true)) }
-        { do_jobs(alloc, board, pass, phase, gate, work) },
+                AreDone (W.values shared.entry.now.work.now) result.0.jobs v.items × (result.0.told ≡ true)) }
+        { do_jobs(shared, board, pass) },
         move || -> (Chief, Result<Vec<(u64, W::Out)>, AllocError>)
             requires { IsSync R.row × (chief.board ≡ board.now) × (chief.jobs ≡ []) × (1 < workers)
-                × (chief.made + (workers - 1) ≤ pass_limit) × (board.now.limit ≤ length (W.values work.now)) }
+                × (chief.made + (workers - 1) ≤ pass_limit) × (board.now.limit ≤ length (W.values shared.now.work.now)) }
             ensures { (result.0.board ≡ board.entry.now) × (result.0.made ≡ chief.made + (workers - 1))
                 × (result.0.back ≡ chief.back + (workers - 1)) × IfOk result.1 (λ v.
-                AreDone (W.values work.entry.now) result.0.jobs v.items × (0 < result.0.told)) }
-        { spread(rt, alloc, board, chief, phase, gate, work, workers - 1) },
+                AreDone (W.values shared.entry.now.work.now) result.0.jobs v.items × (0 < result.0.told)) }
+        { spread(rt, shared, board, chief, workers - 1) },
     );
     chief.take_back(board, pass);
     (chief, append_jobs(others, mine))
@@ -169,7 +172,13 @@ where
         return work_alone(alloc, n, phase, gate, work);
     }
     let (board, chief) = Board::open(alloc, n)?;
-    let (chief, done) = spread(rt, alloc, &board, chief, phase, gate, work, workers);
+    let shared = Shared {
+        alloc,
+        phase,
+        gate,
+        work,
+    };
+    let (chief, done) = spread(rt, &shared, &board, chief, workers);
     let Ok(count) = board.close(chief) else {
         unreachable!()
     };

@@ -7,7 +7,7 @@ use Rattle.range_workers.specs.declared.ranges.Range.{Range}
 abbrev pub range_in : CaptureView → ℕ → ℕ → Range
 range_in c from to = record { from = from; to = to; carry = carried c 0 from 0 }
 
--- The ranges of the records from number `from` on: each has `cut` records, except the last, which has all that are left, at most `cut`.
+-- The ranges of the records from number `from` on: each has `cut` records, except the last, which has what is left, at most `cut`.
 abbrev pub AreRanges : CaptureView → ℕ → ℕ → List Range → Type 0
 AreRanges c cut from [] = ⊥
 AreRanges c cut from (r ∷ []) =

@@ -33,7 +33,7 @@ pub record IsLine (l : Line) : Type 0 where
 
 -- ---- of a connection of a capture
 
--- the instants of segments do not fall in the order of the file: each is the greatest stamp so far
+-- the instants of segments do not fall in the order of the file
 abbrev pub InstantsRise : ℕ → List TimedSegment → Type 0
 InstantsRise last [] = Unit {0}
 InstantsRise last (m ∷ members) = (last ≤ m.at) × InstantsRise m.at members

@@ -1,4 +1,4 @@
--- A side's line by spans: its bytes up to the first gap or a FIN, and its end; from the members, and from ordered spans.
+-- A side's line by spans: its bytes up to the first gap or a FIN, and its end.
 use Rattle.std.specs.Prelude.{◌≡◌, ◌≤◌, ◌<◌, ℕ, ◌+◌, ◌-◌, ◌==◌, ◌⊎◌, min, max, Bool, true, ◌||◌, not, List, [], ◌∷◌, map, length, count_by, sum_by, find, Option, Some, None, is_some, option_map, unwrap_or, if◌then◌else◌}
 use Rattle.std.specs.List.{range_with_len, prefix_len}
 use Rattle.pcap_records.specs.Instants.{greatest}

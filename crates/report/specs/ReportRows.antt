@@ -1,4 +1,4 @@
--- Worked rows of a connection's line, with lines that toxics changed and the cut shortened.
+-- Worked rows of a connection's line in the report, with lines that the cut shortened.
 use Rattle.std.specs.Prelude.{◌≡◌, ℕ, List, [], ◌∷◌, codes, Some, None, true, false}
 use Rattle.conn_table.specs.RowSegments.{client, server}
 use Rattle.reassembly.specs.RecordedLines.{LineByte, Line, live, fin, close, reset, RecordedConnection}
@@ -14,7 +14,7 @@ ho first second = record { value = 104; at = first; starts = true } ∷ record {
 abbrev pub delivered_cut : Line → Line → DeliveredConnection
 delivered_cut up down = record { proxy = Some 0; refused = false; up = cut_line 1000000 up down up; down = cut_line 1000000 up down down }
 
--- the text of a session whose lines became these
+-- the report's line of a session whose lines became these, before the cut
 abbrev pub text_of : RecordedConnection → Line → Line → List ℕ
 text_of recorded up down = connection_text 0 None client server recorded (delivered_cut up down)
 

@@ -12,7 +12,7 @@ pub record HaveSameFirst (kept : List ℕ → ℕ) (one other : List ℕ) : Type
   pub first : take (kept one) one ≡ take (kept other) other
   pub long : length one ≡ length other
 
--- such packets are seen as the same frame, except for the bytes of its payload
+-- such packets are seen as the same frame, except for its payload's bytes
 abbrev pub FrameSeesHead : Type 0
 FrameSeesHead = (one other : List ℕ) → HaveSameFirst head_len one other → zeroed_frame (seen_frame one) ≡ zeroed_frame (seen_frame other)
 

@@ -6,7 +6,7 @@ use Rattle.disks.specs.ToldFiles.{ToldFile, Gives, IsFileAt, file_len}
 use Rattle.disks.specs.Histories.{History, held_now}
 use Rattle.lists.specs.Agreement.{AgreesUnlessMemory}
 use Rattle.run_files.specs.declared.error.RunFault.{RunFault}
-use Rattle.run_files.specs.Paths.{HaveCome, text_at, text_of}
+use Rattle.run_files.specs.Paths.{HaveCome, text_at, text_of_file}
 use Rattle.run_files.specs.RunFault.{run_refusal}
 use Rattle.pcap_records.specs.Blocks.{block_len}
 use Rattle.run_files.specs.LoadedBlocks.{part_at}
@@ -79,12 +79,12 @@ module _ {A : Type 0} (view : A → List ℕ) (result : Result A RunFault) where
   abbrev Loaded : Result (List ℕ) RunFault → Type 0
   Loaded wanted = AgreesUnlessMemory run_refusal view result wanted
 
-  from_held : (held told : Option ToldFile) → IsFileAt held told → IfSome told (λ f. Loaded (text_of (Some f))) → Loaded (text_of held)
+  from_held : (held told : Option ToldFile) → IsFileAt held told → IfSome told (λ f. Loaded (text_of_file (Some f))) → Loaded (text_of_file held)
   from_held None told is of = absurd is
-  from_held (Some f) told is of = subst (λ t. IfSome t (λ file. Loaded (text_of (Some file)))) is of
+  from_held (Some f) told is of = subst (λ t. IfSome t (λ file. Loaded (text_of_file (Some file)))) is of
 
   -- what is loaded of the file that was opened is so of its path
   pub text_of_path : (history : Option History) (path : List ℕ) (told : Option ToldFile) → IfSome history (λ h. IsFileAt (held_now h path) told)
-      → IfSome told (λ f. Loaded (text_of (Some f))) → IfSome history (λ h. Loaded (text_at (held_now h) path))
+      → IfSome told (λ f. Loaded (text_of_file (Some f))) → IfSome history (λ h. Loaded (text_at (held_now h) path))
   text_of_path None path told is of = tt
   text_of_path (Some h) path told is of = from_held (held_now h path) told is of

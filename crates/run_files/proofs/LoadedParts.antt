@@ -11,7 +11,7 @@ use Rattle.pcap_records.specs.Blocks.{block_len, block_limit, bytes_until_short}
 use Rattle.pcap_records.specs.Reading.{capture_limit}
 use Rattle.run_files.specs.declared.error.RunFault.{RunFault}
 use Rattle.run_files.specs.LoadedBlocks.{BlockView, block_view, blocks_of, part_at, HasBlocks}
-use Rattle.run_files.specs.Paths.{text_of}
+use Rattle.run_files.specs.Paths.{text_of_file}
 
 module _ {A : Type 0} (bytes_of : A → List ℕ) where
   pub parts_fit : (parts : List A) → All (λ part. length (bytes_of part) ≤ block_len) parts → length (bytes_until_short (map bytes_of parts)) ≤ length parts * block_len
@@ -51,7 +51,7 @@ none_lost f at part is lost = grind (arith, nat_tests)
 part_is : (f : ToldFile) (at : ℕ) (part : List ℕ) → part_at f at ≡ Ok part → part ≡ take block_len (drop at f.bytes)
 part_is f at part is = grind (arith, nat_tests)
 
-part_refused : (f : ToldFile) (count at : ℕ) (refused : RunFault) → HasBlocks count f → count ≤ block_limit → part_at f at ≡ Err refused → text_of (Some f) ≡ Err refused
+part_refused : (f : ToldFile) (count at : ℕ) (refused : RunFault) → HasBlocks count f → count ≤ block_limit → part_at f at ≡ Err refused → text_of_file (Some f) ≡ Err refused
 part_refused f count at refused has few is = grind (arith, nat_tests)
 
 with_part : (bytes : List ℕ) (at : ℕ) (part : List ℕ) (others : List (List ℕ)) → part ≡ take block_len (drop at bytes)
@@ -111,11 +111,11 @@ module _ (told : Option ToldFile) (count : ℕ) (b : BlockView) (left : List Blo
       }
 
   pub gathers_no_more : (refused : Option RunFault) → IfSome told (HasBlocks count) → count ≤ block_limit → IfSome b.told (λ f. IfSome refused (λ r. part_at f b.at ≡ Err r))
-      → IfSome told (λ f. IfSome refused (λ r. text_of (Some f) ≡ Err r))
+      → IfSome told (λ f. IfSome refused (λ r. text_of_file (Some f) ≡ Err r))
   gathers_no_more refused has few part = by told refused has (subst (λ (x : BlockView). IfSome x.told (λ f. IfSome refused (λ r. part_at f x.at ≡ Err r))) block_is part)
     where
       by : (t : Option ToldFile) (o : Option RunFault) → IfSome t (HasBlocks count) → IfSome t (λ f. IfSome o (λ r. part_at f at ≡ Err r))
-          → IfSome t (λ f. IfSome o (λ r. text_of (Some f) ≡ Err r))
+          → IfSome t (λ f. IfSome o (λ r. text_of_file (Some f) ≡ Err r))
       by None o has is = tt
       by (Some f) None has is = tt
       by (Some f) (Some r) has is = part_refused f count at r has few is
@@ -125,13 +125,13 @@ none_left zero len count many whole within all = omega arith
 none_left (suc lost) len count many whole within all = absurd (omega (arith, whole (omega arith), within, all))
 
 pub gathers_all : (told : Option ToldFile) (count : ℕ) (parts : List (List ℕ)) → IfSome told (HasBlocks count) → count ≤ block_limit → Gathers told count [] parts
-    → IfSome told (λ f. text_of (Some f) ≡ Ok (bytes_until_short parts))
+    → IfSome told (λ f. text_of_file (Some f) ≡ Ok (bytes_until_short parts))
 unfolding bytes_until_short
 gathers_all told count parts has few was =
     by told has was.parts_are (omega (arith, length-blocks told count, length-drop (length parts) (blocks_of told count), ap length was.left_are))
   where
     by : (t : Option ToldFile) → IfSome t (HasBlocks count) → IfSome t (λ f. AreFirst f parts) → count ≤ length parts
-        → IfSome t (λ f. text_of (Some f) ≡ Ok (bytes_until_short parts))
+        → IfSome t (λ f. text_of_file (Some f) ≡ Ok (bytes_until_short parts))
     by None has first all = tt
     by (Some f) has first all =
         let fits : nat_lt capture_limit (length f.bytes) ≡ false = le-ltb capture_limit (length f.bytes) (omega (arith, has.1, few)) in

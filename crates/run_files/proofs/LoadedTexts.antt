@@ -10,7 +10,7 @@ use Rattle.pcap_records.specs.Reading.{capture_limit}
 use Rattle.run_files.specs.declared.error.RunFault.{RunFault}
 use Rattle.run_files.specs.declared.error.RunFault.TheVariants.{CaptureTooLong, Memory, ReadFailed}
 use Rattle.run_files.specs.Loading.{CameOf, FailedAfter, IsPast, Loads}
-use Rattle.run_files.specs.Paths.{HaveCome, IsOfFile, text_of}
+use Rattle.run_files.specs.Paths.{HaveCome, IsOfFile, text_of_file}
 use Rattle.run_files.specs.RunFault.{run_refusal}
 use Rattle.run_files.specs.SeenTexts.{LoadsInput}
 use Rattle.run_files.specs.Streams.{StopsLoading}
@@ -49,19 +49,19 @@ none_come None place start = (refl, tt)
 none_come (Some f) place start = (refl, (refl, omega arith, start))
 
 module _ (f : ToldFile) (given : List ℕ) (place : ℕ) (come : HaveCome f given place) where
-  whole_text : file_len f ≤ place → length given ≤ capture_limit → text_of (Some f) ≡ Ok given
+  whole_text : file_len f ≤ place → length given ≤ capture_limit → text_of_file (Some f) ≡ Ok given
   whole_text over within =
       let fits : nat_lt capture_limit (length f.bytes) ≡ false = le-ltb capture_limit (length f.bytes) (omega (arith, over, come.1, come.2, within)) in
       let whole : nat_lt 0 f.lost ≡ false = le-ltb 0 f.lost (omega (arith, over, come.1, come.2)) in
       let same : f.bytes ≡ given = sym (come.0 ∙ take_all (length given) f.bytes (omega (arith, over, come.2))) in
       rw (fits, whole) (ap (λ (xs : List ℕ). Ok xs) same)
 
-  too_long : capture_limit < length given → text_of (Some f) ≡ Err CaptureTooLong
+  too_long : capture_limit < length given → text_of_file (Some f) ≡ Err CaptureTooLong
   too_long more =
       let over : nat_lt capture_limit (length f.bytes) ≡ true = lt-ltb capture_limit (length f.bytes) (omega (arith, come.1, more)) in
       rw over refl
 
-  lost_text : (length f.bytes ≤ place) × (place < file_len f) → length given ≤ capture_limit → text_of (Some f) ≡ Err ReadFailed
+  lost_text : (length f.bytes ≤ place) × (place < file_len f) → length given ≤ capture_limit → text_of_file (Some f) ≡ Err ReadFailed
   lost_text reads within =
       let fits : nat_lt capture_limit (length f.bytes) ≡ false = le-ltb capture_limit (length f.bytes) (omega (arith, reads.0, come.2, within)) in
       let some : nat_lt 0 f.lost ≡ true = lt-ltb 0 f.lost (omega (arith, reads.1, come.1, come.2)) in
@@ -70,7 +70,7 @@ module _ (f : ToldFile) (given : List ℕ) (place : ℕ) (come : HaveCome f give
 -- the text of a file
 pub file_loaded : {A : Type 0} (view : A → List ℕ) (told now : Option ToldFile) (place : ℕ) (result : Result A RunFault) → IfOk result (λ x. length (view x) ≤ capture_limit)
     → Loads (CameOf told now place) (FailedAfter told now place) (IsPast now place) view result
-    → IfErr result IsOfFile × IfSome told (λ f. AgreesUnlessMemory run_refusal view result (text_of (Some f)))
+    → IfErr result IsOfFile × IfSome told (λ f. AgreesUnlessMemory run_refusal view result (text_of_file (Some f)))
 file_loaded view None now place (Ok x) within is = (tt, tt)
 file_loaded view None now place (Err CaptureTooLong) within is = (tt, tt)
 file_loaded view None now place (Err ReadFailed) within is = (tt, tt)

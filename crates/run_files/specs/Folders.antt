@@ -30,6 +30,7 @@ abbrev pub DraftPathsDiffer : Type 0
 DraftPathsDiffer = (folder : List ℕ) (one other : ℕ) → 0 < length folder → one < 2 ^ 64 → other < 2 ^ 64
     → draft_path folder one ≡ draft_path folder other → one ≡ other
 
+-- a stored file as a disk names it: its path in a folder, and its bytes
 abbrev pub in_folder : List ℕ → StoredFile → NamedFile
 in_folder folder file = named_file (path_in folder file.name) file.bytes
 

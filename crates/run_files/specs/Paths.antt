@@ -6,13 +6,13 @@ use Rattle.run_files.specs.declared.error.RunFault.{RunFault}
 use Rattle.run_files.specs.declared.error.RunFault.TheVariants.{CaptureTooLong, Memory, ReadFailed}
 
 -- the text of a file: its bytes, if they are no more than a capture may have and none is lost
-abbrev pub text_of : Option ToldFile → Result (List ℕ) RunFault
-text_of None = Err ReadFailed
-text_of (Some file) =
+abbrev pub text_of_file : Option ToldFile → Result (List ℕ) RunFault
+text_of_file None = Err ReadFailed
+text_of_file (Some file) =
     if nat_lt capture_limit (length file.bytes) then Err CaptureTooLong else (if nat_lt 0 file.lost then Err ReadFailed else Ok file.bytes)
 
 abbrev pub text_at : Held → List ℕ → Result (List ℕ) RunFault
-text_at held path = text_of (held path)
+text_at held path = text_of_file (held path)
 
 -- a fault of a file, or out of memory
 abbrev pub IsOfFile : RunFault → Type 0

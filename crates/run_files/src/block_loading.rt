@@ -6,7 +6,7 @@ ghost use Rattle.lists.specs.Agreement.{AgreesUnlessMemory};
 ghost use Rattle.pcap_records.specs.Blocks.{block_len, block_limit, bytes_until_short};
 ghost use Rattle.pcap_records.specs.Reading.{capture_limit};
 ghost use Rattle.run_files.specs.LoadedBlocks.{HasBlocks, blocks_of, part_at};
-ghost use Rattle.run_files.specs.Paths.{IsOfFile, text_of};
+ghost use Rattle.run_files.specs.Paths.{IsOfFile, text_of_file};
 ghost use Rattle.run_files.specs.RunFault.{run_refusal};
 
 use crate::error::RunFault;
@@ -30,7 +30,7 @@ pub(crate) fn load_text<R: Threads + Sync, F: DiskFile + Sync + Drop>(
     plan: Plan,
 ) -> Result<Text<'static>, RunFault>
     requires { F.place file ≡ 0 }
-    ensures told { IfSome (F.told file) (λ f. AgreesUnlessMemory run_refusal (λ text. text) result (text_of (Some f))) }
+    ensures told { IfSome (F.told file) (λ f. AgreesUnlessMemory run_refusal (λ text. text) result (text_of_file (Some f))) }
     ensures within { IfOk result (λ text. length text ≤ capture_limit) }
     ensures of_file { IfErr result IsOfFile }
 {
@@ -64,7 +64,7 @@ fn blocks_by_workers<R: Threads + Sync, F: DiskFile + Sync>(
     requires some { 0 < count }
     requires few { count ≤ block_limit }
     requires counted { IfSome (F.told file.now) (HasBlocks count) }
-    ensures told { IfSome (F.told file.now) (λ f. AgreesUnlessMemory run_refusal (λ blocks. blocks) result (text_of (Some f))) }
+    ensures told { IfSome (F.told file.now) (λ f. AgreesUnlessMemory run_refusal (λ blocks. blocks) result (text_of_file (Some f))) }
     ensures within { IfOk result (λ blocks. length blocks ≤ capture_limit) }
     ensures of_file { IfErr result IsOfFile }
 {
@@ -158,7 +158,7 @@ fn parts_of<F: DiskFile>(
     requires counted { IfSome (F.told file.now) (HasBlocks count) }
     requires blocks { blocks ≡ blocks_of (F.told file.now) count }
     ensures told { IfSome (F.told file.now) (λ f.
-        AgreesUnlessMemory run_refusal (λ parts. bytes_until_short (map (λ part. part.items) parts.items)) result (text_of (Some f))) }
+        AgreesUnlessMemory run_refusal (λ parts. bytes_until_short (map (λ part. part.items) parts.items)) result (text_of_file (Some f))) }
     ensures short { IfOk result (λ parts. All (λ part. length part.items ≤ block_len) parts.items) }
     ensures count { IfOk result (λ parts. length parts.items ≤ count) }
     ensures of_file { IfErr result IsOfFile }

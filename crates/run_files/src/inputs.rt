@@ -3,7 +3,7 @@ ghost use Rattle.std.specs.Prelude.{◌≡◌, ◌≤◌, ◌<◌, ◌+◌, ◌+
 ghost use Rattle.lists.specs.Agreement.{AgreesUnlessMemory};
 ghost use Rattle.pcap_records.specs.Reading.{capture_limit};
 ghost use Rattle.run_files.specs.Loading.{ComesOn, LoadsAfter, Stops};
-ghost use Rattle.run_files.specs.Paths.{IsOfFile, text_of};
+ghost use Rattle.run_files.specs.Paths.{IsOfFile, text_of_file};
 ghost use Rattle.run_files.specs.RunFault.{run_refusal};
 
 use crate::error::RunFault;
@@ -132,7 +132,7 @@ pub(crate) fn load_rest<I: Input>(
 // Loads all bytes of a file from its first on.
 pub(crate) fn load_whole<F: DiskFile + Drop>(alloc: Global, file: F) -> Result<Vec<u8>, RunFault>
     requires { F.place file ≡ 0 }
-    ensures told { IfSome (F.told file) (λ f. AgreesUnlessMemory run_refusal (λ bytes. bytes.items) result (text_of (Some f))) }
+    ensures told { IfSome (F.told file) (λ f. AgreesUnlessMemory run_refusal (λ bytes. bytes.items) result (text_of_file (Some f))) }
     ensures within { IfOk result (λ bytes. length bytes.items ≤ capture_limit) }
     ensures of_file { IfErr result IsOfFile }
 {

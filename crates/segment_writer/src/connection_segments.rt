@@ -2,7 +2,6 @@
 ghost use Rattle.std.specs.Prelude.{◌≡◌, ◌++◌, false, IfOk, OnOk};
 ghost use Rattle.pcap_records.specs.Instants.{ticks_of};
 ghost use Rattle.reassembly.specs.LineLaws.{IsLine};
-ghost use Rattle.reassembly.specs.LineView.{line_of};
 ghost use Rattle.reassembly.specs.RecordedView.{recorded_view};
 ghost use Rattle.toxic_defs.specs.DeliveredLines.{delivered_view};
 ghost use Rattle.segment_writer.specs.Endpoints.{connection_between, endpoints_by, IsClient};
@@ -22,7 +21,7 @@ use crate::turns::put_line;
 use conn_table::Conn;
 use frame_headers::Flags;
 use pcap_records::Moment;
-use reassembly::{End, LinePart, Recorded};
+use reassembly::Recorded;
 use std::alloc::{AllocError, Global};
 use toxic_defs::Delivered;
 
@@ -68,20 +67,10 @@ pub(crate) fn put_connection<'w, 'a>(
     ensures { OnOk result (IsLonger row.old (written_segments (ticks_of client.now.unit)
         (connection_between (endpoints_by client.now opened) (delivered_view delivered.entry))) row.new) }
 {
-    let Delivered {
-        proxy: _,
-        refused,
-        up,
-        down,
-    } = delivered;
-    let up_end = up.end();
-    let down_end = down.end();
-    let ups = up.into_parts();
-    let downs = down.into_parts();
-    make_room(row, ups.len().saturating_add(downs.len()))?;
-    put_in_order(
-        row, client, opened, refused, &ups, &up_end, &downs, &down_end,
-    )
+    let ups = delivered.up.parts().len();
+    let downs = delivered.down.parts().len();
+    make_room(row, ups.saturating_add(downs))?;
+    put_in_order(row, client, opened, &delivered)
 }
 
 // Puts the segments of a connection in order of key.
@@ -89,21 +78,17 @@ fn put_in_order<'w, 'a>(
     row: &mut OpenRow<'w, 'a>,
     client: &'w Sender,
     at: Moment,
-    refused: bool,
-    up: &[LinePart<'a>],
-    up_end: &End,
-    down: &[LinePart<'a>],
-    down_end: &End,
+    delivered: &Delivered<'a>,
 ) -> Result<(), AllocError>
     requires client { IsClient client.now }
-    requires up { IsTimely (line_of up.now up_end.now) }
-    requires down { IsTimely (line_of down.now down_end.now) }
+    requires up { IsTimely delivered.now.up.line }
+    requires down { IsTimely delivered.now.down.line }
     requires row { IsRow row.old }
     ensures { OnOk result (IsLonger row.old
-        (connection_written refused client.now at (line_of up.now up_end.now) (line_of down.now down_end.now)) row.new) }
+        (connection_written delivered.now.refused client.now at delivered.now.up.line delivered.now.down.line) row.new) }
 {
     let start = row.segments.len();
-    put_turns(row, client, at, refused, up, up_end, down, down_end)?;
+    put_turns(row, client, at, delivered)?;
     sort_from(&mut row.segments, start, client.conn);
     Ok(())
 }
@@ -113,24 +98,24 @@ fn put_turns<'w, 'a>(
     row: &mut OpenRow<'w, 'a>,
     client: &'w Sender,
     at: Moment,
-    refused: bool,
-    up: &[LinePart<'a>],
-    up_end: &End,
-    down: &[LinePart<'a>],
-    down_end: &End,
+    delivered: &Delivered<'a>,
 ) -> Result<(), AllocError>
     requires client { client.now.is_server ≡ false }
-    requires up { IsTimely (line_of up.now up_end.now) }
-    requires down { IsTimely (line_of down.now down_end.now) }
+    requires up { IsTimely delivered.now.up.line }
+    requires down { IsTimely delivered.now.down.line }
     requires row { IsRow row.old }
     ensures { OnOk result (IsLonger row.old
-        (turns_written refused client.now at (line_of up.now up_end.now) (line_of down.now down_end.now)) row.new) }
+        (turns_written delivered.now.refused client.now at delivered.now.up.line delivered.now.down.line) row.new) }
 {
-    put_opening(row, client, at, refused)?;
+    put_opening(row, client, at, delivered.refused)?;
+    let up = delivered.up.parts();
+    let up_end = delivered.up.end();
+    let down = delivered.down.parts();
+    let down_end = delivered.down.end();
     let upward = in_turn(client, Turn::ClientLine);
-    put_line(row, client, &upward, up, up_end, down, down_end)?;
+    put_line(row, client, &upward, up, &up_end, down, &down_end)?;
     let downward = peer_in(client, Turn::ServerLine);
-    put_line(row, client, &downward, down, down_end, up, up_end)
+    put_line(row, client, &downward, down, &down_end, up, &up_end)
 }
 
 // Puts SYN, SYN ACK and ACK (RFC 9293 section 3.5), or SYN and RST ACK if the connection is refused. At the horizon there are none.

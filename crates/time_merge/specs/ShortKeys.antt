@@ -29,7 +29,7 @@ Follows a b = (a.key.conn < b.key.conn) ⊎ (a.key.conn ≡ b.key.conn × is_lt 
 abbrev pub AreInTurn : List KeyedSegment → Type 0
 AreInTurn keys = (i j : ℕ) → i ≤ j → j < length keys → Follows (slice_index_or keys i no_keyed) (slice_index_or keys j no_keyed)
 
--- the short keys of keyed segments that stand so, and the last of these
+-- `s` has the short keys of segments in turn, and the last of these
 pub record HaveShortKeys (keys : List KeyedSegment) (s : ShortKeys) : Type 0 where
   pub many : length s.short_keys.items ≡ length keys
   pub each : (i : ℕ) → i < length keys → IsShortKey s.first i (slice_index_or keys i no_keyed) (slice_index_or s.short_keys.items i 0)

@@ -1,4 +1,4 @@
--- What each side of a connection is delivered in a scenario.
+-- What is delivered of connection number c in scenario number s. Direction 0 is up, from client to server, 1 is down.
 use Rattle.std.specs.Prelude.{ℕ, List, Option, Some, None, Bool, true, false}
 use Rattle.reassembly.specs.RecordedLines.{Line, empty_line, RecordedConnection}
 use Rattle.toxic_defs.specs.SessionCut.{cut_line}
@@ -6,19 +6,21 @@ use Rattle.toxic_defs.specs.Toxics.{RatedKind, chain}
 use Rattle.toxic_defs.specs.declared.deliveries.Delivered.{Delivered}
 use Rattle.toxic_defs.specs.declared.deliveries.MetProxy as code
 
+-- the proxy that a connection meets in a scenario, with its number there, and the toxics of each direction
 pub record MetProxy : Type 0 where
   pub number : ℕ
   pub enabled : Bool
   pub up : List RatedKind
   pub down : List RatedKind
 
--- `up` goes to the server, `down` to the client
+-- `proxy` is the number of the proxy that was met
 pub record DeliveredConnection : Type 0 where
   pub proxy : Option ℕ
   pub refused : Bool
   pub up : Line
   pub down : Line
 
+-- lines as the session cut leaves them (SessionCut)
 abbrev pub connection_by_cut : ℕ → Option ℕ → Line → Line → DeliveredConnection
 connection_by_cut ticks proxy up down = record {
   proxy = proxy;

@@ -8,7 +8,7 @@ use Rattle.toxic_defs.specs.DelayedBytes.{latest, begins, moved}
 abbrev pub drawn_delay : ℕ → (ℕ → ℕ) → ℕ → ℕ → ℕ → ℕ
 drawn_delay ticks random latency jitter k = millisecond ticks * (latency + random (1 + k) % (2 * jitter + 1) - jitter)
 
--- a chunk leaves after its delay, or with an earlier chunk that leaves later: none overtakes another, and none leaves past the limit
+-- a chunk leaves after its delay, or with an earlier chunk that leaves later, and at the limit at most
 abbrev pub latency_leaves : ℕ → (ℕ → ℕ) → List LineByte → ℕ
 latency_leaves limit delay bytes = latest (λ j at. min (at + delay j) limit) (begins bytes)
 

@@ -59,7 +59,7 @@ IdleChainsChangeNothing = (ticks : ℕ) (toxics : List RatedKind) (opened seed s
 
 -- ---- what was recorded
 
--- bytes are the first of others, and none is earlier than there
+-- the bytes are the first that were recorded, none earlier than it was
 abbrev pub DelaysFirst : List LineByte → List LineByte → Type 0
 DelaysFirst [] recorded = Unit {0}
 DelaysFirst (b ∷ bytes) [] = ⊥
@@ -71,7 +71,7 @@ AreUpTo limit bytes = AllByRecursion (λ b. b.at ≤ limit) bytes
 abbrev pub AreFrom : ℕ → List LineByte → Type 0
 AreFrom opened bytes = AllByRecursion (λ b. opened ≤ b.at) bytes
 
--- a line is made of the recorded bytes of a connection that was opened at `opened`
+-- a line is made of recorded bytes of a connection opened at `opened`
 pub record Delays (ticks opened : ℕ) (recorded : List LineByte) (f : Line) : Type 0 where
   pub line : IsLine f
   pub in_time : AreUpTo (horizon ticks) f.bytes

@@ -26,7 +26,7 @@ abbrev pub direction_number : Direction → ℕ
 direction_number Up = 0
 direction_number Down = 1
 
--- each scenario, connection, direction and toxic has a stream of its own
+-- a stream for each scenario s, connection c, direction d and toxic t, by their numbers; d is 0 for up, 1 for down
 abbrev pub stream_of : Key → ℕ
 stream_of key = key.s * 2 ^ 30 + key.c * 16 + key.d * 8 + key.t
 

@@ -42,7 +42,7 @@ line_before limit f = record {
   end = if is_before limit f.end then f.end else live;
 }
 
--- one direction, cut when either ends; if both close at one instant, neither end changes
+-- one direction, cut at the first closing of either; if both close at one instant, neither end changes
 unfoldable pub cut_line : ℕ → Line → Line → Line → Line
 cut_line ticks up down f = line_before (horizon ticks) (line_up_to (first_closing (closing_end up.end) (closing_end down.end)) f)
 

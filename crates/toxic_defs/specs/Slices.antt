@@ -7,7 +7,7 @@ use Rattle.toxic_defs.specs.Limits.{greatest_attribute}
 use Rattle.toxic_defs.specs.declared.slices.Sizes.{Sizes}
 use Rattle.toxic_defs.specs.declared.words.Key.{Key}
 
--- slice k has size k bytes, or what is left of its chunk; the slice before these bytes lacks `left`, and the next one has number k
+-- slice k has `size k` bytes, or what is left of its chunk; `left` bytes belong to the slice before, and the next one has number k
 abbrev pub sliced : (ℕ → ℕ) → ℕ → ℕ → List LineByte → List LineByte
 sliced size k left [] = []
 sliced size k left (b ∷ bytes) =
@@ -38,7 +38,7 @@ IsFilled p = 0 < length p.bytes.now
 abbrev pub AreFilled : List LinePart → Type 0
 AreFilled parts = All IsFilled parts
 
--- Bytes after `before` are cut from slice k on: `now` is cut, `rest` is not yet, the last slice lacks `more`. Any bytes may come after.
+-- `bytes`, after `before`, are cut from slice k on: `now` is cut, `rest` is not yet, the last slice still takes `more`. Any may follow.
 pub record CutOn (size : ℕ → ℕ) (k left : ℕ) (before bytes : List LineByte) (sizes : Sizes) (more : ℕ) (now rest : List LineByte) : Type 0 where
   pub number : ℕ
   pub gives : GivesSizes sizes size number

@@ -2,7 +2,7 @@
 use Rattle.std.specs.Prelude.{ℕ, ◌+◌, min}
 use Rattle.reassembly.specs.RecordedLines.{Line, End, live, fin, close, reset}
 
--- a FIN and a close come later, at the limit at most; a reset does not
+-- later by `delay`, at the limit at most; a reset stays
 abbrev pub slow_end : ℕ → ℕ → End → End
 slow_end limit delay live = live
 slow_end limit delay (fin at) = fin (min (at + delay) limit)

@@ -56,7 +56,7 @@ applies toxic key = nat_lt (word_of key 0 % million) toxic.ppm
 abbrev pub after : ℕ → ℕ → ℕ → ℕ
 after ticks opened time = instant ticks (opened + millisecond ticks * time)
 
--- what a kind of toxic makes of a line of a connection opened at `opened`, with random words
+-- what a kind of toxic makes of a line of a connection opened at `opened`; `random` gives random words
 abbrev pub effect : ℕ → (ℕ → ℕ) → ℕ → Kind → Line → Line
 effect ticks random opened (Latency latency jitter) f = late_line ticks random latency jitter f
 effect ticks random opened (Bandwidth rate) f = rated_line ticks rate f
@@ -72,7 +72,7 @@ run ticks toxic key opened f = if applies toxic key then ended (effect ticks (wo
 
 -- ---- a chain
 
--- the toxics of a direction in turn, each on the line that the one before gave; the first has number t
+-- the toxics in turn, each on the line that the one before gave; the first has number t. RandomWords says what s, c, d and t are.
 abbrev pub chain_from : ℕ → ℕ → ℕ → ℕ → ℕ → ℕ → ℕ → List RatedKind → Line → Line
 chain_from ticks opened seed s c d t [] f = f
 chain_from ticks opened seed s c d t (toxic ∷ toxics) f =

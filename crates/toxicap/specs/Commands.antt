@@ -28,7 +28,8 @@ use Rattle.toxicap.specs.PrintedReports.{PrintsOf}
 use Rattle.toxicap.specs.RunEnds.{Step, Tells, UnlessMemory, WritesText, Written, WrittenSoFar, status_of, usage_status, written}
 use Rattle.toxicap.specs.StoredOutputs.{StoresIn, ToldDisk}
 
--- What is said of standard input and output over a run: that nothing was read, how a text was loaded, and what was written.
+-- What is said of the reader and the writer that a run has for standard input and output: that the reader is as it was, how a text was loaded from
+-- it, and what was written. Nothing is said of what the disk reads at a path that leads there, such as `/dev/stdin`.
 pub record Streams : Type 1 where
   pub Unread : Type 0
   pub Loaded : Result (List ℕ) RunFault → Type 0
@@ -42,7 +43,7 @@ streams remaining r s contents w x = record { Unread = s ≡ r; Loaded = LoadedB
 abbrev pub Unchanged : ToldDisk → Streams → Type 0
 Unchanged disk s = s.output.Unwritten × (disk.after ≡ disk.before)
 
--- standard input was not read either
+-- the reader for standard input is as it was, too
 abbrev pub Untouched : ToldDisk → Streams → Type 0
 Untouched disk s = s.Unread × Unchanged disk s
 

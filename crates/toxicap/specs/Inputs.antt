@@ -38,11 +38,11 @@ hosts_from hosts (written ∷ rest) =
 abbrev pub hosts_asked : Asked → Result (List KnownHost) RunFault
 hosts_asked asked = hosts_from [] (map (λ host. host.now) asked.hosts.items)
 
--- a host was added with this place, and stands last then, or it is refused
+-- a host was added, and stands last then; or it was refused with this place, or memory ran out, and the list is as it was
 abbrev pub AddsHost : Result (Unit {0}) RunFault → ℕ → Option KnownHost → List KnownHost → List KnownHost → Type 0
 AddsHost (Ok _) at wanted old new = (host : KnownHost) × (wanted ≡ Some host) × (new ≡ old ++ host ∷ [])
-AddsHost (Err (BadHost place)) at wanted old new = (wanted ≡ None) × (place ≡ at)
-AddsHost (Err Memory) at wanted old new = Unit {0}
+AddsHost (Err (BadHost place)) at wanted old new = (wanted ≡ None) × (place ≡ at) × (new ≡ old)
+AddsHost (Err Memory) at wanted old new = new ≡ old
 AddsHost (Err _) at wanted old new = ⊥
 
 abbrev pub IsOfHost : RunFault → Type 0
@@ -92,8 +92,9 @@ LoadedBy remaining r s given =
     IfOk given (λ text. length text ≤ capture_limit)
     × LoadsInput (λ text. text) given (Consumes (remaining r.inner) (remaining s.inner)) (IsAtEnd (remaining s.inner)) r.failed s.failed
 
--- How the capture is loaded. If no path is named, it comes from standard input (`Loaded`). Else it comes from the file at the path, within the
--- limit, and standard input is not read (`Unread`).
+-- How the capture is loaded. If no path is named, it comes from the reader that the call has for standard input (`Loaded`). Else it comes from the
+-- file at the path, within the limit, and that reader is as it was (`Unread`). The path may lead to standard input too, as `/dev/stdin` does: what is
+-- read there is a file of the disk.
 abbrev pub LoadsCapture : Option History → Option (Bor (List ℕ)) → Type 0 → (Result (List ℕ) RunFault → Type 0) → Result (List ℕ) RunFault → Type 0
 LoadsCapture told path Unread Loaded given =
     IfNone path (Loaded given)

@@ -8,10 +8,12 @@ ghost use Rattle.toxicap.specs.Commands.{ProgramEnds, failed_calls, folder_of, s
 ghost use Rattle.toxicap.specs.RunEnds.{Tells, WrittenSoFar, no_text, status_of, text_with_line_feed, usage_status, written};
 ghost use Rattle.toxicap.specs.StoredOutputs.{told_disk};
 
-use crate::runs::run_asked;
+mod runs;
+
 use command_line::{Stop, read_arguments};
 use disks::{HostDisk, Lockable, ReadDisk};
 use run_files::{Counted, RunFault, fault_line, write_bytes, write_texts};
+use runs::run_asked;
 use std::alloc::Global;
 use std::convert::AsStr;
 use std::io::{Error, ErrorKind, Read, Write};

@@ -7,20 +7,13 @@
 mod answering;
 mod commands;
 mod crews;
-mod drafting;
-mod gathering;
-mod held_reports;
 mod host_lines;
 pub mod laws;
 mod one_thread;
 mod reading;
 mod rehearsal;
-mod report_heads;
 mod reports;
-mod row_captures;
-mod row_reports;
 mod rows;
-mod runs;
 mod sources;
 mod storing;
 

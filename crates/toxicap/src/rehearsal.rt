@@ -6,13 +6,15 @@ ghost use Rattle.toxicap.specs.Rehearsal.{answer, scenario_limit};
 ghost use Rattle.run_files.specs.RunFault.{run_refusal};
 ghost use Rattle.std.specs.Prelude.{◌≡◌, ◌≤◌, IfOk, length};
 
+mod gathering;
+
 use crate::crews::Crew;
-use crate::gathering::{gathered_output, take_row};
 use crate::reading::read_rehearsed;
-use crate::report_heads::report_heads;
+use crate::reports::report_heads;
 use crate::sources::Sources;
 use conn_table::laws::indexed_connections_agree;
 use conn_workers::deliver;
+use gathering::{gathered_output, take_row};
 use job_matrix::{Gate, Plan};
 use pcap_records::{Capture, FileBytes, Values};
 use range_workers::table;

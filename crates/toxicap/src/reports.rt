@@ -12,13 +12,18 @@ ghost use Rattle.std.specs.Prelude.{◌≡◌, ◌≤◌, IfOk, List, length, ma
 ghost use Rattle.run_files.specs.SeenTexts.{IsSeenOf};
 ghost use Rattle.toxicap.specs.RunEnds.{UnlessMemory};
 ghost use Rattle.toxicap.specs.CaptureOutputs.{outputs_for};
+ghost use Rattle.conn_workers.specs.CaptureTables.{whole_table};
+ghost use Rattle.toxicap.specs.OutputParts.{heads_of};
+
+mod held_reports;
 
 use crate::crews::Crew;
-use crate::held_reports::HeldReports;
 use crate::reading::{SCENARIO_LIMIT, read_inputs, read_rehearsed, read_texts};
-use crate::report_heads::report_heads;
+use conn_table::Table;
 use conn_workers::laws::lines_are_contributed;
+use held_reports::HeldReports;
 use pcap_records::{Capture, CaptureFault, FileBytes, KeptHeads};
+use report::{ReportText, report_head};
 use report_laws::laws::report_sees_heads;
 use run_files::{RunFault, SeenText, Text};
 use scenarios::{Hosts, Scenario};
@@ -118,4 +123,23 @@ fn made_reports<C: Crew>(
     let heads = report_heads(alloc, capture, &table, scenarios.len())?;
     let shares = crew.report_texts(alloc, capture, &table, scenarios, seed)?;
     Ok(HeldReports::of(heads, shares))
+}
+
+/// The first two lines of each report.
+pub(crate) fn report_heads(
+    alloc: Global,
+    capture: &Capture<'_>,
+    table: &Table,
+    count: usize,
+) -> Result<Vec<ReportText>, AllocError>
+    requires table { table.now ≡ whole_table capture.now }
+    requires few { count ≤ scenario_limit }
+    ensures { IfOk result (λ heads. heads.items ≡ heads_of capture.now count) }
+{
+    let mut heads = Vec::with_capacity(alloc, count)?;
+    for number in 0..count {
+        let head = report_head(alloc, number as u32, capture, table)?;
+        heads.push(head)?;
+    }
+    Ok(heads)
 }

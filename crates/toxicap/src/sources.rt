@@ -3,14 +3,17 @@ ghost use Rattle.std.specs.Prelude.{◌≡◌, ◌≤◌, length};
 ghost use Rattle.toxicap.specs.OutputParts.{RowsHaveNoKeyTwice};
 ghost use Rattle.toxicap.specs.Rehearsal.{scenario_limit};
 
+mod row_captures;
+mod row_reports;
+
 use crate::crews::Crew;
-use crate::row_captures::{segments_alone, written_draft};
-use crate::row_reports::{reported_draft, whole_report};
 use conn_workers::laws::{lines_are_contributed, rows_are_contributed};
 use conn_workers::{Recordings, RowShares};
 use disks::Disk;
 use pcap_records::{Capture, Unit, Values};
 use report::ReportText;
+use row_captures::{segments_alone, written_draft};
+use row_reports::{reported_draft, whole_report};
 use run_files::{DraftedOutput, Folder, Output, Outputs};
 use scenarios::Scenario;
 use segment_writer::laws::keys_stand_once;

@@ -12,12 +12,14 @@ ghost use Rattle.toxicap.specs.Rehearsal.{answer, scenario_limit};
 ghost use Rattle.toxicap.specs.RunEnds.{Step};
 ghost use Rattle.toxicap.specs.StoredOutputs.{StoresFiles};
 
+mod drafting;
+
 use crate::crews::{Crew, Workers};
-use crate::drafting::drafts_from;
 use crate::reading::read_rehearsed;
-use crate::report_heads::report_heads;
+use crate::reports::report_heads;
 use crate::sources::Sources;
 use disks::Disk;
+use drafting::drafts_from;
 use pcap_records::{Capture, FileBytes};
 use run_files::{Folder, RunFault, StoreFault, store_draft};
 use scenarios::Scenario;

@@ -46,7 +46,7 @@ enum {
     TOXICAP_ANSWERED = 0,
     /* Refused: at the start of `reports` stands the line that the program prints, as `refused 5 RecordTooLong at 0`, without a line feed or
        a zero byte at its end, and `sizes.reports` is its length in bytes. `sizes.captures` and `sizes.lens` are 0; the other buffers are
-       as they were. docs/GUIDE.md has all refusals; `refused 40 Memory` is lack of memory. */
+       as they were. docs/use/refusals.md has all refusals; `refused 40 Memory` is lack of memory. */
     TOXICAP_REFUSED = 1,
     /* Too little room: `sizes` says what is required, of an answer or of a refusal's line, and at least one of these is more than the room.
        All buffers are as they were. */

@@ -3,8 +3,10 @@
 //! What helps it says too if `TOXICAP_HINTS` of the environment is 1.
 #![tactic(auto)]
 
-mod capture_remedies;
-mod folder_remedies;
+macro_rules! say {
+    ($alloc:expr; $($text:tt)*) => { format!(in $alloc; $($text)*) };
+}
+
 mod remedies;
 mod run;
 mod scenario_remedies;
@@ -12,7 +14,7 @@ mod shown;
 mod summary;
 mod terminal;
 
-use command_line::{Asked, read_arguments};
+use command_line::{Asked, Stop, read_arguments, tip_of};
 use disks::HostDisk;
 use run::{CaptureStart, Run};
 use std::io::IsTerminal;
@@ -40,8 +42,11 @@ fn main(rt: HostRuntime) -> ExitCode {
         is_announced: on_terminal.is_none() || !rt.stdin().is_terminal(),
         first_bytes: CaptureStart::default(),
     });
-    let summary = on_terminal.map(|_| Summary::default());
-    let mut output = Counted::new(SummedUp::new(rt.stdout(), summary));
+    let mut output = Counted::new(SummedUp {
+        inner: rt.stdout(),
+        is_wanted: on_terminal.is_some(),
+        summary: Summary::new(rt.alloc()),
+    });
     let files = Counting {
         rt: &rt,
         all: on_terminal.map_or(0, |asked| asked.scenarios.len() as u64),
@@ -59,11 +64,12 @@ fn main(rt: HostRuntime) -> ExitCode {
     if let Some(asked) = asked.as_ref().filter(|_| is_terminal || outcome.is_err()) {
         let (first_bytes, printed) = (input.into_inner().first_bytes, output.into_inner().summary);
         print_line(&rt, asked, first_bytes, outcome, printed);
+    } else if asked.is_none() && (is_terminal || is_hinted) {
+        print_tip(&rt, &words);
     }
     ExitCode::from(status)
 }
 
-// The arguments after the program's name.
 fn words_of(rt: &HostRuntime) -> io::Result<Vec<String>> {
     Ok(env::args(rt)?.skip(1).collect(rt.alloc())?)
 }
@@ -73,7 +79,7 @@ fn print_line(
     asked: &Asked<'_>,
     first_bytes: CaptureStart,
     outcome: Result<(), RunFault>,
-    printed: Option<Summary>,
+    printed: Summary,
 ) {
     let run = Run {
         files: rt,
@@ -87,5 +93,13 @@ fn print_line(
     };
     if let Ok(Some(line)) = line {
         let _ = eprintln!(rt; "toxicap: {line}");
+    }
+}
+
+fn print_tip(rt: &HostRuntime, words: &[String]) {
+    if let Err(Stop::Usage(told)) = read_arguments(rt.alloc(), words)
+        && let Ok(Some(tip)) = tip_of(rt.alloc(), &told)
+    {
+        let _ = eprintln!(rt; "tip: {tip}");
     }
 }

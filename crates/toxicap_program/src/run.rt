@@ -1,8 +1,9 @@
 //! A run that has ended, and its files looked at again. Only regular files are opened: another could wait.
 use command_line::Asked;
 use std::alloc::{AllocError, Global};
-use std::fs;
+use std::fs::{self, Metadata};
 use std::io::{self, Read};
+use std::os::unix::fs::MetadataExt;
 use std::rt::Files;
 
 /// What is said of a run, unless an allocation failed.
@@ -69,26 +70,37 @@ impl<R: Files> Run<'_, R> {
         }
     }
 
+    pub fn len_of(&self, path: &str) -> Option<u64> {
+        let metadata = fs::metadata(self.files, path).ok()?;
+        metadata.is_file().then(|| metadata.len())
+    }
+
     /// The bytes of a regular file, unless they are too many or cannot be read.
     pub fn text_of(&self, path: &str) -> Option<Vec<u8>> {
-        let metadata = fs::metadata(self.files, path).ok()?;
-        if !metadata.is_file() || metadata.len() > LIMIT {
-            return None;
-        }
+        self.len_of(path).filter(|len| *len <= LIMIT)?;
         let mut text = Vec::new(self.alloc);
         let mut file = fs::open(self.files, path).ok()?;
         file.read_to_end(&mut text).ok()?;
         Some(text)
+    }
+
+    /// Whether a path leads to a file.
+    pub fn leads_to(&self, path: &str, file: &Metadata) -> bool {
+        let found = fs::metadata(self.files, path);
+        found.is_ok_and(|found| found.dev() == file.dev() && found.ino() == file.ino())
+    }
+
+    pub fn is_scenario(&self, file: &Metadata) -> bool {
+        let mut paths = self.asked.scenarios.iter();
+        paths.any(|path| self.leads_to(path, file))
     }
 }
 
 /// What an error of the system says, without its number.
 pub fn said_by(alloc: Global, error: &io::Error) -> Said {
     let text = error.to_string(alloc)?;
-    match text.split_once(" (os error") {
-        Some((cause, _)) => String::from_str(alloc, cause),
-        None => Ok(text),
-    }
+    let cause = text.split_once(" (os error");
+    String::from_str(alloc, cause.map_or(text.as_str(), |(cause, _)| cause))
 }
 
 /// The unit of the times of a capture with these first bytes, if they are a magic number.

@@ -1,79 +1,117 @@
-//! What a person would miss in a report.
+//! What a person would miss in reports.
 use crate::run::{FirstBytes, Run, unit_of};
-use std::alloc::AllocError;
+use std::alloc::{AllocError, Global};
 use std::io::{self, Write};
 use std::rt::Files;
-use std::{fs, str};
+use std::str;
 
-// The classes of packets that are passed over.
-const CLASSES: [&str; 8] = [
-    "short", "notipv4", "badipv4", "fragment", "nottcp", "cut", "badtcp", "sameends",
-];
+// What the first lines of a report count: records, connections, what is left over, and from the fifth on packets that are passed over.
+const COUNTED: &str =
+    "records connections rest unopened short notipv4 badipv4 fragment nottcp cut badtcp sameends";
 
-// The most bytes of a line that are looked at. Each line has fewer.
-const LINE_LEN: usize = 512;
-
-/// The first of some reports, summed up as their bytes come.
-#[derive(Clone, Copy, Default)]
+/// Some reports, summed up as their bytes come.
+#[derive(Drop)]
 pub struct Summary {
-    line: FirstBytes<LINE_LEN>,
-    reports: u64,
-    records: u64,
-    passed_over: [u64; 8],
-    connections: u64,
-    unopened: u64,
-    met: u64,
+    line: FirstBytes<512>,
+    // Of the first report: what it counts, the bytes that were lost, and servers, each after a blank.
+    counts: [u64; 12],
     lost: u64,
+    servers: String,
+    // Of each scenario how many connections have a proxy.
+    met: Vec<u64>,
 }
 
 impl Summary {
+    pub fn new(alloc: Global) -> Summary {
+        Summary {
+            line: FirstBytes::default(),
+            counts: [0; 12],
+            lost: 0,
+            servers: String::new(alloc),
+            met: Vec::new(alloc),
+        }
+    }
+
     fn add(&mut self, bytes: &[u8]) {
-        let bytes = if self.reports < 2 { bytes } else { &[] };
         for part in bytes.split_inclusive(|byte| *byte == b'\n') {
             self.line.add(part);
             if part.ends_with(b"\n") {
                 let line = self.line;
                 self.line = FirstBytes::default();
-                self.add_line(str::from_utf8(line.bytes()).unwrap_or(""));
+                // out of memory, the summary says less
+                let _ = self.add_line(str::from_utf8(line.bytes()).unwrap_or(""));
             }
         }
     }
 
-    // Takes a line, word by word. Once a second report has begun, none is summed up.
-    fn add_line(&mut self, line: &str) {
-        let words = line.split_ascii_whitespace();
-        for (name, word) in words.zip(line.split_ascii_whitespace().skip(1)) {
-            if name == "scenario" {
-                self.reports = self.reports.saturating_add(1);
-            }
-            if self.reports == 1 {
-                self.add_word(name, word);
+    // Takes a line, word by word. Of a later report nothing is looked at once a proxy is met.
+    fn add_line(&mut self, line: &str) -> Result<(), AllocError> {
+        let is_met = self.met.as_slice().last().is_some_and(|met| *met > 0);
+        if self.met.len() < 2 || !is_met || line.starts_with("scenario") {
+            let words = line.split_ascii_whitespace();
+            for (name, word) in words.zip(line.split_ascii_whitespace().skip(1)) {
+                self.add_word(name, word)?;
             }
         }
+        Ok(())
     }
 
-    // Takes a word of a line after the name of what it tells.
-    fn add_word(&mut self, name: &str, word: &str) {
+    fn add_word(&mut self, name: &str, word: &str) -> Result<(), AllocError> {
         match name {
-            "records" => self.records = number(word),
-            "connections" => self.connections = number(word),
-            "unopened" => self.unopened = number(word),
-            "proxy" if word != "-" => self.met = self.met.saturating_add(1),
+            "scenario" => self.met.push(0)?,
+            "proxy" if word != "-" => {
+                if let Some(met) = self.met.last_mut() {
+                    *met = met.saturating_add(1);
+                }
+            }
+            _ if self.met.len() > 1 => {}
+            ">" => {
+                let is_new = self.servers.split(' ').all(|server| server != word);
+                if is_new && self.servers.len() < 80 {
+                    write!(self.servers, " {word}")?;
+                }
+            }
             "up" | "down" => {
-                let lost = word.rsplit('/').next().map_or(0, number);
+                let lost: u64 = word.rsplit('/').next().unwrap_or("").parse().unwrap_or(0);
                 self.lost = self.lost.saturating_add(lost);
             }
             _ => {
-                if let Some(class) = CLASSES.iter().position(|class| *class == name) {
-                    self.passed_over[class] = number(word);
+                let place = COUNTED.split(' ').position(|counted| counted == name);
+                if let Some(count) = self.counts.get_mut(place.unwrap_or(COUNTED.len())) {
+                    *count = word.parse().unwrap_or(0);
                 }
             }
         }
+        Ok(())
     }
-}
 
-fn number(word: &str) -> u64 {
-    word.parse().unwrap_or(0)
+    fn push_to(&self, text: &mut String) -> Result<(), AllocError> {
+        let (records, connections) = (self.counts[0], self.counts[1]);
+        let end = plural_end(connections);
+        let met = self.met.as_slice().first().unwrap_or(&0);
+        write!(text, "{connections} connection{end}, {met} with a proxy")?;
+        for (number, met) in self.met.iter().enumerate().skip(1) {
+            if *met == 0 {
+                write!(text, "; scenario {number}: 0 with a proxy")?;
+            }
+        }
+        let left_out = [
+            (self.lost, "byte", "lost"),
+            (self.counts[2], "byte", "of a record that is cut off"),
+            (self.counts[3], "segment", "without an opening"),
+        ];
+        for (count, noun, how) in left_out {
+            if count > 0 {
+                write!(text, "; {count} {noun}{} {how}", plural_end(count))?;
+            }
+        }
+        for (count, class) in self.counts.iter().zip(COUNTED.split(' ')).skip(4) {
+            if count.saturating_mul(10) > records {
+                write!(text, "; {count} of {records} records {class}")?;
+            }
+        }
+        Ok(())
+    }
 }
 
 fn plural_end(count: u64) -> &'static str {
@@ -81,64 +119,41 @@ fn plural_end(count: u64) -> &'static str {
 }
 
 impl<R: Files> Run<'_, R> {
-    /// What would be missed in the first report, unless there is none: in what was printed, or in the file that was stored.
-    pub fn summed_up(&self, printed: Option<Summary>) -> Result<Option<String>, AllocError> {
-        let alloc = self.alloc;
-        let summary = match self.asked.out {
-            None => printed,
-            Some(folder) => self.stored_summary(&format!(in alloc; "{folder}/0000.txt")?),
-        };
-        let Some(summary) = summary.filter(|summary| summary.reports > 0) else {
+    /// What would be missed in the reports, unless there is none: in those that were printed, or in the files that were stored.
+    pub fn summed_up(&self, mut summary: Summary) -> Result<Option<String>, AllocError> {
+        let scenarios = self.asked.scenarios.len();
+        if let Some(folder) = self.asked.out {
+            for number in 0..scenarios.max(1) {
+                let path = say!(self.alloc; "{folder}/{number:04}.txt")?;
+                let text = self.text_of(&path).unwrap_or(Vec::new(self.alloc));
+                summary.add(&text);
+            }
+        }
+        if summary.met.is_empty() {
             return Ok(None);
-        };
-        let (connections, met, records) = (summary.connections, summary.met, summary.records);
-        let mut text = String::new(alloc);
-        if self.asked.scenarios.len() > 1 {
-            text.push_str("scenario 0: ")?;
         }
-        let end = plural_end(connections);
-        write!(text, "{connections} connection{end}, {met} with a proxy")?;
-        let left_out = [
-            (summary.lost, "byte", "lost"),
-            (summary.unopened, "segment", "without an opening"),
-        ];
-        for (count, noun, how) in left_out {
-            if count > 0 {
-                write!(text, "; {count} {noun}{} {how}", plural_end(count))?;
-            }
-        }
-        for (count, class) in summary.passed_over.iter().zip(CLASSES.iter()) {
-            if count.saturating_mul(10) > records {
-                write!(text, "; {count} of {records} records {class}")?;
-            }
+        let start = if scenarios > 1 { "scenario 0: " } else { "" };
+        let mut text = String::from_str(self.alloc, start)?;
+        summary.push_to(&mut text)?;
+        if scenarios > 0 && summary.met.as_slice().contains(&0) {
+            write!(text, "; servers{}", summary.servers)?;
         }
         if let Some(unit) = unit_of(self.capture_start().bytes()) {
             write!(text, "; times in {unit}")?;
         }
+        if let Some(ignored) = self.ignored()? {
+            write!(text, "; {ignored}")?;
+        }
         Ok(Some(text))
     }
-
-    // The summary of the report that is stored at a path, if that is a regular file.
-    fn stored_summary(&self, path: &str) -> Option<Summary> {
-        let mut reports = SummedUp::new(io::sink(), Some(Summary::default()));
-        if fs::metadata(self.files, path).ok()?.is_file() {
-            io::copy(&mut fs::open(self.files, path).ok()?, &mut reports).ok()?;
-        }
-        reports.summary
-    }
 }
 
-/// A writer of reports, which hands them on, and sums up the first if there is a summary.
+/// A writer of reports, which hands them on, and sums them up if that is wanted.
 #[derive(Drop)]
 pub struct SummedUp<W> {
-    inner: W,
-    pub summary: Option<Summary>,
-}
-
-impl<W> SummedUp<W> {
-    pub fn new(inner: W, summary: Option<Summary>) -> SummedUp<W> {
-        SummedUp { inner, summary }
-    }
+    pub inner: W,
+    pub is_wanted: bool,
+    pub summary: Summary,
 }
 
 impl<W: Write> Write for SummedUp<W> {
@@ -146,8 +161,8 @@ impl<W: Write> Write for SummedUp<W> {
 
     fn write(&mut self, buf: &[u8]) -> io::Result<usize> {
         let len = self.inner.write(buf)?;
-        if let Some(summary) = &mut self.summary {
-            summary.add(&buf[..len]);
+        if self.is_wanted {
+            self.summary.add(&buf[..len]);
         }
         Ok(len)
     }

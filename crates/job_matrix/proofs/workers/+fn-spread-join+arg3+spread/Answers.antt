@@ -6,7 +6,7 @@ use Rattle.job_matrix.proofs.workers.+fn-spread-join+arg3+spread.Goals as goal
 
 pub returns-clause-done : goal.returns-clause-done
 returns-clause-done g t c =
-    let values = g.W.Work.values c.args.work.now in
+    let values = g.W.Work.values c.args.shared.now.work.now in
     let own = c.join-pass.result.0 in
     let others = c.join-pass.result.1 in
     let told = others.0.told + worth own.0.told in

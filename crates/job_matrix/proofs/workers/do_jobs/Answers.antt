@@ -10,7 +10,7 @@ claims-preserved g c =
     let pushed : c.push.new.self.items ≡ c.claims.done.items ++ (job, c.in-Ok.value) ∷ [] = grind (arith, common_steps, c.push.ensures.items, c.if-is_err.ensures.value, c.if-is_err.ensures.negation) in
     record {
       board = c.in-Some.ensures.board;
-      done = rw (pushed, c.in-Some.ensures.some.0) (done_append (g.W.Work.values c.args.work.now) c.claims.pass.jobs (job ∷ []) c.claims.done.items ((job, c.in-Ok.value) ∷ []) c.claims.invariant.done (refl, (c.in-Ok.ensures, tt)));
+      done = rw (pushed, c.in-Some.ensures.some.0) (done_append (g.W.Work.values c.args.shared.now.work.now) c.claims.pass.jobs (job ∷ []) c.claims.done.items ((job, c.in-Ok.value) ∷ []) c.claims.invariant.done (refl, (c.in-Ok.ensures, tt)));
     }
 
 pub claims-smaller : goal.claims-smaller

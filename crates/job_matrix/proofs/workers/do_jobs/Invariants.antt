@@ -6,7 +6,7 @@ use Rattle.job_matrix.proofs.workers.do_jobs.Given as goal
 abbrev pub invariant-claims : goal.invariant-claims
 invariant-claims g l = record {
   board : l.pass.board ≡ l.board;
-  done : AreDone (g.W.Work.values l.work) l.pass.jobs l.done.items;
+  done : AreDone (g.W.Work.values l.shared.work.now) l.pass.jobs l.done.items;
 }
 
 abbrev pub decreases-claims : goal.decreases-claims

@@ -4,4 +4,4 @@ use Rattle.toxicap.proofs.host_lines.add_line.Goals as goal
 
 -- what is not UTF-8 makes no host
 pub returns-in-Err : goal.returns-in-Err
-returns-in-Err c = (none_written c.addresses_are_dotted.ensures c.args.hosts.now c.args.line.now c.in-Err.ensures.cases.0, refl)
+returns-in-Err c = (none_written c.addresses_are_dotted.ensures c.args.hosts.now c.args.line.now c.in-Err.ensures.cases.0, refl, refl)

@@ -1,6 +1,0 @@
-use Rattle.std.proofs.Common.{◌≡◌}
-use Rattle.toxicap.specs.OutputParts.{heads_of}
-use Rattle.toxicap.proofs.report_heads.report_heads.Given as goal
-
-abbrev pub invariant-loop-number : goal.invariant-loop-number
-invariant-loop-number l = l.heads.items ≡ heads_of l.capture l.number

@@ -238,7 +238,7 @@ func (r *loopRecording) newSession(begin int, client string, before *loopSession
 	return s
 }
 
-// ClosedLoop gives what a client and a server who wait for one another would have done under a scenario; its page is docs/CLOSED-LOOP.md. Capture,
+// ClosedLoop gives what a client and a server who wait for one another would have done under a scenario; its page is docs/use/closed-loop.md. Capture,
 // scenario, hosts, seed and errors are those of Rehearse, and ErrUnsettled is one more. Equal arguments give equal bytes, those of the function in
 // Python.
 func ClosedLoop(capture, scenario, hosts []byte, seed uint64) (Loop, error) {

@@ -7,25 +7,31 @@ import (
 	"strings"
 )
 
-// Explain gives what keeps scenarios from having an effect on a capture: unknown fields, proxies that no connection meets, and why a capture has no
-// connection. Each line begins with its place. If nothing is wrong there is none. Arguments and errors are those of Rehearse.
-func Explain(capture []byte, scenarios [][]byte, hosts []byte, seed uint64) ([]string, error) {
-	text, err := Reports(capture, scenarios, hosts, seed)
+// Explain gives what keeps scenarios from having an effect on a capture: unknown fields, proxies that no connection meets, toxics without effect on
+// those that do, with the reasons, and why a capture has no connection. Each line begins with its place. If nothing is wrong there is none. Arguments
+// and errors are those of Rehearse, which is called once for the scenarios, once without their toxics, and some times for each toxic of a proxy.
+func Explain(capture []byte, scenarios [][]byte, hosts []byte, seed uint64) (lines []string, err error) {
+	rehearse := func(scenarios [][]byte) ([]Output, error) { return Rehearse(capture, scenarios, hosts, seed) }
+	outputs, err := rehearse(scenarios)
 	if err != nil {
 		return nil, err
 	}
-	reports, err := ParseReports(text)
-	var lines []string
-	for number, report := range reports {
+	runs := newRuns(scenarios, outputs, rehearse)
+	for number, output := range outputs {
+		report, err := ParseReport(output.Report)
+		if err != nil {
+			return nil, err
+		}
 		if number == 0 {
 			lines = withoutConnection(report)
 		}
-		lines = append(lines, warnings(scenarios[number], report)...)
+		lines = append(append(lines, warnings(scenarios[number], report)...), runs.withoutEffect(number)...)
 	}
-	return lines, err
+	return lines, runs.err
 }
 
-// Warnings gives the lines of Explain of one output. Of an output that was made by hand it only tells why there is no connection.
+// Warnings gives the lines of Explain of one output, except those of toxics. Of an output that was made by hand it only tells why there is no
+// connection.
 func (o Output) Warnings() []string {
 	report, err := ParseReport(o.Report)
 	if err != nil {

@@ -62,6 +62,9 @@ func isDump(capture []byte) bool {
 func captureHint(kind Kind, capture []byte, at int) string {
 	switch kind {
 	case BadMagic:
+		if bytes.HasPrefix(capture, []byte("[")) || bytes.HasPrefix(capture, []byte("{")) {
+			return "is JSON, by its first byte: give it as a scenario"
+		}
 		return commandHint(capture, magicFault(capture))
 	case BadVersion:
 		return commandHint(capture, [2]string{"is of another pcap version than 2.4", "editcap -F pcap IN OUT writes it again"})
@@ -74,7 +77,7 @@ func captureHint(kind Kind, capture []byte, at int) string {
 		return commandHint(capture, [2]string{
 			fmt.Sprintf("is damaged where record %d begins", at), fmt.Sprintf("editcap -F pcap -r IN OUT 1-%d keeps what is before", at)})
 	case BadDump:
-		return "is a dump, by its first byte, and " + dumpFault(capture, at)
+		return "is read as a dump, by its first byte, and " + dumpFault(capture, at) + ": give a pcap file, or a dump as xxd -p IN OUT makes it"
 	case CaptureTooLong:
 		if isDump(capture) {
 			return "is a dump, and has more than 2^30 bytes: xxd -r -p IN OUT makes a file of it, of half its length at most"

@@ -13,10 +13,11 @@ import (
 // mostDepth is how deep arrays and objects of a scenario nest at most.
 const mostDepth = 127
 
-// A jsonFault is the place of the fault in a text that is no JSON, in bytes from 0 on, and whether the text only ends too early.
+// A jsonFault is the place of the fault in a text that is no JSON, in bytes from 0 on, and whether the text only ends too early, a number before the
+// place is too large for a float, or the text nests too deep there.
 type jsonFault struct {
-	place   int
-	isShort bool
+	place                    int
+	isShort, isLarge, isDeep bool
 }
 
 // parsed gives what a text of JSON holds, with numbers as they are written; nil if it is none.
@@ -45,7 +46,7 @@ func faultOf(text []byte) jsonFault {
 	for {
 		token, err := decoder.Token()
 		if errors.Is(err, io.ErrUnexpectedEOF) || errors.Is(err, io.EOF) {
-			return jsonFault{last.next, true}
+			return jsonFault{place: last.next, isShort: true}
 		} else if err != nil {
 			return jsonFault{place: last.wrongPlace(text)}
 		}
@@ -54,9 +55,10 @@ func faultOf(text []byte) jsonFault {
 			return jsonFault{place: last.begin}
 		}
 		number, isNumber := token.(json.Number)
-		depth := len(last.open)
-		if _, err := number.Float64(); isNumber && err != nil && !last.goesOn(text) || depth > mostDepth || depth == 0 && last.next < len(text) {
-			return jsonFault{place: last.next}
+		_, err = number.Float64()
+		isLarge, isDeep := isNumber && err != nil && !last.goesOn(text), len(last.open) > mostDepth
+		if isLarge || isDeep || len(last.open) == 0 && last.next < len(text) {
+			return jsonFault{place: last.next, isLarge: isLarge, isDeep: isDeep}
 		}
 	}
 }

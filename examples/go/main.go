@@ -13,7 +13,7 @@ import (
 
 func main() {
 	if len(os.Args) < 3 {
-		stopOn(errors.New("rehearse CAPTURE SCENARIO.."), 2)
+		stopOn(errors.New("usage: rehearse CAPTURE SCENARIO.."), 2)
 	}
 	texts := make([][]byte, len(os.Args)-1)
 	for i, path := range os.Args[1:] {

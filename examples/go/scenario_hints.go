@@ -31,12 +31,21 @@ func scenarioHint(kind Kind, scenario []byte, proxy, toxic int) string {
 	fault := faultOf(scenario)
 	tree := parsed(scenario)
 	switch {
+	case kind == NotJson && isCapture(scenario):
+		return " is a capture: give it as the capture"
 	case kind == NotJson && fault.isShort:
 		return " ends before its JSON does"
 	case kind == NotJson:
 		line, column := lineAndColumn(scenario[:fault.place])
 		if fault.place == len(scenario) {
 			column--
+		}
+		switch {
+		case fault.isLarge:
+			const about = " has a number too large for a float at line %d column %d: attributes are whole numbers, as toxicap --help shows"
+			return fmt.Sprintf(about, line, column)
+		case fault.isDeep:
+			return fmt.Sprintf(" nests deeper than 127 levels at line %d column %d: a scenario needs five", line, column)
 		}
 		return fmt.Sprintf(" is no JSON from line %d column %d on", line, column)
 	case proxy < 0:
@@ -63,13 +72,13 @@ func proxyHint(kind Kind, tree, proxy any) string {
 		}
 		return fmt.Sprintf("proxy %d has the name: rename one of them", earlier)
 	case BadUpstream:
-		return wrongText("upstream", upstream, "HOST:PORT is wanted, as 10.0.0.2:6379")
+		return "its " + whatIs(proxy, "upstream") + ", and HOST:PORT is wanted, as 10.0.0.2:6379 or redis:6379: no URL, no IPv6 address, a port from 1 to 65535"
 	case UnknownHost:
 		host := upstream
 		if cut := strings.LastIndexByte(upstream, ':'); cut >= 0 {
 			host = upstream[:cut]
 		}
-		return "the address of its host is wanted: " + shown(host, 200) + "=ADDR among the hosts, as the capture has it"
+		return "names are not looked up: give the address that the capture has by " + shown(host, 200) + "=ADDR among the hosts"
 	}
 	return "it is the 65th: a scenario has at most 64 proxies"
 }
@@ -80,9 +89,9 @@ func toxicHint(kind Kind, toxic any) string {
 	case BadMember:
 		return wrongField(toxic, toxicFields)
 	case UnknownToxic:
-		return wrongText("type", of, "latency, bandwidth, slow_close, timeout, reset_peer, slicer or limit_data is wanted")
+		return "its " + whatIs(toxic, "type") + ", and latency, bandwidth, slow_close, timeout, reset_peer, slicer or limit_data is wanted"
 	case BadStream:
-		return wrongText("stream", stream, "upstream or downstream is wanted")
+		return "its " + whatIs(toxic, "stream") + ", and upstream or downstream is wanted"
 	case DuplicateToxic:
 		if name != "" {
 			return "an earlier toxic of the proxy has the name " + quoted(name) + ": rename one of them"
@@ -96,7 +105,12 @@ func toxicHint(kind Kind, toxic any) string {
 	if toxicity, is := wholeNumber(field(toxic, "toxicity")); toxicity < 2 && is || field(toxic, "toxicity") == nil {
 		return "its " + whatIs(toxic, "toxicity_ppm") + ", and a whole number from 0 to 1000000 is wanted"
 	}
-	return "its " + whatIs(toxic, "toxicity") + ", and 0 or 1 is wanted, or \"toxicity_ppm\", up to 1000000"
+	instead := ", or \"toxicity_ppm\", up to 1000000"
+	if text := textOf(field(toxic, "toxicity")); strings.HasPrefix(text, "0.") {
+		count, _ := strconv.Atoi((text[2:] + "000000")[:6])
+		instead = fmt.Sprintf(": write \"toxicity_ppm\": %d in its place", count)
+	}
+	return "its " + whatIs(toxic, "toxicity") + ", and 0 or 1 is wanted" + instead
 }
 
 // streamOf gives a toxic's stream, which is downstream if it names none.
@@ -124,10 +138,6 @@ func wrongField(value any, fields []wantedField) string {
 	return "its \"name\" is empty, and a name is wanted"
 }
 
-func wrongText(name, text, wanted string) string {
-	return "its \"" + name + "\" is " + quoted(text) + ", and " + wanted
-}
-
 // wrongAttribute tells of the first attribute that is out of its range. If none is, slices vary by too much.
 func wrongAttribute(of string, its any) string {
 	for _, each := range attributes {
@@ -136,10 +146,38 @@ func wrongAttribute(of string, its any) string {
 			number, is = 0, true
 		}
 		if each.of == of && (!is || number < each.least || number > each.most) {
-			return fmt.Sprintf("its %s, and a whole number of %s from %d to %d is wanted", whatIs(its, each.name), each.unit, each.least, each.most)
+			wanted := fmt.Sprintf("a whole number of %s from %d to %d is wanted", each.unit, each.least, each.most)
+			return "its " + whatIs(its, each.name) + ", and " + wanted + unknownAttribute(of, its)
 		}
 	}
 	return "its " + whatIs(its, "size_variation") + ", and less than \"average_size\" is wanted"
+}
+
+// unknownAttribute tells of the first attribute that the type does not have, and of those that it has.
+func unknownAttribute(of string, its any) string {
+	known := ""
+	for _, each := range attributes {
+		if each.of == of {
+			known += " \"" + each.name + "\""
+		}
+	}
+	fields, _ := its.(map[string]any)
+	for _, name := range sortedNames(fields) {
+		if !strings.Contains(known+" ", " \""+name+"\" ") {
+			return "; " + quoted(name) + " is ignored: " + of + " has" + known
+		}
+	}
+	return ""
+}
+
+// isCapture tells whether a text begins as a capture does.
+func isCapture(text []byte) bool {
+	for _, magic := range []string{"\xd4\xc3\xb2\xa1", "\x4d\x3c\xb2\xa1", "\xa1\xb2\xc3\xd4", "\xa1\xb2\x3c\x4d", "\n\r\r\n"} {
+		if strings.HasPrefix(string(text), magic) {
+			return true
+		}
+	}
+	return false
 }
 
 // whatIs gives a field with its value.

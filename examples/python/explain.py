@@ -1,12 +1,14 @@
-"""Finds why a rehearsal did nothing: fields that toxicap does not know, proxies that no connection meets, and captures without a connection."""
+"""Finds why a rehearsal did nothing: fields that toxicap does not know, proxies that no connection meets, captures without a connection, and toxics
+without effect."""
 import collections
 import json
 from typing import Any, Dict, Iterator, List, NamedTuple, Sequence, Tuple
 
-from in_process import reports
-from inputs import Capture, Hosts, Scenarios, host_lines, scenario_texts
+from effects import Outcome, Runs, Toxic, name_of, outcome_of, toxics_of
+from in_process import rehearse
+from inputs import Capture, Hosts, Scenarios, capture_bytes, host_lines, scenario_texts
 from known import PASSED_OVER, field_hint, items, printable, unknown_fields
-from outputs import Connection, Counts, parse_report
+from outputs import Connection, Counts
 
 
 class Finding(NamedTuple):
@@ -16,27 +18,29 @@ class Finding(NamedTuple):
     """Where it stands, such as `scenario 0 proxy 1 "web" (10.77.0.2:8080)`, or `capture`; numbers count from 0."""
     text: str
     """What is wrong, and what is allowed or what to do."""
+    is_warning: bool = False
+    """Whether it may be meant so: a toxic without effect on this capture, under this seed and beside the other toxics."""
 
     def __str__(self) -> str:
         return f"{self.place}: {self.text}"
 
 
 def explain(capture: Capture, scenarios: Scenarios, hosts: Hosts = b"", seed: int = 0) -> List[Finding]:
-    """What makes scenarios do nothing on a capture, or on any: none for those that can work. Arguments and errors are those of `rehearse`."""
-    texts = scenario_texts(scenarios)
-    return findings(texts, reports(capture, texts, hosts, seed), hosts)
+    """What makes scenarios do nothing on a capture, or on any: none for those that can work. Arguments and errors are those of `rehearse`, which is
+    called once for the scenarios, once without their toxics, and some times for each toxic of a proxy."""
+    content, texts = capture_bytes(capture), scenario_texts(scenarios)
 
+    def run(texts: Sequence[bytes]) -> List[Outcome]:
+        return [outcome_of(output.report, output.capture) for output in rehearse(content, list(texts), hosts, seed)]
 
-def findings(scenarios: Sequence[bytes], reports: Sequence[bytes], hosts: Hosts) -> List[Finding]:
-    """The findings of scenarios of which these are the reports."""
-    names = dict(line.split("=", 1) for line in host_lines(hosts).decode().split("\n") if line)
-    parsed = list(map(parse_report, reports))
-    found = list(without_connection(parsed[0].counts)) if parsed else []
-    for number, (scenario, report) in enumerate(zip(scenarios, parsed)):
-        file, place = json.loads(scenario), f"scenario {number}"
+    runs, names = Runs(texts, run), dict(line.split("=", 1) for line in host_lines(hosts).decode().split("\n") if line)
+    found = list(without_connection(runs.given[0].counts)) if texts else []
+    for number, (file, outcome) in enumerate(zip(runs.scenarios, runs.given)):
+        place = f"scenario {number}"
         for where, name, known in unknown_fields(file):
             found.append(Finding(f"{place} {where}", f"unknown field {printable(name)} ({field_hint(name, known)})"))
-        found += unmet(place, file, names, report.connections)
+        found += unmet(place, file, names, outcome.connections)
+        found += without_effect(place, runs, number)
     return found
 
 
@@ -66,3 +70,14 @@ def unmet(place: str, proxies: Any, names: Dict[str, str], connections: Sequence
         if first == number:
             why = f"servers of the capture: {', '.join(servers[:5])}{', ..' if len(servers) > 5 else ''}"
         yield Finding(f'{place} proxy {number} {json.dumps(proxy["name"])} ({proxy["upstream"]})', f"no connection meets it; {why}")
+
+
+def without_effect(place: str, runs: Runs, scenario: int) -> Iterator[Finding]:
+    """The toxics of a scenario that change nothing of the connections that meet their proxy, if some do."""
+    connections = runs.given[scenario].connections
+    for p, proxy in enumerate(runs.scenarios[scenario]):
+        met = [connection.connection for connection in connections if connection.proxy == p]
+        for t, toxic in enumerate(toxics_of(proxy)):
+            effects, text = Toxic(runs, scenario, p, t).explained(met)
+            if met and not effects:
+                yield Finding(f"{place} proxy {p} toxic {t} {json.dumps(name_of(toxic))}", text, is_warning=True)

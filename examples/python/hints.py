@@ -22,27 +22,36 @@ ATTRIBUTES: Dict[str, Dict[str, Tuple[str, int, int, bool]]] = {  # of each type
 }
 REMEDIES: Dict[int, List[str]] = {
     1: ["the recording was stopped too early, or it is another file"],
-    2: ["editcap -F pcap IN OUT writes one of most captures", "xxd -r -p IN OUT makes a file of it first"],
+    2: [
+        "editcap -F pcap IN OUT writes one of most captures",
+        "xxd -r -p IN OUT makes a file of it first",
+        "is JSON, by its first byte: give it as a scenario",
+    ],
     3: ["editcap -F pcap IN OUT writes it again", "xxd -r -p IN OUT makes a file of it first"],
     4: ["record on one Ethernet interface, tcpdump -i eth0, not any"],
     5: ["editcap -F pcap -r IN OUT 1-{at} keeps what is before", "xxd -r -p IN OUT makes a file of it first"],
     6: ["tshark -r IN -Y 'tcp.port == 6379' -F pcap -w OUT keeps what matters", "xxd -r -p IN OUT makes a file of it, of half its length at most"],
-    10: ["is no JSON from line {line} column {column} on"],
+    10: [
+        "is no JSON from line {line} column {column} on",
+        "has a number too large for a float at line {line} column {column}: attributes are whole numbers, as toxicap --help shows",
+        "nests deeper than 127 levels at line {line} column {column}: a scenario needs five",
+        "is a capture: give it as the capture",
+    ],
     11: ["an array of proxies is wanted, as toxicap --help shows"],
     12: ["is {is}, and {wanted} is wanted"],
     13: ["proxy {earlier} has the name: rename one of them"],
-    14: ["HOST:PORT is wanted, as 10.0.0.2:6379"],
-    15: ["the address of its host is wanted: {host}=ADDR among the hosts, as the capture has it"],
+    14: ["HOST:PORT is wanted, as 10.0.0.2:6379 or redis:6379: no URL, no IPv6 address, a port from 1 to 65535"],
+    15: ["names are not looked up: give the address that the capture has by {host}=ADDR among the hosts"],
     16: ["latency, bandwidth, slow_close, timeout, reset_peer, slicer or limit_data"],
     17: ["upstream or downstream is wanted"],
     18: ["an earlier toxic of the proxy has the name {name}: rename one of them"],
     19: ["a whole number of {unit} from {least} to {most} is wanted"],
     20: ["a scenario has at most 64 proxies", "a stream has at most 8 toxics"],
-    21: ["a whole number from 0 to 1000000 is wanted", "0 or 1 is wanted"],
+    21: ["a whole number from 0 to 1000000 is wanted", "0 or 1 is wanted", "write \"toxicity_ppm\": {count} in its place"],
     22: ["a call takes 256: call more than once"],
     23: ["NAME=ADDR with an IPv4 address is wanted, as redis=10.0.0.9"],
     40: ["memory was refused: fewer scenarios in a call, or a smaller capture, take less"],
-    55: ["no hexadecimal digit is at line {line} column {column}"],
+    55: ["no hexadecimal digit is at line {line} column {column}", "give a pcap file, or a dump as xxd -p IN OUT makes it"],
 }
 # end
 
@@ -94,6 +103,8 @@ def of_capture(number: int, at: int, capture: bytes) -> str:
             return "is a pcapng file: editcap -F pcap IN OUT converts it"
         if capture.startswith(GZIP):
             return "is gzipped: gunzip -c IN > OUT unzips it"
+        if capture[:1] in (b"[", b"{"):
+            return remedy[2]
         return by_command(is_dump, "is no classic pcap", remedy[0])
     if number == 3:
         return by_command(is_dump, "is of another pcap version than 2.4", remedy[0])
@@ -106,7 +117,7 @@ def of_capture(number: int, at: int, capture: bytes) -> str:
     if number == 6:
         return f"is a dump, and has more than 2^30 bytes: {remedy[1]}" if is_dump else f"has more than 2^30 bytes: {remedy[0]}"
     if number == 55:
-        return f"is a dump, by its first byte, and {of_digits(at, capture)}"
+        return f"is read as a dump, by its first byte, and {of_digits(at, capture)}: {remedy[1]}"
     return f"has fewer than 24 bytes: {remedy[0]}"
 
 
@@ -149,6 +160,8 @@ def line_and_column(before: bytes) -> Tuple[int, int]:
 
 def of_scenario(number: int, place: Dict[str, int], text: bytes) -> str:
     name = f"scenario {place['scenario']}"
+    if number == 10 and (text[:4] in MAGIC_NUMBERS or text.startswith(PCAPNG)):
+        return f"{name} {REMEDIES[10][3]}"
     try:
         tree = json.loads(text.decode(), parse_int=whole_number, parse_constant=refuse_constant)
     except (ValueError, RecursionError) as error:
@@ -196,7 +209,7 @@ def of_proxy(number: int, tree: List[Any], proxy: Any) -> str:
     if number == 13:
         return REMEDIES[13][0].format(earlier=next(at for at, each in enumerate(tree) if text_at(each, "name") == name))
     if number == 14:
-        return f'its "upstream" is {quoted(upstream)}, and {REMEDIES[14][0]}'
+        return f'its {what_is(proxy, "upstream")}, and {REMEDIES[14][0]}'
     if number == 15:
         return REMEDIES[15][0].format(host=escaped(upstream.rpartition(":")[0], 200))
     return f"it is the 65th: {REMEDIES[20][0]}"
@@ -207,9 +220,9 @@ def of_toxic(number: int, toxic: Any) -> str:
     if number == 12:
         return wrong_field(toxic, TOXIC_FIELDS)
     if number == 16:
-        return f'its "type" is {quoted(kind)}, and {REMEDIES[16][0]} is wanted'
+        return f'its {what_is(toxic, "type")}, and {REMEDIES[16][0]} is wanted'
     if number == 17:
-        return f'its "stream" is {quoted(stream)}, and {REMEDIES[17][0]}'
+        return f'its {what_is(toxic, "stream")}, and {REMEDIES[17][0]}'
     if number == 18 and not name:
         made = f"{kind}_{stream or 'downstream'}"
         return f'an earlier toxic of the proxy has the name "{made}", which it has too without a "name": give it one'
@@ -221,7 +234,9 @@ def of_toxic(number: int, toxic: Any) -> str:
         return f"it is the ninth of its stream: {REMEDIES[20][1]}"
     if is_whole(field(toxic, "toxicity", 1), 0, 1):
         return f"its {what_is(toxic, 'toxicity_ppm')}, and {REMEDIES[21][0]}"
-    return f'its {what_is(toxic, "toxicity")}, and {REMEDIES[21][1]}, or "toxicity_ppm", up to 1000000'
+    is_part = re.match(r"0\.(\d+)$", json.dumps(field(toxic, "toxicity")))
+    instead = f': {REMEDIES[21][2].format(count=int(is_part[1][:6].ljust(6, "0")))}' if is_part else ', or "toxicity_ppm", up to 1000000'
+    return f'its {what_is(toxic, "toxicity")}, and {REMEDIES[21][1]}{instead}'
 
 
 def wrong_field(value: Any, fields: Mapping[str, Tuple[str, bool]]) -> str:
@@ -240,8 +255,17 @@ def wrong_attribute(kind: str, attributes: Any) -> str:
     """The first attribute that is out of its range. If none is, slices vary by too much."""
     for name, (unit, least, most, _) in ATTRIBUTES[kind].items():
         if not is_whole(field(attributes, name, 0), least, most):
-            return f"its {what_is(attributes, name)}, and {REMEDIES[19][0].format(unit=unit, least=least, most=most)}"
+            wanted = REMEDIES[19][0].format(unit=unit, least=least, most=most)
+            return f"its {what_is(attributes, name)}, and {wanted}{unknown_attribute(kind, attributes)}"
     return f'its {what_is(attributes, "size_variation")}, and less than "average_size" is wanted'
+
+
+def unknown_attribute(kind: str, attributes: Any) -> str:
+    """The first attribute that the type does not have, and those that it has; empty if there is none."""
+    for name in sorted(attributes or {}):
+        if name not in ATTRIBUTES[kind]:
+            return f"; {quoted(name)} is ignored: {kind} has " + " ".join(f'"{known}"' for known in ATTRIBUTES[kind])
+    return ""
 
 
 def is_whole(value: Any, least: int, most: int) -> bool:

@@ -2,25 +2,26 @@
 
 As a command it stores what `toxicap --out .` does: in_process.py CAPTURE SCENARIO..
 HOSTS of the environment has the addresses of names, in lines NAME=ADDR. The library is the one that TOXICAP_LIBRARY names by its path, else the one
-beside this file, else the system's. Beside it are hints.py, inputs.py and outputs.py."""
+beside this file, else the system's. Beside it are hints.py, inputs.py, outputs.py and room.py, and perhaps toxicap-static, the program of the same
+release."""
 import argparse
 import ctypes
 import functools
 import json
-import mmap
 import os
 import pathlib
 import re
 import threading
 import time
-from typing import Any, List, NamedTuple, Optional, Tuple
+from typing import Any, List, Tuple
 
 from hints import hint_of
 from inputs import Capture, Hosts, Scenarios, capture_bytes, host_lines, scenario_texts, seed_number
 from outputs import Output as Output
+from room import Room, guessed_room
 
 ANSWERED, REFUSED, NO_ROOM, NO_MEMORY = range(4)
-LITTLE = 262144  # bytes of room that are had at once; more is had page by page
+PROGRAM = pathlib.Path(__file__).resolve().with_name("toxicap-static")
 LARGE = 2**24  # bytes of all outputs that are had by one call
 PARTS = 8  # calls that have more, at most
 FEW = 8192  # bytes of a capture for each connection, at least, where these are few
@@ -32,7 +33,7 @@ class Refusal(ValueError):
     line: str
     """The program's line, such as `refused 15 UnknownHost scenario 0 proxy 1`."""
     hint: str
-    """What helps, such as `scenario 0, proxy 1 "db": its "upstream" is "db", and HOST:PORT is wanted, as 10.0.0.2:6379`. It is empty if nothing is
+    """What helps, such as `scenario 0, proxy 1 "db": its "upstream" is missing, and a text is wanted`. It is empty if nothing is
     known."""
     number: int
     """What it is, as 15: the guide has a table of all numbers."""
@@ -103,13 +104,15 @@ def after_fork() -> None:
 os.register_at_fork(before=before_fork, after_in_child=after_fork)
 
 
-class Inputs(NamedTuple):
+class Inputs:
     """What a call is given, as bytes."""
 
-    capture: bytes
-    scenarios: List[bytes]
-    hosts: bytes
-    seed: int
+    def __init__(self, capture: bytes, scenarios: List[bytes], hosts: bytes, seed: int) -> None:
+        self.capture, self.scenarios, self.hosts, self.seed = capture, scenarios, hosts, seed
+
+    def under(self, scenarios: List[bytes]) -> "Inputs":
+        """The same with other scenarios."""
+        return Inputs(self.capture, scenarios, self.hosts, self.seed)
 
     def words(self) -> Tuple[Any, ...]:
         """The same as the library takes it."""
@@ -121,48 +124,6 @@ def inputs_of(capture: Capture, scenarios: Scenarios, hosts: Hosts, seed: int) -
     if os.getpid() != caller:
         raise RuntimeError("toxicap: this process was forked from one with threads: start it by spawn or forkserver, or fork before there are threads")
     return Inputs(capture_bytes(capture), scenario_texts(scenarios), host_lines(hosts), seed_number(seed))
-
-
-class Room:
-    """Room for what the library writes. Where it is large it takes memory as it is written, page by page, and gives back the pages that were taken
-    out: so room that stays empty costs nothing, and no output is held twice for long."""
-
-    __slots__ = "size", "taken", "given_back", "pages", "buffer"
-
-    def __init__(self, size: int) -> None:
-        self.size, self.taken, self.given_back = size, 0, 0  # bytes
-        self.pages: Optional[mmap.mmap] = None
-        if size <= LITTLE:
-            self.buffer = (ctypes.c_char * size)()
-            return
-        try:
-            self.pages = mmap.mmap(-1, size, flags=mmap.MAP_PRIVATE | mmap.MAP_ANONYMOUS)
-        except OSError:
-            raise MemoryError(f"{size} bytes of room") from None
-        self.buffer = (ctypes.c_char * size).from_buffer(self.pages)
-
-    def at_least(self, size: int) -> "Room":
-        """This room, or a new one where it is smaller."""
-        return self if size <= self.size else Room(size)
-
-    def take(self, size: int) -> bytes:
-        """The next bytes."""
-        start, self.taken = self.taken, self.taken + size
-        taken = memoryview(self.buffer)[start : self.taken].tobytes()
-        if self.pages:
-            whole = self.taken - self.taken % mmap.PAGESIZE
-            if whole > self.given_back:
-                self.pages.madvise(mmap.MADV_DONTNEED, self.given_back, whole - self.given_back)
-            self.given_back = whole
-        return taken
-
-
-def guessed_room(size: int) -> Room:
-    """Room of a size that is guessed. If it is refused there is none, and the library says how much there has to be."""
-    try:
-        return Room(size)
-    except MemoryError:
-        return Room(0)
 
 
 def report_room(inputs: Inputs) -> Room:
@@ -193,10 +154,15 @@ def rehearse(capture: Capture, scenarios: Scenarios, hosts: Hosts = b"", seed: i
 
     Equal arguments give equal bytes. Any thread may call, and other threads run meanwhile; a thread wants 256 KB of stack. A refusal is raised as
     Refusal, lack of memory as OutOfMemory or MemoryError, another seed as ValueError, an argument of another type as TypeError. In a process that
-    was forked from one with threads no call is made, and RuntimeError is raised."""
+    was forked from one with threads no call is made, and RuntimeError is raised.
+
+    The library holds outputs a second time. Those of more than 16 MB are stored by the program toxicap-static beside this module, which the wheel has,
+    in the folder for temporary files, and read one after another: so a call takes 1.2 times their bytes at most. Without that program, or where there
+    is no room for them, it takes up to 2.1 times their bytes."""
     inputs = inputs_of(capture, scenarios, hosts, seed)
-    is_large = len(inputs.capture) * len(inputs.scenarios) > LARGE
-    return in_parts(inputs) if is_large and 1 < len(inputs.scenarios) <= 256 else outputs_of(inputs, len(inputs.scenarios))
+    if len(inputs.capture) * len(inputs.scenarios) <= LARGE:
+        return outputs_of(inputs, len(inputs.scenarios))
+    return by_program(inputs) or in_parts(inputs)
 
 
 def outputs_of(inputs: Inputs, large: int) -> List[Output]:
@@ -205,10 +171,55 @@ def outputs_of(inputs: Inputs, large: int) -> List[Output]:
     captures, reports = guessed_room(3 * half * large + 4096), report_room(inputs)
     status, sizes, lens = NO_ROOM, Sizes(), (ctypes.c_size_t * (2 * len(inputs.scenarios)))()
     while status == NO_ROOM:
+        found = by_program(inputs) if sizes.captures > LARGE else []
+        if found:
+            return found
         captures, reports = captures.at_least(sizes.captures), reports.at_least(sizes.reports)
         status = library().toxicap_rehearse(*words, captures.buffer, captures.size, reports.buffer, reports.size, lens, len(lens), sizes)
     raise_refusal(status, reports, sizes, inputs)
     return [Output(captures.take(capture_len), reports.take(report_len)) for capture_len, report_len in zip(lens[::2], lens[1::2])]
+
+
+def by_program(inputs: Inputs) -> List[Output]:
+    """The outputs as the program stores them, one file after another. None if there is no program or it fails, of which the library tells then."""
+    if not PROGRAM.exists():
+        return []
+    import tempfile  # it takes longer to load than most of what stands above
+
+    try:
+        folder = tempfile.TemporaryDirectory(prefix="toxicap-")
+    except OSError:
+        return []
+    with folder as name:
+        if not are_stored(inputs, name):
+            return []
+        inputs.capture = b""  # if it was a path's, nobody else holds its bytes
+        return [Output(*(taken_out(f"{name}/{at:04}.{ending}") for ending in ("pcap", "txt"))) for at in range(len(inputs.scenarios))]
+
+
+def are_stored(inputs: Inputs, folder: str) -> bool:
+    """Has the program store the outputs in a folder; whether it did."""
+    import subprocess
+
+    hosts = inputs.hosts.split(b"\n")
+    words: List[Any] = [PROGRAM, "--out=.", f"--seed={inputs.seed}", *(b"--host=" + host for host in (hosts if hosts[-1] else hosts[:-1]))]
+    try:
+        for at, text in enumerate([inputs.capture, *inputs.scenarios]):
+            pathlib.Path(folder, str(at)).write_bytes(text)
+            words.append(f"--scenario={at}" if at else "--capture=0")
+        subprocess.run(words, cwd=folder, check=True, stdin=subprocess.DEVNULL, stdout=subprocess.DEVNULL, stderr=subprocess.DEVNULL)
+        pathlib.Path(folder, "0").unlink()
+    except (OSError, subprocess.CalledProcessError, ValueError):  # a zero byte in a host is a ValueError
+        return False
+    return pathlib.Path(folder, f"{len(inputs.scenarios) - 1:04}.txt").exists()  # who ignores SIGCHLD is told of no status
+
+
+def taken_out(name: str) -> bytes:
+    """The bytes of a file, which is removed."""
+    path = pathlib.Path(name)
+    content = path.read_bytes()
+    path.unlink()
+    return content
 
 
 def in_parts(inputs: Inputs) -> List[Output]:
@@ -216,16 +227,16 @@ def in_parts(inputs: Inputs) -> List[Output]:
     number, which it keeps: before those of a call stand others, which refuse all connections. They cost little where connections are few."""
     count, outputs = len(inputs.scenarios), []
     try:
-        [report] = reports_of(inputs._replace(scenarios=[b"[]"]))
+        [report] = reports_of(inputs.under([b"[]"])) if 1 < count <= 256 else [b""]
     except Refusal:
         return outputs_of(inputs, count)
     servers = sorted({server.decode() for server in re.findall(rb"^\d+ \S+ > (\S+)", report, flags=re.MULTILINE)})
-    if len(servers) > 64 or report.count(b"\n") * FEW > len(inputs.capture):
+    if not report or len(servers) > 64 or report.count(b"\n") * FEW > len(inputs.capture):
         return outputs_of(inputs, count)
     refuses_all = json.dumps([{"name": server, "upstream": server, "enabled": False} for server in servers]).encode()
     step = -(-count // PARTS)
     for at in range(0, count, step):
-        outputs += outputs_of(inputs._replace(scenarios=[refuses_all] * at + inputs.scenarios[at : at + step]), step + 2)[at:]
+        outputs += outputs_of(inputs.under([refuses_all] * at + inputs.scenarios[at : at + step]), step + 2)[at:]
     return outputs
 
 

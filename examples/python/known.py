@@ -4,10 +4,10 @@ import json
 import re
 from typing import Any, Iterator, List, Tuple
 
-from hints import ATTRIBUTES
+from hints import ATTRIBUTES, PROXY_FIELDS, TOXIC_FIELDS
 
-PROXY = ["name", "listen", "upstream", "enabled", "toxics"]
-TOXIC = ["name", "type", "stream", "toxicity", "toxicity_ppm", "attributes"]
+PROXY = list(PROXY_FIELDS)
+TOXIC = [*TOXIC_FIELDS, "toxicity", "toxicity_ppm"]
 KNOWN = {kind: list(attributes) for kind, attributes in ATTRIBUTES.items()}  # of each type of a toxic
 PASSED_OVER = {  # of a report's count: why these are not rehearsed, and what to do
     "notipv4": "IPv6 (localhost may be ::1), ARP, or two VLAN tags; only IPv4 is rehearsed: connect to an IPv4 address, such as 127.0.0.1",

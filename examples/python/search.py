@@ -30,13 +30,15 @@ def shrink(capture: Capture, scenario: Scenario, fails: Predicate, hosts: Hosts 
     """A scenario that fails with fewer toxics and smaller numbers, as text, and its seed. A scenario fails if fails(outputs) is true or raises an
     exception under a seed below a number, the least of which is its seed; the outputs are those of rehearse, and it is called once for equal ones.
     Toxics and proxies without effect are left out first. Then no proxy and no toxic can be left out, no attribute be one less and no toxicity be 1
-    so that it fails still. One that does not fail is an error; a refusal is raised with its line."""
+    so that it fails still. ValueError is raised if the scenario does not fail, or if `[]` fails too; a refusal is raised with its line."""
     with progress() as show:
         trials = Trials(capture, hosts, fails, show)
         text = scenario_text("scenario", scenario)
         seed = trials.least([text], below)
         if seed is None:
             raise ValueError(f"the scenario does not fail under the seeds below {below}: there is nothing to shrink; a larger `below` tries more")
+        if trials.fail(rehearse(trials.capture, [b"[]"], trials.hosts, seed)):
+            raise ValueError("the scenario `[]`, without toxics, fails too: there is nothing to shrink; make `fails` false for what was recorded")
         proxies: Any = json.loads(text)
         leave_out_idle(trials, proxies, seed)
         seed = shrunk(proxies, lambda: trials.least([json.dumps(proxies).encode()], below))

@@ -25,27 +25,27 @@ const ATTRIBUTES: [(&str, &str, &str, u64, u64); 10] = [
 #[rustfmt::skip]
 const REMEDIES: [(u32, &[&str]); 22] = [
     (1, &["the recording was stopped too early, or it is another file"]),
-    (2, &["editcap -F pcap IN OUT writes one of most captures", "xxd -r -p IN OUT makes a file of it first"]),
+    (2, &["editcap -F pcap IN OUT writes one of most captures", "xxd -r -p IN OUT makes a file of it first", "is JSON, by its first byte: give it as a scenario"]),
     (3, &["editcap -F pcap IN OUT writes it again", "xxd -r -p IN OUT makes a file of it first"]),
     (4, &["record on one Ethernet interface, tcpdump -i eth0, not any"]),
     (5, &["editcap -F pcap -r IN OUT 1-{at} keeps what is before", "xxd -r -p IN OUT makes a file of it first"]),
     (6, &["tshark -r IN -Y 'tcp.port == 6379' -F pcap -w OUT keeps what matters", "xxd -r -p IN OUT makes a file of it, of half its length at most"]),
-    (10, &["is no JSON from line {line} column {column} on"]),
+    (10, &["is no JSON from line {line} column {column} on", "has a number too large for a float at line {line} column {column}: attributes are whole numbers, as toxicap --help shows", "nests deeper than 127 levels at line {line} column {column}: a scenario needs five", "is a capture: give it as the capture"]),
     (11, &["an array of proxies is wanted, as toxicap --help shows"]),
     (12, &["is {is}, and {wanted} is wanted"]),
     (13, &["proxy {earlier} has the name: rename one of them"]),
-    (14, &["HOST:PORT is wanted, as 10.0.0.2:6379"]),
-    (15, &["the address of its host is wanted: {host}=ADDR among the hosts, as the capture has it"]),
+    (14, &["HOST:PORT is wanted, as 10.0.0.2:6379 or redis:6379: no URL, no IPv6 address, a port from 1 to 65535"]),
+    (15, &["names are not looked up: give the address that the capture has by {host}=ADDR among the hosts"]),
     (16, &["latency, bandwidth, slow_close, timeout, reset_peer, slicer or limit_data"]),
     (17, &["upstream or downstream is wanted"]),
     (18, &["an earlier toxic of the proxy has the name {name}: rename one of them"]),
     (19, &["a whole number of {unit} from {least} to {most} is wanted"]),
     (20, &["a scenario has at most 64 proxies", "a stream has at most 8 toxics"]),
-    (21, &["a whole number from 0 to 1000000 is wanted", "0 or 1 is wanted"]),
+    (21, &["a whole number from 0 to 1000000 is wanted", "0 or 1 is wanted", "write \"toxicity_ppm\": {count} in its place"]),
     (22, &["a call takes 256: call more than once"]),
     (23, &["NAME=ADDR with an IPv4 address is wanted, as redis=10.0.0.9"]),
     (40, &["memory was refused: fewer scenarios in a call, or a smaller capture, take less"]),
-    (55, &["no hexadecimal digit is at line {line} column {column}"]),
+    (55, &["no hexadecimal digit is at line {line} column {column}", "give a pcap file, or a dump as xxd -p IN OUT makes it"]),
 ];
 // end
 
@@ -98,10 +98,9 @@ fn part(number: u32, part: usize) -> &'static str {
     found.map_or("", |(_, parts)| parts[part])
 }
 
-/// The first part, with values in place of names in braces.
-fn filled(number: u32, values: &[(&str, &dyn Display)]) -> String {
-    let remedy = part(number, 0).to_string();
-    values.iter().fold(remedy, |text, (name, value)| {
+/// A part, with values in place of names in braces.
+fn filled(part: &str, values: &[(&str, &dyn Display)]) -> String {
+    values.iter().fold(part.to_string(), |text, (name, value)| {
         text.replace(&format!("{{{name}}}"), &value.to_string())
     })
 }
@@ -125,7 +124,7 @@ fn of_capture(number: u32, at: usize, capture: &[u8]) -> String {
         true => format!("is a dump, and {fault}: {}, then {command}", part(2, 1)),
         false => format!("{fault}: {command}"),
     };
-    let of_digits = "is a dump, by its first byte, and";
+    let of_digits = "is read as a dump, by its first byte, and";
     match number {
         2 if capture.starts_with(b"\n\r\r\n") => {
             by_command("is a pcapng file", "editcap -F pcap IN OUT converts it")
@@ -133,20 +132,26 @@ fn of_capture(number: u32, at: usize, capture: &[u8]) -> String {
         2 if capture.starts_with(b"\x1f\x8b") => {
             by_command("is gzipped", "gunzip -c IN > OUT unzips it")
         }
+        2 if capture.starts_with(b"[") || capture.starts_with(b"{") => part(2, 2).to_string(),
         2 => by_command("is no classic pcap", part(2, 0)),
         3 => by_command("is of another pcap version than 2.4", part(3, 0)),
         4 => of_link(capture),
         5 if at == 0 => "is damaged where its first record begins: record it again".to_string(),
         5 => {
             let fault = format!("is damaged where record {at} begins");
-            by_command(&fault, &filled(5, &[("at", &at)]))
+            by_command(&fault, &filled(part(5, 0), &[("at", &at)]))
         }
         6 if is_dump => format!("is a dump, and has more than 2^30 bytes: {}", part(6, 1)),
         6 => format!("has more than 2^30 bytes: {}", part(6, 0)),
         55 if at == capture.len() => {
-            format!("{of_digits} its last byte has but one hexadecimal digit")
+            let fault = "its last byte has but one hexadecimal digit";
+            format!("{of_digits} {fault}: {}", part(55, 1))
         }
-        55 => format!("{of_digits} {}", placed(55, capture, at)),
+        55 => format!(
+            "{of_digits} {}: {}",
+            placed(part(55, 0), capture, at),
+            part(55, 1)
+        ),
         _ => format!("has fewer than 24 bytes: {}", part(1, 0)),
     }
 }
@@ -165,7 +170,7 @@ fn of_link(capture: &[u8]) -> String {
 }
 
 /// The remedy of a refusal that has a place, at a byte of a text. Lines and columns count from 1.
-fn placed(number: u32, text: &[u8], at: usize) -> String {
+fn placed(remedy: &str, text: &[u8], at: usize) -> String {
     let (mut line, mut column) = (1, 0);
     for byte in &text[..at] {
         match byte {
@@ -174,14 +179,17 @@ fn placed(number: u32, text: &[u8], at: usize) -> String {
         }
     }
     column += usize::from(at < text.len()); // past the text it is that of the last byte
-    filled(number, &[("line", &line), ("column", &column)])
+    filled(remedy, &[("line", &line), ("column", &column)])
 }
 
 /// What helps if a scenario was refused, after its number.
 fn of_scenario(number: u32, text: &[u8], proxy: Option<usize>, toxic: Option<usize>) -> String {
     let tree = match json::read(text) {
+        Err(_) if is_capture(text) => return format!(" {}", part(10, 3)),
         Err(Fault::Short) => return " ends before its JSON does".to_string(),
-        Err(Fault::At(at)) => return format!(" {}", placed(10, text, at)),
+        Err(Fault::At(at)) => return format!(" {}", placed(part(10, 0), text, at)),
+        Err(Fault::Large(at)) => return format!(" {}", placed(part(10, 1), text, at)),
+        Err(Fault::Deep(at)) => return format!(" {}", placed(part(10, 2), text, at)),
         Ok(tree) => tree,
     };
     let Some(at) = proxy else {
@@ -197,6 +205,19 @@ fn of_scenario(number: u32, text: &[u8], proxy: Option<usize>, toxic: Option<usi
     format!("{about}: {}", of_toxic(number, toxic))
 }
 
+/// Whether a text begins as a capture does.
+fn is_capture(text: &[u8]) -> bool {
+    let magic = text.get(..4).unwrap_or_default();
+    let magics = [
+        b"\xd4\xc3\xb2\xa1",
+        b"\x4d\x3c\xb2\xa1",
+        b"\xa1\xb2\xc3\xd4",
+        b"\xa1\xb2\x3c\x4d",
+        b"\n\r\r\n",
+    ];
+    magics.iter().any(|each| each.as_slice() == magic)
+}
+
 fn of_proxy(number: u32, tree: &Value, proxy: &Value) -> String {
     let (name, upstream) = (proxy.text_at("name"), proxy.text_at("upstream"));
     match number {
@@ -204,12 +225,12 @@ fn of_proxy(number: u32, tree: &Value, proxy: &Value) -> String {
         13 => {
             let mut proxies = tree.items().iter();
             let earlier = proxies.position(|each| each.text_at("name") == name);
-            filled(13, &[("earlier", &earlier.unwrap_or_default())])
+            filled(part(13, 0), &[("earlier", &earlier.unwrap_or_default())])
         }
-        14 => its_text("upstream", upstream, part(14, 0)),
+        14 => its(proxy, "upstream", part(14, 0)),
         15 => {
             let host = upstream.rsplit_once(':').map_or(upstream, |(host, _)| host);
-            filled(15, &[("host", &shown(host, 200))])
+            filled(part(15, 0), &[("host", &shown(host, 200))])
         }
         _ => format!("it is the 65th: {}", part(20, 0)),
     }
@@ -219,19 +240,30 @@ fn of_toxic(number: u32, toxic: &Value) -> String {
     let [kind, name, stream] = ["type", "name", "stream"].map(|field| toxic.text_at(field));
     match number {
         12 => wrong_field(toxic, &TOXIC_FIELDS),
-        16 => its_text("type", kind, &format!("{} is wanted", part(16, 0))),
-        17 => its_text("stream", stream, part(17, 0)),
+        16 => its(toxic, "type", &format!("{} is wanted", part(16, 0))),
+        17 => its(toxic, "stream", part(17, 0)),
         18 if name.is_empty() => {
             let stream = [stream, "downstream"][usize::from(stream.is_empty())];
             format!("an earlier toxic of the proxy has the name \"{kind}_{stream}\", which it has too without a \"name\": give it one")
         }
-        18 => filled(18, &[("name", &quoted(name))]),
+        18 => filled(part(18, 0), &[("name", &quoted(name))]),
         19 => wrong_attribute(kind, toxic.field("attributes").unwrap_or(&Value::Null)),
         20 => format!("it is the ninth of its stream: {}", part(20, 1)),
         _ => match toxic.field("toxicity").map_or(Some(1), Value::whole_number) {
             Some(0 | 1) => its(toxic, "toxicity_ppm", part(21, 0)),
             _ => {
-                let wanted = format!("{}, or \"toxicity_ppm\", up to 1000000", part(21, 1));
+                let text = toxic.field("toxicity").map(written).unwrap_or_default();
+                let wanted = match text.strip_prefix("0.") {
+                    Some(digits) => {
+                        let count: u32 = format!("{digits:0<6}")[..6].parse().unwrap_or_default();
+                        format!(
+                            "{}: {}",
+                            part(21, 1),
+                            filled(part(21, 2), &[("count", &count)])
+                        )
+                    }
+                    None => format!("{}, or \"toxicity_ppm\", up to 1000000", part(21, 1)),
+                };
                 its(toxic, "toxicity", &wanted)
             }
         },
@@ -247,7 +279,7 @@ fn wrong_field(value: &Value, fields: &[Field]) -> String {
         let kind = value.field(name).map(Value::kind);
         if kind.map_or(*is_required, |kind| kind != *wanted) {
             let is = kind.unwrap_or("missing");
-            let told = filled(12, &[("is", &is), ("wanted", wanted)]);
+            let told = filled(part(12, 0), &[("is", &is), ("wanted", wanted)]);
             return format!("its \"{name}\" {told}");
         }
     }
@@ -259,12 +291,35 @@ fn wrong_attribute(kind: &str, attributes: &Value) -> String {
     for (_, name, unit, least, most) in ATTRIBUTES.iter().filter(|(of, ..)| *of == kind) {
         let number = attributes.field(name).map_or(Some(0), Value::whole_number);
         if !number.is_some_and(|number| (*least..=*most).contains(&number)) {
-            let wanted = filled(19, &[("unit", unit), ("least", least), ("most", most)]);
-            return its(attributes, name, &wanted);
+            let wanted = filled(
+                part(19, 0),
+                &[("unit", unit), ("least", least), ("most", most)],
+            );
+            return its(attributes, name, &wanted) + &unknown_attribute(kind, attributes);
         }
     }
     let wanted = "less than \"average_size\" is wanted";
     its(attributes, "size_variation", wanted)
+}
+
+/// The first attribute that the type does not have, and those that it has; empty if there is none.
+fn unknown_attribute(kind: &str, attributes: &Value) -> String {
+    let own: Vec<&str> = ATTRIBUTES
+        .iter()
+        .filter(|(of, ..)| *of == kind)
+        .map(|row| row.1)
+        .collect();
+    let Value::Object(fields) = attributes else {
+        return String::new();
+    };
+    match fields.keys().find(|name| !own.contains(&name.as_str())) {
+        Some(name) => format!(
+            "; {} is ignored: {kind} has \"{}\"",
+            quoted(name),
+            own.join("\" \"")
+        ),
+        None => String::new(),
+    }
 }
 
 /// A field with its value, and what is wanted.
@@ -276,10 +331,6 @@ fn its(value: &Value, name: &str, wanted: &str) -> String {
         }
         None => format!("its \"{name}\" is missing, and {wanted}"),
     }
-}
-
-fn its_text(name: &str, text: &str, wanted: &str) -> String {
-    format!("its \"{name}\" is {}, and {wanted}", quoted(text))
 }
 
 /// The number of a proxy or a toxic, and its name if it has one.

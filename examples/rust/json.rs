@@ -27,6 +27,10 @@ pub enum Fault {
     Short,
     /// A byte, from 0 on, at which it goes wrong.
     At(usize),
+    /// The byte after a number that is too large for a float.
+    Large(usize),
+    /// A byte at which it nests too deep.
+    Deep(usize),
 }
 
 /// The value that a text holds.
@@ -139,6 +143,8 @@ impl Reader<'_> {
             Token::Open(b'[') if depth > 0 => self.array(depth - 1),
             Token::Open(b'{') if depth > 0 => self.object(depth - 1),
             Token::Value(value) if !value.is_infinite() => Ok(value),
+            Token::Value(_) => Err(Fault::Large(self.at)),
+            Token::Open(_) => Err(Fault::Deep(self.at)),
             _ => Err(Fault::At(self.at)),
         }
     }

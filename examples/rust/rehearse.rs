@@ -15,7 +15,7 @@ pub struct Output {
 /// What toxicap refuses. As text it is the program's line, and after a colon what helps. The numbers in it count from 0.
 #[derive(Clone, Debug, PartialEq, Eq)]
 pub struct Refusal {
-    /// What it is: `docs/GUIDE.md` has a table of all numbers. Lack of memory is 40.
+    /// What it is: `docs/use/refusals.md` has a table of all numbers. Lack of memory is 40.
     pub number: u32,
     /// The same as a word, such as `UnknownHost`.
     pub name: String,

@@ -13,9 +13,12 @@ import (
 // once a client has written a part of a request, or has only to close, it has this long for the rest
 const settled = 50 * time.Millisecond
 
-// A Dialer opens the connections of an output capture one after another, whatever address is asked for, for a client that dials by itself:
+// A Dialer opens the connections of an output capture one after another, for a client that dials by itself:
 //
 //	client := http.Client{Transport: &http.Transport{DialContext: dialer.DialContext}}
+//
+// It takes any address: a client dials what its configuration names, and an output has recorded addresses alone. For a client of several servers make
+// a Dialer of each, with the numbers of its connections.
 //
 // An answer waits, in real time, until the client has written as many bytes as the recorded one had before it, and has closed its side if that one
 // had. If it has written some of them, or is only to close, that is 50 ms. If it writes nothing for Limit, or up to a deadline, the Read fails.

@@ -6,6 +6,7 @@ import (
 	"fmt"
 	"io"
 	"net"
+	"os"
 	"sync"
 	"time"
 )
@@ -41,8 +42,10 @@ type Player struct {
 	end      context.CancelFunc
 	patience patience
 
-	mutex   sync.Mutex    // of what follows
-	served  chan struct{} // closed when Serve has ended; nil before it has begun
+	serving sync.Once
+
+	mutex   sync.Mutex // of what follows
+	called  bool       // whether Serve was
 	clients []*client
 	fault   error // what ended the player first
 }
@@ -111,7 +114,7 @@ func chosen(numbers []int, count int) ([]int, error) {
 	}
 	for _, number := range numbers {
 		if number < 0 || number >= count {
-			return nil, noConnection(number)
+			return nil, noConnection(number, count)
 		}
 	}
 	if len(numbers) == 0 {
@@ -124,18 +127,21 @@ func chosen(numbers []int, count int) ([]int, error) {
 // Close. If clients are refused it returns at Close or after Limit. It can be called once.
 func (p *Player) Serve() error {
 	p.mutex.Lock()
-	again := p.served != nil
-	if !again {
-		p.served = make(chan struct{})
-	}
+	again := p.called
+	p.called = true
 	p.mutex.Unlock()
 	if again {
 		return errors.New("player: Serve is called for the second time")
 	}
-	defer close(p.served)
+	p.serving.Do(p.run)
+	return p.result()
+}
+
+// run serves the clients, and keeps what was missing when the limit had run out.
+func (p *Player) run() {
 	if p.listener == nil {
 		pause(p.life, p.Limit)
-		return nil
+		return
 	}
 	p.patience.begin(p.Limit, p.stop)
 	p.serve()
@@ -144,15 +150,15 @@ func (p *Player) Serve() error {
 	if missing := p.missing(); ranOut && missing != "" {
 		p.fail(fmt.Sprintf("%s (limit %v)", missing, p.Limit))
 	}
-	return p.result()
 }
 
 // serve serves each client that comes, up to the last.
 func (p *Player) serve() {
 	var each sync.WaitGroup
 	defer each.Wait()
+	defer p.listener.Close()
 	for _, part := range p.parts {
-		socket, err := p.listener.AcceptTCP()
+		socket, err := p.accept()
 		if err != nil {
 			return
 		}
@@ -163,22 +169,26 @@ func (p *Player) serve() {
 			came.serve()
 		}()
 	}
-	p.listener.Close()
+}
+
+// accept gives the next client; when the player ends, one who had come before.
+func (p *Player) accept() (socket *net.TCPConn, err error) {
+	for again := 0; ; again++ {
+		if socket, err = p.listener.AcceptTCP(); !os.IsTimeout(err) || again == lastLooks {
+			return socket, err
+		}
+		p.listener.SetDeadline(time.Now().Add(lastLook))
+	}
 }
 
 // Close ends all connections, wherever they are, waits for Serve, and gives its error: what was missing when the limit had run out, other requests
-// than the recorded ones, or that no client came. Each further call gives the same.
+// than the recorded ones, or that no client came. What clients had sent before counts. Each further call gives the same.
 func (p *Player) Close() error {
 	p.stop()
 	if p.held != nil {
 		p.held.Close()
 	}
-	p.mutex.Lock()
-	served := p.served
-	p.mutex.Unlock()
-	if served != nil {
-		<-served
-	}
+	p.serving.Do(p.run)
 	return p.result()
 }
 
@@ -196,14 +206,17 @@ func (p *Player) Received() [][]byte {
 	return all
 }
 
-// stop ends all connections.
+// stop ends all connections. What has come before is still taken.
 func (p *Player) stop() {
-	p.end()
-	if p.listener != nil {
-		p.listener.Close()
-	}
 	p.mutex.Lock()
 	defer p.mutex.Unlock()
+	if p.life.Err() != nil {
+		return
+	}
+	p.end()
+	if p.listener != nil {
+		p.listener.SetDeadline(time.Now())
+	}
 	for _, client := range p.clients {
 		client.stop()
 	}

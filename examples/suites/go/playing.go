@@ -9,9 +9,10 @@ import (
 )
 
 const (
-	apartInOutput = 2 * time.Millisecond  // chunks that are this far apart in the output
-	apartAtLeast  = time.Millisecond      // are so far apart when they are sent late, too
-	unread        = 10 * time.Millisecond // for what lies unread when a player ends
+	apartInOutput = 2 * time.Millisecond // chunks that are this far apart in the output
+	apartAtLeast  = time.Millisecond     // are so far apart when they are sent late, too
+	lastLook      = 2 * time.Millisecond // for a client who had come, or what one had sent, when a player ends
+	lastLooks     = 5                    // how many there are: on a busy machine the time of one may pass before it begins
 )
 
 // A client is one that has come, and its connection.
@@ -48,10 +49,7 @@ func (p *Player) welcome(socket *net.TCPConn, part part) *client {
 }
 
 // stop has what waits for the client come to its end.
-func (c *client) stop() {
-	c.socket.SetReadDeadline(time.Now().Add(unread))
-	c.socket.SetWriteDeadline(time.Now())
-}
+func (c *client) stop() { c.socket.SetDeadline(time.Now()) }
 
 // serve plays the connection, and closes it.
 func (c *client) serve() {
@@ -172,9 +170,14 @@ func (c *client) await(enough func() bool, missing func() string) {
 // receive reads what the client sends, until it closes or the player ends.
 func (c *client) receive() {
 	defer close(c.read)
-	room, same := make([]byte, 65536), true
+	room, same, looks := make([]byte, 65536), true, 0
 	for {
 		length, err := c.socket.Read(room)
+		if os.IsTimeout(err) && looks < lastLooks {
+			looks++
+			c.socket.SetReadDeadline(time.Now().Add(lastLook))
+			continue
+		}
 		c.mutex.Lock()
 		c.received = append(c.received, room[:length]...)
 		if c.heard = append(c.heard, heard{time.Now(), len(c.received)}); err != nil && !os.IsTimeout(err) {

@@ -30,20 +30,21 @@ func Steps(output, untouched []byte, connection int) ([]Step, error) {
 		return nil, err
 	}
 	if connection < 0 || connection >= len(here) {
-		return nil, noConnection(connection)
+		return nil, noConnection(connection, len(here))
 	}
 	return stepsOf(here[connection][1], there[connection]), nil
 }
 
 // both gives the lines of each connection of two outputs, of which the second is the untouched one.
 func both(output, untouched []byte) (here, there [][2]Line, err error) {
-	here, err = Delivered(output)
-	there, other := Delivered(untouched)
-	if err != nil || other != nil {
-		return nil, nil, firstOf(err, other)
+	if here, err = Delivered(output); err != nil {
+		return nil, nil, fmt.Errorf("the first output: %w (the program or Rehearse makes one of a recording)", err)
+	}
+	if there, err = Delivered(untouched); err != nil {
+		return nil, nil, fmt.Errorf("the untouched output: %w (rehearse the recording under [], too)", err)
 	}
 	if len(here) != len(there) {
-		return nil, nil, errors.New("the outputs are not of one capture")
+		return nil, nil, fmt.Errorf("the outputs are not of one capture (connections: %d and %d)", len(here), len(there))
 	}
 	for number := range here {
 		for side := range here[number] {
@@ -59,8 +60,8 @@ func both(output, untouched []byte) (here, there [][2]Line, err error) {
 	return here, there, nil
 }
 
-func noConnection(number int) error {
-	return fmt.Errorf("there is no connection %d", number)
+func noConnection(number, count int) error {
+	return fmt.Errorf("there is no connection %d: there are %d, numbered from 0", number, count)
 }
 
 // stepsOf gives the steps of a connection, of which the server's line and the recorded lines are known.
@@ -100,13 +101,6 @@ func inOrder(line, recorded Line) (bool, error) {
 		}
 	}
 	return true, nil
-}
-
-func firstOf(one, other error) error {
-	if one != nil {
-		return one
-	}
-	return other
 }
 
 // whole gives the bytes of a line.

@@ -21,7 +21,7 @@ func numbersOf(text string) (numbers []int, err error) {
 	for _, word := range strings.Split(text, ",") {
 		number, err := strconv.Atoi(word)
 		if err != nil {
-			return nil, err
+			return nil, fmt.Errorf("-connection %s: numbers of the report are wanted, such as 0,2, or all", text)
 		}
 		numbers = append(numbers, number)
 	}
@@ -52,7 +52,7 @@ func main() {
 // load makes a player of the captures of two files.
 func load(paths []string, connections string) (*toxicap.Player, error) {
 	if len(paths) != 2 {
-		return nil, fmt.Errorf("two captures are to be named, and not %d", len(paths))
+		return nil, fmt.Errorf("two captures are to be named, OUTPUT and UNTOUCHED, and not %d", len(paths))
 	}
 	output, err := os.ReadFile(paths[0])
 	if err != nil {

@@ -12,5 +12,5 @@
 //
 //	[{"name": "web", "upstream": "10.77.0.2:80", "toxics": [{"type": "slicer", "attributes": {"average_size": 50}}]}]
 //
-// Pages, scenarios and samples are in share/toxicap of the module's folder, first docs/GO.md; example_test.go has whole tests.
+// Pages, scenarios and samples are in share/toxicap of the module's folder, first docs/use/go.md; example_test.go has whole tests.
 package toxicap

@@ -52,7 +52,7 @@ func Example() {
 	// Output:
 	// 200 of 216 bytes of the answer came, then close
 	// true
-	// refused 15 UnknownHost scenario 0 proxy 0: scenario 0, proxy 0 "db": the address of its host is wanted: redis=ADDR among the hosts, as the capture has it
+	// refused 15 UnknownHost scenario 0 proxy 0: scenario 0, proxy 0 "db": names are not looked up: give the address that the capture has by redis=ADDR among the hosts
 }
 
 // What a client reads: as recorded, a first read gives all headers of the answer, and in slices a part of them. So a client that takes one read for

@@ -1,4 +1,4 @@
-"""Network faults rehearsed on recorded TCP sessions, in this process: no socket, no file, and equal arguments give equal bytes.
+"""Network faults rehearsed on recorded TCP sessions, by calls that open no socket: equal arguments give equal bytes.
 
     rehearse(capture, scenarios)  of each scenario the output capture and the report; `parsed` is the report as data
     reports(capture, scenarios)   the reports alone; parse_report makes data of one
@@ -6,7 +6,8 @@
     delivered(capture)            the same as two lines for each connection
     Socket(connection)            a socket that receives what was delivered, with a Clock of its own: nothing waits
     streams(connection)           the same for asyncio, in a test that run(main()) starts (or a Loop)
-    explain(capture, scenarios)   why a rehearsal does nothing: unknown fields, proxies that are not met, captures without a connection
+    explain(capture, scenarios)   why a rehearsal does nothing: unknown fields, proxies that are not met, toxics without effect, captures without a
+                                  connection
     proxy(upstream, toxic(..))    a scenario as Python makes it, which is a list of these
     sample(name)                  a capture that comes with toxicap
 

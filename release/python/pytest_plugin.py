@@ -9,14 +9,15 @@ from __future__ import annotations
 
 import os
 import pathlib
+import warnings
 from typing import Any, Callable, Dict, Iterator, List, Optional, TypeVar, Union
 
 import pytest
 
 from . import Output, rehearse as rehearse_all
-from ._explain import findings
+from ._explain import explain
 from ._golden import differences
-from ._inputs import Capture, Hosts, Scenario, scenario_text
+from ._inputs import Capture, Hosts, Scenario, capture_bytes, scenario_text
 
 Source = TypeVar("Source")
 Around = Callable[..., Iterator[None]]
@@ -107,14 +108,17 @@ class Rehearsals:
         strict: bool = True,
     ) -> Output:
         """The output of a capture under one scenario. Arguments and errors are those of toxicap.rehearse. The test fails if the rehearsal can do
-        nothing: a field is unknown, a proxy meets no connection, or the capture has none (toxicap.explain); strict=False takes it. With `golden`, a
-        path without ending, the test fails if the capture is not the file of that name with `.pcap`, or the report the one with `.txt`; with the
-        option --toxicap-update they are written."""
-        texts = [scenario_text("scenario", self._from_here(scenario))]
-        [output] = rehearse_all(self._from_here(capture), texts, hosts, seed)
-        found = findings(texts, [output.report], hosts) if strict else []
-        if found:
-            pytest.fail("\n".join([*map(str, found), "strict=False takes a rehearsal that does nothing"]), pytrace=False)
+        nothing: a field is unknown, a proxy meets no connection, or the capture has none; a toxic without effect is warned of (toxicap.explain).
+        strict=False takes all of it. With `golden`, a path without ending, the test fails if the capture is not the file of that name with `.pcap`,
+        or the report the one with `.txt`; with the option --toxicap-update they are written."""
+        content, texts = capture_bytes(self._from_here(capture)), [scenario_text("scenario", self._from_here(scenario))]
+        [output] = rehearse_all(content, texts, hosts, seed)
+        found = explain(content, texts, hosts, seed) if strict else []
+        faults = [str(finding) for finding in found if not finding.is_warning]
+        if faults:
+            pytest.fail("\n".join([*faults, "strict=False takes a rehearsal that does nothing"]), pytrace=False)
+        for finding in found:
+            warnings.warn(f"toxicap: {finding}", stacklevel=2)
         if golden is not None:
             path = pathlib.Path(os.path.normpath(self.folder / golden))
             written = self.compared.setdefault(str(path), [])

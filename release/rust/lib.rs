@@ -15,7 +15,7 @@
 //! let refusal = reports(capture, &[limit.replace("10.77.0.2", "redis")], "", 7).unwrap_err();
 //! assert_eq!((refusal.number, &*refusal.name, &*refusal.place), (15, "UnknownHost", "scenario 0 proxy 0"));
 //! assert_eq!(refusal.line(), "refused 15 UnknownHost scenario 0 proxy 0");
-//! let hint = "scenario 0, proxy 0 \"web\": the address of its host is wanted: redis=ADDR among the hosts, as the capture has it";
+//! let hint = "scenario 0, proxy 0 \"web\": names are not looked up: give the address that the capture has by redis=ADDR among the hosts";
 //! assert_eq!(refusal.to_string(), format!("{}: {hint}", refusal.line()));
 //! # Ok::<(), Box<dyn std::error::Error>>(())
 //! ```

@@ -1,4 +1,4 @@
-# Writes a large capture to standard output, or with a second word what is to come of it, worked out by docs/RULES.md apart from the program:
+# Writes a large capture to standard output, or with a second word what is to come of it, worked out by docs/use/rules.md apart from the program:
 #     perl tests/capture.pl SEGMENTS           one connection, whose client sends SEGMENTS segments of 1,250 bytes, each with bytes of its own
 #                                              and in a second of its own; a record has 1,320 bytes
 #     perl tests/capture.pl SEGMENTS+STEP      the same segments in another order: at place P the one of number STEP * P modulo SEGMENTS

@@ -21,4 +21,7 @@ verdict "a rehearsal without cgo" "$(
     told faults 'toxicap: Rehearse and Reports need Linux on x86-64 and a build with cgo (CGO_ENABLED=1, and a C compiler): elsewhere read outputs '\
 'that were stored there'$'\n'
 )"
+status=0
+"$work/rehearse" samples/http-get.pcap > "$work/output" 2> "$work/faults" || status=$?
+verdict "a rehearsal without a scenario" "$(fault 2; silent output; told faults $'usage: rehearse CAPTURE SCENARIO..\n')"
 close

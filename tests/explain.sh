@@ -102,7 +102,7 @@ a.json: proxy 0 toxic 1 (slow_close_downstream): effect on 0 of 2 connections; o
 a.json: proxy 0 toxic 2 (latency_upstream): effect on 1 of 2 connections; on 1: no bytes flow upstream (downstream up to 0 bytes)" \
     --capture upload.dump --scenario a.json
 
-# By docs/RULES.md word 0 modulo a million of connections 0, 2 and 3 is 107503, 837121 and 768073 for toxic 0 downstream of scenario 0 under the
+# By docs/use/rules.md word 0 modulo a million of connections 0, 2 and 3 is 107503, 837121 and 768073 for toxic 0 downstream of scenario 0 under the
 # seed 1, and 550896, 254620 and 676496 for that of scenario 1. Connection 3 has 7 bytes downstream, the others have over 3,000.
 redis a.json '{"type": "latency", "toxicity_ppm": 600000, "attributes": {"latency": 300}}, {"type": "limit_data", "attributes": {"bytes": 7}}'
 explains "some connections, in two scenarios" 0 "a.json: proxy 0 (redis, redis:6379): met by 3 connections
@@ -189,53 +189,48 @@ web='"name":"web","upstream":"10.77.0.2:80"'
 unknown "proxy 0 toxic 0 attributes" "latencyy (is it latency?)" "[{$web,\"toxics\":[{\"type\":\"latency\",\"attributes\":{\"latencyy\":100}}]}]"
 unknown "proxy 0 toxic 0 attributes" "delay (known are latency, jitter)" "[{$web,\"toxics\":[{\"type\":\"latency\",\"attributes\":{\"delay\":100}}]}]"
 unknown "proxy 0 toxic 0" 'latency (it belongs in "attributes")' "[{$web,\"toxics\":[{\"type\":\"latency\",\"latency\":100}]}]"
-unknown "proxy 0 toxic 1" "direction (known are name, type, stream, toxicity, toxicity_ppm, attributes)" \
+unknown "proxy 0 toxic 1" "direction (known are type, name, stream, attributes, toxicity, toxicity_ppm)" \
     "[{$web,\"toxics\":[{\"type\":\"timeout\"},{\"type\":\"latency\",\"direction\":\"upstream\"}]}]"
 unknown "proxy 0" "toxic (is it toxics?)" "[{$web,\"toxic\":[{\"type\":\"timeout\"}]}]"
 unknown "proxy 1" "Enabled (is it enabled?)" "[{\"name\":\"db\",\"upstream\":\"10.77.0.3:6379\"},{$web,\"Enabled\":false}]"
 unknown "proxy 0" "Upstream (is it upstream?)" '[{"name":"web","upstream":"10.77.0.3:6379","Upstream":"10.77.0.2:80"}]'
 unknown "proxy 0 toxic 0" 'enabled (only a proxy can be disabled; for a toxic write "toxicity": 0)' "[{$web,\"toxics\":[{\"type\":\"timeout\",\"enabled\":false}]}]"
 unknown "proxy 0 toxic 0 attributes" "toxicity (it belongs in the toxic)" "[{$web,\"toxics\":[{\"type\":\"timeout\",\"attributes\":{\"toxicity\":0}}]}]"
-unknown "proxy 0" '"a b" (known are name, listen, upstream, enabled, toxics)' "[{$web,\"a b\":1}]"
+unknown "proxy 0" '"a b" (known are name, upstream, enabled, toxics, listen)' "[{$web,\"a b\":1}]"
 
-# refusals, with what stands at their place
+# refusals, with what helps as the program says it
+# helps WHAT LINE ARGUMENT..: it ends with 2, and prints the program's line and hint on standard error.
+helps() {
+    refuses "$1" "explain: $2$(TOXICAP_HINTS=1 "$program" "${@:3}" < "$http" 2>&1 | sed -n 's/^toxicap: /: /p')" "${@:3}"
+    verdict "$1: a hint" "$(grep -q '^explain: refused [^:]*: .' faults || cat faults)"
+}
 web a.json '{"type": "latency", "stream": "down"}'
-refuses "a stream" 'explain: a.json: refused 17 BadStream scenario 0 proxy 0 toxic 0: a stream is neither upstream nor downstream
-  {"type": "latency", "stream": "down"}' --scenario a.json
-refuses "a stream in the second file" 'explain: a.json: refused 17 BadStream scenario 1 proxy 0 toxic 0: a stream is neither upstream nor downstream
-  {"type": "latency", "stream": "down"}' --capture "$http" --scenario b.json --scenario a.json
+helps "a stream" "refused 17 BadStream scenario 0 proxy 0 toxic 0" --scenario a.json
+helps "a stream in the second file" "refused 17 BadStream scenario 1 proxy 0 toxic 0" --capture "$http" --scenario b.json --scenario a.json
 redis a.json ''
-refuses "a host that is not known" 'explain: a.json: refused 15 UnknownHost scenario 0 proxy 0: its host is no address, and no --host names it
-  {"name": "redis", "upstream": "redis:6379", "toxics": []}' --capture "$shop" --scenario a.json
-refuses "a host that is no address" "explain: refused 23 BadHost host 0: a --host is not NAME=ADDR, or was given before" --scenario a.json --host redis
+helps "a host that is not known" "refused 15 UnknownHost scenario 0 proxy 0" --capture "$shop" --scenario a.json
+helps "a host that is no address" "refused 23 BadHost host 0" --scenario a.json --host redis
 echo '[' > a.json
-refuses "no JSON" "explain: a.json: refused 10 NotJson scenario 0: a scenario is no JSON
-  line 2 column 1: Expecting value" --scenario a.json
-printf '[\n{"name": 1 "\303\244"}]' > a.json
-refuses "no JSON, in the second line" "explain: a.json: refused 10 NotJson scenario 0: a scenario is no JSON
-  line 2 column 12: Expecting ',' delimiter" --scenario a.json
+helps "no JSON" "refused 10 NotJson scenario 0" --scenario a.json
 printf '[\n{"\303\244": "\344"}]' > a.json
-refuses "no UTF-8" "explain: a.json: refused 10 NotJson scenario 0: a scenario is no JSON
-  line 2 column 8: a byte that is no UTF-8" --scenario a.json
+helps "no UTF-8" "refused 10 NotJson scenario 0" --scenario a.json
 web a.json '{"type": "timeout", "toxicity": 0.1}'
-refuses "a fraction" 'explain: a.json: refused 21 BadToxicity scenario 0 proxy 0 toxic 0: toxicity is not 0 or 1, or its ppm above a million
-  {"type": "timeout", "toxicity": 0.1}
-  write "toxicity_ppm": 100000 in place of "toxicity"; examples/ppm.jq does so in a whole file' --scenario a.json
-web a.json '{"type": "timeout", "toxicity_ppm": 1000001}'
-refuses "more than a million" 'explain: a.json: refused 21 BadToxicity scenario 0 proxy 0 toxic 0: toxicity is not 0 or 1, or its ppm above a million
-  {"type": "timeout", "toxicity_ppm": 1000001}' --scenario a.json
+helps "a fraction" "refused 21 BadToxicity scenario 0 proxy 0 toxic 0" --scenario a.json
 echo '{}' > a.json
-refuses "no array" "explain: a.json: refused 11 NotArray scenario 0: it is no array" --scenario a.json
+helps "no array" "refused 11 NotArray scenario 0" --scenario a.json
 web a.json '{"type": "bandwidth", "attributes": {"Rate": 10}}'
 explains "a refusal and an unknown field" 2 "a.json: proxy 0 toxic 0 attributes: unknown field Rate (is it rate?)" --scenario a.json
-verdict "a refusal and an unknown field: words" "$(grep -c '^explain: a.json: refused 19 AttributeRange scenario 0 proxy 0 toxic 0: ' faults | grep -vx 1 || true)"
+verdict "a refusal and an unknown field: words" "$(grep -c '^explain: refused 19 AttributeRange scenario 0 proxy 0 toxic 0: a.json' faults | grep -vx 1 || true)"
 : > empty.pcap
-refuses "a capture without bytes" "explain: empty.pcap: refused 1 ShortHeader: the capture has fewer than 24 bytes" --capture empty.pcap --scenario b.json
+helps "a capture without bytes" "refused 1 ShortHeader" --capture empty.pcap --scenario b.json
+helps "a scenario as the capture" "refused 2 BadMagic" --capture a.json --scenario b.json
 refuses "no such capture" "explain: none.pcap: No such file or directory" --capture none.pcap --scenario b.json
 refuses "no such scenario" "explain: none.json: No such file or directory" --capture "$http" --scenario none.json
 TOXICAP=$work/none refuses "no program" "explain: there is no program $work/none: put it on the path, or name it in TOXICAP" --scenario b.json
-explains "a seed that is none" 2 "" --capture "$http" --scenario b.json --seed x
-verdict "a seed that is none: words" "$(grep -q "invalid value 'x' for '--seed <N>'" faults || cat faults)"
+for seed in x -1; do
+    explains "a seed that is none: $seed" 2 "" --capture "$http" --scenario b.json "--seed=$seed"
+    verdict "a seed that is none: $seed: words" "$(grep -q "invalid value '$seed' for '--seed <N>'" faults || cat faults)"
+done
 explains "no scenario" 2 "" --capture "$http"
 explains "an option that is none" 2 "" --scenario b.json --scenarios b.json
 status=0
@@ -280,6 +275,51 @@ status=0
 grep -F 'proxy 0 toxic 0 (' output > line || true
 verdict "no SYN ACK: the reason" "$(fault 1; silent faults; one_line \
     "s.json: proxy 0 toxic 0 $(idle latency_downstream "no bytes flow downstream: the server's SYN ACK was not recorded")" line)"
+
+# checksums: right ones of an output, one of a byte that is changed, and those of samples, which a network card was to fill in
+mkdir right
+"$program" --capture "$http" --scenario b.json --out right
+cp right/0000.pcap wrong.pcap
+printf X | dd of=wrong.pcap bs=1 seek=315 conv=notrunc status=none # in record 4, the first payload
+cat wrong.pcap <(tail -c +25 "$http") > both.pcap
+# sums WHAT COUNT REMEDY CAPTURE: of so many of a capture's segments, as `1 of 8`, the sums are told to be wrong.
+sums() {
+    warns "$1" "$2 segments have wrong TCP checksums: they are rehearsed all the same, and outputs have right ones, but a receiver would have dropped them; $3" "$4"
+}
+# helped WHAT COUNT CAPTURE: after what the line says to do, so many segments are left, and no sum is wrong.
+helped() {
+    can "$1, mended" tshark editcap xxd || return 0
+    sed -n 's/.* leave them out first by //p' output | sed 's/\bDUMP\b/'"$3"'/; s/\bIN\b/in.pcap/g; s/\bOUT\b/out.pcap/' > mend
+    [[ $3 = *.dump ]] || cp "$3" in.pcap
+    bash mend 2> /dev/null
+    warns "$1, mended" "" out.pcap
+    verdict "$1, left" "$("$program" --capture out.pcap | grep -c " segment $2 " | grep -vx 1 || true)"
+}
+filter="tshark -r IN -o tcp.check_checksum:TRUE -Y 'tcp.checksum.status != 0' -F pcap -w OUT"
+warns "right sums" "" right/0000.pcap
+warns "sums that a card was to fill in" "" "$http"
+sums "a wrong sum" "1 of 8" "leave them out first by $filter" wrong.pcap
+helped "a wrong sum" 7 wrong.pcap
+xxd -p wrong.pcap > wrong.dump
+sums "a wrong sum in a dump" "1 of 8" "leave them out first by xxd -r -p DUMP IN; $filter" wrong.dump
+helped "a wrong sum in a dump" 7 wrong.dump
+sums "a wrong sum among those" "1 of 20" "leave them out first by editcap -F pcap IN OUT 4" both.pcap
+helped "a wrong sum among those" 19 both.pcap
+# the larger sample twice, with the sums of records 2, 4 to 42 changed
+python3 - "$shop" > many.pcap <<'END'
+import sys
+data = open(sys.argv[1], 'rb').read()
+capture, at, number = bytearray(data + data[24:]), 24, 0
+while at < len(capture):
+    number += 1
+    if number % 2 == 0 and number <= 42: capture[at + 66] ^= 0x55
+    at += 16 + int.from_bytes(capture[at + 8:at + 12], 'little')
+sys.stdout.buffer.write(capture)
+END
+sums "many wrong sums among those" "21 of 128" "leave them out first by editcap -F pcap IN OUT $(seq -s ' ' 2 2 40) (and more: explain OUT again)" many.pcap
+# the whole sample with other addresses, so that each sum is that of another pseudo-header
+python3 -c 'import sys; sys.stdout.buffer.write(sys.stdin.buffer.read().replace(b"\x0a\x4d\0", b"\x0a\x4e\0"))' < "$http" > moved.pcap
+sums "sums that all are wrong" "12 of 12" "leave none out: where all are wrong that one side sent, a network card or a tool left them so" moved.pcap
 
 # standard output that takes nothing, and the name of the command
 ln -s "$explain" toxicap-explain

@@ -104,7 +104,7 @@ def differing(first, second):
 
 
 def word_of(seed, scenario, connection, direction, toxic, place):
-    """A drawn word, by docs/RULES.md."""
+    """A drawn word, by docs/use/rules.md."""
     increment, factor = 2 * (scenario * 2**30 + connection * 16 + direction * 8 + toxic) + 1, 6364136223846793005
     state = ((seed + increment) * factor + increment) % 2**64
     for _ in range(place): state = (state * factor + increment) % 2**64

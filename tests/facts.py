@@ -2,11 +2,11 @@
 """The facts that several files tell, against the two tables that hold them: docs/toxics.tsv (the attributes of toxics, with units and ranges) and
 docs/refusals.tsv (numbers, names, places, meanings, and what the program prints on a terminal after them, parts of it with a semicolon between).
 
-Compared with them are the code of the crates, the text of `--help`, what the program prints on a terminal, the tables of docs/GUIDE.md and
-docs/RULES.md, the schema of scenario files, and the tools that hold a list of attributes; the fields of proxies and toxics in the two pages with the
-schema and with those that the code reads; and whether the names that the pages for developers tell are there. In the two pages a row of a table is
-found by the name in backquotes in its first cell; a number may be written as 10^9, 1000000000 or 1,000,000,000. An argument is the folder of another
-copy of the repository. The last line is `N passed, M failed`."""
+Compared with them are the code of the crates, the text of `--help`, what the program prints on a terminal, the tables of docs/use/scenarios.md and
+docs/use/refusals.md, the schema of scenario files, and the tools that hold a list of attributes; in docs/use/rules.md the fields of proxies and toxics
+with the schema and with those that the code reads, what each toxic does with its attributes, and the frame classes with the code; and whether the names
+that the pages for developers tell are there. A row of a table is found by the name in backquotes in its first cell; a number may be written as 10^9,
+1000000000 or 1,000,000,000. An argument is the folder of another copy of the repository. The last line is `N passed, M failed`."""
 import ast, json, pathlib, re, sys
 
 TREE = pathlib.Path(sys.argv[1] if sys.argv[1:] else pathlib.Path(__file__).resolve().parent.parent)
@@ -61,15 +61,19 @@ def units(text):
     return [UNITS[word] for word in re.findall(r'[A-Za-zµ]+', text) if word in UNITS]
 
 
-def rows_of(page):
-    """The rows of all Markdown tables of a page, each as its cells; a row whose first cell is empty goes on with the row before."""
+def rows_in(lines):
+    """The rows of all Markdown tables in lines, each as its cells; a row whose first cell is empty goes on with the row before."""
     rows = []
-    for line in text_of(page).splitlines():
+    for line in lines:
         if not line.startswith('|') or set(line) <= set('|-: '): continue
         row = [cell.strip() for cell in re.split(r'(?<!\\)\|', line.strip())[1:-1]]
         if not row[0] and rows: rows[-1] += row[1:]
         else: rows.append(row)
     return rows
+
+
+def rows_of(page):
+    return rows_in(text_of(page).splitlines())
 
 
 # ---- toxics
@@ -119,14 +123,14 @@ def of_kind(name, attribute, arm, limits, absent):
 def of_terminal(toxics):
     """The attributes as the program prints them after a refusal."""
     path = 'toxicap_program/src/scenario_remedies.rt'
-    code, greatest = text_of(f'crates/{path}'), constant(path, 'GREATEST')
-    rows = re.findall(r'\("(\w+)", "(\w+)", "([^"]+)", (\d+), ([\d_]+|GREATEST)\)', between(code, 'const ATTRIBUTES', '];'))
+    code, greatest = text_of(f'crates/{path}'), 10**9
+    rows = re.findall(r'\("(\w+)", "(\w+)", "([^"]+)", (\d+), ([\d_]+)\)', between(code, 'const ATTRIBUTES', '];'))
     fact(f'{path}: the types of toxics', {row[0] for row in rows} == set(toxics), rows)
     for name, attributes in toxics.items():
         found = [row[1:] for row in rows if row[0] == name]
         fact(f'{path}: the attributes of {name}', [row[0] for row in found] == [each['attribute'] for each in attributes], found)
         for attribute, (field, unit, least, most) in zip(attributes, found):
-            most = greatest if most == 'GREATEST' else int(most.replace('_', ''))
+            most = int(most.replace('_', ''))
             wanted = (int(attribute['least']), most_of(attribute, greatest))
             fact(f'{path}: {name}, {field}: range', (int(least), most) == wanted, (least, most))
             fact(f'{path}: {name}, {field}: unit', unit.split()[0] == unit_of(attribute), unit)
@@ -186,7 +190,7 @@ def of_tools(toxics):
     wanted = {name: [each['attribute'] for each in attributes] for name, attributes in toxics.items()}
     found = re.search(r'^ATTRIBUTES = (\{.*?\})$', text_of('tests/changed.py'), re.S | re.M)
     fact('tests/changed.py: the attributes of toxics', found and ast.literal_eval(found[1]) == wanted)
-    fact('examples/explain: a million', '\nMILLION = 1000000\n' in text_of('examples/explain'))
+    fact('examples/python/effects.py: a million', '\nMILLION = 1000000\n' in text_of('examples/python/effects.py'))
 
 
 def attribute_texts(row, names):
@@ -230,14 +234,21 @@ def of_range(what, attribute, text):
 
 FILES_OF = {'proxy': ['proxies'], 'toxic': ['toxics', 'toxic_types']}  # the files of crates/scenarios/src that read their fields
 FIELD_READ = re.compile(r'\b(?:required_\w+|optional_\w+|is_\w+_or_absent|field)\(\s*(?:value|toxic),\s*"(\w+)"')
-SECTIONS = {'docs/GUIDE.md': ('The toxics', 'Refusals'), 'docs/RULES.md': ('Scenario files',)}
+SECTIONS = {'docs/use/scenarios.md': ('The toxics',), 'docs/use/rules.md': ('Scenario files',)}
 OTHER_WORDS = {'upstream', 'downstream', 'true', 'false', 'null', 'serde_json', 'max', 'fin', 'close', 'refused'}
 
 
 def tables_under(page, head):
     """The tables of a page whose head is that pattern, each as its rows, these as their cells."""
     found = re.findall(rf'^{head}\n\|[-| ]+\|\n((?:\|.*\n)*)', text_of(page), re.M)
-    return [[[cell.strip() for cell in re.split(r'(?<!\\)\|', line)[1:-1]] for line in rows.splitlines()] for rows in found]
+    return [rows_in(rows.splitlines()) for rows in found]
+
+
+def section_of(page, head):
+    """The text of a section of a page, whose heading begins so."""
+    found = re.search(rf'^## {head}\b.*?(?=^## |\Z)', text_of(page), re.S | re.M)
+    fact(f'{page}: a section {head}', found)
+    return found[0] if found else ''
 
 
 def in_backquotes(text):
@@ -245,9 +256,9 @@ def in_backquotes(text):
 
 
 def of_fields():
-    """The tables of fields in docs/RULES.md, first of a proxy, then of a toxic."""
-    parts, page = json.loads(text_of(SCHEMA))['$defs'], 'docs/RULES.md'
-    tables = tables_under(page, r'\| Field \| What it is \|')
+    """The tables of fields in docs/use/rules.md, first of a proxy, then of a toxic."""
+    parts, page = json.loads(text_of(SCHEMA))['$defs'], 'docs/use/rules.md'
+    tables = tables_under(page, r'\| Field \| Value \|')
     fact(f'{page}: a table of fields for each of {list(FILES_OF)}', len(tables) == len(FILES_OF), len(tables))
     for (what, files), rows in zip(FILES_OF.items(), tables):
         known = set(parts[what]['properties'])
@@ -260,23 +271,31 @@ def of_fields():
 
 
 def of_attribute_names(page, toxics):
-    """The types in a page's table of attributes, and the attributes of each."""
-    tables = tables_under(page, r'\| Type \| Attributes\b.*')
+    """The types in a page's table of attributes, the attributes of each, and their defaults, the last one of four cells each."""
+    tables = tables_under(page, r'\| Type \| Attributes?\b.*')
     fact(f'{page}: one table of attributes', len(tables) == 1, len(tables))
-    rows = [(name, in_backquotes(row[1])) for table in tables for row in table for name in in_backquotes(row[0])]
+    rows = [(name, row[1:]) for table in tables for row in table for name in in_backquotes(row[0])]
     fact(f'{page}: the types in the table of attributes', sorted(name for name, _ in rows) == sorted(toxics), [name for name, _ in rows])
-    for name, shown in rows:
+    for name, cells in rows:
+        defaults, shown = cells[3::4], in_backquotes(' '.join(cells))
+        if cells[1:]: fact(f'{page}: the defaults of {name}', defaults == [each['default'] for each in toxics.get(name, [])], defaults)
         fact(f'{page}: the attributes of {name}', shown == [each['attribute'] for each in toxics.get(name, [])], shown)
 
 
-def of_rule_tables(toxics):
-    """The types in docs/RULES.md's table of what toxics do, and its frame classes."""
-    page = 'docs/RULES.md'
-    classes = between(text_of('crates/frame_headers/src/classes.rt'), "pub enum Class<'a> {", '\n}\n')
-    heads = {'Toxic | What it makes of a line': list(toxics), 'Class | Holds where': re.findall(r'^    (\w+)', classes, re.M)}
-    for head, wanted in heads.items():
-        shown = [row[0] for rows in tables_under(page, r'\| ' + head.replace('|', r'\|') + r' \|') for row in rows]
-        fact(f'{page}: the rows of {head}', sorted(shown) == sorted(wanted), shown)
+def of_rules(toxics):
+    """The items of docs/use/rules.md that say what each toxic does with its attributes, its frame classes, and where it says ranges to be."""
+    page = 'docs/use/rules.md'
+    items = re.findall(r'^- `(\w+)`: (.*(?:\n  .*)*)', section_of(page, 'Toxics'), re.M)
+    fact(f'{page}: an item for each toxic', sorted(name for name, _ in items) == sorted(toxics), [name for name, _ in items])
+    known = {each['attribute'] for attributes in toxics.values() for each in attributes}
+    for name, text in items:
+        shown = {word for code in in_backquotes(text) for word in re.findall(r'\w+', code)} & known
+        own = {each['attribute'] for each in toxics.get(name, [])}
+        fact(f'{page}: the attributes of {name}', shown == own, shown ^ own)
+    classes = re.findall(r'^    (\w+)', between(text_of('crates/frame_headers/src/classes.rt'), "pub enum Class<'a> {", '\n}\n'), re.M)
+    shown = [row[0] for rows in tables_under(page, r'\| Class \| [^|]* \|') for row in rows if row[0]]
+    fact(f'{page}: the frame classes, in order', shown == classes, shown)
+    fact(f'{page}: the ranges of attributes are in docs/use/scenarios.md', '[range](scenarios.md#the-toxics)' in section_of(page, 'Scenario files'))
 
 
 def of_field_words(page, toxics):
@@ -285,9 +304,7 @@ def of_field_words(page, toxics):
     known = OTHER_WORDS | {name for what in FILES_OF for name in parts[what]['properties']} | set(toxics)
     known |= {each['attribute'] for attributes in toxics.values() for each in attributes}
     for section in SECTIONS[page]:
-        found = re.search(rf'^## {section}\b.*?(?=^## |\Z)', text_of(page), re.S | re.M)
-        fact(f'{page}: a section {section}', found)
-        wrong = {word for word in in_backquotes(found[0] if found else '') if re.fullmatch(r'[A-Za-z]\w*', word)} - known
+        wrong = {word for word in in_backquotes(section_of(page, section)) if re.fullmatch(r'[A-Za-z]\w*', word)} - known
         fact(f'{page}, {section}: words that are no field', not wrong, wrong)
 
 
@@ -363,11 +380,11 @@ def of_help_refusals(refusals, help_text):
 
 def of_remedies(refusals):
     """What the program prints after a refusal: for each one something, and what the table has of it."""
-    names = ['remedies', 'capture_remedies', 'scenario_remedies', 'folder_remedies']
+    names = ['remedies', 'scenario_remedies']
     code = {name: text_of(f'crates/toxicap_program/src/{name}.rt') for name in names}
     texts = ' '.join(re.findall(r'"((?:[^"\\]|\\.)*)"', ' '.join(code.values()))).replace('\\"', '"')
     handled = {'ShortHeader', 'NotJson', 'NotArray', 'BadToxicity'}  # by a last arm, or by the text of a scenario
-    handled |= set(re.findall(r'RunFault::(\w+)', code['remedies'] + code['capture_remedies'])) - {'BadScenario'}
+    handled |= set(re.findall(r'RunFault::(\w+)', code['remedies'])) - {'BadScenario'}
     handled |= set(re.findall(r'Cause::(\w+)', code['scenario_remedies']))
     wanted = {each['name'] for each in refusals}
     fact('remedies: one for each refusal', wanted == handled, wanted ^ handled)
@@ -380,19 +397,19 @@ def of_remedies(refusals):
 
 
 def of_refusal_page(page, refusals):
-    """The rows of a page that name a refusal: in the first cell, or in the last one as `refused NUMBER NAME ..`."""
-    names, found = {each['name'] for each in refusals}, {}
-    for row in rows_of(page):
-        first, last = re.search(r'`(?:refused )?(?:(\d+) )?(\w+)[^`]*`', row[0]), re.search(r'`refused (\d+) (\w+)[^`]*`', row[-1])
-        for cell, rest in ((first, row[1:]), (last, row[:-1])):
-            if cell and cell[2] in names: found.setdefault(cell[2], []).append((cell[1], rest))
-    for each in refusals:
-        rows = found.get(each['name'], [])
-        fact(f'{page}: one row for {each["name"]}', len(rows) == 1, len(rows))
-        for number, rest in rows[:1]:
-            alone = [cell.strip('`') for cell in rest if re.fullmatch(r'`?\d+`?', cell)]
-            fact(f'{page}: the number of {each["name"]}', each['number'] in [number] + alone, [number] + alone)
-            of_numbers(f'{page}: {each["name"]}', each, next((cell for cell in rest if cell.strip('`') not in alone), ''))
+    """The rows of a page whose first cell is the line of a refusal, and its remedies: items that begin with the numbers of those that they are for."""
+    rows = [(re.fullmatch(r'`(\d+) (\w+)[^`]*`', row[0]), row[1:]) for row in rows_of(page)]
+    found = [(line[1], line[2]) for line, _ in rows if line]
+    fact(f'{page}: one row for each refusal, in order', found == [(each['number'], each['name']) for each in refusals], found)
+    told_of = {each['number']: each for each in refusals}
+    for line, rest in rows:
+        if line and line[1] in told_of: of_numbers(f'{page}: {line[2]}', told_of[line[1]], ' '.join(rest))
+    remedies = re.findall(r'^- \*\*(\d+(?:, \d+)*)\*\*: ((?:.*\n)(?:  .*\n)*)', text_of(page), re.M)
+    found = [number for numbers_of, _ in remedies for number in numbers_of.split(', ')]
+    fact(f'{page}: one remedy for each refusal', sorted(found) == sorted(told_of), found)
+    for numbers_of, text in remedies:
+        means = ' '.join(told_of[number]['means'] for number in numbers_of.split(', ') if number in told_of)
+        of_numbers(f'{page}: the remedy of {numbers_of}', {'means': means}, text)
 
 
 # ---- other limits
@@ -419,13 +436,13 @@ def of_options(source):
 
 # ---- names that the pages for developers tell
 
-PAGES = ('ARCHITECTURE', 'PROVED', 'EVIDENCE', 'CONTRIBUTING', 'TREE')
+PAGES = ('architecture', 'crates', 'proved', 'calls', 'evidence', 'contributing', 'limits')
 STANDING_FOR_OTHERS = {'file', 'test', 'name', 'Name', 'NAME', 'WRONG', 'MODULE', 'FUNCTION', 'run_name', 'NewCause', 'CRATE'}
 WITHOUT_EDIT = {'one_thread_does_all', 'always_out_of_memory', 'board_under_a_lock'}  # wrong bodies that cannot be an edit
 
 
 def paths():
-    """The files and folders of the tree, but for what is built."""
+    """The files and folders of the tree, except what is built."""
     found = (path.relative_to(TREE) for path in TREE.rglob('*'))
     return {str(path) for path in found if not {'.git', 'out', '__pycache__'} & set(path.parts)}
 
@@ -443,7 +460,7 @@ def of_names():
     def is_known(word):
         return word in words or word[-1] == '_' and any(each.startswith(word) for each in words)
     for page in PAGES:
-        text = re.sub(r'```.*?```', '', text_of(f'docs/{page}.md'), flags=re.S)
+        text = re.sub(r'```.*?```', '', text_of(f'docs/internals/{page}.md'), flags=re.S)
         missing = set()
         for name in set(re.findall(r'`([^`\s]+)`', text)):
             own = set(re.findall(r'\b[A-Za-z_]\w*', name)) - WITHOUT_EDIT
@@ -453,7 +470,7 @@ def of_names():
             if re.fullmatch(r'[a-z0-9]+(-[a-z0-9]+)+', name) and name not in names: missing.add(name)
             place = re.fullmatch(r'([a-z]\w*)::(\w+)', name)
             if place and (f'{place[1]}.rt', place[2]) not in functions: missing.add(name)
-        fact(f'docs/{page}.md: names that are nowhere in the tree', not missing, ', '.join(sorted(missing)))
+        fact(f'docs/internals/{page}.md: names that are nowhere in the tree', not missing, ', '.join(sorted(missing)))
 
 
 def main():
@@ -475,12 +492,11 @@ def main():
     of_errors(refusals)
     of_help_refusals(refusals, help_text)
     of_remedies(refusals)
-    of_refusal_page('docs/GUIDE.md', refusals)
-    for page in ('docs/GUIDE.md', 'docs/RULES.md'):
-        of_page(page, toxics)
-        of_attribute_names(page, toxics)
-        of_field_words(page, toxics)
-    of_rule_tables(toxics)
+    of_refusal_page('docs/use/refusals.md', refusals)
+    of_page('docs/use/scenarios.md', toxics)
+    of_attribute_names('docs/use/scenarios.md', toxics)
+    for page in SECTIONS: of_field_words(page, toxics)
+    of_rules(toxics)
     of_fields()
     of_schema_limits()
     of_options(source)

@@ -183,12 +183,16 @@ verdict "two captures" "$(
 )"
 
 # what stops it
+# hint WORD..: what helps after a refusal, as the program says it of these words in the folder of the project.
+hint() { (cd "$work/project" && TOXICAP_HINTS=1 "$program" "$@" < /dev/null 2>&1 | sed -n 's/^toxicap: /: /p') || true; }
 project
 echo '{}' > "$work/project/scenarios/redis-down.json"
-fails "a refused scenario" "captures/shop.pcap under scenarios/redis-down.json: refused 11 NotArray scenario 0"
+fails "a refused scenario" "captures/shop.pcap under scenarios/redis-down.json: refused 11 NotArray scenario 0$(
+    hint --capture captures/shop.pcap --scenario scenarios/redis-down.json)"
 project
 edit fixtures.json '/hosts/d'
-fails "an unknown host" "captures/shop.pcap under scenarios/slow-database.json: refused 15 UnknownHost scenario 0 proxy 0"
+fails "an unknown host" "captures/shop.pcap under scenarios/slow-database.json: refused 15 UnknownHost scenario 0 proxy 0$(
+    hint --capture captures/shop.pcap --scenario scenarios/slow-database.json)"
 project
 rm "$work/project/captures/shop.pcap"
 fails "no capture" "captures/shop.pcap: No such file or directory"
@@ -207,7 +211,7 @@ edit fixtures.json 's/"seed": 0/"seed": "7"/'
 fails "a seed that is a text" "fixtures.json: seed is no whole number from 0 to 2^64 - 1"
 project
 edit fixtures.json 's|\["captures/shop.pcap"\]|"captures/shop.pcap"|'
-fails "a capture that is no array" "fixtures.json: captures is no array of paths"
+fails "a capture that is no array" "fixtures.json: captures is no array of one path or more"
 project
 edit fixtures.json 's|scenarios/redis-down|captures/slow-database|'
 cp examples/redis-down.json "$work/project/captures/slow-database.json"
@@ -249,7 +253,7 @@ fixtures verify
 verdict "names with control characters" "$(
     fault 2
     silent output
-    told faults 'fixtures: captures/a\nadded host b\x1b[31m.pcap under scenarios/slow-database.json: refused 23 BadHost host 0'$'\n'
+    told faults 'fixtures: captures/a\nadded host b\x1b[31m.pcap under scenarios/slow-database.json: refused 23 BadHost host 0'"$(hint --host=$'k\e]=10.0.0.9')"$'\n'
 )"
 sed -i 's|"k\\u001b]": "10.0.0.9", ||' "$work/project/fixtures.json"
 fixtures verify
@@ -392,7 +396,7 @@ for words in "" "prune" "make fixtures.json more"; do
     verdict "words: $words" "$(fault 2; silent output; told faults $'usage: fixtures make|verify [FILE]\n')"
 done
 fixtures make fixtures
-verdict "a file without .json" "$(fault 2; silent output; told faults $'fixtures: fixtures does not end in .json, or has no name before it\n')"
+verdict "a file without .json" "$(fault 2; silent output; told faults $'fixtures: fixtures does not end in .json, or has no name before it: name a file that lists captures and scenarios\n')"
 
 # the hook, in a repository of its own
 # commit MESSAGE: commits what is staged; `status`, `output` and `faults` are as of `run`.

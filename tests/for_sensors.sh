@@ -56,11 +56,14 @@ sees --recording samples/shop.pcap "$here"
 verdict "the recording as standard input" "$(well; byte_difference "$work/whole" "$work/output")"
 head -c $((size - 1)) "$here" > "$work/torn"
 refuses "a torn output" "torn: $none: record $last: it is cut, or no TCP segment" "$work/torn"
-refuses "a recording as an output" "samples/shop.pcap: $none: it has another file header" samples/shop.pcap
-refuses "no capture" "examples/latency.json: this is no classic pcap" examples/latency.json
-refuses "an empty file" "standard input: this is no classic pcap" - < /dev/null
+refuses "a recording as an output" "samples/shop.pcap: $none: it has another file header; \`toxicap --out\` stores outputs, and --recording names a recording" samples/shop.pcap
+classic="this is no classic pcap: editcap -F pcap IN OUT writes one of most captures, also of pcapng and gzipped ones"
+printf d4c3b2a10200040000000000000000000000040071000000 | xxd -r -p > "$work/any"
+refuses "another link type" "any: this is pcap 2.4 of link type 113, and pcap 2.4 of Ethernet, 1, is wanted: record on an Ethernet interface" "$work/any"
+refuses "no capture" "examples/latency.json: $classic" examples/latency.json
+refuses "an empty file" "standard input: $classic" - < /dev/null
 refuses "no file" "absent: No such file or directory" "$work/absent"
-refuses "another recording" "samples/http-get.pcap: connection 0 of the output is another one here" --recording samples/http-get.pcap "$here"
+refuses "another recording" "samples/http-get.pcap: connection 0 of the output is another one here: name the capture that the output came from" --recording samples/http-get.pcap "$here"
 refuses "what it has made" "whole: $none: record 0: its headers are another's" "$work/whole"
 cat <(head -c 24 "$here") <(tail -c +95 "$here") > "$work/torn"
 refuses "an output without its first record" "torn: $none: record 0: 0 connections go on with it" "$work/torn"

@@ -1,6 +1,7 @@
 """The fixture of pytest and what it stands on, by runs of pytest in temporary folders over the package as it is laid out from the sources: what makes
 a rehearsal do nothing, and golden files, how they differ, which were written and which are stale."""
 import importlib.util
+import json
 import os
 import pathlib
 import subprocess
@@ -11,6 +12,7 @@ import unittest
 TOP = pathlib.Path(__file__).resolve().parents[1]
 sys.path[:0] = [str(TOP / "examples/python"), str(TOP / "tests/packages")]
 from explain import explain
+from in_process import Refusal, rehearse
 from laid_out import lay_out
 
 HTTP, SHOP = ((TOP / "samples" / name).read_bytes() for name in ("http-get.pcap", "shop.pcap"))
@@ -26,6 +28,10 @@ def web(*toxics, **fields):
 
 
 class Findings(unittest.TestCase):
+    def setUp(self):
+        self.folder = tempfile.TemporaryDirectory()
+        self.addCleanup(self.folder.cleanup)
+
     def finds(self, capture, scenario, *wanted, hosts=b""):
         self.assertEqual(list(map(str, explain(capture, [[], scenario], hosts, 7))), list(wanted))
 
@@ -44,7 +50,37 @@ class Findings(unittest.TestCase):
             f'{place} toxic 0 attributes: unknown field "a\\nb" (known are latency, jitter)',
             f'{place} toxic 1: unknown field timeout (it belongs in "attributes")',
             f'{place} toxic 1: unknown field enabled (only a proxy can be disabled; for a toxic write "toxicity": 0)',
+            f'{place} toxic 0 "latency_downstream": effect on 0 of 1 connection; on 1: its latency and jitter are 0',
         )
+
+    def test_toxics_without_effect(self):
+        """Warnings, in the words of examples/explain; none for toxics of a proxy that is not met."""
+        [silent] = rehearse(HTTP, [web({"type": "timeout"})])
+        for capture, wanted, *toxics in (
+            (HTTP, ["its toxicity is 0"], {"type": "timeout", "toxicity": 0}),
+            (silent, ["no bytes flow downstream (upstream up to 82 bytes)"], {"type": "slicer", "attributes": {"average_size": 9}}),
+            (HTTP, ["toxic 1 ({}) hides it"], {"type": "latency", "attributes": {"latency": 9}}, {"type": "timeout", "name": "{}"}),
+            (HTTP, ["its limit of 83 bytes is not reached (at most 82 came, downstream up to 216)", "it is not drawn (toxicity_ppm 1)"],
+             {"type": "limit_data", "stream": "upstream", "attributes": {"bytes": 83}}, {"type": "timeout", "toxicity_ppm": 1}),
+            (HTTP, [], {"type": "slicer", "attributes": {"average_size": 9}}, {"type": "slow_close", "attributes": {"delay": 9}}),
+        ):
+            scenario, path = [web(*toxics)], pathlib.Path(self.folder.name, "x")
+            found = explain(capture, [[], scenario], seed=7)
+            self.assertEqual([finding.text for finding in found], [f"effect on 0 of 1 connection; on 1: {text}" for text in wanted])
+            self.assertEqual([finding.is_warning for finding in found], [True] * len(wanted))
+            path.with_suffix(".pcap").write_bytes(capture if isinstance(capture, bytes) else capture.capture)
+            path.with_suffix(".json").write_text(json.dumps(scenario))
+            words = [TOP / "examples/explain", "--capture", path.with_suffix(".pcap"), "--seed", "7"]
+            told = subprocess.run([*words, *["--scenario", path.with_suffix(".json")] * 2], stdout=subprocess.PIPE, text=True).stdout
+            lines = [line.split("): ")[1] for line in told.splitlines() if "effect on 0" in line]
+            self.assertEqual(lines[len(lines) // 2 :], [finding.text for finding in found])
+        [finding] = explain(HTTP, [web({"type": "latency"}, upstream="10.77.0.2:81")])
+        self.assertFalse(finding.is_warning)
+
+    def test_refusals(self):
+        for scenario in b"{", b"[{}]":
+            with self.assertRaises(Refusal):
+                explain(HTTP, [scenario])
 
     def test_proxies_that_are_not_met(self):
         proxies = [{"name": "w e", "upstream": "10.77.0.2:8080"}, web(), {"name": "late", "upstream": "web:080"}, {"name": "x", "upstream": "web:81"}]
@@ -138,6 +174,15 @@ class Golden(unittest.TestCase):
         self.suite(port='rehearse(HTTP, [{"name": "web", "upstream": "10.77.0.2:8080", "x": 1}], golden="golden/port", strict=False)')
         self.run_pytest(0, "--toxicap-update")
         self.run_pytest(0)
+
+    def test_toxics_without_effect(self):
+        """They are warned of, at the test's line, and fail nothing."""
+        idle = '[{"name": "web", "upstream": "10.77.0.2:80", "toxics": [{"type": "latency"}]}]'
+        self.suite(idle=f"rehearse(HTTP, {idle}); rehearse(HTTP, {idle}, strict=False); rehearse(HTTP, LATE)")
+        told = self.run_pytest(0)
+        warning = 'toxicap: scenario 0 proxy 0 toxic 0 "latency_downstream": effect on 0 of 1 connection; on 1: its latency and jitter are 0'
+        self.assertRegex(told, rf"/test_suite.py:6: UserWarning: {warning}\n")
+        self.assertEqual(told.count("UserWarning"), 1)
 
     def test_arguments(self):
         """Paths count from the module's folder; hosts may be a dict, and the capture an output."""

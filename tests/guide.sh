@@ -15,8 +15,8 @@ top=${1:-$PWD} release=${1:-}
 [ -z "$release" ] || program=$release/toxicap
 unset TOXICAP
 tools=(go rustc cc tshark editcap tcprewrite jq git xxd gzip parallel gcc python3 jsonschema tcpdump dumpcap ethtool curl)
-pages=({,examples/}README.md docs/{TUTORIAL,GUIDE,TROUBLESHOOTING,FROM-TOXIPROXY,OTHER-CAPTURES,SUITES,CLOSED-LOOP,IN-PROCESS,SCALE,TRUST,SECRETS}.md
-    docs/SENSORS.md)
+mapfile -t pages < <(cd "$top" && printf '%s\n' {,examples/,docs/}README.md docs/use/*.md)
+[ -n "$release" ] || pages+=(docs/internals/trust.md)
 client=toxicap-client-$$ server=toxicap-server-$$ network=no webs=()
 
 clean_up() {
@@ -156,11 +156,11 @@ for page in "${pages[@]}"; do run_page "$page"; done
 if [ -z "$release" ]; then
     cd "$top" || exit 2
     # shellcheck disable=SC2016
-    sed -n '/^```rust$/,/^```$/p' docs/LIBRARY.md | sed '1d; $d' > "$work/shown"
+    sed -n '/^```rust$/,/^```$/p' docs/internals/contributing.md | sed '1d; $d' > "$work/shown"
     grep -v '^//!' crates/library_example/src/main.rt > "$work/source"
-    verdict "the program of docs/LIBRARY.md" "$(difference "$work/source" "$work/shown")"
+    verdict "the program of docs/internals/contributing.md" "$(difference "$work/source" "$work/shown")"
     # shellcheck disable=SC2016
-    verdict "its line in crates.txt" "$(grep -qxF "$(grep -oE 'library_example may_wait[^`]*' docs/LIBRARY.md)" crates.txt || echo '  it is another')"
+    verdict "its line in crates.txt" "$(grep -qxF "$(grep -oE 'library_example may_wait[^`]*' docs/internals/contributing.md)" crates.txt || echo '  it is another')"
 fi
 [ ! -s "$work/recorded" ] || verdict "the recordings are as they were" "$(sha256sum -c --quiet "$work/recorded" 2>&1)"
 close

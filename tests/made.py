@@ -1,17 +1,18 @@
 #!/usr/bin/env python3
-"""Makes what pages tell of the tree itself: the crates, what they stand on and their files; the limits; the public calls.
+"""Makes what pages tell of the tree itself: the crates, what they stand on and their definitions; the limits; the public calls.
 
 A page of docs/ has such a part between two lines, `<!-- made: NAME -->` and `<!-- end -->`. Without an argument each part is written anew. With
 `--check` nothing is written: a part that is not what would be written fails, and so does one that no page has. The larger sample as a dump, for
 tests in Rattle, is made, or compared, too; and so are the tables of what helps after a refusal, in code between `made: hints` and `end`. The last
 line is `N passed, M failed`. A further argument is the folder of another copy of the repository."""
-import json, pathlib, re, sys
+import itertools, json, pathlib, re, sys
 
 FOLDERS = [word for word in sys.argv[1:] if word != '--check']
 TREE = pathlib.Path(FOLDERS[0] if FOLDERS else pathlib.Path(__file__).resolve().parent.parent)
 MADE = re.compile(r'(<!-- made: (\w+) -->\n)(.*?)(<!-- end -->\n)', re.S)
 TESTS = ('part_tests', 'worker_tests', 'rehearsal_tests', 'worked_sessions', 'library_example')
 FILE_WIDTH, CRATE_WIDTH = 41, 60  # a longer text about a file or a crate is cut
+NEW_WORDS = 2  # a text about a file has more words than that beside its name
 PLAIN = set('a all an and any are as by bytes capture captures connection connections contracts each every file files for from greatest have hold '
             'holds how in is it its least made many may most number of one said scenario scenarios see seen segment segments so some that the their '
             'they to what which with'.split())  # words that say little beside a name
@@ -38,7 +39,7 @@ def libraries():
 
 
 def files(crate, folder, suffix):
-    """The files of a folder of a crate, but for those that only list the others."""
+    """The files of a folder of a crate, except those that only list the others."""
     found = (TREE / 'crates' / crate / folder).rglob('*' + suffix)
     return sorted(path for path in found if path.stem not in ('lib', 'Lib'))
 
@@ -95,7 +96,7 @@ def snake(name):
 # ---- crates and files
 
 def stands_on(crate):
-    """The libraries that a crate uses, but for what it has from a crate below it."""
+    """The libraries that a crate uses, except what it has from a crate below it."""
     used = uses()
 
     def below(each):
@@ -103,30 +104,23 @@ def stands_on(crate):
     return [name for name in used[crate] if not any(name in below(other) for other in used[crate])]
 
 
-def files_by_text(crate):
-    """The names of a crate's files by what is told of them: of files of specs/ what the name does not say. With one goes that of src/ of its name."""
-    src = [path.stem for path in files(crate, 'src', '.rt') if path.stem not in ('laws', 'rows')]
-    specs = [path for path in files(crate, 'specs', '.antt') if not re.search('worked rows', sentence(path), re.I) and not path.stem.endswith('Before')]
-    found, twins = {'': []}, {snake(path.stem) for path in specs} & set(src)
-    for path in specs:
-        name, text = path.stem, short(bare(sentence(path), path.stem), FILE_WIDTH)
-        told = text if new_words(f'{snake(name)}_{crate}', text) > 2 else ''
-        found.setdefault(told, []).append(name + '+' if snake(name) in twins else name)
-    found[''] += [name for name in src if name not in twins]
-    return found
+def told_files(crate):
+    """The files of specs/ of which a text says more than their names do, each with that text."""
+    for path in files(crate, 'specs', '.antt'):
+        if re.search('worked rows', sentence(path), re.I) or path.stem.endswith('Before'): continue
+        text = short(bare(sentence(path), path.stem), FILE_WIDTH)
+        if new_words(f'{snake(path.stem)}_{crate}', text) > NEW_WORDS: yield path.stem, text
 
 
 def made_crates():
-    """Each crate: what it is, what it stands on, and, but for tests, its files."""
+    """Each crate: what it is, what it stands on, and, except for tests, its files."""
     for crate in uses():
         src = TREE / 'crates' / crate / 'src'
         first = src / 'lib.rt' if (src / 'lib.rt').exists() else src / 'main.rt'
-        on = ', '.join(stands_on(crate))
-        yield f'### {crate}\n\n{short(sentence(first), CRATE_WIDTH)}{"; on " if on else ""}{on}.\n\n'
+        on = ', '.join(stands_on(crate)) if crate in product() else ''
+        yield f'- **{crate}**: {short(sentence(first), CRATE_WIDTH)}{"; on " if on else ""}{on}\n'
         if crate not in product(): continue
-        for text, names in files_by_text(crate).items():
-            if names: yield f'- {", ".join(names)}{": " if text else ""}{text}\n'
-        yield '\n'
+        for name, text in told_files(crate): yield f'  - {name}: {text}\n'
 
 
 # ---- limits
@@ -140,12 +134,13 @@ def definitions(crate):
 
 
 def limits(crate):
-    """Each constant of a crate that is a number, but for places and types in headers, and limits of definitions alone: file, name, value."""
+    """Each constant of a crate that is a number, except what headers fix and rooms, and limits that only definitions have: file, name, value."""
     told = set()
     for path in files(crate, 'src', '.rt'):
         for name, value in re.findall(r'^ *(?:pub(?:\(crate\))? )?const (\w+): (?:u\d+|usize) = (.*);$', read(path), re.M):
             told.add(name.lower())
-            if name.endswith(('_AT', '_TYPE')): continue  # where a field stands in a header, and the types of what follows
+            if name.endswith(('_ROOM', 'MAGIC', 'HEADER_LEN')): continue  # first sizes of texts, and what headers fix
+            if path.stem == 'layout' and not name.endswith('_LIMIT'): continue
             yield path.stem, name, value
     for name, (file, value) in definitions(crate).items():
         if re.search(r'_limit$|^most_', name) and name not in told and re.fullmatch(r'[\d ^]+', value): yield file, name, value
@@ -153,7 +148,7 @@ def limits(crate):
 
 def made_limits():
     """Each limit after its file, with its value."""
-    for crate in product():
+    for crate in libraries():
         found = {}
         for file, name, value in limits(crate): found.setdefault(file, []).append(f'{name} = {value}')
         for file, told in found.items(): yield f'- {crate}/{file}: {", ".join(told)}\n'
@@ -178,10 +173,18 @@ def clauses(code, head):
 
 
 def with_clauses(code, head):
-    """A function as it is told: its name, and in brackets the names of its clauses, or '-' where there are none."""
+    """A function with the names of its clauses, or '-' if it has none."""
     promised = clauses(code, head)
-    names = ', '.join(filter(None, promised)) if promised else '-'
-    return head[3] + (f' ({names})' if names else '')
+    return head[3], ', '.join(filter(None, promised)) if promised else '-'
+
+
+def joined(told):
+    """Functions as they are told: after each the names of its clauses in brackets, after several in a row that have the same ones once."""
+    parts = []
+    for names, group in itertools.groupby(told, key=lambda each: each[1]):
+        functions = [function for function, _ in group]
+        parts += [f'{" and ".join(functions)} ({names})'] if names else functions
+    return ', '.join(parts)
 
 
 def handed_on(crate):
@@ -193,14 +196,15 @@ def handed_on(crate):
 
 
 def calls(crate):
-    """The public calls of a crate, by their type, trait or module, with the names of their clauses."""
+    """The public calls of a crate, by their type, trait or module, with the names of their clauses, except methods that have only plain clauses."""
     names, rows = handed_on(crate), {}
     for path in files(crate, 'src', '.rt'):
         code = read(path)
         for block in re.finditer(r'^(pub trait|impl)(?:<.*?>)? (\w+)(?![^\n]* for ).*?^\}', code, re.M | re.S):
             if block[2] not in names: continue
             for head in FUNCTION.finditer(code, block.start(), block.end()):
-                if head[2] == 'pub ' or block[1] == 'pub trait': rows.setdefault(block[2], []).append(with_clauses(code, head))
+                told = with_clauses(code, head)
+                if told[1] and (head[2] == 'pub ' or block[1] == 'pub trait'): rows.setdefault(block[2], []).append(told)
         for head in FUNCTION.finditer(code):
             if head[1] or head[2] != 'pub ': continue
             if names.get(head[3]) == path.stem or path.stem == 'laws' or 'extern "C"' in head[0]:
@@ -211,7 +215,8 @@ def calls(crate):
 def made_calls():
     """The public calls of each library, a line for each type, trait or module."""
     for crate in libraries():
-        yield f'- {crate}\n' + ''.join(f'  - {of}: {", ".join(told)}\n' for of, told in calls(crate).items())
+        rows = ''.join(f'  - {of}: {joined(told)}\n' for of, told in calls(crate).items())
+        if rows: yield f'- {crate}\n{rows}'
 
 
 # ---- a sample
@@ -231,7 +236,9 @@ def made_dump():
 CODE_MADE = re.compile(r'((?:#|//) made: (\w+)[^\n]*\n)(.*?)((?:#|//) end\n)', re.S)
 IN_PROCESS = {  # what a remedy says of a command line, and what it says in a call
     'as --help': 'as toxicap --help',
-    '--host {host}=ADDR,': '{host}=ADDR among the hosts,',
+    '--host {host}=ADDR': '{host}=ADDR among the hosts',
+    'by --scenario': 'as a scenario',
+    'by --capture': 'as the capture',
     'a run takes 256: run it more than once': 'a call takes 256: call more than once',
     'fewer --workers,': 'fewer scenarios in a call,',
 }
@@ -271,7 +278,8 @@ def python_hints():
         yield line if len(line) <= 150 else f'    "{kind}": {{\n' + ''.join(f'        {each},\n' for each in told) + '    },\n'
     yield '}\nREMEDIES: Dict[int, List[str]] = {\n'
     for number, parts in remedies():
-        yield f'    {number}: {json.dumps(parts)},\n'
+        line = f'    {number}: {json.dumps(parts)},\n'
+        yield line if len(line) <= 150 else f'    {number}: [\n' + ''.join(f'        {json.dumps(part)},\n' for part in parts) + '    ],\n'
     yield '}\n'
 
 
@@ -328,12 +336,12 @@ def difference(now, wanted):
 
 def main():
     faults, shown = [], set()
-    for path in sorted((TREE / 'docs').glob('*.md')):
+    for path in sorted((TREE / 'docs').rglob('*.md')):
         text = read(path)
         for made in MADE.finditer(text):
             shown.add(made[2])
             wanted = part(made[2])
-            if made[3] != wanted: faults.append(f'docs/{path.name}, {made[2]}' + difference(made[3], wanted))
+            if made[3] != wanted: faults.append(f'{path.relative_to(TREE)}, {made[2]}' + difference(made[3], wanted))
         wanted = MADE.sub(lambda made: made[1] + part(made[2]) + made[4], text)
         if '--check' not in sys.argv and wanted != text: path.write_text(wanted, encoding='utf-8')
     wanted = made_dump()

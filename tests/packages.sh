@@ -1,7 +1,7 @@
 #!/usr/bin/env bash
 # The packages of a release, for those who put toxicap into their suites: the wheel for Python, the library by pkg-config and CMake, the modules for
 # Go and Rust, the image, the action for GitHub. Each is made twice, the same bytes, put into a fresh place from where this repository can't be seen,
-# and its own example is run there; each row of docs/INSTALL.md likewise. What a machine has no language or tool for is skipped. TOXICAP is a program
+# and its own example is run there; each row of docs/use/install.md likewise. What a machine has no language or tool for is skipped. TOXICAP is a program
 # with its object file beside it, LIBRARY the crate's static library and KIT the kit, as for release/parts.
 set -euo pipefail
 cd "$(dirname "$0")/.."
@@ -108,8 +108,8 @@ if can "the wheel" python3; then
     done
     passes "calls of the package" "$python" -I -B - "$away" < tests/packages/calls.py
     verdict "calls of the package, compared" "$(grep -vx '8 outputs' "$work/told" || true)"
-    block docs/PYTHON.md python 1 > "$away/example.py"
-    block docs/PYTHON.md text 1 > "$work/wanted"
+    block docs/use/python.md python 1 > "$away/example.py"
+    block docs/use/python.md text 1 > "$work/wanted"
     (cd "$away" && out_of_reach "$python" -B example.py > "$work/output" 2>&1) || true
     verdict "the package's example" "$(difference "$work/wanted" "$work/output")"
     ended=0
@@ -136,7 +136,7 @@ END
     if ! "$python" -c 'import pytest' 2> /dev/null; then
         skip "the plugin of pytest" "pytest is not here"
     else
-        block docs/PYTHON.md python 2 > "$away/test_page.py"
+        block docs/use/python.md python 2 > "$away/test_page.py"
         # tested STATUS LINE OPTION..: pytest ends so, and prints a line with this text.
         tested() {
             local ended=0
@@ -147,7 +147,7 @@ END
         verdict "pytest --toxicap-update" "$(tested 0 '3 passed' --toxicap-update; holds "$away/golden" cut-off.pcap cut-off.txt)"
         verdict "pytest with golden files" "$(tested 0 '3 passed')"
         if "$python" -c 'import hypothesis' 2> /dev/null; then
-            block docs/PYTHON.md python 3 > "$away/test_page.py"
+            block docs/use/python.md python 3 > "$away/test_page.py"
             verdict "the page's test by hypothesis" "$(tested 0 '1 passed')"
         else
             skip "the page's test by hypothesis" "hypothesis is not here"
@@ -262,11 +262,11 @@ END
     )"
     mkdir -p "$away/page-go/testdata"
     cp "$away/http-get.pcap" "$away/page-go/testdata"
-    block docs/GO.md go 1 > "$away/page-go/page_test.go"
+    block docs/use/go.md go 1 > "$away/page-go/page_test.go"
     cp "$away/golden-go/go.mod" "$away/page-go"
-    verdict "docs/GO.md, as gofmt lays it out" "$(gofmt -l "$away/page-go" 2>&1)"
+    verdict "docs/use/go.md, as gofmt lays it out" "$(gofmt -l "$away/page-go" 2>&1)"
     # shellcheck disable=SC2016
-    passes "docs/GO.md" bash -c 'cd "$0" && go vet . && TOXICAP_UPDATE=1 go test ./... && go test -count=1 .' "$away/page-go"
+    passes "docs/use/go.md" bash -c 'cd "$0" && go vet . && TOXICAP_UPDATE=1 go test ./... && go test -count=1 .' "$away/page-go"
     verdict "the module, vendored" "$(
         mkdir "$away/suite"
         cd "$away/suite"
@@ -303,6 +303,10 @@ if can "the crate for Rust" cargo rustc cc; then
         in_crate cargo test -q --offline > "$work/told" 2>&1 || cat "$work/told"
         grep -q '^test result: ok. 2 passed' "$work/told" || cat "$work/told"
     )"
+    mkdir "$away/toxicap-$version-rust/tests"
+    block docs/use/rust-and-c.md rust 1 > "$away/toxicap-$version-rust/tests/page.rs"
+    cp samples/http-get.pcap "$away/toxicap-$version-rust"
+    verdict "docs/use/rust-and-c.md" "$(in_crate cargo test -q --offline --test page > "$work/told" 2>&1 || cat "$work/told")"
     verdict "the crate's documentation" "$(quiet in_crate cargo doc -q --offline --no-deps)"
 fi
 
@@ -479,7 +483,7 @@ verdict "release/same of others" "$(
     done
 )"
 
-# docs/INSTALL.md, row by row
+# docs/use/install.md, row by row
 export DEBIAN_FRONTEND=noninteractive
 # prepared ROW: what a suite has already, in the folder of the row.
 prepared() {
@@ -523,7 +527,7 @@ while IFS='|' read -r _ what type check prints _; do
     what=$(sed 's/^ *//; s/ *$//' <<< "$what")
     # shellcheck disable=SC2016
     for cell in type check prints; do declare "$cell=$(sed 's/^ *`//; s/` *$//' <<< "${!cell}")"; done
-    row="docs/INSTALL.md, $what"
+    row="docs/use/install.md, $what"
     tools=()
     for tool in tar gzip pkg-config gcc go cargo docker podman; do [[ " $type $check " != *" $tool "* ]] || tools+=("$tool"); done
     [[ $what != Go ]] || tools+=(gcc)
@@ -557,9 +561,9 @@ while IFS='|' read -r _ what type check prints _; do
     for tool in docker podman; do
         [[ $type != *"$tool"* ]] || "$tool" rmi -f "toxicap:latest" "localhost/toxicap:$version" > /dev/null 2>&1 || true
     done
-done < docs/INSTALL.md
-verdict "rows of docs/INSTALL.md" "$([ $number -ge 10 ] || echo "  $number")"
-verdict "docs/INSTALL.md is about $version" "$(
-    grep -ohE '[-_@]v?[0-9]+\.[0-9]+\.[0-9]+' docs/INSTALL.md | tr -d '@v_-' | sort -u | grep -vx "$version" || true
+done < docs/use/install.md
+verdict "rows of docs/use/install.md" "$([ $number -ge 10 ] || echo "  $number")"
+verdict "docs/use/install.md is about $version" "$(
+    grep -ohE '[-_@]v?[0-9]+\.[0-9]+\.[0-9]+' docs/use/install.md | tr -d '@v_-' | sort -u | grep -vx "$version" || true
 )"
 close

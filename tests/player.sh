@@ -146,7 +146,15 @@ for language in "${languages[@]}"; do
         timeout 60 "$work/player-$language" samples/http-get.pcap samples/http-get.pcap > "$work/output" 2> "$work/faults" || status=$?
         fault 1
         silent output
-        told faults $'player: no output capture of toxicap: it has another file header\n'
+        if [ "$language" = python ]; then told faults $'player: no output capture of toxicap: it has another file header\n'; else
+            told faults 'player: the first output: no output capture of toxicap: it has another file header (the program or Rehearse makes one of a recording)'$'\n'
+        fi
+    )"
+    [ "$language" = python ] || verdict "$language, connections that are none" "$(
+        for numbers in x 0,7; do timeout 60 "$work/player-$language" -connection $numbers "$outputs"/http-late/000{0,1}.pcap 2>&1 || true; done > "$work/output"
+        told output 'player: -connection x: numbers of the report are wanted, such as 0,2, or all
+player: there is no connection 7: there are 1, numbered from 0
+'
     )"
     verdict "$language, swapped outputs" "$(
         status=0

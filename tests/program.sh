@@ -285,10 +285,10 @@ verdict "toxicap --help" "$(
     ! grep -n '.\{80\}' "$work/output"
 )"
 verdict "refusals and toxics in --help" "$(
-    grep -oE '`refused [0-9]+ [A-Za-z]+' docs/RULES.md | while read -r _ number name; do
+    tail -n +2 docs/refusals.tsv | cut -f 1,2 | while read -r number name; do
         grep -qE "^ +$number $name  " "$work/output" || echo "  no $number $name"
     done
-    sed -n '/^| Type | Attributes |/,/^$/p' docs/RULES.md | tail -n +3 | grep -oE '`[a-z_]+`' | tr -d '`' | while read -r word; do
+    tail -n +2 docs/toxics.tsv | cut -f 1,2 | grep -v '^any' | tr '\t' '\n' | while read -r word; do
         grep -qE "^ +([a-z_]+ +)?$word " "$work/output" || echo "  no $word"
     done
 )"

@@ -12,6 +12,6 @@ if can "Python" python3 perl; then
     tested() { timeout "$patience" python3 -B "tests/python/test_$1.py" "$2" > "$work/output" 2>&1 || { echo "  status $?"; cat "$work/output"; }; }
     verdict "Python: Hints" "$(tested hints Hints)"
     for class in Arguments Builders Data; do verdict "Python: $class" "$(tested calls $class)"; done
-    for class in Memory Parts; do verdict "Python: $class" "$(tested memory $class)"; done
+    for class in Memory Ways; do verdict "Python: $class" "$(tested memory $class)"; done
 fi
 close

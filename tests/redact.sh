@@ -290,13 +290,14 @@ redact "$work/others" --text nothing
 verdict "two tags, and no match" "$(fault 1; told faults $'redact: pattern 0: 0 matches\n'; byte_difference "$work/others" "$work/output")"
 
 # Files that are none.
+classic="standard input is no classic pcap: \`editcap -F pcap IN OUT\` writes one of most captures, also of pcapng and gzipped ones"
 head -c 1300 samples/http-get.pcap > "$work/torn"
-refused "a torn record" "$work/torn" "the last record is torn: \`editcap -F pcap IN OUT\` leaves it out" --text secret
+refused "a torn record" "$work/torn" "the last record of standard input is torn: \`editcap -F pcap IN OUT\` leaves it out" --text secret
 head -c 1330 samples/shop.pcap | tail -c 1306 > "$work/others"
-refused "no capture" "$work/others" "this is no classic pcap" --text secret
-refused "an empty file" /dev/null "this is no classic pcap" --text secret
+refused "no capture" "$work/others" "$classic" --text secret
+refused "an empty file" /dev/null "$classic" --text secret
 sed '1s/00000001$/00000071/; 1s/ 01000000$/ 71000000/' <(awk -f tests/capture.awk < /dev/null) | python3 tests/summed.py > "$work/others"
-refused "another link" "$work/others" "this capture is not of Ethernet" --text secret
+refused "another link" "$work/others" "standard input is of link type 113, and Ethernet, 1, is wanted: record on an Ethernet interface, tcpdump -i eth0, not any" --text secret
 redact /dev/null
 verdict "no pattern" "$(fault 2; silent output; grep -q 'error: there is no --text and no --regex$' "$work/faults" || cat "$work/faults")"
 redact /dev/null --text xx

@@ -178,7 +178,7 @@ writes "a torn report of two" 2 "report: torn.txt: the report of scenario 0 is t
 echo 'connections 4' > "$work/none"
 head -n 3 "$work/old" > "$work/torn"
 sed 1d "$work/old" > "$work/beheaded"
-writes "no report" 2 "report: none: line 1 is no report's: 'connections 4'" "$work/none"
+writes "no report" 2 "report: none: line 1 is no report's: 'connections 4'; toxicap prints reports, and --out stores them as .txt" "$work/none"
 writes "a report without its first line" 2 "report: beheaded: line 1 comes before a line of a scenario: 'connections 2 unopened 0'" "$work/beheaded"
 writes "a torn report" 2 "report: the report of scenario 0 is torn: it has 1 of 2 connections" --form table "$work/torn"
 writes "a diff of one report" 2 "report: a diff wants two files with equally many reports, or one file with two; these have 1" --form diff "$work/old"
@@ -186,7 +186,7 @@ writes "a proxy that the file has not" 2 "report: scenario 0 names.json has no p
     <(sed 's/proxy 1/proxy 9/' "$work/old")
 writes "too few scenario files" 2 "report: there is no --scenario for scenario 1" --form table --scenario "$work/names.json" "$work/new"
 writes "too few scenario files for a diff" 2 "report: there is no --scenario for scenario 1" --form diff --scenario "$work/names.json" "$work/both"
-writes "no scenario file" 2 "report: old is no scenario file" --form table --scenario "$work/old" "$work/old"
+writes "no scenario file" 2 "report: old is no scenario file: an array of proxies with names is wanted" --form table --scenario "$work/old" "$work/old"
 # Peers that the program does not write: a cell that a table calculates, one that takes a terminal over, numbers that are none.
 refused() {
     sed "3s|10.0.0.1:4000|$1|" "$work/old" > "$work/forged"
@@ -208,7 +208,7 @@ refused '010.0.0.1:4000'
 refused '10.0.0.256:4000'
 refused '10.0.0.1'
 printf 'scenario 00\n' > "$work/forged"
-writes "a number with zeros before it" 2 "report: forged: line 1 is no report's: 'scenario 00'" "$work/forged"
+writes "a number with zeros before it" 2 "report: forged: line 1 is no report's: 'scenario 00'; toxicap prints reports, and --out stores them as .txt" "$work/forged"
 evil=$work/$'old\e[31m\n'
 cp "$work/old" "$evil"
 cp "$work/names.json" "$evil.json"

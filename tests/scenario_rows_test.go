@@ -5,8 +5,13 @@ package main
 import (
 	"bytes"
 	"encoding/binary"
+	"fmt"
 	"math/rand"
+	"os"
+	"os/exec"
+	"path/filepath"
 	"reflect"
+	"regexp"
 	"runtime"
 	"strings"
 	"testing"
@@ -87,6 +92,7 @@ func TestExplain(t *testing.T) {
 	whole := read(t, "../../samples/http-get.pcap")
 	unopened := captured(t, func(frame []byte) { frame[47] &^= 2 })
 	newer := captured(t, func(frame []byte) { frame[12], frame[13] = 0x86, 0xdd })
+	idle := `scenario 1 proxy 0 toxic 0 "latency_downstream": effect on 0 of 1 connection; on 1: its latency and jitter are 0`
 	for _, row := range []struct {
 		capture          []byte
 		scenario, wanted string
@@ -111,13 +117,81 @@ scenario 1 proxy 0 toxic 1: unknown field timeout (it belongs in "attributes")`}
 			"only IPv4 is rehearsed: connect to an IPv4 address, such as 127.0.0.1"},
 	} {
 		lines, err := Explain(row.capture, [][]byte{[]byte("[]"), []byte(row.scenario)}, nil, 0)
-		if told := strings.Join(lines, "\n"); err != nil || told != row.wanted {
-			t.Errorf("%v:\n%s\nin place of\n%s", err, told, row.wanted)
+		wanted := row.wanted
+		if strings.Contains(wanted, "latencyy") {
+			wanted += "\n" + idle
+		}
+		if told := strings.Join(lines, "\n"); err != nil || told != wanted {
+			t.Errorf("%v:\n%s\nin place of\n%s", err, told, wanted)
 		}
 		outputs, err := Rehearse(row.capture, [][]byte{[]byte("[]"), []byte(row.scenario)}, nil, 0)
 		if told := strings.Join(outputs[1].Warnings(), "\n"); err != nil || told != row.wanted {
 			t.Error(err, told)
 		}
+	}
+}
+
+// Toxics without effect on the one connection that meets their proxy, with the reason.
+func TestIdleToxics(t *testing.T) {
+	whole := read(t, "../../samples/http-get.pcap")
+	unanswered := captured(t, func(frame []byte) {
+		if frame[47]&0x12 == 0x12 {
+			frame[47] = 0x10
+		}
+	})
+	for _, row := range []struct {
+		capture              []byte
+		toxics, name, wanted string
+	}{
+		{whole, `{"type": "slow_close"}`, "0 \"slow_close_downstream\"", "its delay is 0"},
+		{whole, `{"type": "limit_data", "stream": "upstream", "attributes": {"bytes": 82}}`, "0 \"limit_data_upstream\"",
+			"its limit of 82 bytes is not passed (at most 82 came, downstream up to 216): it closes only where more come"},
+		{whole, `{"type": "timeout", "name": "a b"}, {"type": "latency", "attributes": {"latency": 9}}`, "1 \"latency_downstream\"",
+			"toxic 0 (\"a b\") hides it"},
+		{whole, `{"type": "timeout", "toxicity_ppm": 1}`, "0 \"timeout_downstream\"", "it is not drawn (toxicity_ppm 1)"},
+		{unanswered, `{"type": "latency", "attributes": {"latency": 9}}`, "0 \"latency_downstream\"",
+			"no bytes flow downstream: the server's SYN ACK was not recorded"},
+	} {
+		scenario := `[{"name": "web", "upstream": "10.77.0.2:80", "toxics": [` + row.toxics + `]}]`
+		lines, err := Explain(row.capture, [][]byte{[]byte(scenario)}, nil, 0)
+		wanted := "scenario 0 proxy 0 toxic " + row.name + ": effect on 0 of 1 connection; on 1: " + row.wanted
+		if told := strings.Join(lines, "\n"); err != nil || told != wanted {
+			t.Errorf("%v:\n%s\nin place of\n%s", err, told, wanted)
+		}
+	}
+}
+
+// Explain tells of the same toxics as the tool explain, in the same words, under scenarios of any bytes.
+func TestEffects(t *testing.T) {
+	if _, err := exec.LookPath("python3"); err != nil {
+		t.Skip("python3 is not here")
+	}
+	toolLine := regexp.MustCompile(`(?m)^\S+: (proxy \d+ toxic \d+) \((\S+)\): (effect on 0 of [1-9].*)$`)
+	drawn, folder, told := rand.New(rand.NewSource(5)), t.TempDir(), 0
+	for round := 0; round < 24; round++ {
+		name, server := "http-get.pcap", "10.77.0.2:80"
+		if round%2 == 1 {
+			name, server = "shop.pcap", "10.77.0.3:6379"
+		}
+		data := make([]byte, 8+drawn.Intn(60))
+		drawn.Read(data)
+		scenario, path := FuzzScenario(data, server), filepath.Join(folder, "scenario.json")
+		if err := os.WriteFile(path, scenario, 0o666); err != nil {
+			t.Fatal(err)
+		}
+		printed, _ := exec.Command("../explain", "--capture", "../../samples/"+name, "--scenario", path, "--seed", "7").Output()
+		wanted := []string{}
+		for _, found := range toolLine.FindAllStringSubmatch(string(printed), -1) {
+			wanted = append(wanted, fmt.Sprintf("scenario 0 %s %q: %s", found[1], found[2], found[3]))
+		}
+		lines, err := Explain(read(t, "../../samples/"+name), [][]byte{scenario}, nil, 7)
+		if err != nil || strings.Join(lines, "\n") != strings.Join(wanted, "\n") {
+			t.Errorf("%s under %s: %v:\n%s\nin place of\n%s", name, scenario, err, strings.Join(lines, "\n"), printed)
+		}
+		told += len(wanted)
+	}
+	if told < 8 {
+		t.Errorf("%d toxics have no effect", told)
 	}
 }
 

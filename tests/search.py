@@ -54,7 +54,7 @@ class Search(unittest.TestCase):
             capture, hosts, texts = sample(row), row["hosts"].encode(), [json.dumps(scenario).encode() for scenario in row["scenarios"]]
             with self.subTest(row["row"]):
                 self.assertEqual(least_seed(capture, texts, hosts, finds(row), row["below"]), row["seed"])
-            if "smallest" in row:
+            if row.get("smallest"):
                 with self.subTest(row["row"], smallest=True):
                     text, seed = shrink(capture, texts[0], finds(row), hosts, row["below"])
                     self.assertEqual(json.loads(text), row["smallest"])
@@ -79,6 +79,8 @@ class Search(unittest.TestCase):
         raises("refused 19 AttributeRange scenario 0 proxy 0 toxic 0", shrink, GET, NO_RATE, holds)
         raises("the scenario does not fail under the seeds below 3: there is nothing to shrink; a larger `below` tries more",
                shrink, GET, b"[]", lambda outputs: False, b"", 3)
+        raises("the scenario `[]`, without toxics, fails too: there is nothing to shrink; make `fails` false for what was recorded",
+               shrink, GET, json.dumps(ROWS[0]["scenarios"][0]).encode(), holds)
         with self.assertRaisesRegex(TypeError, "^scenario: a path, bytes or a list of dicts is wanted"):
             shrink(GET, 5, holds)
         self.assertEqual(least_seed(GET, [b"[]"], b"", holds, 2**64), 0)

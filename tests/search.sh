@@ -8,7 +8,7 @@ cd "$(dirname "$0")/.."
 . tests/lib.sh
 kit=$work/kit copy=$work/copy
 release/library "$kit" > "$work/told" || { echo "$0: there is no library" >&2; exit 2; }
-export TOXICAP_LIBRARY=$kit/lib/libtoxicap.so.1 CGO_CFLAGS="-I$kit/include" CGO_LDFLAGS="-L$kit/lib"
+export TOXICAP=$program TOXICAP_LIBRARY=$kit/lib/libtoxicap.so.1 CGO_CFLAGS="-I$kit/include" CGO_LDFLAGS="-L$kit/lib"
 export GOFLAGS=-mod=mod GOPROXY=off GO111MODULE=on
 mkdir -p "$copy/tests"
 cp -r examples samples "$copy"
@@ -56,7 +56,7 @@ if can "Go" go gcc; then
     # go_test NAMES: tests of the copy, which go vets first.
     go_test() { (cd "$copy/examples/go" && go vet . && go test -count=1 -run "^($1)\$" .); }
     for names in 'TestRows' 'TestWrongUses|TestPanics' 'TestFeedPrefixes' 'TestHints|TestJSONFaults|TestKinds' 'TestScenario|TestReport|TestExplain' \
-        'TestFuzzScenario|TestRoom'; do
+        'TestEffects|TestIdleToxics' 'TestFuzzScenario|TestRoom'; do
         passes "Go: $names" go_test "$names"
     done
     passes "Go: the example" go_test Example

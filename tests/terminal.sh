@@ -13,7 +13,7 @@ three=(--capture samples/shop.pcap --scenario examples/latency.json --scenario e
 # said TEXT COMMAND: what is at fault with a command of the shell, which was to say this on a terminal; a typed end of input is all that it is given.
 said() {
     printf '%b' "$1" > "$work/wanted"
-    script -qec "$2" /dev/null < /dev/null | tr -d '\004\b' > "$work/found" || true
+    SHELL=$BASH script -qec "$2" /dev/null < /dev/null | tr -d '\004\b' > "$work/found" || true
     cmp "$work/wanted" "$work/found" > /dev/null || { echo "  wanted: $(cat -v "$work/wanted")"; echo "  found:  $(cat -v "$work/found")"; }
 }
 
@@ -30,6 +30,21 @@ verdict "standard input is none" "$(said "$short" "'$program' < /dev/null")"
 verdict "the version" "$(said 'toxicap 1.0.0\r\n' "'$program' -V")"
 verdict "the help" "$(said '' "'$program' --help > '$work/help'")"
 verdict "a fault of the command line" "$(said "error: invalid value '17' for '--workers <N>': 17 is not in 1..=16\r\n\r\nFor more information, try '--help'.\r\n" "'$program' --workers 17")"
+
+# tips TIP WORDS: on a terminal, or by TOXICAP_HINTS, this tip stands after what is told elsewhere of a fault of these words.
+tips() {
+    eval "'$program' $2" 2> "$work/faults" || true
+    verdict "a tip: $1" "$(
+        said "$(sed 's/$/\\r\\n/' "$work/faults" | tr -d '\n')tip: $1\r\n" "'$program' $2"
+        eval "TOXICAP_HINTS=1 '$program' $2" 2>&1 | diff <(cat "$work/faults"; echo "tip: $1") - || true
+    )"
+}
+ranges='--seed takes a whole number from 0 to 18446744073709551615, --workers from 1 to 16, --cut from 1 to 1048576'
+tips 'pass the capture with --capture x.pcap' x.pcap
+tips 'pass the scenario with --scenario cut.json' '--capture x.pcap cut.json'
+tips "$ranges" '--seed -1'
+tips "$ranges" '--seed x'
+tips "$ranges" '--seed 18446744073709551616'
 
 anew
 verdict "three scenarios are counted" "$(said "stored 1 of 3\rstored 2 of 3\rstored 3 of 3\r\n$shop" "'$program' ${three[*]} --out '$folder'")"
@@ -117,9 +132,13 @@ helps 'refused 5 RecordTooLong at 1' "torn.txt is a dump, and is damaged where r
 if can "a file that xxd makes of a dump" xxd; then
     verdict "a file that xxd makes of a dump" "$(cd "$here" && xxd -r -p torn.txt made.pcap 2>&1; byte_difference "$here/torn.pcap" "$here/made.pcap")"
 fi
-helps 'refused 55 BadDump at 16' 'dump.txt is a dump, by its first byte, and no hexadecimal digit is at line 2 column 7' '--capture dump.txt'
-helps 'refused 55 BadDump at 12' 'odd.txt is a dump, by its first byte, and its last byte has but one hexadecimal digit' '--capture odd.txt'
-helps 'refused 55 BadDump at 16' 'standard input is a dump, by its first byte, and byte 16 is no hexadecimal digit, or its last byte has but one' '< dump.txt'
+# a text that begins with such a digit is taken for a dump too
+taken='is read as a dump, by its first byte, and' give='give a pcap file, or a dump as xxd -p IN OUT makes it'
+printf 'a text\n' > "$here/text.txt"
+helps 'refused 55 BadDump at 2' "text.txt $taken no hexadecimal digit is at line 1 column 3: $give" '--capture text.txt'
+helps 'refused 55 BadDump at 16' "dump.txt $taken no hexadecimal digit is at line 2 column 7: $give" '--capture dump.txt'
+helps 'refused 55 BadDump at 12' "odd.txt $taken its last byte has but one hexadecimal digit: $give" '--capture odd.txt'
+helps 'refused 55 BadDump at 16' "standard input $taken byte 16 is no hexadecimal digit, or its last byte has but one: $give" '< dump.txt'
 
 # scene LINE REMEDY SCENARIO: the same of a scenario, s.json.
 scene() {
@@ -127,9 +146,16 @@ scene() {
     helps "$1" "s.json$2" '--capture shop.pcap --scenario s.json'
 }
 web='"name":"web","upstream":"10.77.0.2:80"'
+wanted='HOST:PORT is wanted, as 10.0.0.2:6379 or redis:6379: no URL, no IPv6 address, a port from 1 to 65535'
 scene 'refused 10 NotJson scenario 0' ' is no JSON from line 2 column 4 on' $'[\n  {name": "web"}\n]'
 scene 'refused 10 NotJson scenario 0' ' ends before its JSON does' '[{"name":'
 scene 'refused 10 NotJson scenario 0' ' ends before its JSON does' ''
+scene 'refused 10 NotJson scenario 0' ' has a number too large for a float at line 1 column 2: attributes are whole numbers, as --help shows' '[1e999]'
+scene 'refused 10 NotJson scenario 0' ' nests deeper than 127 levels at line 1 column 128: a scenario needs five' "$(printf '%0128d' 0 | tr 0 '[')"
+# a capture and a scenario, each in place of the other
+printf '[{%s}]' "$web" > "$here/web.json"
+helps 'refused 10 NotJson scenario 0' 'shop.pcap is a capture: give it by --capture' '--capture web.json --scenario shop.pcap'
+helps 'refused 2 BadMagic' 'web.json is JSON, by its first byte: give it by --scenario' '--capture web.json'
 scene 'refused 11 NotArray scenario 0' ' is an object, and an array of proxies is wanted, as --help shows' "{$web}"
 scene 'refused 12 BadMember scenario 0 proxy 0' ', proxy 0: it is a number, and an object is wanted' '[7]'
 scene 'refused 12 BadMember scenario 0 proxy 1' ', proxy 1 "db": its "upstream" is missing, and a text is wanted' "[{$web},{\"name\":\"db\",\"upstream\":null}]"
@@ -138,8 +164,10 @@ scene 'refused 12 BadMember scenario 0 proxy 0' ', proxy 0: its "name" is empty,
 scene 'refused 12 BadMember scenario 0 proxy 0 toxic 1' ', proxy 0 "web", toxic 1: its "attributes" is an array, and an object is wanted' \
     "[{$web,\"toxics\":[{\"type\":\"timeout\"},{\"type\":\"latency\",\"attributes\":[]}]}]"
 scene 'refused 13 DuplicateProxy scenario 0 proxy 2' ', proxy 2 "web": proxy 1 has the name: rename one of them' "[{\"name\":\"db\",\"upstream\":\"10.0.0.1:1\"},{$web},{$web}]"
-scene 'refused 14 BadUpstream scenario 0 proxy 0' ', proxy 0 "web": its "upstream" is "10.77.0.2", and HOST:PORT is wanted, as 10.0.0.2:6379' '[{"name":"web","upstream":"10.77.0.2"}]'
-scene 'refused 15 UnknownHost scenario 0 proxy 0' ', proxy 0 "web": the address of its host is wanted: --host shop=ADDR, as the capture has it' '[{"name":"web","upstream":"shop:80"}]'
+scene 'refused 14 BadUpstream scenario 0 proxy 0' ', proxy 0 "web": its "upstream" is "10.77.0.2", and '"$wanted" '[{"name":"web","upstream":"10.77.0.2"}]'
+scene 'refused 14 BadUpstream scenario 0 proxy 0' ', proxy 0 "web": its "upstream" is "http://10.77.0.2:80", and '"$wanted" '[{"name":"web","upstream":"http://10.77.0.2:80"}]'
+scene 'refused 14 BadUpstream scenario 0 proxy 0' ', proxy 0 "web": its "upstream" is "[::1]:80", and '"$wanted" '[{"name":"web","upstream":"[::1]:80"}]'
+scene 'refused 15 UnknownHost scenario 0 proxy 0' ', proxy 0 "web": names are not looked up: give the address that the capture has by --host shop=ADDR' '[{"name":"web","upstream":"shop:80"}]'
 scene 'refused 16 UnknownToxic scenario 0 proxy 0 toxic 0' \
     ', proxy 0 "web", toxic 0 "slow": its "type" is "latncy", and latency, bandwidth, slow_close, timeout, reset_peer, slicer or limit_data is wanted' \
     "[{$web,\"toxics\":[{\"name\":\"slow\",\"type\":\"latncy\"}]}]"
@@ -157,6 +185,9 @@ limits '"type":"latency","attributes":{"latency":1.5}' '"latency" is 1.5, and a 
 limits '"type":"latency","attributes":{"latency":7,"jitter":1000000001}' '"jitter" is 1000000001, and a whole number of milliseconds from 0 to 1000000000'
 limits '"type":"bandwidth","rate":7' '"rate" is missing, and a whole number of KB a second from 1 to 1000000'
 limits '"type":"bandwidth","attributes":{"rate":0}' '"rate" is 0, and a whole number of KB a second from 1 to 1000000'
+scene 'refused 19 AttributeRange scenario 0 proxy 0 toxic 0' \
+    ', proxy 0 "web", toxic 0: its "rate" is missing, and a whole number of KB a second from 1 to 1000000 is wanted; "rat" is ignored: bandwidth has "rate"' \
+    "[{$web,\"toxics\":[{\"type\":\"bandwidth\",\"attributes\":{\"rat\":7}}]}]"
 limits '"type":"slow_close","attributes":{"delay":"7"}' '"delay" is "7", and a whole number of milliseconds from 0 to 1000000000'
 limits '"type":"timeout","attributes":{"timeout":-1}' '"timeout" is -1, and a whole number of milliseconds from 0 to 1000000000'
 limits '"type":"reset_peer","attributes":{"timeout":true}' '"timeout" is true, and a whole number of milliseconds from 0 to 1000000000'
@@ -169,24 +200,29 @@ proxies=$(for ((p = 0; p < 64; p++)); do printf '{"name":"p%s","upstream":"10.0.
 scene 'refused 20 TooMany scenario 0 proxy 64' ', proxy 64 "web": it is the 65th: a scenario has at most 64 proxies' "[$proxies{$web}]"
 toxics=$(for ((t = 0; t < 8; t++)); do printf '{"type":"timeout","name":"t%s"},' $t; done)
 scene 'refused 20 TooMany scenario 0 proxy 0 toxic 8' ', proxy 0 "web", toxic 8: it is the ninth of its stream: a stream has at most 8 toxics' "[{$web,\"toxics\":[$toxics{\"type\":\"timeout\"}]}]"
-scene 'refused 21 BadToxicity scenario 0 proxy 0 toxic 0' ', proxy 0 "web", toxic 0: its "toxicity" is 0.5, and 0 or 1 is wanted, or "toxicity_ppm", up to 1000000' \
+scene 'refused 21 BadToxicity scenario 0 proxy 0 toxic 0' ', proxy 0 "web", toxic 0: its "toxicity" is 0.5, and 0 or 1 is wanted: write "toxicity_ppm": 500000 in its place' \
     "[{$web,\"toxics\":[{\"type\":\"timeout\",\"toxicity\":0.5}]}]"
+scene 'refused 21 BadToxicity scenario 0 proxy 0 toxic 0' ', proxy 0 "web", toxic 0: its "toxicity" is 2, and 0 or 1 is wanted, or "toxicity_ppm", up to 1000000' \
+    "[{$web,\"toxics\":[{\"type\":\"timeout\",\"toxicity\":2}]}]"
 scene 'refused 21 BadToxicity scenario 0 proxy 0 toxic 0' ', proxy 0 "web", toxic 0: its "toxicity_ppm" is 1000001, and a whole number from 0 to 1000000 is wanted' \
     "[{$web,\"toxics\":[{\"type\":\"timeout\",\"toxicity\":0,\"toxicity_ppm\":1000001}]}]"
 
 # a name that would turn the terminal red, one that is long, and the second of two scenarios
-scene 'refused 14 BadUpstream scenario 0 proxy 0' ', proxy 0 "\\u{1b}[31mred\\n": its "upstream" is "\\u{202e}", and HOST:PORT is wanted, as 10.0.0.2:6379' \
+scene 'refused 14 BadUpstream scenario 0 proxy 0' ', proxy 0 "\\u{1b}[31mred\\n": its "upstream" is "\\u{202e}", and '"$wanted" \
     '[{"name":"\u001b[31mred\n","upstream":"\u202e"}]'
 printf '[{"name":"%080d","upstream":"x"}]' 0 > "$here/long.json"
 printf '[]' > "$here/bare.json"
-printf '[{%s}]' "$web" > "$here/web.json"
-helps 'refused 14 BadUpstream scenario 1 proxy 0' "long.json, proxy 0 \"$(printf %060d 0)..\": its \"upstream\" is \"x\", and HOST:PORT is wanted, as 10.0.0.2:6379" \
+helps 'refused 14 BadUpstream scenario 1 proxy 0' "long.json, proxy 0 \"$(printf %060d 0)..\": its \"upstream\" is \"x\", and $wanted" \
     '--capture shop.pcap --scenario bare.json --scenario long.json'
 mkfifo "$here/pipe"
 verdict "a pipe is not read again" "$(
-    said 'refused 11 NotArray scenario 0\r\ntoxicap: pipe is the scenario, and cannot be read again\r\n' \
+    said 'refused 11 NotArray scenario 0\r\ntoxicap: pipe is read once, and what is wrong is not known: keep the scenario in a file\r\n' \
         "cd '$here' && { printf '{}' > pipe & } && '$program' --capture shop.pcap --scenario pipe"
 )"
+# a scenario from standard input, which is then the capture too; and one that is too long
+helps 'refused 1 ShortHeader' 'standard input was read as a scenario, and is read once: --capture names a file' '--scenario /dev/stdin < <(cat web.json)'
+helps 'refused 6 CaptureTooLong' '/dev/stdin has more than 2^30 bytes: it is no scenario' \
+    "--capture shop.pcap --scenario /dev/stdin < <(head -c $((2 ** 30 + 1)) /dev/zero)"
 many=$(printf -- ' --scenario bare.json%.0s' {1..257})
 helps 'refused 22 TooManyScenarios' '257 scenarios were named, and a run takes 256: run it more than once' "--capture shop.pcap$many"
 helps 'refused 23 BadHost host 1' '--host web: NAME=ADDR with an IPv4 address is wanted, as redis=10.0.0.9' '--host a=10.0.0.9 --host web'
@@ -254,7 +290,10 @@ capture nano.pcap 4d3cb2a1 "$start" 01000000
 capture short.pcap d4c3b2a1 "$start" 01000000 01000000 00000000 02000000 02000000 abcd
 sums '4 connections, 0 with a proxy; times in microseconds' '--capture shop.pcap'
 sums '4 connections, 1 with a proxy; times in microseconds' '--scenario web.json < shop.pcap'
-sums 'scenario 0: 4 connections, 0 with a proxy; times in microseconds' '--capture shop.pcap --scenario bare.json --scenario web.json'
+servers='servers 10.77.0.3:6379 10.77.0.2:80'
+sums "scenario 0: 4 connections, 0 with a proxy; $servers; times in microseconds" '--capture shop.pcap --scenario bare.json --scenario web.json'
+sums "scenario 0: 4 connections, 1 with a proxy; scenario 1: 0 with a proxy; scenario 3: 0 with a proxy; $servers; times in microseconds" \
+    '--capture shop.pcap --scenario web.json --scenario bare.json --scenario web.json --scenario bare.json'
 sums '1 connection, 0 with a proxy; times in microseconds' '--capture whole.pcap'
 sums '1 connection, 0 with a proxy; 1250 bytes lost; times in microseconds' '--capture hole.pcap'
 sums '1 connection, 0 with a proxy; 1 byte lost; times in microseconds' '--capture byte.pcap'
@@ -262,8 +301,16 @@ sums '0 connections, 0 with a proxy; 3 segments without an opening; times in mic
 sums '0 connections, 0 with a proxy; 1 segment without an opening; times in microseconds' '--capture alone.pcap'
 sums '0 connections, 0 with a proxy; times in nanoseconds' '--capture nano.pcap'
 sums '0 connections, 0 with a proxy; 1 of 1 records short; times in microseconds' '--capture short.pcap'
-sums '0 connections, 0 with a proxy; 1 of 1 records short' "< '$PWD/crates/toxicap_program/stdin'"
-mkdir "$here/stored"
+sums '0 connections, 0 with a proxy; 7 bytes of a record that is cut off; 1 of 1 records short' "< '$PWD/crates/toxicap_program/stdin'"
+head -c -1 "$here/whole.pcap" > "$here/cut.pcap"
+sums '1 connection, 0 with a proxy; 1319 bytes of a record that is cut off; times in microseconds' '--capture cut.pcap'
+printf '[{%s,"toxics":[{"type":"latency","attributes":{"delay":7}}]}]' "$web" > "$here/ignored.json"
+sums '4 connections, 1 with a proxy; times in microseconds; ignored.json: "delay" is ignored: latency has "latency" "jitter"' '--capture shop.pcap --scenario ignored.json'
+mkdir "$here/stored" "$here/both"
+both="toxicap: scenario 0: 4 connections, 1 with a proxy; scenario 1: 0 with a proxy; $servers; times in microseconds"
+verdict "both of two stored scenarios are summed up" "$(
+    said "stored 1 of 2\rstored 2 of 2\r\n$both\r\n" "cd '$here' && '$program' --capture shop.pcap --scenario web.json --scenario bare.json --out both"
+)"
 sums '1 connection, 0 with a proxy; 1250 bytes lost; times in microseconds' '--capture hole.pcap --out stored'
 verdict "the report stays as it is" "$(
     said "$("$program" --capture "$here/whole.pcap" | sed 's/$/\\r\\n/' | tr -d '\n')toxicap: 1 connection, 0 with a proxy; times in microseconds\r\n" \

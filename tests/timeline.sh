@@ -1,5 +1,5 @@
 #!/usr/bin/env bash
-# examples/timeline: its bytes, ends and marks are those of the stored reports, over the examples and the rows; docs/delivered.svg is what it makes;
+# examples/timeline: its bytes, ends and marks are those of the stored reports, over the examples and the rows; docs/use/delivered.svg is what it makes;
 # each capture that the program did not write is refused in a line. It wants python3.
 set -euo pipefail
 cd "$(dirname "$0")/.."
@@ -72,7 +72,7 @@ mkdir "$work"/{recorded,mobile-line}
 run /dev/null --capture samples/shop.pcap --out "$work/recorded"
 run /dev/null --capture samples/shop.pcap --scenario examples/mobile-line.json --seed 7 --out "$work/mobile-line"
 (cd "$work" && "$timeline" --connection 1 recorded/0000.pcap mobile-line/0000.pcap) > "$work/delivered.svg"
-verdict "docs/delivered.svg" "$(well; byte_difference docs/delivered.svg "$work/delivered.svg")"
+verdict "docs/use/delivered.svg" "$(well; byte_difference docs/use/delivered.svg "$work/delivered.svg")"
 "$timeline" --connection 1 "$work/mobile-line/0000.pcap" > "$work/one.svg"
 awk '$1 == "scenario" || $1 == 1' examples/mobile-line.txt > "$work/report"
 verdict "one connection" "$(python3 "$judge" "$work/one.svg" "$work/report" "$work/mobile-line/0000.pcap")"

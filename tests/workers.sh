@@ -18,7 +18,7 @@ anew() {
 # least ONE OTHER: the lesser of two numbers.
 least() { echo $(($1 < $2 ? $1 : $2)); }
 
-# wanted BLOCKS RANGES CONNECTIONS SCENARIOS printed|stored WORKERS: how many threads each phase is to make, by docs/ARCHITECTURE.md (the way of the
+# wanted BLOCKS RANGES CONNECTIONS SCENARIOS printed|stored WORKERS: how many threads each phase is to make, by docs/internals/architecture.md (the way of the
 # program). One of the workers is the thread that is there, and there are no more workers than jobs. The phases and their jobs: where files are
 # stored, a named file of several blocks is loaded; the table is made, by ranges; then the lines of all printed reports, or what is recorded, by
 # connections. Where files are stored, drafts are made of as many scenarios as twice the workers, or as are left, each a job; of a last one by

@@ -224,7 +224,7 @@ func TestALimit(t *testing.T) {
 			t.Error(err)
 		}
 	})
-	if _, err := toxicap.NewDialer(outputs[0], outputs[0], 9); err == nil || err.Error() != "there is no connection 9" {
+	if _, err := toxicap.NewDialer(outputs[0], outputs[0], 9); err == nil || err.Error() != "there is no connection 9: there are 4, numbered from 0" {
 		t.Error(err)
 	}
 }

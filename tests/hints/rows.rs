@@ -63,8 +63,8 @@ fn calls() {
 /// Texts that are no JSON, and the column from which on each is none; 0 for those that end too early. So the program tells them on a terminal.
 #[test]
 fn no_json() {
-    let (deep, cut) = ("[".repeat(128), "[".repeat(127));
-    let rows: [(&[u8], usize); 48] = [
+    let cut = "[".repeat(127);
+    let rows: [(&[u8], usize); 44] = [
         (b"[1,]", 4),
         (b"[1 2]", 4),
         (b"[1:2]", 3),
@@ -93,13 +93,9 @@ fn no_json() {
         (b"[\"\\u12\"]", 2),
         (b"[\"\\ud800\"]", 2),
         (b"[\"\\udc00\", 3]", 2),
-        (b"[1e999]", 7),
-        (b"[1e999 , 2]", 10),
-        (b"1e999", 5),
         (b"[] []", 4),
         (b"[x \"\xff\"]", 5),
         (b"\xef\xbb\xbf[]", 1),
-        (deep.as_bytes(), 128),
         (cut.as_bytes(), 0),
         (b"", 0),
         (b" ", 0),
@@ -122,6 +118,24 @@ fn no_json() {
         let refusal = rehearse(b"", &[text], "", 0).unwrap_err();
         assert_eq!(refusal.hint, hint, "{}", text.escape_ascii());
     }
+}
+
+/// Numbers that are too large, before a column, and a text that nests too deep. So the program tells them on a terminal.
+#[test]
+fn too_large() {
+    let of_numbers = ": attributes are whole numbers, as toxicap --help shows";
+    let rows = [("[1e999]", 7), ("[1e999 , 2]", 10), ("1e999", 5)];
+    for (text, column) in rows {
+        let fault = "has a number too large for a float at line 1 column";
+        let refusal = rehearse(b"", &[text.as_bytes()], "", 0).unwrap_err();
+        assert_eq!(
+            refusal.hint,
+            format!("scenario 0 {fault} {column}{of_numbers}")
+        );
+    }
+    let refusal = rehearse(b"", &["[".repeat(128).as_bytes()], "", 0).unwrap_err();
+    let deep = "nests deeper than 127 levels at line 1 column 128: a scenario needs five";
+    assert_eq!(refusal.hint, format!("scenario 0 {deep}"));
 }
 
 /// Values as the program writes them.

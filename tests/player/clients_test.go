@@ -191,9 +191,9 @@ func TestFaults(t *testing.T) {
 		output, untouched []byte
 		connection        int
 		wanted            string
-	}{{late[0], late[1], 1, "there is no connection 1"}, {late[0], late[1], -1, "there is no connection -1"},
-		{late[0], sessions[0], 0, "the outputs are not of one capture"},
-		{late[0], nil, 0, "no output capture of toxicap: it has another file header"}} {
+	}{{late[0], late[1], 1, "there is no connection 1: there are 1, numbered from 0"}, {late[0], late[1], -1, "there is no connection -1: there are 1, numbered from 0"},
+		{late[0], sessions[0], 0, "the outputs are not of one capture (connections: 1 and 4)"},
+		{late[0], nil, 0, "the untouched output: no output capture of toxicap: it has another file header (rehearse the recording under [], too)"}} {
 		if _, err := toxicap.NewPlayer(fault.output, fault.untouched, fault.connection); err == nil || err.Error() != fault.wanted {
 			t.Errorf("wanted: %s, found: %v", fault.wanted, err)
 		}

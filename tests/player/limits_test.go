@@ -110,6 +110,38 @@ func TestAClientThatGivesUp(t *testing.T) {
 	}, "")
 }
 
+// A client that has come counts, and so does what it sent, even if Close is called before Serve has taken it or has begun.
+func TestACloseRightAfterAClient(t *testing.T) {
+	const workers, rounds = 8, 100
+	both, lost := outputs(t, "sessions-untouched"), make(chan string, workers*rounds)
+	var all sync.WaitGroup
+	for worker := 0; worker < workers; worker++ {
+		all.Add(1)
+		go func() {
+			defer all.Done()
+			for round := 0; round < rounds; round++ {
+				player, err := toxicap.NewPlayer(both[0], both[1], 1)
+				if err != nil {
+					t.Error(err)
+					return
+				}
+				go player.Serve()
+				client := connect(t, player)
+				fmt.Fprint(client, "one?")
+				client.Close()
+				err = player.Close()
+				if received := player.Received(); err != nil || string(bytes.Join(received, nil)) != "one?" {
+					lost <- fmt.Sprintf("%v, %q", err, received)
+				}
+			}
+		}()
+	}
+	all.Wait()
+	if len(lost) > 0 {
+		t.Errorf("%d of %d clients are lost: %s", len(lost), workers*rounds, <-lost)
+	}
+}
+
 func TestSeveralClients(t *testing.T) {
 	both := outputs(t, "sessions-untouched")
 	player, err := toxicap.NewPlayer(both[0], both[1])

@@ -43,16 +43,14 @@ def said_on_a_terminal(capture, scenarios, hosts):
             words += ["--host", host]
         terminal, ends = pty.openpty()
         program = subprocess.Popen([os.environ["TOXICAP"], *words], cwd=folder, stdin=subprocess.DEVNULL, stdout=subprocess.DEVNULL, stderr=ends)
-        os.close(ends)
-        said = bytearray()
-        try:
-            while True:
-                said += os.read(terminal, 65536)
-        except OSError:  # the terminal has no other end any more
-            pass
-        os.close(terminal)
         program.wait()
-        return said.decode().replace("\r\n", "\n")
+        os.write(ends, b"\0")  # the program's lines are before it
+        said = bytearray()
+        while not said.endswith(b"\0"):
+            said += os.read(terminal, 65536)
+        os.close(ends)
+        os.close(terminal)
+        return said[:-1].decode().replace("\r\n", "\n")
 
 
 class Hints(unittest.TestCase):

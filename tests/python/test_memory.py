@@ -1,11 +1,17 @@
-"""What a call takes: memory for outputs of many scenarios, against their bytes, and the same bytes by several calls as by one. CAPTURE of the
-environment is a large capture of one connection to 10.77.0.2:80, whose client sends all."""
+"""What a call takes: memory for outputs against their bytes, by the program beside the module, and without it by several calls of the library; the same
+bytes and refusals in each way. CAPTURE of the environment is a large capture of one connection to 10.77.0.2:80, whose client sends all; TOXICAP is the
+program."""
+import hashlib
 import json
 import os
 import pathlib
+import shutil
+import struct
 import subprocess
 import sys
+import tempfile
 import unittest
+from unittest import mock
 
 TOP = pathlib.Path(__file__).resolve().parents[2]
 sys.path.insert(0, str(TOP / "examples/python"))
@@ -14,59 +20,135 @@ from builders import proxy, toxic
 from in_process import Refusal, rehearse
 
 GROWTH = """
-import json, resource, sys
+import hashlib, json, resource, sys
 from in_process import rehearse
-capture, scenarios = open(sys.argv[1], "rb").read(), json.loads(sys.argv[2])
-rehearse(capture[:65536], [[]])
+path, scenarios, is_path = sys.argv[1], json.loads(sys.argv[2]), sys.argv[3] == "path"
+capture = path if is_path else open(path, "rb").read()
+rehearse(open(path, "rb").read(65536), [[]])
 def peak(): return resource.getrusage(resource.RUSAGE_SELF).ru_maxrss * 1024
 before = peak()
 outputs = rehearse(capture, scenarios)
-print(peak() - before, sum(map(len, sum(outputs, ()))))
+grown, files = peak() - before, [file for output in outputs for file in output]
+print(grown, sum(map(len, files)), *(hashlib.blake2b(file).hexdigest() for file in files))
 """
 SHOP = (TOP / "samples/shop.pcap").read_bytes()
+DRAWN = toxic("slicer", average_size=40, size_variation=30, delay=2000, toxicity=0.5), toxic("latency", latency=80, jitter=70)
 
 
-def growth(scenarios):
-    """By how many bytes a process grows for the outputs of the large capture, and how many they have."""
-    words = [sys.executable, "-B", "-c", GROWTH, os.environ["CAPTURE"], json.dumps(scenarios)]
-    folder = str(TOP / "examples/python")
-    return map(int, subprocess.run(words, env={**os.environ, "PYTHONPATH": folder}, stdout=subprocess.PIPE, check=True).stdout.split())
+def record(number, sender, receiver, flags, sequence, acknowledged, payload=b""):
+    """A record of a segment between peers (address, port), in a microsecond of its own."""
+    ports = struct.pack(">HH", sender[1], receiver[1])
+    tcp = ports + struct.pack(">IIBBHI", sequence, acknowledged, 0x50, flags, 65535, 0) + payload
+    ip = struct.pack(">BBH", 0x45, 0, 20 + len(tcp)) + bytes.fromhex("0000400040060000") + sender[0] + receiver[0]
+    frame = bytes(12) + b"\x08\x00" + ip + tcp
+    return struct.pack("<4I", number // 10**6, number % 10**6, len(frame), len(frame)) + frame
 
 
-class Memory(unittest.TestCase):
+def sessions(count, servers, segments):
+    """A capture of connections in turn to some servers; each server sends segments of 1,448 bytes, and ends."""
+    parts = [SHOP[:24]]
+    for at in range(count):
+        client, server = (bytes([10, 1, at >> 8 & 255, at & 255]), 1024 + at % 60000), (bytes([10, 2, 0, at % servers]), 80)
+        parts += [record(len(parts), client, server, 2, 0, 0), record(len(parts) + 1, server, client, 18, 0, 1)]
+        parts += [record(len(parts) + each, server, client, 24, 1 + 1448 * each, 1, struct.pack(">I", at) * 362) for each in range(segments)]
+        parts.append(record(len(parts), server, client, 17, 1 + 1448 * segments, 1))
+    return b"".join(parts)
+
+
+def growth(folder, capture, scenarios, kind="bytes"):
+    """By how many bytes a process grows for the outputs of a capture, how many they have, and the sum of each file."""
+    words = [sys.executable, "-B", "-c", GROWTH, str(capture), json.dumps(scenarios), kind]
+    told = subprocess.run(words, env={**os.environ, "PYTHONPATH": str(folder)}, stdout=subprocess.PIPE, check=True).stdout.split()
+    return int(told[0]), int(told[1]), [digest.decode() for digest in told[2:]]
+
+
+class Folder(unittest.TestCase):
+    """Has a folder of its own, with the module in `module` and the program beside it."""
+
+    def setUp(self):
+        temporary = tempfile.TemporaryDirectory()
+        self.addCleanup(temporary.cleanup)
+        self.folder = pathlib.Path(temporary.name)
+        self.module = self.folder / "module"
+        shutil.copytree(TOP / "examples/python", self.module)
+        self.program = self.module / "toxicap-static"
+        self.program.symlink_to(os.environ["TOXICAP"])
+
+    def patch(self, **values):
+        for name, value in values.items():
+            patched = mock.patch.object(in_process, name, value)
+            patched.start()
+            self.addCleanup(patched.stop)
+
+
+class Memory(Folder):
+    def takes_little(self, capture, scenarios, kind="bytes"):
+        """A call takes 1.2 times the bytes of its outputs at most. Their sums."""
+        grown, size, sums = growth(self.module, capture, scenarios, kind)
+        self.assertGreater(size, 0.9 * len(scenarios) * os.path.getsize(capture))
+        self.assertLess(grown, 1.2 * size, f"{len(scenarios)} scenarios, {kind}")
+        return sums
+
     def test_large_outputs(self):
-        grown, size = growth([[]] * 20)
-        self.assertGreater(size, 19 * os.path.getsize(os.environ["CAPTURE"]))
-        self.assertLess(grown, 1.2 * size)
+        for count in 1, 2, 4, 5, 20:
+            self.takes_little(os.environ["CAPTURE"], [[]] * count)
+        self.takes_little(os.environ["CAPTURE"], [[]], "path")
+
+    def test_without_a_program(self):
+        self.program.unlink()
+        self.takes_little(os.environ["CAPTURE"], [[]] * 20)
+
+    def test_many_connections(self):
+        """A hundred servers, and many short connections; the bytes are those of the program."""
+        for name, words in ("servers", (100, 100, 140)), ("short", (50000, 3, 0)):
+            capture = self.folder / name
+            capture.write_bytes(sessions(*words))
+            scenarios = [[proxy("10.2.0.1:80", *DRAWN)], [proxy("10.2.0.2:80", toxic("bandwidth", rate=100))]]
+            sums = self.takes_little(capture, scenarios)
+            out, options = self.folder / "out", []
+            out.mkdir(exist_ok=True)
+            for at, scenario in enumerate(scenarios):
+                (self.folder / f"{at}.json").write_text(json.dumps(scenario))
+                options += ["--scenario", self.folder / f"{at}.json"]
+            subprocess.run([self.program, "--capture", capture, "--out", out, *options], check=True, stdin=subprocess.DEVNULL)
+            stored = [out / f"{at:04}.{ending}" for at in (0, 1) for ending in ("pcap", "txt")]
+            self.assertEqual(sums, [hashlib.blake2b(path.read_bytes()).hexdigest() for path in stored])
+
+    def test_small_slices(self):
+        """Outputs that turn out to be large."""
+        capture = self.folder / "capture"
+        capture.write_bytes(sessions(10, 1, 40))
+        self.takes_little(capture, [[proxy("10.2.0.0:80", toxic("slicer", average_size=2))]])
 
     def test_small_outputs(self):
         """Room that stays empty takes no memory."""
-        grown, size = growth([[proxy("10.77.0.2:80", toxic("timeout", stream="upstream"))]] * 20)
-        self.assertLess(size, 10000)
-        self.assertLess(grown, os.path.getsize(os.environ["CAPTURE"]))
+        for _ in range(2):
+            grown, size, _ = growth(self.module, os.environ["CAPTURE"], [[proxy("10.77.0.2:80", toxic("timeout", stream="upstream"))]] * 20)
+            self.assertLess(size, 10000)
+            self.assertLess(grown, os.path.getsize(os.environ["CAPTURE"]))
+            self.program.unlink(missing_ok=True)
 
 
-class Parts(unittest.TestCase):
+class Ways(Folder):
+    """What large outputs come to, where none is too small for that: by the program, and without it by several calls."""
+
     def setUp(self):
-        for name, small in ("LARGE", 0), ("FEW", 1):
-            self.addCleanup(setattr, in_process, name, getattr(in_process, name))
-            setattr(in_process, name, small)
+        super().setUp()
+        self.patch(LARGE=0, FEW=1)
 
-    def at_once(self, *words):
-        large, in_process.LARGE = in_process.LARGE, 2**62
-        try:
-            return rehearse(*words)
-        finally:
-            in_process.LARGE = large
+    def ways(self):
+        """The way of small outputs, and each other one."""
+        for name, value in ("LARGE", 2**62), ("PROGRAM", self.program), ("FEW", 1):
+            with mock.patch.object(in_process, name, value):
+                yield
 
     def test_the_same_bytes(self):
         """Also where toxics draw, which they do by the scenario's number."""
-        drawn = toxic("slicer", average_size=40, size_variation=30, delay=2000, toxicity=0.5), toxic("latency", latency=80, jitter=70)
-        scenarios = [[proxy("redis:6379", *drawn), proxy("10.77.0.2:80", *drawn[:number % 2])] for number in range(21)]
-        for count in 2, 8, 9, 21:
-            wanted = self.at_once(SHOP, scenarios[:count], {"redis": "10.77.0.3"}, 5)
+        scenarios = [[proxy("redis:6379", *DRAWN), proxy("10.77.0.2:80", *DRAWN[: number % 2])] for number in range(21)]
+        for count in 1, 2, 8, 9, 21:
+            wanted, *others = [rehearse(SHOP, scenarios[:count], {"redis": "10.77.0.3"}, 5) for _ in self.ways()]
             self.assertEqual(len({capture for capture, _ in wanted}), count)
-            self.assertEqual(rehearse(SHOP, scenarios[:count], {"redis": "10.77.0.3"}, 5), wanted)
+            self.assertEqual(others, [wanted] * 2)
 
     def test_the_same_refusals(self):
         for words in (
@@ -76,13 +158,42 @@ class Parts(unittest.TestCase):
             (SHOP, [[]] * 257),
             (b"x", [b"{"] * 9),
             (SHOP, [b"{"] * 9, b"a"),
+            (SHOP, [[]], b"a\0=10.0.0.1\n"),
+            (SHOP, [[]], b"a=10.0.0.1\n\n"),
+            (SHOP, [[]], b"a=10.0.0.1\nb=10.0.0.1\na=10.0.0.1"),
         ):
             told = []
-            for call in rehearse, self.at_once:
+            for _ in self.ways():
                 with self.assertRaises(Refusal) as raised:
-                    call(*words)
+                    rehearse(*words)
                 told.append(str(raised.exception))
-            self.assertEqual(*told)
+            self.assertEqual(told[1:], told[:1] * 2)
+
+    def test_programs_that_fail(self):
+        """The library answers if the program can't be started, fails or stores nothing, or if there is no folder for it."""
+        [wanted] = rehearse(SHOP, [[]])
+        self.patch(PROGRAM=self.folder / "program")
+        for text, mode in ("#!/bin/sh\nexit 1\n", 0o755), ("#!/bin/sh\n", 0o755), ("#!/bin/sh\n", 0o644), ("no program", 0o755):
+            in_process.PROGRAM.write_text(text)
+            in_process.PROGRAM.chmod(mode)
+            self.assertEqual(rehearse(SHOP, [[]]), [wanted])
+        self.patch(PROGRAM=self.program)
+        with mock.patch.object(tempfile, "tempdir", str(self.folder / "none")):
+            self.assertEqual(rehearse(SHOP, [[]]), [wanted])
+
+    def test_files(self):
+        """No file is left, also after a refusal; in the meantime nobody else can read the folder."""
+        files = self.folder / "files"
+        files.mkdir()
+        self.program.unlink()
+        self.program.write_text(f'#!/bin/sh\nstat -c %a . >> {self.folder}/modes\nexec {os.environ["TOXICAP"]} "$@"\n')
+        self.program.chmod(0o755)
+        self.patch(PROGRAM=self.program)
+        with mock.patch.object(tempfile, "tempdir", str(files)):
+            rehearse(SHOP, [[]] * 3)
+            with self.assertRaises(Refusal):
+                rehearse(SHOP, [b"{"])
+        self.assertEqual([list(files.iterdir()), (self.folder / "modes").read_text()], [[], "700\n700\n"])
 
 
 if __name__ == "__main__":

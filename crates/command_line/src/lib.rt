@@ -6,8 +6,6 @@ mod asked;
 mod error;
 mod options;
 mod texts;
-mod tips;
 
 pub use asked::{Asked, read_arguments};
 pub use error::Stop;
-pub use tips::tip_of;

@@ -10,8 +10,10 @@ use clap::builder::ValueParser;
 use clap::{Arg, ArgAction, Command};
 use std::alloc::{AllocError, Global};
 
+/// The greatest number that `--workers` takes.
 pub(crate) const MOST_WORKERS: u32 = 16;
 
+/// The greatest number that `--cut` takes.
 pub(crate) const MOST_CUT: u32 = 1 << 20;
 
 pub(crate) const DEFAULT_WORKERS: u32 = 1;

@@ -140,8 +140,8 @@ Reports:
   but all on one line: its number, client and server, and the number of the
   proxy that it goes through, - for none. up is what the client sent, down
   what the server sent: bytes delivered/recorded/lost after a gap of the
-  capture; its end, by its time after the opening SYN; and the longest that a
-  byte was held back.
+  capture or a FIN; its end, by its time after the opening SYN; and the
+  longest that a byte was held back.
 
   The end is fin+N where the peer closes, close+N where a toxic does, reset+N
   for a reset, open for none, refused where the proxy is disabled. Times are
@@ -171,7 +171,7 @@ Refusals:
   17 BadStream         a stream is neither upstream nor downstream
   18 DuplicateToxic    an earlier toxic of the proxy has the name
   19 AttributeRange    an attribute is no whole number in its range
-  20 TooMany           more than 64 proxies, or eight toxics of a stream
+  20 TooMany           more than 64 proxies, or than 8 toxics of a stream
   21 BadToxicity       toxicity is not 0 or 1, or its ppm above a million
   22 TooManyScenarios  there are more than 256
   23 BadHost           a --host is not NAME=ADDR, or was given before

@@ -22,7 +22,7 @@ pub(crate) struct Recent {
     pub(crate) current: Current,
 }
 
-/// Maximum number of cache slots.
+// The most pairs whose last connection stands in the table of recent ones.
 const MOST_SLOTS: usize = 4096;
 
 /// The last connection of each pair.

@@ -1,4 +1,4 @@
-//! Connections of a capture: its segments grouped by pairs of peers, range by range.
+//! Connections of a capture: its segments grouped by their two peers, their VLAN and their openings, range by range.
 //! `specs/Connections.antt` says what the connections of a list of segments are, and `laws` ties partials and tables to it.
 #![tactic(auto)]
 

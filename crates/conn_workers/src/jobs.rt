@@ -162,10 +162,10 @@ impl<'s, 'w, 'v, 'a> Work for ShareJobs<'s, 'w, 'v, 'a> {
     }
 }
 
-// The most lines of a range, in all reports together, so that less is recorded at once if there are many reports.
+// The most lines in all reports together that a range of more than 256 connections has. Ranges are shorter if there are many reports.
 const LINES_LIMIT: usize = 4096;
 
-// The number of connections that a range may have in any case.
+// The number of connections that a range may always have.
 const RANGE_LEAST: usize = 256;
 
 /// Job r makes the lines of the connections of range r in the report of each scenario.

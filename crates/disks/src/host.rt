@@ -1,4 +1,4 @@
-//! The disk of the host, which tells nothing of what its paths hold, since others may change them: each method is a call or two of std.
+//! The disk of the host, which tells nothing of what its paths hold, since others may change them: each method is a few calls of std.
 ghost use Rattle.std.specs.Prelude.{None};
 
 use crate::disk::{Disk, DiskFault, DiskFile, FileId, ReadDisk, count_failure};

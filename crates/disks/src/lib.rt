@@ -1,4 +1,4 @@
-//! Disks: where files are read by their paths, and written, whole, under names that they get last. Only a disk in memory tells what it holds.
+//! Disks: they read files by their paths, and write a file whole before it gets its name. Only a disk in memory tells what it holds.
 #![tactic(auto)]
 
 mod disk;

@@ -4,29 +4,30 @@
 ghost use Rattle.std.specs.Prelude.{◌≡◌};
 ghost use Rattle.frame_headers.specs.Layout.{headers_len, link_len};
 
-/// A frame begins with the receiver's address, then comes the sender's.
+/// The length of an Ethernet address. A frame begins with its receiver's, and its sender's comes next.
 pub(crate) const MAC_LEN: usize = 6;
 
-/// Without a tag: two addresses and the type of what follows.
+/// The length of an Ethernet header without a tag: two addresses, and the type of what follows.
 pub(crate) const ETHERNET_LEN: usize = 14;
 
-/// A tag stands before that type: a type of its own, and 16 bits, the lower 12 a VLAN's number.
+/// The length of a tag, which stands before that type: a type of its own, and 16 bits, of which the lower 12 are a VLAN's number.
 pub(crate) const TAG_LEN: usize = 4;
 
 pub(crate) const TAG_TYPE: u16 = 0x8100;
 
+/// Each number of a VLAN is below it.
 pub(crate) const VLAN_LIMIT: u16 = 4096;
 
 pub(crate) const TYPE_LEN: usize = 2;
 
 pub(crate) const IPV4_TYPE: u16 = 0x0800;
 
-/// An IPv4 header without options, which is the shortest.
+/// The length of an IPv4 header without options, which is the shortest.
 pub(crate) const IPV4_LEN: usize = 20;
 
 pub(crate) const TOTAL_LEN_AT: usize = 2;
 
-/// Two flags, that no fragments may be made and that more follow, and the fragment's offset.
+/// The place of the flags on fragments and of a fragment's offset.
 pub(crate) const FRAGMENT_AT: usize = 6;
 
 pub(crate) const PROTOCOL_AT: usize = 9;
@@ -39,6 +40,7 @@ pub(crate) const DESTINATION_AT: usize = 16;
 
 pub(crate) const TCP_PROTOCOL: u8 = 6;
 
+/// The length of a TCP header without options, which is the shortest.
 pub(crate) const TCP_LEN: usize = 20;
 
 pub(crate) const TO_PORT_AT: usize = 2;
@@ -47,7 +49,7 @@ pub(crate) const SEQ_AT: usize = 4;
 
 pub(crate) const ACK_AT: usize = 8;
 
-/// The number of 32-bit words of a TCP header, in the upper half of the byte.
+/// The place of a TCP header's length in words of 32 bits: the upper half of this byte.
 pub(crate) const DATA_OFFSET_AT: usize = 12;
 
 pub(crate) const FLAGS_AT: usize = 13;
@@ -77,5 +79,5 @@ pub const LEAST_HEADERS_LEN: usize = ETHERNET_LEN + IPV4_LEN + TCP_LEN;
 /// The bytes of such headers with a VLAN.
 pub const MOST_HEADERS_LEN: usize = LEAST_HEADERS_LEN + TAG_LEN;
 
-/// The most payload bytes of a written segment: the room of an Ethernet frame after the headers of IPv4 and TCP.
+/// The most payload bytes of a written segment: what the headers of IPv4 and TCP leave of an Ethernet frame's 1,500.
 pub const PAYLOAD_LIMIT: usize = 1500 - IPV4_LEN - TCP_LEN;

@@ -8,6 +8,7 @@ use Rattle.job_matrix.specs.declared.rules.SeatView.{SeatView}
 use Rattle.job_matrix.specs.declared.rules.SeatView.TheVariants.{Leads, Claims, Spent}
 use Rattle.job_matrix.specs.Counting.{times, total, CountsBelow}
 
+-- the number of each job of a board is below it
 abbrev pub number_limit : ℕ
 number_limit = 2 ^ 63
 

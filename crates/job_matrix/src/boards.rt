@@ -9,6 +9,7 @@ use std::alloc::{AllocError, Global};
 use std::marker::Model;
 use thiserror::Error;
 
+// The most passes that a board's chief makes.
 const PASS_LIMIT: u64 = 1 << 16;
 
 /// Why no pass is made.

@@ -4,8 +4,10 @@ ghost use Rattle.job_matrix.specs.Plans.{cut_limit, plan_of, worker_limit};
 
 use std::marker::Model;
 
+// The most workers of a plan.
 const WORKER_LIMIT: u32 = 16;
 
+// The most records of a plan's range, which is one job.
 const CUT_LIMIT: u32 = 1 << 20;
 
 /// The number of workers, and the number of records of a range that one worker reads.

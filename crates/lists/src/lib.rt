@@ -1,4 +1,4 @@
-//! Lists that are handed out, the agreement of answers with definitions (`specs/Agreement.antt`), and lemmas on lists that std lacks.
+//! Lists that their owner only reads (`Values`), how answers agree with definitions (`specs/Agreement.antt`), and lemmas on lists.
 #![tactic(auto)]
 
 mod values;

@@ -1,4 +1,4 @@
-//! The tests over the public calls of the crates that read, group and know scenarios, with values from outside.
+//! Tests of calls of `pcap_records`, `frame_headers`, `toxic_defs` and `scenarios`, with values that are not from the code.
 #![tactic(auto)]
 
 #[cfg(test)]

@@ -8,7 +8,7 @@ use std::marker::Model;
 /// The number of bytes that are a block's own. The last block may have fewer.
 pub const BLOCK_LEN: usize = 1 << 23;
 
-/// The greatest length of a slice, in bytes: that of the longest record, its header and its packet.
+/// The most bytes of a slice of a file that is loaded in blocks: those of the longest record, its header and its packet.
 pub const SLICE_LIMIT: usize = 262_160;
 
 /// A file in blocks. After its own bytes each block has the first of the next one, so that a record that begins in it lies in it whole.

@@ -10,7 +10,7 @@ use crate::file_bytes::FileBytes;
 use crate::unit::Unit;
 use byteorder::{BigEndian, ByteOrder, LittleEndian};
 
-/// The greatest length of a file, in bytes.
+/// The greatest length of a capture, a dump or a scenario file, in bytes.
 pub const CAPTURE_LIMIT: usize = 1 << 30;
 
 /// The length of a file header, in bytes.

@@ -2,7 +2,7 @@
 ghost use Rattle.std.specs.Prelude.{◌≡◌};
 ghost use Rattle.pcap_records.specs.Heads.{head_len, is_usual};
 
-/// The most first bytes that are kept: an Ethernet header with a tag, the longest IPv4 header, a TCP header without options.
+/// The most bytes of a packet that its head has: an Ethernet header with a tag, the longest IPv4 header, a TCP header without options.
 pub const HEAD_LIMIT: usize = 98;
 
 // Ethernet without a tag, IPv4 without options, and TCP up to its flags.

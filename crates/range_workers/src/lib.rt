@@ -1,4 +1,4 @@
-//! The connection table of a capture, its records read range by range by workers.
+//! The connection table of a capture, made by workers, each of which reads ranges of its records.
 //! The answer of `table` does not depend on the plan or the gate. `specs/Ranges.antt` says how the records are cut.
 #![tactic(auto)]
 

@@ -1,4 +1,4 @@
-//! Recorded lines of connections, over slices of the capture.
+//! What was recorded of a connection: the line of bytes that each side sent, in order, with their times and the line's end.
 #![tactic(auto)]
 
 pub mod laws;

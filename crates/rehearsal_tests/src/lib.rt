@@ -1,4 +1,4 @@
-//! The tests over the public calls of all crates that a rehearsal goes through, with values from outside.
+//! Tests of calls of `toxicap`, `run_files` and `disks`, with values that are not from the code.
 #![tactic(auto)]
 
 #[cfg(test)]

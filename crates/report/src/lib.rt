@@ -1,4 +1,4 @@
-//! The text of a report: `report` makes all of it, `report_head` its first two lines, and `line` or `put_line` that of a connection.
+//! The text of a report: `report` makes all of it, `report_head` its first two lines, and `line` or `put_line` the line of a connection.
 #![tactic(auto)]
 
 mod lines;

@@ -10,7 +10,7 @@ pub fn report_sees_lengths()
 
 /// Two packets of equal length with the same head (`head_len` of `pcap_records`) are seen as the same frame, except for payload bytes.
 /// Only headers and lengths are looked at. A head has Ethernet's with at most one tag (18 bytes), IPv4's with options (60 at most),
-/// and the first 14 bytes of TCP's.
+/// and at least the first 14 bytes of TCP's.
 pub fn frame_sees_head()
     ensures { FrameSeesHead }
 {}

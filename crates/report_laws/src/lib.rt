@@ -1,4 +1,5 @@
-//! What reports depend on: of packets the headers, of what connections carry the lengths, and never a byte. There are only laws here.
+//! What reports depend on of a capture: its unit, the length of its rest, and the stamps, lengths and headers of packets, but no byte of a payload.
+//! There are only laws here.
 #![tactic(auto)]
 
 pub mod laws;

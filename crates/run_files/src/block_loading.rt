@@ -20,6 +20,7 @@ use std::alloc::{AllocError, Global};
 use std::marker::Model;
 use std::thread::Threads;
 
+// The most blocks of a capture.
 const BLOCK_LIMIT: usize = CAPTURE_LIMIT / BLOCK_LEN;
 
 // Loads the text of a file from its first byte on, that of several blocks by the workers of a plan.

@@ -186,4 +186,5 @@ fn is_digit(b: u8) -> bool
 
 const DIGITS: &[u8; 22] = b"0123456789abcdefABCDEF";
 
+// The number of pairs of bytes.
 const PLACES: usize = 256 * 256;

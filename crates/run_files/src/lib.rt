@@ -1,4 +1,4 @@
-//! The files of a run, where they come from and where they go.
+//! The files of a run: captures and scenarios are loaded, and reports are printed, or outputs stored in a folder.
 #![tactic(auto)]
 
 mod block_loading;

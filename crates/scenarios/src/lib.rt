@@ -1,4 +1,4 @@
-//! Scenarios: the proxies that a capture is rehearsed under, read from files in Toxiproxy's form.
+//! Scenarios: the proxies that a capture is rehearsed under, read from JSON in Toxiproxy's form.
 #![tactic(auto)]
 
 mod error;

@@ -15,6 +15,7 @@ use frame_headers::Peer;
 use serde_json::Value;
 use std::alloc::{AllocError, Global};
 
+// The most proxies of a scenario.
 const PROXY_LIMIT: usize = 64;
 
 /// A proxy: its name, its server, whether it takes connections, and its toxics.

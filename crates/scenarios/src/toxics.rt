@@ -20,6 +20,7 @@ use std::alloc::{AllocError, Global};
 use std::marker::Model;
 use toxic_defs::{Kind, Toxic};
 
+// The most toxics that a proxy has for one direction.
 const TOXIC_LIMIT: usize = 8;
 
 /// The toxics of one direction of a proxy, in the order of its file.

@@ -1,4 +1,4 @@
-//! The segments of a connection as they are written, in the order in which a capture has them.
+//! The segments of a connection as they are written to an output capture, in order of key.
 #![tactic(auto)]
 
 mod connection_segments;

@@ -45,7 +45,7 @@ pub(crate) struct OpenRow<'w, 'a> {
 /// The most segments without payload of a connection: the opening, and the end of each line.
 pub(crate) const BARE_SEGMENTS: usize = 5;
 
-// The most other segments that room is made for at once: many parts of a line at one instant are few segments.
+// The most segments with payload that room is made for at once: many parts of a line at one instant are few segments.
 const ROOM_LIMIT: usize = 1024;
 
 /// Makes room for the segments of a connection whose lines have `parts` parts.

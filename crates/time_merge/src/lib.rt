@@ -1,4 +1,4 @@
-//! One capture of many lists of written segments.
+//! The output capture: the written segments of all connections, in order of key.
 #![tactic(auto)]
 
 mod key_order;

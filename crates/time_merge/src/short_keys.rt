@@ -14,8 +14,10 @@ use std::alloc::{AllocError, Global};
 // The low bits of a short key are the number of its segment among all. The others are the ticks from the first segment's moment to its own.
 const NUMBER_BITS: u32 = 26;
 
+// Each number of a segment in a short key is below it, which is 2^26.
 const NUMBER_LIMIT: u64 = 1 << NUMBER_BITS;
 
+// The ticks of each short key are below it, which is 2^38.
 const TICKS_LIMIT: u64 = 1 << (64 - NUMBER_BITS);
 
 // The short keys of segments that stand in order, connection by connection. `first` is the moment from which ticks are counted.

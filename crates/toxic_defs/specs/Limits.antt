@@ -1,7 +1,7 @@
 -- Limits of what a toxic takes, and of a direction's toxics.
 use Rattle.std.specs.Prelude.{ℕ}
 
--- the greatest latency, jitter, delay and timeout, and the greatest size of a slice
+-- the greatest latency, jitter, delay, timeout and average size of slices
 abbrev pub greatest_attribute : ℕ
 greatest_attribute = 1000000000
 

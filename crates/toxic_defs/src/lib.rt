@@ -1,4 +1,4 @@
-//! What a scenario makes of recorded lines.
+//! Toxics: what a scenario delivers of the lines that were recorded.
 #![tactic(auto)]
 
 mod bandwidth;

@@ -1,4 +1,4 @@
-//! The library for C: rehearsals by one thread, over buffers of the caller. See `specs/Calls.antt` and `specs/Buffers.antt`.
+//! The library for C: rehearsals by one thread, into buffers of the caller. See `specs/Calls.antt` and `specs/Buffers.antt`.
 #![tactic(auto)]
 
 mod calls;

@@ -13,16 +13,18 @@ mod scenario_remedies;
 mod shown;
 mod summary;
 mod terminal;
+mod tips;
 
-use command_line::{Asked, Stop, read_arguments, tip_of};
+use command_line::{Asked, Stop, read_arguments};
 use disks::HostDisk;
-use run::{CaptureStart, Run};
+use run::Run;
 use std::io::IsTerminal;
 use std::process::ExitCode;
 use std::sync::atomic::AtomicU64;
 use std::{env, io};
 use summary::{Summary, SummedUp};
 use terminal::{Announced, Counting};
+use tips::tip_of;
 use toxicap::{Counted, RunFault, command_over, refuse_words};
 
 fn main(rt: HostRuntime) -> ExitCode {
@@ -40,7 +42,7 @@ fn main(rt: HostRuntime) -> ExitCode {
         input: rt.stdin(),
         faults: rt.stderr(),
         is_announced: on_terminal.is_none() || !rt.stdin().is_terminal(),
-        first_bytes: CaptureStart::default(),
+        first_bytes: Vec::new(rt.alloc()),
     });
     let mut output = Counted::new(SummedUp {
         inner: rt.stdout(),
@@ -77,7 +79,7 @@ fn words_of(rt: &HostRuntime) -> io::Result<Vec<String>> {
 fn print_line(
     rt: &HostRuntime,
     asked: &Asked<'_>,
-    first_bytes: CaptureStart,
+    first_bytes: Vec<u8>,
     outcome: Result<(), RunFault>,
     printed: Summary,
 ) {

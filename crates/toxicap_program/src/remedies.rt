@@ -71,8 +71,8 @@ impl<R: Files> Run<'_, R> {
     }
 
     fn capture_remedy(&self, fault: RunFault) -> Said {
-        let (alloc, start) = (self.alloc, self.capture_start());
-        let first_bytes = start.bytes();
+        let (alloc, start) = (self.alloc, self.capture_start()?);
+        let first_bytes = start.as_slice();
         let text = match fault {
             RunFault::BadMagic => by_command(alloc, first_bytes, magic_fault(first_bytes))?,
             RunFault::BadVersion => {
@@ -199,10 +199,8 @@ fn by_command(alloc: Global, first_bytes: &[u8], text: &str) -> Said {
 }
 
 fn link_text(alloc: Global, first_bytes: &[u8]) -> Said {
-    let link = first_bytes
-        .get(20..24)
-        .and_then(|link| link.first_chunk::<4>());
-    let link = match (unit_of(first_bytes), link) {
+    let link = first_bytes.get(20..).unwrap_or(&[]);
+    let link = match (unit_of(first_bytes), link.first_chunk::<4>()) {
         (Some(_), Some(link)) if first_bytes.starts_with(&[0xa1]) => u32::from_be_bytes(*link),
         (Some(_), Some(link)) => u32::from_le_bytes(*link),
         _ =>

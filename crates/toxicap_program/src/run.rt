@@ -9,64 +9,39 @@ use std::rt::Files;
 /// What is said of a run, unless an allocation failed.
 pub type Said = Result<String, AllocError>;
 
-// How many bytes a capture has before its records.
-const HEADER_LEN: usize = 24;
-
-/// The first bytes of what comes in parts, at most `N`.
-#[derive(Clone, Copy, Default)]
-pub struct FirstBytes<const N: usize> {
-    bytes: [u8; N],
-    len: usize,
-}
-
-impl<const N: usize> FirstBytes<N> {
-    /// Takes the next bytes, as far as there is room.
-    pub fn add(&mut self, bytes: &[u8]) {
-        if let Some(room) = self.bytes.get_mut(self.len..) {
-            let count = room.len().min(bytes.len());
-            room[..count].copy_from_slice(&bytes[..count]);
-            self.len = self.len.saturating_add(count);
-        }
-    }
-
-    pub fn bytes(&self) -> &[u8] {
-        self.bytes.get(..self.len).unwrap_or(&[])
-    }
-}
-
-pub type CaptureStart = FirstBytes<HEADER_LEN>;
+/// The number of bytes that a capture has before its records.
+pub const HEADER_LEN: usize = 24;
 
 /// The most bytes that a capture, a dump or a scenario file may have.
 pub const LIMIT: u64 = 1 << 30;
 
-#[derive(Clone, Copy)]
+#[derive(Drop)]
 pub struct Run<'a, R> {
     pub files: &'a R,
     pub alloc: Global,
     /// What it was asked for.
     pub asked: &'a Asked<'a>,
     /// The first bytes that it read of standard input.
-    pub first_bytes: CaptureStart,
+    pub first_bytes: Vec<u8>,
 }
 
 impl<R: Files> Run<'_, R> {
     /// The first bytes of the file at a path; none if it is neither a regular file nor a folder.
-    pub fn first_bytes_of(&self, path: &str) -> io::Result<CaptureStart> {
-        let mut first_bytes = CaptureStart::default();
+    pub fn first_bytes_of(&self, path: &str) -> io::Result<Vec<u8>> {
+        let mut first_bytes = Vec::new(self.alloc);
         let metadata = fs::metadata(self.files, path)?;
         if metadata.is_file() || metadata.is_dir() {
-            let mut bytes = [0; HEADER_LEN];
-            let len = fs::open(self.files, path)?.read(&mut bytes)?;
-            first_bytes.add(bytes.get(..len).unwrap_or(&[]));
+            let file = fs::open(self.files, path)?;
+            file.take(HEADER_LEN as u64).read_to_end(&mut first_bytes)?;
         }
         Ok(first_bytes)
     }
 
     /// The first bytes of the capture; none if they cannot be read again.
-    pub fn capture_start(&self) -> CaptureStart {
+    pub fn capture_start(&self) -> Result<Vec<u8>, AllocError> {
         match self.asked.capture {
-            Some(path) => self.first_bytes_of(path).unwrap_or(CaptureStart::default()),
-            None => self.first_bytes,
+            Some(path) => Ok(self.first_bytes_of(path).unwrap_or(Vec::new(self.alloc))),
+            None => self.first_bytes.clone(),
         }
     }
 

@@ -1,9 +1,9 @@
 //! What a person would miss in reports.
-use crate::run::{FirstBytes, Run, unit_of};
+use crate::run::{Run, unit_of};
 use std::alloc::{AllocError, Global};
 use std::io::{self, Write};
 use std::rt::Files;
-use std::str;
+use std::{mem, str};
 
 // What the first lines of a report count: records, connections, what is left over, and from the fifth on packets that are passed over.
 const COUNTED: &str =
@@ -12,7 +12,8 @@ const COUNTED: &str =
 /// Some reports, summed up as their bytes come.
 #[derive(Drop)]
 pub struct Summary {
-    line: FirstBytes<512>,
+    alloc: Global,
+    unended_line: Vec<u8>,
     // Of the first report: what it counts, the bytes that were lost, and servers, each after a blank.
     counts: [u64; 12],
     lost: u64,
@@ -24,7 +25,8 @@ pub struct Summary {
 impl Summary {
     pub fn new(alloc: Global) -> Summary {
         Summary {
-            line: FirstBytes::default(),
+            alloc,
+            unended_line: Vec::new(alloc),
             counts: [0; 12],
             lost: 0,
             servers: String::new(alloc),
@@ -32,16 +34,15 @@ impl Summary {
         }
     }
 
-    fn add(&mut self, bytes: &[u8]) {
+    fn add(&mut self, bytes: &[u8]) -> Result<(), AllocError> {
         for part in bytes.split_inclusive(|byte| *byte == b'\n') {
-            self.line.add(part);
+            self.unended_line.extend_from_slice(part)?;
             if part.ends_with(b"\n") {
-                let line = self.line;
-                self.line = FirstBytes::default();
-                // out of memory, the summary says less
-                let _ = self.add_line(str::from_utf8(line.bytes()).unwrap_or(""));
+                let line = mem::replace(&mut self.unended_line, Vec::new(self.alloc));
+                self.add_line(str::from_utf8(&line).unwrap_or(""))?;
             }
         }
+        Ok(())
     }
 
     // Takes a line, word by word. Of a later report nothing is looked at once a proxy is met.
@@ -126,7 +127,7 @@ impl<R: Files> Run<'_, R> {
             for number in 0..scenarios.max(1) {
                 let path = say!(self.alloc; "{folder}/{number:04}.txt")?;
                 let text = self.text_of(&path).unwrap_or(Vec::new(self.alloc));
-                summary.add(&text);
+                summary.add(&text)?;
             }
         }
         if summary.met.is_empty() {
@@ -138,7 +139,7 @@ impl<R: Files> Run<'_, R> {
         if scenarios > 0 && summary.met.as_slice().contains(&0) {
             write!(text, "; servers{}", summary.servers)?;
         }
-        if let Some(unit) = unit_of(self.capture_start().bytes()) {
+        if let Some(unit) = unit_of(&self.capture_start()?) {
             write!(text, "; times in {unit}")?;
         }
         if let Some(ignored) = self.ignored()? {
@@ -162,7 +163,8 @@ impl<W: Write> Write for SummedUp<W> {
     fn write(&mut self, buf: &[u8]) -> io::Result<usize> {
         let len = self.inner.write(buf)?;
         if self.is_wanted {
-            self.summary.add(&buf[..len]);
+            // out of memory, the summary says less
+            let _ = self.summary.add(&buf[..len]);
         }
         Ok(len)
     }

@@ -1,5 +1,5 @@
 //! What the program says on a terminal, beside its outputs and refusals: that it reads standard input, and how many scenarios are stored.
-use crate::run::CaptureStart;
+use crate::run::HEADER_LEN;
 use std::alloc::Allocator;
 use std::fs::{Metadata, OpenOptions};
 use std::io::{self, Eprint, Read, Stderr};
@@ -14,7 +14,7 @@ pub struct Announced<R> {
     pub input: R,
     pub faults: Stderr,
     pub is_announced: bool,
-    pub first_bytes: CaptureStart,
+    pub first_bytes: Vec<u8>,
 }
 
 impl<R: Read> Read for Announced<R> {
@@ -28,7 +28,9 @@ impl<R: Read> Read for Announced<R> {
             );
         }
         let len = self.input.read(buf)?;
-        self.first_bytes.add(&buf[..len]);
+        let room = HEADER_LEN.saturating_sub(self.first_bytes.len());
+        // out of memory, the hint says less
+        let _ = self.first_bytes.extend_from_slice(&buf[..len.min(room)]);
         Ok(len)
     }
 }

@@ -1,4 +1,4 @@
-//! Worked sessions for the tests: captures made by hand, the segments that are written of the plain session, and gates for threads.
+//! What tests share: captures made by hand, the frames that are written of one of them, and gates that hold or count jobs.
 #![tactic(auto)]
 
 pub mod gates;

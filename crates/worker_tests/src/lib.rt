@@ -1,4 +1,4 @@
-//! The tests over the public calls of the crates that spread work and merge what it gives, with values from outside.
+//! Tests of calls of `job_matrix`, `conn_table`, `range_workers`, `conn_workers` and `time_merge`, with values that are not from the code.
 #![tactic(auto)]
 
 #[cfg(test)]

@@ -85,6 +85,7 @@ func TestWrongUses(t *testing.T) {
 	_, _, shrinkEnded := Shrink(ended, capture, []byte("[]"), nil, answer(true), 0)
 	_, _, shrinkRefused := Shrink(context.Background(), capture, []byte("["), nil, answer(true), 1)
 	_, _, passes := Shrink(context.Background(), capture, []byte("[]"), nil, answer(false), 3)
+	_, _, untouched := Shrink(context.Background(), capture, []byte("[]"), nil, answer(true), 3)
 	for _, use := range []struct {
 		err    error
 		wanted string
@@ -95,6 +96,7 @@ func TestWrongUses(t *testing.T) {
 		{refused, "refused 10 NotJson scenario 1: scenario 1 ends before its JSON does"},
 		{shrinkRefused, "refused 10 NotJson scenario 0: scenario 0 ends before its JSON does"},
 		{passes, "the scenario does not fail under these seeds: there is nothing to shrink"},
+		{untouched, "the scenario [], without toxics, fails too: there is nothing to shrink; make fails false for what was recorded"},
 	} {
 		if use.err == nil || use.err.Error() != use.wanted {
 			t.Errorf("%v in place of %s", use.err, use.wanted)

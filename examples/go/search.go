@@ -45,7 +45,7 @@ func isTrue(holds func([]Output) bool, outputs []Output) (is bool) {
 // Shrink gives a scenario that fails with fewer toxics and smaller numbers, as text, and its seed. A scenario fails where fails(outputs) is true, or
 // panics, under a seed below a number, the least of which is its seed; if below is 0, 32 seeds are tried. The outputs are those of Rehearse.
 // Toxics and proxies without effect are left out first. No proxy and no toxic of the smallest can be left out, no attribute be one less and no
-// toxicity be 1 so that it fails still. One that does not fail is an error; so are a refusal, and the end of the context.
+// toxicity be 1 so that it fails still. It is an error if the scenario does not fail, or if `[]` fails too; so are a refusal and the end of the context.
 func Shrink(ctx context.Context, capture, scenario, hosts []byte, fails func([]Output) bool, below uint64) (smallest []byte, seed uint64, err error) {
 	if below == 0 {
 		below = someSeeds
@@ -56,6 +56,9 @@ func Shrink(ctx context.Context, capture, scenario, hosts []byte, fails func([]O
 	s.seed, found, err = LeastSeed(ctx, capture, [][]byte{scenario}, hosts, fails, below)
 	if err == nil && !found {
 		err = errors.New("the scenario does not fail under these seeds: there is nothing to shrink")
+	}
+	if err == nil {
+		err = passesUntouched(capture, hosts, fails, s.seed)
 	}
 	if err != nil {
 		return nil, 0, err
@@ -75,6 +78,15 @@ func Shrink(ctx context.Context, capture, scenario, hosts []byte, fails func([]O
 	}
 	seed, _, err = LeastSeed(ctx, capture, [][]byte{s.text()}, hosts, fails, below)
 	return s.text(), seed, err
+}
+
+// passesUntouched gives an error if a test fails under a scenario without toxics too.
+func passesUntouched(capture, hosts []byte, fails func([]Output) bool, seed uint64) error {
+	outputs, err := Rehearse(capture, [][]byte{[]byte("[]")}, hosts, seed)
+	if err == nil && isTrue(fails, outputs) {
+		err = errors.New("the scenario [], without toxics, fails too: there is nothing to shrink; make fails false for what was recorded")
+	}
+	return err
 }
 
 // shrinking is a scenario that is made smaller in place, a seed under which it fails, and the first error of a call.

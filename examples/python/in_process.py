@@ -5,12 +5,14 @@ HOSTS of the environment has the addresses of names, in lines NAME=ADDR. The lib
 beside this file, else the system's. Beside it are hints.py, inputs.py, outputs.py and room.py, and perhaps toxicap-static, the program of the same
 release."""
 import argparse
+import contextlib
 import ctypes
 import functools
 import json
 import os
 import pathlib
 import re
+import signal
 import threading
 import time
 from typing import Any, List, Tuple
@@ -22,7 +24,8 @@ from room import Room, guessed_room
 
 ANSWERED, REFUSED, NO_ROOM, NO_MEMORY = range(4)
 PROGRAM = pathlib.Path(__file__).resolve().with_name("toxicap-static")
-LARGE = 2**24  # bytes of all outputs that are had by one call
+LARGE = 2**20  # bytes of all outputs that are had by one call
+SEGMENT = 70  # bytes that a segment takes beside its payload
 PARTS = 8  # calls that have more, at most
 FEW = 8192  # bytes of a capture for each connection, at least, where these are few
 
@@ -156,13 +159,19 @@ def rehearse(capture: Capture, scenarios: Scenarios, hosts: Hosts = b"", seed: i
     Refusal, lack of memory as OutOfMemory or MemoryError, another seed as ValueError, an argument of another type as TypeError. In a process that
     was forked from one with threads no call is made, and RuntimeError is raised.
 
-    The library holds outputs a second time. Those of more than 16 MB are stored by the program toxicap-static beside this module, which the wheel has,
-    in the folder for temporary files, and read one after another: so a call takes 1.2 times their bytes at most. Without that program, or where there
-    is no room for them, it takes up to 2.1 times their bytes."""
+    The library holds outputs a second time. Those of more than 1 MB are stored by the program toxicap-static beside this module, which the wheel has,
+    in the folder for temporary files, and read one after another. So a call takes at most 4 MB more than 1.2 times the bytes of its outputs. Without
+    that program, or where there is no room for them, it takes up to 2.1 times their bytes."""
     inputs = inputs_of(capture, scenarios, hosts, seed)
-    if len(inputs.capture) * len(inputs.scenarios) <= LARGE:
+    if len(inputs.capture) * len(inputs.scenarios) <= LARGE and sliced_size(inputs) <= 4 * LARGE:
         return outputs_of(inputs, len(inputs.scenarios))
     return by_program(inputs) or in_parts(inputs)
+
+
+def sliced_size(inputs: Inputs) -> int:
+    """About how many bytes the outputs have at most, whose slicers may make many segments of one."""
+    sizes = [[int(size) for size in re.findall(rb'"average_size"\s*:\s*([0-9]{1,10})', text)] for text in inputs.scenarios]
+    return sum(len(inputs.capture) * (1 + SEGMENT // max(1, min(found, default=SEGMENT))) for found in sizes)
 
 
 def outputs_of(inputs: Inputs, large: int) -> List[Output]:
@@ -182,36 +191,57 @@ def outputs_of(inputs: Inputs, large: int) -> List[Output]:
 
 def by_program(inputs: Inputs) -> List[Output]:
     """The outputs as the program stores them, one file after another. None if there is no program or it fails, of which the library tells then."""
-    if not PROGRAM.exists():
+    folder = new_folder() if PROGRAM.exists() else ""
+    if not folder:
         return []
-    import tempfile  # it takes longer to load than most of what stands above
-
     try:
-        folder = tempfile.TemporaryDirectory(prefix="toxicap-")
-    except OSError:
-        return []
-    with folder as name:
-        if not are_stored(inputs, name):
+        if not are_stored(inputs, folder):
             return []
         inputs.capture = b""  # if it was a path's, nobody else holds its bytes
-        return [Output(*(taken_out(f"{name}/{at:04}.{ending}") for ending in ("pcap", "txt"))) for at in range(len(inputs.scenarios))]
+        return [Output(*(taken_out(f"{folder}/{at:04}.{ending}") for ending in ("pcap", "txt"))) for at in range(len(inputs.scenarios))]
+    finally:
+        for name in os.listdir(folder):
+            os.unlink(f"{folder}/{name}")
+        os.rmdir(folder)
+
+
+def new_folder() -> str:
+    """A folder for temporary files, which nobody else can read; "" if there is no place for one. It is made without tempfile, and a program run without
+    subprocess: those take more memory than many outputs."""
+    for place in filter(None, [*map(os.environ.get, ("TMPDIR", "TEMP", "TMP")), "/tmp", "/var/tmp"]):
+        folder = f"{place}/toxicap-{os.urandom(8).hex()}"
+        with contextlib.suppress(OSError):
+            os.mkdir(folder, 0o700)
+            return folder
+    return ""
 
 
 def are_stored(inputs: Inputs, folder: str) -> bool:
     """Has the program store the outputs in a folder; whether it did."""
-    import subprocess
-
     hosts = inputs.hosts.split(b"\n")
-    words: List[Any] = [PROGRAM, "--out=.", f"--seed={inputs.seed}", *(b"--host=" + host for host in (hosts if hosts[-1] else hosts[:-1]))]
+    words: List[Any] = [f"--out={folder}", f"--seed={inputs.seed}", *(b"--host=" + host for host in (hosts if hosts[-1] else hosts[:-1]))]
     try:
         for at, text in enumerate([inputs.capture, *inputs.scenarios]):
             pathlib.Path(folder, str(at)).write_bytes(text)
-            words.append(f"--scenario={at}" if at else "--capture=0")
-        subprocess.run(words, cwd=folder, check=True, stdin=subprocess.DEVNULL, stdout=subprocess.DEVNULL, stderr=subprocess.DEVNULL)
-        pathlib.Path(folder, "0").unlink()
-    except (OSError, subprocess.CalledProcessError, ValueError):  # a zero byte in a host is a ValueError
+            words.append(f"--scenario={folder}/{at}" if at else f"--capture={folder}/0")
+        run_program(words)
+        os.unlink(f"{folder}/0")
+    except (OSError, ValueError):  # a zero byte in a host is a ValueError
         return False
-    return pathlib.Path(folder, f"{len(inputs.scenarios) - 1:04}.txt").exists()  # who ignores SIGCHLD is told of no status
+    return pathlib.Path(folder, f"{len(inputs.scenarios) - 1:04}.txt").exists()  # the last file that it stores
+
+
+def run_program(words: List[Any]) -> None:
+    """Runs the program to its end. Of its status nothing is asked: who ignores SIGCHLD is told of none."""
+    silent = [(os.POSIX_SPAWN_OPEN, number, os.devnull, os.O_RDWR, 0) for number in range(3)]
+    child = os.posix_spawn(PROGRAM, [PROGRAM, *words], os.environ, file_actions=silent)
+    try:
+        with contextlib.suppress(ChildProcessError):
+            os.waitpid(child, 0)
+    except BaseException:  # as by Ctrl-C: nothing may be written into a folder that is gone
+        os.kill(child, signal.SIGKILL)
+        os.waitpid(child, 0)
+        raise
 
 
 def taken_out(name: str) -> bytes:

@@ -6,6 +6,7 @@ import json
 import os
 import pathlib
 import shutil
+import signal
 import struct
 import subprocess
 import sys
@@ -20,12 +21,13 @@ from builders import proxy, toxic
 from in_process import Refusal, rehearse
 
 GROWTH = """
-import hashlib, json, resource, sys
+import hashlib, json, re, sys
 from in_process import rehearse
 path, scenarios, is_path = sys.argv[1], json.loads(sys.argv[2]), sys.argv[3] == "path"
 capture = path if is_path else open(path, "rb").read()
 rehearse(open(path, "rb").read(65536), [[]])
-def peak(): return resource.getrusage(resource.RUSAGE_SELF).ru_maxrss * 1024
+def peak(): return int(re.search("VmHWM:(.*)kB", open("/proc/self/status").read())[1]) * 1024
+open("/proc/self/clear_refs", "w").write("5")  # the peak is what is held now: that of the parent would stay
 before = peak()
 outputs = rehearse(capture, scenarios)
 grown, files = peak() - before, [file for output in outputs for file in output]
@@ -93,6 +95,13 @@ class Memory(Folder):
         for count in 1, 2, 4, 5, 20:
             self.takes_little(os.environ["CAPTURE"], [[]] * count)
         self.takes_little(os.environ["CAPTURE"], [[]], "path")
+
+    def test_medium_outputs(self):
+        """Of one, two and eight MB."""
+        capture = self.folder / "capture"
+        for segments in 800, 1400, 5600:
+            capture.write_bytes(sessions(1, 1, segments))
+            self.takes_little(capture, [[]])
 
     def test_without_a_program(self):
         self.program.unlink()
@@ -178,22 +187,39 @@ class Ways(Folder):
             in_process.PROGRAM.chmod(mode)
             self.assertEqual(rehearse(SHOP, [[]]), [wanted])
         self.patch(PROGRAM=self.program)
-        with mock.patch.object(tempfile, "tempdir", str(self.folder / "none")):
-            self.assertEqual(rehearse(SHOP, [[]]), [wanted])
+        self.patch(new_folder=lambda: "")
+        self.assertEqual(rehearse(SHOP, [[]]), [wanted])
 
     def test_files(self):
         """No file is left, also after a refusal; in the meantime nobody else can read the folder."""
         files = self.folder / "files"
         files.mkdir()
         self.program.unlink()
-        self.program.write_text(f'#!/bin/sh\nstat -c %a . >> {self.folder}/modes\nexec {os.environ["TOXICAP"]} "$@"\n')
+        self.program.write_text(f'#!/bin/sh\nstat -c %a "${{1#--out=}}" >> {self.folder}/modes\nexec {os.environ["TOXICAP"]} "$@"\n')
         self.program.chmod(0o755)
         self.patch(PROGRAM=self.program)
-        with mock.patch.object(tempfile, "tempdir", str(files)):
+        with mock.patch.dict(os.environ, TMPDIR=str(files)):
             rehearse(SHOP, [[]] * 3)
             with self.assertRaises(Refusal):
                 rehearse(SHOP, [b"{"])
         self.assertEqual([list(files.iterdir()), (self.folder / "modes").read_text()], [[], "700\n700\n"])
+
+    def test_interrupted(self):
+        """The program ends with the call, and no file is left."""
+        files = self.folder / "files"
+        files.mkdir()
+        self.program.unlink()
+        self.program.write_text(f"#!/bin/sh\necho $$ > {self.folder}/child\nexec sleep 60\n")
+        self.program.chmod(0o755)
+        self.patch(PROGRAM=self.program)
+        self.addCleanup(signal.signal, signal.SIGALRM, signal.signal(signal.SIGALRM, signal.default_int_handler))
+        signal.setitimer(signal.ITIMER_REAL, 0.5)
+        with mock.patch.dict(os.environ, TMPDIR=str(files)), self.assertRaises(KeyboardInterrupt):
+            rehearse(SHOP, [[]])
+        self.assertEqual(list(files.iterdir()), [])
+        with self.assertRaises(ProcessLookupError):
+            os.kill(int((self.folder / "child").read_text()), 0)
+
 
 
 if __name__ == "__main__":

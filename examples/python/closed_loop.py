@@ -4,17 +4,17 @@ In an output of `rehearse` each packet still comes at its recorded time, althoug
 comes as long after what its side had received, and sent, as it did in the recording. What its side had received are the bytes of the other side
 that had come before it in the file, and a FIN as one byte more; they come when the rehearsal under the scenario delivers them. So:
 
-- What waits for bytes that never come is never sent, nor is anything of its side after it. Nothing is sent after a close, a reset or a refusal has
-  come. Only openings always come.
-- Packets of one side with one recorded time stay together, and others stay apart by a tick at least. So a line has the recorded chunks, later or
-  fewer, and each chunk draws what it draws in the open loop.
+- What waits for bytes that never come is never sent, nor is anything of its side after it. After a close, a reset or a refusal has come only the
+  server's first packet is sent, and what follows a reset that was sent. The first SYN is always sent.
+- A side's packets between opening and first reset stay together if they have one recorded time, and others stay apart by a tick at least. So a line
+  has the recorded chunks, later or fewer, and each chunk draws what it draws in the open loop.
 - What was recorded after the first reset of a connection comes after it.
 - Connections wait for nothing of one another, with one exception: on ports that are used again the later one opens as long after the last packet of
   the one before as in the recording, if that is later. They open in the recorded order, so they keep their numbers.
 - Records of no connection keep their times. Under `[]`, which delays nothing, the recording is the one that came in, byte for byte.
 
 It is found in rounds. A round rehearses, and moves each packet by what it waits for; once no packet moves, all of them are right. What is right up to
-a time stays so, and every second round it is a packet more at least, so rounds end: mostly after three or four. The first round has all connections,
+a time stays so, and every second round it is a packet more at least, so rounds end: usually after fewer than five. The first round has all connections,
 each later one only those that moved. Pauses of the recording are kept, also those of Nagle's algorithm; a client that times out or tries again does
 what it did in the recording."""
 import bisect

@@ -40,7 +40,7 @@ def frames(capture: bytes) -> Iterator[bytes]:
 
 
 def segment_in(frame: bytes) -> Optional[Tuple[bytes, bytes]]:
-    """The pseudo-header and the TCP segment of a frame, by docs/RULES.md; None if it has none."""
+    """The pseudo-header and the TCP segment of a frame, by docs/use/rules.md; None if it has none."""
     start = 18 if frame[12:14] == b"\x81\x00" else 14
     packet = frame[start:]
     if frame[start - 2 : start] != b"\x08\x00" or len(packet) < 20 or packet[0] >> 4 != 4:

@@ -24,7 +24,7 @@ import (
 // answer waits for its time. When it has run out the player ends, and the error tells what was missing: so a client that hangs is found, if Limit is
 // below its own timeout.
 //
-// Each chunk is sent at once (TCP_NODELAY), and chunks that are 2 ms or more apart stay 1 ms apart when the machine is late. The kernel still joins
+// Each chunk is sent at once (TCP_NODELAY), and chunks that are due 2 ms or more apart stay 1 ms apart when the machine is late. The kernel still joins
 // chunks that the client is late to read, and gives a chunk that is longer than its room in pieces. A client that reads late may miss bytes before a
 // reset.
 type Player struct {

@@ -24,7 +24,7 @@ class Player:
     as long as in the output: the recorded server's pause and the toxics' delay. Both are multiplied by `factor` (0: at once); `pauses=False` leaves
     out the pause. A client that closes too early gets no further answer. A client that reads late may miss bytes before a reset.
 
-    Two chunks of a connection are at least `gap` seconds apart. Chunks that are 2 ms apart in the output are at least 1 ms apart even if the player
+    Two chunks of a connection are at least `gap` seconds apart. Chunks that are due 2 ms apart are sent at least 1 ms apart even if the player
     is late. The kernel still joins what the client does not read in time, and cuts a chunk that is larger than a buffer or a read.
 
     The player waits for clients `limit` seconds in all: for one to come, to send enough, to take bytes, to close after the last step. Time in which

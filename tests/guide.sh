@@ -156,10 +156,6 @@ for page in "${pages[@]}"; do run_page "$page"; done
 if [ -z "$release" ]; then
     cd "$top" || exit 2
     # shellcheck disable=SC2016
-    sed -n '/^```rust$/,/^```$/p' docs/internals/contributing.md | sed '1d; $d' > "$work/shown"
-    grep -v '^//!' crates/library_example/src/main.rt > "$work/source"
-    verdict "the program of docs/internals/contributing.md" "$(difference "$work/source" "$work/shown")"
-    # shellcheck disable=SC2016
     verdict "its line in crates.txt" "$(grep -qxF "$(grep -oE 'library_example may_wait[^`]*' docs/internals/contributing.md)" crates.txt || echo '  it is another')"
 fi
 [ ! -s "$work/recorded" ] || verdict "the recordings are as they were" "$(sha256sum -c --quiet "$work/recorded" 2>&1)"

@@ -11,11 +11,6 @@ FOLDERS = [word for word in sys.argv[1:] if word != '--check']
 TREE = pathlib.Path(FOLDERS[0] if FOLDERS else pathlib.Path(__file__).resolve().parent.parent)
 MADE = re.compile(r'(<!-- made: (\w+) -->\n)(.*?)(<!-- end -->\n)', re.S)
 TESTS = ('part_tests', 'worker_tests', 'rehearsal_tests', 'worked_sessions', 'library_example')
-FILE_WIDTH, CRATE_WIDTH = 41, 60  # a longer text about a file or a crate is cut
-NEW_WORDS = 2  # a text about a file has more words than that beside its name
-PLAIN = set('a all an and any are as by bytes capture captures connection connections contracts each every file files for from greatest have hold '
-            'holds how in is it its least made many may most number of one said scenario scenarios see seen segment segments so some that the their '
-            'they to what which with'.split())  # words that say little beside a name
 
 
 # ---- the tree
@@ -57,42 +52,6 @@ def sentence(path):
     return found[1] if found else text
 
 
-def short(text, width):
-    """A sentence without its sources; a long one up to its last colon before a width, else to its first comma, else to a word that goes on."""
-    text, most = re.sub(r' \((?:RFC|IEEE|pcap|PCG)[^)]*\)', '', text), width + 16
-
-    def places(ends, first, last):
-        return [end.start() for end in re.finditer(ends, text) if first <= end.start() <= last]
-    if len(text) <= width: return text
-    colons, clauses, words = places('[:;] ', 12, width), places('[:;] |, (?!or )', 13, most), places(' (?:that|which|with|by|and|to) ', 20, most)
-    if colons: return text[:colons[-1]]
-    if clauses: return text[:clauses[0]]
-    if len(text) <= most: return text
-    return text[:words[-1]] if words else re.split('[:;,] ', text)[0]
-
-
-def new_words(name, text):
-    """How many words of a text are neither plain nor in a name."""
-    own = {root(word) for word in name.lower().split('_')}
-    return len({root(word) for word in re.findall(r'[a-z]+', text.lower()) if word not in PLAIN} - own)
-
-
-def root(word):
-    """A word without its ending."""
-    return re.sub(r'(?<=...)(?:ies|y|s|ed|ing)$', '', word)
-
-
-def bare(text, name):
-    """A sentence without its first words, where these are the file's own name and a colon."""
-    head, colon, rest = text.partition(': ')
-    head = re.sub(r'^(?:The|A|An) |[^a-zA-Z]', '', head).lower()
-    return rest[0].upper() + rest[1:] if colon and head in (name.lower(), name.lower() + 's') else text
-
-
-def snake(name):
-    return re.sub(r'(?<!^)(?=[A-Z])', '_', name).lower()
-
-
 # ---- crates and files
 
 def stands_on(crate):
@@ -104,54 +63,36 @@ def stands_on(crate):
     return [name for name in used[crate] if not any(name in below(other) for other in used[crate])]
 
 
-def told_files(crate):
-    """The files of specs/ of which a text says more than their names do, each with that text."""
-    for path in files(crate, 'specs', '.antt'):
-        if re.search('worked rows', sentence(path), re.I) or path.stem.endswith('Before'): continue
-        text = short(bare(sentence(path), path.stem), FILE_WIDTH)
-        if new_words(f'{snake(path.stem)}_{crate}', text) > NEW_WORDS: yield path.stem, text
-
-
 def made_crates():
-    """Each crate: what it is, what it stands on, and, except for tests, its files."""
+    """Each crate: what it is, and what it stands on."""
     for crate in uses():
         src = TREE / 'crates' / crate / 'src'
         first = src / 'lib.rt' if (src / 'lib.rt').exists() else src / 'main.rt'
         on = ', '.join(stands_on(crate)) if crate in product() else ''
-        yield f'- **{crate}**: {short(sentence(first), CRATE_WIDTH)}{"; on " if on else ""}{on}\n'
-        if crate not in product(): continue
-        for name, text in told_files(crate): yield f'  - {name}: {text}\n'
+        yield f'- **{crate}**: {sentence(first)}{"; on " if on else ""}{on}\n'
 
 
 # ---- limits
 
-def definitions(crate):
-    """The definitions of a crate that are given by one line: of each its file and what it is."""
-    found = {}
-    for path in files(crate, 'specs', '.antt'):
-        for name, value in re.findall(r'^(\w+) = (.*)$', read(path), re.M): found[name] = (path.stem, value)
-    return found
+LIMIT = re.compile(r'^ *(?:///|//) ([^\n]*)\n *(?:pub(?:\(crate\))? )?const ((?:\w+_)?LIMIT|GREATEST_\w+): (?:u\d+|usize) = (.*);$', re.M)
+DEFINED_LIMIT = re.compile(r'^-- ([^\n]*)\n[^\n]*\n(\w+_limit) = ([\d ^]+)$', re.M)
 
 
-def limits(crate):
-    """Each constant of a crate that is a number, except what headers fix and rooms, and limits that only definitions have: file, name, value."""
-    told = set()
-    for path in files(crate, 'src', '.rt'):
-        for name, value in re.findall(r'^ *(?:pub(?:\(crate\))? )?const (\w+): (?:u\d+|usize) = (.*);$', read(path), re.M):
-            told.add(name.lower())
-            if name.endswith(('_ROOM', 'MAGIC', 'HEADER_LEN')): continue  # first sizes of texts, and what headers fix
-            if path.stem == 'layout' and not name.endswith('_LIMIT'): continue
-            yield path.stem, name, value
-    for name, (file, value) in definitions(crate).items():
-        if re.search(r'_limit$|^most_', name) and name not in told and re.fullmatch(r'[\d ^]+', value): yield file, name, value
+def limits():
+    """The limits of the libraries, those that only definitions have too: of each its crate, file, name, value and comment."""
+    found, told = [], set()
+    for crate in libraries():
+        found += [(crate, path.stem, *row.groups()) for path in files(crate, 'src', '.rt') for row in LIMIT.finditer(read(path))]
+        found += [(crate, path.stem, *row.groups()) for path in files(crate, 'specs', '.antt') for row in DEFINED_LIMIT.finditer(read(path))]
+    for crate, file, text, name, value in sorted(found, key=lambda row: row[3].islower()):
+        if (crate, name.lower()) not in told: yield crate, file, name, value, text
+        told.add((crate, name.lower()))
 
 
 def made_limits():
-    """Each limit after its file, with its value."""
-    for crate in libraries():
-        found = {}
-        for file, name, value in limits(crate): found.setdefault(file, []).append(f'{name} = {value}')
-        for file, told in found.items(): yield f'- {crate}/{file}: {", ".join(told)}\n'
+    """Each limit with its value, its file and what it limits."""
+    for crate, file, name, value, text in limits():
+        yield f'- `{name} = {value}` (`{crate}/{file}`): {text[0].lower()}{re.split("[:.]( |$)", text)[0][1:]}\n'
 
 
 # ---- calls

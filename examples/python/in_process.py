@@ -168,10 +168,10 @@ def rehearse(capture: Capture, scenarios: Scenarios, hosts: Hosts = b"", seed: i
     return by_program(inputs) or in_parts(inputs)
 
 
-def sliced_size(inputs: Inputs) -> int:
-    """About how many bytes the outputs have at most, whose slicers may make many segments of one."""
+def sliced_size(inputs: Inputs) -> float:
+    """About how many bytes the outputs have at most: each slicer cuts once more after its size."""
     sizes = [[int(size) for size in re.findall(rb'"average_size"\s*:\s*([0-9]{1,10})', text)] for text in inputs.scenarios]
-    return sum(len(inputs.capture) * (1 + SEGMENT // max(1, min(found, default=SEGMENT))) for found in sizes)
+    return sum(len(inputs.capture) * (1 + sum(SEGMENT / max(1, size) for size in found)) for found in sizes)
 
 
 def outputs_of(inputs: Inputs, large: int) -> List[Output]:

@@ -128,6 +128,7 @@ class Memory(Folder):
         capture = self.folder / "capture"
         capture.write_bytes(sessions(10, 1, 40))
         self.takes_little(capture, [[proxy("10.2.0.0:80", toxic("slicer", average_size=2))]])
+        self.takes_little(capture, [[proxy("10.2.0.0:80", *(toxic("slicer", average_size=50 - size, name=str(size)) for size in range(8)))]])
 
     def test_small_outputs(self):
         """Room that stays empty takes no memory."""

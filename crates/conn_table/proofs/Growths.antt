@@ -9,7 +9,7 @@ use Rattle.conn_table.specs.declared.conns.Pair.{Pair}
 use Rattle.conn_table.specs.declared.conns.Member.{Member}
 use Rattle.conn_table.specs.declared.conns.Conn.{Conn}
 use Rattle.conn_table.specs.declared.entries.Entry.{Entry}
-use Rattle.conn_table.specs.declared.lasts.Current.{Current}
+use Rattle.conn_table.specs.declared.last_connections.Current.{Current}
 use Rattle.conn_table.specs.declared.growth.Growth.{Growth}
 use Rattle.conn_table.specs.IndexedSegments.{same_pair}
 use Rattle.conn_table.specs.KeptSegments.{KeptSegment, is_again, opening_of, opens}
@@ -100,21 +100,21 @@ ready done g within grown =
     let none : IsFew 0 grown_none = record { conns = omega arith; unopened = omega arith; placed = λ p x is. absurd cc } in
     let few : IsFew (0 + length (map kept_by done)) (shown_by g) = subst (IsFew (0 + length (map kept_by done))) (sym grown.shown) (few-all (map kept_by done) 0 grown_none none) in
     let len = length-map done kept_by in
-    record { lasts = grown.lasts; few = omega (arith, len, few.conns); few_unopened = omega (arith, len, few.unopened); placed = few.placed }
+    record { last_connections = grown.last_connections; few = omega (arith, len, few.conns); few_unopened = omega (arith, len, few.unopened); placed = few.placed }
 
 -- ---- one segment more
 
-pub grown-none : (g : Growth) → g.conns.items ≡ [] → g.unopened ≡ 0 → IsLasts g.lasts → ((p : Pair) → get same_pair g.lasts.map p ≡ None) → HasGrown [] g
+pub grown-none : (g : Growth) → g.conns.items ≡ [] → g.unopened ≡ 0 → IsLasts g.last_connections → ((p : Pair) → get same_pair g.last_connections.map p ≡ None) → HasGrown [] g
 unfolding grown_of
-grown-none g conns unopened lasts empty = record { shown = λ i. record { conns = conns i; unopened = unopened i; current = λ p. empty p i }; lasts = lasts }
+grown-none g conns unopened last_connections empty = record { shown = λ i. record { conns = conns i; unopened = unopened i; current = λ p. empty p i }; last_connections = last_connections }
 
-pub grown-next : (done : List Entry) (e : Entry) (old new : Growth) → HasGrown done old → shown_by new ≡ grown_with (shown_by old) (kept_by e) → IsLasts new.lasts → HasGrown (done ++ e ∷ []) new
+pub grown-next : (done : List Entry) (e : Entry) (old new : Growth) → HasGrown done old → shown_by new ≡ grown_with (shown_by old) (kept_by e) → IsLasts new.last_connections → HasGrown (done ++ e ∷ []) new
 unfolding grown_of
-grown-next done e old new grown next lasts = record {
+grown-next done e old new grown next last_connections = record {
   shown =
       next ∙ ap (λ (g : GrownView). grown_with g (kept_by e)) grown.shown
       ∙ sym (ap (λ ks. fold grown_with grown_none ks) (map_push kept_by done e) ∙ fold_push grown_with grown_none (map kept_by done) (kept_by e));
-  lasts = lasts;
+  last_connections = last_connections;
 }
 
 -- after some segments, one more of a list

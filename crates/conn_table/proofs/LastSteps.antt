@@ -6,9 +6,9 @@ use Rattle.std.proofs.lemmas.Option.{same_Some, slice_get-get_or, slice_get_read
 use Rattle.lists.proofs.Lists.{slice_get-set_same, slice_get-set_other}
 use Rattle.indexmap.specs.IndexMap.{get}
 use Rattle.conn_table.specs.declared.conns.Pair.{Pair}
-use Rattle.conn_table.specs.declared.lasts.Current.{Current}
-use Rattle.conn_table.specs.declared.lasts.Recent.{Recent}
-use Rattle.conn_table.specs.declared.lasts.Lasts.{Lasts}
+use Rattle.conn_table.specs.declared.last_connections.Current.{Current}
+use Rattle.conn_table.specs.declared.last_connections.Recent.{Recent}
+use Rattle.conn_table.specs.declared.last_connections.LastConnections.{LastConnections}
 use Rattle.conn_table.specs.IndexedSegments.{same_pair}
 use Rattle.conn_table.specs.LastConnections.{slot_of, current_in, IsSlot, IsLasts}
 use Rattle.conn_table.proofs.Peers.{same_pair-is}
@@ -23,31 +23,31 @@ none_taken n i r at =
     slice_get-get_or (replicate n None) i None (omega (arith, length-replicate n none)) ∙ ap (λ (y : Option Recent). Some y) (get_or-replicate n i None None within) in
     absurd cc
 
-pub lasts-none : (lasts : Lasts) (n : ℕ) → 0 < n → lasts.recent.items ≡ replicate n None → IsLasts lasts
-lasts-none lasts n some items = record {
+pub last_connections-none : (last_connections : LastConnections) (n : ℕ) → 0 < n → last_connections.recent.items ≡ replicate n None → IsLasts last_connections
+last_connections-none last_connections n some items = record {
   some = subst (λ k. 0 < k) (sym (ap (λ (xs : List (Option Recent)). length xs) items ∙ length-replicate n None)) some;
   slots = λ i r at. absurd (none_taken n i r (ap (λ (xs : List (Option Recent)). slice_get xs i) (sym items) ∙ at));
 }
 
 -- ---- a pair that was looked up
 
-pub last-recent : (lasts : Lasts) (p : Pair) (i : ℕ) (o : Option Recent) (c : Current) → IsLasts lasts → slice_get lasts.recent.items i ≡ Some o → current_in o p ≡ Some c → Some c ≡ get same_pair lasts.map p
-last-recent lasts p i None c is at found = absurd cc
-last-recent lasts p i (Some r) c is at found = by_pair (same_pair r.pair p) refl found
+pub last-recent : (last_connections : LastConnections) (p : Pair) (i : ℕ) (o : Option Recent) (c : Current) → IsLasts last_connections → slice_get last_connections.recent.items i ≡ Some o → current_in o p ≡ Some c → Some c ≡ get same_pair last_connections.map p
+last-recent last_connections p i None c is at found = absurd cc
+last-recent last_connections p i (Some r) c is at found = by_pair (same_pair r.pair p) refl found
   where
-    by_pair : (b : Bool) → same_pair r.pair p ≡ b → cond b (Some r.current) None ≡ Some c → Some c ≡ get same_pair lasts.map p
-    by_pair true same some = sym some ∙ sym (ap (λ (q : Pair). get same_pair lasts.map q) (sym (same_pair-is r.pair p same)) ∙ (is.slots i r at).current)
+    by_pair : (b : Bool) → same_pair r.pair p ≡ b → cond b (Some r.current) None ≡ Some c → Some c ≡ get same_pair last_connections.map p
+    by_pair true same some = sym some ∙ sym (ap (λ (q : Pair). get same_pair last_connections.map q) (sym (same_pair-is r.pair p same)) ∙ (is.slots i r at).current)
     by_pair false other some = absurd cc
 
-pub last-found : (lasts : Lasts) (p : Pair) (i : ℕ) (o : Option Recent) (x : Option Current) → IsLasts lasts → i < length lasts.recent.items → o ≡ get_or lasts.recent.items i o → x ≡ current_in o p → is_some x ≡ true → x ≡ get same_pair lasts.map p
-last-found lasts p i o None is within at found some = absurd cc
-last-found lasts p i o (Some c) is within at found some = last-recent lasts p i o c is (slice_get_read lasts.recent.items (length lasts.recent.items) i o refl within at) (sym found)
+pub last-found : (last_connections : LastConnections) (p : Pair) (i : ℕ) (o : Option Recent) (x : Option Current) → IsLasts last_connections → i < length last_connections.recent.items → o ≡ get_or last_connections.recent.items i o → x ≡ current_in o p → is_some x ≡ true → x ≡ get same_pair last_connections.map p
+last-found last_connections p i o None is within at found some = absurd cc
+last-found last_connections p i o (Some c) is within at found some = last-recent last_connections p i o c is (slice_get_read last_connections.recent.items (length last_connections.recent.items) i o refl within at) (sym found)
 
 -- the slot of a pair is taken by it
-pub lasts-set : (old new : Lasts) (n : ℕ) (p : Pair) (c : Current) → IsLasts old → n ≡ length old.recent.items → slot_of n p < n
+pub last_connections-set : (old new : LastConnections) (n : ℕ) (p : Pair) (c : Current) → IsLasts old → n ≡ length old.recent.items → slot_of n p < n
     → new.recent.items ≡ set old.recent.items (slot_of n p) (Some (record { pair = p; current = c }))
     → get same_pair new.map p ≡ Some c → ((q : Pair) → same_pair p q ≡ false → get same_pair new.map q ≡ get same_pair old.map q) → IsLasts new
-lasts-set old new n p c is count within items last others = record {
+last_connections-set old new n p c is count within items last others = record {
   some = subst (λ k. 0 < k) (count ∙ sym len) (subst (λ k. 0 < k) (sym count) is.some);
   slots = λ i r at. by_slot i r (ap (λ (xs : List (Option Recent)). slice_get xs i) (sym items) ∙ at) (cases_eq i (slot_of n p));
 }

@@ -16,7 +16,7 @@ use Rattle.conn_table.specs.declared.conns.Pair.{Pair}
 use Rattle.conn_table.specs.declared.conns.Member.{Member}
 use Rattle.conn_table.specs.declared.conns.Conn.{Conn}
 use Rattle.conn_table.specs.declared.entries.Opening.{Opening}
-use Rattle.conn_table.specs.declared.lasts.Current.{Current}
+use Rattle.conn_table.specs.declared.last_connections.Current.{Current}
 use Rattle.conn_table.specs.IndexedSegments.{IndexedSegment, peer_le, same_pair, pair_of_segment}
 use Rattle.conn_table.specs.Connections.{is_opening, of_one_pair, repeats, begins_in, beginnings, beginning_of, is_at, unopened_count, later_members, Connection, connection_of, connections, last_of}
 use Rattle.conn_table.specs.IndexedConnections.{indexed_connection_of, indexed_connections, without_indices, IndexedConnectionsAgree}

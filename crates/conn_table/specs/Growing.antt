@@ -8,7 +8,7 @@ use Rattle.conn_table.specs.declared.conns.Pair.{Pair}
 use Rattle.conn_table.specs.declared.conns.Member.{Member}
 use Rattle.conn_table.specs.declared.conns.Conn.{Conn}
 use Rattle.conn_table.specs.declared.entries.Entry.{Entry}
-use Rattle.conn_table.specs.declared.lasts.Current.{Current}
+use Rattle.conn_table.specs.declared.last_connections.Current.{Current}
 use Rattle.conn_table.specs.declared.growth.Growth.{Growth}
 use Rattle.conn_table.specs.IndexedSegments.{same_pair}
 use Rattle.conn_table.specs.KeptSegments.{KeptSegment, is_from_low, opens, opening_of, is_again}
@@ -80,15 +80,15 @@ grown_of ks = fold grown_with grown_none ks
 -- ---- what the code has of it
 
 abbrev pub shown_by : Growth → GrownView
-shown_by g = record { conns = g.conns.items; unopened = g.unopened; current = λ p. get same_pair g.lasts.map p }
+shown_by g = record { conns = g.conns.items; unopened = g.unopened; current = λ p. get same_pair g.last_connections.map p }
 
 pub record HasGrown (done : List Entry) (g : Growth) : Type 0 where
   pub shown : shown_by g ≡ grown_of (map kept_by done)
-  pub lasts : IsLasts g.lasts
+  pub last_connections : IsLasts g.last_connections
 
 -- one more segment may be taken
 pub record IsReady (g : Growth) : Type 0 where
-  pub lasts : IsLasts g.lasts
+  pub last_connections : IsLasts g.last_connections
   pub few : length g.conns.items < 2 ^ 31
   pub few_unopened : g.unopened < 2 ^ 31
-  pub placed : (p : Pair) (x : Current) → get same_pair g.lasts.map p ≡ Some x → x.number < length g.conns.items
+  pub placed : (p : Pair) (x : Current) → get same_pair g.last_connections.map p ≡ Some x → x.number < length g.conns.items

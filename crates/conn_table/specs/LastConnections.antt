@@ -2,9 +2,9 @@
 use Rattle.std.specs.Prelude.{◌≡◌, ◌<◌, ℕ, ◌+◌, ◌-◌, ◌*◌, ◌/◌, ◌%◌, ◌^◌, bit_and, length, Option, Some, None, slice_get, if◌then◌else◌}
 use Rattle.indexmap.specs.IndexMap.{get}
 use Rattle.conn_table.specs.declared.conns.Pair.{Pair}
-use Rattle.conn_table.specs.declared.lasts.Current.{Current}
-use Rattle.conn_table.specs.declared.lasts.Recent.{Recent}
-use Rattle.conn_table.specs.declared.lasts.Lasts.{Lasts}
+use Rattle.conn_table.specs.declared.last_connections.Current.{Current}
+use Rattle.conn_table.specs.declared.last_connections.Recent.{Recent}
+use Rattle.conn_table.specs.declared.last_connections.LastConnections.{LastConnections}
 use Rattle.conn_table.specs.IndexedSegments.{same_pair}
 use Rattle.conn_table.specs.PairWords.{addrs_word, ports_word}
 
@@ -17,10 +17,10 @@ current_in None p = None
 current_in (Some r) p = if same_pair r.pair p then Some r.current else None
 
 -- slot i is that of the pair in it, and has the connection that the map has for the pair
-pub record IsSlot (lasts : Lasts) (i : ℕ) (r : Recent) : Type 0 where
-  pub slot : slot_of (length lasts.recent.items) r.pair ≡ i
-  pub current : get same_pair lasts.map r.pair ≡ Some r.current
+pub record IsSlot (last : LastConnections) (i : ℕ) (r : Recent) : Type 0 where
+  pub slot : slot_of (length last.recent.items) r.pair ≡ i
+  pub current : get same_pair last.map r.pair ≡ Some r.current
 
-pub record IsLasts (lasts : Lasts) : Type 0 where
-  pub some : 0 < length lasts.recent.items
-  pub slots : (i : ℕ) (r : Recent) → slice_get lasts.recent.items i ≡ Some (Some r) → IsSlot lasts i r
+pub record IsLasts (last : LastConnections) : Type 0 where
+  pub some : 0 < length last.recent.items
+  pub slots : (i : ℕ) (r : Recent) → slice_get last.recent.items i ≡ Some (Some r) → IsSlot last i r

@@ -4,7 +4,7 @@ ghost use Rattle.conn_table.specs.Growing.{grown_at};
 
 use crate::conns::{Conn, Member, Members};
 use crate::entries::Entry;
-use crate::lasts::{Current, Lasts};
+use crate::last_connections::{Current, LastConnections};
 use crate::pair_keys::PairKeys;
 use std::alloc::{AllocError, Global};
 
@@ -12,7 +12,7 @@ use std::alloc::{AllocError, Global};
 #[derive(Drop)]
 pub(crate) struct Growth {
     pub(crate) conns: Vec<Conn>,
-    pub(crate) lasts: Lasts,
+    pub(crate) last_connections: LastConnections,
     pub(crate) unopened: u64,
     /// The number of members for which a new connection gets room.
     pub(crate) room: usize,
@@ -33,7 +33,7 @@ impl Growth {
         let (keys, openings) = PairKeys::of_openings(ranges);
         Ok(Growth {
             conns: Vec::with_capacity(alloc, openings)?,
-            lasts: Lasts::with_room(alloc, keys, openings)?,
+            last_connections: LastConnections::with_room(alloc, keys, openings)?,
             unopened: 0,
             room: segments_in(ranges).div_ceil(openings.max(1)),
         })
@@ -52,12 +52,12 @@ impl Growth {
     pub(crate) fn take(&mut self, alloc: Global, entry: &Entry) -> Result<(), AllocError>
         requires { IsReady self.old }
         ensures shown { OnOk result (shown_by self.new ≡ grown_with (shown_by self.old) (kept_by entry.now)) }
-        ensures lasts { OnOk result (IsLasts self.new.lasts) }
+        ensures last_connections { OnOk result (IsLasts self.new.last_connections) }
     {
         if entry.opens() {
             return self.take_opening(alloc, entry);
         }
-        if let Some(last) = self.lasts.last_of(entry.pair()) {
+        if let Some(last) = self.last_connections.last_of(entry.pair()) {
             return self.take_member(entry, last);
         }
         self.unopened += 1;
@@ -69,15 +69,17 @@ impl Growth {
         requires ready { IsReady self.old }
         requires opens { opens (kept_by entry.now) ≡ true }
         ensures shown { OnOk result (shown_by self.new ≡ grown_with (shown_by self.old) (kept_by entry.now)) }
-        ensures lasts { OnOk result (IsLasts self.new.lasts) }
+        ensures last_connections { OnOk result (IsLasts self.new.last_connections) }
     {
         let pair = entry.pair();
         let opening = entry.opening();
         let number = self.conns.len() as u32;
-        let last = self.lasts.put(pair, Current { number, opening })?;
+        let last = self
+            .last_connections
+            .put(pair, Current { number, opening })?;
         match last {
             Some(last) if last.opening.is_same(opening) => {
-                self.lasts.put(pair, last)?;
+                self.last_connections.put(pair, last)?;
                 self.take_member(entry, last)?;
             }
             _ => self.begin(alloc, entry, number)?,
@@ -89,7 +91,7 @@ impl Growth {
         requires { last.number < length self.old.conns.items }
         ensures conns { OnOk result (self.new.conns.items
             ≡ grown_at last.number (member_from last.opening.from_low (kept_by entry.now)) self.old.conns.items) }
-        ensures lasts { OnOk result (self.new.lasts ≡ self.old.lasts) }
+        ensures last_connections { OnOk result (self.new.last_connections ≡ self.old.last_connections) }
         ensures unopened { OnOk result (self.new.unopened ≡ self.old.unopened) }
     {
         let member = entry.member_of(last.opening.from_low);
@@ -98,7 +100,7 @@ impl Growth {
 
     fn begin(&mut self, alloc: Global, entry: &Entry, number: u32) -> Result<(), AllocError>
         ensures conns { OnOk result (self.new.conns.items ≡ self.old.conns.items ++ conn_with number (kept_by entry.now) ∷ []) }
-        ensures lasts { OnOk result (self.new.lasts ≡ self.old.lasts) }
+        ensures last_connections { OnOk result (self.new.last_connections ≡ self.old.last_connections) }
         ensures unopened { OnOk result (self.new.unopened ≡ self.old.unopened) }
     {
         let pair = entry.pair();

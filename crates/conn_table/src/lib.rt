@@ -6,7 +6,7 @@ mod class_counts;
 mod conns;
 mod entries;
 mod growth;
-mod lasts;
+mod last_connections;
 pub mod laws;
 mod pair_keys;
 mod partial;

@@ -62,7 +62,7 @@ pub fn finish(alloc: Global, partial: Partial) -> Result<Table, AllocError>
     let growth = grown_of(alloc, ranges)?;
     let Growth {
         conns,
-        lasts: _,
+        last_connections: _,
         unopened,
         room: _,
     } = growth;

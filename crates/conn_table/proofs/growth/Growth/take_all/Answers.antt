@@ -14,4 +14,4 @@ pub loop-entry-preserved : goal.loop-entry-preserved
 loop-entry-preserved c = λ done grown.
     let first = take c.loop-entry.entry-index c.args.range.now in
     subst (λ es. HasGrown es c.take.new.self) (sym (taken-next done c.args.range.now c.loop-entry.entry-index c.entry-item.result c.loop-entry-test.true c.entry-item.is))
-    (grown-next (done ++ first) c.entry-item.result c.loop-entry.self c.take.new.self (c.loop-entry.invariant done grown) c.in_ok-take.ensures.shown c.in_ok-take.ensures.lasts)
+    (grown-next (done ++ first) c.entry-item.result c.loop-entry.self c.take.new.self (c.loop-entry.invariant done grown) c.in_ok-take.ensures.shown c.in_ok-take.ensures.last_connections)

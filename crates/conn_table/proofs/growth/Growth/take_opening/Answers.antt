@@ -9,7 +9,7 @@ use Rattle.conn_table.proofs.growth.Growth.take_opening.Goals as goal
 
 pub returns-in_ok-take_member-in-Some-clause-shown : goal.returns-in_ok-take_member-in-Some-clause-shown
 returns-in_ok-take_member-in-Some-clause-shown c =
-    let old = c.args.self.now.lasts.map in
+    let old = c.args.self.now.last_connections.map in
     let last = c.in-Some.last in
     let is = c.in_ok-take_member-in-Some.ensures in
     let found = sym (rw c.pair-pair.ensures at c.in_ok-last.ensures.last) ∙ c.in-Some.is in
@@ -17,6 +17,6 @@ returns-in_ok-take_member-in-Some-clause-shown c =
     let again = rw c.pair-pair.ensures at c.in_ok-put-in-Some.ensures.map in
     let repeated = ap (is_again (Some last.opening)) (sym c.opening-opening.ensures) ∙ sym c.is_same.ensures ∙ c.if-is_same.true in
     grown-again (shown_by c.args.self.now) (shown_by c.take_member.new.self) (kept_by c.args.entry.now) last found c.requires.opens repeated is.conns
-    (λ q. ap (λ lasts. get same_pair lasts.map q) is.lasts
+    (λ q. ap (λ last. get same_pair last.map q) is.last_connections
     ∙ put_back (get same_pair old) (get same_pair c.put.new.self.map) (get same_pair c.put-in-Some.new.self.map) (kept_by c.args.entry.now).pair _ last found once.0 again.0 q)
     is.unopened

@@ -27,7 +27,7 @@ const MOST_SLOTS: usize = 4096;
 
 /// The last connection of each pair.
 #[derive(Drop)]
-pub(crate) struct Lasts {
+pub(crate) struct LastConnections {
     pub(crate) map: IndexMap<Pair, Current, PairKeys>,
     pub(crate) recent: Vec<Option<Recent>>,
 }
@@ -67,7 +67,7 @@ fn current_in(slot: Option<Recent>, pair: Pair) -> Option<Current>
     }
 }
 
-impl Lasts {
+impl LastConnections {
     ghost use Rattle.std.specs.Prelude.{◌≡◌, None, Some, IfOk, OnOk};
     ghost use Rattle.indexmap.specs.IndexMap.{get, Updates};
     ghost use Rattle.conn_table.specs.IndexedSegments.{same_pair};
@@ -77,11 +77,11 @@ impl Lasts {
         alloc: Global,
         keys: PairKeys,
         openings: usize,
-    ) -> Result<Lasts, AllocError>
-        ensures lasts { IfOk result IsLasts }
-        ensures empty { IfOk result (λ lasts. (p : _) → get same_pair lasts.map p ≡ None) }
+    ) -> Result<LastConnections, AllocError>
+        ensures last_connections { IfOk result IsLasts }
+        ensures empty { IfOk result (λ last. (p : _) → get same_pair last.map p ≡ None) }
     {
-        Ok(Lasts {
+        Ok(LastConnections {
             map: IndexMap::with_capacity_and_hasher(alloc, openings, keys)?,
             recent: vec![in alloc; None; slots_for(openings)]?,
         })
@@ -89,7 +89,7 @@ impl Lasts {
 
     pub(crate) fn last_of(&mut self, pair: Pair) -> Option<Current>
         requires { IsLasts self.old }
-        ensures lasts { IsLasts self.new }
+        ensures last_connections { IsLasts self.new }
         ensures map { self.new.map ≡ self.old.map }
         ensures last { result ≡ get same_pair self.old.map pair }
     {
@@ -113,7 +113,7 @@ impl Lasts {
     ) -> Result<Option<Current>, AllocError>
         requires { IsLasts self.old }
         ensures last { IfOk result (λ last. last ≡ get same_pair self.old.map pair) }
-        ensures lasts { OnOk result (IsLasts self.new) }
+        ensures last_connections { OnOk result (IsLasts self.new) }
         ensures map { OnOk result (Updates same_pair self.old.map self.new.map pair (Some current)) }
     {
         let last = self.map.insert(pair, current)?;

@@ -1,9 +1,0 @@
-use Rattle.std.proofs.Common.{refl, rules}
-use Rattle.conn_table.proofs.LastSteps.{lasts-none}
-use Rattle.conn_table.proofs.lasts.Lasts.with_room.Goals as goal
-
-pub returns-clause-lasts : goal.returns-clause-lasts
-returns-clause-lasts c = lasts-none _ c.slots_for.result c.slots_for.ensures (c.in_ok-vec.ensures.items_if_clones_equal (search rules))
-
-pub returns-clause-empty : goal.returns-clause-empty
-returns-clause-empty c p = rw c.in_ok-with_capacity_and_hasher.ensures.empty refl

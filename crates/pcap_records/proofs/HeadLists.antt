@@ -9,7 +9,7 @@ use Rattle.pcap_records.specs.declared.capture.Record.{Record}
 use Rattle.pcap_records.specs.declared.head_list.HeadList.{HeadList}
 use Rattle.pcap_records.specs.CaptureView.{IsWithinFile, packet_of}
 use Rattle.pcap_records.specs.Reading.{Heading, first_packet, packet_len}
-use Rattle.pcap_records.specs.Listed.{IsRecordAt}
+use Rattle.pcap_records.specs.FoundRecords.{IsRecordAt}
 use Rattle.pcap_records.specs.Heads.{head_bytes, head_len, head_of, read_on, some_heads}
 use Rattle.pcap_records.specs.HeadLists.{AreKept, IsGrownBy, IsKept, heads_kept, kept_bytes, kept_head, kept_len, told_packet}
 use Rattle.pcap_records.proofs.HeadReading.{read_on-whole}

@@ -5,7 +5,7 @@ use Rattle.std.proofs.lemmas.List.{drop-drop, append-nil, append_assoc}
 use Rattle.std.proofs.lemmas.Bool.Decides.{nat_tests}
 use Rattle.pcap_records.specs.declared.capture.Record.{Record}
 use Rattle.pcap_records.specs.Instants.{horizon}
-use Rattle.pcap_records.specs.Listed.{IsRecordAt}
+use Rattle.pcap_records.specs.FoundRecords.{IsRecordAt}
 use Rattle.pcap_records.specs.declared.fault.CaptureFault.{CaptureFault}
 use Rattle.pcap_records.specs.declared.fault.CaptureFault.TheVariants.{RecordTooLong}
 use Rattle.lists.specs.Agreement.{Refuses}

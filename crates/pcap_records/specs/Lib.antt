@@ -3,7 +3,7 @@ pub mod Reading
 pub mod Grammar
 pub mod Blocks
 pub mod CaptureView
-pub mod Listed
+pub mod FoundRecords
 pub mod Heads
 pub mod HeadLists
 pub mod Writing

@@ -4,7 +4,7 @@ ghost use Rattle.pcap_records.specs.Reading.{reading, capture_limit, file_header
 ghost use Rattle.lists.specs.Agreement.{Agrees, Refuses};
 ghost use Rattle.pcap_records.specs.CaptureView.{bytes_of, heading_of, reading_of, capture_refusal, IsSoundCapture};
 ghost use Rattle.pcap_records.specs.Instants.{ticks_of};
-ghost use Rattle.pcap_records.specs.Listed.{listed_contents, IsFoundAt};
+ghost use Rattle.pcap_records.specs.FoundRecords.{listed_contents, IsFoundAt};
 
 use crate::capture::{Capture, Record};
 use crate::fault::CaptureFault;

@@ -77,7 +77,7 @@ last_part (Some f) start part room short some within first gives =
 
 module _ {A : Type 0} (view : A → List ℕ) (result : Result A RunFault) where
   abbrev Loaded : Result (List ℕ) RunFault → Type 0
-  Loaded wanted = AgreesUnlessMemory run_refusal view result wanted
+  Loaded expected = AgreesUnlessMemory run_refusal view result expected
 
   from_held : (held told : Option ToldFile) → IsFileAt held told → IfSome told (λ f. Loaded (text_of_file (Some f))) → Loaded (text_of_file held)
   from_held None told is of = absurd is

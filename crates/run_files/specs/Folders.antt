@@ -10,22 +10,23 @@ use Rattle.run_files.specs.RunFault.{failed_puts}
 abbrev pub name_limit : ℕ
 name_limit = 255
 
--- no file of a folder may have this name
+-- a folder refuses this name, and with an empty path each name
 abbrev pub is_refused : List ℕ → List ℕ → Bool
 is_refused folder name = length folder == 0 || nat_lt name_limit (length name) || has_slash name || is_draft_name name
 
--- the number of the disk's calls that failed, if storing ended so: 0 in an empty path, since the folder then refuses every name itself
+-- the number of the disk's calls that failed if storing had this outcome: 0 in an empty path, which refuses every name itself
 abbrev pub failed_stores : List ℕ → Result (Unit {0}) RunFault → ℕ
 failed_stores folder outcome = failed_puts (length folder == 0) outcome
 
+-- drafts that exist at one time have different places, which count from 0
 abbrev pub draft_name : ℕ → List ℕ
 draft_name place = unfinished ++ codes "-" ++ decimal place
 
--- In an empty path the draft's path is empty, and no file can be there.
+-- If the folder's path is empty, so is the draft's: no file can be there.
 abbrev pub draft_path : List ℕ → ℕ → List ℕ
 draft_path folder place = if length folder == 0 then [] else path_in folder (draft_name place)
 
--- two drafts in different places have different paths
+-- in a folder with a path, drafts in different places have different paths
 abbrev pub DraftPathsDiffer : Type 0
 DraftPathsDiffer = (folder : List ℕ) (one other : ℕ) → 0 < length folder → one < 2 ^ 64 → other < 2 ^ 64
     → draft_path folder one ≡ draft_path folder other → one ≡ other
@@ -34,6 +35,6 @@ DraftPathsDiffer = (folder : List ℕ) (one other : ℕ) → 0 < length folder �
 abbrev pub in_folder : List ℕ → StoredFile → NamedFile
 in_folder folder file = named_file (path_in folder file.name) file.bytes
 
--- exactly these files got names, in this order, all in this folder
+-- as far as the disk tells, exactly these files got names, in this order, all in this folder
 abbrev pub TakesIn : List ℕ → Option History → Option History → List StoredFile → Type 0
 TakesIn folder old new files = Names old new (map (in_folder folder) files)

@@ -1,4 +1,4 @@
--- What is kept of a capture's text if only reports are wanted.
+-- What is kept of a capture's text if only reports are expected.
 use Rattle.std.specs.Prelude.{◌≡◌, ℕ, ◌≤◌, true, false, List, length, IfOk, Result, Ok, Err}
 use Rattle.lists.specs.Agreement.{AgreesUnlessMemory}
 use Rattle.pcap_records.specs.Heads.{heads_in}

@@ -55,6 +55,7 @@ fn block_count<F: DiskFile>(file: &F) -> usize
     }
 }
 
+// Each block has memory of its own: one buffer for all of them would first have to be filled with zeros.
 fn blocks_by_workers<R: Threads + Sync, F: DiskFile + Sync>(
     rt: &R,
     alloc: Global,

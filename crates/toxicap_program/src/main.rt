@@ -17,12 +17,13 @@ mod tips;
 
 use command_line::{Asked, Stop, read_arguments};
 use disks::HostDisk;
-use run::Run;
-use std::io::IsTerminal;
+use run::{HEADER_LEN, Run};
+use run_files::{TeeReader, TeeWriter};
+use std::io::{Cursor, IsTerminal};
 use std::process::ExitCode;
 use std::sync::atomic::AtomicU64;
 use std::{env, io};
-use summary::{Summary, SummedUp};
+use summary::Summary;
 use terminal::{Announced, Counting};
 use tips::tip_of;
 use toxicap::{Counted, RunFault, command_over, refuse_words};
@@ -38,16 +39,17 @@ fn main(rt: HostRuntime) -> ExitCode {
     let asked = (is_terminal || is_hinted).then(|| read_arguments(rt.alloc(), &words).ok());
     let asked = asked.flatten();
     let on_terminal = asked.as_ref().filter(|_| is_terminal);
-    let mut input = Counted::new(Announced {
-        input: rt.stdin(),
-        faults: rt.stderr(),
-        is_announced: on_terminal.is_none() || !rt.stdin().is_terminal(),
-        first_bytes: Vec::new(rt.alloc()),
+    let mut input = Counted::new(TeeReader {
+        inner: Announced {
+            input: rt.stdin(),
+            faults: rt.stderr(),
+            is_announced: on_terminal.is_none() || !rt.stdin().is_terminal(),
+        },
+        copy: Cursor::new([0; HEADER_LEN]),
     });
-    let mut output = Counted::new(SummedUp {
+    let mut output = Counted::new(TeeWriter {
         inner: rt.stdout(),
-        is_wanted: on_terminal.is_some(),
-        summary: Summary::new(rt.alloc()),
+        copy: Summary::new(rt.alloc(), on_terminal.is_some()),
     });
     let files = Counting {
         rt: &rt,
@@ -64,8 +66,9 @@ fn main(rt: HostRuntime) -> ExitCode {
         &mut faults,
     );
     if let Some(asked) = asked.as_ref().filter(|_| is_terminal || outcome.is_err()) {
-        let (first_bytes, printed) = (input.into_inner().first_bytes, output.into_inner().summary);
-        print_line(&rt, asked, first_bytes, outcome, printed);
+        let (start, printed) = (input.into_inner().copy, output.into_inner().copy);
+        let first_bytes = start.get_ref().get(..start.position() as usize);
+        print_line(&rt, asked, first_bytes.unwrap_or(&[]), outcome, printed);
     } else if asked.is_none() && (is_terminal || is_hinted) {
         print_tip(&rt, &words);
     }
@@ -79,7 +82,7 @@ fn words_of(rt: &HostRuntime) -> io::Result<Vec<String>> {
 fn print_line(
     rt: &HostRuntime,
     asked: &Asked<'_>,
-    first_bytes: Vec<u8>,
+    first_bytes: &[u8],
     outcome: Result<(), RunFault>,
     printed: Summary,
 ) {

@@ -52,7 +52,7 @@ impl<R: Files> Run<'_, R> {
         if is_given && Ipv4Addr::parse_ascii(addr.as_bytes()).is_ok() {
             return say!(self.alloc; "--host {host}: an earlier --host has the name");
         }
-        say!(self.alloc; "--host {host}: NAME=ADDR with an IPv4 address is wanted, as redis=10.0.0.9")
+        say!(self.alloc; "--host {host}: NAME=ADDR with an IPv4 address is expected, as redis=10.0.0.9")
     }
 
     // Of the files that were named the first that cannot be read now.
@@ -209,5 +209,5 @@ fn link_text(alloc: Global, first_bytes: &[u8]) -> Said {
     if matches!(link, 113 | 276) {
         return say!(alloc; "is an \"any\" capture (link type {link}): record on one interface, tcpdump -i eth0, not any");
     }
-    say!(alloc; "is of link type {link}, and Ethernet, 1, is wanted: record on an Ethernet interface")
+    say!(alloc; "is of link type {link}, and Ethernet, 1, is expected: record on an Ethernet interface")
 }

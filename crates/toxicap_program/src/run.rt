@@ -22,7 +22,7 @@ pub struct Run<'a, R> {
     /// What it was asked for.
     pub asked: &'a Asked<'a>,
     /// The first bytes that it read of standard input.
-    pub first_bytes: Vec<u8>,
+    pub first_bytes: &'a [u8],
 }
 
 impl<R: Files> Run<'_, R> {
@@ -41,7 +41,7 @@ impl<R: Files> Run<'_, R> {
     pub fn capture_start(&self) -> Result<Vec<u8>, AllocError> {
         match self.asked.capture {
             Some(path) => Ok(self.first_bytes_of(path).unwrap_or(Vec::new(self.alloc))),
-            None => self.first_bytes.clone(),
+            None => self.first_bytes.to_vec(self.alloc),
         }
     }
 

@@ -84,7 +84,7 @@ fn json_remedy(alloc: Global, name: &str, error: &Error) -> Said {
 
 fn tree_remedy(alloc: Global, name: &str, tree: &Value, refusal: &Refusal) -> Said {
     let Some(number) = refusal.proxy else {
-        return say!(alloc; "{name} is {}, and an array of proxies is wanted, as --help shows", kind_of(tree));
+        return say!(alloc; "{name} is {}, and an array of proxies is expected, as --help shows", kind_of(tree));
     };
     let proxy = tree.get(number).unwrap_or(&Value::Null);
     let place = named(alloc, "proxy", number, proxy)?;
@@ -117,9 +117,9 @@ fn proxy_remedy(alloc: Global, tree: &Value, proxy: &Value, cause: Cause) -> Sai
             say!(alloc; "proxy {earlier} has the name: rename one of them")
         }
         Cause::BadUpstream => {
-            let wanted =
-                "HOST:PORT is wanted, as 10.0.0.2:6379 or redis:6379: no URL, no IPv6 address, a port from 1 to 65535";
-            its(alloc, proxy, "upstream", wanted)
+            let expected =
+                "HOST:PORT is expected, as 10.0.0.2:6379 or redis:6379: no URL, no IPv6 address, a port from 1 to 65535";
+            its(alloc, proxy, "upstream", expected)
         }
         Cause::UnknownHost => {
             let host = upstream.rsplit_once(':').map_or(upstream, |(host, _)| host);
@@ -135,11 +135,11 @@ fn toxic_remedy(alloc: Global, toxic: &Value, cause: Cause) -> Said {
     match cause {
         Cause::BadMember => wrong_field(alloc, toxic, &FIELDS[5..]),
         Cause::UnknownToxic => {
-            let wanted =
-                "latency, bandwidth, slow_close, timeout, reset_peer, slicer or limit_data is wanted";
-            its(alloc, toxic, "type", wanted)
+            let expected =
+                "latency, bandwidth, slow_close, timeout, reset_peer, slicer or limit_data is expected";
+            its(alloc, toxic, "type", expected)
         }
-        Cause::BadStream => its(alloc, toxic, "stream", "upstream or downstream is wanted"),
+        Cause::BadStream => its(alloc, toxic, "stream", "upstream or downstream is expected"),
         Cause::DuplicateToxic if text_at(toxic, "name").is_empty() => {
             let stream = field(toxic, "stream").map_or("downstream", |_| stream);
             say!(alloc; "an earlier toxic of the proxy has the name \"{toxic_type}_{stream}\", which it has too without a \"name\": give it one")
@@ -183,16 +183,16 @@ fn kind_of(value: &Value) -> &'static str {
 // The first field that is not as it is to be. If each is, a name is empty.
 fn wrong_field(alloc: Global, value: &Value, fields: &[(&str, &str, bool)]) -> Said {
     if !value.is_object() {
-        return say!(alloc; "it is {}, and an object is wanted", kind_of(value));
+        return say!(alloc; "it is {}, and an object is expected", kind_of(value));
     }
-    for (name, wanted, is_required) in fields.iter().copied() {
+    for (name, expected, is_required) in fields.iter().copied() {
         let kind = field(value, name).map(kind_of);
-        if kind.map_or(is_required, |kind| kind != wanted) {
+        if kind.map_or(is_required, |kind| kind != expected) {
             let is = kind.unwrap_or("missing");
-            return say!(alloc; "its \"{name}\" is {is}, and {wanted} is wanted");
+            return say!(alloc; "its \"{name}\" is {is}, and {expected} is expected");
         }
     }
-    say!(alloc; "its \"name\" is empty, and a name is wanted")
+    say!(alloc; "its \"name\" is empty, and a name is expected")
 }
 
 // The first attribute that is out of its range. If none is, slices vary by too much.
@@ -203,16 +203,17 @@ fn wrong_attribute(alloc: Global, toxic: &Value) -> Said {
         let number = field(attributes, name).map_or(Some(0), Value::as_u64);
         let is_right = number.is_some_and(|number| least <= number && number <= most);
         if of == toxic_type && !is_right {
-            let wanted = say!(alloc; "a whole number of {unit} from {least} to {most} is wanted")?;
-            let mut text = its(alloc, attributes, name, &wanted)?;
+            let expected =
+                say!(alloc; "a whole number of {unit} from {least} to {most} is expected")?;
+            let mut text = its(alloc, attributes, name, &expected)?;
             if let Some(unknown) = unknown_attribute(alloc, toxic)? {
                 write!(text, "; {unknown}")?;
             }
             return Ok(text);
         }
     }
-    let wanted = "less than \"average_size\" is wanted";
-    its(alloc, attributes, "size_variation", wanted)
+    let expected = "less than \"average_size\" is expected";
+    its(alloc, attributes, "size_variation", expected)
 }
 
 // Of a toxic's attributes the first that its type does not have, and those that it has.
@@ -237,26 +238,26 @@ fn unknown_attribute(alloc: Global, toxic: &Value) -> Result<Option<String>, All
 fn wrong_toxicity(alloc: Global, toxic: &Value) -> Said {
     let toxicity = field(toxic, "toxicity").unwrap_or(&Value::Null);
     if toxicity.is_null() || matches!(toxicity.as_u64(), Some(0 | 1)) {
-        let wanted = "a whole number from 0 to 1000000 is wanted";
-        return its(alloc, toxic, "toxicity_ppm", wanted);
+        let expected = "a whole number from 0 to 1000000 is expected";
+        return its(alloc, toxic, "toxicity_ppm", expected);
     }
     let text = toxicity.to_string(alloc)?;
-    let wanted = match text.strip_prefix("0.") {
+    let expected = match text.strip_prefix("0.") {
         Some(digits) => {
             let digits = say!(alloc; "{digits}00000")?;
             let count: u32 = digits.get(..6).unwrap_or("").parse().unwrap_or(0);
-            say!(alloc; "0 or 1 is wanted: write \"toxicity_ppm\": {count} in its place")?
+            say!(alloc; "0 or 1 is expected: write \"toxicity_ppm\": {count} in its place")?
         }
-        None => say!(alloc; "0 or 1 is wanted, or \"toxicity_ppm\", up to 1000000")?,
+        None => say!(alloc; "0 or 1 is expected, or \"toxicity_ppm\", up to 1000000")?,
     };
-    its(alloc, toxic, "toxicity", &wanted)
+    its(alloc, toxic, "toxicity", &expected)
 }
 
-// What a field is, as it stands in the file, and what is wanted.
-fn its(alloc: Global, value: &Value, name: &str, wanted: &str) -> Said {
+// What a field is, as it stands in the file, and what is expected.
+fn its(alloc: Global, value: &Value, name: &str, expected: &str) -> Said {
     let Some(found) = field(value, name) else {
-        return say!(alloc; "its \"{name}\" is missing, and {wanted}");
+        return say!(alloc; "its \"{name}\" is missing, and {expected}");
     };
     let text = found.to_string(alloc)?;
-    say!(alloc; "its \"{name}\" is {}, and {wanted}", shown(alloc, &text)?)
+    say!(alloc; "its \"{name}\" is {}, and {expected}", shown(alloc, &text)?)
 }

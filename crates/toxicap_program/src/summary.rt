@@ -13,6 +13,8 @@ const COUNTED: &str =
 #[derive(Drop)]
 pub struct Summary {
     alloc: Global,
+    // whether somebody looks, and no memory ran out
+    is_summing: bool,
     unended_line: Vec<u8>,
     // Of the first report: what it counts, the bytes that were lost, and servers, each after a blank.
     counts: [u64; 12],
@@ -23,9 +25,10 @@ pub struct Summary {
 }
 
 impl Summary {
-    pub fn new(alloc: Global) -> Summary {
+    pub fn new(alloc: Global, is_summing: bool) -> Summary {
         Summary {
             alloc,
+            is_summing,
             unended_line: Vec::new(alloc),
             counts: [0; 12],
             lost: 0,
@@ -115,6 +118,18 @@ impl Summary {
     }
 }
 
+impl Write for Summary {
+    fn write(&mut self, buf: &[u8]) -> io::Result<usize> {
+        // out of memory, nothing is summed up
+        self.is_summing = self.is_summing && self.add(buf).is_ok();
+        Ok(buf.len())
+    }
+
+    fn flush(&mut self) -> io::Result<()> {
+        Ok(())
+    }
+}
+
 fn plural_end(count: u64) -> &'static str {
     if count == 1 { "" } else { "s" }
 }
@@ -130,7 +145,7 @@ impl<R: Files> Run<'_, R> {
                 summary.add(&text)?;
             }
         }
-        if summary.met.is_empty() {
+        if summary.met.is_empty() || !summary.is_summing {
             return Ok(None);
         }
         let start = if scenarios > 1 { "scenario 0: " } else { "" };
@@ -146,30 +161,5 @@ impl<R: Files> Run<'_, R> {
             write!(text, "; {ignored}")?;
         }
         Ok(Some(text))
-    }
-}
-
-/// A writer of reports, which hands them on, and sums them up if that is wanted.
-#[derive(Drop)]
-pub struct SummedUp<W> {
-    pub inner: W,
-    pub is_wanted: bool,
-    pub summary: Summary,
-}
-
-impl<W: Write> Write for SummedUp<W> {
-    ghost contents = { λ w. W.contents w.inner };
-
-    fn write(&mut self, buf: &[u8]) -> io::Result<usize> {
-        let len = self.inner.write(buf)?;
-        if self.is_wanted {
-            // out of memory, the summary says less
-            let _ = self.summary.add(&buf[..len]);
-        }
-        Ok(len)
-    }
-
-    fn flush(&mut self) -> io::Result<()> {
-        self.inner.flush()
     }
 }

@@ -1,5 +1,4 @@
 //! What the program says on a terminal, beside its outputs and refusals: that it reads standard input, and how many scenarios are stored.
-use crate::run::HEADER_LEN;
 use std::alloc::Allocator;
 use std::fs::{Metadata, OpenOptions};
 use std::io::{self, Eprint, Read, Stderr};
@@ -8,13 +7,12 @@ use std::sync::Wait;
 use std::sync::atomic::{AtomicU64, Ordering};
 use std::thread::Threads;
 
-/// Standard input, whose first bytes are kept. Before the first read, which waits, standard error says that it is read, unless that is said.
+/// Standard input. Before the first read, which waits, standard error says that it is read, unless that is said.
 #[derive(Drop)]
 pub struct Announced<R> {
     pub input: R,
     pub faults: Stderr,
     pub is_announced: bool,
-    pub first_bytes: Vec<u8>,
 }
 
 impl<R: Read> Read for Announced<R> {
@@ -27,11 +25,7 @@ impl<R: Read> Read for Announced<R> {
                 "toxicap: reading the capture from standard input; --capture names a file"
             );
         }
-        let len = self.input.read(buf)?;
-        let room = HEADER_LEN.saturating_sub(self.first_bytes.len());
-        // out of memory, the hint says less
-        let _ = self.first_bytes.extend_from_slice(&buf[..len.min(room)]);
-        Ok(len)
+        self.input.read(buf)
     }
 }
 

@@ -1,5 +1,5 @@
 -- Where deliveries stand, and that a connection's contribution is its own.
-use Rattle.std.proofs.Common.{◌≡◌, ℕ, ◌+◌, ◌*◌, List, length, Some, refl, sym, ap, ap₂, ◌∙◌, arith}
+use Rattle.std.proofs.Common.{◌≡◌, ℕ, ◌+◌, ◌*◌, List, length, Some, refl, ap, ap₂, ◌∙◌, arith}
 use Rattle.std.specs.List.{enumerate_from, slice_get}
 use Rattle.std.proofs.lemmas.List.FromFn.{length-enumerate_from}
 use Rattle.conn_table.specs.IndexedSegments.{TimedSegment, IndexedSegment, indexed_segments}
@@ -9,7 +9,7 @@ use Rattle.scenarios.specs.declared.proxies.Proxy.{Proxy}
 use Rattle.conn_workers.specs.MetProxies.{met_proxy}
 use Rattle.conn_workers.specs.Contributions.{contribution, contribution_of}
 use Rattle.conn_workers.specs.DeliveryRows.{connections_of, delivery, delivery_of, deliveries}
-use Rattle.conn_workers.specs.DeliveryLaws.{RowsAreWhole, DeliveriesArePlaced, ContributionsAreIsolated}
+use Rattle.conn_workers.specs.DeliveryLaws.{RowsAreWhole, DeliveriesArePlaced}
 use Rattle.conn_workers.proofs.RowLemmas.{length-rows, cell_found, numbered, number_is}
 
 pub rows_are_whole : RowsAreWhole
@@ -35,19 +35,12 @@ deliveries_are_placed ticks seed number s r c proxies has =
 connection : ℕ → TimedSegment → List TimedSegment → Connection
 connection number opening later = record { number = number; opening = opening; later = later }
 
-same_connection : (x y : Connection) → x.number ≡ y.number → members_of x ≡ members_of y → x ≡ y
+pub same_connection : (x y : Connection) → x.number ≡ y.number → members_of x ≡ members_of y → x ≡ y
 unfolding connection
 same_connection x y number members =
     let opening : x.opening ≡ y.opening = cc in
     let later : x.later ≡ y.later = cc in
     ap (λ n. connection n x.opening x.later) number ∙ ap₂ (connection y.number) opening later
 
-contribution_is : (ticks seed s : ℕ) (x y : Connection) (a b : List Proxy) → x ≡ y → met_proxy (server_of x) a ≡ met_proxy (server_of y) b → contribution_of ticks seed (s, a) x ≡ contribution_of ticks seed (s, b) y
+pub contribution_is : (ticks seed s : ℕ) (x y : Connection) (a b : List Proxy) → x ≡ y → met_proxy (server_of x) a ≡ met_proxy (server_of y) b → contribution_of ticks seed (s, a) x ≡ contribution_of ticks seed (s, b) y
 contribution_is ticks seed s x y a b same met = ap₂ (λ c m. contribution ticks c s seed m) same met
-
-pub contributions_are_isolated : ContributionsAreIsolated
-contributions_are_isolated ticks seed number s first second x y a b here there members met =
-    let number_here : x.number ≡ number = own_number (indexed_segments 0 first.seen.packets) number x here.connection in
-    let number_there : y.number ≡ number = own_number (indexed_segments 0 second.seen.packets) number y there.connection in
-    let same : contribution_of ticks seed (s, a) x ≡ contribution_of ticks seed (s, b) y = contribution_is ticks seed s x y a b (same_connection x y (number_here ∙ sym number_there) members) met in
-    (same, deliveries_are_placed ticks seed number s first x a here ∙ ap (λ p. Some (delivery s number p)) same ∙ sym (deliveries_are_placed ticks seed number s second y b there))

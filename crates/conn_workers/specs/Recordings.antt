@@ -1,4 +1,4 @@
--- For each connection: its row in the table, what is recorded of it, and what it contributes to a scenario.
+-- For each connection: its entry in the table, what is recorded of it, and what it contributes to a scenario.
 use Rattle.std.specs.Prelude.{◌≡◌, List, map, ℕ}
 use Rattle.pcap_records.specs.CaptureView.{CaptureView}
 use Rattle.conn_table.specs.IndexedConnections.{IndexedConnection, without_indices}
@@ -31,14 +31,14 @@ recording_in c x = record { ticks = c.ticks; conn = conn_in c x; recorded = reco
 abbrev pub recordings_of : CaptureView → List RecordingView
 recordings_of c = map (recording_in c) (whole_connections c)
 
--- both lines keep the rules of lines, in one unit, and the endpoints are this connection's
+-- both lines keep the rule of lines (`IsLine`), in one unit, and the endpoints are this connection's
 pub record IsRecording (conn : Conn) (r : Recorded) (e : EndpointsView) : Type 0 where
   pub up : IsLine r.up.line
   pub down : IsLine r.down.line
   pub one_unit : r.down.ticks ≡ r.up.ticks
   pub endpoints : e ≡ endpoints_of r.up.ticks conn (recorded_view r)
 
--- ---- what they contribute to scenarios
+-- ---- what connections contribute to scenarios
 
 -- what a connection contributes to the scenario of this number, if `d` is delivered of it
 abbrev pub recorded_delivery_by : ℕ → RecordingView → DeliveredConnection → Delivery
@@ -56,7 +56,7 @@ recorded_delivered seed (number, proxies) r =
 abbrev pub recorded_delivery : ℕ → ℕ × List Proxy → RecordingView → Delivery
 recorded_delivery seed (number, proxies) r = recorded_delivery_by number r (recorded_delivered seed (number, proxies) r)
 
--- what all contribute: first to scenario 0, then to scenario 1, and so on
+-- what all connections contribute: first to scenario 0, then to scenario 1, and so on
 unfoldable pub recorded_deliveries : ℕ → List RecordingView → List (List Proxy) → List Delivery
 recorded_deliveries seed recordings scenarios =
     rows (recorded_delivery seed) (enumerate_from 0 scenarios) recordings
@@ -64,6 +64,6 @@ recorded_deliveries seed recordings scenarios =
 abbrev pub recorded_row : ℕ → ℕ × List Proxy → List RecordingView → List Delivery
 recorded_row seed s recordings = map (recorded_delivery seed s) recordings
 
--- lines of the scenario's report, and not recorded bytes
+-- the lines of the scenario's report
 abbrev pub recorded_lines : ℕ → ℕ × List Proxy → List RecordingView → List (List ℕ)
 recorded_lines seed s recordings = map (λ r. (recorded_delivery seed s r).line) recordings

@@ -14,7 +14,7 @@ use Rattle.conn_workers.specs.ReportTexts.{HoldLines, text_of}
 use Rattle.run_files.specs.Streams.{joined}
 use Rattle.run_files.specs.declared.outputs.Output.{Output}
 use Rattle.run_files.specs.WrittenOutputs.{reports_of}
-use Rattle.toxicap.specs.OutputParts.{head_of, heads_of}
+use Rattle.toxicap.specs.HeadsAndRows.{head_of, heads_of}
 use Rattle.toxicap.specs.CaptureOutputs.{no_output, outputs_for}
 use Rattle.toxicap.specs.HeldReports.{report_at, reports_below, reports_held}
 use Rattle.toxicap.proofs.OutputSteps.{as_many_for, head_at, report_is}

@@ -19,7 +19,7 @@ use Rattle.conn_workers.specs.Recordings.{RecordingView, recorded_delivery, reco
 use Rattle.run_files.specs.declared.outputs.Output.{Output}
 use Rattle.toxicap.specs.declared.sources.Sources.{Sources}
 use Rattle.toxicap.specs.Rehearsal.{scenario_output, outputs_of}
-use Rattle.toxicap.specs.OutputParts.{head_of, heads_of, RowsHaveNoKeyTwice}
+use Rattle.toxicap.specs.HeadsAndRows.{head_of, heads_of, RowsHaveNoKeyTwice}
 use Rattle.toxicap.specs.CaptureOutputs.{no_output, output_from, outputs_for, outputs_from}
 use Rattle.toxicap.specs.GatheredOutputs.{segments_in}
 use Rattle.toxicap.proofs.WholeTables.{as_many_recorded, unopened_is}

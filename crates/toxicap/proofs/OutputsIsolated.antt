@@ -17,6 +17,7 @@ use Rattle.frame_headers.specs.HeaderLaws.{HeadersAreSound, SegmentsFit}
 use Rattle.conn_table.specs.SeenCapture.{SeenCapture, seen_capture}
 use Rattle.conn_table.specs.IndexedSegments.{indexed_segments}
 use Rattle.conn_table.specs.Connections.{Connection, unopened_count}
+use Rattle.reassembly.specs.Positions.{server_of}
 use Rattle.toxic_defs.specs.DeliveredLines.{MetProxy, DeliveredConnection}
 use Rattle.segment_writer.specs.declared.framed.Framed.{Framed}
 use Rattle.segment_writer.specs.WrittenSegments.{is_key_below, below, insert_by_key, sorted_by_key}
@@ -25,11 +26,13 @@ use Rattle.segment_writer.specs.OrderedLists.{NoneBelow}
 use Rattle.time_merge.specs.MergedCapture.{capture_of}
 use Rattle.scenarios.specs.declared.proxies.Proxy.{Proxy}
 use Rattle.conn_workers.specs.Contributions.{contribution, contribution_of}
+use Rattle.conn_workers.specs.MetProxies.{met_proxy}
 use Rattle.conn_workers.specs.DeliveryRows.{connections_of}
 use Rattle.run_files.specs.declared.error.RunFault.TheVariants.{TooManyScenarios}
 use Rattle.run_files.specs.declared.outputs.Output.{Output}
 use Rattle.toxicap.specs.Rehearsal.{scenario_output, outputs_of, scenario_limit, answer}
-use Rattle.toxicap.specs.IsolatedOutputs.{IsOutput, MeetsSame, HaveSameLine, HaveSameRecords, line_of, is_between, packets_between, OutputsAreIsolated}
+use Rattle.toxicap.specs.IsolatedOutputs.{IsOutput, HaveSameLine, HaveSameRecords, line_of, is_between, packets_between}
+use Rattle.toxicap.specs.SoundOutputs.{AreBytes}
 use Rattle.toxicap.proofs.EachElement.{each_filtered}
 use Rattle.toxicap.proofs.ReadTicks.{reading_unit}
 use Rattle.toxicap.proofs.WrittenFrames.{HasEnds, IsWritten}
@@ -64,6 +67,10 @@ output_is bytes read seed s proxies o is of = by (nat_lt scenario_limit (length 
 
 -- ---- lines
 
+-- a connection meets the same proxy in both lists
+abbrev HaveSameProxy : List Proxy → List Proxy → Connection → Type 0
+HaveSameProxy a b x = met_proxy (server_of x) a ≡ met_proxy (server_of x) b
+
 own_line : (c : SeenCapture) (seed number s : ℕ) (proxies : List Proxy) (x : Connection) → slice_get (connections_of c) number ≡ Some x
     → line_of (scenario_output c seed (s, proxies)).report (number + 2) ≡ Some (line_body (contribution_of c.ticks seed (s, proxies) x).line)
 unfolding scenario_output contribution
@@ -74,7 +81,7 @@ own_line c seed number s proxies x is =
     are y = connection_is _ _ _ _ _ _
 
 lines_kept : (c : SeenCapture) (seed number s : ℕ) (a b : List Proxy) (x : Connection) → slice_get (connections_of c) number ≡ Some x
-    → MeetsSame a b x → HaveSameLine number (scenario_output c seed (s, a)) (scenario_output c seed (s, b))
+    → HaveSameProxy a b x → HaveSameLine number (scenario_output c seed (s, a)) (scenario_output c seed (s, b))
 lines_kept c seed number s a b x is same = (
   line_body (contribution_of c.ticks seed (s, a) x).line,
   own_line c seed number s a x is,
@@ -141,7 +148,7 @@ module _ (x : Connection) where
       by (inr goes) = rw (frame_is ticks z (written_of c d) is, goes.from, goes.to, or_comm) other
 
   module _ (sound_headers : HeadersAreSound) (ticks seed s : ℕ) (a b : List Proxy) where
-    same_kept : (cs : List Connection) → AllByRecursion IsSoundConnection cs → AllByRecursion (λ y. is_between x y.opening.fields ≡ true → MeetsSame a b y) cs
+    same_kept : (cs : List Connection) → AllByRecursion IsSoundConnection cs → AllByRecursion (λ y. is_between x y.opening.fields ≡ true → HaveSameProxy a b y) cs
         → filter is_kept (flat_map (λ p. p.segments) (map (contribution_of ticks seed (s, a)) cs)) ≡ filter is_kept (flat_map (λ p. p.segments) (map (contribution_of ticks seed (s, b)) cs))
     same_kept [] sound meet = refl
     same_kept (c ∷ cs) sound meet =
@@ -181,18 +188,22 @@ module _ (never_falls : SortedNeverFalls) (readings_split : ReadingsSplit) (writ
       ∙ ap (map packet_of) (sorted_filtered (is_kept x) never_falls xs)
 
   records_kept : HeadersAreSound → (c : SeenCapture) (unit : Unit) → c.ticks ≡ ticks_of unit → AllByRecursion IsSoundConnection (connections_of c) → (seed s : ℕ) (a b : List Proxy) (x : Connection)
-      → AllByRecursion (λ y. is_between x y.opening.fields ≡ true → MeetsSame a b y) (connections_of c) → HaveSameRecords x (scenario_output c seed (s, a)) (scenario_output c seed (s, b))
+      → AllByRecursion (λ y. is_between x y.opening.fields ≡ true → HaveSameProxy a b y) (connections_of c) → HaveSameRecords x (scenario_output c seed (s, a)) (scenario_output c seed (s, b))
   unfolding scenario_output
   records_kept sound_headers c unit counted sound seed s a b x same one other one_read other_read =
       between_are x unit c.ticks counted _ (parts_are sound_headers c.ticks seed (s, a) (connections_of c) sound) one one_read
       ∙ ap (λ (zs : List Framed). map packet_of (sorted_by_key zs)) (same_kept x sound_headers c.ticks seed s a b (connections_of c) sound same)
       ∙ sym (between_are x unit c.ticks counted _ (parts_are sound_headers c.ticks seed (s, b) (connections_of c) sound) other other_read)
 
-  pub outputs_are_isolated : HeadersAreSound → SegmentsFit → OutputsAreIsolated
-  outputs_are_isolated sound_headers fit bytes read seed s number a b first second x are is of_first of_second at =
+  pub outputs_kept : HeadersAreSound → SegmentsFit → (bytes : List ℕ) (read : Reading) (seed s number : ℕ) (a b : List Proxy) (first second : Output) (x : Connection)
+      → AreBytes bytes → reading bytes ≡ Ok read → IsOutput bytes seed s a first → IsOutput bytes seed s b second
+      → slice_get (connections_of (seen_capture read.contents)) number ≡ Some x
+      → (HaveSameProxy a b x → HaveSameLine number first second)
+      × (AllByRecursion (λ y. is_between x y.opening.fields ≡ true → HaveSameProxy a b y) (connections_of (seen_capture read.contents)) → HaveSameRecords x first second)
+  outputs_kept sound_headers fit bytes read seed s number a b first second x are is of_first of_second at =
       let c : SeenCapture = seen_capture read.contents in
-      let Kept : Output → Output → Type 0 = λ (o : Output) (p : Output). (MeetsSame a b x → HaveSameLine number o p)
-      × (AllByRecursion (λ y. is_between x y.opening.fields ≡ true → MeetsSame a b y) (connections_of c) → HaveSameRecords x o p) in
+      let Kept : Output → Output → Type 0 = λ (o : Output) (p : Output). (HaveSameProxy a b x → HaveSameLine number o p)
+      × (AllByRecursion (λ y. is_between x y.opening.fields ≡ true → HaveSameProxy a b y) (connections_of c) → HaveSameRecords x o p) in
       let unit = reading_unit readings_split bytes read is in
       let sound : AllByRecursion IsSoundConnection (connections_of c) = connections_are fit read.contents.packets (packets_have readings_split bytes read is are) in
       subst (λ (o : Output). Kept o second) (output_is bytes read seed s a first is of_first)

@@ -54,12 +54,12 @@ so_far (Err _) text w is = absurd is
 
 -- ---- reports that are printed, or none
 
-pub prints_none : (wanted : Result (List Output) RunFault) (w : Written) (fault : RunFault)
-    → UnlessMemory (reports_in wanted) (Err fault) → w.Unwritten → PrintsOf (Err fault) wanted w
-prints_none wanted w fault is unwritten = (Err fault, IfSome_then (run_refusal fault) is (λ refused e. is_fault wanted refused e), (refl, unwritten))
+pub prints_none : (expected : Result (List Output) RunFault) (w : Written) (fault : RunFault)
+    → UnlessMemory (reports_in expected) (Err fault) → w.Unwritten → PrintsOf (Err fault) expected w
+prints_none expected w fault is unwritten = (Err fault, IfSome_then (run_refusal fault) is (λ refused e. is_fault expected refused e), (refl, unwritten))
 
-pub prints_made : (wanted : Result (List Output) RunFault) (w : Written) (reports : List ℕ) → reports_in wanted ≡ Ok reports → (result : Result (Unit {0}) RunFault)
-    → WritesText result reports w → PrintsOf result wanted w
+pub prints_made : (expected : Result (List Output) RunFault) (w : Written) (reports : List ℕ) → reports_in expected ≡ Ok reports → (result : Result (Unit {0}) RunFault)
+    → WritesText result reports w → PrintsOf result expected w
 prints_made (Ok outputs) w reports is result writes =
     let same : reports ≡ reports_of outputs = cc in
     (Ok outputs, refl, subst (λ text. WritesText result text w) same writes)

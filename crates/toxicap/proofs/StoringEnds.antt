@@ -38,10 +38,10 @@ not_held folder outputs (store.ShelfFailed after) had now same first =
 not_held folder outputs (store.Memory after) had now same first = (0, omega arith, still_none folder had now same)
 
 -- no call of the disk has failed where texts or a capture are refused
-pub refused_faults : (folder : List ℕ) (fault : RunFault) (wanted : Result (List Output) RunFault) → IfErr wanted IsOfText
-    → UnlessMemory wanted (Err fault) → failed_stores folder (Err fault) ≡ 0
-refused_faults folder (ShelfFailed after) wanted own is = absurd (subst (λ w. IfErr w IsOfText) is own)
-refused_faults folder fault wanted own is = refl
+pub refused_faults : (folder : List ℕ) (fault : RunFault) (expected : Result (List Output) RunFault) → IfErr expected IsOfText
+    → UnlessMemory expected (Err fault) → failed_stores folder (Err fault) ≡ 0
+refused_faults folder (ShelfFailed after) expected own is = absurd (subst (λ w. IfErr w IsOfText) is own)
+refused_faults folder fault expected own is = refl
 
 -- ---- runs that are cut off
 
@@ -56,11 +56,11 @@ module _ (whole : NamesLeaveWhole) (folder : List ℕ) (old new : Option History
   files_whole (Err Memory) files stores = first_part files stores.0 stores.2
   files_whole (Err fault) files stores = absurd stores
 
-  pub stores_in : (outcome : Result (Unit {0}) RunFault) (wanted : Result (List Output) RunFault)
-      → Step (λ (made : Result (List Output) RunFault). Agrees run_refusal (λ (outputs : List Output). outputs) made wanted) outcome (new ≡ old)
+  pub stores_in : (outcome : Result (Unit {0}) RunFault) (expected : Result (List Output) RunFault)
+      → Step (λ (made : Result (List Output) RunFault). Agrees run_refusal (λ (outputs : List Output). outputs) made expected) outcome (new ≡ old)
       (λ outputs. StoresFiles outcome (files_from 0 outputs) (TakesIn folder old new))
-      → StoresIn folder outcome wanted (told_disk old new)
-  stores_in outcome wanted step = (step.0, agrees_unless_memory run_refusal (λ (outputs : List Output). outputs) step.0 wanted step.1, by step.0 step.2)
+      → StoresIn folder outcome expected (told_disk old new)
+  stores_in outcome expected step = (step.0, agrees_unless_memory run_refusal (λ (outputs : List Output). outputs) step.0 expected step.1, by step.0 step.2)
     where
       by : (made : Result (List Output) RunFault) → GoesOn made outcome (new ≡ old) (λ outputs. StoresFiles outcome (files_from 0 outputs) (TakesIn folder old new))
           → GoesOn made outcome (new ≡ old) (λ outputs. StoresFiles outcome (files_from 0 outputs) (TakesIn folder old new) × LeavesWhole old new (map (in_folder folder) (files_from 0 outputs)))

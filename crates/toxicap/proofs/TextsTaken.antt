@@ -18,14 +18,14 @@ use Rattle.toxicap.specs.Rehearsal.{answer}
 use Rattle.toxicap.specs.RunEnds.{UnlessMemory}
 
 -- out of memory is told where it may be
-pub told_refusal : {G B : Type 0} (refusal : Option G) (wanted : Result B G) → Refuses refusal wanted → IfSome refusal (λ refused. wanted ≡ Err refused)
-told_refusal (Some fault) wanted is = is
-told_refusal None wanted is = tt
+pub told_refusal : {G B : Type 0} (refusal : Option G) (expected : Result B G) → Refuses refusal expected → IfSome refusal (λ refused. expected ≡ Err refused)
+told_refusal (Some fault) expected is = is
+told_refusal None expected is = tt
 
-pub agrees_unless_memory : {A B F G : Type 0} (refusal : F → Option G) (view : A → B) (result : Result A F) (wanted : Result B G)
-    → Agrees refusal view result wanted → AgreesUnlessMemory refusal view result wanted
-agrees_unless_memory refusal view (Ok x) wanted is = is
-agrees_unless_memory refusal view (Err fault) wanted is = told_refusal (refusal fault) wanted is
+pub agrees_unless_memory : {A B F G : Type 0} (refusal : F → Option G) (view : A → B) (result : Result A F) (expected : Result B G)
+    → Agrees refusal view result expected → AgreesUnlessMemory refusal view result expected
+agrees_unless_memory refusal view (Ok x) expected is = is
+agrees_unless_memory refusal view (Err fault) expected is = told_refusal (refusal fault) expected is
 
 module _ (hosts : List KnownHost) (texts : List (List ℕ)) (seed : ℕ) where
   -- the bytes of the capture are refused
@@ -62,11 +62,11 @@ not_dumped text is = rw is refl
 
 -- ---- the reports of it
 
-pub is_fault : (wanted : Result (List Output) RunFault) (fault : RunFault) → reports_in wanted ≡ Err fault → wanted ≡ Err fault
+pub is_fault : (expected : Result (List Output) RunFault) (fault : RunFault) → reports_in expected ≡ Err fault → expected ≡ Err fault
 is_fault (Ok outputs) fault is = absurd cc
 is_fault (Err other) fault is = let same : other ≡ fault = cc in ap Err same
 
-pub of_fault_printed : (fault : RunFault) (wanted : Result (List Output) RunFault)
-    → UnlessMemory wanted (Err fault)
-    → UnlessMemory (reports_in wanted) (Err fault)
-of_fault_printed fault wanted is = IfSome_then (run_refusal fault) is (λ f refused. ap reports_in refused)
+pub of_fault_printed : (fault : RunFault) (expected : Result (List Output) RunFault)
+    → UnlessMemory expected (Err fault)
+    → UnlessMemory (reports_in expected) (Err fault)
+of_fault_printed fault expected is = IfSome_then (run_refusal fault) is (λ f refused. ap reports_in refused)

@@ -10,7 +10,7 @@
 --   7. there are too many scenarios (`answer`, in Rehearsal);
 --   8. the capture's own faults, in the order of `reading` (pcap_records, Reading);
 --   9. writing the reports fails (`WritesText`, in RunEnds), or a file cannot be stored (`StoresFiles`, in StoredOutputs).
--- Out of memory may come anywhere among them: if reports are printed, before their first byte; if outputs are stored, perhaps after some files.
+-- Out of memory may come at any step. Then no byte of a report was printed, but some files may be stored.
 use Rattle.std.specs.Prelude.{◌≡◌, ℕ, List, Option, Some, None, Result, Ok, Err, IsOk}
 use Rattle.std.specs.Borrow.{Bor}
 use Rattle.std.specs.String.{string_bytes}
@@ -39,21 +39,21 @@ pub record Streams : Type 1 where
 abbrev pub streams : {R W : Type 0} → (R → Option (List ℕ)) → CountedView R → CountedView R → (W → Option (List ℕ)) → CountedView W → CountedView W → Streams
 streams remaining r s contents w x = record { Unread = s ≡ r; Loaded = LoadedBy remaining r s; output = written contents w x }
 
--- nothing was written, and no file got a name
+-- nothing was written, and as far as the disk tells no file got a name
 abbrev pub Unchanged : ToldDisk → Streams → Type 0
 Unchanged disk s = s.output.Unwritten × (disk.after ≡ disk.before)
 
--- the reader for standard input is as it was, too
+-- nor was standard input read; scenario files may have been
 abbrev pub Untouched : ToldDisk → Streams → Type 0
 Untouched disk s = s.Unread × Unchanged disk s
 
 -- Without a folder the reports are printed. With one the outputs are stored, and nothing is printed.
 abbrev pub AnswersInto : Option (Bor (List ℕ)) → Result (Unit {0}) RunFault → Result (List Output) RunFault → ToldDisk → Streams → Type 0
-AnswersInto None outcome wanted disk s = PrintsOf outcome wanted s.output × (disk.after ≡ disk.before)
-AnswersInto (Some folder) outcome wanted disk s = StoresIn folder.now outcome wanted disk × s.output.Unwritten
+AnswersInto None outcome expected disk s = PrintsOf outcome expected s.output × (disk.after ≡ disk.before)
+AnswersInto (Some folder) outcome expected disk s = StoresIn folder.now outcome expected disk × s.output.Unwritten
 
--- How a run ends that a command line asks for, step by step: it reads the hosts, loads the scenario files and then the capture, and answers what
--- the capture's text calls for. The fault of a step is the outcome.
+-- The steps of a run, and how it ends: it reads the hosts, loads the scenario files and then the capture, and answers what the capture's text
+-- calls for. The fault of a step is the outcome.
 abbrev pub RunsBy : Asked → Result (Unit {0}) RunFault → ToldDisk → Streams → Type 0
 RunsBy asked outcome disk s =
     Step (UnlessMemory (hosts_asked asked)) outcome (Untouched disk s) (λ hosts.
@@ -82,7 +82,7 @@ abbrev pub folder_of : Result Asked Stop → Option (Bor (List ℕ))
 folder_of (Ok asked) = asked.out
 folder_of (Err _) = None
 
--- the number of the disk's calls that failed in a run that ended so, of those that hold a folder, allow a name or give one
+-- the number of the disk's calls to hold a folder, or to allow or give a name, that failed in a run with this outcome
 abbrev pub failed_calls : Option (Bor (List ℕ)) → Result (Unit {0}) RunFault → ℕ
 failed_calls None outcome = 0
 failed_calls (Some folder) outcome = failed_stores folder.now outcome

@@ -40,10 +40,10 @@ hosts_asked asked = hosts_from [] (map (λ host. host.now) asked.hosts.items)
 
 -- a host was added, and stands last then; or it was refused with this place, or memory ran out, and the list is as it was
 abbrev pub AddsHost : Result (Unit {0}) RunFault → ℕ → Option KnownHost → List KnownHost → List KnownHost → Type 0
-AddsHost (Ok _) at wanted old new = (host : KnownHost) × (wanted ≡ Some host) × (new ≡ old ++ host ∷ [])
-AddsHost (Err (BadHost place)) at wanted old new = (wanted ≡ None) × (place ≡ at) × (new ≡ old)
-AddsHost (Err Memory) at wanted old new = new ≡ old
-AddsHost (Err _) at wanted old new = ⊥
+AddsHost (Ok _) at expected old new = (host : KnownHost) × (expected ≡ Some host) × (new ≡ old ++ host ∷ [])
+AddsHost (Err (BadHost place)) at expected old new = (expected ≡ None) × (place ≡ at) × (new ≡ old)
+AddsHost (Err Memory) at expected old new = new ≡ old
+AddsHost (Err _) at expected old new = ⊥
 
 abbrev pub IsOfHost : RunFault → Type 0
 IsOfHost (BadHost at) = Unit {0}

@@ -1,6 +1,6 @@
 pub mod Rehearsal
 pub mod GatheredOutputs
-pub mod OutputParts
+pub mod HeadsAndRows
 pub mod CaptureOutputs
 pub mod DraftPlaces
 pub mod SoundOutputs

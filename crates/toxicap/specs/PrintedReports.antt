@@ -12,4 +12,4 @@ reports_in (Err fault) = Err fault
 -- How printing ends, by what is called for: on a refusal nothing is written. Else the reports are, whole and once; or a write fails, and a first
 -- part of them is written, not all.
 abbrev pub PrintsOf : Result (Unit {0}) RunFault → Result (List Output) RunFault → Written → Type 0
-PrintsOf outcome wanted w = Step (UnlessMemory wanted) outcome w.Unwritten (λ outputs. WritesText outcome (reports_of outputs) w)
+PrintsOf outcome expected w = Step (UnlessMemory expected) outcome w.Unwritten (λ outputs. WritesText outcome (reports_of outputs) w)

@@ -1,5 +1,5 @@
--- The outcome of a rehearsal: for each scenario a capture and a report, by filtering the whole list of packets for one
--- connection after another.
+-- The answer to a rehearsal: for each scenario a capture and a report. `connections` filters the whole list of packets for one connection after
+-- another.
 use Rattle.std.specs.Prelude.{◌≡◌, ℕ, List, length, map, nat_lt, if◌then◌else◌, Result, Ok, Err}
 use Rattle.std.specs.List.{enumerate_from, flat_map}
 use Rattle.pcap_records.specs.declared.fault.CaptureFault.{CaptureFault}
@@ -17,7 +17,7 @@ pub use Rattle.conn_workers.specs.DeliveryRows.{scenario_limit}
 use Rattle.time_merge.specs.MergedCapture.{capture_of}
 use Rattle.report.specs.ReportText.{report_text}
 
--- what each connection contributes, in order of number, under a scenario with its number; a scenario is seen as its proxies in order
+-- what each connection contributes, in order of the connections' numbers, under a scenario: its number, and its proxies in order
 abbrev pub contributions : SeenCapture → ℕ → ℕ × List Proxy → List Contribution
 contributions c seed scenario = map (contribution_of c.ticks seed scenario) (connections (indexed_segments 0 c.packets))
 
@@ -27,7 +27,7 @@ scenario_output c seed scenario = record {
   report = report_text scenario.0 c (unopened_count (indexed_segments 0 c.packets)) (map (λ p. p.line) (contributions c seed scenario));
 }
 
--- an output for each scenario; the order of the bytes of the capture's fields is no part of what is seen
+-- an output for each scenario; a seen capture does not tell the order of the bytes in its file's fields
 unfoldable pub outputs_of : SeenCapture → List (List Proxy) → ℕ → List Output
 outputs_of c scenarios seed = map (scenario_output c seed) (enumerate_from 0 scenarios)
 

@@ -7,11 +7,11 @@ use Rattle.run_files.specs.declared.error.RunFault.TheVariants.{WriteFailed}
 use Rattle.run_files.specs.RunFault.{fault_text, run_refusal}
 use Rattle.run_files.specs.Streams.{CountedView}
 
--- the result is what is wanted, or out of memory
+-- `given` is what is expected, or out of memory
 abbrev pub UnlessMemory : {A : Type 0} → Result A RunFault → Result A RunFault → Type 0
-UnlessMemory wanted given = AgreesUnlessMemory run_refusal (λ x. x) given wanted
+UnlessMemory expected given = AgreesUnlessMemory run_refusal (λ x. x) given expected
 
--- If a step gave a value, the run goes on with it. If it gave a fault, that is the outcome, and `AsBefore` holds.
+-- If a step gave a value, the run goes on with it. If it gave a fault, that is the outcome, and all is as before (`AsBefore`).
 abbrev pub GoesOn : {A B : Type 0} → Result A RunFault → Result B RunFault → Type 0 → (A → Type 0) → Type 0
 GoesOn (Ok x) outcome AsBefore Next = Next x
 GoesOn (Err fault) outcome AsBefore Next = (outcome ≡ Err fault) × AsBefore
@@ -22,7 +22,7 @@ Step {A} Gives outcome AsBefore Next = (given : Result A RunFault) × Gives give
 
 -- ---- what is written
 
--- What is said of a writer over a run: nothing was written; this whole text was, and no write failed; this text was, and then one write failed.
+-- What is said of a writer over a run: it wrote nothing; it wrote this whole text, and no write failed; it wrote this text, and then one write failed.
 pub record Written : Type 1 where
   pub Unwritten : Type 0
   pub Wrote : List ℕ → Type 0
@@ -39,14 +39,14 @@ written contents w x = record {
 -- On Ok the whole text was written. If a write failed, a first part of it was, not all.
 abbrev pub WritesText : Result (Unit {0}) RunFault → List ℕ → Written → Type 0
 WritesText (Ok _) text w = w.Wrote text
-WritesText (Err WriteFailed) text w = (written : ℕ) × (written < length text) × w.FailedAfter (take written text)
+WritesText (Err WriteFailed) text w = (count : ℕ) × (count < length text) × w.FailedAfter (take count text)
 WritesText (Err _) text w = ⊥
 
 -- the whole text was written, or a first part, and then a write failed
 abbrev pub WrittenSoFar : List ℕ → Written → Type 0
-WrittenSoFar text w = w.Wrote text ⊎ ((written : ℕ) × (written < length text) × w.FailedAfter (take written text))
+WrittenSoFar text w = w.Wrote text ⊎ ((count : ℕ) × (count < length text) × w.FailedAfter (take count text))
 
--- ---- what is printed of it
+-- ---- how an outcome is told
 
 abbrev pub status_of : Result (Unit {0}) RunFault → ℕ
 status_of (Ok _) = 0
@@ -63,7 +63,7 @@ no_text = codes "error: a word of the command line is not text in UTF-8"
 abbrev pub text_with_line_feed : List ℕ → List ℕ
 text_with_line_feed text = text ++ codes "\n"
 
--- What is printed of an outcome: of a fault its line, as far as the writes go, or nothing.
+-- What is printed of an outcome: of a fault its line, as far as the writes go, or nothing if there is no memory for the line.
 abbrev pub Tells : Result (Unit {0}) RunFault → Written → Type 0
 Tells (Ok _) w = w.Unwritten
 Tells (Err fault) w = w.Unwritten ⊎ WrittenSoFar (text_with_line_feed (fault_text fault)) w

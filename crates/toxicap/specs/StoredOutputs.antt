@@ -17,17 +17,17 @@ pub record ToldDisk : Type 0 where
 abbrev pub told_disk : Option History → Option History → ToldDisk
 told_disk before after = record { before = before; after = after }
 
--- How storing files ends, where `Took` says which files got names: all; the first `after`, if the folder fails then; some first ones, never
--- the last, if memory runs out.
+-- How storing files ends, where `Took` says which files got names: on Ok all; if the folder fails, the first `after`; if memory runs out, some
+-- first ones, never the last.
 abbrev pub StoresFiles : Result (Unit {0}) RunFault → List StoredFile → (List StoredFile → Type 0) → Type 0
 StoresFiles (Ok _) files Took = Took files
 StoresFiles (Err (ShelfFailed after)) files Took = (after < length files) × Took (take after files)
 StoresFiles (Err Memory) files Took = (stored : ℕ) × (stored ≤ length files - 1) × Took (take stored files)
 StoresFiles (Err _) files Took = ⊥
 
--- How storing in a folder ends, by what is called for: on a refusal no file gets a name. Else files are stored in order until one fails.
--- Whenever the run was cut off, each path held what it had held before, or one of these files whole.
+-- How storing in a folder ends, by what is expected: if that is a fault, no file gets a name. Else files are stored in order until one fails.
+-- At any moment each path held what it had held before, or one of these files whole; drafts are in no history.
 abbrev pub StoresIn : List ℕ → Result (Unit {0}) RunFault → Result (List Output) RunFault → ToldDisk → Type 0
-StoresIn folder outcome wanted disk = Step (UnlessMemory wanted) outcome (disk.after ≡ disk.before) (λ outputs.
+StoresIn folder outcome expected disk = Step (UnlessMemory expected) outcome (disk.after ≡ disk.before) (λ outputs.
     StoresFiles outcome (files_from 0 outputs) (TakesIn folder disk.before disk.after)
     × LeavesWhole disk.before disk.after (map (in_folder folder) (files_from 0 outputs)))

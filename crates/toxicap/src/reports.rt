@@ -13,7 +13,7 @@ ghost use Rattle.run_files.specs.SeenTexts.{IsSeenOf};
 ghost use Rattle.toxicap.specs.RunEnds.{UnlessMemory};
 ghost use Rattle.toxicap.specs.CaptureOutputs.{outputs_for};
 ghost use Rattle.conn_workers.specs.CaptureTables.{whole_table};
-ghost use Rattle.toxicap.specs.OutputParts.{heads_of};
+ghost use Rattle.toxicap.specs.HeadsAndRows.{heads_of};
 
 mod held_reports;
 

@@ -1,6 +1,6 @@
 //! What the outputs of all scenarios are made of, and what is made of it by whatever crew: an output in memory or as drafts.
 ghost use Rattle.std.specs.Prelude.{◌≡◌, ◌≤◌, length};
-ghost use Rattle.toxicap.specs.OutputParts.{RowsHaveNoKeyTwice};
+ghost use Rattle.toxicap.specs.HeadsAndRows.{RowsHaveNoKeyTwice};
 ghost use Rattle.toxicap.specs.Rehearsal.{scenario_limit};
 
 mod row_captures;
@@ -39,7 +39,7 @@ impl<'w, 'v, 'a> Sources<'w, 'v, 'a> {
     ghost use Rattle.std.specs.Prelude.{◌≡◌, ◌≤◌, length};
     ghost use Rattle.conn_workers.specs.Recordings.{recordings_of};
     ghost use Rattle.toxicap.specs.CaptureOutputs.{outputs_for, outputs_from};
-    ghost use Rattle.toxicap.specs.OutputParts.{heads_of};
+    ghost use Rattle.toxicap.specs.HeadsAndRows.{heads_of};
     ghost use Rattle.toxicap.specs.Rehearsal.{scenario_limit};
 
     pub(crate) fn of(

@@ -40,18 +40,18 @@ module _ (named_again : NamedAgain) (old new cut mended : History) (n : ℕ) (pa
       let at : Held → Option _ = λ held. held path in
       ap at again ∙ named_again (held_now old) files (n - length old.names) path ∙ ap at (sym whole)
 
-  answers_same : (out two : Option (Bor (List ℕ))) → option_map (λ f. f.now) out ≡ option_map (λ f. f.now) two → (wanted again : Result (List Output) RunFault) → again ≡ wanted
-      → (s t : Streams) → AnswersInto out (Ok tt) wanted (told_disk (Some old) (Some new)) s → AnswersInto two (Ok tt) again (told_disk (Some cut) (Some mended)) t
+  answers_same : (out two : Option (Bor (List ℕ))) → option_map (λ f. f.now) out ≡ option_map (λ f. f.now) two → (expected again : Result (List Output) RunFault) → again ≡ expected
+      → (s t : Streams) → AnswersInto out (Ok tt) expected (told_disk (Some old) (Some new)) s → AnswersInto two (Ok tt) again (told_disk (Some cut) (Some mended)) t
       → held_now mended path ≡ held_now new path
-  answers_same None None into wanted again is s t one twice = named_twice [] (one.1 ∙ none_named old) (twice.1 ∙ none_named cut)
-  answers_same (Some folder) (Some same) into wanted again is s t one twice =
+  answers_same None None into expected again is s t one twice = named_twice [] (one.1 ∙ none_named old) (twice.1 ∙ none_named cut)
+  answers_same (Some folder) (Some same) into expected again is s t one twice =
       let into2 : same.now ≡ folder.now = cc in
-      let (outputs, are, once) = went_on (UnlessMemory wanted) tt _ _ one.0 in
+      let (outputs, are, once) = went_on (UnlessMemory expected) tt _ _ one.0 in
       let (others, are2, again2) = went_on (UnlessMemory again) tt _ _ twice.0 in
       let equal : others ≡ outputs = cc in
       named_twice (map (in_folder folder.now) (files_from 0 outputs)) once.0 (again2.0 ∙ ap (λ (files : List NamedFile). Some (with_names cut files)) (cc))
-  answers_same None (Some folder) into wanted again is s t one twice = absurd (cc)
-  answers_same (Some folder) None into wanted again is s t one twice = absurd (cc)
+  answers_same None (Some folder) into expected again is s t one twice = absurd (cc)
+  answers_same (Some folder) None into expected again is s t one twice = absurd (cc)
 
 asked_for : (held : Held) (asked : Asked) (text : List ℕ) (hosts : List KnownHost) (files : List (List ℕ)) → hosts_asked asked ≡ Ok hosts
     → texts_from held [] (map (λ path. path.now) asked.scenarios.items) ≡ Ok files → outputs_asked held asked text ≡ called_for hosts (texts_or_bare files) asked.seed text
@@ -66,7 +66,7 @@ called old after asked s run =
     let (files, read, from_files) = went_on (LoadsFiles (Some old) asked.scenarios.items) tt _ _ from_hosts in
     let (text, loaded, ends) = went_on (LoadsCapture (Some old) asked.capture s.Unread s.Loaded) tt _ _ from_files in
     let calls = asked_for (held_now old) asked text hosts files known read.2 in
-    (text, loaded, subst (λ (wanted : Result (List Output) RunFault). AnswersInto asked.out (Ok tt) wanted (told_disk (Some old) after) s) (sym calls) ends)
+    (text, loaded, subst (λ (expected : Result (List Output) RunFault). AnswersInto asked.out (Ok tt) expected (told_disk (Some old) after) s) (sym calls) ends)
 
 pub returns : goal.returns
 returns g c = λ words asked again old new cut mended n path r r2 s s2 w w2 x x2 reads run later begins reads2 run2 calls.

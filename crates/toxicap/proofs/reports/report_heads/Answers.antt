@@ -4,7 +4,7 @@ use Rattle.pcap_records.specs.CaptureView.{contents_of}
 use Rattle.conn_table.specs.SeenCapture.{seen_capture}
 use Rattle.conn_table.specs.Tables.{TableView}
 use Rattle.report.specs.ReportText.{connections_text, counts_text}
-use Rattle.toxicap.specs.OutputParts.{head_of}
+use Rattle.toxicap.specs.HeadsAndRows.{head_of}
 use Rattle.toxicap.proofs.WholeTables.{counts_are}
 use Rattle.toxicap.proofs.reports.report_heads.Goals as goal
 

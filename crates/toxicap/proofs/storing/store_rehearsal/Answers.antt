@@ -17,9 +17,9 @@ returns-in_err-capture-clause-stored g c =
 pub returns-in_err-capture-clause-faults : goal.returns-in_err-capture-clause-faults
 returns-in_err-capture-clause-faults g c =
     let fault = err_from_is_err_and c.from_residual.result c.from_residual.ensures.1 in
-    let wanted = answer (bytes_of c.args.capture) c.args.scenarios.now c.args.seed in
-    let none = refused_faults c.args.folder.now _ wanted (of_answer (bytes_of c.args.capture) c.args.scenarios.now c.args.seed)
-    (told_refusal _ wanted (c.in_err-capture.ensures.refused c.args.seed)) in
+    let expected = answer (bytes_of c.args.capture) c.args.scenarios.now c.args.seed in
+    let none = refused_faults c.args.folder.now _ expected (of_answer (bytes_of c.args.capture) c.args.scenarios.now c.args.seed)
+    (told_refusal _ expected (c.in_err-capture.ensures.refused c.args.seed)) in
     rw (fault.1, fault.2) (omega (arith, none))
 
 -- the folder could not be held
@@ -27,12 +27,12 @@ pub returns-in_err-hold_for-clause-stored : goal.returns-in_err-hold_for-clause-
 returns-in_err-hold_for-clause-stored g c =
     let held = c.in_err-hold_for.ensures in
     let fault = err_from_is_err_and c.from_residual-in_err-hold_for.result c.from_residual-in_err-hold_for.ensures.1 in
-    let wanted = outputs_for c.in_ok-capture.capture c.args.scenarios.now c.args.seed in
+    let expected = outputs_for c.in_ok-capture.capture c.args.scenarios.now c.args.seed in
     let many = as_many_for c.in_ok-capture.capture c.args.scenarios.now c.args.seed in
     rw (fault.1, fault.2) (
-      Ok wanted,
+      Ok expected,
       c.in_ok-capture.ensures.answered c.args.seed,
-      not_held c.args.folder.now wanted c.in_err-hold_for.field-0.0 _ _ held.as_before (held.refused.0, omega (arith, many, held.refused.1)),
+      not_held c.args.folder.now expected c.in_err-hold_for.field-0.0 _ _ held.as_before (held.refused.0, omega (arith, many, held.refused.1)),
     )
 
 pub returns-in_err-hold_for-clause-faults : goal.returns-in_err-hold_for-clause-faults

@@ -38,7 +38,7 @@ abbrev pub HoldsOneOf : List NamedFile → List ℕ → Option ToldFile → Type
 HoldsOneOf [] path held = ⊥
 HoldsOneOf (file ∷ files) path held = ((file.path ≡ path) × (held ≡ Some (whole_file file.bytes))) ⊎ HoldsOneOf files path held
 
--- whenever the disk's work was cut off, each path held what it had held before, or one of these files whole
+-- at each n between two histories each path held what it holds in the first, or one of these files whole; drafts are not in a history
 abbrev pub LeavesWhole : Option History → Option History → List NamedFile → Type 0
 LeavesWhole (Some h) (Some k) files = (n : ℕ) → length h.names ≤ n → n ≤ length k.names → (path : List ℕ)
     → (held_at k n path ≡ held_now h path) ⊎ HoldsOneOf files path (held_at k n path)

@@ -58,7 +58,7 @@ impl<'a, F: Files> HostDisk<'a, F> {
 
     // Removes an entry of a folder if it is a draft that was left. Only a file is: a run leaves no link, pipe or folder.
     fn remove_left(&self, entry: &DirEntry<(&'a F, Global), Global>, read: &ReadFiles) {
-        if is_draft_name(entry.file_name().as_bytes())
+        if is_numbered_draft(entry.file_name().as_bytes())
             && let Ok(metadata) = entry.metadata()
             && metadata.is_file()
             && !read.contains(id_of(&metadata))
@@ -93,7 +93,7 @@ where
 // The name of each draft begins with it; a number without leading zeros follows.
 const DRAFT_NAME: &[u8] = b"toxicap.unfinished-";
 
-fn is_draft_name(name: &[u8]) -> bool {
+fn is_numbered_draft(name: &[u8]) -> bool {
     match name.strip_prefix(DRAFT_NAME) {
         None | Some([] | [b'0', _, ..]) => false,
         Some(number) => number.iter().all(|digit| digit.is_ascii_digit()),

@@ -9,13 +9,13 @@ use Rattle.reassembly.specs.Positions.{members_of, effective_members, is_reset, 
 
 -- ---- lines
 
--- a byte, its instant, and whether a chunk starts with it
+-- a byte, its instant, and whether a chunk starts with it (`byte_at`)
 pub record LineByte : Type 0 where
   pub value : ℕ
   pub at : ℕ
   pub starts : Bool
 
--- how a direction ends: not at all, or at an instant by a recorded FIN, a close or a reset
+-- how a direction ends: not at all, or at an instant by a FIN, a toxic's close or a reset
 pub data End : Type 0 where
   live : End
   fin : ℕ → End
@@ -40,7 +40,7 @@ pub record RecordedSide : Type 0 where
 abbrev pub is_counted_fin : ℕ → TimedSegment → Bool
 is_counted_fin base m = has_flag m.fields.flags fin_flag && nat_le origin (shifted_end base m)
 
--- the first counted FIN in the file ends the line
+-- the first counted FIN in the file: no other can end the line
 abbrev pub fin_segment : ℕ → List TimedSegment → Option TimedSegment
 fin_segment base members = find (is_counted_fin base) members
 
@@ -63,7 +63,7 @@ byte_at base members x = record {
   starts = x == 0 || not (available_at base members (x + 1) == available_at base members x);
 }
 
--- by the FIN if no byte before it is missing, when it and they have come; else by `other`
+-- A line of n bytes ends by the FIN if it stands right after them, once it and they have come; else by `other`.
 abbrev pub end_at : ℕ → ℕ → ℕ → End → Option TimedSegment → End
 end_at base n latest other None = other
 end_at base n latest other (Some m) = if n == fin_position base m then fin (max m.at latest) else other
@@ -75,7 +75,7 @@ reset_or_live (Some m) = reset m.at
 abbrev pub sent_by : Peer → List TimedSegment → List TimedSegment
 sent_by sender members = filter (λ m. same_peer m.fields.from sender) members
 
--- the side that a sender's segments make; it ends by `other` unless it is whole
+-- the side that a sender's segments make; it ends by `other` unless it reaches its FIN
 abbrev pub side_of : ℕ → List TimedSegment → End → RecordedSide
 side_of base members other =
     let n = line_length base members in
@@ -87,7 +87,7 @@ side_of base members other =
       lost = covered_count base members n;
     }
 
--- the side of a sender's effective members: without a base it has no bytes; a reset of either side ends it unless it is whole
+-- A sender's side, from all members: without a base it has no bytes. The first reset of either side ends it unless it reaches its FIN.
 unfoldable pub recorded_side : List TimedSegment → Peer → Option ℕ → RecordedSide
 recorded_side members sender None = record { line = record { bytes = []; end = reset_or_live (find is_reset members) }; lost = 0 }
 recorded_side members sender (Some base) = side_of base (sent_by sender (effective_members members)) (reset_or_live (find is_reset members))

@@ -15,7 +15,8 @@ use frame_headers::Flags;
 use pcap_records::{FileBytes, Moment};
 use std::alloc::{AllocError, Global};
 
-/// One side's line, which ends by `other` unless it is whole. Its bytes count from `base`; without one no byte has a position.
+/// One side's line, of the members before the first reset. It ends by `other` unless it reaches its FIN. Its bytes count from `base`; without
+/// one no byte has a position.
 pub(crate) fn recorded_side<'a>(
     alloc: Global,
     base: Option<u32>,

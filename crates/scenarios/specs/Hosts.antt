@@ -40,6 +40,6 @@ host_for hosts name addr =
 
 -- an added host is the last of the list; if none is added, the list is as it was
 abbrev pub HostAdded : Result ⊤ HostFault → Option KnownHost → List KnownHost → List KnownHost → Type 0
-HostAdded (Ok _) wanted old new = (host : KnownHost) × (wanted ≡ Some host) × (new ≡ old ++ host ∷ [])
-HostAdded (Err BadHost) wanted old new = (wanted ≡ None) × (new ≡ old)
-HostAdded (Err (Memory e)) wanted old new = IsSome wanted × (new ≡ old)
+HostAdded (Ok _) expected old new = (host : KnownHost) × (expected ≡ Some host) × (new ≡ old ++ host ∷ [])
+HostAdded (Err BadHost) expected old new = (expected ≡ None) × (new ≡ old)
+HostAdded (Err (Memory e)) expected old new = IsSome expected × (new ≡ old)

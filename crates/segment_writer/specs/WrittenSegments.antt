@@ -41,7 +41,7 @@ pub record Piece : Type 0 where
   pub bytes : List ℕ
   pub ends : Bool
 
--- a chunk ends before these bytes: there are none, or one starts with them
+-- a chunk ends before these bytes: they are none, or begin another
 abbrev pub is_chunk_border : List LineByte → Bool
 is_chunk_border [] = true
 is_chunk_border (c ∷ cs) = c.starts
@@ -67,7 +67,7 @@ pub record SentSegment : Type 0 where
   pub flags : ℕ
   pub payload : List ℕ
 
--- a FIN or a close takes up a number, from the instant after its own on
+-- a FIN or a close takes up a sequence number, from the instant after its own on
 abbrev pub end_numbers_before : ℕ → End → ℕ
 end_numbers_before at live = 0
 end_numbers_before at (fin m) = if nat_lt m at then 1 else 0
@@ -105,7 +105,7 @@ segments_sent_from own peer n (p ∷ ps) =
 abbrev pub segments_sent_by : WrittenSide → WrittenSide → List SentSegment
 segments_sent_by own peer = segments_sent_from own peer 0 (pieces payload_limit payload_limit own.line.bytes)
 
--- ---- frames
+-- ---- frames and records
 
 abbrev pub header_of : WrittenConnection → Host → Host → SentSegment → Header
 header_of c from to s = record {
@@ -142,7 +142,7 @@ syn_ack_segment c = opening_segment c.opened c.server.base ((c.client.base + 1) 
 abbrev pub ack_segment : WrittenConnection → SentSegment
 ack_segment c = opening_segment c.opened ((c.client.base + 1) % sequence_space) ((c.server.base + 1) % sequence_space) Flags.ack_flag
 
--- what a disabled proxy answers in place of the second: RST ACK
+-- what a disabled proxy answers in place of SYN ACK: RST ACK
 abbrev pub refusal_segment : WrittenConnection → SentSegment
 refusal_segment c = opening_segment c.opened 0 ((c.client.base + 1) % sequence_space) (Flags.rst_flag + Flags.ack_flag)
 

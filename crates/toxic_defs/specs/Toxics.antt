@@ -19,7 +19,7 @@ use Rattle.toxic_defs.specs.declared.kinds.Kind.TheVariants.{Latency, Bandwidth,
 
 -- ---- toxics in range
 
--- a kind, and to how many of a million connections it applies
+-- a toxic: its kind, and the number of connections in a million that it applies to
 pub record RatedKind : Type 0 where
   pub kind : Kind
   pub ppm : ℕ
@@ -48,7 +48,7 @@ made_toxic kind ppm = if is_in_range (record { kind = kind; ppm = ppm }) then So
 
 -- ---- one toxic
 
--- word 0 decides whether a toxic applies
+-- a toxic applies by its random word 0 (RandomWords)
 abbrev pub applies : RatedKind → Key → Bool
 applies toxic key = nat_lt (word_of key 0 % million) toxic.ppm
 
@@ -72,7 +72,7 @@ run ticks toxic key opened f = if applies toxic key then ended (effect ticks (wo
 
 -- ---- a chain
 
--- the toxics in turn, each on the line that the one before gave; the first has number t. RandomWords says what s, c, d and t are.
+-- the toxics in turn, each on the line that the one before gave; s, c and d are the numbers of scenario, connection and direction, t the first toxic's
 abbrev pub chain_from : ℕ → ℕ → ℕ → ℕ → ℕ → ℕ → ℕ → List RatedKind → Line → Line
 chain_from ticks opened seed s c d t [] f = f
 chain_from ticks opened seed s c d t (toxic ∷ toxics) f =

@@ -16,9 +16,9 @@ reports_told fault asked is = by (run_refusal fault) is
     by (Some f) is = ap reports_put is
     by None is = tt
 
-pub told_ends : (wanted : Result Buffers RunFault) (fault : RunFault) → IsTold fault wanted
-    → (status : Status) (old new : Buffers) (sizes : ToxicapSizes) → EndsByFault fault status old new sizes → Ends wanted status old new sizes
-told_ends wanted fault told Answered old new sizes is = absurd is
-told_ends wanted fault told Refused old new sizes is = (fault, told, is)
-told_ends wanted fault told LittleRoom old new sizes is = (put_of_fault fault, inr (fault, told, refl), is)
-told_ends wanted fault told NoMemory old new sizes is = is
+pub told_ends : (expected : Result Buffers RunFault) (fault : RunFault) → IsTold fault expected
+    → (status : Status) (old new : Buffers) (sizes : ToxicapSizes) → EndsByFault fault status old new sizes → Ends expected status old new sizes
+told_ends expected fault told Answered old new sizes is = absurd is
+told_ends expected fault told Refused old new sizes is = (fault, told, is)
+told_ends expected fault told LittleRoom old new sizes is = (put_of_fault fault, inr (fault, told, refl), is)
+told_ends expected fault told NoMemory old new sizes is = is

@@ -33,20 +33,20 @@ reports_put (Err fault) = Err fault
 
 -- the refusal was called for, or memory ran out
 abbrev pub IsTold : RunFault → Result Buffers RunFault → Type 0
-IsTold fault wanted = IfSome (run_refusal fault) (λ refused. wanted ≡ Err refused)
+IsTold fault expected = IfSome (run_refusal fault) (λ refused. expected ≡ Err refused)
 
 abbrev pub IsToPut : Buffers → Result Buffers RunFault → Type 0
-IsToPut put wanted = (wanted ≡ Ok put) ⊎ ((fault : RunFault) × IsTold fault wanted × (put ≡ put_of_fault fault))
+IsToPut put expected = (expected ≡ Ok put) ⊎ ((fault : RunFault) × IsTold fault expected × (put ≡ put_of_fault fault))
 
 -- Answered: `put` was put. Refused: a refusal's line was. Little room: that does not fit. No memory: nothing was put, and the sizes are 0.
 abbrev pub Ends : Result Buffers RunFault → Status → Buffers → Buffers → ToxicapSizes → Type 0
-Ends wanted Answered old new sizes = (put : Buffers) × (wanted ≡ Ok put) × Puts put true old new sizes
-Ends wanted Refused old new sizes = (fault : RunFault) × IsTold fault wanted × Puts (put_of_fault fault) true old new sizes
-Ends wanted LittleRoom old new sizes = (put : Buffers) × IsToPut put wanted × Puts put false old new sizes
-Ends wanted NoMemory old new sizes = (new ≡ old) × (sizes ≡ no_sizes)
+Ends expected Answered old new sizes = (put : Buffers) × (expected ≡ Ok put) × Puts put true old new sizes
+Ends expected Refused old new sizes = (fault : RunFault) × IsTold fault expected × Puts (put_of_fault fault) true old new sizes
+Ends expected LittleRoom old new sizes = (put : Buffers) × IsToPut put expected × Puts put false old new sizes
+Ends expected NoMemory old new sizes = (new ≡ old) × (sizes ≡ no_sizes)
 
 abbrev pub EndsWith : Result Buffers RunFault → ℕ → Buffers → Buffers → ToxicapSizes → Type 0
-EndsWith wanted code old new sizes = (status : Status) × (code ≡ code_of status) × Ends wanted status old new sizes
+EndsWith expected code old new sizes = (status : Status) × (code ≡ code_of status) × Ends expected status old new sizes
 
 abbrev pub EndsByFault : RunFault → Status → Buffers → Buffers → ToxicapSizes → Type 0
 EndsByFault fault Answered old new sizes = ⊥

@@ -82,8 +82,8 @@ fn hand_out(
         (buffers captures.old reports.old lens.old) (buffers captures.new reports.new lens.new) sizes.new }
 {
     match sized_outputs_for(alloc, parameters) {
-        Ok((outputs, wanted)) => {
-            if put_outputs(outputs.as_slice(), wanted, captures, reports, lens, sizes) {
+        Ok((outputs, expected)) => {
+            if put_outputs(outputs.as_slice(), expected, captures, reports, lens, sizes) {
                 Status::Answered
             } else {
                 Status::LittleRoom

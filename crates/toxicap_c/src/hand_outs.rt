@@ -22,20 +22,20 @@ pub(crate) fn put_text(text: &[u8], reports: &mut [u8], sizes: &mut ToxicapSizes
 /// Puts outputs of these sizes over the first of the buffers if all fit, and returns whether they do.
 pub(crate) fn put_outputs(
     outputs: &[Output],
-    wanted: ToxicapSizes,
+    expected: ToxicapSizes,
     captures: &mut [u8],
     reports: &mut [u8],
     lens: &mut [usize],
     sizes: &mut ToxicapSizes,
 ) -> bool
-    requires { wanted ≡ sizes_of (put_of outputs.now) }
+    requires { expected ≡ sizes_of (put_of outputs.now) }
     ensures { Puts (put_of outputs.now) result (buffers captures.old reports.old lens.old) (buffers captures.new reports.new lens.new) sizes.new }
 {
-    *sizes = wanted;
-    if wanted.captures > captures.len() {
+    *sizes = expected;
+    if expected.captures > captures.len() {
         return false;
     }
-    if wanted.reports > reports.len() || wanted.lens > lens.len() {
+    if expected.reports > reports.len() || expected.lens > lens.len() {
         return false;
     }
     put_each(outputs, captures, reports, lens);

@@ -10,7 +10,7 @@ fn check_times(
     rt: &(impl Abort + AllocGlobal),
     capture: &Capture<'_>,
     (from, to, carry): (usize, usize, u64),
-    wanted: &[u64],
+    expected: &[u64],
 ) {
     if from > to || to > capture.records().len() {
         check(rt, "a range of the capture", false);
@@ -20,9 +20,9 @@ fn check_times(
     let times = capture
         .times(rt.alloc(), from, to, carry)
         .expect(rt, "memory");
-    let mut same = times.as_slice().len() == wanted.len();
-    for (time, wanted) in times.as_slice().iter().zip(wanted) {
-        same = same && time.count() == *wanted;
+    let mut same = times.as_slice().len() == expected.len();
+    for (time, expected) in times.as_slice().iter().zip(expected) {
+        same = same && time.count() == *expected;
     }
     check(rt, "instants of a range", same);
 }

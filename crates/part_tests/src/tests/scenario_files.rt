@@ -15,13 +15,13 @@ pub(super) fn accepted(alloc: Global, text: &str, hosts: &Hosts) -> Result<Scena
 
 // Whether a text is refused since the host of this proxy is unknown.
 fn refuses(alloc: Global, text: &str, hosts: &Hosts, proxy: usize) -> bool {
-    let wanted = Refusal {
+    let expected = Refusal {
         cause: Cause::UnknownHost,
         proxy: Some(proxy),
         toxic: None,
     };
     match read_scenario(alloc, text.as_bytes(), hosts) {
-        Err(ScenarioFault::Refused(refusal)) => refusal == wanted,
+        Err(ScenarioFault::Refused(refusal)) => refusal == expected,
         _ => false,
     }
 }
@@ -35,8 +35,8 @@ fn has_proxy(scenario: &Scenario, number: usize, name: &str, enabled: bool) -> b
 }
 
 // Whether the proxy that a server meets is this.
-fn meets(scenario: &Scenario, addr: u32, port: u16, wanted: Option<u32>) -> bool {
-    scenario.proxy_of(Peer { addr, port }) == wanted
+fn meets(scenario: &Scenario, addr: u32, port: u16, expected: Option<u32>) -> bool {
+    scenario.proxy_of(Peer { addr, port }) == expected
 }
 
 #[test]
@@ -53,8 +53,8 @@ fn first_proxy_of_a_server(rt: HostRuntime) {
 }
 
 // That a host is taken into a list, or is not.
-fn check_host(rt: &impl Abort, hosts: &mut Hosts, (name, addr): (&str, &str), wanted: bool) {
-    check(rt, name, hosts.add(name, addr).is_ok() == wanted);
+fn check_host(rt: &impl Abort, hosts: &mut Hosts, (name, addr): (&str, &str), expected: bool) {
+    check(rt, name, hosts.add(name, addr).is_ok() == expected);
 }
 
 #[test]

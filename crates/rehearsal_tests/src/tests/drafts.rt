@@ -107,8 +107,8 @@ fn store_both<D: Disk>(
 fn has_first(alloc: Global, disk: &MemoryDisk, many: usize) -> Result<bool, AllocError> {
     for (place, (name, bytes)) in FILES.iter().enumerate() {
         let path = format!(in alloc; "drafts/{name}")?;
-        let wanted = if place < many { Some(*bytes) } else { None };
-        if disk.bytes(&path) != wanted {
+        let expected = if place < many { Some(*bytes) } else { None };
+        if disk.bytes(&path) != expected {
             return Ok(false);
         }
     }
@@ -122,14 +122,14 @@ fn are_stored(rt: &(impl Abort + AllocGlobal), mut disk: MemoryDisk, many: u64) 
     let folder = folder_at(rt, "drafts");
     let drafts = two_drafts(rt.alloc(), &folder, &disk).expect(rt, "memory");
     let stored = store_both(rt.alloc(), drafts, &folder, &mut disk);
-    let wanted = match many {
+    let expected = match many {
         4 => Ok(()),
         _ => Err(StoreFault::ShelfFailed {
             after: many.saturating_add(14),
         }),
     };
-    let failed = u64::from(wanted.is_err());
-    stored == wanted
+    let failed = u64::from(expected.is_err());
+    stored == expected
         && disk.failed() == failed
         && has_first(rt.alloc(), &disk, many as usize) == Ok(true)
 }

@@ -5,9 +5,9 @@ use std::process::Abort;
 use toxicap::{RunFault, fault_line, undump};
 
 // A dump's bytes, or the place of its fault.
-fn check_dump(rt: &(impl Abort + AllocGlobal), text: &str, wanted: Result<&[u8], usize>) {
-    let good = match (undump(rt.alloc(), text.as_bytes()), wanted) {
-        (Ok(bytes), Ok(wanted)) => bytes.as_slice() == wanted,
+fn check_dump(rt: &(impl Abort + AllocGlobal), text: &str, expected: Result<&[u8], usize>) {
+    let good = match (undump(rt.alloc(), text.as_bytes()), expected) {
+        (Ok(bytes), Ok(expected)) => bytes.as_slice() == expected,
         (Err(RunFault::BadDump { at }), Err(place)) => at == place,
         _ => false,
     };
@@ -29,8 +29,8 @@ fn dumps(rt: HostRuntime) {
 }
 
 // Whether a text that begins so is read as a dump.
-fn check_start(rt: &impl Abort, text: &[u8], wanted: bool) {
-    let good = is_dump(text) == wanted;
+fn check_start(rt: &impl Abort, text: &[u8], expected: bool) {
+    let good = is_dump(text) == expected;
     assert!(rt; good, "{text:?}");
 }
 
@@ -49,12 +49,12 @@ fn first_byte_of_a_dump(rt: HostRuntime) {
 }
 
 // What is told of a fault.
-fn check_line(rt: &(impl Abort + AllocGlobal), fault: RunFault, wanted: &str) {
+fn check_line(rt: &(impl Abort + AllocGlobal), fault: RunFault, expected: &str) {
     let good = match fault_line(rt.alloc(), &fault) {
-        Ok(line) => line.as_str() == wanted,
+        Ok(line) => line.as_str() == expected,
         Err(_) => false,
     };
-    assert!(rt; good, "{wanted}");
+    assert!(rt; good, "{expected}");
 }
 
 #[test]

@@ -28,14 +28,14 @@ fn outputs_under<R: Threads + Wait + Sync>(
     Ok(outputs.as_slice().len())
 }
 
-// A capture under `many` scenarios gives what is wanted: a number of outputs, or a refusal.
+// A capture under `many` scenarios gives what is expected: a number of outputs, or a refusal.
 fn check_scenarios(
     rt: &(impl Abort + AllocGlobal + Threads + Wait + Sync),
     bytes: &[u8],
     many: usize,
-    wanted: Result<usize, RunFault>,
+    expected: Result<usize, RunFault>,
 ) {
-    let good = outputs_under(rt, rt.alloc(), bytes, many) == wanted;
+    let good = outputs_under(rt, rt.alloc(), bytes, many) == expected;
     assert!(rt; good, "{many} scenarios");
 }
 

@@ -90,10 +90,10 @@ fn listed(alloc: Global) -> Result<MemoryDisk, AllocError>
 fn check_listed(
     rt: &(impl Abort + AllocGlobal + Threads + Wait + Sync),
     words: &[&str],
-    wanted: (u8, &str, &str),
+    expected: (u8, &str, &str),
 ) {
     let mut disk = listed(rt.alloc()).expect(rt, "memory");
-    check_over(rt, &mut disk, words, wanted);
+    check_over(rt, &mut disk, words, expected);
 }
 
 #[test]

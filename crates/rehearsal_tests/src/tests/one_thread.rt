@@ -89,10 +89,10 @@ fn refusals_by_one_thread(rt: HostRuntime) {
 }
 
 // The lines of a text are refused at this one, from 0; `None` where they are taken.
-fn check_hosts(rt: &(impl Abort + AllocGlobal), row: &str, text: &[u8], wanted: Option<usize>) {
+fn check_hosts(rt: &(impl Abort + AllocGlobal), row: &str, text: &[u8], expected: Option<usize>) {
     let good = match read_host_lines(rt.alloc(), text) {
-        Ok(_) => wanted == None,
-        Err(RunFault::BadHost { at }) => wanted == Some(at),
+        Ok(_) => expected == None,
+        Err(RunFault::BadHost { at }) => expected == Some(at),
         Err(_) => false,
     };
     assert!(rt; good, "{row}");

@@ -18,9 +18,9 @@ fn is_same_past<R: Threads + Wait + Sync, G: Gate>(
 ) -> Result<bool, RunFault> {
     let bytes = file(alloc, true, &repeated())?;
     let scenarios = scenarios_of(alloc, &["[]"])?;
-    let wanted = rehearsed_by(rt, alloc, &bytes, &scenarios, (1, 4096), &Through)?;
+    let expected = rehearsed_by(rt, alloc, &bytes, &scenarios, (1, 4096), &Through)?;
     let outputs = rehearsed_by(rt, alloc, &bytes, &scenarios, (2, 3), gate)?;
-    Ok(same(outputs.as_slice(), wanted.as_slice()))
+    Ok(same(outputs.as_slice(), expected.as_slice()))
 }
 
 // Job 0 of this phase waits until job 1 of it has passed, so two threads have done jobs.

@@ -70,14 +70,14 @@ pub fn under_every_plan<R: Threads + Wait + Sync>(
     bytes: &[u8],
 ) -> Result<Outputs, RunFault> {
     let scenarios = scenarios_of(alloc, &["[]"])?;
-    let wanted = rehearsed_by(rt, alloc, bytes, &scenarios, (1, 4096), &Through)?;
+    let expected = rehearsed_by(rt, alloc, bytes, &scenarios, (1, 4096), &Through)?;
     for workers in WORKERS {
         for cut in CUTS {
             let outputs = rehearsed_by(rt, alloc, bytes, &scenarios, (workers, cut), &Through)?;
-            if !same(outputs.as_slice(), wanted.as_slice()) {
+            if !same(outputs.as_slice(), expected.as_slice()) {
                 return Err(RunFault::Memory);
             }
         }
     }
-    Ok(wanted)
+    Ok(expected)
 }

@@ -45,7 +45,7 @@ fn check_ends(
     row: &str,
     (read_most, reads): (usize, u32),
     (write_most, writes): (usize, u32),
-    (wanted, written): (Result<(), RunFault>, usize),
+    (expected, written): (Result<(), RunFault>, usize),
 ) {
     let mut reader = Counted::new(Pieces {
         rest: STORED_RUN.as_bytes(),
@@ -59,9 +59,9 @@ fn check_ends(
     });
     let answer = overview(rt, &mut reader, &mut writer);
     let report = STORED_REPORT.as_bytes();
-    let good = answer == wanted
-        && reader.failed() == u64::from(wanted == Err(RunFault::ReadFailed))
-        && writer.failed() == u64::from(wanted == Err(RunFault::WriteFailed))
+    let good = answer == expected
+        && reader.failed() == u64::from(expected == Err(RunFault::ReadFailed))
+        && writer.failed() == u64::from(expected == Err(RunFault::WriteFailed))
         && writer.into_inner().taken.as_slice() == &report[..report.len().min(written)];
     assert!(rt; good, "{row}");
 }

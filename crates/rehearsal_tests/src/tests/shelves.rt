@@ -29,13 +29,13 @@ fn two_outputs(alloc: Global) -> Result<Outputs, AllocError> {
 }
 
 // Whether a shelf's files have these names and bytes.
-fn are_files(files: &[MemoryFile], wanted: &[(&str, &[u8])]) -> bool {
-    for (file, (name, bytes)) in files.iter().zip(wanted) {
+fn are_files(files: &[MemoryFile], expected: &[(&str, &[u8])]) -> bool {
+    for (file, (name, bytes)) in files.iter().zip(expected) {
         if file.name() != *name || file.bytes() != *bytes {
             return false;
         }
     }
-    files.len() == wanted.len()
+    files.len() == expected.len()
 }
 
 /// Keeps files in memory, except the one that comes after `calls_before` calls: whoever tries again gets rid of it.

@@ -45,12 +45,12 @@ fn has_first(
     for (place, file) in files.iter().enumerate() {
         let name = file.name();
         let path = format!(in alloc; "out/{name}")?;
-        let wanted = match name {
+        let expected = match name {
             _ if place < many => Some(file.bytes()),
             "0001.txt" => Some(OLDER),
             _ => None,
         };
-        if disk.bytes(&path) != wanted {
+        if disk.bytes(&path) != expected {
             return Ok(false);
         }
     }

@@ -30,13 +30,13 @@ impl Write for Sips {
     }
 }
 
-// Whether a write's answer, the count of failures and the bytes taken are those wanted: all of them, or a failure after some.
+// Whether a write's answer, the count of failures and the bytes taken are those expected: all of them, or a failure after some.
 fn is_written(
     (answer, failed): (Result<(), RunFault>, u64),
     taken: &[u8],
-    wanted: Result<&str, &str>,
+    expected: Result<&str, &str>,
 ) -> bool {
-    match wanted {
+    match expected {
         Ok(bytes) => answer == Ok(()) && failed == 0 && taken == bytes.as_bytes(),
         Err(part) => {
             answer == Err(RunFault::WriteFailed) && failed == 1 && taken == part.as_bytes()
@@ -49,7 +49,7 @@ fn check_sips(
     rt: &(impl Abort + AllocGlobal),
     text: &str,
     (most, calls): (usize, u32),
-    wanted: Result<&str, &str>,
+    expected: Result<&str, &str>,
 ) {
     let mut writer = Counted::new(Sips {
         taken: Vec::new(rt.alloc()),
@@ -58,7 +58,7 @@ fn check_sips(
     });
     let answer = write_bytes(&mut writer, text.as_bytes());
     let failed = writer.failed();
-    let good = is_written((answer, failed), &writer.into_inner().taken, wanted);
+    let good = is_written((answer, failed), &writer.into_inner().taken, expected);
     assert!(rt; good, "{most} bytes a call, {calls} calls");
 }
 
@@ -126,7 +126,7 @@ impl Write for RefusesOnce {
 fn check_refusing(
     rt: &(impl Abort + AllocGlobal),
     (calls_before, takes_nothing): (u32, bool),
-    wanted: Result<&str, &str>,
+    expected: Result<&str, &str>,
 ) {
     let mut writer = Counted::new(RefusesOnce {
         taken: Vec::new(rt.alloc()),
@@ -135,7 +135,7 @@ fn check_refusing(
     });
     let answer = write_bytes(&mut writer, b"reports");
     let failed = writer.failed();
-    let good = is_written((answer, failed), &writer.into_inner().taken, wanted);
+    let good = is_written((answer, failed), &writer.into_inner().taken, expected);
     assert!(rt;
         good,
         "after {calls_before} calls, nothing taken: {takes_nothing}"
@@ -155,7 +155,7 @@ fn a_write_that_fails_once(rt: HostRuntime) {
 fn check_refused_texts(
     rt: &(impl Abort + AllocGlobal),
     calls_before: u32,
-    wanted: Result<&str, &str>,
+    expected: Result<&str, &str>,
 ) {
     let mut writer = Counted::new(RefusesOnce {
         taken: Vec::new(rt.alloc()),
@@ -165,7 +165,7 @@ fn check_refused_texts(
     let texts: [&[u8]; 3] = [b"rep", b"", b"orts"];
     let answer = write_texts(&mut writer, &texts);
     let failed = writer.failed();
-    let good = is_written((answer, failed), &writer.into_inner().taken, wanted);
+    let good = is_written((answer, failed), &writer.into_inner().taken, expected);
     assert!(rt; good, "texts, after {calls_before} calls");
 }
 

@@ -129,10 +129,10 @@ fn tray_refuses_strangers_and_doubles(rt: HostRuntime) {
 }
 
 // That there is a plan of `workers` workers and ranges of `cut` records, which tells them, or that there is none.
-fn check_plan(rt: &impl Abort, workers: u32, cut: u32, wanted: bool) {
+fn check_plan(rt: &impl Abort, workers: u32, cut: u32, expected: bool) {
     let good = match Plan::new(workers, cut) {
-        Some(plan) => wanted && plan.workers() == workers && plan.cut() == cut,
-        None => !wanted,
+        Some(plan) => expected && plan.workers() == workers && plan.cut() == cut,
+        None => !expected,
     };
     check(rt, "a plan", good);
 }

@@ -99,10 +99,10 @@ fn is_wanted(delivery: &Delivery, (scenario, conn, segments, line): &WantedDeliv
 }
 
 // Whether deliveries are these, in this order.
-fn are_wanted(made: &[Delivery], wanted: &[WantedDelivery]) -> bool {
-    let mut right = made.len() == wanted.len();
-    for (delivery, wanted) in made.iter().zip(wanted) {
-        right = right && is_wanted(delivery, wanted);
+fn are_wanted(made: &[Delivery], expected: &[WantedDelivery]) -> bool {
+    let mut right = made.len() == expected.len();
+    for (delivery, expected) in made.iter().zip(expected) {
+        right = right && is_wanted(delivery, expected);
     }
     right
 }
@@ -140,8 +140,8 @@ fn is_second_row(rt: &impl Abort, alloc: Global, row: RowShares<'_, '_>) -> bool
             .extend_from_slice(share.lines.as_slice())
             .expect(rt, "memory");
     }
-    let wanted = format!(in alloc; "{FIRST_LINE}{REFUSED_LINE}").expect(rt, "memory");
-    segments == 5 && lines.as_slice() == wanted.as_bytes()
+    let expected = format!(in alloc; "{FIRST_LINE}{REFUSED_LINE}").expect(rt, "memory");
+    segments == 5 && lines.as_slice() == expected.as_bytes()
 }
 
 // That one thread alone and workers give the second row, of what is recorded.

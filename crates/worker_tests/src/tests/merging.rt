@@ -126,8 +126,8 @@ fn merged(rt: &impl Abort, alloc: Global, segments: &[RecordedSegment<'_>]) -> V
 pub(super) type WantedFrame = (u64, u8, u8, usize);
 
 // Whether a packet, stamped so, is this frame.
-fn is_frame(micros: u64, packet: &[u8], wanted: &WantedFrame) -> bool {
-    let (at, sender, flags, len) = wanted;
+fn is_frame(micros: u64, packet: &[u8], expected: &WantedFrame) -> bool {
+    let (at, sender, flags, len) = expected;
     micros == *at
         && packet.get(29) == Some(sender)
         && packet.get(47) == Some(flags)
@@ -135,11 +135,11 @@ fn is_frame(micros: u64, packet: &[u8], wanted: &WantedFrame) -> bool {
 }
 
 // That the frames of a capture are these.
-pub(super) fn check_frames(rt: &impl Abort, alloc: Global, bytes: &[u8], wanted: &[WantedFrame]) {
+pub(super) fn check_frames(rt: &impl Abort, alloc: Global, bytes: &[u8], expected: &[WantedFrame]) {
     let capture = read_capture(alloc, bytes).expect(rt, "a capture");
-    let mut right = capture.records().len() == wanted.len();
-    for ((place, record), wanted) in capture.records().iter().enumerate().zip(wanted) {
-        right = right && is_frame(record.stamp.count(), capture.packet(place), wanted);
+    let mut right = capture.records().len() == expected.len();
+    for ((place, record), expected) in capture.records().iter().enumerate().zip(expected) {
+        right = right && is_frame(record.stamp.count(), capture.packet(place), expected);
     }
     check(rt, "frames", right);
 }
@@ -160,8 +160,8 @@ fn nothing_to_merge(rt: HostRuntime) {
 #[test]
 fn the_plain_session(rt: HostRuntime) {
     let written = merged(&rt, rt.alloc(), &session());
-    let wanted = session_written(rt.alloc()).expect(&rt, "memory");
-    let same = written.as_slice() == wanted.as_slice();
+    let expected = session_written(rt.alloc()).expect(&rt, "memory");
+    let same = written.as_slice() == expected.as_slice();
     check(&rt, "449 bytes", same && written.len() == 449);
 }
 
@@ -180,7 +180,7 @@ fn turns_and_places_at_one_instant(rt: HostRuntime) {
     ];
     let bytes = merged(&rt, rt.alloc(), &segments);
     let (first, second) = (1_000_000, 2_000_000);
-    let wanted = [
+    let expected = [
         (first, 1, SYN, 0),
         (first, 2, SYN + ACK, 0),
         (first, 1, ACK, 0),
@@ -193,5 +193,5 @@ fn turns_and_places_at_one_instant(rt: HostRuntime) {
         (second, 2, PSH + ACK, 1),
         (second, 3, PSH + ACK, 1),
     ];
-    check_frames(&rt, rt.alloc(), &bytes, &wanted);
+    check_frames(&rt, rt.alloc(), &bytes, &expected);
 }

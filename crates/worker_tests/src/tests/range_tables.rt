@@ -23,15 +23,15 @@ fn a_range_held_until_the_next_has_passed(rt: HostRuntime) {
     check(&rt, "held", !gate.gave_up());
 }
 
-// That `wanted` is the number of ranges of `cut` records and the sum of their numbers, and that each passes the gate once.
+// That `expected` is the number of ranges of `cut` records and the sum of their numbers, and that each passes the gate once.
 fn check_ranges<R: Abort + Threads + Wait + Sync>(
     rt: &R,
     alloc: Global,
     bytes: &[u8],
     cut: u32,
-    wanted: (u64, u64),
+    expected: (u64, u64),
 ) {
-    let (ranges, numbers) = wanted;
+    let (ranges, numbers) = expected;
     let capture = read_capture(alloc, bytes).expect(rt, "a capture");
     let gate = Counting::new(Phase::Ranges);
     let plan = Plan::new(2, cut).expect(rt, "a plan");

@@ -26,8 +26,8 @@ fn check_lines(
             .extend_from_slice(text.as_slice())
             .expect(rt, "memory");
     }
-    let wanted = format!(in alloc; "{first}{second}").expect(rt, "memory");
-    check(rt, "lines", lines.as_slice() == wanted.as_bytes());
+    let expected = format!(in alloc; "{first}{second}").expect(rt, "memory");
+    check(rt, "lines", lines.as_slice() == expected.as_bytes());
 }
 
 // That there are `count` shares, with the lines of a scenario without proxies, and after it of one whose proxy is disabled.

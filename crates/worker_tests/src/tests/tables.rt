@@ -80,9 +80,9 @@ fn from_right(rt: &impl Abort, alloc: Global, capture: &Capture<'_>, cut: usize)
 pub(super) type Wanted = (Host, &'static [u32]);
 
 // Whether members are those of these records.
-fn are_members(members: &[Member], wanted: &[u32]) -> bool {
-    let mut right = members.len() == wanted.len();
-    for (member, index) in members.iter().zip(wanted) {
+fn are_members(members: &[Member], expected: &[u32]) -> bool {
+    let mut right = members.len() == expected.len();
+    for (member, index) in members.iter().zip(expected) {
         right = right && member.index == *index;
     }
     right
@@ -97,17 +97,17 @@ fn is_wanted(conn: &Conn, number: u32, (client, members): &Wanted) -> bool {
 }
 
 // Whether a table has these connections, numbered in turn, and this number of unopened segments.
-fn is_table(table: &Table, wanted: &[Wanted], unopened: u64) -> bool {
-    let mut right = table.conns().len() == wanted.len() && table.unopened() == unopened;
-    for ((conn, wanted), number) in table.conns().iter().zip(wanted).zip(0_u32..) {
-        right = right && is_wanted(conn, number, wanted);
+fn is_table(table: &Table, expected: &[Wanted], unopened: u64) -> bool {
+    let mut right = table.conns().len() == expected.len() && table.unopened() == unopened;
+    for ((conn, expected), number) in table.conns().iter().zip(expected).zip(0_u32..) {
+        right = right && is_wanted(conn, number, expected);
     }
     right
 }
 
 // That a table has these connections, numbered in turn, and this number of unopened segments.
-pub(super) fn check_table(rt: &impl Abort, table: &Table, wanted: &[Wanted], unopened: u64) {
-    check(rt, "a table", is_table(table, wanted, unopened));
+pub(super) fn check_table(rt: &impl Abort, table: &Table, expected: &[Wanted], unopened: u64) {
+    check(rt, "a table", is_table(table, expected, unopened));
 }
 
 // An opening that is sent again, and a second session of the same pair.
@@ -125,9 +125,15 @@ pub(super) fn repeated() -> [RecordedSegment<'static>; 6] {
 pub(super) const REPEATED: [Wanted; 2] = [(CLIENT, &[0, 1, 2, 3]), (CLIENT, &[4, 5])];
 
 // That ranges of `cut` records give this table, joined from the left and from the right.
-fn check_cut(rt: &impl Abort, alloc: Global, capture: &Capture<'_>, cut: usize, wanted: &[Wanted]) {
-    check_table(rt, &from_left(rt, alloc, capture, cut), wanted, 0);
-    check_table(rt, &from_right(rt, alloc, capture, cut), wanted, 0);
+fn check_cut(
+    rt: &impl Abort,
+    alloc: Global,
+    capture: &Capture<'_>,
+    cut: usize,
+    expected: &[Wanted],
+) {
+    check_table(rt, &from_left(rt, alloc, capture, cut), expected, 0);
+    check_table(rt, &from_right(rt, alloc, capture, cut), expected, 0);
 }
 
 #[test]
@@ -143,9 +149,9 @@ fn a_repeated_opening_by_every_cut(rt: HostRuntime) {
 }
 
 // That a partial's table is this.
-fn check_partial(rt: &impl Abort, alloc: Global, partial: Partial, wanted: &[Wanted]) {
+fn check_partial(rt: &impl Abort, alloc: Global, partial: Partial, expected: &[Wanted]) {
     let table = finish(alloc, partial).expect(rt, "memory");
-    check_table(rt, &table, wanted, 0);
+    check_table(rt, &table, expected, 0);
 }
 
 // The ranges of a capture of six records: two of them alone, and after the first, and three in a row, of which one has no record.

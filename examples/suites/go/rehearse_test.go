@@ -11,8 +11,8 @@ import (
 
 func TestSlowDatabase(t *testing.T) {
 	report, output := Rehearse(t, "../../../samples/shop.pcap", "../../slow-database.json", "--host", "redis=10.77.0.3")
-	wanted, err := os.ReadFile("../../slow-database.txt")
-	if err != nil || !bytes.Equal(report, wanted) {
+	expected, err := os.ReadFile("../../slow-database.txt")
+	if err != nil || !bytes.Equal(report, expected) {
 		t.Errorf("the report is another (%v):\n%s", err, report)
 	}
 	sums, err := os.ReadFile("../../captures.sha256")

@@ -57,12 +57,12 @@ func Same(t testing.TB, path string, output toxicap.Output) {
 	for _, file := range []struct {
 		ending     string
 		found      []byte
-		difference func(wanted, found []byte) string
+		difference func(expected, found []byte) string
 	}{{".pcap", output.Capture, captureDifference}, {".txt", output.Report, textDifference}} {
-		wanted, err := os.ReadFile(path + file.ending)
+		expected, err := os.ReadFile(path + file.ending)
 		isMissing := errors.Is(err, fs.ErrNotExist)
 		switch {
-		case err == nil && bytes.Equal(wanted, file.found):
+		case err == nil && bytes.Equal(expected, file.found):
 			continue
 		case writes && (err == nil || isMissing):
 			if err = write(path+file.ending, file.found); err == nil {
@@ -72,7 +72,7 @@ func Same(t testing.TB, path string, output toxicap.Output) {
 		case isMissing:
 			err = fmt.Errorf("there is no golden file %s", path+file.ending)
 		case err == nil:
-			err = fmt.Errorf("the golden file %s differs %s", path+file.ending, file.difference(wanted, file.found))
+			err = fmt.Errorf("the golden file %s differs %s", path+file.ending, file.difference(expected, file.found))
 		}
 		t.Error(err)
 		failed = true
@@ -90,12 +90,14 @@ func write(path string, text []byte) error {
 }
 
 // Stale fails the test at its end, that is after its subtests, if the folder has golden files (a .pcap with a .txt beside it) with which nothing
-// was compared. With the flag -run, by which tests are left out, it looks at nothing.
+// was compared. With the flag -run or -skip, by which tests are left out, it looks at nothing.
 func Stale(t testing.TB, folder string) {
 	t.Helper()
 	t.Cleanup(func() {
-		if filter := flag.Lookup("test.run"); filter != nil && filter.Value.String() != "" {
-			return
+		for _, name := range []string{"test.run", "test.skip"} {
+			if filter := flag.Lookup(name); filter != nil && filter.Value.String() != "" {
+				return
+			}
 		}
 		reports, _ := filepath.Glob(filepath.Join(folder, "*.txt"))
 		for _, report := range reports {

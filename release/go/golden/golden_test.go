@@ -27,10 +27,10 @@ func (t *told) Logf(format string, values ...any) { t.Log(fmt.Sprintf(format, va
 func (t *told) Cleanup(end func())                { t.ends = append(t.ends, end) }
 
 // check compares what a test was told.
-func check(t *testing.T, found, wanted string) {
+func check(t *testing.T, found, expected string) {
 	t.Helper()
-	if found != wanted {
-		t.Errorf("%s\nin place of\n%s", found, wanted)
+	if found != expected {
+		t.Errorf("%s\nin place of\n%s", found, expected)
 	}
 }
 
@@ -58,16 +58,16 @@ func TestGolden(t *testing.T) {
 	binary.LittleEndian.PutUint32(later[len(later)-66:], 999999) // the last record's microseconds
 	other := []byte(strings.Replace(string(output.Capture), "sample", "simple", 1))
 	report := []byte(strings.Replace(string(output.Report), "\nconnections 1", "\nconnections 2", 1))
-	for found, wanted := range map[*toxicap.Output]string{
-		{Capture: output.Capture, Report: report}: ".txt differs in line 2:\nwanted: connections 1 unopened 0\nfound:  connections 2 unopened 0\n",
-		{Capture: other, Report: output.Report}:   ".pcap differs in connection 0 down, chunk 2 (30 bytes at 5.61ms): wanted ",
-		{Capture: later, Report: output.Report}:   ".pcap differs in connection 0 down, its end: wanted fin at ",
+	for found, expected := range map[*toxicap.Output]string{
+		{Capture: output.Capture, Report: report}: ".txt differs in line 2:\nexpected: connections 1 unopened 0\nfound:    connections 2 unopened 0\n",
+		{Capture: other, Report: output.Report}:   ".pcap differs in connection 0 down, chunk 2 (30 bytes at 5.61ms): expected ",
+		{Capture: later, Report: output.Report}:   ".pcap differs in connection 0 down, its end: expected fin at ",
 		{Capture: capture, Report: output.Report}: ".pcap differs from byte ",
 	} {
 		fake := &told{}
 		golden.Same(fake, path, *found)
-		if !strings.HasPrefix(fake.errors, "the golden file "+path+wanted) {
-			t.Errorf("%s\nin place of\n%s", fake.errors, wanted)
+		if !strings.HasPrefix(fake.errors, "the golden file "+path+expected) {
+			t.Errorf("%s\nin place of\n%s", fake.errors, expected)
 		}
 	}
 

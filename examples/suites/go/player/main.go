@@ -21,7 +21,7 @@ func numbersOf(text string) (numbers []int, err error) {
 	for _, word := range strings.Split(text, ",") {
 		number, err := strconv.Atoi(word)
 		if err != nil {
-			return nil, fmt.Errorf("-connection %s: numbers of the report are wanted, such as 0,2, or all", text)
+			return nil, fmt.Errorf("-connection %s: numbers of the report are expected, such as 0,2, or all", text)
 		}
 		numbers = append(numbers, number)
 	}

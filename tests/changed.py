@@ -52,8 +52,8 @@ OTHERS = [None, True, False, Members(), []]
 
 def toxic(kind, name, stream, attributes=()):
     """A toxic that nothing refuses but what it is told; without a stream where that is `absent`."""
-    wanted = {'bandwidth': [('rate', Number(1))], 'slicer': [('average_size', Number(10**9))]}
-    members = [('type', kind), ('name', name), ('stream', stream), ('attributes', Members([*wanted.get(kind, []), *attributes]))]
+    expected = {'bandwidth': [('rate', Number(1))], 'slicer': [('average_size', Number(10**9))]}
+    members = [('type', kind), ('name', name), ('stream', stream), ('attributes', Members([*expected.get(kind, []), *attributes]))]
     return Members(member for member in members if member[1] != 'absent')
 
 

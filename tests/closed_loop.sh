@@ -42,7 +42,7 @@ inputs+=(--host redis=10.77.0.3)
 printf d4c3b2a10200040000000000000000000000040071000000 | xxd -r -p > "$work/any.pcap"
 verdict "too few turns" "$(ends 1 'closed_loop: a packet still moves after 1 rounds' "${inputs[@]}" --turns 1 --out "$work/out")"
 verdict "no Ethernet" "$(ends 2 "closed_loop: refused 4 BadLink: $work/any.pcap is " --capture "$work/any.pcap" --scenario examples/latency.json --out "$work/out")"
-verdict "turns below 1" "$(ends 2 'argument --turns: -1: a whole number from 1 on is wanted' "${inputs[@]}" --turns=-1 --out "$work/out")"
+verdict "turns below 1" "$(ends 2 'argument --turns: -1: a whole number from 1 on is expected' "${inputs[@]}" --turns=-1 --out "$work/out")"
 verdict "a seed below 0" "$(ends 2 "closed_loop: error: invalid value '-1' for '--seed <N>'" "${inputs[@]}" --seed=-1 --out "$work/out")"
 verdict "no folder" "$(ends 2 "closed_loop: $work/none is no folder: " "${inputs[@]}" --out "$work/none")"
 verdict "no capture" "$(ends 2 "closed_loop: $work/none: No such file or directory" --capture "$work/none" --scenario examples/latency.json --out "$work/out")"

@@ -32,8 +32,8 @@ made() { awk -f "$OLDPWD/tests/capture.awk" > "$1"; }
 
 # one_line LINE FILE: what is at fault with a file that was to have this line.
 one_line() {
-    echo "$1" > wanted
-    difference wanted "$2"
+    echo "$1" > expected
+    difference expected "$2"
 }
 
 # reason WHAT TEXT TOXICS: over the web session the first toxic has no effect, and this is the reason.

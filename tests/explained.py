@@ -222,9 +222,9 @@ def scenario_faults(number, seed, capture):
         for p, proxy in enumerate(file):
             idle |= not base.met(p)
             first = next(q for q in range(p + 1) if file[q]['upstream'] == proxy['upstream'])
-            if base.met(p): wanted = f'met by {len(base.met(p))} '
-            else: wanted = f'no connection meets it: proxy {first} ' if first < p else 'no connection goes'
-            if not texts[scenario, p, None].startswith(wanted): faults.append(f'proxy {p}: wanted {wanted}')
+            if base.met(p): expected = f'met by {len(base.met(p))} '
+            else: expected = f'no connection meets it: proxy {first} ' if first < p else 'no connection goes'
+            if not texts[scenario, p, None].startswith(expected): faults.append(f'proxy {p}: expected {expected}')
             for t in range(len(proxy['toxics'])):
                 text = texts[scenario, p, t]
                 idle |= text.startswith('effect on 0 ')

@@ -131,10 +131,10 @@ def of_terminal(toxics):
         fact(f'{path}: the attributes of {name}', [row[0] for row in found] == [each['attribute'] for each in attributes], found)
         for attribute, (field, unit, least, most) in zip(attributes, found):
             most = int(most.replace('_', ''))
-            wanted = (int(attribute['least']), most_of(attribute, greatest))
-            fact(f'{path}: {name}, {field}: range', (int(least), most) == wanted, (least, most))
+            expected = (int(attribute['least']), most_of(attribute, greatest))
+            fact(f'{path}: {name}, {field}: range', (int(least), most) == expected, (least, most))
             fact(f'{path}: {name}, {field}: unit', unit.split()[0] == unit_of(attribute), unit)
-    fact(f'{path}: size_variation is below average_size', 'less than \\"average_size\\" is wanted' in code)
+    fact(f'{path}: size_variation is below average_size', 'less than \\"average_size\\" is expected' in code)
 
 
 def of_help(toxics, help_text):
@@ -145,8 +145,8 @@ def of_help(toxics, help_text):
         if not row: continue
         name = row[1] or name
         found[name, row[2]] = row
-    wanted = [(name, attribute['attribute']) for name, attributes in toxics.items() for attribute in attributes]
-    fact('--help: the attributes', list(found) == wanted, list(found))
+    expected = [(name, attribute['attribute']) for name, attributes in toxics.items() for attribute in attributes]
+    fact('--help: the attributes', list(found) == expected, list(found))
     for attribute in sum(toxics.values(), []):
         row, what = found.get((attribute['toxic'], attribute['attribute'])), f'--help: {attribute["toxic"]}, {attribute["attribute"]}'
         if not row: continue
@@ -187,9 +187,9 @@ def of_field(what, field, attribute):
 
 def of_tools(toxics):
     """What else holds a list of attributes, and a million."""
-    wanted = {name: [each['attribute'] for each in attributes] for name, attributes in toxics.items()}
+    expected = {name: [each['attribute'] for each in attributes] for name, attributes in toxics.items()}
     found = re.search(r'^ATTRIBUTES = (\{.*?\})$', text_of('tests/changed.py'), re.S | re.M)
-    fact('tests/changed.py: the attributes of toxics', found and ast.literal_eval(found[1]) == wanted)
+    fact('tests/changed.py: the attributes of toxics', found and ast.literal_eval(found[1]) == expected)
     fact('examples/python/effects.py: a million', '\nMILLION = 1000000\n' in text_of('examples/python/effects.py'))
 
 
@@ -283,7 +283,8 @@ def of_attribute_names(page, toxics):
 
 
 def of_rules(toxics):
-    """The items of docs/use/rules.md that say what each toxic does with its attributes, its frame classes, and where it says ranges to be."""
+    """The items of docs/use/rules.md that say what each toxic does with its attributes, its frame classes (the program sums them up, too), and where
+    it says ranges to be."""
     page = 'docs/use/rules.md'
     items = re.findall(r'^- `(\w+)`: (.*(?:\n  .*)*)', section_of(page, 'Toxics'), re.M)
     fact(f'{page}: an item for each toxic', sorted(name for name, _ in items) == sorted(toxics), [name for name, _ in items])
@@ -295,6 +296,9 @@ def of_rules(toxics):
     classes = re.findall(r'^    (\w+)', between(text_of('crates/frame_headers/src/classes.rt'), "pub enum Class<'a> {", '\n}\n'), re.M)
     shown = [row[0] for rows in tables_under(page, r'\| Class \| [^|]* \|') for row in rows if row[0]]
     fact(f'{page}: the frame classes, in order', shown == classes, shown)
+    counted = between(text_of('crates/toxicap_program/src/summary.rt'), 'const COUNTED: &str =\n    "', '"').split()[4:]
+    fact('summary.rt: the frame classes, in order', counted == [name.lower() for name in classes if name != 'Segment'], counted)
+    fact('summary.rt: a count for each word', f'counts: [u64; {4 + len(counted)}],' in text_of('crates/toxicap_program/src/summary.rt'))
     fact(f'{page}: the ranges of attributes are in docs/use/scenarios.md', '[range](scenarios.md#the-toxics)' in section_of(page, 'Scenario files'))
 
 
@@ -333,18 +337,18 @@ def of_fault_lines(refusals):
     for variant, _, name, *_ in causes + faults: fact(f'fault_lines.rt: the name of {variant}', variant == name, name)
     in_code = sorted((int(number), name) for _, number, name, *_ in causes + faults)
     in_specs = sorted((int(number), name) for number, name in re.findall(r'= \((\d+), codes "(\w+)"', specs))
-    wanted = [(int(each['number']), each['name']) for each in refusals]
-    fact('fault_lines.rt: numbers and names', in_code == wanted, set(in_code) ^ set(wanted))
-    fact('RunFault.antt: numbers and names', in_specs == wanted, set(in_specs) ^ set(wanted))
+    expected = [(int(each['number']), each['name']) for each in refusals]
+    fact('fault_lines.rt: numbers and names', in_code == expected, set(in_code) ^ set(expected))
+    fact('RunFault.antt: numbers and names', in_specs == expected, set(in_specs) ^ set(expected))
     places = {name: PLACES.get(place) for _, _, name, place in faults}
     where = {}
     for file, place in SCENARIO_FILES.items():
         for cause in re.findall(r'Cause::(\w+)', text_of(f'crates/scenarios/src/{file}.rt')): where.setdefault(cause, set()).add(place)
     for each in refusals:
         place = each['place']
-        if of_scenario(each): found, wanted = where.get(each['name']), {place.replace(' [toxic]', ''), place.replace('[toxic]', 'toxic')}
-        else: found, wanted = places.get(each['name']), place.split()[0]
-        fact(f'the place of {each["name"]}', found == wanted, found)
+        if of_scenario(each): found, expected = where.get(each['name']), {place.replace(' [toxic]', ''), place.replace('[toxic]', 'toxic')}
+        else: found, expected = places.get(each['name']), place.split()[0]
+        fact(f'the place of {each["name"]}', found == expected, found)
 
 
 def of_errors(refusals):
@@ -386,8 +390,8 @@ def of_remedies(refusals):
     handled = {'ShortHeader', 'NotJson', 'NotArray', 'BadToxicity'}  # by a last arm, or by the text of a scenario
     handled |= set(re.findall(r'RunFault::(\w+)', code['remedies'])) - {'BadScenario'}
     handled |= set(re.findall(r'Cause::(\w+)', code['scenario_remedies']))
-    wanted = {each['name'] for each in refusals}
-    fact('remedies: one for each refusal', wanted == handled, wanted ^ handled)
+    expected = {each['name'] for each in refusals}
+    fact('remedies: one for each refusal', expected == handled, expected ^ handled)
     for each in refusals:
         for part in each['remedy'].split('; '): fact(f'remedies: {each["name"]}', part in texts, part)
     proxies, toxics = (constant(*limit.split()) for limit in LIMITS['TooMany'])
@@ -427,9 +431,9 @@ def of_options(source):
     """The limits that `--help` tells of options, and those of a plan."""
     workers, cut = (constant('command_line/src/options.rt', name) for name in ('MOST_WORKERS', 'MOST_CUT'))
     scenarios, bytes_ = constant(*LIMITS['TooManyScenarios'][0].split()), constant(*LIMITS['CaptureTooLong'][0].split())
-    for name, wanted in (('WORKERS', [1, workers]), ('CUT', [1, cut]), ('SCENARIO', [scenarios]), ('CAPTURE', [bytes_])):
+    for name, expected in (('WORKERS', [1, workers]), ('CUT', [1, cut]), ('SCENARIO', [scenarios]), ('CAPTURE', [bytes_])):
         found = numbers(between(source, f'const {name}: &str = "', '";'))
-        fact(f'--help: the limits of {name}', found == wanted, found)
+        fact(f'--help: the limits of {name}', found == expected, found)
     plan = [constant('job_matrix/src/plans.rt', name) for name in ('WORKER_LIMIT', 'CUT_LIMIT')]
     fact('job_matrix: a plan has the limits of the options', plan == [workers, cut], plan)
 

@@ -13,11 +13,11 @@ folder=$work/folder new=$work/new
 mkdir "$new" "$folder"
 run "$capture" "${both[@]}" --out "$new"
 run "$capture" "${both[@]}"
-cp "$work/output" "$work/wanted"
+cp "$work/output" "$work/expected"
 od -An -v -tx1 $capture | tr -d ' ' > "$work/dump"
 verdict "the full answers are the stored examples" "$(
-    { cat examples/latency.txt; sed 's/^scenario 0 /scenario 1 /' examples/limit_data.txt; } | byte_difference - "$work/wanted"
-    cat "$new"/*.txt | byte_difference - "$work/wanted"
+    { cat examples/latency.txt; sed 's/^scenario 0 /scenario 1 /' examples/limit_data.txt; } | byte_difference - "$work/expected"
+    cat "$new"/*.txt | byte_difference - "$work/expected"
     sum_difference "$(sed -n 's/  latency.pcap$//p' examples/captures.sha256)" "$new/0000.pcap"
     sum_difference "$(sed -n 's/  limit_data.pcap$//p' examples/captures.sha256)" "$new/0001.pcap"
 )"
@@ -30,7 +30,7 @@ interrupted=4 device=5 room=28 nothing=0 another=11 lockless=(37 95)
 # whole: it was to print the full answer.
 whole() {
     well
-    difference "$work/wanted" "$work/output"
+    difference "$work/expected" "$work/output"
 }
 
 # stored: it was to store the full answer.
@@ -49,7 +49,7 @@ unread() {
 unwritten() {
     fault 1
     told faults $'refused 62 WriteFailed\n'
-    head -c $((($1 - 1) * most)) "$work/wanted" | byte_difference - "$work/output"
+    head -c $((($1 - 1) * most)) "$work/expected" | byte_difference - "$work/output"
 }
 
 # unstored: it was to be refused for a file that could not be stored, and to have the files before it in the folder, and no others.
@@ -168,7 +168,7 @@ verdict "a draft that is there is not removed" "$(
 # asked for
 perl tests/capture.pl 7000 > "$work/blocks.pcap"
 run "$work/blocks.pcap" "${both[@]}"
-cp "$work/output" "$work/wanted-of-blocks"
+cp "$work/output" "$work/expected-of-blocks"
 mkdir "$work/new-of-blocks"
 run "$work/blocks.pcap" "${both[@]}" --out "$work/new-of-blocks"
 verdict "the full answers are worked out apart" "$(
@@ -176,12 +176,12 @@ verdict "the full answers are worked out apart" "$(
         perl tests/capture.pl 7000 report 0 $number | byte_difference - "$work/new-of-blocks/000$number.txt"
         perl tests/capture.pl 7000 delivered | byte_difference - "$work/new-of-blocks/000$number.pcap"
     done
-    cat "$work"/new-of-blocks/*.txt | byte_difference - "$work/wanted-of-blocks"
+    cat "$work"/new-of-blocks/*.txt | byte_difference - "$work/expected-of-blocks"
 )"
 blocks=(/dev/null --capture "$work/blocks.pcap" "${both[@]}" --workers 2)
 printed_blocks() {
     well
-    difference "$work/wanted-of-blocks" "$work/output"
+    difference "$work/expected-of-blocks" "$work/output"
 }
 stored_blocks() {
     well

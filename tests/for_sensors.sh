@@ -59,7 +59,7 @@ refuses "a torn output" "torn: $none: record $last: it is cut, or no TCP segment
 refuses "a recording as an output" "samples/shop.pcap: $none: it has another file header; \`toxicap --out\` stores outputs, and --recording names a recording" samples/shop.pcap
 classic="this is no classic pcap: editcap -F pcap IN OUT writes one of most captures, also of pcapng and gzipped ones"
 printf d4c3b2a10200040000000000000000000000040071000000 | xxd -r -p > "$work/any"
-refuses "another link type" "any: this is pcap 2.4 of link type 113, and pcap 2.4 of Ethernet, 1, is wanted: record on an Ethernet interface" "$work/any"
+refuses "another link type" "any: this is pcap 2.4 of link type 113, and pcap 2.4 of Ethernet, 1, is expected: record on an Ethernet interface" "$work/any"
 refuses "no capture" "examples/latency.json: $classic" examples/latency.json
 refuses "an empty file" "standard input: $classic" - < /dev/null
 refuses "no file" "absent: No such file or directory" "$work/absent"

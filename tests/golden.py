@@ -32,8 +32,8 @@ class Findings(unittest.TestCase):
         self.folder = tempfile.TemporaryDirectory()
         self.addCleanup(self.folder.cleanup)
 
-    def finds(self, capture, scenario, *wanted, hosts=b""):
-        self.assertEqual(list(map(str, explain(capture, [[], scenario], hosts, 7))), list(wanted))
+    def finds(self, capture, scenario, *expected, hosts=b""):
+        self.assertEqual(list(map(str, explain(capture, [[], scenario], hosts, 7))), list(expected))
 
     def test_nothing_to_find(self):
         self.finds(SHOP, [web({"type": "latency", "attributes": {"latency": 1}}), {"name": "db", "upstream": "db:6379"}], hosts={"db": "10.77.0.3"})
@@ -56,7 +56,7 @@ class Findings(unittest.TestCase):
     def test_toxics_without_effect(self):
         """Warnings, in the words of examples/explain; none for toxics of a proxy that is not met."""
         [silent] = rehearse(HTTP, [web({"type": "timeout"})])
-        for capture, wanted, *toxics in (
+        for capture, expected, *toxics in (
             (HTTP, ["its toxicity is 0"], {"type": "timeout", "toxicity": 0}),
             (silent, ["no bytes flow downstream (upstream up to 82 bytes)"], {"type": "slicer", "attributes": {"average_size": 9}}),
             (HTTP, ["toxic 1 ({}) hides it"], {"type": "latency", "attributes": {"latency": 9}}, {"type": "timeout", "name": "{}"}),
@@ -66,8 +66,8 @@ class Findings(unittest.TestCase):
         ):
             scenario, path = [web(*toxics)], pathlib.Path(self.folder.name, "x")
             found = explain(capture, [[], scenario], seed=7)
-            self.assertEqual([finding.text for finding in found], [f"effect on 0 of 1 connection; on 1: {text}" for text in wanted])
-            self.assertEqual([finding.is_warning for finding in found], [True] * len(wanted))
+            self.assertEqual([finding.text for finding in found], [f"effect on 0 of 1 connection; on 1: {text}" for text in expected])
+            self.assertEqual([finding.is_warning for finding in found], [True] * len(expected))
             path.with_suffix(".pcap").write_bytes(capture if isinstance(capture, bytes) else capture.capture)
             path.with_suffix(".json").write_text(json.dumps(scenario))
             words = [TOP / "examples/explain", "--capture", path.with_suffix(".pcap"), "--seed", "7"]

@@ -73,11 +73,11 @@ captures_of() { grep -oE '[A-Za-z0-9_./-]+\.pcap' <<< "$1" | tr '\n' ' '; }
 # run_block PLACE KIND SCRIPT: runs a block; `ran` tells whether, and what it printed is the file `output`. A block that names a capture of a block
 # that was skipped is skipped too, where the capture is not there.
 run_block() {
-    local tool file wanted=() stop=(-e -o pipefail)
+    local tool file expected=() stop=(-e -o pipefail)
     ran=no status=0
-    [[ $3 != *examples/report* && $3 != *examples/timeline* && $3 != *examples/closed_loop* && $3 != *examples/for_sensors* ]] || wanted+=(python3)
-    for tool in "${tools[@]}"; do ! grep -qw -- "$tool" <<< "$3" || wanted+=("$tool"); done
-    can "$1" "${wanted[@]}" || { missed+=" $(captures_of "$3")"; return; }
+    [[ $3 != *examples/report* && $3 != *examples/timeline* && $3 != *examples/closed_loop* && $3 != *examples/for_sensors* ]] || expected+=(python3)
+    for tool in "${tools[@]}"; do ! grep -qw -- "$tool" <<< "$3" || expected+=("$tool"); done
+    can "$1" "${expected[@]}" || { missed+=" $(captures_of "$3")"; return; }
     for file in $(captures_of "$3"); do
         [[ " $missed " != *" $file "* ]] || [ -e "$file" ] || { skip "$1" "$file is of a block that was skipped"; return; }
     done
@@ -124,8 +124,8 @@ run_page() {
                 'sh live',*) if [ -n "$release" ]; then ran=no; else run_block "$1:$begun" "$kind" "$text"; fi ;;
                 sh,*) run_block "$1:$begun" "$kind" "$text" ;;
                 text,sh*)
-                    printf '%s' "$text" > "$work/wanted"
-                    [ "$ran" = no ] || verdict "$1:$begun" "$(difference "$work/wanted" "$work/output")"
+                    printf '%s' "$text" > "$work/expected"
+                    [ "$ran" = no ] || verdict "$1:$begun" "$(difference "$work/expected" "$work/output")"
                     ;;
             esac
             last=$kind inside=no

@@ -61,7 +61,7 @@ func TestKinds(t *testing.T) {
 
 // Places of faults in JSON, counted by the program.
 func TestJSONFaults(t *testing.T) {
-	for text, wanted := range map[string]string{
+	for text, expected := range map[string]string{
 		`[1e400"x"]`:      "is no JSON from line 1 column 2 on",
 		`[{"a" 1}]`:       "is no JSON from line 1 column 7 on",
 		`[{"a":}]`:        "is no JSON from line 1 column 8 on",
@@ -79,8 +79,8 @@ func TestJSONFaults(t *testing.T) {
 		`[{"a"}]`:         "is no JSON from line 1 column 6 on",
 		"[\n{\"b\":nul\n": "is no JSON from line 2 column 6 on",
 	} {
-		if found := scenarioHint(NotJson, []byte(text), -1, -1); found != " "+wanted {
-			t.Errorf("%s%s in place of %s", text, found, wanted)
+		if found := scenarioHint(NotJson, []byte(text), -1, -1); found != " "+expected {
+			t.Errorf("%s%s in place of %s", text, found, expected)
 		}
 	}
 }

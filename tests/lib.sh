@@ -121,14 +121,14 @@ folder_difference() { diff -rq "$1" "$2" 2>&1 || true; }
 
 # difference WANTED FOUND: the lines in which two texts differ; nothing where they are the same, byte for byte.
 difference() {
-    local wanted found line file told=no
+    local expected found line file told=no
     for file in "$1" "$2"; do [ -f "$file" ] || { echo "  no file $file"; return 0; }; done
     ! cmp -s "$1" "$2" || return 0
-    mapfile -t wanted < "$1"
+    mapfile -t expected < "$1"
     mapfile -t found < "$2"
-    for ((line = 0; line < ${#wanted[@]} || line < ${#found[@]}; line++)); do
-        [ "${wanted[line]-}" != "${found[line]-}" ] || continue
-        printf '  line %d, wanted: %s\n  line %d, found:  %s\n' $((line + 1)) "${wanted[line]-nothing}" $((line + 1)) "${found[line]-nothing}"
+    for ((line = 0; line < ${#expected[@]} || line < ${#found[@]}; line++)); do
+        [ "${expected[line]-}" != "${found[line]-}" ] || continue
+        printf '  line %d, expected: %s\n  line %d, found:    %s\n' $((line + 1)) "${expected[line]-nothing}" $((line + 1)) "${found[line]-nothing}"
         told=yes
     done
     [ $told = yes ] || echo '  the files differ at their ends'
@@ -146,7 +146,7 @@ holds() {
 sum_difference() {
     local found
     found=$(sha256sum "$2" 2> /dev/null || true)
-    [ "$1" = "${found%% *}" ] || printf '  sum, wanted: %s\n  sum, found:  %s\n' "$1" "${found%% *}"
+    [ "$1" = "${found%% *}" ] || printf '  sum, expected: %s\n  sum, found:    %s\n' "$1" "${found%% *}"
 }
 
 # close: the closing line, and the script's status.

@@ -96,7 +96,7 @@ static void again(const struct question *asked, long count)
 /* What a thread is to do. */
 struct turn {
     struct question asked;
-    struct memory wanted;
+    struct memory expected;
     uint8_t status;
     long count;
 };
@@ -104,9 +104,9 @@ struct turn {
 static void *ask_again(void *given)
 {
     struct turn *turn = given;
-    struct memory other = memory_of(turn->wanted.sizes);
+    struct memory other = memory_of(turn->expected.sizes);
     for (long number = 0; number < turn->count; number++)
-        must(ask(&turn->asked, &other) == turn->status && is_same(&turn->wanted, &other), "a thread has another answer");
+        must(ask(&turn->asked, &other) == turn->status && is_same(&turn->expected, &other), "a thread has another answer");
     release(&other);
     return NULL;
 }
@@ -122,7 +122,7 @@ static void threads(const struct question *asked, long count)
         turn->asked = *asked;
         turn->asked.seed += number;
         turn->asked.with_captures = number % 4 != 3;
-        turn->wanted = answer(&turn->asked, &turn->status);
+        turn->expected = answer(&turn->asked, &turn->status);
         turn->count = count;
     }
     for (int number = 0; number < THREADS; number++)
@@ -130,7 +130,7 @@ static void threads(const struct question *asked, long count)
     for (int number = 0; number < THREADS; number++)
         must(pthread_join(thread[number], NULL) == 0, "a thread cannot be joined");
     for (int number = 0; number < THREADS; number++)
-        release(&turns[number].wanted);
+        release(&turns[number].expected);
 }
 
 /* starved: asks with this growth refused; whether there was such a growth. */
@@ -184,19 +184,19 @@ static void tells(const struct question *asked, const char *line)
 static void edges(struct question *asked)
 {
     uint8_t status, other_status;
-    struct memory wanted = answer(asked, &status);
+    struct memory expected = answer(asked, &status);
     size_t last = asked->scenario_count - 1, count = asked->scenario_count, too_long = ((size_t)1 << 30) + 1;
     struct question changed = *asked;
 
     changed.scenario_lens[last] = (size_t)-1 / 2;
     struct memory past_end = answer(&changed, &other_status);
-    must(status == other_status && is_same(&wanted, &past_end), "a scenario's length past the end changes the answer");
+    must(status == other_status && is_same(&expected, &past_end), "a scenario's length past the end changes the answer");
     release(&past_end);
 
     changed = *asked;
     changed.hosts.len -= changed.hosts.len > 0;
     struct memory no_line_feed = answer(&changed, &other_status);
-    must(status == other_status && is_same(&wanted, &no_line_feed), "a last host without a line feed changes the answer");
+    must(status == other_status && is_same(&expected, &no_line_feed), "a last host without a line feed changes the answer");
     release(&no_line_feed);
 
     changed = *asked;
@@ -215,7 +215,7 @@ static void edges(struct question *asked)
     must(changed.capture.bytes != MAP_FAILED, "no room for a capture that is too long");
     tells(&changed, "refused 6 CaptureTooLong");
     munmap(changed.capture.bytes, too_long);
-    release(&wanted);
+    release(&expected);
 }
 
 int main(int count, char **words)

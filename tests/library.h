@@ -159,13 +159,13 @@ static ToxicapSizes wanted_sizes(const struct question *asked)
 }
 
 /* answer_in: the answer to a call with this room, which is to be enough; `status` is its status. */
-static struct memory answer_in(const struct question *asked, ToxicapSizes room, ToxicapSizes wanted, uint8_t *status)
+static struct memory answer_in(const struct question *asked, ToxicapSizes room, ToxicapSizes expected, uint8_t *status)
 {
     struct memory memory = memory_of(room);
     *status = ask(asked, &memory);
     must(*status == TOXICAP_ANSWERED || *status == TOXICAP_REFUSED, "with enough room: neither answered nor refused");
-    must(are_equal(memory.sizes, wanted), "with enough room: other sizes than those that were wanted");
-    must(leaves(&memory, wanted), "with enough room: bytes past the answer, or before a buffer, are changed");
+    must(are_equal(memory.sizes, expected), "with enough room: other sizes than those that were expected");
+    must(leaves(&memory, expected), "with enough room: bytes past the answer, or before a buffer, are changed");
     return memory;
 }
 
@@ -177,12 +177,12 @@ static int is_same(const struct memory *one, const struct memory *other)
         && memcmp(one->lens, other->lens, one->sizes.lens * sizeof(size_t)) == 0;
 }
 
-/* too_small: a call with this room, in which something is missing, says what is wanted and leaves all buffers. */
-static void too_small(const struct question *asked, ToxicapSizes room, ToxicapSizes wanted)
+/* too_small: a call with this room, in which something is missing, says what is expected and leaves all buffers. */
+static void too_small(const struct question *asked, ToxicapSizes room, ToxicapSizes expected)
 {
     struct memory memory = memory_of(room);
     must(ask(asked, &memory) == TOXICAP_NO_ROOM, "with too little room: another status than 2");
-    must(are_equal(memory.sizes, wanted), "with too little room: other sizes than without room");
+    must(are_equal(memory.sizes, expected), "with too little room: other sizes than without room");
     must(leaves(&memory, (ToxicapSizes){0, 0, 0}), "with too little room: a buffer is changed");
     release(&memory);
 }
@@ -191,16 +191,16 @@ static void too_small(const struct question *asked, ToxicapSizes room, ToxicapSi
 static struct memory answer(const struct question *asked, uint8_t *status)
 {
     uint8_t again;
-    ToxicapSizes wanted = wanted_sizes(asked), more = {wanted.captures + 9, wanted.reports + 9, wanted.lens + 9};
-    struct memory right = answer_in(asked, wanted, wanted, status), large = answer_in(asked, more, wanted, &again);
+    ToxicapSizes expected = wanted_sizes(asked), more = {expected.captures + 9, expected.reports + 9, expected.lens + 9};
+    struct memory right = answer_in(asked, expected, expected, status), large = answer_in(asked, more, expected, &again);
     must(*status == again && is_same(&right, &large), "with more room: another answer");
-    must(*status == TOXICAP_REFUSED || wanted.lens == (asked->with_captures ? 2 * asked->scenario_count : 0), "another number of lengths");
+    must(*status == TOXICAP_REFUSED || expected.lens == (asked->with_captures ? 2 * asked->scenario_count : 0), "another number of lengths");
     release(&large);
-    if (wanted.captures > 0)
-        too_small(asked, (ToxicapSizes){wanted.captures - 1, more.reports, more.lens}, wanted);
-    if (wanted.reports > 0)
-        too_small(asked, (ToxicapSizes){more.captures, wanted.reports - 1, more.lens}, wanted);
-    if (wanted.lens > 0)
-        too_small(asked, (ToxicapSizes){more.captures, more.reports, wanted.lens - 1}, wanted);
+    if (expected.captures > 0)
+        too_small(asked, (ToxicapSizes){expected.captures - 1, more.reports, more.lens}, expected);
+    if (expected.reports > 0)
+        too_small(asked, (ToxicapSizes){more.captures, expected.reports - 1, more.lens}, expected);
+    if (expected.lens > 0)
+        too_small(asked, (ToxicapSizes){more.captures, more.reports, expected.lens - 1}, expected);
     return right;
 }

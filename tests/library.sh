@@ -32,14 +32,14 @@ caller=$work/library
 # differs ARGUMENT..: what differs between the program and the library, called with the same arguments.
 differs() {
     local called=0
-    rm -rf "$work/wanted" "$work/found"
-    mkdir "$work/wanted" "$work/found"
-    run /dev/null "$@" --out "$work/wanted"
+    rm -rf "$work/expected" "$work/found"
+    mkdir "$work/expected" "$work/found"
+    run /dev/null "$@" --out "$work/expected"
     "$caller" answer "$@" --out "$work/found" > "$work/told" 2> "$work/line" || called=$?
     cat "$work/told"
     [ $called = "$status" ] || echo "  status $called of the library, $status of the program"
     difference "$work/faults" "$work/line"
-    folder_difference "$work/wanted" "$work/found"
+    folder_difference "$work/expected" "$work/found"
 }
 
 # same ARGUMENT..: the library answers as the program does.
@@ -177,7 +177,7 @@ mkdir "$work/stored"
 run /dev/null --capture "${inputs[0]}" --scenario "${inputs[1]}" --scenario "${inputs[2]}" --host redis=10.77.0.3 --out "$work/stored"
 verdict "the program, of the examples' inputs" "$(well)"
 run /dev/null --capture "${inputs[0]}" --scenario "${inputs[1]}" --scenario "${inputs[2]}"
-cp "$work/faults" "$work/wanted-line"
+cp "$work/faults" "$work/expected-line"
 
 # example LANGUAGE COMMAND..
 example() {
@@ -190,7 +190,7 @@ example() {
     )"
     rm -f "$folder"/*
     (cd "$folder"; timeout 20 "${@:2}" "${inputs[@]}") > "$work/output" 2> "$work/line" || ended=$?
-    verdict "the example in $1, refused" "$([ $ended = 1 ] || echo "  status $ended"; difference "$work/wanted-line" "$work/line"; holds "$folder")"
+    verdict "the example in $1, refused" "$([ $ended = 1 ] || echo "  status $ended"; difference "$work/expected-line" "$work/line"; holds "$folder")"
 }
 unset HOSTS
 export TOXICAP_LIBRARY=$kit/lib/libtoxicap.so.1 CGO_CFLAGS="-I$kit/include" CGO_LDFLAGS="-L$kit/lib"

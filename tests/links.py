@@ -108,9 +108,9 @@ def fault_of(page, link, anchors):
 
 def main():
     passed, faults, anchors = 0, [], {}
-    for (heading, wanted), found in zip(ANCHORS, anchors_of([heading for heading, _ in ANCHORS])):
-        if found == wanted: passed += 1
-        else: faults.append(f'the heading {heading!r}: {found}, and not {wanted}')
+    for (heading, expected), found in zip(ANCHORS, anchors_of([heading for heading, _ in ANCHORS])):
+        if found == expected: passed += 1
+        else: faults.append(f'the heading {heading!r}: {found}, and not {expected}')
     for page in pages():
         for number, link in links_in(page):
             fault = fault_of(page, link, anchors)

@@ -252,11 +252,11 @@ TABLES = {'examples/python/hints.py': python_hints, 'examples/go/tables.go': go_
 def code_faults():
     """Writes the tables into the code; with --check those that are not what would be written."""
     for path, table in TABLES.items():
-        text, wanted = read(TREE / path), ''.join(table())
+        text, expected = read(TREE / path), ''.join(table())
         found = CODE_MADE.search(text)
         if found is None: yield f'{path} has no made part'
-        elif '--check' not in sys.argv: (TREE / path).write_text(text[:found.start(3)] + wanted + text[found.end(3):], encoding='utf-8')
-        elif found[3] != wanted: yield path + difference(found[3], wanted)
+        elif '--check' not in sys.argv: (TREE / path).write_text(text[:found.start(3)] + expected + text[found.end(3):], encoding='utf-8')
+        elif found[3] != expected: yield path + difference(found[3], expected)
 
 
 # ---- pages
@@ -268,11 +268,11 @@ def part(name):
     return '\n' + ''.join(PARTS[name]()).strip('\n') + '\n\n'
 
 
-def difference(now, wanted):
+def difference(now, expected):
     """The first lines that a part has and was not to have, and that it was to have."""
-    now, wanted = now.split('\n'), wanted.split('\n')
-    gone, new = [line for line in now if line not in wanted][:3], [line for line in wanted if line not in now][:3]
-    return ''.join(f'\n  found:  {line}' for line in gone) + ''.join(f'\n  wanted: {line}' for line in new)
+    now, expected = now.split('\n'), expected.split('\n')
+    gone, new = [line for line in now if line not in expected][:3], [line for line in expected if line not in now][:3]
+    return ''.join(f'\n  found:    {line}' for line in gone) + ''.join(f'\n  expected: {line}' for line in new)
 
 
 def main():
@@ -281,13 +281,13 @@ def main():
         text = read(path)
         for made in MADE.finditer(text):
             shown.add(made[2])
-            wanted = part(made[2])
-            if made[3] != wanted: faults.append(f'{path.relative_to(TREE)}, {made[2]}' + difference(made[3], wanted))
-        wanted = MADE.sub(lambda made: made[1] + part(made[2]) + made[4], text)
-        if '--check' not in sys.argv and wanted != text: path.write_text(wanted, encoding='utf-8')
-    wanted = made_dump()
-    if '--check' not in sys.argv: DUMP.write_text(wanted, encoding='utf-8')
-    elif read(DUMP) != wanted: faults.append(f'{DUMP.relative_to(TREE)} is no dump of {SAMPLE.relative_to(TREE)}')
+            expected = part(made[2])
+            if made[3] != expected: faults.append(f'{path.relative_to(TREE)}, {made[2]}' + difference(made[3], expected))
+        expected = MADE.sub(lambda made: made[1] + part(made[2]) + made[4], text)
+        if '--check' not in sys.argv and expected != text: path.write_text(expected, encoding='utf-8')
+    expected = made_dump()
+    if '--check' not in sys.argv: DUMP.write_text(expected, encoding='utf-8')
+    elif read(DUMP) != expected: faults.append(f'{DUMP.relative_to(TREE)} is no dump of {SAMPLE.relative_to(TREE)}')
     faults += code_faults()
     if '--check' not in sys.argv: return
     missing = set(PARTS) - shown

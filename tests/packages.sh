@@ -109,14 +109,14 @@ if can "the wheel" python3; then
     passes "calls of the package" "$python" -I -B - "$away" < tests/packages/calls.py
     verdict "calls of the package, compared" "$(grep -vx '8 outputs' "$work/told" || true)"
     block docs/use/python.md python 1 > "$away/example.py"
-    block docs/use/python.md text 1 > "$work/wanted"
+    block docs/use/python.md text 1 > "$work/expected"
     (cd "$away" && out_of_reach "$python" -B example.py > "$work/output" 2>&1) || true
-    verdict "the package's example" "$(difference "$work/wanted" "$work/output")"
+    verdict "the package's example" "$(difference "$work/expected" "$work/output")"
     ended=0
     (cd "$away" && out_of_reach "$python" -m toxicap --capture shop.pcap --scenario redis-down.json > "$work/output" 2>&1) || ended=$?
     echo $ended >> "$work/output"
-    printf '%s\n' 'refused 15 UnknownHost scenario 0 proxy 1' 1 > "$work/wanted"
-    verdict "python -m toxicap" "$(difference "$work/wanted" "$work/output")"
+    printf '%s\n' 'refused 15 UnknownHost scenario 0 proxy 1' 1 > "$work/expected"
+    verdict "python -m toxicap" "$(difference "$work/expected" "$work/output")"
     # the signals that the program would ignore: those that Python ignores are not among them
     cat > "$work/signals.py" << 'END'
 import os, toxicap.__main__
@@ -158,8 +158,8 @@ fi
 # C
 cp examples/c/rehearse.{c,h} "$away"
 cp -r "$parts"/{include,lib} "$away"
-mkdir "$work/wanted-files"
-run /dev/null --capture samples/shop.pcap --scenario examples/bandwidth.json --scenario examples/latency.json --out "$work/wanted-files"
+mkdir "$work/expected-files"
+run /dev/null --capture samples/shop.pcap --scenario examples/bandwidth.json --scenario examples/latency.json --out "$work/expected-files"
 # stored WHAT COMMAND..: the example in C, linked so, stores what the program does.
 stored() {
     rm -rf "$work/files"
@@ -167,7 +167,7 @@ stored() {
     verdict "$1" "$(
         cd "$work/files"
         quiet out_of_reach "${@:2}" "$away/shop.pcap" "$away/bandwidth.json" "$away/latency.json"
-        folder_difference "$work/wanted-files" "$work/files"
+        folder_difference "$work/expected-files" "$work/files"
     )"
 }
 if can "the library by pkg-config" gcc pkg-config; then
@@ -295,10 +295,10 @@ if can "the crate for Rust" cargo rustc cc; then
         printf '%s\n' Cargo.toml Cargo.toml.orig LICENCES.md README.md build.rs native/libtoxicap.a \
             src/{events,hints,json,lib,rehearse,shown,sockets}.rs
         (cd "$work" && find share -type f -printf 'share/toxicap/%P\n')
-    } | LC_ALL=C sort > "$work/wanted"
+    } | LC_ALL=C sort > "$work/expected"
     LC_ALL=C sort -o "$work/output" "$work/output"
     shared "the crate" "$away/toxicap-$version-rust/share/toxicap"
-    verdict "what the crate has" "$(difference "$work/wanted" "$work/output")"
+    verdict "what the crate has" "$(difference "$work/expected" "$work/output")"
     verdict "the crate's example" "$(
         in_crate cargo test -q --offline > "$work/told" 2>&1 || cat "$work/told"
         grep -q '^test result: ok. 2 passed' "$work/told" || cat "$work/told"
@@ -334,8 +334,8 @@ if can "the image" tar gzip python3; then
         folder_difference "$work/built" "$work/root"
         sed '/^#/d' "$away/toxicap-$version-image/Dockerfile" > "$work/output"
         printf '%s\n' 'FROM scratch' 'COPY toxicap /usr/bin/' 'COPY share /usr/share/toxicap/' \
-            'COPY LICENCES.md LGPL-2.1 toxicap.o /usr/share/doc/toxicap/' 'WORKDIR /work' 'ENTRYPOINT ["/usr/bin/toxicap"]' > "$work/wanted"
-        difference "$work/wanted" "$work/output"
+            'COPY LICENCES.md LGPL-2.1 toxicap.o /usr/share/doc/toxicap/' 'WORKDIR /work' 'ENTRYPOINT ["/usr/bin/toxicap"]' > "$work/expected"
+        difference "$work/expected" "$work/output"
     )"
     # and by buildah, whose images lie in a folder that is thrown away
     images=(buildah --storage-driver vfs --root "$work/images" --runroot "$work/run")
@@ -354,7 +354,7 @@ if can "the image" tar gzip python3; then
             share=usr/share/toxicap
             quiet chroot "$work/root" /usr/bin/toxicap --capture $share/samples/shop.pcap --scenario $share/examples/bandwidth.json \
                 --scenario $share/examples/latency.json --out work/out
-            folder_difference "$work/wanted-files" "$work/root/work/out"
+            folder_difference "$work/expected-files" "$work/root/work/out"
         )"
     else
         skip "the image, run" "it wants root"
@@ -408,8 +408,8 @@ print(re.search(r"^      run: '(.*)'$", text, re.MULTILINE)[1])
 END
     python3 -B "$work/step.py" "$work/share/examples/action/action.yml" > "$work/step" 2>&1 || true
     # shellcheck disable=SC2016
-    printf '%s\n' 'archive sums key ARCHIVE=archive SUMS=sums KEY=key' '"$GITHUB_ACTION_PATH/install"' > "$work/wanted"
-    verdict "the action's inputs and its step" "$(difference "$work/wanted" "$work/step")"
+    printf '%s\n' 'archive sums key ARCHIVE=archive SUMS=sums KEY=key' '"$GITHUB_ACTION_PATH/install"' > "$work/expected"
+    verdict "the action's inputs and its step" "$(difference "$work/expected" "$work/step")"
     # acts STATUS TEXT VARIABLE..: the step ends so, and prints a line with this text; where it fails, it leaves nothing.
     acts() {
         local ended=0
@@ -424,8 +424,8 @@ END
     }
     verdict "the action" "$(
         acts 0 "toxicap $version in " ARCHIVE="$archive"
-        printf '%s\n' "folder=$(dirname "$(cat "$work/runner/path")")" "version=toxicap $version" > "$work/wanted"
-        difference "$work/wanted" "$work/runner/output"
+        printf '%s\n' "folder=$(dirname "$(cat "$work/runner/path")")" "version=toxicap $version" > "$work/expected"
+        difference "$work/expected" "$work/runner/output"
         [ "$("$(cat "$work/runner/path")/toxicap" -V)" = "toxicap $version" ] || echo '  it does not run'
         folder_difference "$work/share" "$(sed -n 's/^folder=//p' "$work/runner/output")/share/toxicap"
     )"
@@ -556,7 +556,7 @@ while IFS='|' read -r _ what type check prints _; do
         "${place[@]}" bash -euc 'eval "$1" > told 2>&1 || { echo "  status $?"; cat told; exit; }; eval "$2" 2>&1 || echo "  status $?"' \
             row "$type" "$check" > "$work/output" 2>&1 || echo "  status $?"
         last=$(tail -n 1 "$work/output" | tr -s '[:blank:]' ' ')
-        [[ $last = "$prints"* ]] || { echo "  it prints: $last, wanted: $prints"; cat "$work/output"; }
+        [[ $last = "$prints"* ]] || { echo "  it prints: $last, expected: $prints"; cat "$work/output"; }
     )"
     for tool in docker podman; do
         [[ $type != *"$tool"* ]] || "$tool" rmi -f "toxicap:latest" "localhost/toxicap:$version" > /dev/null 2>&1 || true

@@ -51,8 +51,8 @@ serve() {
 client() {
     local ended=0
     timeout 60 "${@:4}" < /dev/null > "$work/client" 2> "$work/client-told" || ended=$?
-    printf '%b' "$3" > "$work/wanted"
-    verdict "$1" "$([ $ended = "$2" ] || echo "  status $ended: $(cat "$work/client-told")"; difference "$work/wanted" "$work/client")"
+    printf '%b' "$3" > "$work/expected"
+    verdict "$1" "$([ $ended = "$2" ] || echo "  status $ended: $(cat "$work/client-told")"; difference "$work/expected" "$work/client")"
 }
 
 if ! can "players" python3; then close; exit; fi
@@ -81,7 +81,7 @@ outputs_of slices "$work/rounds.dump" 10.0.0.2:80 -- '"toxics":[{"type":"slicer"
 
 verdict "steps" "$(
     (cd "$outputs" && python3 -B "$OLDPWD/tests/player/dump_steps.py" sessions-{late,reset,cut,closed,down}) > "$work/steps" 2>&1 || echo "  status $?"
-    difference tests/player/wanted "$work/steps"
+    difference tests/player/expected "$work/steps"
 )"
 for scenario in examples/*.json; do
     case $scenario in */live-proxies.json | *.schema.json) continue ;; esac
@@ -152,7 +152,7 @@ for language in "${languages[@]}"; do
     )"
     [ "$language" = python ] || verdict "$language, connections that are none" "$(
         for numbers in x 0,7; do timeout 60 "$work/player-$language" -connection $numbers "$outputs"/http-late/000{0,1}.pcap 2>&1 || true; done > "$work/output"
-        told output 'player: -connection x: numbers of the report are wanted, such as 0,2, or all
+        told output 'player: -connection x: numbers of the report are expected, such as 0,2, or all
 player: there is no connection 7: there are 1, numbered from 0
 '
     )"

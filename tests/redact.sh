@@ -19,7 +19,7 @@ redact() {
     examples/redact "$@" < "$input" > "$work/output" 2> "$work/faults" || status=$?
 }
 
-# redacted WHAT COUNTS WORD..: of the capture `recorded` it was to make the capture `wanted`, to count COUNTS matches of the patterns, to end with 1
+# redacted WHAT COUNTS WORD..: of the capture `recorded` it was to make the capture `expected`, to count COUNTS matches of the patterns, to end with 1
 # where one has none, and toxicap was to give both the same report.
 redacted() {
     local what=$1 counts=$2 number=0 lines='' due=0 count words
@@ -31,7 +31,7 @@ redacted() {
         number=$((number + 1))
     done
     redact "$work/recorded" "$@"
-    verdict "$what" "$(fault $due; told faults "$lines"; byte_difference "$work/wanted" "$work/output")"
+    verdict "$what" "$(fault $due; told faults "$lines"; byte_difference "$work/expected" "$work/output")"
     cp "$work/output" "$work/redacted"
     run "$work/recorded"
     cp "$work/output" "$work/report"
@@ -67,7 +67,7 @@ capture recorded << 'END'
 1.009000 d>s PSH ACK 7001 8001 "secre"
 1.010000 c>s FIN ACK 1020 5022
 END
-capture wanted << 'END'
+capture expected << 'END'
 1.000000 c>s SYN 1000 0
 1.000100 s>c SYN ACK 5000 1001
 1.000200 c>s ACK 1001 5001
@@ -84,7 +84,7 @@ capture wanted << 'END'
 END
 redacted "both directions" 3 --text secret
 redacted "two patterns, one of no match" "0 3" --text nowhere --regex 's[e]cre[tT]'
-cp "$work/wanted" "$work/recorded"
+cp "$work/expected" "$work/recorded"
 redacted "nothing to replace" 0 --text secret
 
 # Copies that differ: the token stands in the first ones, or in the last ones.
@@ -95,7 +95,7 @@ capture recorded << 'END'
 1.003000 c>s PSH ACK 1004 5001 "ret-sec"
 1.004000 c>s PSH ACK 1011 5001 "ret"
 END
-capture wanted << 'END'
+capture expected << 'END'
 1.000000 c>s SYN 1000 0
 1.001000 c>s PSH ACK 1001 5001 "xxx"
 1.002000 c>s PSH ACK 1001 5001 "xxxxxx-xxxxxx"
@@ -116,7 +116,7 @@ capture recorded << 'END'
 3.000000 s>d PSH ACK 4294967295 1 "sec"
 3.001000 s>d PSH ACK 2 1 "ret"
 END
-capture wanted << 'END'
+capture expected << 'END'
 1.000000 c>s SYN 1000 0
 1.001000 c>s PSH ACK 1001 5001 "sec"
 2.000000 c>s SYN 4294967292 0 "xx"
@@ -141,7 +141,7 @@ capture recorded << 'END'
 2.002000 s>d SYN ACK 5000 1001
 2.003000 s>d PSH ACK 5004 1001 "ret"
 END
-capture wanted << 'END'
+capture expected << 'END'
 1.000000 c>s SYN 1000 0
 1.000100 s>c SYN ACK 5000 1001
 1.001000 s>c PSH ACK 5001 1001 "xxx"
@@ -174,7 +174,7 @@ capture recorded << 'END'
 2.007000 d>s SYN ACK 3000 0
 2.008000 d>s PSH ACK 1001 5001 "later---bytes"
 END
-capture wanted << 'END'
+capture expected << 'END'
 1.000000 c>s SYN 1000 0
 1.001000 c>s PSH ACK 1001 5001 "xxx"
 1.002000 s>c SYN 9000 0
@@ -199,7 +199,7 @@ capture recorded << 'END'
 1.000000 c>s SYN 1000 0
 1.001000 c>s PSH ACK 1001 5001 "xaxax,xxx"
 END
-capture wanted << 'END'
+capture expected << 'END'
 1.000000 c>s SYN 1000 0
 1.001000 c>s PSH ACK 1001 5001 "xxxxx,xxx"
 END
@@ -214,7 +214,7 @@ capture recorded << END
 record 1.001000 $(offloaded 1001 0000)736563
 record 1.002000 $(offloaded 1004 0000)726574
 END
-capture wanted << END
+capture expected << END
 1.000000 c>s SYN 1000 0
 record 1.001000 $(offloaded 1001 "$(sum 1001)")787878
 record 1.002000 $(offloaded 1004 "$(sum 1004)")787878
@@ -232,7 +232,7 @@ highest
 1.000000004 c>s vlan 0x2007 PSH ACK 1004 5001 "ret"
 1.000000005 c>s vlan 0x2000 PSH ACK 1004 5001 "rot"
 END
-capture wanted << 'END'
+capture expected << 'END'
 nanoseconds
 highest
 1.000000000 c>s vlan 7 SYN 1000 0
@@ -251,7 +251,7 @@ capture recorded << END
 1.001000 c>s PSH ACK 1001 5001 $(bytes "${header}Bea")
 1.002000 c>s PSH ACK 1035 5001 $(bytes "rer a.b\r\nA: a-b\r\n\xff\x00\xfe\r\n")
 END
-capture wanted << END
+capture expected << END
 1.000000 c>s SYN 1000 0
 1.001000 c>s PSH ACK 1001 5001 $(bytes "${header}xxx")
 1.002000 c>s PSH ACK 1035 5001 $(bytes "xxxxxxx\r\nA: a-b\r\nxxx\r\n")
@@ -264,7 +264,7 @@ capture recorded << END
 1.000000 c>s SYN 1000 0
 record 1.001000 ${frame}736563726574
 END
-capture wanted << END
+capture expected << END
 1.000000 c>s SYN 1000 0
 record 1.001000 ${frame}787878787878
 END
@@ -297,7 +297,7 @@ head -c 1330 samples/shop.pcap | tail -c 1306 > "$work/others"
 refused "no capture" "$work/others" "$classic" --text secret
 refused "an empty file" /dev/null "$classic" --text secret
 sed '1s/00000001$/00000071/; 1s/ 01000000$/ 71000000/' <(awk -f tests/capture.awk < /dev/null) | python3 tests/summed.py > "$work/others"
-refused "another link" "$work/others" "standard input is of link type 113, and Ethernet, 1, is wanted: record on an Ethernet interface, tcpdump -i eth0, not any" --text secret
+refused "another link" "$work/others" "standard input is of link type 113, and Ethernet, 1, is expected: record on an Ethernet interface, tcpdump -i eth0, not any" --text secret
 redact /dev/null
 verdict "no pattern" "$(fault 2; silent output; grep -q 'error: there is no --text and no --regex$' "$work/faults" || cat "$work/faults")"
 redact /dev/null --text xx
@@ -354,9 +354,9 @@ if can "a sample, by tshark" tshark; then
     for field in frame.{time_epoch,len} eth.{src,dst} ip.{id,src,dst} tcp.{srcport,dstport,seq_raw,ack_raw,flags,window_size_value,options,len}; do
         others+=(-e "$field")
     done
-    fields "$work/recorded" "${others[@]}" > "$work/wanted"
+    fields "$work/recorded" "${others[@]}" > "$work/expected"
     fields "$work/redacted" "${others[@]}" > "$work/found"
-    verdict "a sample: all else, by tshark" "$(difference "$work/wanted" "$work/found")"
+    verdict "a sample: all else, by tshark" "$(difference "$work/expected" "$work/found")"
     paste <(fields "$work/recorded" -e tcp.payload) <(fields "$work/redacted" -e tcp.payload -e tcp.checksum.status) |
         awk -F '\t' '$1 != $2 { print $3 }' | sort | uniq -c > "$work/statuses"
     verdict "a sample: checksums, by tshark" "$(awk '$2 != 1 || $1 != 15 { print "  " $0 }' "$work/statuses"; [ -s "$work/statuses" ] || echo "  none")"

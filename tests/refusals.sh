@@ -12,7 +12,7 @@ judged() {
         refused*) refusal "$1" ;;
         *)
             well
-            [[ $(head -n 1 "$work/output") == "scenario 0 $1 "* ]] || printf '  wanted: %s\n  found:  %s\n' "$1" "$(head -n 1 "$work/output")"
+            [[ $(head -n 1 "$work/output") == "scenario 0 $1 "* ]] || printf '  expected: %s\n  found:    %s\n' "$1" "$(head -n 1 "$work/output")"
             ;;
     esac
 }

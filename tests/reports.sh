@@ -25,9 +25,9 @@ whole "reports of the examples" examples/*.txt
 whole "reports of the rows" tests/rows/*/report
 
 run samples/shop.pcap --scenario examples/bandwidth.json
-examples/report examples/bandwidth.txt > "$work/wanted"
+examples/report examples/bandwidth.txt > "$work/expected"
 examples/report < "$work/output" > "$work/lines"
-verdict "a report of the program" "$(well; difference "$work/wanted" "$work/lines")"
+verdict "a report of the program" "$(well; difference "$work/expected" "$work/lines")"
 
 # judged refused|taken FILE: the JSON lines of a file that the schema refuses, or takes.
 judged() {
@@ -186,7 +186,7 @@ writes "a proxy that the file has not" 2 "report: scenario 0 names.json has no p
     <(sed 's/proxy 1/proxy 9/' "$work/old")
 writes "too few scenario files" 2 "report: there is no --scenario for scenario 1" --form table --scenario "$work/names.json" "$work/new"
 writes "too few scenario files for a diff" 2 "report: there is no --scenario for scenario 1" --form diff --scenario "$work/names.json" "$work/both"
-writes "no scenario file" 2 "report: old is no scenario file: an array of proxies with names is wanted" --form table --scenario "$work/old" "$work/old"
+writes "no scenario file" 2 "report: old is no scenario file: an array of proxies with names is expected" --form table --scenario "$work/old" "$work/old"
 # Peers that the program does not write: a cell that a table calculates, one that takes a terminal over, numbers that are none.
 refused() {
     sed "3s|10.0.0.1:4000|$1|" "$work/old" > "$work/forged"
@@ -215,8 +215,8 @@ cp "$work/names.json" "$evil.json"
 status=0
 examples/report --form table --scenario "$evil.json" "$evil" "$evil" > "$work/output" 2> "$work/faults" || status=$?
 sed -n "1s|^$work/||p" "$work/output" > "$work/line"
-printf '%s\n' 'old\x1b[31m\n scenario 0 old\x1b[31m\n.json: records 9, notipv4 1, connections 2' > "$work/wanted"
-verdict "names with control characters" "$(well; difference "$work/wanted" "$work/line")"
+printf '%s\n' 'old\x1b[31m\n scenario 0 old\x1b[31m\n.json: records 9, notipv4 1, connections 2' > "$work/expected"
+verdict "names with control characters" "$(well; difference "$work/expected" "$work/line")"
 # Standard output that takes nothing, and the name of the command.
 ln -s "$PWD/examples/report" "$work/toxicap-report"
 for form in json csv table diff; do

@@ -30,8 +30,8 @@ printed() {
     fi
 }
 
-# wanted ROW: the names and sums of the row's output captures, as sha256sum tells them.
-wanted() {
+# expected ROW: the names and sums of the row's output captures, as sha256sum tells them.
+expected() {
     local capture name
     for capture in "$1"/0*.hex "$1"/0*.sha256; do
         [ -f "$capture" ] || continue
@@ -51,9 +51,9 @@ stored() {
     cat "$work"/outputs/*.txt > "$work/reports"
     difference "$1/report" "$work/reports"
     (cd "$work/outputs" && sha256sum -- *.pcap) > "$work/sums"
-    ! cmp -s "$work/wanted" "$work/sums" || return 0
-    difference "$work/wanted" "$work/sums"
-    comm -13 <(sort "$work/wanted") <(sort "$work/sums") | while read -r _ name; do
+    ! cmp -s "$work/expected" "$work/sums" || return 0
+    difference "$work/expected" "$work/sums"
+    comm -13 <(sort "$work/expected") <(sort "$work/sums") | while read -r _ name; do
         [ ! -f "$1/${name%.pcap}.hex" ] || od -An -v -tx1 "$work/outputs/$name"
     done
 }
@@ -73,7 +73,7 @@ row() {
     once "$1" "$2"
     verdict "$3" "$(printed "$1")"
     [ ! -f "$1/fault" ] || return 0
-    wanted "$1" > "$work/wanted"
+    expected "$1" > "$work/expected"
     for workers in 1 2 4 16; do
         for cut in 1 2 3 4096; do
             rm -rf "$work/outputs"

@@ -19,7 +19,7 @@ import (
 
 func TestScenario(t *testing.T) {
 	cut := Toxic{Type: "limit_data", Bytes: 200}
-	for wanted, scenario := range map[string][]byte{
+	for expected, scenario := range map[string][]byte{
 		`[]`: Scenario(),
 		`[{"enabled":false,"name":"db","upstream":"db:1"}]`: Scenario(Proxy{Upstream: "db:1", Name: "db", Disabled: true}),
 		`[{"name":"a:1","upstream":"a:1"},{"name":"a:1_3","upstream":"a:1"},{"name":"a:1_2","upstream":"b:1"}]`: Scenario(
@@ -33,8 +33,8 @@ func TestScenario(t *testing.T) {
 			cut, cut, {Type: "limit_data", Stream: "upstream", Bytes: 200}}}.JSON(),
 		"a=10.0.0.1\nb=10.0.0.2\n": Hosts(map[string]string{"b": "10.0.0.2", "a": "10.0.0.1"}),
 	} {
-		if string(scenario) != wanted {
-			t.Errorf("%s in place of %s", scenario, wanted)
+		if string(scenario) != expected {
+			t.Errorf("%s in place of %s", scenario, expected)
 		}
 	}
 }
@@ -48,7 +48,7 @@ func TestReport(t *testing.T) {
 	if err != nil || len(reports) != 2 || len(reports[0].Connections) != 4 || reports[1].Scenario != 1 {
 		t.Fatal(reports, err)
 	}
-	for _, row := range []struct{ found, wanted any }{
+	for _, row := range []struct{ found, expected any }{
 		{reports[0].Records, reports[0].Classes["segment"]},
 		{reports[0].Connections[2].Server, "10.77.0.3:6379"},
 		{reports[0].Connections[2].Proxy, -1},
@@ -56,15 +56,15 @@ func TestReport(t *testing.T) {
 		{reports[1].Connections[2].Proxy, 1},
 		{reports[1].Connections[2].Down, Direction{0, 3009, 0, "refused", -1, 0}},
 	} {
-		if row.found != row.wanted {
-			t.Errorf("%v in place of %v", row.found, row.wanted)
+		if row.found != row.expected {
+			t.Errorf("%v in place of %v", row.found, row.expected)
 		}
 	}
 	tagged := "scenario 3 records 7 rest 5 segment 6 cut 1\nconnections 1 unopened 2\n" +
 		"0 10.0.0.1:5 > 10.0.0.2:80 vlan 7 proxy 1 up 1/2/3 close+4 max 5 down 6/7/8 open max 9\n"
-	wanted := Report{3, 7, 5, map[string]int{"segment": 6, "cut": 1}, 2, []Connection{
+	expected := Report{3, 7, 5, map[string]int{"segment": 6, "cut": 1}, 2, []Connection{
 		{"10.0.0.1:5", "10.0.0.2:80", 7, 1, Direction{1, 2, 3, "close", 4, 5}, Direction{6, 7, 8, "open", -1, 9}}}}
-	if report, err := ParseReport([]byte(tagged)); err != nil || !reflect.DeepEqual(report, wanted) {
+	if report, err := ParseReport([]byte(tagged)); err != nil || !reflect.DeepEqual(report, expected) {
 		t.Error(report, err)
 	}
 	for place := strings.Index(tagged, "0 10."); place < len(tagged)-2; place++ {
@@ -94,8 +94,8 @@ func TestExplain(t *testing.T) {
 	newer := captured(t, func(frame []byte) { frame[12], frame[13] = 0x86, 0xdd })
 	idle := `scenario 1 proxy 0 toxic 0 "latency_downstream": effect on 0 of 1 connection; on 1: its latency and jitter are 0`
 	for _, row := range []struct {
-		capture          []byte
-		scenario, wanted string
+		capture            []byte
+		scenario, expected string
 	}{
 		{whole, `[{"name": "web", "upstream": "10.77.0.2:80", "listen": "x", "toxics": [{"type": "timeout"}]}]`, ""},
 		{whole, `[]`, ""},
@@ -117,15 +117,15 @@ scenario 1 proxy 0 toxic 1: unknown field timeout (it belongs in "attributes")`}
 			"only IPv4 is rehearsed: connect to an IPv4 address, such as 127.0.0.1"},
 	} {
 		lines, err := Explain(row.capture, [][]byte{[]byte("[]"), []byte(row.scenario)}, nil, 0)
-		wanted := row.wanted
-		if strings.Contains(wanted, "latencyy") {
-			wanted += "\n" + idle
+		expected := row.expected
+		if strings.Contains(expected, "latencyy") {
+			expected += "\n" + idle
 		}
-		if told := strings.Join(lines, "\n"); err != nil || told != wanted {
-			t.Errorf("%v:\n%s\nin place of\n%s", err, told, wanted)
+		if told := strings.Join(lines, "\n"); err != nil || told != expected {
+			t.Errorf("%v:\n%s\nin place of\n%s", err, told, expected)
 		}
 		outputs, err := Rehearse(row.capture, [][]byte{[]byte("[]"), []byte(row.scenario)}, nil, 0)
-		if told := strings.Join(outputs[1].Warnings(), "\n"); err != nil || told != row.wanted {
+		if told := strings.Join(outputs[1].Warnings(), "\n"); err != nil || told != row.expected {
 			t.Error(err, told)
 		}
 	}
@@ -140,8 +140,8 @@ func TestIdleToxics(t *testing.T) {
 		}
 	})
 	for _, row := range []struct {
-		capture              []byte
-		toxics, name, wanted string
+		capture                []byte
+		toxics, name, expected string
 	}{
 		{whole, `{"type": "slow_close"}`, "0 \"slow_close_downstream\"", "its delay is 0"},
 		{whole, `{"type": "limit_data", "stream": "upstream", "attributes": {"bytes": 82}}`, "0 \"limit_data_upstream\"",
@@ -154,9 +154,9 @@ func TestIdleToxics(t *testing.T) {
 	} {
 		scenario := `[{"name": "web", "upstream": "10.77.0.2:80", "toxics": [` + row.toxics + `]}]`
 		lines, err := Explain(row.capture, [][]byte{[]byte(scenario)}, nil, 0)
-		wanted := "scenario 0 proxy 0 toxic " + row.name + ": effect on 0 of 1 connection; on 1: " + row.wanted
-		if told := strings.Join(lines, "\n"); err != nil || told != wanted {
-			t.Errorf("%v:\n%s\nin place of\n%s", err, told, wanted)
+		expected := "scenario 0 proxy 0 toxic " + row.name + ": effect on 0 of 1 connection; on 1: " + row.expected
+		if told := strings.Join(lines, "\n"); err != nil || told != expected {
+			t.Errorf("%v:\n%s\nin place of\n%s", err, told, expected)
 		}
 	}
 }
@@ -180,15 +180,15 @@ func TestEffects(t *testing.T) {
 			t.Fatal(err)
 		}
 		printed, _ := exec.Command("../explain", "--capture", "../../samples/"+name, "--scenario", path, "--seed", "7").Output()
-		wanted := []string{}
+		expected := []string{}
 		for _, found := range toolLine.FindAllStringSubmatch(string(printed), -1) {
-			wanted = append(wanted, fmt.Sprintf("scenario 0 %s %q: %s", found[1], found[2], found[3]))
+			expected = append(expected, fmt.Sprintf("scenario 0 %s %q: %s", found[1], found[2], found[3]))
 		}
 		lines, err := Explain(read(t, "../../samples/"+name), [][]byte{scenario}, nil, 7)
-		if err != nil || strings.Join(lines, "\n") != strings.Join(wanted, "\n") {
+		if err != nil || strings.Join(lines, "\n") != strings.Join(expected, "\n") {
 			t.Errorf("%s under %s: %v:\n%s\nin place of\n%s", name, scenario, err, strings.Join(lines, "\n"), printed)
 		}
-		told += len(wanted)
+		told += len(expected)
 	}
 	if told < 8 {
 		t.Errorf("%d toxics have no effect", told)

@@ -81,7 +81,7 @@ class Search(unittest.TestCase):
                shrink, GET, b"[]", lambda outputs: False, b"", 3)
         raises("the scenario `[]`, without toxics, fails too: there is nothing to shrink; make `fails` false for what was recorded",
                shrink, GET, json.dumps(ROWS[0]["scenarios"][0]).encode(), holds)
-        with self.assertRaisesRegex(TypeError, "^scenario: a path, bytes or a list of dicts is wanted"):
+        with self.assertRaisesRegex(TypeError, "^scenario: a path, bytes or a list of dicts is expected"):
             shrink(GET, 5, holds)
         self.assertEqual(least_seed(GET, [b"[]"], b"", holds, 2**64), 0)
 

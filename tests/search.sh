@@ -43,12 +43,12 @@ if can "Python" python3; then
         skip "Python: strategies" "hypothesis is not here"
     fi
     python3 -B examples/python/find_bug.py samples/shop.pcap > "$work/found" 2>&1 || true
-    cat > "$work/wanted" << 'END'
+    cat > "$work/expected" << 'END'
 least seed 118
 seed 0 of [{"name": "redis", "upstream": "redis:6379", "toxics": [{"type": "slicer", "attributes": {"average_size": 1, "size_variation": 0, "delay": 0}}]}]
 prefix of 3007 bytes, then replies of 3000 0 bytes
 END
-    verdict "Python: the example" "$(difference "$work/wanted" "$work/found")"
+    verdict "Python: the example" "$(difference "$work/expected" "$work/found")"
     mend python/find_bug.py 'if len(rest) < end:' 'if len(rest) < end + 2:'
     finds_nothing "Python: the example, mended" python3 -B "$copy/examples/python/find_bug.py" samples/shop.pcap
 fi

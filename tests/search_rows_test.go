@@ -87,8 +87,8 @@ func TestWrongUses(t *testing.T) {
 	_, _, passes := Shrink(context.Background(), capture, []byte("[]"), nil, answer(false), 3)
 	_, _, untouched := Shrink(context.Background(), capture, []byte("[]"), nil, answer(true), 3)
 	for _, use := range []struct {
-		err    error
-		wanted string
+		err      error
+		expected string
 	}{
 		{noSeed, "below is 0, so there is no seed to try"},
 		{leastEnded, "context canceled"},
@@ -98,8 +98,8 @@ func TestWrongUses(t *testing.T) {
 		{passes, "the scenario does not fail under these seeds: there is nothing to shrink"},
 		{untouched, "the scenario [], without toxics, fails too: there is nothing to shrink; make fails false for what was recorded"},
 	} {
-		if use.err == nil || use.err.Error() != use.wanted {
-			t.Errorf("%v in place of %s", use.err, use.wanted)
+		if use.err == nil || use.err.Error() != use.expected {
+			t.Errorf("%v in place of %s", use.err, use.expected)
 		}
 	}
 }
@@ -124,8 +124,8 @@ func TestPanics(t *testing.T) {
 		panicked++
 		panic("cut")
 	}, 0)
-	wanted := `[{"name":"10.77.0.2:80","toxics":[{"attributes":{"bytes":0},"type":"limit_data"}],"upstream":"10.77.0.2:80"}]`
-	if string(smallest) != wanted || seed != 0 || err != nil {
+	expected := `[{"name":"10.77.0.2:80","toxics":[{"attributes":{"bytes":0},"type":"limit_data"}],"upstream":"10.77.0.2:80"}]`
+	if string(smallest) != expected || seed != 0 || err != nil {
 		t.Error(string(smallest), seed, err)
 	}
 	if panicked > 10 { // none for the 29 proxies

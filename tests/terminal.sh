@@ -12,9 +12,9 @@ three=(--capture samples/shop.pcap --scenario examples/latency.json --scenario e
 
 # said TEXT COMMAND: what is at fault with a command of the shell, which was to say this on a terminal; a typed end of input is all that it is given.
 said() {
-    printf '%b' "$1" > "$work/wanted"
+    printf '%b' "$1" > "$work/expected"
     SHELL=$BASH script -qec "$2" /dev/null < /dev/null | tr -d '\004\b' > "$work/found" || true
-    cmp "$work/wanted" "$work/found" > /dev/null || { echo "  wanted: $(cat -v "$work/wanted")"; echo "  found:  $(cat -v "$work/found")"; }
+    cmp "$work/expected" "$work/found" > /dev/null || { echo "  expected: $(cat -v "$work/expected")"; echo "  found:    $(cat -v "$work/found")"; }
 }
 
 # anew: the folder without files.
@@ -113,7 +113,7 @@ helps 'refused 2 BadMagic' 'other.pcap is no classic pcap: editcap -F pcap IN OU
 helps 'refused 3 BadVersion' 'old.pcap is of another pcap version than 2.4: editcap -F pcap IN OUT writes it again' '--capture old.pcap'
 helps 'refused 4 BadLink' 'any.pcap is an "any" capture (link type 276): record on one interface, tcpdump -i eth0, not any' '--capture any.pcap'
 helps 'refused 4 BadLink' 'standard input is an "any" capture (link type 113): record on one interface, tcpdump -i eth0, not any' '< cooked.pcap'
-helps 'refused 4 BadLink' 'wifi.pcap is of link type 105, and Ethernet, 1, is wanted: record on an Ethernet interface' '--capture wifi.pcap'
+helps 'refused 4 BadLink' 'wifi.pcap is of link type 105, and Ethernet, 1, is expected: record on an Ethernet interface' '--capture wifi.pcap'
 helps 'refused 5 RecordTooLong at 1' 'torn.pcap is damaged where record 1 begins: editcap -F pcap -r IN OUT 1-1 keeps what is before' '--capture torn.pcap'
 helps 'refused 5 RecordTooLong at 0' 'first.pcap is damaged where its first record begins: record it again' '--capture first.pcap'
 truncate -s $((2 ** 30 + 1)) "$here/long"
@@ -146,7 +146,7 @@ scene() {
     helps "$1" "s.json$2" '--capture shop.pcap --scenario s.json'
 }
 web='"name":"web","upstream":"10.77.0.2:80"'
-wanted='HOST:PORT is wanted, as 10.0.0.2:6379 or redis:6379: no URL, no IPv6 address, a port from 1 to 65535'
+expected='HOST:PORT is expected, as 10.0.0.2:6379 or redis:6379: no URL, no IPv6 address, a port from 1 to 65535'
 scene 'refused 10 NotJson scenario 0' ' is no JSON from line 2 column 4 on' $'[\n  {name": "web"}\n]'
 scene 'refused 10 NotJson scenario 0' ' ends before its JSON does' '[{"name":'
 scene 'refused 10 NotJson scenario 0' ' ends before its JSON does' ''
@@ -156,22 +156,22 @@ scene 'refused 10 NotJson scenario 0' ' nests deeper than 127 levels at line 1 c
 printf '[{%s}]' "$web" > "$here/web.json"
 helps 'refused 10 NotJson scenario 0' 'shop.pcap is a capture: give it by --capture' '--capture web.json --scenario shop.pcap'
 helps 'refused 2 BadMagic' 'web.json is JSON, by its first byte: give it by --scenario' '--capture web.json'
-scene 'refused 11 NotArray scenario 0' ' is an object, and an array of proxies is wanted, as --help shows' "{$web}"
-scene 'refused 12 BadMember scenario 0 proxy 0' ', proxy 0: it is a number, and an object is wanted' '[7]'
-scene 'refused 12 BadMember scenario 0 proxy 1' ', proxy 1 "db": its "upstream" is missing, and a text is wanted' "[{$web},{\"name\":\"db\",\"upstream\":null}]"
-scene 'refused 12 BadMember scenario 0 proxy 0' ', proxy 0 "web": its "enabled" is a text, and true or false is wanted' "[{$web,\"enabled\":\"no\"}]"
-scene 'refused 12 BadMember scenario 0 proxy 0' ', proxy 0: its "name" is empty, and a name is wanted' '[{"name":"","upstream":"10.77.0.2:80"}]'
-scene 'refused 12 BadMember scenario 0 proxy 0 toxic 1' ', proxy 0 "web", toxic 1: its "attributes" is an array, and an object is wanted' \
+scene 'refused 11 NotArray scenario 0' ' is an object, and an array of proxies is expected, as --help shows' "{$web}"
+scene 'refused 12 BadMember scenario 0 proxy 0' ', proxy 0: it is a number, and an object is expected' '[7]'
+scene 'refused 12 BadMember scenario 0 proxy 1' ', proxy 1 "db": its "upstream" is missing, and a text is expected' "[{$web},{\"name\":\"db\",\"upstream\":null}]"
+scene 'refused 12 BadMember scenario 0 proxy 0' ', proxy 0 "web": its "enabled" is a text, and true or false is expected' "[{$web,\"enabled\":\"no\"}]"
+scene 'refused 12 BadMember scenario 0 proxy 0' ', proxy 0: its "name" is empty, and a name is expected' '[{"name":"","upstream":"10.77.0.2:80"}]'
+scene 'refused 12 BadMember scenario 0 proxy 0 toxic 1' ', proxy 0 "web", toxic 1: its "attributes" is an array, and an object is expected' \
     "[{$web,\"toxics\":[{\"type\":\"timeout\"},{\"type\":\"latency\",\"attributes\":[]}]}]"
 scene 'refused 13 DuplicateProxy scenario 0 proxy 2' ', proxy 2 "web": proxy 1 has the name: rename one of them' "[{\"name\":\"db\",\"upstream\":\"10.0.0.1:1\"},{$web},{$web}]"
-scene 'refused 14 BadUpstream scenario 0 proxy 0' ', proxy 0 "web": its "upstream" is "10.77.0.2", and '"$wanted" '[{"name":"web","upstream":"10.77.0.2"}]'
-scene 'refused 14 BadUpstream scenario 0 proxy 0' ', proxy 0 "web": its "upstream" is "http://10.77.0.2:80", and '"$wanted" '[{"name":"web","upstream":"http://10.77.0.2:80"}]'
-scene 'refused 14 BadUpstream scenario 0 proxy 0' ', proxy 0 "web": its "upstream" is "[::1]:80", and '"$wanted" '[{"name":"web","upstream":"[::1]:80"}]'
+scene 'refused 14 BadUpstream scenario 0 proxy 0' ', proxy 0 "web": its "upstream" is "10.77.0.2", and '"$expected" '[{"name":"web","upstream":"10.77.0.2"}]'
+scene 'refused 14 BadUpstream scenario 0 proxy 0' ', proxy 0 "web": its "upstream" is "http://10.77.0.2:80", and '"$expected" '[{"name":"web","upstream":"http://10.77.0.2:80"}]'
+scene 'refused 14 BadUpstream scenario 0 proxy 0' ', proxy 0 "web": its "upstream" is "[::1]:80", and '"$expected" '[{"name":"web","upstream":"[::1]:80"}]'
 scene 'refused 15 UnknownHost scenario 0 proxy 0' ', proxy 0 "web": names are not looked up: give the address that the capture has by --host shop=ADDR' '[{"name":"web","upstream":"shop:80"}]'
 scene 'refused 16 UnknownToxic scenario 0 proxy 0 toxic 0' \
-    ', proxy 0 "web", toxic 0 "slow": its "type" is "latncy", and latency, bandwidth, slow_close, timeout, reset_peer, slicer or limit_data is wanted' \
+    ', proxy 0 "web", toxic 0 "slow": its "type" is "latncy", and latency, bandwidth, slow_close, timeout, reset_peer, slicer or limit_data is expected' \
     "[{$web,\"toxics\":[{\"name\":\"slow\",\"type\":\"latncy\"}]}]"
-scene 'refused 17 BadStream scenario 0 proxy 0 toxic 0' ', proxy 0 "web", toxic 0: its "stream" is "up", and upstream or downstream is wanted' \
+scene 'refused 17 BadStream scenario 0 proxy 0 toxic 0' ', proxy 0 "web", toxic 0: its "stream" is "up", and upstream or downstream is expected' \
     "[{$web,\"toxics\":[{\"type\":\"timeout\",\"stream\":\"up\"}]}]"
 scene 'refused 18 DuplicateToxic scenario 0 proxy 0 toxic 1' ', proxy 0 "web", toxic 1 "cut": an earlier toxic of the proxy has the name "cut": rename one of them' \
     "[{$web,\"toxics\":[{\"type\":\"timeout\",\"name\":\"cut\"},{\"type\":\"slicer\",\"name\":\"cut\"}]}]"
@@ -180,13 +180,13 @@ scene 'refused 18 DuplicateToxic scenario 0 proxy 0 toxic 1' \
     "[{$web,\"toxics\":[{\"type\":\"timeout\"},{\"type\":\"timeout\"}]}]"
 
 # limits FIELDS REMEDY: a toxic with these fields is refused for an attribute.
-limits() { scene 'refused 19 AttributeRange scenario 0 proxy 0 toxic 0' ", proxy 0 \"web\", toxic 0: its $2 is wanted" "[{$web,\"toxics\":[{$1}]}]"; }
+limits() { scene 'refused 19 AttributeRange scenario 0 proxy 0 toxic 0' ", proxy 0 \"web\", toxic 0: its $2 is expected" "[{$web,\"toxics\":[{$1}]}]"; }
 limits '"type":"latency","attributes":{"latency":1.5}' '"latency" is 1.5, and a whole number of milliseconds from 0 to 1000000000'
 limits '"type":"latency","attributes":{"latency":7,"jitter":1000000001}' '"jitter" is 1000000001, and a whole number of milliseconds from 0 to 1000000000'
 limits '"type":"bandwidth","rate":7' '"rate" is missing, and a whole number of KB a second from 1 to 1000000'
 limits '"type":"bandwidth","attributes":{"rate":0}' '"rate" is 0, and a whole number of KB a second from 1 to 1000000'
 scene 'refused 19 AttributeRange scenario 0 proxy 0 toxic 0' \
-    ', proxy 0 "web", toxic 0: its "rate" is missing, and a whole number of KB a second from 1 to 1000000 is wanted; "rat" is ignored: bandwidth has "rate"' \
+    ', proxy 0 "web", toxic 0: its "rate" is missing, and a whole number of KB a second from 1 to 1000000 is expected; "rat" is ignored: bandwidth has "rate"' \
     "[{$web,\"toxics\":[{\"type\":\"bandwidth\",\"attributes\":{\"rat\":7}}]}]"
 limits '"type":"slow_close","attributes":{"delay":"7"}' '"delay" is "7", and a whole number of milliseconds from 0 to 1000000000'
 limits '"type":"timeout","attributes":{"timeout":-1}' '"timeout" is -1, and a whole number of milliseconds from 0 to 1000000000'
@@ -200,19 +200,19 @@ proxies=$(for ((p = 0; p < 64; p++)); do printf '{"name":"p%s","upstream":"10.0.
 scene 'refused 20 TooMany scenario 0 proxy 64' ', proxy 64 "web": it is the 65th: a scenario has at most 64 proxies' "[$proxies{$web}]"
 toxics=$(for ((t = 0; t < 8; t++)); do printf '{"type":"timeout","name":"t%s"},' $t; done)
 scene 'refused 20 TooMany scenario 0 proxy 0 toxic 8' ', proxy 0 "web", toxic 8: it is the ninth of its stream: a stream has at most 8 toxics' "[{$web,\"toxics\":[$toxics{\"type\":\"timeout\"}]}]"
-scene 'refused 21 BadToxicity scenario 0 proxy 0 toxic 0' ', proxy 0 "web", toxic 0: its "toxicity" is 0.5, and 0 or 1 is wanted: write "toxicity_ppm": 500000 in its place' \
+scene 'refused 21 BadToxicity scenario 0 proxy 0 toxic 0' ', proxy 0 "web", toxic 0: its "toxicity" is 0.5, and 0 or 1 is expected: write "toxicity_ppm": 500000 in its place' \
     "[{$web,\"toxics\":[{\"type\":\"timeout\",\"toxicity\":0.5}]}]"
-scene 'refused 21 BadToxicity scenario 0 proxy 0 toxic 0' ', proxy 0 "web", toxic 0: its "toxicity" is 2, and 0 or 1 is wanted, or "toxicity_ppm", up to 1000000' \
+scene 'refused 21 BadToxicity scenario 0 proxy 0 toxic 0' ', proxy 0 "web", toxic 0: its "toxicity" is 2, and 0 or 1 is expected, or "toxicity_ppm", up to 1000000' \
     "[{$web,\"toxics\":[{\"type\":\"timeout\",\"toxicity\":2}]}]"
-scene 'refused 21 BadToxicity scenario 0 proxy 0 toxic 0' ', proxy 0 "web", toxic 0: its "toxicity_ppm" is 1000001, and a whole number from 0 to 1000000 is wanted' \
+scene 'refused 21 BadToxicity scenario 0 proxy 0 toxic 0' ', proxy 0 "web", toxic 0: its "toxicity_ppm" is 1000001, and a whole number from 0 to 1000000 is expected' \
     "[{$web,\"toxics\":[{\"type\":\"timeout\",\"toxicity\":0,\"toxicity_ppm\":1000001}]}]"
 
 # a name that would turn the terminal red, one that is long, and the second of two scenarios
-scene 'refused 14 BadUpstream scenario 0 proxy 0' ', proxy 0 "\\u{1b}[31mred\\n": its "upstream" is "\\u{202e}", and '"$wanted" \
+scene 'refused 14 BadUpstream scenario 0 proxy 0' ', proxy 0 "\\u{1b}[31mred\\n": its "upstream" is "\\u{202e}", and '"$expected" \
     '[{"name":"\u001b[31mred\n","upstream":"\u202e"}]'
 printf '[{"name":"%080d","upstream":"x"}]' 0 > "$here/long.json"
 printf '[]' > "$here/bare.json"
-helps 'refused 14 BadUpstream scenario 1 proxy 0' "long.json, proxy 0 \"$(printf %060d 0)..\": its \"upstream\" is \"x\", and $wanted" \
+helps 'refused 14 BadUpstream scenario 1 proxy 0' "long.json, proxy 0 \"$(printf %060d 0)..\": its \"upstream\" is \"x\", and $expected" \
     '--capture shop.pcap --scenario bare.json --scenario long.json'
 mkfifo "$here/pipe"
 verdict "a pipe is not read again" "$(
@@ -225,8 +225,8 @@ helps 'refused 6 CaptureTooLong' '/dev/stdin has more than 2^30 bytes: it is no 
     "--capture shop.pcap --scenario /dev/stdin < <(head -c $((2 ** 30 + 1)) /dev/zero)"
 many=$(printf -- ' --scenario bare.json%.0s' {1..257})
 helps 'refused 22 TooManyScenarios' '257 scenarios were named, and a run takes 256: run it more than once' "--capture shop.pcap$many"
-helps 'refused 23 BadHost host 1' '--host web: NAME=ADDR with an IPv4 address is wanted, as redis=10.0.0.9' '--host a=10.0.0.9 --host web'
-helps 'refused 23 BadHost host 0' '--host web=10.0.0.256: NAME=ADDR with an IPv4 address is wanted, as redis=10.0.0.9' '--host web=10.0.0.256'
+helps 'refused 23 BadHost host 1' '--host web: NAME=ADDR with an IPv4 address is expected, as redis=10.0.0.9' '--host a=10.0.0.9 --host web'
+helps 'refused 23 BadHost host 0' '--host web=10.0.0.256: NAME=ADDR with an IPv4 address is expected, as redis=10.0.0.9' '--host web=10.0.0.256'
 helps 'refused 23 BadHost host 1' '--host web=10.0.0.9: an earlier --host has the name' '--host web=10.0.0.2 --host web=10.0.0.9'
 cp "$here/shop.pcap" "$here/wide.pcap"
 truncate -s 200M "$here/wide.pcap"

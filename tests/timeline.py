@@ -32,12 +32,12 @@ def main(drawn, report, capture):
     shown = [element.text for element in root.iter(SVG + 'text')]
     ticks = 10**6 if open(capture, 'rb').read(4) in (b'\x4d\x3c\xb2\xa1', b'\xa1\xb2\x3c\x4d') else 1000
     lines = [line for line in open(report).read().splitlines() if ' > ' in line]
-    wanted = [text for line in lines for text in wanted_of(line, ticks)]
+    expected = [text for line in lines for text in wanted_of(line, ticks)]
     found = [written(text) for text in shown if ' > ' in text or ' B, ' in text]
-    for one, other in zip(wanted, found):
-        if one != other: print(f'  wanted {one}, found {other}')
-    if len(wanted) != len(found): print(f'  wanted {len(wanted)} texts, found {len(found)}')
-    ends = [text.split(', ')[1].split()[0] for text in wanted if ' B, ' in text]
+    for one, other in zip(expected, found):
+        if one != other: print(f'  expected {one}, found {other}')
+    if len(expected) != len(found): print(f'  expected {len(expected)} texts, found {len(found)}')
+    ends = [text.split(', ')[1].split()[0] for text in expected if ' B, ' in text]
     paths = [path.get('d').endswith('Z') for path in root.iter(SVG + 'path')]
     marks = len(list(root.iter(SVG + 'circle'))), paths.count(False), paths.count(True)
     if marks != tuple(map(ends.count, ('FIN', 'RST', 'no'))): print(f'  {marks} dots, crosses and arrows for {ends}')

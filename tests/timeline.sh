@@ -60,12 +60,12 @@ awk -f tests/capture.awk > "$work/dump" << 'END'
 2.300000 s>c RST ACK 7006 9001
 END
 echo '[{"name":"late","upstream":"10.0.0.2:80","toxics":[{"type":"latency","attributes":{"latency":3000}}]}]' > "$work/late.json"
-cat > "$work/wanted" << 'END'
+cat > "$work/expected" << 'END'
 0 10.0.0.1:40000 > 10.0.0.2:80 proxy 0 up 0/0/0 open max 0 down 5/5/0 open max 3000000
 1 10.0.0.1:40000 > 10.0.0.2:80 proxy 0 up 0/0/0 reset+300000 max 0 down 0/5/0 reset+300000 max 0
 END
-sed -i '1i scenario 0' "$work/wanted"
-alike "two connections of one pair" "$work/wanted" "$work/dump" --scenario "$work/late.json"
+sed -i '1i scenario 0' "$work/expected"
+alike "two connections of one pair" "$work/expected" "$work/dump" --scenario "$work/late.json"
 
 # the picture of the documents
 mkdir "$work"/{recorded,mobile-line}

@@ -49,9 +49,9 @@ answered() {
         if [ "$1" = 0 ]; then echo "connections 0 unopened 0"; else
             printf 'connections 1 unopened 0\n0 10.0.0.1:40000 > 10.0.0.2:80 proxy - %s\n' "${both[$1]}"
         fi
-    } > "$work/wanted"
+    } > "$work/expected"
     well
-    difference "$work/wanted" "$work/folder/0000.txt"
+    difference "$work/expected" "$work/folder/0000.txt"
     byte_difference "$work/$1.pcap" "$work/folder/0000.pcap"
 }
 
@@ -71,8 +71,8 @@ changed() {
     cp $session "$work/changed"
     change "$work/changed" $((40 + $1)) "\x$2"
     run "$work/changed"
-    { counted 7 0 6 "$3"; echo "connections 0 unopened 6"; } > "$work/wanted"
-    verdict "byte $1 is $2" "$(well; difference "$work/wanted" "$work/output")"
+    { counted 7 0 6 "$3"; echo "connections 0 unopened 6"; } > "$work/expected"
+    verdict "byte $1 is $2" "$(well; difference "$work/expected" "$work/output")"
 }
 
 # the length of the datagram: without a whole TCP header, without a whole IPv4 header, past the packet; the length of the TCP header, past it

@@ -49,7 +49,7 @@ func hostHint(number int, hosts []string) string {
 			return about + "an earlier host has the name"
 		}
 	}
-	return about + "NAME=ADDR with an IPv4 address is wanted, as redis=10.0.0.9"
+	return about + "NAME=ADDR with an IPv4 address is expected, as redis=10.0.0.9"
 }
 
 func isAddr(text string) bool { return net.ParseIP(text).To4() != nil && !strings.Contains(text, ":") }
@@ -117,7 +117,7 @@ func linkHint(capture []byte) string {
 	if link == 113 || link == 276 {
 		return fmt.Sprintf("is an \"any\" capture (link type %d): record on one interface, tcpdump -i eth0, not any", link)
 	}
-	return fmt.Sprintf("is of link type %d, and Ethernet, 1, is wanted: record on an Ethernet interface", link)
+	return fmt.Sprintf("is of link type %d, and Ethernet, 1, is expected: record on an Ethernet interface", link)
 }
 
 // dumpFault gives the place at which a dump is broken.

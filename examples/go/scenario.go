@@ -107,7 +107,7 @@ func (t Toxic) object() map[string]any {
 }
 
 // nameAll names each that has no name, if the one that it would have is another's.
-func nameAll(names []*string, wanted func(i int) string) {
+func nameAll(names []*string, expected func(i int) string) {
 	taken := map[string]bool{}
 	for _, name := range names {
 		taken[*name] = true
@@ -116,11 +116,11 @@ func nameAll(names []*string, wanted func(i int) string) {
 		if *name != "" {
 			continue
 		}
-		free := wanted(i)
+		free := expected(i)
 		for number := 2; taken[free]; number++ {
-			free = fmt.Sprintf("%s_%d", wanted(i), number)
+			free = fmt.Sprintf("%s_%d", expected(i), number)
 		}
-		if taken[free] = true; free != wanted(i) {
+		if taken[free] = true; free != expected(i) {
 			*name = free
 		}
 	}

@@ -10,8 +10,8 @@ import (
 
 // A wantedField is a field of a proxy or of a toxic: what it is, and whether it has to be there.
 type wantedField struct {
-	name, wanted string
-	required     bool
+	name, expected string
+	required       bool
 }
 
 // An attribute is one of a type of toxics: what it counts, and its least and greatest number.
@@ -49,7 +49,7 @@ func scenarioHint(kind Kind, scenario []byte, proxy, toxic int) string {
 		}
 		return fmt.Sprintf(" is no JSON from line %d column %d on", line, column)
 	case proxy < 0:
-		return " is " + kindOf(tree) + ", and an array of proxies is wanted, as toxicap --help shows"
+		return " is " + kindOf(tree) + ", and an array of proxies is expected, as toxicap --help shows"
 	}
 	of := item(tree, proxy)
 	about := ", " + named("proxy", proxy, of)
@@ -72,7 +72,7 @@ func proxyHint(kind Kind, tree, proxy any) string {
 		}
 		return fmt.Sprintf("proxy %d has the name: rename one of them", earlier)
 	case BadUpstream:
-		return "its " + whatIs(proxy, "upstream") + ", and HOST:PORT is wanted, as 10.0.0.2:6379 or redis:6379: no URL, no IPv6 address, a port from 1 to 65535"
+		return "its " + whatIs(proxy, "upstream") + ", and HOST:PORT is expected, as 10.0.0.2:6379 or redis:6379: no URL, no IPv6 address, a port from 1 to 65535"
 	case UnknownHost:
 		host := upstream
 		if cut := strings.LastIndexByte(upstream, ':'); cut >= 0 {
@@ -89,9 +89,9 @@ func toxicHint(kind Kind, toxic any) string {
 	case BadMember:
 		return wrongField(toxic, toxicFields)
 	case UnknownToxic:
-		return "its " + whatIs(toxic, "type") + ", and latency, bandwidth, slow_close, timeout, reset_peer, slicer or limit_data is wanted"
+		return "its " + whatIs(toxic, "type") + ", and latency, bandwidth, slow_close, timeout, reset_peer, slicer or limit_data is expected"
 	case BadStream:
-		return "its " + whatIs(toxic, "stream") + ", and upstream or downstream is wanted"
+		return "its " + whatIs(toxic, "stream") + ", and upstream or downstream is expected"
 	case DuplicateToxic:
 		if name != "" {
 			return "an earlier toxic of the proxy has the name " + quoted(name) + ": rename one of them"
@@ -103,14 +103,14 @@ func toxicHint(kind Kind, toxic any) string {
 		return "it is the ninth of its stream: a stream has at most 8 toxics"
 	}
 	if toxicity, is := wholeNumber(field(toxic, "toxicity")); toxicity < 2 && is || field(toxic, "toxicity") == nil {
-		return "its " + whatIs(toxic, "toxicity_ppm") + ", and a whole number from 0 to 1000000 is wanted"
+		return "its " + whatIs(toxic, "toxicity_ppm") + ", and a whole number from 0 to 1000000 is expected"
 	}
 	instead := ", or \"toxicity_ppm\", up to 1000000"
 	if text := textOf(field(toxic, "toxicity")); strings.HasPrefix(text, "0.") {
 		count, _ := strconv.Atoi((text[2:] + "000000")[:6])
 		instead = fmt.Sprintf(": write \"toxicity_ppm\": %d in its place", count)
 	}
-	return "its " + whatIs(toxic, "toxicity") + ", and 0 or 1 is wanted" + instead
+	return "its " + whatIs(toxic, "toxicity") + ", and 0 or 1 is expected" + instead
 }
 
 // streamOf gives a toxic's stream, which is downstream if it names none.
@@ -124,18 +124,18 @@ func streamOf(stream string) string {
 // wrongField tells of the first field that is not as it is to be. If each is, a name is empty.
 func wrongField(value any, fields []wantedField) string {
 	if kind := kindOf(value); kind != "an object" {
-		return "it is " + kind + ", and an object is wanted"
+		return "it is " + kind + ", and an object is expected"
 	}
 	for _, each := range fields {
 		found := field(value, each.name)
 		switch {
 		case found == nil && each.required:
-			return "its \"" + each.name + "\" is missing, and " + each.wanted + " is wanted"
-		case found != nil && kindOf(found) != each.wanted:
-			return "its \"" + each.name + "\" is " + kindOf(found) + ", and " + each.wanted + " is wanted"
+			return "its \"" + each.name + "\" is missing, and " + each.expected + " is expected"
+		case found != nil && kindOf(found) != each.expected:
+			return "its \"" + each.name + "\" is " + kindOf(found) + ", and " + each.expected + " is expected"
 		}
 	}
-	return "its \"name\" is empty, and a name is wanted"
+	return "its \"name\" is empty, and a name is expected"
 }
 
 // wrongAttribute tells of the first attribute that is out of its range. If none is, slices vary by too much.
@@ -146,11 +146,11 @@ func wrongAttribute(of string, its any) string {
 			number, is = 0, true
 		}
 		if each.of == of && (!is || number < each.least || number > each.most) {
-			wanted := fmt.Sprintf("a whole number of %s from %d to %d is wanted", each.unit, each.least, each.most)
-			return "its " + whatIs(its, each.name) + ", and " + wanted + unknownAttribute(of, its)
+			expected := fmt.Sprintf("a whole number of %s from %d to %d is expected", each.unit, each.least, each.most)
+			return "its " + whatIs(its, each.name) + ", and " + expected + unknownAttribute(of, its)
 		}
 	}
-	return "its " + whatIs(its, "size_variation") + ", and less than \"average_size\" is wanted"
+	return "its " + whatIs(its, "size_variation") + ", and less than \"average_size\" is expected"
 }
 
 // unknownAttribute tells of the first attribute that the type does not have, and of those that it has.

@@ -264,10 +264,10 @@ func FeedPrefixesBy[M, K any](parser Parser[M], stream []byte, key func([]M) K) 
 	if err != nil {
 		return len(stream), whole, err
 	}
-	wanted := key(whole)
+	expected := key(whole)
 	for size := 1; size < len(stream); size++ {
 		messages, err := parser.Feed(stream[:size:size], stream[size:])
-		if err != nil || !reflect.DeepEqual(key(messages), wanted) {
+		if err != nil || !reflect.DeepEqual(key(messages), expected) {
 			return size, messages, err
 		}
 	}

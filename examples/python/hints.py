@@ -1,4 +1,4 @@
-"""What helps after a refusal: the field that it is about, what that is, what is wanted there, and what to do, in one line.
+"""What helps after a refusal: the field that it is about, what that is, what is expected there, and what to do, in one line.
 
 The program says the same on a terminal, after the line of the refusal. Here `scenario 0` and `the capture` stand for the names of files."""
 import json
@@ -37,19 +37,19 @@ REMEDIES: Dict[int, List[str]] = {
         "nests deeper than 127 levels at line {line} column {column}: a scenario needs five",
         "is a capture: give it as the capture",
     ],
-    11: ["an array of proxies is wanted, as toxicap --help shows"],
-    12: ["is {is}, and {wanted} is wanted"],
+    11: ["an array of proxies is expected, as toxicap --help shows"],
+    12: ["is {is}, and {expected} is expected"],
     13: ["proxy {earlier} has the name: rename one of them"],
-    14: ["HOST:PORT is wanted, as 10.0.0.2:6379 or redis:6379: no URL, no IPv6 address, a port from 1 to 65535"],
+    14: ["HOST:PORT is expected, as 10.0.0.2:6379 or redis:6379: no URL, no IPv6 address, a port from 1 to 65535"],
     15: ["names are not looked up: give the address that the capture has by {host}=ADDR among the hosts"],
     16: ["latency, bandwidth, slow_close, timeout, reset_peer, slicer or limit_data"],
-    17: ["upstream or downstream is wanted"],
+    17: ["upstream or downstream is expected"],
     18: ["an earlier toxic of the proxy has the name {name}: rename one of them"],
-    19: ["a whole number of {unit} from {least} to {most} is wanted"],
+    19: ["a whole number of {unit} from {least} to {most} is expected"],
     20: ["a scenario has at most 64 proxies", "a stream has at most 8 toxics"],
-    21: ["a whole number from 0 to 1000000 is wanted", "0 or 1 is wanted", "write \"toxicity_ppm\": {count} in its place"],
+    21: ["a whole number from 0 to 1000000 is expected", "0 or 1 is expected", "write \"toxicity_ppm\": {count} in its place"],
     22: ["a call takes 256: call more than once"],
-    23: ["NAME=ADDR with an IPv4 address is wanted, as redis=10.0.0.9"],
+    23: ["NAME=ADDR with an IPv4 address is expected, as redis=10.0.0.9"],
     40: ["memory was refused: fewer scenarios in a call, or a smaller capture, take less"],
     55: ["no hexadecimal digit is at line {line} column {column}", "give a pcap file, or a dump as xxd -p IN OUT makes it"],
 }
@@ -132,7 +132,7 @@ def of_link(magic: bytes, link: bytes) -> str:
     number = int.from_bytes(link, MAGIC_NUMBERS[magic])  # type: ignore[arg-type]
     if number in (113, 276):
         return f'is an "any" capture (link type {number}): record on one interface, tcpdump -i eth0, not any'
-    return f"is of link type {number}, and Ethernet, 1, is wanted: record on an Ethernet interface"
+    return f"is of link type {number}, and Ethernet, 1, is expected: record on an Ethernet interface"
 
 
 def of_digits(at: int, dump: bytes) -> str:
@@ -220,7 +220,7 @@ def of_toxic(number: int, toxic: Any) -> str:
     if number == 12:
         return wrong_field(toxic, TOXIC_FIELDS)
     if number == 16:
-        return f'its {what_is(toxic, "type")}, and {REMEDIES[16][0]} is wanted'
+        return f'its {what_is(toxic, "type")}, and {REMEDIES[16][0]} is expected'
     if number == 17:
         return f'its {what_is(toxic, "stream")}, and {REMEDIES[17][0]}'
     if number == 18 and not name:
@@ -242,22 +242,22 @@ def of_toxic(number: int, toxic: Any) -> str:
 def wrong_field(value: Any, fields: Mapping[str, Tuple[str, bool]]) -> str:
     """The first field that is not as it has to be. If each is, a name is empty."""
     if not isinstance(value, dict):
-        return f"it is {kind_of(value)}, and an object is wanted"
-    for name, (wanted, is_required) in fields.items():
+        return f"it is {kind_of(value)}, and an object is expected"
+    for name, (expected, is_required) in fields.items():
         found = field(value, name)
-        if is_required if found is None else kind_of(found) != wanted:
-            told = REMEDIES[12][0].format(**{"is": "missing" if found is None else kind_of(found), "wanted": wanted})
+        if is_required if found is None else kind_of(found) != expected:
+            told = REMEDIES[12][0].format(**{"is": "missing" if found is None else kind_of(found), "expected": expected})
             return f'its "{name}" {told}'
-    return 'its "name" is empty, and a name is wanted'
+    return 'its "name" is empty, and a name is expected'
 
 
 def wrong_attribute(kind: str, attributes: Any) -> str:
     """The first attribute that is out of its range. If none is, slices vary by too much."""
     for name, (unit, least, most, _) in ATTRIBUTES[kind].items():
         if not is_whole(field(attributes, name, 0), least, most):
-            wanted = REMEDIES[19][0].format(unit=unit, least=least, most=most)
-            return f"its {what_is(attributes, name)}, and {wanted}{unknown_attribute(kind, attributes)}"
-    return f'its {what_is(attributes, "size_variation")}, and less than "average_size" is wanted'
+            expected = REMEDIES[19][0].format(unit=unit, least=least, most=most)
+            return f"its {what_is(attributes, name)}, and {expected}{unknown_attribute(kind, attributes)}"
+    return f'its {what_is(attributes, "size_variation")}, and less than "average_size" is expected'
 
 
 def unknown_attribute(kind: str, attributes: Any) -> str:

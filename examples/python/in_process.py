@@ -36,7 +36,7 @@ class Refusal(ValueError):
     line: str
     """The program's line, such as `refused 15 UnknownHost scenario 0 proxy 1`."""
     hint: str
-    """What helps, such as `scenario 0, proxy 1 "db": its "upstream" is missing, and a text is wanted`. It is empty if nothing is
+    """What helps, such as `scenario 0, proxy 1 "db": its "upstream" is missing, and a text is expected`. It is empty if nothing is
     known."""
     number: int
     """What it is, as 15: the guide has a table of all numbers."""

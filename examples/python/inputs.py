@@ -65,7 +65,7 @@ def seed_number(seed: int) -> int:
     return seed
 
 
-def bytes_of(argument: str, source: Any, wanted: str, has_paths: bool = True) -> bytes:
+def bytes_of(argument: str, source: Any, expected: str, has_paths: bool = True) -> bytes:
     """Bytes as they are, a copy of anything else that has bytes, so that nobody changes or releases them during a call, or those of a file."""
     if type(source) is bytes:
         return source
@@ -74,7 +74,7 @@ def bytes_of(argument: str, source: Any, wanted: str, has_paths: bool = True) ->
     try:
         return bytes(memoryview(source))
     except TypeError:
-        raise wrong_type(argument, wanted, source) from None
+        raise wrong_type(argument, expected, source) from None
 
 
 def file_bytes(argument: str, path: Path) -> bytes:
@@ -86,8 +86,8 @@ def file_bytes(argument: str, path: Path) -> bytes:
         raise
 
 
-def wrong_type(argument: str, wanted: str, found: object) -> TypeError:
-    return TypeError(f"{argument}: {wanted} is wanted, and this is {found!r:.60}, of type {type(found).__name__}")
+def wrong_type(argument: str, expected: str, found: object) -> TypeError:
+    return TypeError(f"{argument}: {expected} is expected, and this is {found!r:.60}, of type {type(found).__name__}")
 
 
 def sample(name: str) -> bytes:

@@ -107,9 +107,9 @@ def leave_out_idle(trials: Trials, proxies: List[Any], seed: int) -> None:
     def outputs() -> List[Output]:
         return rehearse(trials.capture, [json.dumps(proxies).encode()], trials.hosts, seed)
 
-    wanted = outputs()
+    expected = outputs()
     for items in [*(proxy.get("toxics") or [] for proxy in proxies), proxies]:
-        leave_out(items, lambda: outputs() == wanted)
+        leave_out(items, lambda: outputs() == expected)
 
 
 def shrunk(proxies: List[Any], least: Callable[[], Optional[int]]) -> int:

@@ -1,4 +1,4 @@
-//! What helps after a refusal, as the program says it on a terminal: the field that it is about, what that is, what is wanted there, and what to do.
+//! What helps after a refusal, as the program says it on a terminal: the field that it is about, what that is, what is expected there, and what to do.
 //! Here `scenario 0` and `the capture` stand for the names of files.
 use crate::json::{self, Fault, Value};
 use crate::shown::{quoted, shown, written};
@@ -31,19 +31,19 @@ const REMEDIES: [(u32, &[&str]); 22] = [
     (5, &["editcap -F pcap -r IN OUT 1-{at} keeps what is before", "xxd -r -p IN OUT makes a file of it first"]),
     (6, &["tshark -r IN -Y 'tcp.port == 6379' -F pcap -w OUT keeps what matters", "xxd -r -p IN OUT makes a file of it, of half its length at most"]),
     (10, &["is no JSON from line {line} column {column} on", "has a number too large for a float at line {line} column {column}: attributes are whole numbers, as toxicap --help shows", "nests deeper than 127 levels at line {line} column {column}: a scenario needs five", "is a capture: give it as the capture"]),
-    (11, &["an array of proxies is wanted, as toxicap --help shows"]),
-    (12, &["is {is}, and {wanted} is wanted"]),
+    (11, &["an array of proxies is expected, as toxicap --help shows"]),
+    (12, &["is {is}, and {expected} is expected"]),
     (13, &["proxy {earlier} has the name: rename one of them"]),
-    (14, &["HOST:PORT is wanted, as 10.0.0.2:6379 or redis:6379: no URL, no IPv6 address, a port from 1 to 65535"]),
+    (14, &["HOST:PORT is expected, as 10.0.0.2:6379 or redis:6379: no URL, no IPv6 address, a port from 1 to 65535"]),
     (15, &["names are not looked up: give the address that the capture has by {host}=ADDR among the hosts"]),
     (16, &["latency, bandwidth, slow_close, timeout, reset_peer, slicer or limit_data"]),
-    (17, &["upstream or downstream is wanted"]),
+    (17, &["upstream or downstream is expected"]),
     (18, &["an earlier toxic of the proxy has the name {name}: rename one of them"]),
-    (19, &["a whole number of {unit} from {least} to {most} is wanted"]),
+    (19, &["a whole number of {unit} from {least} to {most} is expected"]),
     (20, &["a scenario has at most 64 proxies", "a stream has at most 8 toxics"]),
-    (21, &["a whole number from 0 to 1000000 is wanted", "0 or 1 is wanted", "write \"toxicity_ppm\": {count} in its place"]),
+    (21, &["a whole number from 0 to 1000000 is expected", "0 or 1 is expected", "write \"toxicity_ppm\": {count} in its place"]),
     (22, &["a call takes 256: call more than once"]),
-    (23, &["NAME=ADDR with an IPv4 address is wanted, as redis=10.0.0.9"]),
+    (23, &["NAME=ADDR with an IPv4 address is expected, as redis=10.0.0.9"]),
     (40, &["memory was refused: fewer scenarios in a call, or a smaller capture, take less"]),
     (55, &["no hexadecimal digit is at line {line} column {column}", "give a pcap file, or a dump as xxd -p IN OUT makes it"]),
 ];
@@ -165,7 +165,7 @@ fn of_link(capture: &[u8]) -> String {
     };
     match number {
         113 | 276 => format!("is an \"any\" capture (link type {number}): record on one interface, tcpdump -i eth0, not any"),
-        _ => format!("is of link type {number}, and Ethernet, 1, is wanted: record on an Ethernet interface"),
+        _ => format!("is of link type {number}, and Ethernet, 1, is expected: record on an Ethernet interface"),
     }
 }
 
@@ -240,7 +240,7 @@ fn of_toxic(number: u32, toxic: &Value) -> String {
     let [kind, name, stream] = ["type", "name", "stream"].map(|field| toxic.text_at(field));
     match number {
         12 => wrong_field(toxic, &TOXIC_FIELDS),
-        16 => its(toxic, "type", &format!("{} is wanted", part(16, 0))),
+        16 => its(toxic, "type", &format!("{} is expected", part(16, 0))),
         17 => its(toxic, "stream", part(17, 0)),
         18 if name.is_empty() => {
             let stream = [stream, "downstream"][usize::from(stream.is_empty())];
@@ -253,7 +253,7 @@ fn of_toxic(number: u32, toxic: &Value) -> String {
             Some(0 | 1) => its(toxic, "toxicity_ppm", part(21, 0)),
             _ => {
                 let text = toxic.field("toxicity").map(written).unwrap_or_default();
-                let wanted = match text.strip_prefix("0.") {
+                let expected = match text.strip_prefix("0.") {
                     Some(digits) => {
                         let count: u32 = format!("{digits:0<6}")[..6].parse().unwrap_or_default();
                         format!(
@@ -264,7 +264,7 @@ fn of_toxic(number: u32, toxic: &Value) -> String {
                     }
                     None => format!("{}, or \"toxicity_ppm\", up to 1000000", part(21, 1)),
                 };
-                its(toxic, "toxicity", &wanted)
+                its(toxic, "toxicity", &expected)
             }
         },
     }
@@ -273,17 +273,17 @@ fn of_toxic(number: u32, toxic: &Value) -> String {
 /// The first field that is not as it has to be. If each is, a name is empty.
 fn wrong_field(value: &Value, fields: &[Field]) -> String {
     if !matches!(value, Value::Object(_)) {
-        return format!("it is {}, and an object is wanted", value.kind());
+        return format!("it is {}, and an object is expected", value.kind());
     }
-    for (name, wanted, is_required) in fields {
+    for (name, expected, is_required) in fields {
         let kind = value.field(name).map(Value::kind);
-        if kind.map_or(*is_required, |kind| kind != *wanted) {
+        if kind.map_or(*is_required, |kind| kind != *expected) {
             let is = kind.unwrap_or("missing");
-            let told = filled(part(12, 0), &[("is", &is), ("wanted", wanted)]);
+            let told = filled(part(12, 0), &[("is", &is), ("expected", expected)]);
             return format!("its \"{name}\" {told}");
         }
     }
-    "its \"name\" is empty, and a name is wanted".to_string()
+    "its \"name\" is empty, and a name is expected".to_string()
 }
 
 /// The first attribute that is out of its range. If none is, slices vary by too much.
@@ -291,15 +291,15 @@ fn wrong_attribute(kind: &str, attributes: &Value) -> String {
     for (_, name, unit, least, most) in ATTRIBUTES.iter().filter(|(of, ..)| *of == kind) {
         let number = attributes.field(name).map_or(Some(0), Value::whole_number);
         if !number.is_some_and(|number| (*least..=*most).contains(&number)) {
-            let wanted = filled(
+            let expected = filled(
                 part(19, 0),
                 &[("unit", unit), ("least", least), ("most", most)],
             );
-            return its(attributes, name, &wanted) + &unknown_attribute(kind, attributes);
+            return its(attributes, name, &expected) + &unknown_attribute(kind, attributes);
         }
     }
-    let wanted = "less than \"average_size\" is wanted";
-    its(attributes, "size_variation", wanted)
+    let expected = "less than \"average_size\" is expected";
+    its(attributes, "size_variation", expected)
 }
 
 /// The first attribute that the type does not have, and those that it has; empty if there is none.
@@ -322,14 +322,14 @@ fn unknown_attribute(kind: &str, attributes: &Value) -> String {
     }
 }
 
-/// A field with its value, and what is wanted.
-fn its(value: &Value, name: &str, wanted: &str) -> String {
+/// A field with its value, and what is expected.
+fn its(value: &Value, name: &str, expected: &str) -> String {
     match value.field(name) {
         Some(found) => {
             let is = shown(&written(found), 60);
-            format!("its \"{name}\" is {is}, and {wanted}")
+            format!("its \"{name}\" is {is}, and {expected}")
         }
-        None => format!("its \"{name}\" is missing, and {wanted}"),
+        None => format!("its \"{name}\" is missing, and {expected}"),
     }
 }
 

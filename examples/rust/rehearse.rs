@@ -21,7 +21,7 @@ pub struct Refusal {
     pub name: String,
     /// Its place, such as `scenario 0 proxy 1`; empty if it has none.
     pub place: String,
-    /// What helps: the field that it is about, what that is, what is wanted there, and what to do. It is empty if nothing is known.
+    /// What helps: the field that it is about, what that is, what is expected there, and what to do. It is empty if nothing is known.
     pub hint: String,
 }
 

@@ -133,8 +133,8 @@ class Rehearsals:
 
     def _fault(self, path: pathlib.Path, found: bytes, written: List[str]) -> Iterator[str]:
         """What is wrong with a golden file, if anything; with --toxicap-update it is made right."""
-        wanted: Optional[bytes] = path.read_bytes() if path.exists() else None
-        if wanted == found:
+        expected: Optional[bytes] = path.read_bytes() if path.exists() else None
+        if expected == found:
             return
         if self.updates:
             path.parent.mkdir(parents=True, exist_ok=True)
@@ -142,10 +142,10 @@ class Rehearsals:
             draft.write_bytes(found)
             draft.replace(path)
             written.append(str(path))
-        elif wanted is None:
+        elif expected is None:
             yield f"there is no golden file {path}"
         else:
-            yield "\n".join([f"the golden file {path} differs:", *differences(path.suffix, wanted, found)])
+            yield "\n".join([f"the golden file {path} differs:", *differences(path.suffix, expected, found)])
 
 
 @pytest.fixture

@@ -118,10 +118,10 @@ def faults(capture, text, seed, closes, loop):
 
 
 def main(folder):
-    for what, packets, toxics, wanted in ROWS:
-        found = row_times(closed_loop(row_capture(packets), scenario(toxics), rehearse=rehearse).recording, len(wanted.split()))
-        if found != wanted:
-            print(f"  {what}: {found}, wanted {wanted}")
+    for what, packets, toxics, expected in ROWS:
+        found = row_times(closed_loop(row_capture(packets), scenario(toxics), rehearse=rehearse).recording, len(expected.split()))
+        if found != expected:
+            print(f"  {what}: {found}, expected {expected}")
     count = 0
     for count, (capture, text, seed, closes) in enumerate(cases(), 1):
         loop = closed_loop(capture, text, HOSTS, seed, rehearse=rehearse)

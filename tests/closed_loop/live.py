@@ -50,11 +50,11 @@ def differences(loop, went):
     """Of each chunk of the closed loop its time, and how much later it came through the proxy; None where bytes are missing or too many."""
     found = []
     for side, line in enumerate(loop):
-        wanted = reached([(at / 1e9, data) for at, data in line.chunks])
+        expected = reached([(at / 1e9, data) for at, data in line.chunks])
         live = reached([(at, data) for at, of, data in went if of == side and data])
-        if [count for _, count in wanted[-1:]] != [count for _, count in live[-1:]]:
+        if [count for _, count in expected[-1:]] != [count for _, count in live[-1:]]:
             return None
-        for at, count in wanted:
+        for at, count in expected:
             found.append((at, next(when for when, upto in live if upto >= count) - at))
     return found
 

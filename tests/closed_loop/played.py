@@ -25,10 +25,10 @@ def main(tool, capture, scenario, folder):
     subprocess.run([tool, "--capture", capture, "--scenario", scenario, "--out", folder], check=True)
     output, untouched = (pathlib.Path(folder, name).read_bytes() for name in ("0000.pcap", "0001.pcap"))
     [(up, down)] = delivered(output)
-    wanted, found = down.chunks[-1][0] / 10**9, []
-    while len(found) < 5 and not (found and wanted <= found[-1] <= wanted + 0.2):
+    expected, found = down.chunks[-1][0] / 10**9, []
+    while len(found) < 5 and not (found and expected <= found[-1] <= expected + 0.2):
         found.append(played(output, untouched, len(up.data)))
-    print("played" if found[-1] <= wanted + 0.2 else f"{found} seconds, and {wanted} wanted")
+    print("played" if found[-1] <= expected + 0.2 else f"{found} seconds, and {expected} expected")
 
 
 if __name__ == "__main__":

@@ -48,16 +48,16 @@ def frames_server(connection):
     file = connection.makefile("rb")
     while True:
         (length,) = struct.unpack(">I", exactly(file, 4))
-        (wanted,) = struct.unpack(">I", exactly(file, length)[:4])
+        (expected,) = struct.unpack(">I", exactly(file, length)[:4])
         time.sleep(SERVER_PAUSE)
-        connection.sendall(struct.pack(">I", wanted) + b"x" * wanted)
+        connection.sendall(struct.pack(">I", expected) + b"x" * expected)
 
 
 def frames_client(connection):
     file = connection.makefile("rb")
-    for wanted in 0, 10, 1000, 3000, 20, 400, 1:
+    for expected in 0, 10, 1000, 3000, 20, 400, 1:
         time.sleep(CLIENT_PAUSE)
-        connection.sendall(struct.pack(">II", 24, wanted) + b"y" * 20)
+        connection.sendall(struct.pack(">II", 24, expected) + b"y" * 20)
         exactly(file, struct.unpack(">I", exactly(file, 4))[0])
 
 

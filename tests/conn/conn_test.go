@@ -79,16 +79,16 @@ func randomScenario(drawn *rand.Rand) string {
 	return string(text)
 }
 
-// wanted is what a line gives to one who reads it.
-type wanted struct {
+// expected is what a line gives to one who reads it.
+type expected struct {
 	bytes  []byte
 	times  []time.Duration // of each byte
 	chunks []int           // the number of each byte's chunk
 	end    *toxicap.Event
 }
 
-func wantedOf(line toxicap.Line) wanted {
-	w := wanted{end: line.End}
+func wantedOf(line toxicap.Line) expected {
+	w := expected{end: line.End}
 	for number, chunk := range line.Chunks {
 		for _, each := range chunk.Bytes {
 			w.bytes, w.times, w.chunks = append(w.bytes, each), append(w.times, chunk.Time), append(w.chunks, number)
@@ -135,7 +135,7 @@ func TestLaws(t *testing.T) {
 }
 
 // due is when a byte or the end comes that is read at a place, and what that is.
-func (w wanted) due(place int) (time.Duration, string) {
+func (w expected) due(place int) (time.Duration, string) {
 	switch {
 	case place < len(w.bytes):
 		return w.times[place], "bytes"
@@ -146,7 +146,7 @@ func (w wanted) due(place int) (time.Duration, string) {
 }
 
 // until is the place after what a read gives then: bytes of one chunk.
-func (w wanted) until(place, most int, now time.Duration) int {
+func (w expected) until(place, most int, now time.Duration) int {
 	for begun := place; most > 0 && place < len(w.times) && w.times[place] <= now && w.chunks[place] == w.chunks[begun]; most-- {
 		place++
 	}
@@ -154,7 +154,7 @@ func (w wanted) until(place, most int, now time.Duration) int {
 }
 
 // readAll reads to the end.
-func readAll(t *testing.T, c *toxicap.Conn, w wanted, drawn *rand.Rand, met map[string]int) {
+func readAll(t *testing.T, c *toxicap.Conn, w expected, drawn *rand.Rand, met map[string]int) {
 	t.Helper()
 	for place, going := 0, true; going; {
 		before, away := c.Now(), time.Duration(0)
@@ -234,8 +234,8 @@ func TestEnds(t *testing.T) {
 		t.Fatal(err)
 	}
 	fmt.Fprint(c, "one")
-	for _, wanted := range []error{syscall.ECONNRESET, nil} {
-		if _, err := io.ReadAll(c); !errors.Is(err, wanted) {
+	for _, expected := range []error{syscall.ECONNRESET, nil} {
+		if _, err := io.ReadAll(c); !errors.Is(err, expected) {
 			t.Error(err)
 		}
 	}

@@ -107,10 +107,10 @@ func TestHTTP(t *testing.T) {
 
 func TestHTTPFaults(t *testing.T) {
 	quiet(t)
-	for members, wanted := range map[string]error{toxic("limit_data", `"bytes":200`): io.ErrUnexpectedEOF, toxic("timeout", `"timeout":250`): io.EOF,
+	for members, expected := range map[string]error{toxic("limit_data", `"bytes":200`): io.ErrUnexpectedEOF, toxic("timeout", `"timeout":250`): io.EOF,
 		`"toxics":[{"type":"bandwidth","attributes":{"rate":1}},{"type":"reset_peer","attributes":{"timeout":205}}]`: syscall.ECONNRESET,
 		`"enabled":false`: syscall.ECONNREFUSED, toxic("timeout", `"timeout":0`): toxicap.ErrStillOpen} {
-		if body, err := get(dialer(t, sample("http-get"), web(members))); !errors.Is(err, wanted) {
+		if body, err := get(dialer(t, sample("http-get"), web(members))); !errors.Is(err, expected) {
 			t.Errorf("%s: %q, %v", members, body, err)
 		}
 	}
@@ -168,16 +168,16 @@ func TestAnswersWait(t *testing.T) {
 		if len(answers) > 0 {
 			t.Errorf("before the request: %q", <-answers)
 		}
-		found, wanted := "", []string{"1", "122333"}[2-len(requests):]
+		found, expected := "", []string{"1", "122333"}[2-len(requests):]
 		for place, request := range requests {
 			fmt.Fprint(c, request)
 			soon(t, func() {
-				for len(found) < len(wanted[place]) {
+				for len(found) < len(expected[place]) {
 					found += <-answers
 				}
 			})
-			if found != wanted[place] {
-				t.Errorf("%q, and wanted is %q", found, wanted[place])
+			if found != expected[place] {
+				t.Errorf("%q, and expected is %q", found, expected[place])
 			}
 		}
 		if end := <-answers; end != toxicap.ErrStillOpen.Error() {
@@ -190,8 +190,8 @@ func TestAnswersWait(t *testing.T) {
 func TestWaitsEnd(t *testing.T) {
 	const soonish = 50 * time.Millisecond
 	for _, each := range []struct {
-		end    func(*toxicap.Conn)
-		wanted error
+		end      func(*toxicap.Conn)
+		expected error
 	}{
 		{func(c *toxicap.Conn) { time.AfterFunc(soonish, func() { c.Close() }) }, net.ErrClosed},
 		{func(c *toxicap.Conn) { time.AfterFunc(soonish, func() { c.SetReadDeadline(time.Unix(1, 0)) }) }, os.ErrDeadlineExceeded},
@@ -200,8 +200,8 @@ func TestWaitsEnd(t *testing.T) {
 		c := dial(t, os.Getenv("SESSIONS"), "[]", 1)
 		each.end(c)
 		soon(t, func() {
-			if _, err := c.Read(make([]byte, 1)); !errors.Is(err, each.wanted) {
-				t.Errorf("wanted: %v, found: %v", each.wanted, err)
+			if _, err := c.Read(make([]byte, 1)); !errors.Is(err, each.expected) {
+				t.Errorf("expected: %v, found: %v", each.expected, err)
 			}
 		})
 	}

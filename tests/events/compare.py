@@ -48,8 +48,8 @@ def seen(path, count):
     return bytes_of, instants
 
 
-def differ(what, wanted, found):
-    if wanted != found: print(f'  {what}\n    wanted: {str(wanted)[:200]}\n    found:  {str(found)[:200]}')
+def differ(what, expected, found):
+    if expected != found: print(f'  {what}\n    expected: {str(expected)[:200]}\n    found:    {str(found)[:200]}')
 
 
 def compare(path, events, ends, by_tshark):

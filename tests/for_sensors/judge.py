@@ -94,15 +94,15 @@ def joined(chunks):
     return found
 
 
-def is_alone(wanted, end):
+def is_alone(expected, end):
     """Whether a connection is a SYN that nobody answers, or that is refused, with the recording: the output has no more of it."""
-    return end in ("silent", "refused") and not any(isinstance(what, bytes) or what in ("fin", "refused") for _, _, what in wanted)
+    return end in ("silent", "refused") and not any(isinstance(what, bytes) or what in ("fin", "refused") for _, _, what in expected)
 
 
-def wanted_side(mode, side, wanted, untouched):
+def wanted_side(mode, side, expected, untouched):
     """What a side of a connection is to have sent, as (chunks, end) by the output's events, or by those under []."""
     chunks, ends = ([(time, what) for time, way, what in found if way == ("up", "down")[side] and isinstance(what, bytes) is is_bytes]
-                    for found, is_bytes in ((wanted, True), (wanted, False)))
+                    for found, is_bytes in ((expected, True), (expected, False)))
     if mode != ("client", "server")[side] or ends and ends[0][1] == "refused": return chunks, ends[0] if ends else None
     mine = [(time, what) for time, way, what in untouched if way == ("up", "down")[side]]
     fin = [(time, what) for time, what in mine if what == "fin" and not (ends and time > ends[0][0])]
@@ -116,7 +116,7 @@ def observe(folder, ends, tally):
     its bytes in both directions."""
     output, untouched = (events((folder / f"{what}.pcap").read_bytes()) for what in ("output", "untouched"))
     for mode in MODES:
-        path, wanted = folder / f"{mode}.pcap", []
+        path, expected = folder / f"{mode}.pcap", []
         try: found, others = seen(path.read_bytes())
         except ValueError as why:
             fault("observer", path, why)
@@ -134,16 +134,16 @@ def observe(folder, ends, tally):
                     fault("observer", path, f"connection {number}: what side {side} sent")
                 told = connection.ends[side]
                 if not alone and told != end and not (end and end[1] == "reset" and end in connection.ends):
-                    fault("observer", path, f"connection {number}: side {side} ends {told}, wanted {end}")
+                    fault("observer", path, f"connection {number}: side {side} ends {told}, expected {end}")
                 tally["directions"] += 1
                 tally["bytes"] += len(data[-1])
             how = {what for _, what in filter(None, connection.ends)}
             is_closed = all(connection.ends)
             if not connection.refused and len(connection.handshake) == 3:
-                wanted.append((connection.peers, "reset" if "reset" in how else "close" if is_closed else "open", data))
+                expected.append((connection.peers, "reset" if "reset" in how else "close" if is_closed else "open", data))
             elif not alone and not connection.refused: fault("observer", path, f"connection {number}: no handshake")
         tally["captures"] += 1
-        yield path, wanted
+        yield path, expected
 
 
 def name(end):
@@ -151,24 +151,24 @@ def name(end):
     return f"{'.'.join(map(str, end[:4]))}:{int.from_bytes(end[4:], 'big')}"
 
 
-def by_nids(nids, path, wanted, tally):
+def by_nids(nids, path, expected, tally):
     """libnids delivers each byte of both directions, and sees each end."""
     found = collections.Counter(run(nids, path, text=True).splitlines())
     rows = collections.Counter(" ".join([*map(name, peers), how, *(f"{len(each)} {hashlib.sha256(each).hexdigest()}" for each in data)])
-                               for peers, how, data in wanted)
+                               for peers, how, data in expected)
     for row in found - rows: fault("libnids", path, f"found: {row}")
-    for row in rows - found: fault("libnids", path, f"wanted: {row}")
-    tally["connections"] += len(wanted)
-    tally["closes and resets"] += sum(how != "open" for _, how, _ in wanted)
-    tally["bytes"] += sum(len(each) for _, _, data in wanted for each in data)
+    for row in rows - found: fault("libnids", path, f"expected: {row}")
+    tally["connections"] += len(expected)
+    tally["closes and resets"] += sum(how != "open" for _, how, _ in expected)
+    tally["bytes"] += sum(len(each) for _, _, data in expected for each in data)
 
 
-def by_tcpflow(path, wanted, tally):
+def by_tcpflow(path, expected, tally):
     """tcpflow finds each direction's bytes."""
     flows = path.with_suffix(".flows")
     run("tcpflow", "-r", path, "-o", flows, stderr=subprocess.DEVNULL)
     found = collections.Counter(each.read_bytes() for each in flows.iterdir() if re.match(r"[0-9.]+-[0-9.]+", each.name) and each.stat().st_size)
-    rows = collections.Counter(each for _, _, data in wanted for each in data if each)
+    rows = collections.Counter(each for _, _, data in expected for each in data if each)
     if found != rows: fault("tcpflow", path, f"{len(found - rows)} directions too many, {len(rows - found)} too few")
     tally["directions"] += len(rows)
     tally["bytes"] += sum(map(len, found))
@@ -208,12 +208,12 @@ def main(program, folder, *judges):
     kind."""
     tallies = collections.defaultdict(collections.Counter)
     for number, (here, ends) in enumerate(cases(program, pathlib.Path(folder))):
-        for place, (path, wanted) in enumerate(observe(here, ends, tallies["observer"])):
+        for place, (path, expected) in enumerate(observe(here, ends, tallies["observer"])):
             for judge in judges:
                 tally = tallies[pathlib.Path(judge).name]
-                if "/" in judge: by_nids(judge, path, wanted, tally)
+                if "/" in judge: by_nids(judge, path, expected, tally)
                 elif place != (number + 1) % len(MODES): continue
-                elif judge == "tcpflow": by_tcpflow(path, wanted, tally)
+                elif judge == "tcpflow": by_tcpflow(path, expected, tally)
                 elif judge == "dpkt": by_dpkt(path, tally)
                 elif judge == "tshark": by_tshark(path, tally)
                 tally["captures"] += 1

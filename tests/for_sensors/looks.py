@@ -25,9 +25,9 @@ CLIENT, SERVER = (bytes((10, 0, 0, 1)), 20000), (bytes((10, 9, 0, 1)), 80)
 NOPS = b"\1" * 10
 
 
-def told(what, found, wanted):
+def told(what, found, expected):
     """Prints what differs."""
-    if found != wanted: print(f"  {what}: {found}, wanted {wanted}")
+    if found != expected: print(f"  {what}: {found}, expected {expected}")
 
 
 def made(program, folder, records, toxics, *words):
@@ -63,8 +63,8 @@ def looks(program, folder):
     server = Host(*SERVER, struct.pack(">2H", 0x8100, 0x2007), 0x28, 120, 0, 0)
     (connection,), _ = made(program, folder, exchange(client, server), [])
     told("the handshake", [time - START * 1000 for time in connection.handshake], [0, 20_000, 90_000])
-    for side, wanted in enumerate(((client.tag, 0xB8, 63), (server.tag, 0x28, 120))):
-        told(f"tag, DSCP and TTL of side {side}", {(each.tag, each.service, each.hops) for each in connection.segments[side]}, {wanted})
+    for side, expected in enumerate(((client.tag, 0xB8, 63), (server.tag, 0x28, 120))):
+        told(f"tag, DSCP and TTL of side {side}", {(each.tag, each.service, each.hops) for each in connection.segments[side]}, {expected})
         told(f"options of side {side}", connection.syns[side].options, MSS + SACK + NOPS + SCALE)
     told("identification of the client", [each.name for each in connection.segments[0]][:4], [65534, 65535, 1, 2])
     told("identification of the server", {each.name for each in connection.segments[1]}, {0})
@@ -75,22 +75,22 @@ def looks(program, folder):
 
 def options(program, folder):
     """Options of SYNs as they are recorded, and as they are written."""
-    for number, (recorded, wanted) in enumerate([
+    for number, (recorded, expected) in enumerate([
             (b"\2\4\2\x18" + SCALE, MSS + SCALE), (b"\2\4\x22\xc4" + SCALE, b"\2\4\x22\xc4" + SCALE), (SCALE, MSS + SCALE),
             (b"\x1e\x0c" + bytes(10) + MSS + SCALE, b"\1" * 12 + MSS + SCALE),
             (MSS + SCALE + b"\x13\x12" + bytes(16) + b"\1\1", MSS + SCALE + b"\1" * 20)]):
         (connection,), _ = made(program, folder / str(number), exchange(Host(*CLIENT), Host(*SERVER), (recorded, recorded), FIN), [])
-        told(f"options {number}", connection.syns[0].options, wanted)
+        told(f"options {number}", connection.syns[0].options, expected)
 
 
 def ends(program, folder):
     """A reset of a toxic is of both sides, and one that was recorded its sender's; what was refused and what nobody answers; other frames."""
     (connection,), _ = made(program, folder / "toxic", exchange(Host(*CLIENT), Host(*SERVER)), [{"type": "reset_peer", "attributes": {"timeout": 2}}])
     told("a toxic's resets", [sum(each.flags & RST > 0 for each in side) for side in connection.segments], [1, 1])
-    for end, wanted in (("refused", [1, 1]), ("silent", [2, 0])):
+    for end, expected in (("refused", [1, 1]), ("silent", [2, 0])):
         records = session(random.Random(1), Host(*CLIENT), Host(*SERVER), START, [(5, 5)], end)
         (connection,), _ = made(program, folder / end, records, [])
-        told(end, ([len(side) for side in connection.segments], connection.refused), (wanted, end == "refused"))
+        told(end, ([len(side) for side in connection.segments], connection.refused), (expected, end == "refused"))
     frames = others(START + 10)
     twice = frames[0][1][:12] + b"\x88\xa8\0\7\x08\0" + bytes(40)
     records = in_order(frames + [(START + 5, twice)] + exchange(Host(*CLIENT), Host(*SERVER)))
@@ -101,9 +101,9 @@ def ends(program, folder):
 def vantages(program, folder):
     """A request that comes 10 ms late, and an answer that comes 20 ms late: what each side sees."""
     toxics = [{"type": "latency", "stream": stream, "attributes": {"latency": late}} for stream, late in (("upstream", 10), ("downstream", 20))]
-    for vantage, wanted in (("both", [11, 22]), ("client", [1, 22]), ("server", [11, 2])):
+    for vantage, expected in (("both", [11, 22]), ("client", [1, 22]), ("server", [11, 2])):
         (connection,), _ = made(program, folder / vantage, exchange(Host(*CLIENT), Host(*SERVER), end=FIN), toxics, "--vantage", vantage)
-        told(f"times at {vantage}", [chunks[0][0] // 10**6 for chunks in connection.chunks], wanted)
+        told(f"times at {vantage}", [chunks[0][0] // 10**6 for chunks in connection.chunks], expected)
 
 
 def copies(program, folder):
@@ -114,8 +114,8 @@ def copies(program, folder):
         records.append((START + time, client.frame(server, 1001 + at, 5001, PSH | ACK, text)))
     (connection,), _ = made(program, folder, records, [], "--vantage", "client")
     told("copies", connection.chunks[0], [(4_000_000, b"ABab45678"), (5_000_000, b"9")])
-    (wanted,) = events((folder / "0000.pcap").read_bytes())
-    told("copies in the output", [(time, what) for time, way, what in wanted], connection.chunks[0])
+    (expected,) = events((folder / "0000.pcap").read_bytes())
+    told("copies in the output", [(time, what) for time, way, what in expected], connection.chunks[0])
 
 
 def memory(program, folder):

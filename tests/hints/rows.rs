@@ -184,7 +184,7 @@ fn deep() {
     let call = move || rehearse(b"", &[text], "", 0).unwrap_err();
     let thread = thread::Builder::new().stack_size(256 << 10);
     let refusal = thread.spawn(call).unwrap().join().unwrap();
-    let told = "its \"name\" is an object, and a text is wanted";
+    let told = "its \"name\" is an object, and a text is expected";
     assert_eq!(refusal.hint, format!("scenario 0, proxy 0: {told}"));
 }
 

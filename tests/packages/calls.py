@@ -16,9 +16,9 @@ HOSTS = b"redis=10.77.0.3\n"
 FOLDER = pathlib.Path(sys.argv[1])
 
 
-def told(what, found, wanted):
-    if found != wanted:
-        print(f"  {what}: {found!r}, wanted {wanted!r}")
+def told(what, found, expected):
+    if found != expected:
+        print(f"  {what}: {found!r}, expected {expected!r}")
 
 
 def raised(call, *words):
@@ -56,13 +56,13 @@ def refusals(capture):
         (capture, [], b"a=10.0.0.1\nb", 23, "BadHost", "host 1"),
         (capture, [b"[]"] * 257, b"", 22, "TooManyScenarios", ""),
     ]
-    for capture, scenarios, hosts, *wanted in cases:
+    for capture, scenarios, hosts, *expected in cases:
         for call in toxicap.rehearse, toxicap.reports:
             refusal = raised(call, capture, scenarios, hosts)
-            told(wanted, isinstance(refusal, toxicap.Refusal) and [refusal.number, refusal.name, refusal.place], wanted)
+            told(expected, isinstance(refusal, toxicap.Refusal) and [refusal.number, refusal.name, refusal.place], expected)
             again = pickle.loads(pickle.dumps(refusal))
-            told(wanted, [type(again), again.line], [toxicap.Refusal, " ".join(["refused", *map(str, filter(None, wanted))])])
-            told(wanted, [again.hint != "", str(again)], [True, f"{again.line}: {again.hint}"])
+            told(expected, [type(again), again.line], [toxicap.Refusal, " ".join(["refused", *map(str, filter(None, expected))])])
+            told(expected, [again.hint != "", str(again)], [True, f"{again.line}: {again.hint}"])
     want = toxicap.OutOfMemory("refused 40 Memory")
     told("out of memory", [isinstance(want, kind) for kind in (MemoryError, toxicap.Refusal)], [True, True])
     for words in (None, [b"[]"]), (capture, ["[]"]), (5, [b"[]"]), (capture, [5]), (capture, [b"[]"], "a=10.0.0.1"):
@@ -82,13 +82,13 @@ def many_connections(capture):
 
 def kinds_of_bytes(capture, scenario):
     """Bytes of each kind, also where another thread changes them or gives them up during the call."""
-    [wanted] = toxicap.rehearse(capture, [scenario])
+    [expected] = toxicap.rehearse(capture, [scenario])
     with tempfile.TemporaryFile() as file:
         file.write(capture)
         file.flush()
         with mmap.mmap(file.fileno(), 0) as mapped:
-            told("mmap", toxicap.rehearse(mapped, [scenario]), [wanted])
-    told("a view backwards", toxicap.rehearse(memoryview(capture[::-1])[::-1], [memoryview(scenario)]), [wanted])
+            told("mmap", toxicap.rehearse(mapped, [scenario]), [expected])
+    told("a view backwards", toxicap.rehearse(memoryview(capture[::-1])[::-1], [memoryview(scenario)]), [expected])
     faults = []
 
     def calls(worker):
@@ -97,7 +97,7 @@ def kinds_of_bytes(capture, scenario):
             changed = bytearray(capture)
             found = toxicap.rehearse(changed, [bytearray(scenario)])
             changed.clear()
-            if found != [wanted]:
+            if found != [expected]:
                 faults.append(worker)
 
     threads = [threading.Thread(target=calls, args=(worker,)) for worker in range(8)]

@@ -65,12 +65,12 @@ func connect(t *testing.T, player *toxicap.Player) net.Conn {
 }
 
 // read wants the client's next bytes; up to the end where more is asked for than comes.
-func read(t *testing.T, client net.Conn, length int, wanted string) {
+func read(t *testing.T, client net.Conn, length int, expected string) {
 	t.Helper()
 	found := make([]byte, length)
 	count, _ := io.ReadFull(client, found)
-	if string(found[:count]) != wanted {
-		t.Errorf("wanted: %q, found: %q", wanted, found[:count])
+	if string(found[:count]) != expected {
+		t.Errorf("expected: %q, found: %q", expected, found[:count])
 	}
 }
 
@@ -127,9 +127,9 @@ func TestPauses(t *testing.T) {
 }
 
 func TestFaultyAnswers(t *testing.T) {
-	for name, wanted := range map[string]error{"http-cut-body": io.ErrUnexpectedEOF, "http-closed": io.EOF, "http-reset": syscall.ECONNRESET,
+	for name, expected := range map[string]error{"http-cut-body": io.ErrUnexpectedEOF, "http-closed": io.EOF, "http-reset": syscall.ECONNRESET,
 		"http-down": syscall.ECONNREFUSED} {
-		if body, err := get(t, play(t, name, 0, nil)); !errors.Is(err, wanted) {
+		if body, err := get(t, play(t, name, 0, nil)); !errors.Is(err, expected) {
 			t.Errorf("%s: %v, %q", name, err, body)
 		}
 	}
@@ -190,12 +190,12 @@ func TestFaults(t *testing.T) {
 	for _, fault := range []struct {
 		output, untouched []byte
 		connection        int
-		wanted            string
+		expected          string
 	}{{late[0], late[1], 1, "there is no connection 1: there are 1, numbered from 0"}, {late[0], late[1], -1, "there is no connection -1: there are 1, numbered from 0"},
 		{late[0], sessions[0], 0, "the outputs are not of one capture (connections: 1 and 4)"},
 		{late[0], nil, 0, "the untouched output: no output capture of toxicap: it has another file header (rehearse the recording under [], too)"}} {
-		if _, err := toxicap.NewPlayer(fault.output, fault.untouched, fault.connection); err == nil || err.Error() != fault.wanted {
-			t.Errorf("wanted: %s, found: %v", fault.wanted, err)
+		if _, err := toxicap.NewPlayer(fault.output, fault.untouched, fault.connection); err == nil || err.Error() != fault.expected {
+			t.Errorf("expected: %s, found: %v", fault.expected, err)
 		}
 	}
 }
@@ -245,12 +245,12 @@ func TestALimitBelowTheClients(t *testing.T) {
 
 // The steps of all folders are those that the helper for Python has, in the file STEPS.
 func TestSteps(t *testing.T) {
-	wanted, err := os.ReadFile(os.Getenv("STEPS"))
+	expected, err := os.ReadFile(os.Getenv("STEPS"))
 	if err != nil {
 		t.Fatal(err)
 	}
 	found := bytes.Buffer{}
-	for _, line := range strings.Split(string(wanted), "\n") {
+	for _, line := range strings.Split(string(expected), "\n") {
 		if !strings.HasPrefix(line, "== ") {
 			continue
 		}
@@ -271,7 +271,7 @@ func TestSteps(t *testing.T) {
 			t.Error(err)
 		}
 	}
-	if !bytes.Equal(wanted, found.Bytes()) {
+	if !bytes.Equal(expected, found.Bytes()) {
 		t.Errorf("other steps:\n%s", found.String())
 	}
 }

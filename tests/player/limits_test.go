@@ -17,7 +17,7 @@ import (
 )
 
 // ends wants the error with which a player ends while a client talks, "" for none, which Serve gives and each Close.
-func ends(t *testing.T, name string, connections []int, settings func(*toxicap.Player), talk func(*toxicap.Player), wanted string) {
+func ends(t *testing.T, name string, connections []int, settings func(*toxicap.Player), talk func(*toxicap.Player), expected string) {
 	t.Helper()
 	both := outputs(t, name)
 	player, err := toxicap.NewPlayer(both[0], both[1], connections...)
@@ -35,17 +35,17 @@ func ends(t *testing.T, name string, connections []int, settings func(*toxicap.P
 		t.Error("the player goes on")
 	}
 	for _, found := range []error{err, player.Close(), player.Close()} {
-		if wanted == "" && found != nil || wanted != "" && (found == nil || !strings.Contains(found.Error(), wanted)) {
-			t.Errorf("wanted: %q, found: %v", wanted, found)
+		if expected == "" && found != nil || expected != "" && (found == nil || !strings.Contains(found.Error(), expected)) {
+			t.Errorf("expected: %q, found: %v", expected, found)
 		}
 	}
 }
 
 func TestLimits(t *testing.T) {
-	late := func(name string, connections []int, talk func(*testing.T, *toxicap.Player), wanted string) {
-		t.Run(wanted, func(t *testing.T) {
+	late := func(name string, connections []int, talk func(*testing.T, *toxicap.Player), expected string) {
+		t.Run(expected, func(t *testing.T) {
 			t.Parallel()
-			ends(t, name, connections, func(p *toxicap.Player) { p.Limit = short }, func(p *toxicap.Player) { talk(t, p) }, wanted)
+			ends(t, name, connections, func(p *toxicap.Player) { p.Limit = short }, func(p *toxicap.Player) { talk(t, p) }, expected)
 		})
 	}
 	late("sessions-untouched", []int{1}, func(t *testing.T, p *toxicap.Player) {
@@ -150,7 +150,7 @@ func TestSeveralClients(t *testing.T) {
 	}
 	player.Limit = time.Minute
 	go player.Serve()
-	sent, wanted := []string{"0123456789abcd", "one?two?", "sum", "bye"}, []string{"+PONG\r\n", "122333", "6", "hello"}
+	sent, expected := []string{"0123456789abcd", "one?two?", "sum", "bye"}, []string{"+PONG\r\n", "122333", "6", "hello"}
 	clients := []net.Conn{}
 	for range sent {
 		clients = append(clients, connect(t, player))
@@ -161,7 +161,7 @@ func TestSeveralClients(t *testing.T) {
 		if other == 2 {
 			clients[other].(*net.TCPConn).CloseWrite()
 		}
-		read(t, clients[other], len(wanted[other]), wanted[other])
+		read(t, clients[other], len(expected[other]), expected[other])
 	}
 	if _, err := net.Dial("tcp", fmt.Sprintf("127.0.0.1:%d", player.Port)); !errors.Is(err, syscall.ECONNREFUSED) {
 		t.Errorf("another client: %v", err)
@@ -205,7 +205,7 @@ func TestSameRequests(t *testing.T) {
 func apart(t *testing.T, settings func(*toxicap.Player)) {
 	t.Helper()
 	for tries := 0; ; tries++ {
-		chunks, wanted := [][]byte{}, 0
+		chunks, expected := [][]byte{}, 0
 		client := connect(t, play(t, "http-slices", 0, settings))
 		fmt.Fprint(client, strings.Repeat("x", 82))
 		for room := make([]byte, 65536); ; {
@@ -223,9 +223,9 @@ func apart(t *testing.T, settings func(*toxicap.Player)) {
 		same := len(chunks) == len(connections[0][1].Chunks)
 		for place := 0; same && place < len(chunks); place++ {
 			same = bytes.Equal(chunks[place], connections[0][1].Chunks[place].Bytes)
-			wanted++
+			expected++
 		}
-		if same && wanted > 5 {
+		if same && expected > 5 {
 			return
 		}
 		if tries == 9 {

@@ -1,4 +1,4 @@
-"""Arguments of each kind, scenarios as Python makes them, reports as data, samples, and errors that name what is wanted."""
+"""Arguments of each kind, scenarios as Python makes them, reports as data, samples, and errors that name what is expected."""
 import io
 import json
 import pathlib
@@ -25,30 +25,30 @@ class Arguments(unittest.TestCase):
     def test_kinds(self):
         """Bytes, paths, lists of dicts and outputs give what bytes give."""
         capture, text = SHOP.read_bytes(), SLOW.read_bytes()
-        wanted, proxies = rehearse(capture, [text], LINES, 7), json.loads(text)
+        expected, proxies = rehearse(capture, [text], LINES, 7), json.loads(text)
         for source in str(SHOP), SHOP, bytearray(capture), memoryview(capture), Output(capture, b""):
-            self.assertEqual(rehearse(source, [text], LINES, 7), wanted)
+            self.assertEqual(rehearse(source, [text], LINES, 7), expected)
         for scenarios in text, SLOW, str(SLOW), proxies, [proxies], (tuple(proxies),), [SLOW], iter([text]), memoryview(text), [bytearray(text)]:
-            self.assertEqual(rehearse(capture, scenarios, LINES, 7), wanted)
-        self.assertEqual(rehearse(capture, text, HOSTS, 7), wanted)
-        self.assertEqual(rehearse(wanted[0], b"[]")[0].parsed.connections[1].down.delivered, wanted[0].parsed.connections[1].down.delivered)
+            self.assertEqual(rehearse(capture, scenarios, LINES, 7), expected)
+        self.assertEqual(rehearse(capture, text, HOSTS, 7), expected)
+        self.assertEqual(rehearse(expected[0], b"[]")[0].parsed.connections[1].down.delivered, expected[0].parsed.connections[1].down.delivered)
         self.assertEqual(reports(SHOP, [SLOW, [], b"[]"], HOSTS), reports(capture, [text, b"[]", b"[]"], LINES))
         self.assertEqual([rehearse(SHOP, []), len(rehearse(SHOP, [[]])), len(rehearse(SHOP, [[], proxies], HOSTS))], [[], 1, 2])
 
     def test_wrong_types(self):
-        wanted = "a path, bytes or a list of dicts"
+        expected = "a path, bytes or a list of dicts"
         for message, *words in (
-            ("capture: a path, bytes or an Output is wanted, and this is 5, of type int", 5, []),
-            ("capture: a path, bytes or an Output is wanted, and this is None, of type NoneType", None, []),
-            (f"scenarios: a list of scenarios, or one as {wanted}, is wanted, and this is {{}}, of type dict", b"", {}),
-            (f"scenarios: a list of scenarios, or one as {wanted}, is wanted, and this is 5, of type int", b"", 5),
-            (f"scenarios[1]: {wanted} is wanted, and this is 5, of type int", b"", [b"[]", 5]),
-            (f"scenarios[0]: {wanted} is wanted, and this is {{}}, of type dict", b"", [{}, b"[]"]),
+            ("capture: a path, bytes or an Output is expected, and this is 5, of type int", 5, []),
+            ("capture: a path, bytes or an Output is expected, and this is None, of type NoneType", None, []),
+            (f"scenarios: a list of scenarios, or one as {expected}, is expected, and this is {{}}, of type dict", b"", {}),
+            (f"scenarios: a list of scenarios, or one as {expected}, is expected, and this is 5, of type int", b"", 5),
+            (f"scenarios[1]: {expected} is expected, and this is 5, of type int", b"", [b"[]", 5]),
+            (f"scenarios[0]: {expected} is expected, and this is {{}}, of type dict", b"", [{}, b"[]"]),
             ("scenarios[0]: a str is the path of a file; give JSON as bytes or as a list of dicts", b"", ["[]"]),
             ("scenarios: a str is the path of a file; give JSON as bytes or as a list of dicts", b"", ' [{"name": "web"}]'),
             ("scenarios[0]: Object of type set is not JSON serializable", b"", [[{"name": set()}]]),
-            ("hosts: a dict or bytes is wanted, and this is 'a=10.0.0.1', of type str", b"", [], "a=10.0.0.1"),
-            ("seed: a whole number is wanted, and this is 1.5, of type float", b"", [], b"", 1.5),
+            ("hosts: a dict or bytes is expected, and this is 'a=10.0.0.1', of type str", b"", [], "a=10.0.0.1"),
+            ("seed: a whole number is expected, and this is 1.5, of type float", b"", [], b"", 1.5),
         ):
             for call in rehearse, reports:
                 with self.subTest(message), self.assertRaises(TypeError) as raised:

@@ -156,9 +156,9 @@ class Ways(Folder):
         """Also where toxics draw, which they do by the scenario's number."""
         scenarios = [[proxy("redis:6379", *DRAWN), proxy("10.77.0.2:80", *DRAWN[: number % 2])] for number in range(21)]
         for count in 1, 2, 8, 9, 21:
-            wanted, *others = [rehearse(SHOP, scenarios[:count], {"redis": "10.77.0.3"}, 5) for _ in self.ways()]
-            self.assertEqual(len({capture for capture, _ in wanted}), count)
-            self.assertEqual(others, [wanted] * 2)
+            expected, *others = [rehearse(SHOP, scenarios[:count], {"redis": "10.77.0.3"}, 5) for _ in self.ways()]
+            self.assertEqual(len({capture for capture, _ in expected}), count)
+            self.assertEqual(others, [expected] * 2)
 
     def test_the_same_refusals(self):
         for words in (
@@ -181,15 +181,15 @@ class Ways(Folder):
 
     def test_programs_that_fail(self):
         """The library answers if the program can't be started, fails or stores nothing, or if there is no folder for it."""
-        [wanted] = rehearse(SHOP, [[]])
+        [expected] = rehearse(SHOP, [[]])
         self.patch(PROGRAM=self.folder / "program")
         for text, mode in ("#!/bin/sh\nexit 1\n", 0o755), ("#!/bin/sh\n", 0o755), ("#!/bin/sh\n", 0o644), ("no program", 0o755):
             in_process.PROGRAM.write_text(text)
             in_process.PROGRAM.chmod(mode)
-            self.assertEqual(rehearse(SHOP, [[]]), [wanted])
+            self.assertEqual(rehearse(SHOP, [[]]), [expected])
         self.patch(PROGRAM=self.program)
         self.patch(new_folder=lambda: "")
-        self.assertEqual(rehearse(SHOP, [[]]), [wanted])
+        self.assertEqual(rehearse(SHOP, [[]]), [expected])
 
     def test_files(self):
         """No file is left, also after a refusal; in the meantime nobody else can read the folder."""

@@ -1,5 +1,5 @@
 """The laws of sockets and streams, over the output captures in the folder OUTPUTS: reads of any sizes give the delivered bytes in order, each at its
-time, and ends and timeouts come at theirs. What is wanted is worked out here from the time of each byte."""
+time, and ends and timeouts come at theirs. What is expected is worked out here from the time of each byte."""
 import asyncio, bisect, collections, itertools, os, pathlib, random, socket, unittest
 from events import delivered
 from sockets import Clock, Socket, StillOpen
@@ -57,24 +57,24 @@ class Laws(unittest.TestCase):
             clock.sleep(drawn.choice([0, 1.5]))
             self.read(Socket(connection, side, clock), Wanted(line, clock.nanoseconds), drawn)
 
-    def read(self, reader, wanted, drawn):
+    def read(self, reader, expected, drawn):
         """Reads to the end, with pauses and timeouts."""
         clock, end = reader.clock, 'bytes'
         while end == 'bytes':
             if drawn.random() < 0.2: clock.sleep(drawn.random() / 10)
             now, limit, size = clock.nanoseconds, drawn.choice([None, None, 0, 10**drawn.randint(0, 9)]), size_by(drawn)
             reader.settimeout(limit if limit is None else limit / 10**9)
-            due, found, kind = wanted.due(), None, None
+            due, found, kind = expected.due(), None, None
             try: found = self.read_once(reader, size, drawn)
             except (OSError, StillOpen) as error: kind = type(error)
             if limit is not None and due > now + limit:
                 self.assertEqual((kind, clock.nanoseconds), (socket.timeout if limit else BlockingIOError, now + limit))
                 self.met['late'] += 1
                 continue
-            if wanted.place == len(wanted.bytes): end = wanted.end
+            if expected.place == len(expected.bytes): end = expected.end
             self.assertEqual(kind, {'reset': ConnectionResetError, None: StillOpen}.get(end))
             if end: self.assertEqual(clock.nanoseconds, max(now, due))
-            if not kind: self.assertEqual(found, wanted.take_of_one(size, clock.nanoseconds))
+            if not kind: self.assertEqual(found, expected.take_of_one(size, clock.nanoseconds))
             self.met[end] += 1
         if end: self.assertEqual(reader.recv(9), b'')
 
@@ -87,17 +87,17 @@ class Laws(unittest.TestCase):
         """Reads of whole lengths, by makefile."""
         for connection, side, line, drawn in sides():
             reader = Socket(connection, side)
-            wanted, end = Wanted(line, 0), 'bytes'
+            expected, end = Wanted(line, 0), 'bytes'
             with reader, reader.makefile('rb') as file:
                 while end == 'bytes':
                     size, now = size_by(drawn), reader.clock.nanoseconds
-                    due, found, kind = wanted.due(size), b'', None
+                    due, found, kind = expected.due(size), b'', None
                     try: found = file.read(size)
                     except (OSError, StillOpen) as error: kind = type(error)
-                    if len(wanted.bytes) - wanted.place < size: end = wanted.end
+                    if len(expected.bytes) - expected.place < size: end = expected.end
                     self.assertEqual(kind, {'reset': ConnectionResetError, None: StillOpen}.get(end))
                     if end: self.assertEqual(reader.clock.nanoseconds, max(now, due))
-                    if not kind: self.assertEqual(found, wanted.take(size, reader.clock.nanoseconds))
+                    if not kind: self.assertEqual(found, expected.take(size, reader.clock.nanoseconds))
                     self.met[end] += 1
         self.met['late'] = 99  # there are no timeouts here
 
@@ -107,14 +107,14 @@ class Laws(unittest.TestCase):
             clock.sleep(drawn.choice([0, 1.5]))
             run(self.follow(connection, side, Wanted(line, clock.nanoseconds), drawn), clock)
 
-    async def follow(self, connection, side, wanted, drawn):
+    async def follow(self, connection, side, expected, drawn):
         """Reads to the end, with pauses and timeouts. A reset takes what was not read, as in asyncio."""
         (reader, writer), clock, end = streams(connection, side), asyncio.get_running_loop().clock, 'bytes'
         while end == 'bytes':
             if drawn.random() < 0.2: await asyncio.sleep(drawn.random() / 10)
             now, limit, size = clock.nanoseconds, drawn.choice([None, None, 10**drawn.uniform(0, 9)]), size_by(drawn)
             exactly, found, kind = drawn.random() < 0.3, None, None
-            due = wanted.due(size if exactly else 1)
+            due = expected.due(size if exactly else 1)
             try: found = await asyncio.wait_for(reader.readexactly(size) if exactly else reader.read(size), limit and limit / 10**9)
             except asyncio.TimeoutError:
                 self.assertGreater(due, now + limit - 1)
@@ -123,13 +123,13 @@ class Laws(unittest.TestCase):
                 continue
             except asyncio.IncompleteReadError as error: found, end = error.partial, 'fin'
             except (ConnectionResetError, StillOpen) as error: kind = type(error)
-            if kind or found == b'': end = wanted.end
+            if kind or found == b'': end = expected.end
             self.assertEqual(kind, {'reset': ConnectionResetError, None: StillOpen}.get(end))
-            if end == 'reset': self.assertEqual(clock.nanoseconds, max(now, wanted.end_time))
+            if end == 'reset': self.assertEqual(clock.nanoseconds, max(now, expected.end_time))
             elif end: self.assertEqual(clock.nanoseconds, max(now, due))
-            if not kind: self.assertEqual(found, wanted.take(size, clock.nanoseconds))
+            if not kind: self.assertEqual(found, expected.take(size, clock.nanoseconds))
             self.met[end] += 1
-        if end == 'fin': self.assertEqual((wanted.place, clock.nanoseconds >= wanted.end_time), (len(wanted.bytes), True))
+        if end == 'fin': self.assertEqual((expected.place, clock.nanoseconds >= expected.end_time), (len(expected.bytes), True))
         writer.close()
 
 

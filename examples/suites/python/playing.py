@@ -90,11 +90,11 @@ class Served:
         self.received += more
         self.heard.append(now)
         self.counts.append(len(self.received))
-        wanted = self.session.sent[known:known + len(more)]
-        if more == wanted or self.differs: return
-        place = next((place for place, pair in enumerate(zip(more, wanted)) if pair[0] != pair[1]), len(wanted))
-        wanted = self.session.sent[known + place:known + place + 20]
-        self.differs = f'the client sent {more[place:place + 20]!r} at byte {known + place}, and the recorded one {wanted!r}'
+        expected = self.session.sent[known:known + len(more)]
+        if more == expected or self.differs: return
+        place = next((place for place, pair in enumerate(zip(more, expected)) if pair[0] != pair[1]), len(expected))
+        expected = self.session.sent[known + place:known + place + 20]
+        self.differs = f'the client sent {more[place:place + 20]!r} at byte {known + place}, and the recorded one {expected!r}'
 
     def watch(self, ready: selectors.BaseSelector) -> None:
         """Has a selector look for what the client may do next; closes at the end."""

@@ -67,11 +67,11 @@ fn reads_of_any_size() {
         for lines in delivered(&output).unwrap() {
             let fails = !matches!(lines[1].end, Some((_, What::Fin)));
             let came = lines[1].chunks.iter();
-            let wanted = came.flat_map(|(time, bytes)| bytes.iter().map(|byte| (*time, *byte)));
-            let wanted: Vec<(u64, u8)> = wanted.collect();
+            let expected = came.flat_map(|(time, bytes)| bytes.iter().map(|byte| (*time, *byte)));
+            let expected: Vec<(u64, u8)> = expected.collect();
             for size in 0..5 {
                 let (found, error) = read_all(Socket::new(lines.clone()).unwrap(), size);
-                assert_eq!((&found, error.is_some()), (&wanted, fails));
+                assert_eq!((&found, error.is_some()), (&expected, fails));
             }
         }
     }

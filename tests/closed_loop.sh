@@ -1,14 +1,14 @@
 #!/usr/bin/env bash
 # The closed loop: rows that were worked out by hand, and what holds of every capture (tests/closed_loop/laws.py); the tool examples/closed_loop; a
-# player of a closed loop; the function in Go, which has to give the same bytes; and sessions of three protocols through a proxy in real time
-# (tests/closed_loop/live.py), with sockets of 127.0.0.1. With IDLE=1 the times are compared as on an idle machine, and a table of them is printed.
+# player of a closed loop; the function in Go, which has to give the same bytes; and sessions of three protocols through a proxy
+# (tests/closed_loop/sessions.py), in simulated time. With IDLE=1 they run in real time, with sockets of 127.0.0.1, and a table of them is printed.
 # LIBRARY names another libtoxicap_c.a by its whole path, as for release/library.
 set -euo pipefail
 cd "$(dirname "$0")/.."
 . tests/lib.sh
 export TOXICAP=$program
 tool=examples/closed_loop cases=$work/cases
-mkdir "$cases" "$work/live" "$work/out"
+mkdir "$cases" "$work/sessions" "$work/out"
 
 if ! can "the closed loop" python3; then close; exit; fi
 
@@ -67,6 +67,6 @@ if can "the closed loop in Go" go gcc; then
     )"
 fi
 
-verdict "sessions in real time" "$(ends_with '21 sessions' python3 -B tests/closed_loop/live.py $tool "$work/live")"
+verdict "sessions" "$(ends_with '21 sessions' python3 -B tests/closed_loop/sessions.py $tool "$work/sessions")"
 grep '^|' "$work/output" || true
 close

@@ -1,7 +1,6 @@
-"""Three clients and servers that wait for one another. Each takes a connected socket, and ends where the other side has closed."""
+"""Three clients and servers that wait for one another. Each takes its end of a connection and a clock (clocks.py); it ends if the other side closes."""
 import http.client
 import struct
-import time
 import types
 
 SERVER_PAUSE, CLIENT_PAUSE = 0.003, 0.002  # seconds before an answer, and before a request
@@ -14,12 +13,12 @@ def exactly(file, count):
     return data
 
 
-def mail_server(connection):
+def mail_server(connection, clock):
     """Lines, as of POP3: the server begins and ends."""
     file = connection.makefile("rb")
     connection.sendall(b"+OK ready\r\n")
     for line in file:
-        time.sleep(SERVER_PAUSE)
+        clock.sleep(SERVER_PAUSE)
         word, *number = line.split()
         if word == b"RETR":
             connection.sendall(b"+OK\r\n" + b"a line of the mail\r\n" * 60 * int(number[0]) + b".\r\n")
@@ -29,11 +28,11 @@ def mail_server(connection):
             break
 
 
-def mail_client(connection):
+def mail_client(connection, clock):
     file = connection.makefile("rb")
     exactly(file, 11)
     for request in b"USER me", b"PASS secret", b"STAT", b"RETR 1", b"RETR 2", b"RETR 1", b"DELE 1", b"QUIT":
-        time.sleep(CLIENT_PAUSE)
+        clock.sleep(CLIENT_PAUSE)
         connection.sendall(request + b"\r\n")
         line = file.readline()
         while request.startswith(b"RETR") and line and line != b".\r\n":
@@ -43,25 +42,25 @@ def mail_client(connection):
     file.read()
 
 
-def frames_server(connection):
+def frames_server(connection, clock):
     """Frames of a length and as many bytes: the answer is as long as the request asks for. The client ends."""
     file = connection.makefile("rb")
     while True:
         (length,) = struct.unpack(">I", exactly(file, 4))
         (expected,) = struct.unpack(">I", exactly(file, length)[:4])
-        time.sleep(SERVER_PAUSE)
+        clock.sleep(SERVER_PAUSE)
         connection.sendall(struct.pack(">I", expected) + b"x" * expected)
 
 
-def frames_client(connection):
+def frames_client(connection, clock):
     file = connection.makefile("rb")
     for expected in 0, 10, 1000, 3000, 20, 400, 1:
-        time.sleep(CLIENT_PAUSE)
+        clock.sleep(CLIENT_PAUSE)
         connection.sendall(struct.pack(">II", 24, expected) + b"y" * 20)
         exactly(file, struct.unpack(">I", exactly(file, 4))[0])
 
 
-def web_server(connection):
+def web_server(connection, clock):
     """HTTP/1.1 over a connection that is kept. The client ends."""
     file = connection.makefile("rb")
     while True:
@@ -70,19 +69,19 @@ def web_server(connection):
             pass
         if not words:
             return
-        time.sleep(SERVER_PAUSE)
+        clock.sleep(SERVER_PAUSE)
         body = b"<p>page</p>\n" * int(words[1][1:])
         connection.sendall(b"HTTP/1.1 200 OK\r\nContent-Type: text/html\r\nContent-Length: %d\r\n\r\n" % len(body) + body)
 
 
-def web_client(connection):
+def web_client(connection, clock):
     client = http.client.HTTPConnection("127.0.0.1")
     client.sock = types.SimpleNamespace(sendall=connection.sendall, makefile=connection.makefile, close=lambda: None)
     for page in 1, 80, 0, 200, 3:
-        time.sleep(CLIENT_PAUSE)
+        clock.sleep(CLIENT_PAUSE)
         client.request("GET", f"/{page}")
         client.getresponse().read()
 
 
 PROTOCOLS = {"mail": (mail_server, mail_client), "frames": (frames_server, frames_client), "web": (web_server, web_client)}
-GONE = (OSError, EOFError, http.client.HTTPException)  # what each raises where the other side is gone
+GONE = (OSError, EOFError, http.client.HTTPException)  # what each raises if the other side is gone

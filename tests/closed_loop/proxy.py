@@ -1,8 +1,6 @@
-"""A proxy in real time between a client and a server of this process, with toxics, each (type, stream, attributes), and what it sees."""
-import queue
+"""A proxy between a client and a server of this process, with toxics, each (type, stream, attributes), and what it sees."""
+import functools
 import socket
-import threading
-import time
 
 from protocols import GONE
 
@@ -53,36 +51,29 @@ KINDS = {"latency": Latency, "bandwidth": Bandwidth, "slicer": Slicer, "limit_da
 
 
 class Proxy:
-    """One session through a proxy: `came` and `went` are what came in and went out, each (seconds since the opening, side, bytes), and b"" for a FIN;
-    side 0 is the client's."""
+    """One session through a proxy, in a clock's time: `came` and `went` are what came in and went out, each (seconds since the opening, side, bytes),
+    and b"" for a FIN; side 0 is the client's."""
 
-    def __init__(self, server, client, toxics):
-        self.came, self.went, self.sockets = [], [], []
-        threads = []
+    def __init__(self, clock, server, client, toxics):
+        self.clock, self.came, self.went, self.ends = clock, [], [], []
+        works = []
         for act in client, server:
-            with socket.create_server(("127.0.0.1", 0)) as listener:
-                far, near = socket.create_connection(listener.getsockname()), listener.accept()[0]
-            for each in far, near:
-                each.setsockopt(socket.IPPROTO_TCP, socket.TCP_NODELAY, 1)
-            self.sockets.append(near)
-            threads.append(threading.Thread(target=self.play, args=(act, far)))
+            far, near = clock.connection()
+            self.ends.append(near)
+            works.append(functools.partial(self.play, act, far))
         for side, stream in enumerate(("upstream", "downstream")):
-            line = queue.SimpleQueue()
+            line = clock.line()
             mine = [KINDS[kind](**attributes) for kind, of, attributes in toxics if of == stream]
-            threads += [threading.Thread(target=self.read, args=(side, line)), threading.Thread(target=self.write, args=(side, line, mine))]
-        self.opened = time.monotonic()
-        for thread in threads:
-            thread.start()
-        for thread in threads:
-            thread.join()
-        for each in self.sockets:
-            each.close()
+            works += [functools.partial(self.read, side, line), functools.partial(self.write, side, line, mine)]
+        self.opened = clock.now()
+        clock.run(works)
+        for end in self.ends:
+            end.close()
 
-    @staticmethod
-    def play(act, connection):
+    def play(self, act, connection):
         with connection:
             try:
-                act(connection)
+                act(connection, self.clock)
             except GONE:
                 pass
 
@@ -90,10 +81,10 @@ class Proxy:
         data = b"more"
         while data:
             try:
-                data = self.sockets[side].recv(65536)
+                data = self.ends[side].recv(65536)
             except OSError:
                 data = b""
-            now = time.monotonic()
+            now = self.clock.now()
             self.came.append((now - self.opened, side, data))
             line.put((now, data))
 
@@ -105,18 +96,18 @@ class Proxy:
             for toxic in toxics if data else []:
                 pieces = [cut for due, piece in pieces for cut in (toxic.cut(due, piece) if piece else [(due, piece)])]
             for due, piece in pieces:
-                time.sleep(max(0, due - time.monotonic()))
+                self.clock.sleep(due - self.clock.now())
                 if piece is None:
                     return self.close()
                 try:
-                    self.sockets[1 - side].sendall(piece) if piece else self.sockets[1 - side].shutdown(socket.SHUT_WR)
+                    self.ends[1 - side].sendall(piece) if piece else self.ends[1 - side].shutdown(socket.SHUT_WR)
                 except OSError:
                     return
-                self.went.append((time.monotonic() - self.opened, side, piece))
+                self.went.append((self.clock.now() - self.opened, side, piece))
 
     def close(self):
-        for each in self.sockets:
+        for end in self.ends:
             try:
-                each.shutdown(socket.SHUT_RDWR)
+                end.shutdown(socket.SHUT_RDWR)
             except OSError:
                 pass

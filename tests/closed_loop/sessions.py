@@ -1,11 +1,10 @@
-"""The closed loop against real time: sessions of three protocols, recorded, and again through a proxy in real time.
+"""The closed loop against sessions of three protocols, which are recorded, and run again through a proxy.
 
-    live.py TOOL FOLDER
+    sessions.py TOOL FOLDER
 
-Each chunk of the closed loop, which TOOL (examples/closed_loop) stores in the folder, has to have come through the proxy within 50 ms or a fifth of
-its time, with IDLE=1 within 10 ms or a twentieth; a session that misses that is recorded and tried anew, four times. Prints what misses, with IDLE=1
-a table, and at last how many sessions are as they should be."""
-import contextlib
+TOOL (examples/closed_loop) stores a closed loop in the folder. Each of its chunks must come through the proxy within 10 microseconds, in simulated
+time. With IDLE=1 that is real time, for an idle machine: within 10 ms or a twentieth of the chunk's time, in one of five tries. Prints what misses,
+with IDLE=1 a table, and at last how many sessions are right."""
 import itertools
 import os
 import pathlib
@@ -15,12 +14,14 @@ import sys
 TOP = pathlib.Path(__file__).resolve().parents[2]
 sys.path.insert(0, str(TOP / "examples/suites/python"))
 from captures import ACK, FIN, PSH, SYN, Talk, pcap, scenario
+from clocks import RealTime, SimulatedTime
 from events import delivered
 from protocols import PROTOCOLS
 from proxy import Proxy
 
 IDLE = os.environ.get("IDLE") == "1"
-LEAST, PART = (0.010, 0.05) if IDLE else (0.050, 0.2)  # seconds, of the time
+# seconds, and of a chunk's time
+CLOCK, LEAST, PART, TRIES = (RealTime, 0.010, 0.05, 5) if IDLE else (SimulatedTime, 0.00001, 0, 1)
 WEATHER = [
     [("latency", "downstream", {"latency": 30})],
     [("latency", "downstream", {"latency": 20}), ("latency", "upstream", {"latency": 25})],
@@ -36,7 +37,7 @@ def recorded(came):
     """A capture of what a session sent, in microseconds."""
     talk = Talk()
     records = [(10**6, talk.send(side, flags)) for side, flags in ((0, SYN), (1, SYN | ACK), (0, ACK))]
-    for seconds, side, data in sorted(came):
+    for seconds, side, data in sorted(came, key=lambda each: each[0]):
         records.append((10**6 + round(seconds * 10**6), talk.send(side, ACK | (PSH if data else FIN), data)))
     return pcap(records)
 
@@ -51,35 +52,24 @@ def differences(loop, went):
     found = []
     for side, line in enumerate(loop):
         expected = reached([(at / 1e9, data) for at, data in line.chunks])
-        live = reached([(at, data) for at, of, data in went if of == side and data])
-        if [count for _, count in expected[-1:]] != [count for _, count in live[-1:]]:
+        came = reached([(at, data) for at, of, data in went if of == side and data])
+        if [count for _, count in expected[-1:]] != [count for _, count in came[-1:]]:
             return None
         for at, count in expected:
-            found.append((at, next(when for when, upto in live if upto >= count) - at))
+            found.append((at, next(when for when, upto in came if upto >= count) - at))
     return found
 
 
-def session(server, client, toxics):
-    """A session through a proxy, before all else that this machine does, where that is allowed."""
-    usual = os.sched_getscheduler(0), os.sched_getparam(0)
-    with contextlib.suppress(OSError):
-        os.sched_setscheduler(0, os.SCHED_FIFO, os.sched_param(1))
-    try:
-        return Proxy(server, client, toxics)
-    finally:
-        os.sched_setscheduler(0, *usual)
-
-
 def tried(tool, folder, protocol, toxics):
-    """A session, recorded and live: its open loop, its closed loop, and what went through the proxy."""
+    """A session, recorded and run again: its open loop, its closed loop, and what went through the proxy."""
     server, client = PROTOCOLS[protocol]
     capture, text, outputs = folder / "capture", folder / "scenario", []
-    capture.write_bytes(recorded(session(server, client, []).came))
+    capture.write_bytes(recorded(Proxy(CLOCK(), server, client, []).came))
     text.write_bytes(scenario(toxics))
     for command in [os.environ["TOXICAP"]], [sys.executable, "-B", tool]:
         subprocess.run([*command, "--capture", capture, "--scenario", text, "--out", folder], check=True, stdin=subprocess.DEVNULL)
         outputs += delivered((folder / "0000.pcap").read_bytes())
-    return (*outputs, session(server, client, toxics).went)
+    return (*outputs, Proxy(CLOCK(), server, client, toxics).went)
 
 
 def missed(found):
@@ -90,9 +80,9 @@ def missed(found):
 def main(tool, folder):
     count = 0
     if IDLE:
-        print("| protocol | toxics | open loop | closed loop | live | greatest difference |\n|---|---|---|---|---|---|")
+        print("| protocol | toxics | open loop | closed loop | proxy | greatest difference |\n|---|---|---|---|---|---|")
     for protocol, toxics in itertools.product(PROTOCOLS, WEATHER):
-        for _ in range(5):
+        for _ in range(TRIES):
             opened, loop, went = tried(tool, folder, protocol, toxics)
             found = differences(loop, went)
             if found and not missed(found):

@@ -8,7 +8,7 @@ use Rattle.conn_table.specs.declared.last_connections.LastConnections.{LastConne
 use Rattle.conn_table.specs.IndexedSegments.{same_pair}
 use Rattle.conn_table.specs.PairWords.{addrs_word, ports_word}
 
--- the slot of a pair among n; no proof needs more of it than that a pair has one
+-- The slot of a pair among n, a power of two: upper bits of a product, as in Fibonacci hashing. Proofs need only that a pair has one.
 unfoldable pub slot_of : ℕ → Pair → ℕ
 slot_of n p = bit_and (((addrs_word p + ports_word p) % 2 ^ 64 * 0x9e37_79b9_7f4a_7c15) % 2 ^ 64 / 2 ^ 32) (n - 1)
 

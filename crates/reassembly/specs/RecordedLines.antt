@@ -55,7 +55,7 @@ length_before base (Some m) gap = min (fin_position base m) gap
 abbrev pub line_length : ℕ → List TimedSegment → ℕ
 line_length base members = length_before base (fin_segment base members) (first_gap base members)
 
--- a byte is available when it and all before it have come; a chunk starts when that instant changes
+-- Byte x is available when the first x + 1 bytes have come. A chunk starts when that instant is another than that of the byte before.
 abbrev pub byte_at : ℕ → List TimedSegment → ℕ → LineByte
 byte_at base members x = record {
   value = value_at base members x;

@@ -56,7 +56,7 @@ applies toxic key = nat_lt (word_of key 0 % million) toxic.ppm
 abbrev pub after : ℕ → ℕ → ℕ → ℕ
 after ticks opened time = instant ticks (opened + millisecond ticks * time)
 
--- what a kind of toxic makes of a line of a connection opened at `opened`; `random` gives random words
+-- What a kind of toxic makes of a line of a connection opened at `opened`; `random` gives random words. A timeout lets no byte through.
 abbrev pub effect : ℕ → (ℕ → ℕ) → ℕ → Kind → Line → Line
 effect ticks random opened (Latency latency jitter) f = late_line ticks random latency jitter f
 effect ticks random opened (Bandwidth rate) f = rated_line ticks rate f
@@ -66,7 +66,7 @@ effect ticks random opened (Timeout time) f = timed_out time (after ticks opened
 effect ticks random opened (ResetPeer time) f = reset_at (after ticks opened time) f
 effect ticks random opened (SlowClose delay) f = slow_line (horizon ticks) (millisecond ticks * delay) f
 
--- a toxic that does not apply leaves the line as it is
+-- A toxic that applies lets the end be no earlier than the last byte (`ended`). One that does not apply leaves the line as it is.
 unfoldable pub run : ℕ → RatedKind → Key → ℕ → Line → Line
 run ticks toxic key opened f = if applies toxic key then ended (effect ticks (word_of key) opened toxic.kind f) else f
 

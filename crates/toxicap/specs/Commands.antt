@@ -23,19 +23,20 @@ use Rattle.run_files.specs.declared.outputs.Output.{Output}
 use Rattle.run_files.specs.Folders.{failed_stores}
 use Rattle.run_files.specs.Streams.{CountedView}
 use Rattle.toxicap.specs.Answering.{called_for}
-use Rattle.toxicap.specs.Inputs.{LoadedBy, LoadsCapture, LoadsFiles, hosts_asked, texts_or_bare}
+use Rattle.toxicap.specs.Inputs.{LoadedBy, LoadsCapture, LoadsFiles, hosts_asked, texts_or_no_proxies}
 use Rattle.toxicap.specs.PrintedReports.{PrintsOf}
 use Rattle.toxicap.specs.RunEnds.{Step, Tells, UnlessMemory, WritesText, Written, WrittenSoFar, status_of, usage_status, written}
 use Rattle.toxicap.specs.StoredOutputs.{StoresIn, ToldDisk}
 
--- What is said of the reader and the writer that a run has for standard input and output: that the reader is as it was, how a text was loaded from
--- it, and what was written. Nothing is said of what the disk reads at a path that leads there, such as `/dev/stdin`.
+-- Statements about the reader and the writer that a run has for standard input and output: the reader is as it was; a text was loaded from it like
+-- this; and those about what was written. Nothing is said of what the disk reads at a path that leads there, such as `/dev/stdin`.
 pub record Streams : Type 1 where
   pub Unread : Type 0
   pub Loaded : Result (List ℕ) RunFault → Type 0
   pub output : Written
 
--- the streams of a run: a reader is seen by the bytes that it has left, a writer by those that it holds, before and after
+-- The streams of a run. A reader is seen by the bytes that it has left (`remaining`), before as `r` and after as `s`; a writer by those that it
+-- holds (`contents`), before as `w` and after as `x`.
 abbrev pub streams : {R W : Type 0} → (R → Option (List ℕ)) → CountedView R → CountedView R → (W → Option (List ℕ)) → CountedView W → CountedView W → Streams
 streams remaining r s contents w x = record { Unread = s ≡ r; Loaded = LoadedBy remaining r s; output = written contents w x }
 
@@ -59,7 +60,7 @@ RunsBy asked outcome disk s =
     Step (UnlessMemory (hosts_asked asked)) outcome (Untouched disk s) (λ hosts.
     Step (LoadsFiles disk.before asked.scenarios.items) outcome (Untouched disk s) (λ files.
     Step (LoadsCapture disk.before asked.capture s.Unread s.Loaded) outcome (Unchanged disk s) (λ text.
-    AnswersInto asked.out outcome (called_for hosts (texts_or_bare files) asked.seed text) disk s)))
+    AnswersInto asked.out outcome (called_for hosts (texts_or_no_proxies files) asked.seed text) disk s)))
 
 -- how the program ends if its words have no usage fault
 abbrev pub CommandEnds : Result Asked Stop → Result (Unit {0}) RunFault → ToldDisk → Streams → Type 0
@@ -82,7 +83,7 @@ abbrev pub folder_of : Result Asked Stop → Option (Bor (List ℕ))
 folder_of (Ok asked) = asked.out
 folder_of (Err _) = None
 
--- the number of the disk's calls to hold a folder, or to allow or give a name, that failed in a run with this outcome
+-- the number of the disk's calls to hold a folder, or to allow or give a name, that failed in a run with this outcome: 0 or 1
 abbrev pub failed_calls : Option (Bor (List ℕ)) → Result (Unit {0}) RunFault → ℕ
 failed_calls None outcome = 0
 failed_calls (Some folder) outcome = failed_stores folder.now outcome

@@ -77,12 +77,12 @@ LoadsFiles told paths given =
     × IfSome told (λ h. UnlessMemory (texts_from (held_now h) [] (map (λ path. path.now) paths)) given)
 
 -- the scenario without proxies, which is used if no scenario is named
-abbrev pub bare_text : List ℕ
-bare_text = codes "[]"
+abbrev pub no_proxies : List ℕ
+no_proxies = codes "[]"
 
-abbrev pub texts_or_bare : List (List ℕ) → List (List ℕ)
-texts_or_bare [] = bare_text ∷ []
-texts_or_bare (text ∷ texts) = text ∷ texts
+abbrev pub texts_or_no_proxies : List (List ℕ) → List (List ℕ)
+texts_or_no_proxies [] = no_proxies ∷ []
+texts_or_no_proxies (text ∷ texts) = text ∷ texts
 
 -- ---- the capture
 

@@ -10,13 +10,13 @@ use Rattle.run_files.specs.declared.outputs.Output.{Output}
 use Rattle.run_files.specs.Streams.{CountedView}
 use Rattle.toxicap.specs.Answering.{called_for}
 use Rattle.toxicap.specs.Commands.{RunsBy, Streams, streams}
-use Rattle.toxicap.specs.Inputs.{LoadsCapture, hosts_asked, texts_from, texts_or_bare}
+use Rattle.toxicap.specs.Inputs.{LoadsCapture, hosts_asked, texts_from, texts_or_no_proxies}
 use Rattle.toxicap.specs.StoredOutputs.{told_disk}
 
 -- what a command line calls for, by what paths hold, and with the text of its capture
 abbrev pub outputs_asked : Held → Asked → List ℕ → Result (List Output) RunFault
 outputs_asked held asked text = and_then (hosts_asked asked) (λ hosts.
-    and_then (texts_from held [] (map (λ path. path.now) asked.scenarios.items)) (λ files. called_for hosts (texts_or_bare files) asked.seed text))
+    and_then (texts_from held [] (map (λ path. path.now) asked.scenarios.items)) (λ files. called_for hosts (texts_or_no_proxies files) asked.seed text))
 
 -- two runs call for the same outputs, whatever text each may have loaded as its capture
 abbrev pub CallForTheSame : History → Asked → Streams → History → Asked → Streams → Type 0

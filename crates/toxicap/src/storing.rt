@@ -27,8 +27,8 @@ use std::alloc::Global;
 use std::thread::Threads;
 
 /// Rehearses a capture under each of the scenarios and puts the files of their outputs into a folder, in order: those that `store_all`
-/// puts of what `rehearse` answers. The folder is held first, if there is a scenario. Rows are made of no more scenarios at once than
-/// there are workers, and there are drafts of at most twice as many.
+/// puts of what `rehearse` answers. The folder is held first, if there is a scenario. At one time at most one scenario for each worker
+/// has its rows in memory, and at most two for each worker have drafts.
 ///
 /// # Errors
 /// Those of `rehearse`, and [`RunFault::ShelfFailed`] at the first file that the folder does not take.

@@ -1,5 +1,5 @@
 //! A run that a command line asks for.
-ghost use Rattle.toxicap.specs.Inputs.{IsOfFiles, LoadedBy, LoadsCapture, texts_from, texts_or_bare};
+ghost use Rattle.toxicap.specs.Inputs.{IsOfFiles, LoadedBy, LoadsCapture, texts_from, texts_or_no_proxies};
 ghost use Rattle.disks.specs.Histories.{held_now};
 ghost use Rattle.std.specs.Prelude.{◌≡◌, ◌+◌, ◌-◌, ◌^◌, ◌<◌, ◌≤◌, ℕ, List, Result, map, IfErr, [], length, IfOk, IfSome};
 ghost use Rattle.lists.specs.Agreement.{AgreesUnlessMemory};
@@ -193,7 +193,7 @@ where
 }
 
 fn texts_of<'a>(alloc: Global, files: &'a [Vec<u8>]) -> Result<Vec<&'a [u8]>, AllocError>
-    ensures { IfOk result (λ texts. map (λ t. t.now) texts.items ≡ texts_or_bare (map (λ f. f.items) files.now)) }
+    ensures { IfOk result (λ texts. map (λ t. t.now) texts.items ≡ texts_or_no_proxies (map (λ f. f.items) files.now)) }
 {
     let mut texts = Vec::new(alloc);
     for file in files {

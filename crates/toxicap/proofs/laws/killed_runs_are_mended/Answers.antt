@@ -13,7 +13,7 @@ use Rattle.run_files.specs.Folders.{in_folder}
 use Rattle.run_files.specs.WrittenOutputs.{files_from}
 use Rattle.toxicap.specs.Answering.{called_for}
 use Rattle.toxicap.specs.Commands.{AnswersInto, RunsBy, Streams}
-use Rattle.toxicap.specs.Inputs.{LoadsCapture, LoadsFiles, hosts_asked, texts_from, texts_or_bare}
+use Rattle.toxicap.specs.Inputs.{LoadsCapture, LoadsFiles, hosts_asked, texts_from, texts_or_no_proxies}
 use Rattle.toxicap.specs.KilledRuns.{outputs_asked}
 use Rattle.toxicap.specs.RunEnds.{UnlessMemory}
 use Rattle.toxicap.specs.StoredOutputs.{told_disk}
@@ -54,7 +54,7 @@ module _ (named_again : NamedAgain) (old new cut mended : History) (n : ℕ) (pa
   answers_same (Some folder) None into expected again is s t one twice = absurd (cc)
 
 asked_for : (held : Held) (asked : Asked) (text : List ℕ) (hosts : List KnownHost) (files : List (List ℕ)) → hosts_asked asked ≡ Ok hosts
-    → texts_from held [] (map (λ path. path.now) asked.scenarios.items) ≡ Ok files → outputs_asked held asked text ≡ called_for hosts (texts_or_bare files) asked.seed text
+    → texts_from held [] (map (λ path. path.now) asked.scenarios.items) ≡ Ok files → outputs_asked held asked text ≡ called_for hosts (texts_or_no_proxies files) asked.seed text
 asked_for held asked text hosts files known read = rw (known, read) refl
 
 -- what a run that ended well called for

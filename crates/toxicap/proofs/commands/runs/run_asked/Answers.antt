@@ -2,7 +2,7 @@ use Rattle.std.proofs.Common.{◌≡◌, map, Ok, Err, refl, ◌∙◌}
 use Rattle.std.proofs.lemmas.List.{length-map}
 use Rattle.std.proofs.lemmas.Result.{err_from_is_err_and}
 use Rattle.run_files.specs.declared.error.RunFault.TheVariants.{Memory}
-use Rattle.toxicap.specs.Inputs.{texts_or_bare}
+use Rattle.toxicap.specs.Inputs.{texts_or_no_proxies}
 use Rattle.toxicap.proofs.RunSteps.{then_seen, then_unseen}
 use Rattle.toxicap.proofs.commands.runs.run_asked.Goals as goal
 
@@ -45,7 +45,7 @@ returns-in_default-clause-runs g c =
     let known = rw c.deref.ensures.value at c.in_ok-hosts.ensures.exact in
     let each = rw c.deref-2.ensures.value at c.in_ok-files.ensures.one_each in
     let told = rw c.deref-2.ensures.value at c.in_ok-files.ensures.told in
-    let are : map (λ t. t.now) c.in_ok-texts.texts.items ≡ texts_or_bare (map (λ f. f.items) c.in_ok-files.files.items) = rw c.deref-3.ensures.value at c.in_ok-texts.ensures in
+    let are : map (λ t. t.now) c.in_ok-texts.texts.items ≡ texts_or_no_proxies (map (λ f. f.items) c.in_ok-files.files.items) = rw c.deref-3.ensures.value at c.in_ok-texts.ensures in
     let (loaded, sees, within, loads) = c.in_ok-seen.ensures in
     let printed = rw (c.deref-in_default.ensures.value, are) at c.print_answers.ensures in (
       Ok c.in_ok-hosts.hosts,
@@ -73,6 +73,6 @@ returns-clause-runs g c =
     let known = rw c.deref.ensures.value at c.in_ok-hosts.ensures.exact in
     let each = rw c.deref-2.ensures.value at c.in_ok-files.ensures.one_each in
     let told = rw c.deref-2.ensures.value at c.in_ok-files.ensures.told in
-    let are : map (λ t. t.now) c.in_ok-texts.texts.items ≡ texts_or_bare (map (λ f. f.items) c.in_ok-files.files.items) = rw c.deref-3.ensures.value at c.in_ok-texts.ensures in
+    let are : map (λ t. t.now) c.in_ok-texts.texts.items ≡ texts_or_no_proxies (map (λ f. f.items) c.in_ok-files.files.items) = rw c.deref-3.ensures.value at c.in_ok-texts.ensures in
     let stored = rw (c.deref-4.ensures.value, are, c.new-folder.ensures) at c.store_answers.ensures.stored in
     (Ok c.in_ok-hosts.hosts, known, (Ok _, (length-map c.in_ok-files.files.items _ ∙ each, tt, told), (Ok c.in_ok-text.text, c.in_ok-text.ensures, rw c.in-Some.is (stored, refl))))

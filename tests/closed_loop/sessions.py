@@ -2,7 +2,7 @@
 
     sessions.py TOOL FOLDER
 
-TOOL (examples/closed_loop) stores a closed loop in the folder. Each of its chunks must come through the proxy within 10 microseconds, in simulated
+TOOL (examples/closed_loop) stores a closed loop in the folder. Each of its chunks must come through the proxy within a microsecond, in simulated
 time. With IDLE=1 that is real time, for an idle machine: within 10 ms or a twentieth of the chunk's time, in one of five tries. Prints what misses,
 with IDLE=1 a table, and at last how many sessions are right."""
 import itertools
@@ -21,7 +21,7 @@ from proxy import Proxy
 
 IDLE = os.environ.get("IDLE") == "1"
 # seconds, and of a chunk's time
-CLOCK, LEAST, PART, TRIES = (RealTime, 0.010, 0.05, 5) if IDLE else (SimulatedTime, 0.00001, 0, 1)
+CLOCK, LEAST, PART, TRIES = (RealTime, 0.010, 0.05, 5) if IDLE else (SimulatedTime, 0.000001, 0, 1)
 WEATHER = [
     [("latency", "downstream", {"latency": 30})],
     [("latency", "downstream", {"latency": 20}), ("latency", "upstream", {"latency": 25})],

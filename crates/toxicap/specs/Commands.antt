@@ -28,15 +28,16 @@ use Rattle.toxicap.specs.PrintedReports.{PrintsOf}
 use Rattle.toxicap.specs.RunEnds.{Step, Tells, UnlessMemory, WritesText, Written, WrittenSoFar, status_of, usage_status, written}
 use Rattle.toxicap.specs.StoredOutputs.{StoresIn, ToldDisk}
 
--- Statements about the reader and the writer that a run has for standard input and output: the reader is as it was; a text was loaded from it like
--- this; and those about what was written. Nothing is said of what the disk reads at a path that leads there, such as `/dev/stdin`.
+-- Statements about the reader and the writer that a run has for standard input and output. `Unread`: the reader is as it was. `Loaded`: loading
+-- from it gave this text, or this fault. `output`: what was written. Nothing is said of what the disk reads at a path that leads there, such as
+-- `/dev/stdin`.
 pub record Streams : Type 1 where
   pub Unread : Type 0
   pub Loaded : Result (List ℕ) RunFault → Type 0
   pub output : Written
 
--- The streams of a run. A reader is seen by the bytes that it has left (`remaining`), before as `r` and after as `s`; a writer by those that it
--- holds (`contents`), before as `w` and after as `x`.
+-- The streams of a run. `r` and `s` are the reader before and after, and `remaining` gives the bytes that it has left. `w` and `x` are the writer
+-- before and after, and `contents` gives the bytes that it holds.
 abbrev pub streams : {R W : Type 0} → (R → Option (List ℕ)) → CountedView R → CountedView R → (W → Option (List ℕ)) → CountedView W → CountedView W → Streams
 streams remaining r s contents w x = record { Unread = s ≡ r; Loaded = LoadedBy remaining r s; output = written contents w x }
 

@@ -12,7 +12,7 @@ class RealTime:
     """Sockets of 127.0.0.1, and this machine's time."""
 
     now = staticmethod(time.monotonic)
-    line = queue.SimpleQueue
+    queue = queue.SimpleQueue
 
     @staticmethod
     def sleep(seconds):
@@ -48,8 +48,8 @@ class SimulatedTime:
     def sleep(self, seconds):
         self.wait(lambda: False, self.seconds + max(0, seconds))
 
-    def line(self):
-        return Line(self)
+    def queue(self):
+        return Queue(self)
 
     def connection(self):
         one, other = Pipe(), Pipe()
@@ -92,7 +92,7 @@ class SimulatedTime:
             self.hand_on()
 
 
-class Line:
+class Queue:
     """A queue between two threads."""
 
     def __init__(self, clock):

@@ -1,5 +1,6 @@
-"""Plays the closed loop of a session whose answers queue: played.py TOOL CAPTURE SCENARIO FOLDER. A client that waits for each answer of 100 bytes has all
-of them when the closed loop has them, within a second; by the open loop it would take seconds longer. In five tries if the machine is busy."""
+"""Plays the closed loop of a session whose answers queue: played.py TOOL CAPTURE SCENARIO FOLDER. A client waits for each answer of 100 bytes. It has all of
+them at most 0.1 seconds before the closed loop has them, and at most a second after; by the open loop it would take seconds longer. If the machine is
+busy, it has five tries."""
 import pathlib
 import socket
 import subprocess
@@ -26,9 +27,9 @@ def main(tool, capture, scenario, folder):
     output, untouched = (pathlib.Path(folder, name).read_bytes() for name in ("0000.pcap", "0001.pcap"))
     [(up, down)] = delivered(output)
     expected, found = down.chunks[-1][0] / 10**9, []
-    while len(found) < 5 and not (found and expected <= found[-1] <= expected + 1):
+    while not found or len(found) < 5 and not -0.1 <= found[-1] - expected <= 1:
         found.append(played(output, untouched, len(up.data)))
-    print("played" if found[-1] <= expected + 1 else f"{found} seconds, and {expected} expected")
+    print("played" if -0.1 <= found[-1] - expected <= 1 else f"{found} seconds, and {expected} expected")
 
 
 if __name__ == "__main__":

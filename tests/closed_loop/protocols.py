@@ -1,4 +1,4 @@
-"""Three clients and servers that wait for one another. Each takes its end of a connection and a clock (clocks.py); it ends if the other side does."""
+"""Three clients and servers that wait for one another. Each takes its end of a connection and a clock (clocks.py), and returns when the other side has closed."""
 import http.client
 import struct
 import types

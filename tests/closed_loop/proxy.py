@@ -62,9 +62,9 @@ class Proxy:
             self.ends.append(near)
             works.append(functools.partial(self.play, act, far))
         for side, stream in enumerate(("upstream", "downstream")):
-            line = clock.line()
+            waiting = clock.queue()
             mine = [KINDS[kind](**attributes) for kind, of, attributes in toxics if of == stream]
-            works += [functools.partial(self.read, side, line), functools.partial(self.write, side, line, mine)]
+            works += [functools.partial(self.read, side, waiting), functools.partial(self.write, side, waiting, mine)]
         self.opened = clock.now()
         clock.run(works)
         for end in self.ends:
@@ -77,7 +77,7 @@ class Proxy:
             except GONE:
                 pass
 
-    def read(self, side, line):
+    def read(self, side, waiting):
         data = b"more"
         while data:
             try:
@@ -86,12 +86,12 @@ class Proxy:
                 data = b""
             now = self.clock.now()
             self.came.append((now - self.opened, side, data))
-            line.put((now, data))
+            waiting.put((now, data))
 
-    def write(self, side, line, toxics):
+    def write(self, side, waiting, toxics):
         data = b"more"
         while data:
-            pieces = [line.get()]
+            pieces = [waiting.get()]
             data = pieces[0][1]
             for toxic in toxics if data else []:
                 pieces = [cut for due, piece in pieces for cut in (toxic.cut(due, piece) if piece else [(due, piece)])]

@@ -2,9 +2,9 @@
 
     sessions.py TOOL FOLDER
 
-TOOL (examples/closed_loop) stores a closed loop in the folder. Each of its chunks must come through the proxy within a microsecond, in simulated
-time. With IDLE=1 that is real time, for an idle machine: within 10 ms or a twentieth of the chunk's time, in one of five tries. Prints what misses,
-with IDLE=1 a table, and at last how many sessions are right."""
+TOOL (examples/closed_loop) stores a closed loop in the folder. In simulated time each of its chunks must come through the proxy within a microsecond
+of its time. With IDLE=1 sessions run in real time, for an idle machine. Then the bound is 10 ms, or a twentieth of the chunk's time if longer, in one of
+five tries. Prints what misses, with IDLE=1 a table, and at last how many sessions are right."""
 import itertools
 import os
 import pathlib
@@ -20,7 +20,7 @@ from protocols import PROTOCOLS
 from proxy import Proxy
 
 IDLE = os.environ.get("IDLE") == "1"
-# seconds, and of a chunk's time
+# a chunk may miss its time by LEAST seconds, or by this PART of its time if longer
 CLOCK, LEAST, PART, TRIES = (RealTime, 0.010, 0.05, 5) if IDLE else (SimulatedTime, 0.000001, 0, 1)
 WEATHER = [
     [("latency", "downstream", {"latency": 30})],

@@ -62,7 +62,7 @@ fn reads_copied(rt: HostRuntime) {
     assert!(rt; buf.starts_with(b"read") && reader.copy.get_ref() == b"readre");
 }
 
-// The same of writes, and of what is flushed.
+// A failed write or flush is not tried again, and no other fails, although the copy has room for six bytes only.
 #[test]
 fn writes_copied(rt: HostRuntime) {
     let mut writer = TeeWriter {
@@ -70,8 +70,26 @@ fn writes_copied(rt: HostRuntime) {
         copy: Cursor::new([0u8; 6]),
     };
     assert!(rt; told(writer.write(b"written")) == Ok(4));
-    assert!(rt; told(writer.flush()) == Err(ErrorKind::Interrupted));
-    assert!(rt; told(writer.flush()) == Ok(()));
+    assert!(rt; told(writer.write(b"ten")) == Err(ErrorKind::Interrupted));
     assert!(rt; told(writer.write(b"ten")) == Ok(3));
     assert!(rt; writer.copy.get_ref() == b"writte");
+    writer.inner.calls_before = 0;
+    assert!(rt; told(writer.flush()) == Err(ErrorKind::Interrupted));
+    assert!(rt; told(writer.flush()) == Ok(()));
+}
+
+// If a copy fails, the read or write does not.
+#[test]
+fn failed_copies(rt: HostRuntime) {
+    let mut reader = TeeReader {
+        inner: FailsOnce { calls_before: 9 },
+        copy: FailsOnce { calls_before: 0 },
+    };
+    let mut buf = [0u8; 9];
+    assert!(rt; told(reader.read(&mut buf)) == Ok(4));
+    let mut writer = TeeWriter {
+        inner: FailsOnce { calls_before: 9 },
+        copy: FailsOnce { calls_before: 0 },
+    };
+    assert!(rt; told(writer.write(b"ten")) == Ok(3));
 }

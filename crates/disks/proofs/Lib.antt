@@ -1,2 +1,2 @@
 mod FolderPaths
-mod NamedFiles
+mod PublishedFiles

@@ -1,4 +1,4 @@
-pub mod ToldFiles
+pub mod FileContents
 pub mod DraftPaths
 pub mod ReadFiles
 pub mod Histories

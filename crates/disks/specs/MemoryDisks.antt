@@ -2,16 +2,16 @@
 use Rattle.std.specs.Prelude.{ℕ, List, fold, Option, Some, None}
 use Rattle.std.specs.Borrow.{Bor}
 use Rattle.disks.specs.declared.disk.FileId.{FileId}
-use Rattle.disks.specs.ToldFiles.{Held, ToldFile}
-use Rattle.disks.specs.Histories.{History, NamedFile, held_with}
+use Rattle.disks.specs.FileContents.{Held, FileContents}
+use Rattle.disks.specs.Histories.{History, PublishedFile, held_with}
 
 pub record PlacedFile : Type 0 where
   pub path : List ℕ
-  pub file : ToldFile
+  pub file : FileContents
 
 pub record MemoryDiskView : Type 0 where
   pub first : List PlacedFile
-  pub names : List NamedFile
+  pub published : List PublishedFile
   pub failed : ℕ
 
 abbrev pub nothing_held : Held
@@ -21,8 +21,8 @@ abbrev pub first_held : List PlacedFile → Held
 first_held files = fold (λ had f. held_with had f.path f.file) nothing_held files
 
 abbrev pub history_of : MemoryDiskView → History
-history_of disk = record { first = first_held disk.first; names = disk.names }
+history_of disk = record { first = first_held disk.first; published = disk.published }
 
-abbrev pub told_file : Option (Bor (List ℕ) × ℕ × FileId) → Option ToldFile
-told_file None = None
-told_file (Some found) = Some (record { bytes = found.0.now; lost = found.1 })
+abbrev pub found_contents : Option (Bor (List ℕ) × ℕ × FileId) → Option FileContents
+found_contents None = None
+found_contents (Some found) = Some (record { bytes = found.0.now; lost = found.1 })

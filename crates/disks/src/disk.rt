@@ -1,4 +1,4 @@
-//! What is asked of a disk: to open files and read them, and to keep drafts of files until they get their names.
+//! What is asked of a disk: to open files and read them, and to keep drafts of files until they are published.
 ghost use Rattle.std.specs.Prelude.{◌≡◌, ◌+◌, ◌-◌, ◌^◌, ◌<◌, is_ok, if◌then◌else◌};
 
 use crate::read_files::ReadFiles;
@@ -52,14 +52,14 @@ pub struct FileId {
     pub inode: u64,
 }
 
-/// A file that is open to be read. `told` is what is told of its bytes, or `None` if nothing is told.
+/// A file that is open to be read. `contents` is what it holds, or `None` if the disk does not tell that.
 /// `place` is the number of bytes that [`read`](DiskFile::read) has gone past.
 pub trait DiskFile {
     ghost use Rattle.std.specs.Prelude.{◌≡◌, ℕ, ◌+◌, ◌≤◌, Option, length, IfErr, IfOk, IfSome, OnErr};
-    ghost use Rattle.disks.specs.ToldFiles.{Reads, ToldFile, file_len};
+    ghost use Rattle.disks.specs.FileContents.{Reads, FileContents, file_len};
     ghost use Rattle.disks.specs.declared.disk.DiskFault.TheVariants.{Failed};
 
-    ghost told: { Self → Option ToldFile };
+    ghost contents: { Self → Option FileContents };
 
     ghost place: { Self → ℕ };
 
@@ -68,37 +68,37 @@ pub trait DiskFile {
 
     /// The number of bytes, or `None` if it is not known, such as that of a pipe.
     fn len(&self) -> Option<u64>
-        ensures { IfSome (told self.now) (λ file. IfSome result (λ len. len ≡ file_len file)) };
+        ensures { IfSome (contents self.now) (λ file. IfSome result (λ len. len ≡ file_len file)) };
 
     /// Reads once from a place on, at most as many bytes as `room` has. It reads 0 bytes only at the end.
     fn read_at(&self, room: &mut [u8], at: usize) -> Result<usize, DiskFault>
         ensures within { IfOk result (λ n. n ≤ length room.new) }
         ensures len { length room.new ≡ length room.old }
-        ensures told { IfSome (told self.now) (λ file. Reads result file at room.new) }
+        ensures contents { IfSome (contents self.now) (λ file. Reads result file at room.new) }
         ensures failed { IfErr result (λ fault. fault ≡ Failed) };
 
     /// Reads once from where the last read ended. If it fails, the place stays as it was.
     fn read(&mut self, room: &mut [u8]) -> Result<usize, DiskFault>
         ensures within { IfOk result (λ n. n ≤ length room.new) }
         ensures len { length room.new ≡ length room.old }
-        ensures told { IfSome (told self.old) (λ file. Reads result file (place self.old) room.new) }
-        ensures same { told self.new ≡ told self.old }
-        ensures place { IfSome (told self.old) (λ _. IfOk result (λ n. place self.new ≡ place self.old + n)) }
+        ensures contents { IfSome (contents self.old) (λ file. Reads result file (place self.old) room.new) }
+        ensures same { contents self.new ≡ contents self.old }
+        ensures place { IfSome (contents self.old) (λ _. IfOk result (λ n. place self.new ≡ place self.old + n)) }
         ensures failed { IfErr result (λ fault. fault ≡ Failed) }
         ensures as_before { OnErr result (place self.new ≡ place self.old) };
 }
 
-/// Where files are written: each as a draft, beside the others and by any thread if the disk is `Sync`, and named when it is whole.
-/// `history` is what the paths held at first and the files that got names since, or `None` if the disk does not tell that.
+/// Where files are written: each as a draft, beside the others and by any thread if the disk is `Sync`, and published when it is whole.
+/// `history` is what the paths held at first and the files that were published since, or `None` if the disk does not tell that.
 /// `faults` is the number of failed calls. A draft `holds` some bytes, and one that has failed holds whatever is asked.
-/// A draft begins at its `path_of`, which no file may get as its name. Drafts that are begun side by side need paths of their own.
+/// A draft begins at its `path_of`, at which no file may be published. Drafts that are begun side by side need paths of their own.
 pub trait Disk {
     ghost use Rattle.std.specs.Prelude.{◌≡◌, ℕ, ◌+◌, ◌-◌, ◌^◌, ◌<◌, [], ◌∷◌, ◌++◌, List, Option, OnErr, OnOk, is_ok, if◌then◌else◌, IfSome, IsSome, true};
     ghost use Rattle.std.specs.String.{string_bytes};
     ghost use Rattle.disks.specs.DraftPaths.{IsDraftPath};
-    ghost use Rattle.disks.specs.Histories.{History, Names, held_now, named_file};
+    ghost use Rattle.disks.specs.Histories.{History, Publishes, held_now, published_file};
 
-    /// A file that is written and has no name yet. If it is dropped, it leaves nothing.
+    /// A file that is written and not yet published. If it is dropped, it leaves nothing.
     type Draft: Drop;
 
     ghost history: { Self → Option History };
@@ -127,22 +127,22 @@ pub trait Disk {
         ensures path { path_of result ≡ string_bytes path }
         ensures taken { IfSome (history self.now) (λ h. IsSome (held_now h (string_bytes path)) → (bytes : List ℕ) → holds result bytes) };
 
-    /// Appends bytes to a draft. A draft that fails stays so, and gets no name.
+    /// Appends bytes to a draft. A draft that fails stays so, and is not published.
     fn append(draft: &mut Self::Draft, bytes: &[u8])
         ensures appended { (had : List ℕ) → holds draft.old had → holds draft.new (had ++ bytes.now) }
         ensures path { path_of draft.new ≡ path_of draft.old };
 
-    /// Refuses a name at which something except a file stands, or a file that may not be written, or one that this run has read.
-    fn allow_name(&mut self, path: &str, read: &ReadFiles) -> Result<(), DiskFault>
+    /// Refuses a path at which something except a file stands, or a file that may not be written, or one that this run has read.
+    fn allow_publishing(&mut self, path: &str, read: &ReadFiles) -> Result<(), DiskFault>
         requires { faults self.old < 2 ^ 64 - 1 }
         ensures as_before { history self.new ≡ history self.old }
         ensures counted { faults self.new ≡ (if is_ok result then faults self.old else faults self.old + 1) };
 
-    /// Gives a draft its name, in place of the file that had it. If it fails, the disk's files are as they were.
-    fn name(&mut self, draft: Self::Draft, path: &str) -> Result<(), DiskFault>
+    /// Publishes a draft as the file of a path, in place of the one that stood there. If it fails, the disk's files are as they were.
+    fn publish(&mut self, draft: Self::Draft, path: &str) -> Result<(), DiskFault>
         requires count { faults self.old < 2 ^ 64 - 1 }
         requires apart { IsDraftPath path.now → ⊥ }
-        ensures named { (bytes : List ℕ) → holds draft bytes → OnOk result (Names (history self.old) (history self.new) (named_file path.now bytes ∷ [])) }
+        ensures published { (bytes : List ℕ) → holds draft bytes → OnOk result (Publishes (history self.old) (history self.new) (published_file path.now bytes ∷ [])) }
         ensures as_before { OnErr result (history self.new ≡ history self.old) }
         ensures counted { faults self.new ≡ (if is_ok result then faults self.old else faults self.old + 1) };
 
@@ -153,7 +153,7 @@ pub trait Disk {
 /// A disk whose files can be read.
 pub trait ReadDisk: Disk {
     ghost use Rattle.std.specs.Prelude.{◌≡◌, IfOk, IfSome};
-    ghost use Rattle.disks.specs.ToldFiles.{Opens};
+    ghost use Rattle.disks.specs.FileContents.{Opens};
     ghost use Rattle.disks.specs.Histories.{held_now};
 
     /// An open file.
@@ -161,6 +161,6 @@ pub trait ReadDisk: Disk {
 
     /// Opens the file at a path, to be read from its first byte on.
     fn open(&self, alloc: Global, path: &str) -> Result<Self::File, DiskFault>
-        ensures told { IfSome (Self.history self.now) (λ h. Opens Self.File.told (held_now h path.now) result) }
+        ensures contents { IfSome (Self.history self.now) (λ h. Opens Self.File.contents (held_now h path.now) result) }
         ensures place { IfOk result (λ file. Self.File.place file ≡ 0) };
 }

@@ -44,8 +44,8 @@ impl<'a, F: Files> HostDisk<'a, F> {
         }
     }
 
-    // Refuses a name of anything except a file, of a file that may not be written, or of one that was read. A pipe is not opened: it would wait.
-    fn look_at_name(&self, path: &str, read: &ReadFiles) -> Result<(), DiskFault> {
+    // Refuses a path of anything except a file, of a file that may not be written, or of one that was read. A pipe is not opened: it would wait.
+    fn look_at(&self, path: &str, read: &ReadFiles) -> Result<(), DiskFault> {
         match fs::metadata(self.files, path) {
             Ok(metadata) if metadata.is_file() && !read.contains(id_of(&metadata)) => {
                 OpenOptions::new().write(true).open(self.files, path)?;
@@ -107,7 +107,7 @@ fn id_of(metadata: &Metadata) -> FileId {
     }
 }
 
-/// A draft of the host: a file, which is removed if the draft is dropped without a name.
+/// A draft of the host: a file, which is removed if the draft is dropped and was not published.
 pub struct HostDraft<'a, F: Files> {
     files: &'a F,
     path: String,
@@ -137,7 +137,7 @@ impl<'a, F: Files> HostDraft<'a, F> {
         }
     }
 
-    fn named(mut self, path: &str) -> Result<(), DiskFault> {
+    fn published(mut self, path: &str) -> Result<(), DiskFault> {
         if self.file.is_none() {
             return Err(DiskFault::Failed);
         }
@@ -216,16 +216,16 @@ where
         }
     }
 
-    fn allow_name(&mut self, path: &str, read: &ReadFiles) -> Result<(), DiskFault> {
-        let allowed = self.look_at_name(path, read);
+    fn allow_publishing(&mut self, path: &str, read: &ReadFiles) -> Result<(), DiskFault> {
+        let allowed = self.look_at(path, read);
         count_failure(&allowed, &mut self.failed);
         allowed
     }
 
-    fn name(&mut self, draft: HostDraft<'a, F>, path: &str) -> Result<(), DiskFault> {
-        let named = draft.named(path);
-        count_failure(&named, &mut self.failed);
-        named
+    fn publish(&mut self, draft: HostDraft<'a, F>, path: &str) -> Result<(), DiskFault> {
+        let published = draft.published(path);
+        count_failure(&published, &mut self.failed);
+        published
     }
 
     fn input_id(&self) -> Result<Option<FileId>, DiskFault> {
@@ -248,7 +248,7 @@ pub struct HostFile<F: OpenFile + FileExt + Read + Drop> {
 }
 
 impl<F: OpenFile + FileExt + Read + Drop> DiskFile for HostFile<F> {
-    ghost told = { λ _. None };
+    ghost contents = { λ _. None };
 
     ghost place = { λ _. 0 };
 

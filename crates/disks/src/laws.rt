@@ -1,15 +1,15 @@
 //! Theorems about the definitions of this crate. The contract of each function, which does nothing, is the theorem.
 ghost use Rattle.disks.specs.DraftPaths.{DraftsAreNamed};
-ghost use Rattle.disks.specs.Histories.{NamedAgain, NamesLeaveWhole};
+ghost use Rattle.disks.specs.Histories.{PublishedAgain, PublishingLeavesWhole};
 
-/// Whenever work is cut off, each path holds what it held before, or one whole file of those that were to get names.
-pub fn names_leave_whole()
-    ensures { NamesLeaveWhole }
+/// Whenever work is cut off, each path holds what it held before, or one whole file of those that were to be published.
+pub fn publishing_leaves_whole()
+    ensures { PublishingLeavesWhole }
 {}
 
-/// Files that are named by work that is cut off, and then again by the whole work, are as if the whole work were done once.
-pub fn named_again()
-    ensures { NamedAgain }
+/// Files that are published by work that is cut off, and then again by the whole work, are as if the whole work were done once.
+pub fn published_again()
+    ensures { PublishedAgain }
 {}
 
 /// The path of a file in a folder is that of a draft exactly if its name is one of a draft.

@@ -1,4 +1,4 @@
-//! Disks: they read files by their paths, and write a file whole before it gets its name. Only a disk in memory tells what it holds.
+//! Disks: they read files by their paths, and write a file whole before it is published. Only a disk in memory tells what it holds.
 #![tactic(auto)]
 
 mod disk;

@@ -31,11 +31,11 @@ struct WholeFile {
 
 impl Model for WholeFile {
     ghost use Rattle.std.specs.String.{string_bytes};
-    ghost use Rattle.disks.specs.Histories.{NamedFile, named_file};
+    ghost use Rattle.disks.specs.Histories.{PublishedFile, published_file};
 
-    ghost Value = { NamedFile };
+    ghost Value = { PublishedFile };
 
-    ghost view = { λ f. named_file (string_bytes f.path) f.bytes.items };
+    ghost view = { λ f. published_file (string_bytes f.path) f.bytes.items };
 }
 
 /// A disk in memory. Contracts see its history and the number of failed calls.
@@ -44,7 +44,7 @@ impl Model for WholeFile {
 pub struct MemoryDisk {
     alloc: Global,
     first: Vec<FirstFile>,
-    names: Vec<WholeFile>,
+    published: Vec<WholeFile>,
     failed: u64,
     good_calls: Option<u64>,
     draft_room: usize,
@@ -56,7 +56,7 @@ impl Model for MemoryDisk {
 
     ghost Value = { MemoryDiskView };
 
-    ghost view = { λ d. record { first = d.first.items; names = d.names.items; failed = d.failed } };
+    ghost view = { λ d. record { first = d.first.items; published = d.published.items; failed = d.failed } };
 }
 
 /// A draft of a disk in memory.
@@ -70,17 +70,17 @@ pub struct MemoryDraft {
 
 impl MemoryDisk {
     ghost use Rattle.std.specs.Prelude.{◌≡◌, [], ◌∷◌, ◌++◌, false, OnOk, OnErr, option_map};
-    ghost use Rattle.disks.specs.Histories.{held_now, named_file};
-    ghost use Rattle.disks.specs.MemoryDisks.{history_of, told_file};
+    ghost use Rattle.disks.specs.Histories.{held_now, published_file};
+    ghost use Rattle.disks.specs.MemoryDisks.{history_of, found_contents};
 
     /// A disk without files, of which no call has failed. It allocates nothing.
     pub fn new(alloc: Global) -> MemoryDisk
-        ensures { result ≡ record { first = []; names = []; failed = 0 } }
+        ensures { result ≡ record { first = []; published = []; failed = 0 } }
     {
         MemoryDisk {
             alloc,
             first: Vec::new(alloc),
-            names: Vec::new(alloc),
+            published: Vec::new(alloc),
             failed: 0,
             good_calls: None,
             draft_room: usize::MAX,
@@ -92,7 +92,7 @@ impl MemoryDisk {
     pub fn put_first(&mut self, path: &str, bytes: &[u8], lost: u32) -> Result<(), AllocError>
         ensures put { OnOk result (self.new ≡ record {
           first = self.old.first ++ record { path = path.now; file = record { bytes = bytes.now; lost = lost } } ∷ [];
-          names = self.old.names;
+          published = self.old.published;
           failed = self.old.failed;
         }) }
         ensures as_before { OnErr result (self.new ≡ self.old) }
@@ -103,7 +103,7 @@ impl MemoryDisk {
         Ok(())
     }
 
-    /// Makes one call of [`hold`](Disk::hold), [`name`](Disk::name) or [`allow_name`](Disk::allow_name) fail: the one after `calls` others.
+    /// Makes one call of [`hold`](Disk::hold), [`publish`](Disk::publish) or [`allow_publishing`](Disk::allow_publishing) fail: the one after `calls` others.
     pub fn fail_after(&mut self, calls: u64)
         ensures { self.new ≡ self.old }
     {
@@ -140,7 +140,7 @@ impl MemoryDisk {
 
     // The bytes of the file at a path, the number of lost ones after them, and its id: its place among the files that stand at paths, or did.
     fn find(&self, path: &str) -> Option<(&[u8], u32, FileId)>
-        ensures { told_file result ≡ held_now (history_of self.now) path.now }
+        ensures { found_contents result ≡ held_now (history_of self.now) path.now }
     {
         let mut found: Option<(&[u8], u32, FileId)> = None;
         for place in 0..self.first.len() {
@@ -149,8 +149,8 @@ impl MemoryDisk {
                 found = Some((file.bytes.as_slice(), file.lost, id_at(0, place)));
             }
         }
-        for place in 0..self.names.len() {
-            let file = &self.names[place];
+        for place in 0..self.published.len() {
+            let file = &self.published[place];
             if path == file.path.as_str() {
                 found = Some((file.bytes.as_slice(), 0, id_at(1, place)));
             }
@@ -158,7 +158,7 @@ impl MemoryDisk {
         found
     }
 
-    fn look_at_name(&mut self, path: &str, read: &ReadFiles) -> Result<(), DiskFault>
+    fn look_at(&mut self, path: &str, read: &ReadFiles) -> Result<(), DiskFault>
         ensures { self.new ≡ self.old }
     {
         if self.fails_now() {
@@ -179,9 +179,9 @@ impl MemoryDisk {
     }
 
     fn keep(&mut self, draft: MemoryDraft, path: &str) -> Result<(), DiskFault>
-        ensures named { OnOk result (self.new ≡ record {
+        ensures published { OnOk result (self.new ≡ record {
           first = self.old.first;
-          names = self.old.names ++ named_file path.now draft.bytes.items ∷ [];
+          published = self.old.published ++ published_file path.now draft.bytes.items ∷ [];
           failed = self.old.failed;
         }) }
         ensures whole { OnOk result (draft.has_failed ≡ false) }
@@ -191,7 +191,7 @@ impl MemoryDisk {
             return Err(DiskFault::Failed);
         }
         let path = String::from_str(self.alloc, path)?;
-        self.names
+        self.published
             .push(WholeFile {
                 path,
                 bytes: draft.bytes,
@@ -255,16 +255,16 @@ impl Disk for MemoryDisk {
         }
     }
 
-    fn allow_name(&mut self, path: &str, read: &ReadFiles) -> Result<(), DiskFault> {
-        let allowed = self.look_at_name(path, read);
+    fn allow_publishing(&mut self, path: &str, read: &ReadFiles) -> Result<(), DiskFault> {
+        let allowed = self.look_at(path, read);
         count_failure(&allowed, &mut self.failed);
         allowed
     }
 
-    fn name(&mut self, draft: MemoryDraft, path: &str) -> Result<(), DiskFault> {
-        let named = self.keep(draft, path);
-        count_failure(&named, &mut self.failed);
-        named
+    fn publish(&mut self, draft: MemoryDraft, path: &str) -> Result<(), DiskFault> {
+        let published = self.keep(draft, path);
+        count_failure(&published, &mut self.failed);
+        published
     }
 
     fn input_id(&self) -> Result<Option<FileId>, DiskFault> {

@@ -16,7 +16,7 @@ pub struct MemoryDiskFile {
 impl DiskFile for MemoryDiskFile {
     ghost use Rattle.std.specs.Prelude.{Some};
 
-    ghost told = { λ f. Some (record { bytes = f.bytes.items; lost = f.lost }) };
+    ghost contents = { λ f. Some (record { bytes = f.bytes.items; lost = f.lost }) };
 
     ghost place = { λ f. f.place };
 

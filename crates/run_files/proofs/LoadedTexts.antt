@@ -4,7 +4,7 @@ use Rattle.std.proofs.lemmas.Bool.{le-ltb, lt-ltb}
 use Rattle.std.proofs.lemmas.List.{take_all}
 use Rattle.std.specs.Io.KnownBytes.{Consumes, IsAtEnd}
 use Rattle.disks.specs.declared.disk.DiskFault.{DiskFault}
-use Rattle.disks.specs.ToldFiles.{ToldFile, Gives, Reads, file_len}
+use Rattle.disks.specs.FileContents.{FileContents, Gives, Reads, file_len}
 use Rattle.lists.specs.Agreement.{AgreesUnlessMemory}
 use Rattle.pcap_records.specs.Reading.{capture_limit}
 use Rattle.run_files.specs.declared.error.RunFault.{RunFault}
@@ -18,23 +18,23 @@ use Rattle.run_files.proofs.LoadedFiles.{whole_step}
 
 -- ---- one read of a file
 
-module _ (told between now : Option ToldFile) (bytes room : List ℕ) (place next : ℕ) (same : now ≡ between) (came : CameOf told between place bytes) where
-  pub more_came : (n : ℕ) → IfSome between (λ f. Gives f place room n) → IfSome between (λ f. next ≡ place + n) → CameOf told now next (bytes ++ take n room)
+module _ (contents between now : Option FileContents) (bytes room : List ℕ) (place next : ℕ) (same : now ≡ between) (came : CameOf contents between place bytes) where
+  pub more_came : (n : ℕ) → IfSome between (λ f. Gives f place room n) → IfSome between (λ f. next ≡ place + n) → CameOf contents now next (bytes ++ take n room)
   more_came n gives moved = (
     same ∙ came.0,
-    whole_step told bytes room (bytes ++ take n room) place next n came.1 (subst (λ t. IfSome t (λ f. Gives f place room n)) came.0 gives)
+    whole_step contents bytes room (bytes ++ take n room) place next n came.1 (subst (λ t. IfSome t (λ f. Gives f place room n)) came.0 gives)
         (subst (λ t. IfSome t (λ f. next ≡ place + n)) came.0 moved) refl,
   )
 
-  lost : (t : Option ToldFile) (fault : DiskFault) → IfSome t (λ f. HaveCome f bytes place) → IfSome t (λ f. Reads (Err fault) f place room) → next ≡ place
+  lost : (t : Option FileContents) (fault : DiskFault) → IfSome t (λ f. HaveCome f bytes place) → IfSome t (λ f. Reads (Err fault) f place room) → next ≡ place
       → IfSome t (λ f. HaveCome f bytes next × (length f.bytes ≤ next) × (next < file_len f))
   lost None fault come reads still = tt
   lost (Some f) fault come reads still = rw still (come, reads.0, reads.1)
 
-  pub failed_after : (fault : DiskFault) → IfSome between (λ f. Reads (Err fault) f place room) → next ≡ place → FailedAfter told now next bytes
-  failed_after fault reads still = (same ∙ came.0, lost told fault came.1 (subst (λ t. IfSome t (λ f. Reads (Err fault) f place room)) came.0 reads) still)
+  pub failed_after : (fault : DiskFault) → IfSome between (λ f. Reads (Err fault) f place room) → next ≡ place → FailedAfter contents now next bytes
+  failed_after fault reads still = (same ∙ came.0, lost contents fault came.1 (subst (λ t. IfSome t (λ f. Reads (Err fault) f place room)) came.0 reads) still)
 
-pub is_past : (told now : Option ToldFile) (room : List ℕ) (place next n : ℕ) → now ≡ told → IfSome told (λ f. Gives f place room n) → IfSome told (λ f. next ≡ place + n)
+pub is_past : (contents now : Option FileContents) (room : List ℕ) (place next n : ℕ) → now ≡ contents → IfSome contents (λ f. Gives f place room n) → IfSome contents (λ f. next ≡ place + n)
     → n ≡ 0 → 0 < length room → IsPast now next
 is_past None now room place next n same gives moved none some = rw same tt
 is_past (Some f) now room place next n same gives moved none some =
@@ -44,11 +44,11 @@ is_past (Some f) now room place next n same gives moved none some =
 -- ---- all of it
 
 -- none of a file yet
-pub none_come : (told : Option ToldFile) (place : ℕ) → place ≡ 0 → CameOf told told place []
+pub none_come : (contents : Option FileContents) (place : ℕ) → place ≡ 0 → CameOf contents contents place []
 none_come None place start = (refl, tt)
 none_come (Some f) place start = (refl, (refl, omega arith, start))
 
-module _ (f : ToldFile) (given : List ℕ) (place : ℕ) (come : HaveCome f given place) where
+module _ (f : FileContents) (given : List ℕ) (place : ℕ) (come : HaveCome f given place) where
   whole_text : file_len f ≤ place → length given ≤ capture_limit → text_of_file (Some f) ≡ Ok given
   whole_text over within =
       let fits : nat_lt capture_limit (length f.bytes) ≡ false = le-ltb capture_limit (length f.bytes) (omega (arith, over, come.1, come.2, within)) in
@@ -68,9 +68,9 @@ module _ (f : ToldFile) (given : List ℕ) (place : ℕ) (come : HaveCome f give
       rw (fits, some) refl
 
 -- the text of a file
-pub file_loaded : {A : Type 0} (view : A → List ℕ) (told now : Option ToldFile) (place : ℕ) (result : Result A RunFault) → IfOk result (λ x. length (view x) ≤ capture_limit)
-    → Loads (CameOf told now place) (FailedAfter told now place) (IsPast now place) view result
-    → IfErr result IsOfFile × IfSome told (λ f. AgreesUnlessMemory run_refusal view result (text_of_file (Some f)))
+pub file_loaded : {A : Type 0} (view : A → List ℕ) (contents now : Option FileContents) (place : ℕ) (result : Result A RunFault) → IfOk result (λ x. length (view x) ≤ capture_limit)
+    → Loads (CameOf contents now place) (FailedAfter contents now place) (IsPast now place) view result
+    → IfErr result IsOfFile × IfSome contents (λ f. AgreesUnlessMemory run_refusal view result (text_of_file (Some f)))
 file_loaded view None now place (Ok x) within is = (tt, tt)
 file_loaded view None now place (Err CaptureTooLong) within is = (tt, tt)
 file_loaded view None now place (Err ReadFailed) within is = (tt, tt)

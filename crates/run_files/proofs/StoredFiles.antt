@@ -5,8 +5,8 @@ use Rattle.std.proofs.lemmas.List.{drop_more, map-append}
 use Rattle.std.specs.Fmt.{decimal, padded_integral, format_spec, char_count}
 use Rattle.run_files.specs.declared.outputs.Output.{Output}
 use Rattle.run_files.specs.declared.error.StoreFault.{StoreFault}
-use Rattle.disks.specs.Histories.{History, NamedFile}
-use Rattle.run_files.specs.Folders.{in_folder, TakesIn}
+use Rattle.disks.specs.Histories.{History, PublishedFile}
+use Rattle.run_files.specs.Folders.{in_folder, CommitsIn}
 use Rattle.run_files.specs.Shelves.{Takes}
 use Rattle.run_files.specs.StoredFiles.{StoredFile}
 use Rattle.run_files.specs.WrittenOutputs.{four_digits, capture_file, report_file, files_from, stored_before, Stores, PutsAfter}
@@ -25,16 +25,16 @@ pub Takes-none : (a : Option (List StoredFile)) → Takes a a []
 Takes-none None = tt
 Takes-none (Some a) = sym (append-nil a)
 
-pub TakesIn-append : (folder : List ℕ) (a b c : Option History) (xs ys : List StoredFile) → TakesIn folder a b xs → TakesIn folder b c ys → TakesIn folder a c (xs ++ ys)
-TakesIn-append folder None b c xs ys p q = tt
-TakesIn-append folder (Some a) b c xs ys p q =
-    subst (λ o. TakesIn folder o c ys) p q
-    ∙ ap (λ (names : List NamedFile). Some (record { first = a.first; names = names }))
-    (append_assoc {A = NamedFile} a.names (map (in_folder folder) xs) (map (in_folder folder) ys) ∙ ap (λ (zs : List NamedFile). a.names ++ zs) (sym (map-append (in_folder folder) xs ys)))
+pub CommitsIn-append : (folder : List ℕ) (a b c : Option History) (xs ys : List StoredFile) → CommitsIn folder a b xs → CommitsIn folder b c ys → CommitsIn folder a c (xs ++ ys)
+CommitsIn-append folder None b c xs ys p q = tt
+CommitsIn-append folder (Some a) b c xs ys p q =
+    subst (λ o. CommitsIn folder o c ys) p q
+    ∙ ap (λ (published : List PublishedFile). Some (record { first = a.first; published = published }))
+    (append_assoc {A = PublishedFile} a.published (map (in_folder folder) xs) (map (in_folder folder) ys) ∙ ap (λ (zs : List PublishedFile). a.published ++ zs) (sym (map-append (in_folder folder) xs ys)))
 
-pub TakesIn-none : (folder : List ℕ) (a : Option History) → TakesIn folder a a []
-TakesIn-none folder None = tt
-TakesIn-none folder (Some a) = ap (λ (names : List NamedFile). Some (record { first = a.first; names = names })) (sym (append-nil a.names))
+pub CommitsIn-none : (folder : List ℕ) (a : Option History) → CommitsIn folder a a []
+CommitsIn-none folder None = tt
+CommitsIn-none folder (Some a) = ap (λ (published : List PublishedFile). Some (record { first = a.first; published = published })) (sym (append-nil a.published))
 
 pub next_files : (outputs : List Output) (n : ℕ) (o : Output) → n < length outputs → o ≡ get_or outputs n o
     → files_from n (drop n outputs) ≡ capture_file n o ∷ report_file n o ∷ files_from (n + 1) (drop (n + 1) outputs)

@@ -1,8 +1,8 @@
--- Folders of a disk: which names they refuse, where their drafts are, and which files they took.
+-- Folders of a disk: which names they refuse, where their drafts are, and which files were committed to them.
 use Rattle.std.specs.Prelude.{◌≡◌, ◌<◌, ◌^◌, ℕ, nat_lt, ◌==◌, Bool, ◌||◌, if◌then◌else◌, List, [], ◌++◌, codes, length, map, Option, Result}
 use Rattle.std.specs.Fmt.{decimal}
 use Rattle.disks.specs.DraftPaths.{has_slash, is_draft_name, path_in, unfinished}
-use Rattle.disks.specs.Histories.{History, NamedFile, named_file, Names}
+use Rattle.disks.specs.Histories.{History, PublishedFile, published_file, Publishes}
 use Rattle.run_files.specs.StoredFiles.{StoredFile}
 use Rattle.run_files.specs.declared.error.RunFault.{RunFault}
 use Rattle.run_files.specs.RunFault.{failed_puts}
@@ -31,10 +31,10 @@ abbrev pub DraftPathsDiffer : Type 0
 DraftPathsDiffer = (folder : List ℕ) (one other : ℕ) → 0 < length folder → one < 2 ^ 64 → other < 2 ^ 64
     → draft_path folder one ≡ draft_path folder other → one ≡ other
 
--- a stored file as a disk names it: its path in a folder, and its bytes
-abbrev pub in_folder : List ℕ → StoredFile → NamedFile
-in_folder folder file = named_file (path_in folder file.name) file.bytes
+-- a stored file as a disk publishes it: its path in a folder, and its bytes
+abbrev pub in_folder : List ℕ → StoredFile → PublishedFile
+in_folder folder file = published_file (path_in folder file.name) file.bytes
 
--- as far as the disk tells, exactly these files got names, in this order, all in this folder
-abbrev pub TakesIn : List ℕ → Option History → Option History → List StoredFile → Type 0
-TakesIn folder old new files = Names old new (map (in_folder folder) files)
+-- as far as the disk tells, exactly these files were published, in this order, all in this folder
+abbrev pub CommitsIn : List ℕ → Option History → Option History → List StoredFile → Type 0
+CommitsIn folder old new files = Publishes old new (map (in_folder folder) files)

@@ -1,6 +1,6 @@
 -- How all bytes of an input are loaded, a file of a disk or a reader.
 use Rattle.std.specs.Prelude.{◌≡◌, ◌≤◌, ◌<◌, ℕ, List, length, IfSome, Option, Result, Ok, Err}
-use Rattle.disks.specs.ToldFiles.{ToldFile, file_len}
+use Rattle.disks.specs.FileContents.{FileContents, file_len}
 use Rattle.pcap_records.specs.Reading.{capture_limit}
 use Rattle.run_files.specs.declared.error.RunFault.{RunFault}
 use Rattle.run_files.specs.declared.error.RunFault.TheVariants.{CaptureTooLong, Memory, ReadFailed}
@@ -28,13 +28,13 @@ abbrev pub LoadsAfter : {S A : Type 0} → (S → S → List ℕ → Type 0) →
     → Type 0
 LoadsAfter {S} Came Failed AtEnd from first to view result = (before : S) → Came before from first → Loads (Came before to) (Failed before to) (AtEnd to) view result
 
--- ---- a file, by what is told of it before and now, and its place
+-- ---- a file, by its contents before and now, and its place
 
-abbrev pub CameOf : Option ToldFile → Option ToldFile → ℕ → List ℕ → Type 0
-CameOf told now place bytes = (now ≡ told) × IfSome told (λ f. HaveCome f bytes place)
+abbrev pub CameOf : Option FileContents → Option FileContents → ℕ → List ℕ → Type 0
+CameOf contents now place bytes = (now ≡ contents) × IfSome contents (λ f. HaveCome f bytes place)
 
-abbrev pub FailedAfter : Option ToldFile → Option ToldFile → ℕ → List ℕ → Type 0
-FailedAfter told now place bytes = (now ≡ told) × IfSome told (λ f. HaveCome f bytes place × (length f.bytes ≤ place) × (place < file_len f))
+abbrev pub FailedAfter : Option FileContents → Option FileContents → ℕ → List ℕ → Type 0
+FailedAfter contents now place bytes = (now ≡ contents) × IfSome contents (λ f. HaveCome f bytes place × (length f.bytes ≤ place) × (place < file_len f))
 
-abbrev pub IsPast : Option ToldFile → ℕ → Type 0
-IsPast told place = IfSome told (λ f. file_len f ≤ place)
+abbrev pub IsPast : Option FileContents → ℕ → Type 0
+IsPast contents place = IfSome contents (λ f. file_len f ≤ place)

@@ -1,7 +1,7 @@
 //! Loading the text of a file, of a large one block by block, by workers.
 ghost use Rattle.std.specs.Prelude.{◌≡◌, ◌≤◌, ◌<◌, length, map, All, IfErr, IfOk, IfSome, Some};
 ghost use Rattle.std.specs.Option.{ForSome};
-ghost use Rattle.disks.specs.ToldFiles.{file_len};
+ghost use Rattle.disks.specs.FileContents.{file_len};
 ghost use Rattle.lists.specs.Agreement.{AgreesUnlessMemory};
 ghost use Rattle.pcap_records.specs.Blocks.{block_len, block_limit, bytes_until_short};
 ghost use Rattle.pcap_records.specs.Reading.{capture_limit};
@@ -31,7 +31,7 @@ pub(crate) fn load_text<R: Threads + Sync, F: DiskFile + Sync + Drop>(
     plan: Plan,
 ) -> Result<Text<'static>, RunFault>
     requires { F.place file ≡ 0 }
-    ensures told { IfSome (F.told file) (λ f. AgreesUnlessMemory run_refusal (λ text. text) result (text_of_file (Some f))) }
+    ensures contents { IfSome (F.contents file) (λ f. AgreesUnlessMemory run_refusal (λ text. text) result (text_of_file (Some f))) }
     ensures within { IfOk result (λ text. length text ≤ capture_limit) }
     ensures of_file { IfErr result IsOfFile }
 {
@@ -47,7 +47,7 @@ pub(crate) fn load_text<R: Threads + Sync, F: DiskFile + Sync + Drop>(
 
 // 0 if it is not known.
 fn block_count<F: DiskFile>(file: &F) -> usize
-    ensures { IfSome (F.told file.now) (λ f. 0 < result → HasBlocks result f) }
+    ensures { IfSome (F.contents file.now) (λ f. 0 < result → HasBlocks result f) }
 {
     match file.len() {
         Some(len) => (len as usize).div_ceil(BLOCK_LEN),
@@ -65,8 +65,8 @@ fn blocks_by_workers<R: Threads + Sync, F: DiskFile + Sync>(
 ) -> Result<Blocks, RunFault>
     requires some { 0 < count }
     requires few { count ≤ block_limit }
-    requires counted { IfSome (F.told file.now) (HasBlocks count) }
-    ensures told { IfSome (F.told file.now) (λ f. AgreesUnlessMemory run_refusal (λ blocks. blocks) result (text_of_file (Some f))) }
+    requires counted { IfSome (F.contents file.now) (HasBlocks count) }
+    ensures contents { IfSome (F.contents file.now) (λ f. AgreesUnlessMemory run_refusal (λ blocks. blocks) result (text_of_file (Some f))) }
     ensures within { IfOk result (λ blocks. length blocks ≤ capture_limit) }
     ensures of_file { IfErr result IsOfFile }
 {
@@ -92,7 +92,7 @@ struct BlockJobs<'f, F: DiskFile + Sync> {
     file: &'f F,
     count: usize,
     ghost few: { count ≤ block_limit },
-    ghost counted: { ForSome (F.told file.now) (HasBlocks count) },
+    ghost counted: { ForSome (F.contents file.now) (HasBlocks count) },
 }
 
 impl<'f, F: DiskFile + Sync> Work for BlockJobs<'f, F> {
@@ -102,7 +102,7 @@ impl<'f, F: DiskFile + Sync> Work for BlockJobs<'f, F> {
     ghost use Rattle.pcap_records.specs.Blocks.{block_limit};
     ghost use Rattle.run_files.specs.LoadedBlocks.{blocks_of};
 
-    ghost values = { λ w. blocks_of (F.told w.file.now) w.count };
+    ghost values = { λ w. blocks_of (F.contents w.file.now) w.count };
 
     fn value(&self, job: u64) -> Result<LoadedBlock<'f, F>, AllocError> {
         let at = job as usize * BLOCK_LEN;
@@ -115,7 +115,7 @@ impl<'f, F: DiskFile + Sync> Work for BlockJobs<'f, F> {
     }
 }
 
-// The bytes that a block has of its own, or why they were not loaded. Contracts see where it begins, and what is told of its file.
+// The bytes that a block has of its own, or why they were not loaded. Contracts see where it begins, and what its file holds.
 #[derive(Drop)]
 struct LoadedBlock<'f, F: DiskFile> {
     file: &'f F,
@@ -133,15 +133,15 @@ impl<'f, F: DiskFile> Model for LoadedBlock<'f, F> {
 
     ghost Value = { BlockView };
 
-    ghost view = { λ b. block_view (F.told b.file.now) b.at };
+    ghost view = { λ b. block_view (F.contents b.file.now) b.at };
 
     ghost invariant = { λ b. IfOk b.bytes (λ bytes. length bytes.items ≤ block_len) × IfErr b.bytes IsOfFile
-        × IfSome (F.told b.file.now) (λ f. AgreesUnlessMemory run_refusal (λ bytes. bytes.items) b.bytes (part_at f b.at)) };
+        × IfSome (F.contents b.file.now) (λ f. AgreesUnlessMemory run_refusal (λ bytes. bytes.items) b.bytes (part_at f b.at)) };
 }
 
 impl<'f, F: DiskFile> LoadedBlock<'f, F> {
     fn into_bytes(self) -> Result<Vec<u8>, RunFault>
-        ensures told { IfSome self.entry.told (λ f. AgreesUnlessMemory run_refusal (λ bytes. bytes.items) result (part_at f self.entry.at)) }
+        ensures contents { IfSome self.entry.contents (λ f. AgreesUnlessMemory run_refusal (λ bytes. bytes.items) result (part_at f self.entry.at)) }
         ensures short { IfOk result (λ bytes. length bytes.items ≤ block_len) }
         ensures of_file { IfErr result IsOfFile }
     {
@@ -157,9 +157,9 @@ fn parts_of<F: DiskFile>(
     blocks: Values<LoadedBlock<'_, F>>,
 ) -> Result<Vec<Vec<u8>>, RunFault>
     requires few { count ≤ block_limit }
-    requires counted { IfSome (F.told file.now) (HasBlocks count) }
-    requires blocks { blocks ≡ blocks_of (F.told file.now) count }
-    ensures told { IfSome (F.told file.now) (λ f.
+    requires counted { IfSome (F.contents file.now) (HasBlocks count) }
+    requires blocks { blocks ≡ blocks_of (F.contents file.now) count }
+    ensures contents { IfSome (F.contents file.now) (λ f.
         AgreesUnlessMemory run_refusal (λ parts. bytes_until_short (map (λ part. part.items) parts.items)) result (text_of_file (Some f))) }
     ensures short { IfOk result (λ parts. All (λ part. length part.items ≤ block_len) parts.items) }
     ensures count { IfOk result (λ parts. length parts.items ≤ count) }
@@ -178,8 +178,8 @@ fn parts_of<F: DiskFile>(
 // a block has of the next one.
 fn load_part<F: DiskFile>(alloc: Global, file: &F, start: usize) -> Result<Vec<u8>, RunFault>
     requires start { start ≤ capture_limit }
-    requires within { IfSome (F.told file.now) (λ f. start < file_len f) }
-    ensures told { IfSome (F.told file.now) (λ f. AgreesUnlessMemory run_refusal (λ part. part.items) result (part_at f start)) }
+    requires within { IfSome (F.contents file.now) (λ f. start < file_len f) }
+    ensures contents { IfSome (F.contents file.now) (λ f. AgreesUnlessMemory run_refusal (λ part. part.items) result (part_at f start)) }
     ensures short { IfOk result (λ part. length part.items ≤ block_len) }
     ensures of_file { IfErr result IsOfFile }
 {

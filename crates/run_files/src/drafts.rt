@@ -1,8 +1,8 @@
-//! Drafts of outputs, which get their names in a folder.
+//! Drafts of outputs, which are committed to a folder.
 ghost use Rattle.std.specs.Prelude.{◌≡◌, false, ℕ, List, ◌+◌, ◌-◌, ◌^◌, ◌<◌, ◌≤◌, ◌*◌, ◌++◌, [], ◌∷◌, length, OnOk};
 ghost use Rattle.run_files.specs.DraftedOutputs.{IsDraftOf};
 ghost use Rattle.disks.specs.DraftPaths.{has_slash};
-ghost use Rattle.run_files.specs.Folders.{TakesIn, failed_stores};
+ghost use Rattle.run_files.specs.Folders.{CommitsIn, failed_stores};
 ghost use Rattle.run_files.specs.RunFault.{outcome_of_storing};
 ghost use Rattle.run_files.specs.declared.outputs.Output.{Output};
 ghost use Rattle.run_files.specs.StoredFiles.{stored_file};
@@ -17,7 +17,7 @@ use std::alloc::Global;
 /// What one scenario answers, as drafts: its capture, and its report.
 pub type DraftedOutput<D> = (D, D);
 
-/// Gives the drafts of an output their names in a folder: they become the files that [`store_all`](crate::store_all) puts of the output of
+/// Commits the drafts of an output to a folder: they become the files that [`store_all`](crate::store_all) puts of the output of
 /// this number.
 ///
 /// # Errors
@@ -34,15 +34,15 @@ pub fn store_draft<D: Disk>(
     ensures faults { D.faults disk.new ≡ D.faults disk.old + failed_stores folder.now (outcome_of_storing result) }
     ensures path { OnOk result (0 < length folder.now) }
     ensures stores { (output : Output) → IsDraftOf D.holds output drafts
-        → Stores (2 * number) (files_from number (output ∷ [])) (TakesIn folder.now (D.history disk.old) (D.history disk.new)) result }
+        → Stores (2 * number) (files_from number (output ∷ [])) (CommitsIn folder.now (D.history disk.old) (D.history disk.new)) result }
 {
     let (capture, report) = drafts;
     let after = 2 * number as u64;
-    take_file(alloc, number, ".pcap", capture, folder, disk, after)?;
-    take_file(alloc, number, ".txt", report, folder, disk, after + 1)
+    commit_file(alloc, number, ".pcap", capture, folder, disk, after)?;
+    commit_file(alloc, number, ".txt", report, folder, disk, after + 1)
 }
 
-fn take_file<D: Disk>(
+fn commit_file<D: Disk>(
     alloc: Global,
     number: usize,
     ending: &str,
@@ -58,11 +58,11 @@ fn take_file<D: Disk>(
     ensures faults { D.faults disk.new ≡ D.faults disk.old + failed_stores folder.now (outcome_of_storing result) }
     ensures path { OnOk result (0 < length folder.now) }
     ensures puts { (bytes : List ℕ) → D.holds draft bytes → PutsAfter after
-        (TakesIn folder.now (D.history disk.old) (D.history disk.new) (stored_file (four_digits number ++ ending.now) bytes ∷ []))
+        (CommitsIn folder.now (D.history disk.old) (D.history disk.new) (stored_file (four_digits number ++ ending.now) bytes ∷ []))
         (D.history disk.new ≡ D.history disk.old) result }
 {
     let Ok(name) = file_name(alloc, number, ending) else {
         return Err(StoreFault::Memory { after });
     };
-    folder.take(alloc, disk, &name, draft, after)
+    folder.commit(alloc, disk, &name, draft, after)
 }

@@ -1,4 +1,4 @@
-//! Folders of a disk, in which a file gets its name when it is whole.
+//! Folders of a disk, to which a file is committed when it is whole.
 ghost use Rattle.std.specs.Prelude.{◌≡◌, IfOk};
 ghost use Rattle.std.specs.String.{string_bytes};
 ghost use Rattle.disks.specs.DraftPaths.{path_in};
@@ -16,7 +16,7 @@ const UNFINISHED: &str = "toxicap.unfinished";
 
 /// A folder of a disk. Contracts see its path; what its files are follows from the disk's history.
 ///
-/// A file is written as a draft beside the others, `toxicap.unfinished-0` at place 0, and gets its name when it is whole. So the file of a
+/// A file is written as a draft beside the others, `toxicap.unfinished-0` at place 0, and is committed when it is whole. So the file of a
 /// name is at any time the old one whole or the new one whole, even if the program is killed or the disk is full. A run
 /// [holds](Folder::hold) the folder first, and removes the drafts that killed runs left.
 ///
@@ -40,7 +40,7 @@ impl<'a> Folder<'a> {
     ghost use Rattle.std.specs.Prelude.{◌≡◌, ◌||◌, ℕ, List, length, ◌+◌, ◌-◌, ◌^◌, ◌<◌, ◌∷◌, [], false, Err, IfErr, IfOk, IsTrue, OnErr, OnOk};
     ghost use Rattle.std.specs.String.{string_bytes};
     ghost use Rattle.disks.specs.DraftPaths.{IsDraftPath};
-    ghost use Rattle.run_files.specs.Folders.{draft_path, failed_stores, is_refused, TakesIn};
+    ghost use Rattle.run_files.specs.Folders.{draft_path, failed_stores, is_refused, CommitsIn};
     ghost use Rattle.run_files.specs.RunFault.{failed_puts, outcome_of_storing};
     ghost use Rattle.run_files.specs.StoredFiles.{stored_file};
     ghost use Rattle.run_files.specs.WrittenOutputs.{PutsAfter, stored_before};
@@ -72,7 +72,7 @@ impl<'a> Folder<'a> {
     }
 
     /// Begins a draft without bytes, at the path of its place. Drafts that exist at once need places of their own, and so have paths of their
-    /// own ([`draft_paths_differ`](crate::laws::draft_paths_differ)). A draft that fails gets no name.
+    /// own ([`draft_paths_differ`](crate::laws::draft_paths_differ)). A draft that fails is not committed.
     pub fn draft<D: Disk>(
         &self,
         alloc: Global,
@@ -100,11 +100,11 @@ impl<'a> Folder<'a> {
         Ok(path)
     }
 
-    /// Gives a draft its name, after `after` other files. It is then a file of the folder.
+    /// Makes a draft the file of a name in the folder, after `after` other files.
     ///
     /// # Errors
     /// The folder refuses the name, or the disk or the draft failed. The disk's files are as they were.
-    pub fn take<D: Disk>(
+    pub fn commit<D: Disk>(
         &self,
         alloc: Global,
         disk: &mut D,
@@ -114,7 +114,7 @@ impl<'a> Folder<'a> {
     ) -> Result<(), StoreFault>
         requires { D.faults disk.old < 2 ^ 64 - 1 }
         ensures puts { (bytes : List ℕ) → D.holds draft bytes → PutsAfter after
-            (TakesIn self.now (D.history disk.old) (D.history disk.new) (stored_file name.now bytes ∷ [])) (D.history disk.new ≡ D.history disk.old) result }
+            (CommitsIn self.now (D.history disk.old) (D.history disk.new) (stored_file name.now bytes ∷ [])) (D.history disk.new ≡ D.history disk.old) result }
         ensures allowed { OnOk result (is_refused self.now name.now ≡ false) }
         ensures refused { IsTrue (is_refused self.now name.now) → result ≡ Err (StoreFault.ShelfFailed after) }
         ensures as_before { OnErr result (D.history disk.new ≡ D.history disk.old) }
@@ -127,10 +127,10 @@ impl<'a> Folder<'a> {
         let Ok(path) = path_in(alloc, self.path, name) else {
             return Err(StoreFault::Memory { after });
         };
-        if disk.allow_name(&path, &self.read).is_err() {
+        if disk.allow_publishing(&path, &self.read).is_err() {
             return Err(StoreFault::ShelfFailed { after });
         }
-        disk.name(draft, &path)
+        disk.publish(draft, &path)
             .map_err(|_| StoreFault::ShelfFailed { after })
     }
 

@@ -68,11 +68,11 @@ impl<F: DiskFile> Input for OpenFile<F> {
 
     ghost can_read = { λ o. Unit {0} };
 
-    ghost gives = { λ before now bytes. CameOf (F.told before.file) (F.told now.file) (F.place now.file) bytes };
+    ghost gives = { λ before now bytes. CameOf (F.contents before.file) (F.contents now.file) (F.place now.file) bytes };
 
-    ghost fails = { λ before now bytes. FailedAfter (F.told before.file) (F.told now.file) (F.place now.file) bytes };
+    ghost fails = { λ before now bytes. FailedAfter (F.contents before.file) (F.contents now.file) (F.place now.file) bytes };
 
-    ghost is_at_end = { λ o. IsPast (F.told o.file) (F.place o.file) };
+    ghost is_at_end = { λ o. IsPast (F.contents o.file) (F.place o.file) };
 
     fn read_more(&mut self, room: &mut [u8]) -> Option<usize> {
         match self.file.read(room) {
@@ -132,7 +132,7 @@ pub(crate) fn load_rest<I: Input>(
 // Loads all bytes of a file from its first on.
 pub(crate) fn load_whole<F: DiskFile + Drop>(alloc: Global, file: F) -> Result<Vec<u8>, RunFault>
     requires { F.place file ≡ 0 }
-    ensures told { IfSome (F.told file) (λ f. AgreesUnlessMemory run_refusal (λ bytes. bytes.items) result (text_of_file (Some f))) }
+    ensures contents { IfSome (F.contents file) (λ f. AgreesUnlessMemory run_refusal (λ bytes. bytes.items) result (text_of_file (Some f))) }
     ensures within { IfOk result (λ bytes. length bytes.items ≤ capture_limit) }
     ensures of_file { IfErr result IsOfFile }
 {

@@ -4,7 +4,7 @@ ghost use Rattle.disks.specs.Histories.{held_now};
 ghost use Rattle.run_files.specs.Paths.{IsOfFile, text_at};
 ghost use Rattle.run_files.specs.RunFault.{run_refusal};
 ghost use Rattle.std.specs.Prelude.{◌≡◌, ◌≤◌, length, IfErr, IfOk, IfSome, Err};
-ghost use Rattle.disks.specs.ToldFiles.{IsFileAt};
+ghost use Rattle.disks.specs.FileContents.{IsFileAt};
 ghost use Rattle.pcap_records.specs.Reading.{capture_limit};
 
 use crate::block_loading::load_text;
@@ -26,7 +26,7 @@ pub fn load_file<D: ReadDisk>(
     path: &str,
     read: &mut ReadFiles,
 ) -> Result<Vec<u8>, RunFault>
-    ensures told { IfSome (D.history disk.now) (λ h.
+    ensures contents { IfSome (D.history disk.now) (λ h.
         AgreesUnlessMemory run_refusal (λ bytes. bytes.items) result (text_at (held_now h) path.now)) }
     ensures within { IfOk result (λ bytes. length bytes.items ≤ capture_limit) }
     ensures of_file { IfErr result IsOfFile }
@@ -47,7 +47,7 @@ pub fn load_by_workers<R: Threads + Sync, D: ReadDisk>(
 ) -> Result<Text<'static>, RunFault>
 where
     D::File: Sync,
-    ensures told { IfSome (D.history disk.now) (λ h.
+    ensures contents { IfSome (D.history disk.now) (λ h.
         AgreesUnlessMemory run_refusal (λ text. text) result (text_at (held_now h) path.now)) }
     ensures within { IfOk result (λ text. length text ≤ capture_limit) }
     ensures of_file { IfErr result IsOfFile }
@@ -58,7 +58,7 @@ where
 }
 
 pub(crate) fn opened<D: ReadDisk>(alloc: Global, disk: &D, path: &str) -> Result<D::File, RunFault>
-    ensures told { IfSome (D.history disk.now) (λ h. IfOk result (λ file. IsFileAt (held_now h path.now) (D.File.told file))) }
+    ensures contents { IfSome (D.history disk.now) (λ h. IfOk result (λ file. IsFileAt (held_now h path.now) (D.File.contents file))) }
     ensures place { IfOk result (λ file. D.File.place file ≡ 0) }
     ensures untold { IfSome (D.history disk.now) (λ h. IfErr result (λ fault.
         IfSome (run_refusal fault) (λ refused. text_at (held_now h) path.now ≡ Err refused))) }

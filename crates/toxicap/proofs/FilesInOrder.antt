@@ -1,6 +1,6 @@
 -- Named files, which are loaded in order.
 use Rattle.std.proofs.Common.{◌≡◌, ℕ, List, [], ◌∷◌, ◌++◌, map, Ok, Err, refl, sym, ap, ◌∙◌, append-nil, append_assoc}
-use Rattle.disks.specs.ToldFiles.{Held}
+use Rattle.disks.specs.FileContents.{Held}
 use Rattle.run_files.specs.declared.error.RunFault.{RunFault}
 use Rattle.run_files.specs.Paths.{text_at}
 use Rattle.toxicap.specs.Inputs.{FilesAreLoadedInOrder, texts_from}

@@ -26,7 +26,7 @@ use Rattle.toxicap.specs.Answering.{called_for}
 use Rattle.toxicap.specs.Inputs.{LoadedBy, LoadsCapture, LoadsFiles, hosts_asked, texts_or_no_proxies}
 use Rattle.toxicap.specs.PrintedReports.{PrintsOf}
 use Rattle.toxicap.specs.RunEnds.{Step, Tells, UnlessMemory, WritesText, Written, WrittenSoFar, status_of, usage_status, written}
-use Rattle.toxicap.specs.StoredOutputs.{StoresIn, ToldDisk}
+use Rattle.toxicap.specs.StoredOutputs.{StoresIn, DiskHistories}
 
 -- Statements about the reader and the writer that a run has for standard input and output. `Unread`: the reader is as it was. `Loaded`: loading
 -- from it gave this text, or this fault. `output`: what was written. Nothing is said of what the disk reads at a path that leads there, such as
@@ -41,22 +41,22 @@ pub record Streams : Type 1 where
 abbrev pub streams : {R W : Type 0} → (R → Option (List ℕ)) → CountedView R → CountedView R → (W → Option (List ℕ)) → CountedView W → CountedView W → Streams
 streams remaining r s contents w x = record { Unread = s ≡ r; Loaded = LoadedBy remaining r s; output = written contents w x }
 
--- nothing was written, and as far as the disk tells no file got a name
-abbrev pub Unchanged : ToldDisk → Streams → Type 0
+-- nothing was written, and as far as the disk tells no file was published
+abbrev pub Unchanged : DiskHistories → Streams → Type 0
 Unchanged disk s = s.output.Unwritten × (disk.after ≡ disk.before)
 
 -- nor was standard input read; scenario files may have been
-abbrev pub Untouched : ToldDisk → Streams → Type 0
+abbrev pub Untouched : DiskHistories → Streams → Type 0
 Untouched disk s = s.Unread × Unchanged disk s
 
 -- Without a folder the reports are printed. With one the outputs are stored, and nothing is printed.
-abbrev pub AnswersInto : Option (Bor (List ℕ)) → Result (Unit {0}) RunFault → Result (List Output) RunFault → ToldDisk → Streams → Type 0
+abbrev pub AnswersInto : Option (Bor (List ℕ)) → Result (Unit {0}) RunFault → Result (List Output) RunFault → DiskHistories → Streams → Type 0
 AnswersInto None outcome expected disk s = PrintsOf outcome expected s.output × (disk.after ≡ disk.before)
 AnswersInto (Some folder) outcome expected disk s = StoresIn folder.now outcome expected disk × s.output.Unwritten
 
 -- The steps of a run, and how it ends: it reads the hosts, loads the scenario files and then the capture, and answers what the capture's text
 -- calls for. The fault of a step is the outcome.
-abbrev pub RunsBy : Asked → Result (Unit {0}) RunFault → ToldDisk → Streams → Type 0
+abbrev pub RunsBy : Asked → Result (Unit {0}) RunFault → DiskHistories → Streams → Type 0
 RunsBy asked outcome disk s =
     Step (UnlessMemory (hosts_asked asked)) outcome (Untouched disk s) (λ hosts.
     Step (LoadsFiles disk.before asked.scenarios.items) outcome (Untouched disk s) (λ files.
@@ -64,7 +64,7 @@ RunsBy asked outcome disk s =
     AnswersInto asked.out outcome (called_for hosts (texts_or_no_proxies files) asked.seed text) disk s)))
 
 -- how the program ends if its words have no usage fault
-abbrev pub CommandEnds : Result Asked Stop → Result (Unit {0}) RunFault → ToldDisk → Streams → Type 0
+abbrev pub CommandEnds : Result Asked Stop → Result (Unit {0}) RunFault → DiskHistories → Streams → Type 0
 CommandEnds (Ok asked) outcome disk s = RunsBy asked outcome disk s
 CommandEnds (Err (stop.Shown text)) outcome disk s = WritesText outcome (string_bytes text) s.output × s.Unread × (disk.after ≡ disk.before)
 CommandEnds (Err (stop.Usage text)) outcome disk s = ⊥
@@ -72,7 +72,7 @@ CommandEnds (Err stop.Memory) outcome disk s = (outcome ≡ Err Memory) × Untou
 
 -- The exit status of the program, and the outcome that it stands for. A usage fault has status 2. Its outcome is Ok, since no run was begun, and
 -- nothing is read or written except what tells the fault.
-abbrev pub ProgramEnds : Result Asked Stop → ℕ → Result (Unit {0}) RunFault → ToldDisk → Streams → Written → Type 0
+abbrev pub ProgramEnds : Result Asked Stop → ℕ → Result (Unit {0}) RunFault → DiskHistories → Streams → Written → Type 0
 ProgramEnds (Err (stop.Usage text)) status outcome disk s faults =
     (status ≡ usage_status) × IsOk outcome × WrittenSoFar (string_bytes text) faults × Untouched disk s
 ProgramEnds line status outcome disk s faults = CommandEnds line outcome disk s × (status ≡ status_of outcome) × Tells outcome faults

@@ -7,7 +7,7 @@ use Rattle.scenarios.specs.Hosts.{host_for}
 use Rattle.scenarios.specs.Refusals.{and_then, with}
 use Rattle.scenarios.specs.declared.hosts.KnownHost.{KnownHost}
 use Rattle.command_line.specs.declared.asked.Asked.{Asked}
-use Rattle.disks.specs.ToldFiles.{Held}
+use Rattle.disks.specs.FileContents.{Held}
 use Rattle.disks.specs.Histories.{History, held_now}
 use Rattle.run_files.specs.declared.error.RunFault.{RunFault}
 use Rattle.run_files.specs.declared.error.RunFault.TheVariants.{BadHost, CaptureTooLong, Memory, ReadFailed}
@@ -72,9 +72,9 @@ IsOfFiles count _ = ⊥
 
 -- How the files at some paths are loaded: each gives one text, or a fault of one is given. If the disk tells what its paths hold, it is by that.
 abbrev pub LoadsFiles : Option History → List (Bor (List ℕ)) → Result (List (List ℕ)) RunFault → Type 0
-LoadsFiles told paths given =
+LoadsFiles history paths given =
     IfOk given (λ texts. length texts ≡ length paths) × IfErr given (IsOfFiles (length paths))
-    × IfSome told (λ h. UnlessMemory (texts_from (held_now h) [] (map (λ path. path.now) paths)) given)
+    × IfSome history (λ h. UnlessMemory (texts_from (held_now h) [] (map (λ path. path.now) paths)) given)
 
 -- the scenario without proxies, which is used if no scenario is named
 abbrev pub no_proxies : List ℕ
@@ -96,7 +96,7 @@ LoadedBy remaining r s given =
 -- file at the path, within the limit, and that reader is as it was (`Unread`). The path may lead to standard input too, as `/dev/stdin` does: what is
 -- read there is a file of the disk.
 abbrev pub LoadsCapture : Option History → Option (Bor (List ℕ)) → Type 0 → (Result (List ℕ) RunFault → Type 0) → Result (List ℕ) RunFault → Type 0
-LoadsCapture told path Unread Loaded given =
+LoadsCapture history path Unread Loaded given =
     IfNone path (Loaded given)
     × IfSome path (λ p. Unread × IfOk given (λ text. length text ≤ capture_limit) × IfErr given IsOfFile
-    × IfSome told (λ h. UnlessMemory (text_at (held_now h) p.now) given))
+    × IfSome history (λ h. UnlessMemory (text_at (held_now h) p.now) given))

@@ -1,7 +1,7 @@
 -- Runs of the program that are cut off at any moment, and then begun anew.
 use Rattle.std.specs.Prelude.{◌≡◌, ◌≤◌, ℕ, List, [], length, map, Option, Some, Result, Ok}
 use Rattle.scenarios.specs.Refusals.{and_then}
-use Rattle.disks.specs.ToldFiles.{Held}
+use Rattle.disks.specs.FileContents.{Held}
 use Rattle.disks.specs.Histories.{History, held_at, held_now}
 use Rattle.command_line.specs.Asking.{ReadsAs}
 use Rattle.command_line.specs.declared.asked.Asked.{Asked}
@@ -11,7 +11,7 @@ use Rattle.run_files.specs.Streams.{CountedView}
 use Rattle.toxicap.specs.Answering.{called_for}
 use Rattle.toxicap.specs.Commands.{RunsBy, Streams, streams}
 use Rattle.toxicap.specs.Inputs.{LoadsCapture, hosts_asked, texts_from, texts_or_no_proxies}
-use Rattle.toxicap.specs.StoredOutputs.{told_disk}
+use Rattle.toxicap.specs.StoredOutputs.{disk_histories}
 
 -- what a command line calls for, by what paths hold, and with the text of its capture
 abbrev pub outputs_asked : Held → Asked → List ℕ → Result (List Output) RunFault
@@ -24,15 +24,15 @@ CallForTheSame old asked s cut again t =
     (one two : List ℕ) → LoadsCapture (Some old) asked.capture s.Unread s.Loaded (Ok one) → LoadsCapture (Some cut) again.capture t.Unread t.Loaded (Ok two)
     → outputs_asked (held_now cut) again two ≡ outputs_asked (held_now old) asked one
 
--- A run ends well over a disk with the history `old`, and leaves `new`. At a moment of that run n files had names; the same words are run
+-- A run ends well over a disk with the history `old`, and leaves `new`. At a moment of that run n files had been published; the same words are run
 -- over a disk whose paths hold what they held then. If this run calls for the same outputs and ends well, each path holds what it holds after
 -- the one whole run.
 abbrev pub KilledRunsAreMended : {R W : Type 0} → (R → Option (List ℕ)) → (W → Option (List ℕ)) → Type 0
 KilledRunsAreMended remaining contents =
     (words : List (List ℕ)) (asked again : Asked) (old new cut mended : History) (n : ℕ) (path : List ℕ)
     (r r2 s s2 : CountedView _) (w w2 x x2 : CountedView _)
-    → ReadsAs words (Ok asked) → RunsBy asked (Ok tt) (told_disk (Some old) (Some new)) (streams remaining r r2 contents w w2)
-    → length old.names ≤ n → ((p : List ℕ) → held_now cut p ≡ held_at new n p)
-    → ReadsAs words (Ok again) → RunsBy again (Ok tt) (told_disk (Some cut) (Some mended)) (streams remaining s s2 contents x x2)
+    → ReadsAs words (Ok asked) → RunsBy asked (Ok tt) (disk_histories (Some old) (Some new)) (streams remaining r r2 contents w w2)
+    → length old.published ≤ n → ((p : List ℕ) → held_now cut p ≡ held_at new n p)
+    → ReadsAs words (Ok again) → RunsBy again (Ok tt) (disk_histories (Some cut) (Some mended)) (streams remaining s s2 contents x x2)
     → CallForTheSame old asked (streams remaining r r2 contents w w2) cut again (streams remaining s s2 contents x x2)
     → held_now mended path ≡ held_now new path

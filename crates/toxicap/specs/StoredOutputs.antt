@@ -4,30 +4,30 @@ use Rattle.disks.specs.Histories.{History, LeavesWhole}
 use Rattle.run_files.specs.declared.error.RunFault.{RunFault}
 use Rattle.run_files.specs.declared.error.RunFault.TheVariants.{Memory, ShelfFailed}
 use Rattle.run_files.specs.declared.outputs.Output.{Output}
-use Rattle.run_files.specs.Folders.{TakesIn, in_folder}
+use Rattle.run_files.specs.Folders.{CommitsIn, in_folder}
 use Rattle.run_files.specs.StoredFiles.{StoredFile}
 use Rattle.run_files.specs.WrittenOutputs.{files_from}
 use Rattle.toxicap.specs.RunEnds.{Step, UnlessMemory}
 
 -- a disk's history before and after a run, or none if the disk tells none
-pub record ToldDisk : Type 0 where
+pub record DiskHistories : Type 0 where
   pub before : Option History
   pub after : Option History
 
-abbrev pub told_disk : Option History → Option History → ToldDisk
-told_disk before after = record { before = before; after = after }
+abbrev pub disk_histories : Option History → Option History → DiskHistories
+disk_histories before after = record { before = before; after = after }
 
--- How storing files ends, where `Took` says which files got names: on Ok all; if the folder fails, the first `after`; if memory runs out, some
+-- How storing files ends, where `Committed` says which files were: on Ok all; if the folder fails, the first `after`; if memory runs out, some
 -- first ones, never the last.
 abbrev pub StoresFiles : Result (Unit {0}) RunFault → List StoredFile → (List StoredFile → Type 0) → Type 0
-StoresFiles (Ok _) files Took = Took files
-StoresFiles (Err (ShelfFailed after)) files Took = (after < length files) × Took (take after files)
-StoresFiles (Err Memory) files Took = (stored : ℕ) × (stored ≤ length files - 1) × Took (take stored files)
-StoresFiles (Err _) files Took = ⊥
+StoresFiles (Ok _) files Committed = Committed files
+StoresFiles (Err (ShelfFailed after)) files Committed = (after < length files) × Committed (take after files)
+StoresFiles (Err Memory) files Committed = (stored : ℕ) × (stored ≤ length files - 1) × Committed (take stored files)
+StoresFiles (Err _) files Committed = ⊥
 
--- How storing in a folder ends, by what is expected: if that is a fault, no file gets a name. Else files are stored in order until one fails.
+-- How storing in a folder ends, by what is expected: if that is a fault, no file is published. Else files are stored in order until one fails.
 -- At any moment each path held what it had held before, or one of these files whole; drafts are in no history.
-abbrev pub StoresIn : List ℕ → Result (Unit {0}) RunFault → Result (List Output) RunFault → ToldDisk → Type 0
+abbrev pub StoresIn : List ℕ → Result (Unit {0}) RunFault → Result (List Output) RunFault → DiskHistories → Type 0
 StoresIn folder outcome expected disk = Step (UnlessMemory expected) outcome (disk.after ≡ disk.before) (λ outputs.
-    StoresFiles outcome (files_from 0 outputs) (TakesIn folder disk.before disk.after)
+    StoresFiles outcome (files_from 0 outputs) (CommitsIn folder disk.before disk.after)
     × LeavesWhole disk.before disk.after (map (in_folder folder) (files_from 0 outputs)))

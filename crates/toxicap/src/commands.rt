@@ -6,7 +6,7 @@ ghost use Rattle.command_line.specs.declared.asked.Asked.{Asked};
 ghost use Rattle.command_line.specs.declared.error.Stop.{Stop};
 ghost use Rattle.toxicap.specs.Commands.{ProgramEnds, failed_calls, folder_of, streams};
 ghost use Rattle.toxicap.specs.RunEnds.{Tells, WrittenSoFar, no_text, status_of, text_with_line_feed, usage_status, written};
-ghost use Rattle.toxicap.specs.StoredOutputs.{told_disk};
+ghost use Rattle.toxicap.specs.StoredOutputs.{disk_histories};
 
 mod runs;
 
@@ -52,7 +52,7 @@ where
     ensures usage { result ≡ 2 → (input.new ≡ input.old) × (output.new ≡ output.old) }
 
     ensures ends { (line : Result Asked Stop) × (outcome : Result (Unit {0}) RunFault) × ReadsAs (map S.text words.now) line
-        × ProgramEnds line result outcome (told_disk None None)
+        × ProgramEnds line result outcome (disk_histories None None)
         (streams I.remaining input.old input.new O.contents output.old output.new) (written E.contents faults.old faults.new) }
 {
     let mut disk = HostDisk::new(rt);
@@ -64,10 +64,10 @@ where
 ///
 /// If the disk tells its history, the outcome follows from it: each scenario is the text at its own path, and the capture that at its path;
 /// of several files at fault the first counts, in the order of the scenarios, and then the capture. After a run of status 0 the files of the
-/// outputs have got their names in the folder, and no others have; if the folder fails or memory runs out, a first part of them has; at any
-/// other refusal, and without `--out`, the disk is as it was. Of the disk's calls that hold a folder, allow a name or give one, one has failed
+/// outputs stand in the folder, and no others were published; if the folder fails or memory runs out, a first part of them was; at any
+/// other refusal, and without `--out`, the disk is as it was. Of the calls that hold a folder, check a path or publish a draft, one has failed
 /// exactly if a file could not be stored in a folder that has a path. Whenever the run is cut off, each path holds what it held before it, or
-/// the whole file that it was to get.
+/// the whole file that was to be published there.
 pub fn command_over<
     H: Threads + Wait + Sync,
     D: ReadDisk + Sync,
@@ -95,7 +95,7 @@ where
     ensures quiet { result.0 ≡ 0 → faults.new ≡ faults.old }
     ensures usage { result.0 ≡ 2 → (input.new ≡ input.old) × (output.new ≡ output.old) }
     ensures ends { (line : Result Asked Stop) × ReadsAs (map S.text words.now) line
-        × ProgramEnds line result.0 result.1 (told_disk (D.history disk.old) (D.history disk.new))
+        × ProgramEnds line result.0 result.1 (disk_histories (D.history disk.old) (D.history disk.new))
         (streams I.remaining input.old input.new O.contents output.old output.new) (written E.contents faults.old faults.new)
         × (D.faults disk.new ≡ D.faults disk.old + failed_calls (folder_of line) result.1) }
 {

@@ -7,7 +7,7 @@ ghost use Rattle.toxicap.specs.Inputs.{FilesAreLoadedInOrder};
 ghost use Rattle.toxicap.specs.Rehearsal.{ByteOrderDoesNotMatter};
 ghost use Rattle.toxicap.specs.SeenLengths.{ReportsSeeLengths};
 
-use disks::laws::named_again;
+use disks::laws::published_again;
 use frame_headers::laws::{headers_are_sound, segments_fit};
 use pcap_records::laws::{readings_split, written_is_read};
 use report_laws::laws::report_sees_lengths;
@@ -48,7 +48,7 @@ pub fn files_are_loaded_in_order()
 pub fn killed_runs_are_mended<I: Read, O: Write>()
     ensures { KilledRunsAreMended I.remaining O.contents }
 {
-    named_again();
+    published_again();
 }
 
 /// Two captures that differ only in bytes of the payloads of TCP segments have the same reports, whatever the scenarios and the seed, or the

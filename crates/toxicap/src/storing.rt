@@ -4,7 +4,7 @@ ghost use Rattle.lists.specs.Agreement.{Agrees};
 ghost use Rattle.pcap_records.specs.CaptureView.{bytes_of};
 ghost use Rattle.run_files.specs.declared.error.RunFault.{RunFault};
 ghost use Rattle.run_files.specs.declared.outputs.Output.{Output};
-ghost use Rattle.run_files.specs.Folders.{TakesIn, failed_stores};
+ghost use Rattle.run_files.specs.Folders.{CommitsIn, failed_stores};
 ghost use Rattle.run_files.specs.RunFault.{outcome_of_storing, run_refusal};
 ghost use Rattle.run_files.specs.WrittenOutputs.{files_from, stored_before};
 ghost use Rattle.toxicap.specs.CaptureOutputs.{outputs_for, outputs_from};
@@ -46,7 +46,7 @@ where
     requires { D.faults disk.old < 2 ^ 64 - 1 }
     ensures stored { Step (λ (made : Result (List Output) RunFault). Agrees run_refusal (λ outputs. outputs) made
         (answer (bytes_of capture.entry) scenarios.now seed)) result (D.history disk.new ≡ D.history disk.old)
-        (λ outputs. StoresFiles result (files_from 0 outputs) (TakesIn folder.now (D.history disk.old) (D.history disk.new))) }
+        (λ outputs. StoresFiles result (files_from 0 outputs) (CommitsIn folder.now (D.history disk.old) (D.history disk.new))) }
     ensures faults { D.faults disk.new ≡ D.faults disk.old + failed_stores folder.now result }
 {
     let capture = read_rehearsed(alloc, capture, scenarios)?;
@@ -87,7 +87,7 @@ where
     requires few { length scenarios.now ≤ scenario_limit }
     requires faults { D.faults disk.old < 2 ^ 64 - 1 }
     ensures stored { StoresFiles result (files_from 0 (outputs_for capture.entry scenarios.now seed))
-        (TakesIn folder.now (D.history disk.old) (D.history disk.new)) }
+        (CommitsIn folder.now (D.history disk.old) (D.history disk.new)) }
     ensures faults { D.faults disk.new ≡ D.faults disk.old + failed_stores folder.now result }
 {
     let table = crew.table(alloc, &capture)?;
@@ -107,7 +107,7 @@ where
     D::Draft: Send,
     requires { D.faults disk.old < 2 ^ 64 - 1 }
     ensures stored { StoresFiles result (files_from 0 (outputs_from sources.now))
-        (TakesIn folder.now (D.history disk.old) (D.history disk.new)) }
+        (CommitsIn folder.now (D.history disk.old) (D.history disk.new)) }
     ensures faults { D.faults disk.new ≡ D.faults disk.old + failed_stores folder.now result }
 {
     let mut number = 0;

@@ -170,7 +170,7 @@ fn drafts_of_little_room(rt: HostRuntime) {
     check_room(&rt, 13, 4);
 }
 
-// A draft for which there was no room gets no name, also where there is room for what comes next.
+// A draft for which there was no room is not committed, even if there is room for what comes next.
 #[test]
 fn a_draft_that_has_failed(rt: HostRuntime) {
     let mut disk = MemoryDisk::new(rt.alloc());
@@ -179,7 +179,7 @@ fn a_draft_that_has_failed(rt: HostRuntime) {
     let failing = draft_with(rt.alloc(), &folder, &disk, 0, FILES[0].1);
     let mut draft = failing.expect(&rt, "memory");
     MemoryDisk::append(&mut draft, FILES[3].1);
-    let refused = folder.take(rt.alloc(), &mut disk, "0007.pcap", draft, 0) == REFUSED;
+    let refused = folder.commit(rt.alloc(), &mut disk, "0007.pcap", draft, 0) == REFUSED;
     let none = has_first(rt.alloc(), &disk, 0) == Ok(true);
     assert!(rt; refused && none && disk.failed() == 1);
 }
@@ -203,7 +203,7 @@ fn a_folder_by_drafts(rt: HostRuntime) {
     fs::remove_dir_all(&rt, "drafts").expect(&rt, "removed");
 }
 
-// Where there is no folder a draft fails, and that shows when it is to get its name.
+// Where there is no folder a draft fails, and that shows when it is to be committed.
 #[test]
 fn no_folder_by_drafts(rt: HostRuntime) {
     let mut disk = HostDisk::new(&rt);
@@ -224,7 +224,7 @@ fn put_in<D: Disk>(
     requires { D.faults disk.old < 2 ^ 64 - 1 }
 {
     let draft = draft_with(rt.alloc(), folder, disk, 0, bytes).expect(rt, "memory");
-    folder.take(rt.alloc(), disk, name, draft, 0)
+    folder.commit(rt.alloc(), disk, name, draft, 0)
 }
 
 // No file in the folder of this path can have this name.

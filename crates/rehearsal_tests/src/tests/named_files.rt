@@ -158,11 +158,11 @@ impl Disk for Faulty {
 
     fn append(_draft: &mut String, _bytes: &[u8]) {}
 
-    fn allow_name(&mut self, _path: &str, _read: &ReadFiles) -> Result<(), DiskFault> {
+    fn allow_publishing(&mut self, _path: &str, _read: &ReadFiles) -> Result<(), DiskFault> {
         Ok(())
     }
 
-    fn name(&mut self, _draft: String, _path: &str) -> Result<(), DiskFault> {
+    fn publish(&mut self, _draft: String, _path: &str) -> Result<(), DiskFault> {
         Ok(())
     }
 
@@ -194,7 +194,7 @@ enum FaultyFile {
 impl DiskFile for FaultyFile {
     ghost use Rattle.std.specs.Prelude.{None};
 
-    ghost told = { λ _. None };
+    ghost contents = { λ _. None };
 
     ghost place = { λ _. 0 };
 

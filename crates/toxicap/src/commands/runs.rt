@@ -8,7 +8,7 @@ ghost use Rattle.command_line.specs.Asking.{IsPlanInRange};
 ghost use Rattle.run_files.specs.declared.error.RunFault.{RunFault};
 ghost use Rattle.toxicap.specs.RunEnds.{written};
 ghost use Rattle.toxicap.specs.Answering.{called_for};
-ghost use Rattle.toxicap.specs.StoredOutputs.{StoresIn, told_disk};
+ghost use Rattle.toxicap.specs.StoredOutputs.{StoresIn, disk_histories};
 ghost use Rattle.pcap_records.specs.Reading.{capture_limit};
 ghost use Rattle.run_files.specs.Folders.{failed_stores};
 ghost use Rattle.run_files.specs.SeenTexts.{IsSeenOf, SeesAs};
@@ -22,7 +22,7 @@ use crate::reading::read_inputs;
 use crate::reports::seen_reports;
 use crate::storing::store_rehearsal;
 use command_line::Asked;
-use disks::laws::names_leave_whole;
+use disks::laws::publishing_leaves_whole;
 use disks::{Disk, ReadDisk, ReadFiles};
 use job_matrix::Plan;
 use run_files::{
@@ -51,7 +51,7 @@ where
     requires faults { D.faults disk.old < 2 ^ 64 - 1 }
     requires reads { reader.old.failed < 2 ^ 64 - 1 }
     requires writes { writer.old.failed < 2 ^ 64 - 1 }
-    ensures runs { RunsBy asked.now result (told_disk (D.history disk.old) (D.history disk.new))
+    ensures runs { RunsBy asked.now result (disk_histories (D.history disk.old) (D.history disk.new))
         (streams R.remaining reader.old reader.new W.contents writer.old writer.new) }
     ensures failed_calls { D.faults disk.new ≡ D.faults disk.old + failed_calls asked.now.out result }
 {
@@ -124,10 +124,10 @@ where
     D::Draft: Send,
     requires { D.faults disk.old < 2 ^ 64 - 1 }
     ensures stored { StoresIn folder.now result (called_for options.now.hosts (map (λ t. t.now) texts.now) options.now.seed text.entry)
-        (told_disk (D.history disk.old) (D.history disk.new)) }
+        (disk_histories (D.history disk.old) (D.history disk.new)) }
     ensures faults { D.faults disk.new ≡ D.faults disk.old + failed_stores folder.now result }
 {
-    names_leave_whole();
+    publishing_leaves_whole();
     let inputs = read_inputs(alloc, text, texts, &options.hosts)?;
     let crew = Workers {
         rt,
@@ -155,7 +155,7 @@ fn load_files<D: ReadDisk>(
     named: &[&str],
     read: &mut ReadFiles,
 ) -> Result<Vec<Vec<u8>>, RunFault>
-    ensures told { IfSome (D.history disk.now) (λ h. AgreesUnlessMemory run_refusal (λ files. map (λ f. f.items) files.items) result
+    ensures contents { IfSome (D.history disk.now) (λ h. AgreesUnlessMemory run_refusal (λ files. map (λ f. f.items) files.items) result
         (texts_from (held_now h) [] (map (λ path. path.now) named.now))) }
     ensures one_each { IfOk result (λ files. length files.items ≡ length named.now) }
     ensures of_file { IfErr result (IsOfFiles (length named.now)) }

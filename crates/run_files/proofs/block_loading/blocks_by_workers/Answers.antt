@@ -3,7 +3,7 @@ use Rattle.run_files.proofs.LoadedParts.{length-blocks, parts_fit}
 use Rattle.run_files.proofs.block_loading.blocks_by_workers.Goals as goal
 
 pub work_all-requires-clause-jobs : goal.work_all-requires-clause-jobs
-work_all-requires-clause-jobs g c = omega (arith, length-blocks (g.F.DiskFile.told c.args.file.now) c.args.count)
+work_all-requires-clause-jobs g c = omega (arith, length-blocks (g.F.DiskFile.contents c.args.file.now) c.args.count)
 
 pub returns-clause-within : goal.returns-clause-within
 returns-clause-within g c =

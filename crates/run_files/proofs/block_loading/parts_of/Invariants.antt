@@ -9,6 +9,6 @@ abbrev pub invariant-loop-block : goal.invariant-loop-block
 invariant-loop-block g l = record {
   can_next : (goal.iterator-loop-block g).can_next l.block-iterator;
   is_finite : (goal.iterator-loop-block g).is_finite l.block-iterator;
-  gathers : Gathers (g.F.DiskFile.told l.fn.file) l.fn.count (into_iter_items l.block-iterator) (map (λ part. part.items) l.parts.items);
+  gathers : Gathers (g.F.DiskFile.contents l.fn.file) l.fn.count (into_iter_items l.block-iterator) (map (λ part. part.items) l.parts.items);
   short : All (λ part. length part.items ≤ block_len) l.parts.items;
 }

@@ -20,6 +20,6 @@ returns g c =
       seen.1,
       seen.2,
       own.0,
-      text_of_path (λ text. text) seen.0 (g.D.Disk.history c.args.disk.now) c.args.path.now (g.D.File.DiskFile.told c.in_ok-file.file)
-          c.in_ok-file.ensures.told own.1,
+      text_of_path (λ text. text) seen.0 (g.D.Disk.history c.args.disk.now) c.args.path.now (g.D.File.DiskFile.contents c.in_ok-file.file)
+          c.in_ok-file.ensures.contents own.1,
     )

@@ -3,8 +3,8 @@ use Rattle.std.specs.Borrow.{Bor}
 use Rattle.std.proofs.Math.Path.{fun_ext}
 use Rattle.std.proofs.Math.Seq.{take-append-add}
 use Rattle.std.proofs.lemmas.List.Sums.{fold-append}
-use Rattle.disks.specs.ToldFiles.{Held}
-use Rattle.disks.specs.Histories.{History, NamedAgain, NamedFile, Names, held_after, held_at, held_now, with_names}
+use Rattle.disks.specs.FileContents.{Held}
+use Rattle.disks.specs.Histories.{History, PublishedAgain, PublishedFile, Publishes, held_after, held_at, held_now, with_published}
 use Rattle.scenarios.specs.declared.hosts.KnownHost.{KnownHost}
 use Rattle.command_line.specs.declared.asked.Asked.{Asked}
 use Rattle.run_files.specs.declared.error.RunFault.{RunFault}
@@ -16,32 +16,32 @@ use Rattle.toxicap.specs.Commands.{AnswersInto, RunsBy, Streams}
 use Rattle.toxicap.specs.Inputs.{LoadsCapture, LoadsFiles, hosts_asked, texts_from, texts_or_no_proxies}
 use Rattle.toxicap.specs.KilledRuns.{outputs_asked}
 use Rattle.toxicap.specs.RunEnds.{UnlessMemory}
-use Rattle.toxicap.specs.StoredOutputs.{told_disk}
+use Rattle.toxicap.specs.StoredOutputs.{disk_histories}
 use Rattle.toxicap.proofs.RunSteps.{went_on}
 use Rattle.toxicap.proofs.laws.killed_runs_are_mended.Goals as goal
 
-none_named : (h : History) → Some h ≡ Some (with_names h [])
-none_named h = ap (λ (names : List NamedFile). Some (record { first = h.first; names = names })) (sym (append-nil h.names))
+none_named : (h : History) → Some h ≡ Some (with_published h [])
+none_named h = ap (λ (published : List PublishedFile). Some (record { first = h.first; published = published })) (sym (append-nil h.published))
 
-module _ (named_again : NamedAgain) (old new cut mended : History) (n : ℕ) (path : List ℕ)
-    (later : length old.names ≤ n) (begins : (p : List ℕ) → held_now cut p ≡ held_at new n p) where
-  named_twice : (files : List NamedFile) → Names (Some old) (Some new) files → Names (Some cut) (Some mended) files → held_now mended path ≡ held_now new path
+module _ (published_again : PublishedAgain) (old new cut mended : History) (n : ℕ) (path : List ℕ)
+    (later : length old.published ≤ n) (begins : (p : List ℕ) → held_now cut p ≡ held_at new n p) where
+  named_twice : (files : List PublishedFile) → Publishes (Some old) (Some new) files → Publishes (Some cut) (Some mended) files → held_now mended path ≡ held_now new path
   named_twice files once twice =
-      let all : new ≡ with_names old files = cc in
-      let rest : mended ≡ with_names cut files = cc in
-      let some : List NamedFile = take (n - length old.names) files in
-      let since : n ≡ length old.names + (n - length old.names) = omega arith in
+      let all : new ≡ with_published old files = cc in
+      let rest : mended ≡ with_published cut files = cc in
+      let some : List PublishedFile = take (n - length old.published) files in
+      let since : n ≡ length old.published + (n - length old.published) = omega arith in
       let begun : held_now cut ≡ held_after (held_now old) some =
-      fun_ext begins ∙ ap (λ (h : History). held_at h n) all ∙ ap (held_at (with_names old files)) since
-      ∙ ap (held_after old.first) (take-append-add old.names files (n - length old.names)) ∙ fold-append _ old.first old.names some in
+      fun_ext begins ∙ ap (λ (h : History). held_at h n) all ∙ ap (held_at (with_published old files)) since
+      ∙ ap (held_after old.first) (take-append-add old.published files (n - length old.published)) ∙ fold-append _ old.first old.published some in
       let again : held_now mended ≡ held_after (held_after (held_now old) some) files =
-      ap held_now rest ∙ fold-append _ cut.first cut.names files ∙ ap (λ (held : Held). held_after held files) begun in
-      let whole : held_now new ≡ held_after (held_now old) files = ap held_now all ∙ fold-append _ old.first old.names files in
+      ap held_now rest ∙ fold-append _ cut.first cut.published files ∙ ap (λ (held : Held). held_after held files) begun in
+      let whole : held_now new ≡ held_after (held_now old) files = ap held_now all ∙ fold-append _ old.first old.published files in
       let at : Held → Option _ = λ held. held path in
-      ap at again ∙ named_again (held_now old) files (n - length old.names) path ∙ ap at (sym whole)
+      ap at again ∙ published_again (held_now old) files (n - length old.published) path ∙ ap at (sym whole)
 
   answers_same : (out two : Option (Bor (List ℕ))) → option_map (λ f. f.now) out ≡ option_map (λ f. f.now) two → (expected again : Result (List Output) RunFault) → again ≡ expected
-      → (s t : Streams) → AnswersInto out (Ok tt) expected (told_disk (Some old) (Some new)) s → AnswersInto two (Ok tt) again (told_disk (Some cut) (Some mended)) t
+      → (s t : Streams) → AnswersInto out (Ok tt) expected (disk_histories (Some old) (Some new)) s → AnswersInto two (Ok tt) again (disk_histories (Some cut) (Some mended)) t
       → held_now mended path ≡ held_now new path
   answers_same None None into expected again is s t one twice = named_twice [] (one.1 ∙ none_named old) (twice.1 ∙ none_named cut)
   answers_same (Some folder) (Some same) into expected again is s t one twice =
@@ -49,7 +49,7 @@ module _ (named_again : NamedAgain) (old new cut mended : History) (n : ℕ) (pa
       let (outputs, are, once) = went_on (UnlessMemory expected) tt _ _ one.0 in
       let (others, are2, again2) = went_on (UnlessMemory again) tt _ _ twice.0 in
       let equal : others ≡ outputs = cc in
-      named_twice (map (in_folder folder.now) (files_from 0 outputs)) once.0 (again2.0 ∙ ap (λ (files : List NamedFile). Some (with_names cut files)) (cc))
+      named_twice (map (in_folder folder.now) (files_from 0 outputs)) once.0 (again2.0 ∙ ap (λ (files : List PublishedFile). Some (with_published cut files)) (cc))
   answers_same None (Some folder) into expected again is s t one twice = absurd (cc)
   answers_same (Some folder) None into expected again is s t one twice = absurd (cc)
 
@@ -58,18 +58,18 @@ asked_for : (held : Held) (asked : Asked) (text : List ℕ) (hosts : List KnownH
 asked_for held asked text hosts files known read = rw (known, read) refl
 
 -- what a run that ended well called for
-called : (old : History) (after : Option History) (asked : Asked) (s : Streams) → RunsBy asked (Ok tt) (told_disk (Some old) after) s
+called : (old : History) (after : Option History) (asked : Asked) (s : Streams) → RunsBy asked (Ok tt) (disk_histories (Some old) after) s
     → (text : List ℕ) × LoadsCapture (Some old) asked.capture s.Unread s.Loaded (Ok text)
-    × AnswersInto asked.out (Ok tt) (outputs_asked (held_now old) asked text) (told_disk (Some old) after) s
+    × AnswersInto asked.out (Ok tt) (outputs_asked (held_now old) asked text) (disk_histories (Some old) after) s
 called old after asked s run =
     let (hosts, known, from_hosts) = went_on (UnlessMemory (hosts_asked asked)) tt _ _ run in
     let (files, read, from_files) = went_on (LoadsFiles (Some old) asked.scenarios.items) tt _ _ from_hosts in
     let (text, loaded, ends) = went_on (LoadsCapture (Some old) asked.capture s.Unread s.Loaded) tt _ _ from_files in
     let calls = asked_for (held_now old) asked text hosts files known read.2 in
-    (text, loaded, subst (λ (expected : Result (List Output) RunFault). AnswersInto asked.out (Ok tt) expected (told_disk (Some old) after) s) (sym calls) ends)
+    (text, loaded, subst (λ (expected : Result (List Output) RunFault). AnswersInto asked.out (Ok tt) expected (disk_histories (Some old) after) s) (sym calls) ends)
 
 pub returns : goal.returns
 returns g c = λ words asked again old new cut mended n path r r2 s s2 w w2 x x2 reads run later begins reads2 run2 calls.
     let (one, loaded, ends) = called old (Some new) asked _ run in
     let (two, loaded2, ends2) = called cut (Some mended) again _ run2 in
-    answers_same c.named_again.ensures old new cut mended n path later begins asked.out again.out (cc (reads.2.out, reads2.2.out)) _ _ (calls one two loaded loaded2) _ _ ends ends2
+    answers_same c.published_again.ensures old new cut mended n path later begins asked.out again.out (cc (reads.2.out, reads2.2.out)) _ _ (calls one two loaded loaded2) _ _ ends ends2

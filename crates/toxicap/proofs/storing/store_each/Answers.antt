@@ -8,12 +8,12 @@ use Rattle.toxicap.specs.CaptureOutputs.{outputs_from}
 use Rattle.toxicap.specs.DraftPlaces.{outputs_in}
 use Rattle.toxicap.proofs.OutputSteps.{as_many_outputs}
 use Rattle.toxicap.proofs.ReadyDrafts.{ready_outputs, takes_first}
-use Rattle.toxicap.proofs.StoringEnds.{nothing_taken}
-use Rattle.toxicap.proofs.StoredSteps.{length-files_from, taken_more, stops_at}
+use Rattle.toxicap.proofs.StoringEnds.{nothing_committed}
+use Rattle.toxicap.proofs.StoredSteps.{length-files_from, committed_more, stops_at}
 use Rattle.toxicap.proofs.storing.store_each.Goals as goal
 
 pub loop-number-init : goal.loop-number-init
-loop-number-init g c = record { taken = nothing_taken c.args.folder.now _; no_fault = refl }
+loop-number-init g c = record { committed = nothing_committed c.args.folder.now _; no_fault = refl }
 
 pub loop-draft-init : goal.loop-draft-init
 loop-draft-init g c =
@@ -24,7 +24,7 @@ loop-draft-init g c =
     record {
       can_next = tt;
       is_finite = tt;
-      taken = loop.taken;
+      committed = loop.committed;
       no_fault = loop.no_fault;
       left = rw items ready;
       rises = rw items (omega (arith, c.in_ok-drafts.ensures.some));
@@ -37,7 +37,7 @@ returns-in_err-drafts-clause-stored g c =
     rw (fault.1, fault.2) (
       2 * c.loop-number.number,
       omega (arith, c.loop-number-test.true, as_many_outputs c.args.sources.now, length-files_from 0 (outputs_from c.args.sources.now)),
-      c.loop-number.invariant.taken,
+      c.loop-number.invariant.committed,
     )
 
 pub store_draft-requires-clause-number : goal.store_draft-requires-clause-number
@@ -62,7 +62,7 @@ returns-in_err-store_draft-clause-stored g c =
     let loop = c.loop-draft.invariant in
     let first = takes_first all _ _ c.loop-draft.number c.in-Some.draft.output loop.left (ap outputs_in c.in-Some.ensures.steps.0) in
     let fault = err_from_is_err_and c.from_residual-in_err-store_draft.result c.from_residual-in_err-store_draft.ensures.1 in
-    rw (fault.1, fault.2) (stops_at c.args.folder.now all c.loop-draft.number c.in-Some.draft.output first.below first.is _ _ _ loop.taken c.in_err-store_draft.field-0.0
+    rw (fault.1, fault.2) (stops_at c.args.folder.now all c.loop-draft.number c.in-Some.draft.output first.below first.is _ _ _ loop.committed c.in_err-store_draft.field-0.0
     (c.in_err-store_draft.ensures.stores c.in-Some.draft.output c.into_drafts.ensures.drafts))
 
 pub returns-in_err-store_draft-clause-faults : goal.returns-in_err-store_draft-clause-faults
@@ -78,7 +78,7 @@ loop-draft-preserved g c =
     record {
       can_next = tt;
       is_finite = tt;
-      taken = taken_more c.args.folder.now all c.loop-draft.number c.in-Some.draft.output first.below first.is _ _ _ loop.taken
+      committed = committed_more c.args.folder.now all c.loop-draft.number c.in-Some.draft.output first.below first.is _ _ _ loop.committed
           (c.in_ok-store_draft.ensures.stores c.in-Some.draft.output c.into_drafts.ensures.drafts);
       no_fault = omega (arith, c.in_ok-store_draft.ensures.faults, loop.no_fault);
       left = first.left;
@@ -90,4 +90,4 @@ returns-clause-stored g c =
     let all : List Output = outputs_from c.args.sources.now in
     let over : length (files_from 0 all) ≤ 2 * c.loop-number.number =
     omega (arith, c.loop-number-test.false, as_many_outputs c.args.sources.now, length-files_from 0 all) in
-    rw (take_all (2 * c.loop-number.number) (files_from 0 all) over) at c.loop-number.invariant.taken
+    rw (take_all (2 * c.loop-number.number) (files_from 0 all) over) at c.loop-number.invariant.committed

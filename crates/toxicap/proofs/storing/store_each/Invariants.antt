@@ -1,15 +1,15 @@
 use Rattle.std.proofs.Common.{◌≡◌, ◌<◌, ◌+◌, ◌-◌, ◌*◌, length, take, drop}
 use Rattle.std.specs.Vec.Iter.{into_iter_items}
-use Rattle.run_files.specs.Folders.{TakesIn}
+use Rattle.run_files.specs.Folders.{CommitsIn}
 use Rattle.run_files.specs.WrittenOutputs.{files_from}
 use Rattle.toxicap.specs.CaptureOutputs.{outputs_from}
 use Rattle.toxicap.specs.DraftPlaces.{outputs_in}
 use Rattle.toxicap.proofs.storing.store_each.Given as goal
 
--- the folder took the files of the outputs before this number, and no call of the disk failed
+-- committed are the files of the outputs before this number, and no call of the disk failed
 abbrev pub invariant-loop-number : goal.invariant-loop-number
 invariant-loop-number g l = record {
-  taken : TakesIn l.folder (g.D.Disk.history l.fn.disk) (g.D.Disk.history l.disk) (take (2 * l.number) (files_from 0 (outputs_from l.sources)));
+  committed : CommitsIn l.folder (g.D.Disk.history l.fn.disk) (g.D.Disk.history l.disk) (take (2 * l.number) (files_from 0 (outputs_from l.sources)));
   no_fault : g.D.Disk.faults l.disk ≡ g.D.Disk.faults l.fn.disk;
 }
 
@@ -21,7 +21,7 @@ abbrev pub invariant-loop-draft : goal.invariant-loop-draft
 invariant-loop-draft g l = record {
   can_next : (goal.iterator-loop-draft g).can_next l.draft-iterator;
   is_finite : (goal.iterator-loop-draft g).is_finite l.draft-iterator;
-  taken : TakesIn l.folder (g.D.Disk.history l.fn.disk) (g.D.Disk.history l.disk) (take (2 * l.number) (files_from 0 (outputs_from l.sources)));
+  committed : CommitsIn l.folder (g.D.Disk.history l.fn.disk) (g.D.Disk.history l.disk) (take (2 * l.number) (files_from 0 (outputs_from l.sources)));
   no_fault : g.D.Disk.faults l.disk ≡ g.D.Disk.faults l.fn.disk;
   left : outputs_in (into_iter_items l.draft-iterator) ≡ take (length (outputs_in (into_iter_items l.draft-iterator))) (drop l.number (outputs_from l.sources));
   rises : l.initial.number < l.number + length (into_iter_items l.draft-iterator);

@@ -6,7 +6,7 @@ use Rattle.toxicap.proofs.commands.runs.load_files.Given as goal
 
 abbrev pub invariant-loop-path : goal.invariant-loop-path
 invariant-loop-path g l = record {
-  told : IfSome (g.D.Disk.history l.disk) (λ h. texts_from (held_now h) (map (λ f. f.items) l.files.items) (map (λ path. path.now) (drop l.path-index l.named))
+  contents : IfSome (g.D.Disk.history l.disk) (λ h. texts_from (held_now h) (map (λ f. f.items) l.files.items) (map (λ path. path.now) (drop l.path-index l.named))
       ≡ texts_from (held_now h) [] (map (λ path. path.now) l.named));
   one_each : length l.files.items ≡ l.path-index;
 }

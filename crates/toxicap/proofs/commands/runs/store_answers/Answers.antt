@@ -21,4 +21,4 @@ returns-in_err-inputs-clause-faults g c =
 pub returns-clause-stored : goal.returns-clause-stored
 returns-clause-stored g c =
     let stored = rw (c.bytes.ensures, c.deref.ensures.value) at c.store_rehearsal.ensures.stored in
-    rw (c.in_ok-inputs.ensures.taken c.args.options.now.seed) (stores_in c.names_leave_whole.ensures c.args.folder.now _ _ c.store_rehearsal.result _ stored)
+    rw (c.in_ok-inputs.ensures.taken c.args.options.now.seed) (stores_in c.publishing_leaves_whole.ensures c.args.folder.now _ _ c.store_rehearsal.result _ stored)

@@ -2,7 +2,7 @@ use Rattle.std.proofs.Common.{◌≡◌, ℕ, ◌+◌, Bool, List, ap, subst, �
 use Rattle.run_files.specs.Folders.{is_refused}
 use Rattle.run_files.specs.RunFault.{failed_puts, outcome_of_storing}
 use Rattle.run_files.proofs.OutputNames.{name_allowed}
-use Rattle.run_files.proofs.drafts.take_file.Goals as goal
+use Rattle.run_files.proofs.drafts.commit_file.Goals as goal
 
 -- a call of the disk failed if the folder allowed the name
 pub returns-clause-faults : goal.returns-clause-faults
@@ -10,5 +10,5 @@ returns-clause-faults g c =
     let folder : List ℕ = c.args.folder.now in
     let name = c.deref.ensures ∙ c.in-Ok.ensures in
     let allowed = ap (is_refused folder) name ∙ name_allowed c.args.number c.requires.number folder c.args.ending.now c.requires.ending c.requires.slash in
-    subst (λ (b : Bool). g.D.Disk.faults c.take.new.disk ≡ g.D.Disk.faults c.args.disk.now + failed_puts b (outcome_of_storing c.take.result)) allowed
-    c.take.ensures.faults
+    subst (λ (b : Bool). g.D.Disk.faults c.commit.new.disk ≡ g.D.Disk.faults c.args.disk.now + failed_puts b (outcome_of_storing c.commit.result)) allowed
+    c.commit.ensures.faults

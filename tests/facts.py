@@ -296,13 +296,13 @@ def of_rules(toxics):
     classes = re.findall(r'^    (\w+)', between(text_of('crates/frame_headers/src/classes.rt'), "pub enum Class<'a> {", '\n}\n'), re.M)
     shown = [row[0] for rows in tables_under(page, r'\| Class \| [^|]* \|') for row in rows if row[0]]
     fact(f'{page}: the frame classes, in order', shown == classes, shown)
-    counted = between(text_of('crates/toxicap_program/src/summary.rt'), 'const COUNTED: &str =\n    "', '"').split()[4:]
-    fact('summary.rt: the frame classes, in order', counted == [name.lower() for name in classes if name != 'Segment'], counted)
+    counted = re.findall(r'\(counts\.(\w+), "(\w+)"\)', text_of('crates/toxicap_program/src/summary.rt'))
+    fact('summary.rt: the frame classes, in order', [word for _, word in counted] == [name.lower() for name in classes if name != 'Segment'], counted)
+    fact('summary.rt: the count of each', all(name.replace('_', '') == word for name, word in counted), counted)
     passed_over = {name.lower() for name in classes} - {'segment'} | {'unopened'}
     for hints, head in (('examples/python/known.py', 'PASSED_OVER = {'), ('examples/go/explain.go', 'passedOver = map[string]string{')):
         named = set(re.findall(r'^\s+"(\w+)":', between(text_of(hints), head, '\n}\n'), re.M))
         fact(f'{hints}: a hint for each frame class', named == passed_over, named ^ passed_over)
-    fact('summary.rt: a count for each word', f'counts: [u64; {4 + len(counted)}],' in text_of('crates/toxicap_program/src/summary.rt'))
     fact(f'{page}: the ranges of attributes are in docs/use/scenarios.md', '[range](scenarios.md#the-toxics)' in section_of(page, 'Scenario files'))
 
 

@@ -6,3 +6,4 @@ mod ShareSteps
 mod Isolated
 mod RecordedInTime
 mod MadeOfRecorded
+mod SeenTables

@@ -7,11 +7,13 @@ use Rattle.std.proofs.Math.Seq.{drop-drop}
 use Rattle.std.proofs.lemmas.Grind.{flat_map-append}
 use Rattle.std.proofs.lemmas.List.{length-map, length-drop, get_or-map, take-append-drop}
 use Rattle.std.proofs.lemmas.List.Elements.{All-from_get_or, All-map}
+use Rattle.std.proofs.lemmas.List.Concat.{flat_map_single}
 use Rattle.std.proofs.lemmas.List.Folds.{flat_map-map}
 use Rattle.std.proofs.lemmas.List.FromFn.{length-enumerate_from}
 use Rattle.scenarios.specs.declared.proxies.Proxy.{Proxy}
 use Rattle.conn_workers.specs.Recordings.{RecordingView, recorded_delivery}
-use Rattle.conn_workers.specs.ReportTexts.{HoldLines, text_shares, texts_under}
+use Rattle.conn_workers.specs.ReportTexts.{HoldLines, share_texts, text_shares, texts_under}
+use Rattle.conn_workers.specs.RunSummaries.{conn_seen}
 use Rattle.conn_workers.specs.RowShares.{HoldRow, row_text, row_share, ranges_of, row_shares}
 use Rattle.conn_workers.proofs.RowLemmas.{get_or-numbered}
 
@@ -87,10 +89,12 @@ module _ (seed : ℕ) (scenarios : List (List Proxy)) where
   pub texts_together : (size count : ℕ) (recordings : List RecordingView) → length recordings ≤ count * size
       → HoldLines seed scenarios recordings (text_shares size count seed scenarios recordings)
   texts_together size count recordings whole = record {
-    each = All-map (λ (share : List (List ℕ)). length share ≡ length scenarios) (texts_under seed scenarios) (ranges_of size count recordings)
+    each = All-map (λ share. length share.texts ≡ length scenarios) (share_texts seed scenarios) (ranges_of size count recordings)
         (All-from_get_or (λ rs. length (texts_under seed scenarios rs) ≡ length scenarios) (ranges_of size count recordings) [] (λ i within. length-texts_under _));
+    connections = read_together (share_texts seed scenarios) (λ share. share.connections) conn_seen (λ x. x ∷ []) (λ rs. sym (flat_map_single conn_seen rs)) size count recordings whole
+        ∙ flat_map-map (λ x. x ∷ []) conn_seen recordings ∙ flat_map_single conn_seen recordings;
     lines = λ number within.
         let s : ℕ × List Proxy = (number, get_or scenarios number []) in
-        read_together (texts_under seed scenarios) (λ share. get_or share number []) (λ r. (recorded_delivery seed s r).line) (λ line. line)
+        read_together (share_texts seed scenarios) (λ share. get_or share.texts number []) (λ r. (recorded_delivery seed s r).line) (λ line. line)
         (λ rs. text_at rs number [] within) size count recordings whole;
   }

@@ -4,6 +4,7 @@ pub mod DeliveryRows
 pub mod CaptureTables
 pub mod Recordings
 pub mod RowShares
+pub mod RunSummaries
 pub mod ReportTexts
 pub mod DeliveryLaws
 pub mod RecordedDeliveries

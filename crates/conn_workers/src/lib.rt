@@ -2,6 +2,7 @@
 //!
 //! `deliver` gives it for all scenarios (`specs/Contributions.antt`, `specs/DeliveryRows.antt`), `deliver_row` for one, in shares
 //! (`specs/RowShares.antt`). `report_texts` gives only the lines (`specs/ReportTexts.antt`). The program calls the last two.
+//! `run_summary` tells what was seen beside them (`specs/RunSummaries.antt`).
 #![tactic(auto)]
 
 mod crews;
@@ -13,6 +14,7 @@ mod recordings;
 mod row_ranges;
 mod row_shares;
 mod scenario_texts;
+mod summaries;
 mod under_scenario;
 
 pub use crews::Workers;
@@ -20,3 +22,4 @@ pub use deliveries::{Deliveries, Delivery, deliver};
 pub use recordings::{Recording, Recordings, record, record_alone};
 pub use row_shares::{RowShare, RowShares, deliver_row, deliver_row_alone};
 pub use scenario_texts::{ShareTexts, report_texts, report_texts_alone};
+pub use summaries::{RunSummary, SeenConn, conns_together, run_summary, seen_conns};

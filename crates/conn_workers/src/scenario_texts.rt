@@ -4,11 +4,12 @@ ghost use Rattle.std.specs.Prelude.{◌≡◌, ◌≤◌, IfOk, length};
 ghost use Rattle.conn_workers.specs.CaptureTables.{whole_table};
 ghost use Rattle.conn_workers.specs.DeliveryRows.{scenario_limit};
 ghost use Rattle.conn_workers.specs.Recordings.{recordings_of};
-ghost use Rattle.conn_workers.specs.ReportTexts.{HoldLines, texts_under};
+ghost use Rattle.conn_workers.specs.ReportTexts.{HoldLines, share_texts};
 
 use crate::crews::Workers;
 use crate::jobs::TextJobs;
 use crate::recordings::Recording;
+use crate::summaries::{SeenConn, seen_conns};
 use crate::under_scenario::UnderScenario;
 use conn_table::Table;
 use job_matrix::{Gate, Phase, Plan, Through, Values, work_all, work_alone};
@@ -18,18 +19,23 @@ use scenarios::Scenario;
 use std::alloc::{AllocError, Global};
 use std::thread::Threads;
 
-/// The lines of some connections in the reports of scenarios: a text for each scenario.
-pub type ShareTexts = Values<ReportText>;
+/// The lines of some connections in the reports of scenarios, and what summaries show of these connections.
+#[derive(Drop)]
+pub struct ShareTexts {
+    /// A text for each scenario.
+    pub texts: Values<ReportText>,
+    pub connections: Values<SeenConn>,
+}
 
-/// The lines of some connections in the report of each scenario.
-pub(crate) fn texts_under(
+/// The share of connections with these recordings.
+pub(crate) fn share_texts(
     alloc: Global,
     recordings: &[Recording<'_, '_>],
     scenarios: &[Scenario],
     seed: u64,
 ) -> Result<ShareTexts, AllocError>
     requires { length scenarios.now ≤ scenario_limit }
-    ensures { IfOk result (λ v. v ≡ texts_under seed scenarios.now recordings.now) }
+    ensures { IfOk result (λ v. v ≡ share_texts seed scenarios.now recordings.now) }
 {
     let mut texts = Vec::with_capacity(alloc, scenarios.len())?;
     for number in 0..scenarios.len() {
@@ -37,7 +43,11 @@ pub(crate) fn texts_under(
         let text = under.text(recordings)?;
         texts.push(text)?;
     }
-    Ok(Values::of(texts))
+    let connections = seen_conns(alloc, recordings)?;
+    Ok(ShareTexts {
+        texts: Values::of(texts),
+        connections,
+    })
 }
 
 /// The lines of all connections in the reports of scenarios. Each share has the lines of some connections, as a text for each scenario.

@@ -6,7 +6,7 @@ mod heads;
 mod instants;
 mod scenario_files;
 mod tagged_frames;
-mod tees;
+mod tee;
 mod toxic_files;
 mod toxics;
 mod written_headers;

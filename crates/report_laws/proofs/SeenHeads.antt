@@ -7,10 +7,11 @@ use Rattle.pcap_records.specs.Reading.{Packet, Contents}
 use Rattle.pcap_records.specs.Heads.{head_of, heads_of}
 use Rattle.frame_headers.specs.Frame.{seen_frame}
 use Rattle.conn_table.specs.SeenCapture.{SeenPacket, seen_packet, seen_packets, seen_capture}
+use Rattle.conn_workers.specs.RunSummaries.{run_summary}
 use Rattle.report_laws.specs.ZeroedPayloads.{zeroed_frame, zeroed_packet, zeroed_seen}
-use Rattle.report_laws.specs.SeenHeads.{ReportSeesHeads}
+use Rattle.report_laws.specs.SeenHeads.{ReportSeesHeads, SummarySeesHeads}
 use Rattle.report_laws.proofs.UsualHeads.{frame_sees_head}
-use Rattle.report_laws.proofs.ZeroedReports.{report_sees_lengths}
+use Rattle.report_laws.proofs.ZeroedReports.{report_sees_lengths, summary_zeroed}
 
 frames_same : (p q : Packet) → head_of p ≡ head_of q → zeroed_frame (seen_frame p.bytes) ≡ zeroed_frame (seen_frame q.bytes)
 frames_same p q same = frame_sees_head p.bytes q.bytes (record { first = ap (λ h. h.bytes) same; long = ap (λ h. h.len) same })
@@ -41,3 +42,7 @@ captures_same one other same =
 
 pub report_sees_heads : ReportSeesHeads
 report_sees_heads one other same seed s = report_sees_lengths (seen_capture one) (seen_capture other) (captures_same one other same) seed s
+
+pub summary_sees_heads : SummarySeesHeads
+summary_sees_heads one other same scenarios =
+    sym (summary_zeroed (seen_capture one) scenarios) ∙ ap (λ c. run_summary c scenarios) (captures_same one other same) ∙ summary_zeroed (seen_capture other) scenarios

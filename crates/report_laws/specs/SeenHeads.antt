@@ -5,6 +5,7 @@ use Rattle.pcap_records.specs.Heads.{head_len, heads_of}
 use Rattle.frame_headers.specs.Frame.{seen_frame}
 use Rattle.conn_table.specs.SeenCapture.{seen_capture}
 use Rattle.scenarios.specs.declared.proxies.Proxy.{Proxy}
+use Rattle.conn_workers.specs.RunSummaries.{run_summary}
 use Rattle.report_laws.specs.ZeroedPayloads.{zeroed_frame, report_of}
 
 -- two packets have equal length and the same kept first bytes
@@ -21,3 +22,9 @@ abbrev pub ReportSeesHeads : Type 0
 ReportSeesHeads =
     (one other : Contents) → heads_of one ≡ heads_of other → (seed : ℕ) (scenario : ℕ × List Proxy)
     → report_of (seen_capture one) seed scenario ≡ report_of (seen_capture other) seed scenario
+
+-- and the same summary of a run
+abbrev pub SummarySeesHeads : Type 0
+SummarySeesHeads =
+    (one other : Contents) → heads_of one ≡ heads_of other → (scenarios : List (List Proxy))
+    → run_summary (seen_capture one) scenarios ≡ run_summary (seen_capture other) scenarios

@@ -1,5 +1,5 @@
 //! Theorems about the definition of reports. The functions do nothing: the contract of each is the theorem.
-ghost use Rattle.report_laws.specs.SeenHeads.{FrameSeesHead, ReportSeesHeads};
+ghost use Rattle.report_laws.specs.SeenHeads.{FrameSeesHead, ReportSeesHeads, SummarySeesHeads};
 ghost use Rattle.report_laws.specs.ZeroedPayloads.{ReportSeesLengths};
 
 /// Two captures that differ only in payload bytes of TCP segments have the same report of each scenario, with any seed.
@@ -16,7 +16,8 @@ pub fn frame_sees_head()
 {}
 
 /// Reports depend only on a capture's ticks, the number of bytes after its last whole record, and each packet's stamp, length and head.
-/// So a capture of which only the heads are kept loses no report.
+/// So a capture of which only the heads are kept loses no report, and the summary of a run stays the same.
 pub fn report_sees_heads()
-    ensures { ReportSeesHeads }
+    ensures report { ReportSeesHeads }
+    ensures summary { SummarySeesHeads }
 {}

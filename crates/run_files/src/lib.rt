@@ -15,7 +15,7 @@ mod outputs;
 mod seen_parts;
 mod shelves;
 mod streams;
-mod tees;
+mod tee;
 mod texts;
 
 pub use drafts::{DraftedOutput, store_draft};
@@ -29,5 +29,5 @@ pub use outputs::{Output, Outputs, print_reports, store_all};
 pub use seen_parts::SeenText;
 pub use shelves::{MemoryFile, MemoryShelf, Shelf};
 pub use streams::{Counted, load, write_bytes, write_texts};
-pub use tees::{TeeReader, TeeWriter};
+pub use tee::TeeReader;
 pub use texts::Text;

@@ -11,6 +11,7 @@ use Rattle.scenarios.specs.declared.proxies.Proxy.{Proxy}
 use Rattle.conn_workers.specs.DeliveryLaws.{LinesAreContributed}
 use Rattle.conn_workers.specs.Recordings.{recordings_of}
 use Rattle.conn_workers.specs.ReportTexts.{HoldLines, text_of}
+use Rattle.conn_workers.specs.declared.scenario_texts.ShareTexts.{ShareTexts}
 use Rattle.run_files.specs.Streams.{joined}
 use Rattle.run_files.specs.declared.outputs.Output.{Output}
 use Rattle.run_files.specs.WrittenOutputs.{reports_of}
@@ -19,7 +20,7 @@ use Rattle.toxicap.specs.CaptureOutputs.{no_output, outputs_for}
 use Rattle.toxicap.specs.HeldReports.{report_at, reports_below, reports_held}
 use Rattle.toxicap.proofs.OutputSteps.{as_many_for, head_at, report_is}
 
-pub below_more : (heads : List (List ℕ)) (shares : List (List (List ℕ))) (number : ℕ) → reports_below heads shares number ++ report_at heads shares number ≡ reports_below heads shares (number + 1)
+pub below_more : (heads : List (List ℕ)) (shares : List ShareTexts) (number : ℕ) → reports_below heads shares number ++ report_at heads shares number ≡ reports_below heads shares (number + 1)
 below_more heads shares number =
     ap (λ (more : List ℕ). reports_below heads shares number ++ more) (sym (append-nil (report_at heads shares number)))
     ∙ sym (flat_map-append (λ (report : List ℕ). report) (map (report_at heads shares) (range_with_len 0 number)) (report_at heads shares number ∷ []))
@@ -31,7 +32,7 @@ joined_more texts text = flat_map-append (λ (t : Bor (List ℕ)). t.now) texts 
 -- those of all scenarios
 module _ (capture : CaptureView) (scenarios : List (List Proxy)) (seed : ℕ) (contributed : LinesAreContributed)
     (heads : List (List ℕ)) (heads_are : heads ≡ heads_of capture (length scenarios))
-    (shares : List (List (List ℕ))) (hold : HoldLines seed scenarios (recordings_of capture) shares) where
+    (shares : List ShareTexts) (hold : HoldLines seed scenarios (recordings_of capture) shares) where
   abbrev outputs : List Output
   outputs = outputs_for capture scenarios seed
 

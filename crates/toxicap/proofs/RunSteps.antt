@@ -25,20 +25,16 @@ went_on {A} Gives end AsBefore Next step = on step.0 step.1 step.2
     on (Ok x) gives next = (x, gives, next)
     on (Err fault) gives next = let no : Ok end ≡ Err fault = next.0 in absurd cc
 
--- ---- a capture of which parts are seen, or none
-
-pub then_seen : (Gives : Result (List ℕ) RunFault → Type 0) (outcome : Result (Unit {0}) RunFault) (AsBefore : Type 0) (Next : List ℕ → Type 0) (seen : SeenText)
+pub then_seen : {B : Type 0} (Gives : Result (List ℕ) RunFault → Type 0) (outcome : Result B RunFault) (AsBefore : Type 0) (Next : List ℕ → Type 0) (seen : SeenText)
     (loaded : Result (List ℕ) RunFault) → SeesAs (Ok seen) loaded → IfOk loaded (λ text. length text ≤ capture_limit) → Gives loaded
     → ((text : List ℕ) → length text ≤ capture_limit → IsSeenOf seen text → Next text) → Step Gives outcome AsBefore Next
 then_seen Gives outcome AsBefore Next seen (Ok text) sees within gives next = (Ok text, gives, next text within sees)
 then_seen Gives outcome AsBefore Next seen (Err cause) sees within gives next = absurd sees
 
-pub then_unseen : (Gives : Result (List ℕ) RunFault → Type 0) (AsBefore : Type 0) (Next : List ℕ → Type 0) (fault : RunFault) (loaded : Result (List ℕ) RunFault)
-    → SeesAs (Err fault) loaded → Gives loaded → AsBefore → Step {B = Unit {0}} Gives (Err fault) AsBefore Next
+pub then_unseen : {B : Type 0} (Gives : Result (List ℕ) RunFault → Type 0) (AsBefore : Type 0) (Next : List ℕ → Type 0) (fault : RunFault) (loaded : Result (List ℕ) RunFault)
+    → SeesAs (Err fault) loaded → Gives loaded → AsBefore → Step {B = B} Gives (Err fault) AsBefore Next
 then_unseen Gives AsBefore Next fault (Ok text) sees gives as_before = absurd sees
 then_unseen Gives AsBefore Next fault (Err cause) sees gives as_before = (Err cause, gives, (ap Err sees, as_before))
-
--- ---- a text that is written
 
 pub writes : {W : Type 0} (contents : W → Option (List ℕ)) (w x : CountedView W) (result : Result (Unit {0}) RunFault) (text : List ℕ)
     → OnOk result (Appends (contents w.inner) (contents x.inner) text) → OnOk result (x.failed ≡ w.failed) → IfErr result (λ fault. fault ≡ WriteFailed)
@@ -51,8 +47,6 @@ pub so_far : (result : Result (Unit {0}) RunFault) (text : List ℕ) (w : Writte
 so_far (Ok u) text w is = inl is
 so_far (Err WriteFailed) text w is = inr is
 so_far (Err _) text w is = absurd is
-
--- ---- reports that are printed, or none
 
 pub prints_none : (expected : Result (List Output) RunFault) (w : Written) (fault : RunFault)
     → UnlessMemory (reports_in expected) (Err fault) → w.Unwritten → PrintsOf (Err fault) expected w

@@ -10,7 +10,8 @@ use Rattle.pcap_records.specs.Reading.{Contents, Reading, reading}
 use Rattle.pcap_records.specs.Heads.{heads_in, heads_of}
 use Rattle.conn_table.specs.SeenCapture.{SeenCapture, seen_capture}
 use Rattle.scenarios.specs.declared.proxies.Proxy.{Proxy}
-use Rattle.report_laws.specs.SeenHeads.{ReportSeesHeads}
+use Rattle.conn_workers.specs.RunSummaries.{run_summary}
+use Rattle.report_laws.specs.SeenHeads.{ReportSeesHeads, SummarySeesHeads}
 use Rattle.report_laws.specs.ZeroedPayloads.{ReportSeesLengths, report_of}
 use Rattle.run_files.specs.declared.error.RunFault.{RunFault}
 use Rattle.run_files.specs.declared.error.RunFault.TheVariants.{TooManyScenarios}
@@ -18,9 +19,8 @@ use Rattle.run_files.specs.RunFault.{run_fault, run_refusal}
 use Rattle.run_files.specs.WrittenOutputs.{reports_of}
 use Rattle.toxicap.specs.PrintedReports.{reports_in}
 use Rattle.toxicap.specs.Rehearsal.{answer, answer_to, outputs_of, scenario_limit, scenario_output, seen_file}
+use Rattle.toxicap.specs.RunSummaries.{summary_of_bytes}
 use Rattle.toxicap.specs.SeenLengths.{ReportsSeeLengths}
-
--- ---- captures whose reports are alike, scenario by scenario
 
 module _ (one other : SeenCapture) (seed : ℕ) (alike : (s : ℕ × List Proxy) → report_of one seed s ≡ report_of other seed s) where
   output_alike : (s : ℕ × List Proxy) → (scenario_output one seed s).report ≡ (scenario_output other seed s).report
@@ -34,8 +34,6 @@ module _ (one other : SeenCapture) (seed : ℕ) (alike : (s : ℕ × List Proxy)
   reports_alike : (scenarios : List (List Proxy)) → reports_of (outputs_of one scenarios seed) ≡ reports_of (outputs_of other scenarios seed)
   unfolding outputs_of
   reports_alike scenarios = each_alike (enumerate_from 0 scenarios)
-
--- ---- the answer to a file of which the heads are there, or its fault
 
 heads_fault : (r : Result Reading CaptureFault) (fault : CaptureFault) → heads_in r ≡ Err fault → r ≡ Err fault
 heads_fault (Ok c) fault is = absurd cc
@@ -74,7 +72,16 @@ module _ (bytes : List ℕ) (scenarios : List (List Proxy)) (seed : ℕ) where
           ap reports_in (read_answer few r read) ∙ ap Ok (sym (reports_alike (seen_capture c) (seen_capture r.contents) seed (sees c r.contents same seed) scenarios))
       by (Err fault) read is = absurd cc
 
--- ---- captures that differ in payloads alone
+-- and so is the summary
+pub heads_summed : (bytes : List ℕ) (scenarios : List (List Proxy)) → SummarySeesHeads → (c : Contents) → heads_in (reading bytes) ≡ Ok (heads_of c)
+    → summary_of_bytes bytes scenarios ≡ Ok (run_summary (seen_capture c) scenarios)
+heads_summed bytes scenarios sees c is = by (reading bytes) refl is
+  where
+    by : (read : Result Reading CaptureFault) → reading bytes ≡ read → heads_in read ≡ Ok (heads_of c) → summary_of_bytes bytes scenarios ≡ Ok (run_summary (seen_capture c) scenarios)
+    by (Ok r) read is =
+        let same : heads_of r.contents ≡ heads_of c = cc in
+        rw read (ap Ok (sees r.contents c same scenarios))
+    by (Err fault) read is = absurd cc
 
 module _ (sees : ReportSeesLengths) (scenarios : List (List Proxy)) (seed : ℕ) where
   reports_by : Bool → Result SeenCapture CaptureFault → Result (List ℕ) RunFault

@@ -22,7 +22,11 @@ pub nothing_committed : (folder : List ℕ) (had : Option History) → CommitsIn
 nothing_committed folder None = tt
 nothing_committed folder (Some h) = ap (λ (published : List PublishedFile). Some (record { first = h.first; published = published })) (sym (append-nil h.published))
 
--- nor did it since, where the disk's history is the same
+-- memory ran out before the first file was stored
+pub none_stored : (folder : List ℕ) (had : Option History) (files : List StoredFile) → StoresFiles (Err Memory) files (CommitsIn folder had had)
+none_stored folder had files = (0, omega arith, nothing_committed folder had)
+
+-- the same where the disk's history is the same
 still_none : (folder : List ℕ) (had now : Option History) → now ≡ had → CommitsIn folder had now []
 still_none folder had now same = subst (λ h. CommitsIn folder had h []) (sym same) (nothing_committed folder had)
 
@@ -42,8 +46,6 @@ pub refused_faults : (folder : List ℕ) (fault : RunFault) (expected : Result (
     → UnlessMemory expected (Err fault) → failed_stores folder (Err fault) ≡ 0
 refused_faults folder (ShelfFailed after) expected own is = absurd (subst (λ w. IfErr w IsOfText) is own)
 refused_faults folder fault expected own is = refl
-
--- ---- runs that are cut off
 
 module _ (whole : PublishingLeavesWhole) (folder : List ℕ) (old new : Option History) where
   first_part : (files : List StoredFile) (n : ℕ) → CommitsIn folder old new (take n files) → LeavesWhole old new (map (in_folder folder) files)

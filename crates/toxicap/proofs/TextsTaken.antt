@@ -60,8 +60,6 @@ module _ (hosts : List KnownHost) (texts : List (List ℕ)) (seed : ℕ) where
 pub not_dumped : (text : List ℕ) → is_dump text ≡ false → capture_bytes_of text ≡ Ok text
 not_dumped text is = rw is refl
 
--- ---- the reports of it
-
 pub is_fault : (expected : Result (List Output) RunFault) (fault : RunFault) → reports_in expected ≡ Err fault → expected ≡ Err fault
 is_fault (Ok outputs) fault is = absurd cc
 is_fault (Err other) fault is = let same : other ≡ fault = cc in ap Err same

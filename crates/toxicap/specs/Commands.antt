@@ -11,12 +11,13 @@
 --   8. the capture's own faults, in the order of `reading` (pcap_records, Reading);
 --   9. writing the reports fails (`WritesText`, in RunEnds), or a file cannot be stored (`StoresFiles`, in StoredOutputs).
 -- Out of memory may come at any step. Then no byte of a report was printed, but some files may be stored.
-use Rattle.std.specs.Prelude.{◌≡◌, ℕ, List, Option, Some, None, Result, Ok, Err, IsOk}
+use Rattle.std.specs.Prelude.{◌≡◌, ℕ, List, Option, Some, None, Result, Ok, Err, IfOk, IsOk}
 use Rattle.std.specs.Borrow.{Bor}
 use Rattle.std.specs.String.{string_bytes}
 use Rattle.command_line.specs.declared.asked.Asked.{Asked}
 use Rattle.command_line.specs.declared.error.Stop.{Stop}
 use Rattle.command_line.specs.declared.error.Stop.TheVariants as stop
+use Rattle.conn_workers.specs.declared.summaries.RunSummary.{RunSummary}
 use Rattle.run_files.specs.declared.error.RunFault.{RunFault}
 use Rattle.run_files.specs.declared.error.RunFault.TheVariants.{Memory}
 use Rattle.run_files.specs.declared.outputs.Output.{Output}
@@ -25,7 +26,8 @@ use Rattle.run_files.specs.Streams.{CountedView}
 use Rattle.toxicap.specs.Answering.{called_for}
 use Rattle.toxicap.specs.Inputs.{LoadedBy, LoadsCapture, LoadsFiles, hosts_asked, texts_or_no_proxies}
 use Rattle.toxicap.specs.PrintedReports.{PrintsOf}
-use Rattle.toxicap.specs.RunEnds.{Step, Tells, UnlessMemory, WritesText, Written, WrittenSoFar, status_of, usage_status, written}
+use Rattle.toxicap.specs.RunEnds.{Step, Tells, UnlessMemory, WritesText, Written, WrittenSoFar, status_of, usage_status, without_value, written}
+use Rattle.toxicap.specs.RunSummaries.{summary_of_texts}
 use Rattle.toxicap.specs.StoredOutputs.{StoresIn, DiskHistories}
 
 -- Statements about the reader and the writer that a run has for standard input and output. `Unread`: the reader is as it was. `Loaded`: loading
@@ -55,24 +57,30 @@ AnswersInto None outcome expected disk s = PrintsOf outcome expected s.output ×
 AnswersInto (Some folder) outcome expected disk s = StoresIn folder.now outcome expected disk × s.output.Unwritten
 
 -- The steps of a run, and how it ends: it reads the hosts, loads the scenario files and then the capture, and answers what the capture's text
--- calls for. The fault of a step is the outcome.
-abbrev pub RunsBy : Asked → Result (Unit {0}) RunFault → DiskHistories → Streams → Type 0
+-- calls for. The fault of a step is the outcome. A run that ends well gives its summary.
+abbrev pub RunsBy : Asked → Result RunSummary RunFault → DiskHistories → Streams → Type 0
 RunsBy asked outcome disk s =
     Step (UnlessMemory (hosts_asked asked)) outcome (Untouched disk s) (λ hosts.
     Step (LoadsFiles disk.before asked.scenarios.items) outcome (Untouched disk s) (λ files.
     Step (LoadsCapture disk.before asked.capture s.Unread s.Loaded) outcome (Unchanged disk s) (λ text.
-    AnswersInto asked.out outcome (called_for hosts (texts_or_no_proxies files) asked.seed text) disk s)))
+    AnswersInto asked.out (without_value outcome) (called_for hosts (texts_or_no_proxies files) asked.seed text) disk s
+    × IfOk outcome (λ summary. summary_of_texts hosts (texts_or_no_proxies files) text ≡ Ok summary))))
+
+-- the outcome of a command that is a run
+abbrev pub of_run : Result RunSummary RunFault → Result (Option RunSummary) RunFault
+of_run (Ok summary) = Ok (Some summary)
+of_run (Err fault) = Err fault
 
 -- how the program ends if its words have no usage fault
-abbrev pub CommandEnds : Result Asked Stop → Result (Unit {0}) RunFault → DiskHistories → Streams → Type 0
-CommandEnds (Ok asked) outcome disk s = RunsBy asked outcome disk s
-CommandEnds (Err (stop.Shown text)) outcome disk s = WritesText outcome (string_bytes text) s.output × s.Unread × (disk.after ≡ disk.before)
+abbrev pub CommandEnds : Result Asked Stop → Result (Option RunSummary) RunFault → DiskHistories → Streams → Type 0
+CommandEnds (Ok asked) outcome disk s = (run : Result RunSummary RunFault) × (outcome ≡ of_run run) × RunsBy asked run disk s
+CommandEnds (Err (stop.Shown text)) outcome disk s = WritesText (without_value outcome) (string_bytes text) s.output × s.Unread × (disk.after ≡ disk.before)
 CommandEnds (Err (stop.Usage text)) outcome disk s = ⊥
 CommandEnds (Err stop.Memory) outcome disk s = (outcome ≡ Err Memory) × Untouched disk s
 
 -- The exit status of the program, and the outcome that it stands for. A usage fault has status 2. Its outcome is Ok, since no run was begun, and
 -- nothing is read or written except what tells the fault.
-abbrev pub ProgramEnds : Result Asked Stop → ℕ → Result (Unit {0}) RunFault → DiskHistories → Streams → Written → Type 0
+abbrev pub ProgramEnds : Result Asked Stop → ℕ → Result (Option RunSummary) RunFault → DiskHistories → Streams → Written → Type 0
 ProgramEnds (Err (stop.Usage text)) status outcome disk s faults =
     (status ≡ usage_status) × IsOk outcome × WrittenSoFar (string_bytes text) faults × Untouched disk s
 ProgramEnds line status outcome disk s faults = CommandEnds line outcome disk s × (status ≡ status_of outcome) × Tells outcome faults

@@ -5,6 +5,7 @@ use Rattle.disks.specs.FileContents.{Held}
 use Rattle.disks.specs.Histories.{History, held_at, held_now}
 use Rattle.command_line.specs.Asking.{ReadsAs}
 use Rattle.command_line.specs.declared.asked.Asked.{Asked}
+use Rattle.conn_workers.specs.declared.summaries.RunSummary.{RunSummary}
 use Rattle.run_files.specs.declared.error.RunFault.{RunFault}
 use Rattle.run_files.specs.declared.outputs.Output.{Output}
 use Rattle.run_files.specs.Streams.{CountedView}
@@ -30,9 +31,9 @@ CallForTheSame old asked s cut again t =
 abbrev pub KilledRunsAreMended : {R W : Type 0} → (R → Option (List ℕ)) → (W → Option (List ℕ)) → Type 0
 KilledRunsAreMended remaining contents =
     (words : List (List ℕ)) (asked again : Asked) (old new cut mended : History) (n : ℕ) (path : List ℕ)
-    (r r2 s s2 : CountedView _) (w w2 x x2 : CountedView _)
-    → ReadsAs words (Ok asked) → RunsBy asked (Ok tt) (disk_histories (Some old) (Some new)) (streams remaining r r2 contents w w2)
+    (r r2 s s2 : CountedView _) (w w2 x x2 : CountedView _) (one other : RunSummary)
+    → ReadsAs words (Ok asked) → RunsBy asked (Ok one) (disk_histories (Some old) (Some new)) (streams remaining r r2 contents w w2)
     → length old.published ≤ n → ((p : List ℕ) → held_now cut p ≡ held_at new n p)
-    → ReadsAs words (Ok again) → RunsBy again (Ok tt) (disk_histories (Some cut) (Some mended)) (streams remaining s s2 contents x x2)
+    → ReadsAs words (Ok again) → RunsBy again (Ok other) (disk_histories (Some cut) (Some mended)) (streams remaining s s2 contents x x2)
     → CallForTheSame old asked (streams remaining r r2 contents w w2) cut again (streams remaining s s2 contents x x2)
     → held_now mended path ≡ held_now new path

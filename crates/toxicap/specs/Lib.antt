@@ -8,6 +8,7 @@ pub mod Answering
 pub mod PrintedReports
 pub mod HeldReports
 pub mod StoredOutputs
+pub mod RunSummaries
 pub mod RunEnds
 pub mod Inputs
 pub mod HostLines

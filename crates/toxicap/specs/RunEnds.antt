@@ -20,6 +20,11 @@ GoesOn (Err fault) outcome AsBefore Next = (outcome ≡ Err fault) × AsBefore
 abbrev pub Step : {A B : Type 0} → (Result A RunFault → Type 0) → Result B RunFault → Type 0 → (A → Type 0) → Type 0
 Step {A} Gives outcome AsBefore Next = (given : Result A RunFault) × Gives given × GoesOn given outcome AsBefore Next
 
+-- an outcome without its value
+abbrev pub without_value : {A : Type 0} → Result A RunFault → Result (Unit {0}) RunFault
+without_value (Ok _) = Ok tt
+without_value (Err fault) = Err fault
+
 -- ---- what is written
 
 -- What is said of a writer over a run: it wrote nothing; it wrote this whole text, and no write failed; it wrote this text, and then one write failed.
@@ -48,7 +53,7 @@ WrittenSoFar text w = w.Wrote text ⊎ ((count : ℕ) × (count < length text) �
 
 -- ---- how an outcome is told
 
-abbrev pub status_of : Result (Unit {0}) RunFault → ℕ
+abbrev pub status_of : {A : Type 0} → Result A RunFault → ℕ
 status_of (Ok _) = 0
 status_of (Err _) = 1
 
@@ -64,6 +69,6 @@ abbrev pub text_with_line_feed : List ℕ → List ℕ
 text_with_line_feed text = text ++ codes "\n"
 
 -- What is printed of an outcome: of a fault its line, as far as the writes go, or nothing if there is no memory for the line.
-abbrev pub Tells : Result (Unit {0}) RunFault → Written → Type 0
+abbrev pub Tells : {A : Type 0} → Result A RunFault → Written → Type 0
 Tells (Ok _) w = w.Unwritten
 Tells (Err fault) w = w.Unwritten ⊎ WrittenSoFar (text_with_line_feed (fault_text fault)) w

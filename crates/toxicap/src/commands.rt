@@ -1,16 +1,18 @@
 //! The program: from the words of its command line to an exit status.
-ghost use Rattle.std.specs.Prelude.{◌≡◌, ◌≢◌, ◌+◌, ◌-◌, ◌^◌, ◌<◌, ◌≤◌, map, None, Result, Err};
+ghost use Rattle.std.specs.Prelude.{◌≡◌, ◌≢◌, ◌+◌, ◌-◌, ◌^◌, ◌<◌, ◌≤◌, map, None, Option, Result, Err};
 ghost use Rattle.std.specs.IoError.{error_kind};
 ghost use Rattle.command_line.specs.Asking.{ReadsAs};
 ghost use Rattle.command_line.specs.declared.asked.Asked.{Asked};
 ghost use Rattle.command_line.specs.declared.error.Stop.{Stop};
-ghost use Rattle.toxicap.specs.Commands.{ProgramEnds, failed_calls, folder_of, streams};
-ghost use Rattle.toxicap.specs.RunEnds.{Tells, WrittenSoFar, no_text, status_of, text_with_line_feed, usage_status, written};
+ghost use Rattle.conn_workers.specs.declared.summaries.RunSummary.{RunSummary};
+ghost use Rattle.toxicap.specs.Commands.{ProgramEnds, failed_calls, folder_of, of_run, streams};
+ghost use Rattle.toxicap.specs.RunEnds.{Tells, WritesText, WrittenSoFar, no_text, status_of, text_with_line_feed, usage_status, without_value, written};
 ghost use Rattle.toxicap.specs.StoredOutputs.{disk_histories};
 
 mod runs;
 
 use command_line::{Stop, read_arguments};
+use conn_workers::RunSummary;
 use disks::{HostDisk, Lockable, ReadDisk};
 use run_files::{Counted, RunFault, fault_line, write_bytes, write_texts};
 use runs::run_asked;
@@ -51,7 +53,7 @@ where
     ensures quiet { result ≡ 0 → faults.new ≡ faults.old }
     ensures usage { result ≡ 2 → (input.new ≡ input.old) × (output.new ≡ output.old) }
 
-    ensures ends { (line : Result Asked Stop) × (outcome : Result (Unit {0}) RunFault) × ReadsAs (map S.text words.now) line
+    ensures ends { (line : Result Asked Stop) × (outcome : Result (Option RunSummary) RunFault) × ReadsAs (map S.text words.now) line
         × ProgramEnds line result outcome (disk_histories None None)
         (streams I.remaining input.old input.new O.contents output.old output.new) (written E.contents faults.old faults.new) }
 {
@@ -60,7 +62,8 @@ where
 }
 
 /// [`command`] over any disk: its scenario files and its capture are loaded from there, and its outputs stored there. Beside the status
-/// stands the outcome that it is the status of, and `Ok` at a fault of the command line.
+/// stands the outcome that it is the status of: after a run that ended well its summary; `Ok(None)` at a fault of the command line, and if
+/// help was shown.
 ///
 /// If the disk tells its history, the outcome follows from it: each scenario is the text at its own path, and the capture that at its path;
 /// of several files at fault the first counts, in the order of the scenarios, and then the capture. After a run of status 0 the files of the
@@ -83,7 +86,7 @@ pub fn command_over<
     input: &mut Counted<I>,
     output: &mut Counted<O>,
     faults: &mut Counted<E>,
-) -> (u8, Result<(), RunFault>)
+) -> (u8, Result<Option<RunSummary>, RunFault>)
 where
     D::File: Sync,
     D::Draft: Send,
@@ -97,24 +100,24 @@ where
     ensures ends { (line : Result Asked Stop) × ReadsAs (map S.text words.now) line
         × ProgramEnds line result.0 result.1 (disk_histories (D.history disk.old) (D.history disk.new))
         (streams I.remaining input.old input.new O.contents output.old output.new) (written E.contents faults.old faults.new)
-        × (D.faults disk.new ≡ D.faults disk.old + failed_calls (folder_of line) result.1) }
+        × (D.faults disk.new ≡ D.faults disk.old + failed_calls (folder_of line) (without_value result.1)) }
 {
     match read_arguments(alloc, words) {
         Ok(asked) => {
-            let outcome = run_asked(rt, disk, alloc, &asked, input, output);
-            (report_outcome(alloc, outcome, faults), outcome)
+            let outcome = of_run(run_asked(rt, disk, alloc, &asked, input, output));
+            (report_outcome(alloc, &outcome, faults), outcome)
         }
         Err(Stop::Shown(text)) => {
-            let outcome = write_bytes(output, text.as_bytes());
-            (report_outcome(alloc, outcome, faults), outcome)
+            let outcome = show(output, text.as_bytes());
+            (report_outcome(alloc, &outcome, faults), outcome)
         }
         Err(Stop::Memory) => {
             let outcome = Err(RunFault::Memory);
-            (report_outcome(alloc, outcome, faults), outcome)
+            (report_outcome(alloc, &outcome, faults), outcome)
         }
         Err(Stop::Usage(text)) => {
             write_text(faults, text.as_bytes());
-            (2, Ok(()))
+            (2, Ok(None))
         }
     }
 }
@@ -123,30 +126,45 @@ where
 /// else 2, with a line that says that a word is no text.
 pub fn refuse_words<E: Write>(alloc: Global, error: &Error, faults: &mut Counted<E>) -> u8
     requires { faults.old.failed < 2 ^ 64 - 1 }
-    ensures memory { error_kind error.now ≡ ErrorKind.OutOfMemory → (result ≡ 1) × Tells (Err RunFault.Memory) (written E.contents faults.old faults.new) }
+    ensures memory { error_kind error.now ≡ ErrorKind.OutOfMemory → (result ≡ 1) × Tells {A = Unit {0}} (Err RunFault.Memory) (written E.contents faults.old faults.new) }
     ensures no_text { error_kind error.now ≢ ErrorKind.OutOfMemory → (result ≡ usage_status)
         × WrittenSoFar (text_with_line_feed no_text) (written E.contents faults.old faults.new) }
 {
     if error.kind() == ErrorKind::OutOfMemory {
-        return report_outcome(alloc, Err(RunFault::Memory), faults);
+        let outcome: Result<(), RunFault> = Err(RunFault::Memory);
+        return report_outcome(alloc, &outcome, faults);
     }
     write_line(faults, NO_TEXT);
     2
 }
 
-fn report_outcome<W: Write>(
+fn of_run(run: Result<RunSummary, RunFault>) -> Result<Option<RunSummary>, RunFault>
+    ensures { result ≡ of_run run }
+{
+    Ok(Some(run?))
+}
+
+fn show<W: Write>(writer: &mut Counted<W>, text: &[u8]) -> Result<Option<RunSummary>, RunFault>
+    requires { writer.old.failed < 2 ^ 64 - 1 }
+    ensures { WritesText (without_value result) text.now (written W.contents writer.old writer.new) }
+{
+    write_bytes(writer, text)?;
+    Ok(None)
+}
+
+fn report_outcome<A, W: Write>(
     alloc: Global,
-    outcome: Result<(), RunFault>,
+    outcome: &Result<A, RunFault>,
     faults: &mut Counted<W>,
 ) -> u8
     requires { faults.old.failed < 2 ^ 64 - 1 }
-    ensures status { result ≡ status_of outcome }
-    ensures told { Tells outcome (written W.contents faults.old faults.new) }
+    ensures status { result ≡ status_of outcome.now }
+    ensures told { Tells outcome.now (written W.contents faults.old faults.new) }
 {
     let Err(fault) = outcome else {
         return 0;
     };
-    if let Ok(line) = fault_line(alloc, &fault) {
+    if let Ok(line) = fault_line(alloc, fault) {
         write_line(faults, line.as_bytes());
     }
     1

@@ -20,6 +20,7 @@ mod storing;
 
 pub use answering::{Options, answers};
 pub use commands::{command, command_over, refuse_words};
+pub use conn_workers::RunSummary;
 pub use host_lines::read_host_lines;
 pub use job_matrix::{Plan, Through};
 pub use one_thread::{answers_alone, rehearse_alone, report_answers_alone, reports_alone};

@@ -38,7 +38,7 @@ pub fn reports_alone(
 ) -> Result<ReportText, RunFault>
     ensures { Agrees run_refusal (λ text. text) result (reports_in (answer capture.now scenarios.now seed)) }
 {
-    let reports = rehearse_reports(&Alone, alloc, FileBytes::Whole(capture), scenarios, seed)?;
+    let (reports, _) = rehearse_reports(&Alone, alloc, FileBytes::Whole(capture), scenarios, seed)?;
     let text = reports.text(alloc)?;
     Ok(text)
 }
@@ -66,7 +66,7 @@ pub fn report_answers_alone(
 ) -> Result<ReportText, RunFault>
     ensures { UnlessMemory (reports_in (called_for hosts.now (map (λ t. t.now) texts.now) seed text.now)) result }
 {
-    let reports = text_reports(&Alone, alloc, Text::lent(text), texts, hosts, seed)?;
+    let (reports, _) = text_reports(&Alone, alloc, Text::lent(text), texts, hosts, seed)?;
     let text = reports.text(alloc)?;
     Ok(text)
 }

@@ -1,12 +1,14 @@
 //! What a rehearsal takes, read of texts.
 ghost use Rattle.std.specs.Prelude.{◌≡◌, ℕ, ◌≤◌, [], IfErr, IfOk, Err, Ok, length, map};
 ghost use Rattle.lists.specs.Agreement.{AgreesUnlessMemory, Refuses};
-ghost use Rattle.pcap_records.specs.CaptureView.{bytes_of};
+ghost use Rattle.conn_table.specs.SeenCapture.{seen_capture};
+ghost use Rattle.pcap_records.specs.CaptureView.{bytes_of, contents_of};
+ghost use Rattle.pcap_records.specs.Reading.{reading};
 ghost use Rattle.run_files.specs.RunFault.{run_refusal};
 ghost use Rattle.scenarios.specs.Populate.{scenario};
-ghost use Rattle.toxicap.specs.Answering.{called_for, numbered, scenarios_from};
+ghost use Rattle.toxicap.specs.Answering.{called_for, capture_bytes_of, numbered, scenarios_from};
 ghost use Rattle.toxicap.specs.CaptureOutputs.{outputs_for};
-ghost use Rattle.toxicap.specs.Rehearsal.{answer, scenario_limit};
+ghost use Rattle.toxicap.specs.Rehearsal.{answer, scenario_limit, seen_file};
 ghost use Rattle.toxicap.specs.RunEnds.{UnlessMemory};
 
 use pcap_records::{CAPTURE_LIMIT, Capture, FileBytes, read_file};
@@ -36,6 +38,7 @@ pub(crate) fn read_inputs<'t>(
     hosts: &Hosts,
 ) -> Result<Inputs<'t>, RunFault>
     ensures taken { IfOk result (λ i. (seed : ℕ) → called_for hosts.now (map (λ t. t.now) texts.now) seed text.entry ≡ answer i.capture i.scenarios.items seed) }
+    ensures read { IfOk result (λ i. (capture_bytes_of text.entry ≡ Ok i.capture) × (scenarios_from hosts.now [] (map (λ t. t.now) texts.now) ≡ Ok i.scenarios.items)) }
     ensures refused { IfErr result (λ fault. (seed : ℕ) → UnlessMemory (called_for hosts.now (map (λ t. t.now) texts.now) seed text.entry) (Err fault)) }
 {
     let len = text.bytes().len();
@@ -84,6 +87,7 @@ pub(crate) fn read_rehearsed<'a>(
     scenarios: &[Scenario],
 ) -> Result<Capture<'a>, RunFault>
     ensures few { IfOk result (λ c. length scenarios.now ≤ scenario_limit) }
+    ensures seen { IfOk result (λ c. seen_file (reading (bytes_of capture.entry)) ≡ Ok (seen_capture (contents_of c))) }
     ensures answered { IfOk result (λ c. (seed : ℕ) → answer (bytes_of capture.entry) scenarios.now seed ≡ Ok (outputs_for c scenarios.now seed)) }
     ensures refused { IfErr result (λ fault. (seed : ℕ) → Refuses (run_refusal fault) (answer (bytes_of capture.entry) scenarios.now seed)) }
 {

@@ -1,16 +1,18 @@
-//! The reports of a rehearsal alone, held in memory: no segment is written, and no capture made.
+//! The reports of a rehearsal alone, held in memory, and its summary: no segment is written, and no capture made.
 ghost use Rattle.run_files.specs.RunFault.{run_refusal};
 ghost use Rattle.toxicap.specs.PrintedReports.{reports_in};
 ghost use Rattle.run_files.specs.WrittenOutputs.{reports_of};
 ghost use Rattle.toxicap.specs.Answering.{called_for};
-ghost use Rattle.pcap_records.specs.CaptureView.{bytes_of, capture_refusal};
+ghost use Rattle.conn_table.specs.SeenCapture.{seen_capture};
+ghost use Rattle.conn_workers.specs.RunSummaries.{run_summary};
+ghost use Rattle.pcap_records.specs.CaptureView.{bytes_of, capture_refusal, contents_of};
 ghost use Rattle.lists.specs.Agreement.{Agrees, AgreesUnlessMemory};
 ghost use Rattle.pcap_records.specs.Reading.{capture_limit, reading};
 ghost use Rattle.toxicap.specs.Rehearsal.{answer, scenario_limit};
 ghost use Rattle.pcap_records.specs.Heads.{heads_in};
-ghost use Rattle.std.specs.Prelude.{◌≡◌, ◌≤◌, IfOk, List, length, map, ℕ};
+ghost use Rattle.std.specs.Prelude.{◌≡◌, ◌≤◌, IfOk, List, Ok, length, map, ℕ};
 ghost use Rattle.run_files.specs.SeenTexts.{IsSeenOf};
-ghost use Rattle.toxicap.specs.RunEnds.{UnlessMemory};
+ghost use Rattle.toxicap.specs.RunSummaries.{summary_of_bytes, summary_of_texts};
 ghost use Rattle.toxicap.specs.CaptureOutputs.{outputs_for};
 ghost use Rattle.conn_workers.specs.CaptureTables.{whole_table};
 ghost use Rattle.toxicap.specs.HeadsAndRows.{heads_of};
@@ -21,6 +23,7 @@ use crate::crews::Crew;
 use crate::reading::{SCENARIO_LIMIT, read_inputs, read_rehearsed, read_texts};
 use conn_table::Table;
 use conn_workers::laws::lines_are_contributed;
+use conn_workers::{RunSummary, conns_together, run_summary};
 use held_reports::HeldReports;
 use pcap_records::{Capture, CaptureFault, FileBytes, KeptHeads};
 use report::{ReportText, report_head};
@@ -28,6 +31,9 @@ use report_laws::laws::report_sees_heads;
 use run_files::{RunFault, SeenText, Text};
 use scenarios::{Hosts, Scenario};
 use std::alloc::{AllocError, Global};
+
+/// The reports of a rehearsal, and its summary.
+pub(crate) type MadeReports = (HeldReports, RunSummary);
 
 /// The reports that a capture's text and the texts of scenarios call for, of what was seen of the capture's text.
 pub(crate) fn seen_reports<C: Crew>(
@@ -37,10 +43,12 @@ pub(crate) fn seen_reports<C: Crew>(
     texts: &[&[u8]],
     hosts: &Hosts,
     seed: u64,
-) -> Result<HeldReports, RunFault>
+) -> Result<MadeReports, RunFault>
     requires { C.shares crew.now }
-    ensures { (text : List ℕ) → length text ≤ capture_limit → IsSeenOf seen text
-        → UnlessMemory (reports_in (called_for hosts.now (map (λ t. t.now) texts.now) seed text)) result }
+    ensures reports { (text : List ℕ) → length text ≤ capture_limit → IsSeenOf seen text
+        → AgreesUnlessMemory run_refusal (λ made. made.0) result (reports_in (called_for hosts.now (map (λ t. t.now) texts.now) seed text)) }
+    ensures summary { (text : List ℕ) → length text ≤ capture_limit → IsSeenOf seen text
+        → IfOk result (λ made. summary_of_texts hosts.now (map (λ t. t.now) texts.now) text ≡ Ok made.1) }
 {
     match seen {
         SeenText::Dump(text) => text_reports(crew, alloc, text, texts, hosts, seed),
@@ -59,9 +67,10 @@ pub(crate) fn text_reports<C: Crew>(
     texts: &[&[u8]],
     hosts: &Hosts,
     seed: u64,
-) -> Result<HeldReports, RunFault>
+) -> Result<MadeReports, RunFault>
     requires { C.shares crew.now }
-    ensures { UnlessMemory (reports_in (called_for hosts.now (map (λ t. t.now) texts.now) seed text.entry)) result }
+    ensures reports { AgreesUnlessMemory run_refusal (λ made. made.0) result (reports_in (called_for hosts.now (map (λ t. t.now) texts.now) seed text.entry)) }
+    ensures summary { IfOk result (λ made. summary_of_texts hosts.now (map (λ t. t.now) texts.now) text.entry ≡ Ok made.1) }
 {
     let inputs = read_inputs(alloc, text, texts, hosts)?;
     rehearse_reports(crew, alloc, inputs.capture.bytes(), &inputs.scenarios, seed)
@@ -74,10 +83,12 @@ fn head_reports<C: Crew>(
     heads: Result<KeptHeads, CaptureFault>,
     scenarios: &[Scenario],
     seed: u64,
-) -> Result<HeldReports, RunFault>
+) -> Result<MadeReports, RunFault>
     requires { C.shares crew.now }
-    ensures { (bytes : List ℕ) → AgreesUnlessMemory capture_refusal (λ h. h) heads (heads_in (reading bytes))
-        → UnlessMemory (reports_in (answer bytes scenarios.now seed)) result }
+    ensures reports { (bytes : List ℕ) → AgreesUnlessMemory capture_refusal (λ h. h) heads (heads_in (reading bytes))
+        → AgreesUnlessMemory run_refusal (λ made. made.0) result (reports_in (answer bytes scenarios.now seed)) }
+    ensures summary { (bytes : List ℕ) → AgreesUnlessMemory capture_refusal (λ h. h) heads (heads_in (reading bytes))
+        → IfOk result (λ made. summary_of_bytes bytes scenarios.now ≡ Ok made.1) }
 {
     report_sees_heads();
     if scenarios.len() > SCENARIO_LIMIT {
@@ -86,24 +97,25 @@ fn head_reports<C: Crew>(
     let heads = heads?;
     let (bytes, records) = heads.split();
     let capture = records.over(&bytes);
-    let reports = made_reports(crew, alloc, &capture, scenarios, seed)?;
-    Ok(reports)
+    let made = made_reports(crew, alloc, &capture, scenarios, seed)?;
+    Ok(made)
 }
 
-/// The reports of the outputs that `rehearse` gives, whoever does the work.
+/// The reports of the outputs that `rehearse` gives, and the summary, whoever does the work.
 pub(crate) fn rehearse_reports<C: Crew>(
     crew: &C,
     alloc: Global,
     capture: FileBytes<'_>,
     scenarios: &[Scenario],
     seed: u64,
-) -> Result<HeldReports, RunFault>
+) -> Result<MadeReports, RunFault>
     requires { C.shares crew.now }
-    ensures { Agrees run_refusal (λ text. text) result (reports_in (answer (bytes_of capture.entry) scenarios.now seed)) }
+    ensures reports { Agrees run_refusal (λ made. made.0) result (reports_in (answer (bytes_of capture.entry) scenarios.now seed)) }
+    ensures summary { IfOk result (λ made. summary_of_bytes (bytes_of capture.entry) scenarios.now ≡ Ok made.1) }
 {
     let capture = read_rehearsed(alloc, capture, scenarios)?;
-    let reports = made_reports(crew, alloc, &capture, scenarios, seed)?;
-    Ok(reports)
+    let made = made_reports(crew, alloc, &capture, scenarios, seed)?;
+    Ok(made)
 }
 
 // The crew makes the table of the capture, and then the lines of its connections in all reports at once.
@@ -113,16 +125,19 @@ fn made_reports<C: Crew>(
     capture: &Capture<'_>,
     scenarios: &[Scenario],
     seed: u64,
-) -> Result<HeldReports, AllocError>
+) -> Result<MadeReports, AllocError>
     requires crew { C.shares crew.now }
     requires few { length scenarios.now ≤ scenario_limit }
-    ensures { IfOk result (λ reports. reports ≡ reports_of (outputs_for capture.now scenarios.now seed)) }
+    ensures reports { IfOk result (λ made. made.0 ≡ reports_of (outputs_for capture.now scenarios.now seed)) }
+    ensures summary { IfOk result (λ made. made.1 ≡ run_summary (seen_capture (contents_of capture.now)) scenarios.now) }
 {
     lines_are_contributed();
     let table = crew.table(alloc, capture)?;
     let heads = report_heads(alloc, capture, &table, scenarios.len())?;
     let shares = crew.report_texts(alloc, capture, &table, scenarios, seed)?;
-    Ok(HeldReports::of(heads, shares))
+    let connections = conns_together(alloc, shares.as_slice())?;
+    let summary = run_summary(alloc, capture, &table, connections, scenarios)?;
+    Ok((HeldReports::of(heads, shares), summary))
 }
 
 /// The first two lines of each report.

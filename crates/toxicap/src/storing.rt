@@ -1,7 +1,9 @@
 //! Outputs that are stored as they are made, a few scenarios after another.
-ghost use Rattle.std.specs.Prelude.{◌≡◌, ◌+◌, ◌-◌, ◌^◌, ◌<◌, ◌≤◌, IfErr, List, Result, length};
+ghost use Rattle.std.specs.Prelude.{◌≡◌, ◌+◌, ◌-◌, ◌^◌, ◌<◌, ◌≤◌, IfErr, IfOk, List, Ok, Result, length};
 ghost use Rattle.lists.specs.Agreement.{Agrees};
-ghost use Rattle.pcap_records.specs.CaptureView.{bytes_of};
+ghost use Rattle.conn_table.specs.SeenCapture.{seen_capture};
+ghost use Rattle.conn_workers.specs.RunSummaries.{run_summary};
+ghost use Rattle.pcap_records.specs.CaptureView.{bytes_of, contents_of};
 ghost use Rattle.run_files.specs.declared.error.RunFault.{RunFault};
 ghost use Rattle.run_files.specs.declared.outputs.Output.{Output};
 ghost use Rattle.run_files.specs.Folders.{CommitsIn, failed_stores};
@@ -9,7 +11,8 @@ ghost use Rattle.run_files.specs.RunFault.{outcome_of_storing, run_refusal};
 ghost use Rattle.run_files.specs.WrittenOutputs.{files_from, stored_before};
 ghost use Rattle.toxicap.specs.CaptureOutputs.{outputs_for, outputs_from};
 ghost use Rattle.toxicap.specs.Rehearsal.{answer, scenario_limit};
-ghost use Rattle.toxicap.specs.RunEnds.{Step};
+ghost use Rattle.toxicap.specs.RunEnds.{Step, without_value};
+ghost use Rattle.toxicap.specs.RunSummaries.{summary_of_bytes};
 ghost use Rattle.toxicap.specs.StoredOutputs.{StoresFiles};
 
 mod drafting;
@@ -18,6 +21,7 @@ use crate::crews::{Crew, Workers};
 use crate::reading::read_rehearsed;
 use crate::reports::report_heads;
 use crate::sources::Sources;
+use conn_workers::{RunSummary, run_summary, seen_conns};
 use disks::Disk;
 use drafting::drafts_from;
 use pcap_records::{Capture, FileBytes};
@@ -28,7 +32,7 @@ use std::thread::Threads;
 
 /// Rehearses a capture under each of the scenarios and puts the files of their outputs into a folder, in order: those that `store_all`
 /// puts of what `rehearse` answers. The folder is held first, if there is a scenario. At one time at most one scenario for each worker
-/// has its rows in memory, and at most two for each worker have drafts.
+/// has its rows in memory, and at most two for each worker have drafts. It returns the summary of the run.
 ///
 /// # Errors
 /// Those of `rehearse`, and [`RunFault::ShelfFailed`] at the first file that the folder does not take.
@@ -40,14 +44,15 @@ pub(crate) fn store_rehearsal<R: Threads + Sync, D: Disk + Sync>(
     seed: u64,
     folder: &Folder<'_>,
     disk: &mut D,
-) -> Result<(), RunFault>
+) -> Result<RunSummary, RunFault>
 where
     D::Draft: Send,
     requires { D.faults disk.old < 2 ^ 64 - 1 }
     ensures stored { Step (λ (made : Result (List Output) RunFault). Agrees run_refusal (λ outputs. outputs) made
-        (answer (bytes_of capture.entry) scenarios.now seed)) result (D.history disk.new ≡ D.history disk.old)
-        (λ outputs. StoresFiles result (files_from 0 outputs) (CommitsIn folder.now (D.history disk.old) (D.history disk.new))) }
-    ensures faults { D.faults disk.new ≡ D.faults disk.old + failed_stores folder.now result }
+        (answer (bytes_of capture.entry) scenarios.now seed)) (without_value result) (D.history disk.new ≡ D.history disk.old)
+        (λ outputs. StoresFiles (without_value result) (files_from 0 outputs) (CommitsIn folder.now (D.history disk.old) (D.history disk.new))) }
+    ensures faults { D.faults disk.new ≡ D.faults disk.old + failed_stores folder.now (without_value result) }
+    ensures summary { IfOk result (λ summary. summary_of_bytes (bytes_of capture.entry) scenarios.now ≡ Ok summary) }
 {
     let capture = read_rehearsed(alloc, capture, scenarios)?;
     hold_for(alloc, scenarios, folder, disk)?;
@@ -73,6 +78,7 @@ fn hold_for<D: Disk>(
 }
 
 // The capture's records are dropped before the first output is made.
+#[tactic(auto, using(crate::proofs::StoringEnds::none_stored))]
 fn store_outputs<R: Threads + Sync, D: Disk + Sync>(
     crew: &Workers<'_, R>,
     alloc: Global,
@@ -81,20 +87,24 @@ fn store_outputs<R: Threads + Sync, D: Disk + Sync>(
     seed: u64,
     folder: &Folder<'_>,
     disk: &mut D,
-) -> Result<(), RunFault>
+) -> Result<RunSummary, RunFault>
 where
     D::Draft: Send,
     requires few { length scenarios.now ≤ scenario_limit }
     requires faults { D.faults disk.old < 2 ^ 64 - 1 }
-    ensures stored { StoresFiles result (files_from 0 (outputs_for capture.entry scenarios.now seed))
+    ensures stored { StoresFiles (without_value result) (files_from 0 (outputs_for capture.entry scenarios.now seed))
         (CommitsIn folder.now (D.history disk.old) (D.history disk.new)) }
-    ensures faults { D.faults disk.new ≡ D.faults disk.old + failed_stores folder.now result }
+    ensures faults { D.faults disk.new ≡ D.faults disk.old + failed_stores folder.now (without_value result) }
+    ensures summary { IfOk result (λ summary. summary ≡ run_summary (seen_capture (contents_of capture.entry)) scenarios.now) }
 {
     let table = crew.table(alloc, &capture)?;
     let heads = report_heads(alloc, &capture, &table, scenarios.len())?;
     let recordings = crew.record(alloc, &capture, &table)?;
+    let connections = seen_conns(alloc, recordings.as_slice())?;
+    let summary = run_summary(alloc, &capture, &table, connections, scenarios)?;
     let sources = Sources::of(alloc, capture, &heads, &recordings, scenarios, seed);
-    store_each(crew, &sources, folder, disk)
+    store_each(crew, &sources, folder, disk)?;
+    Ok(summary)
 }
 
 fn store_each<R: Threads + Sync, D: Disk + Sync>(

@@ -18,15 +18,14 @@ mod tips;
 use command_line::{Asked, Stop, read_arguments};
 use disks::HostDisk;
 use run::{HEADER_LEN, Run};
-use run_files::{TeeReader, TeeWriter};
+use run_files::TeeReader;
 use std::io::{Cursor, IsTerminal};
 use std::process::ExitCode;
 use std::sync::atomic::AtomicU64;
 use std::{env, io};
-use summary::Summary;
 use terminal::{Announced, Counting};
 use tips::tip_of;
-use toxicap::{Counted, RunFault, command_over, refuse_words};
+use toxicap::{Counted, RunFault, RunSummary, command_over, refuse_words};
 
 fn main(rt: HostRuntime) -> ExitCode {
     let mut faults = Counted::new(rt.stderr());
@@ -47,10 +46,6 @@ fn main(rt: HostRuntime) -> ExitCode {
         },
         copy: Cursor::new([0; HEADER_LEN]),
     });
-    let mut output = Counted::new(TeeWriter {
-        inner: rt.stdout(),
-        copy: Summary::new(rt.alloc(), on_terminal.is_some()),
-    });
     let files = Counting {
         rt: &rt,
         all: on_terminal.map_or(0, |asked| asked.scenarios.len() as u64),
@@ -62,13 +57,13 @@ fn main(rt: HostRuntime) -> ExitCode {
         rt.alloc(),
         &words,
         &mut input,
-        &mut output,
+        &mut Counted::new(rt.stdout()),
         &mut faults,
     );
     if let Some(asked) = asked.as_ref().filter(|_| is_terminal || outcome.is_err()) {
-        let (start, printed) = (input.into_inner().copy, output.into_inner().copy);
+        let start = input.into_inner().copy;
         let first_bytes = start.get_ref().get(..start.position() as usize);
-        print_line(&rt, asked, first_bytes.unwrap_or(&[]), outcome, printed);
+        print_line(&rt, asked, first_bytes.unwrap_or(&[]), outcome);
     } else if asked.is_none() && (is_terminal || is_hinted) {
         print_tip(&rt, &words);
     }
@@ -83,8 +78,7 @@ fn print_line(
     rt: &HostRuntime,
     asked: &Asked<'_>,
     first_bytes: &[u8],
-    outcome: Result<(), RunFault>,
-    printed: Summary,
+    outcome: Result<Option<RunSummary>, RunFault>,
 ) {
     let run = Run {
         files: rt,
@@ -93,10 +87,11 @@ fn print_line(
         first_bytes,
     };
     let line = match outcome {
-        Ok(()) => run.summed_up(printed),
-        Err(fault) => run.remedy(fault).map(Some),
+        Ok(None) => return,
+        Ok(Some(summary)) => run.summed_up(&summary),
+        Err(fault) => run.remedy(fault),
     };
-    if let Ok(Some(line)) = line {
+    if let Ok(line) = line {
         let _ = eprintln!(rt; "toxicap: {line}");
     }
 }

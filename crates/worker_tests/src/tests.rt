@@ -8,5 +8,6 @@ mod one_thread;
 mod range_tables;
 mod recorded_bytes;
 mod report_texts;
+mod summaries;
 mod tables;
 mod workers;

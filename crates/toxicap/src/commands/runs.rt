@@ -1,12 +1,13 @@
 //! A run that a command line asks for.
 ghost use Rattle.toxicap.specs.Inputs.{IsOfFiles, LoadedBy, LoadsCapture, texts_from, texts_or_no_proxies};
 ghost use Rattle.disks.specs.Histories.{held_now};
-ghost use Rattle.std.specs.Prelude.{◌≡◌, ◌+◌, ◌-◌, ◌^◌, ◌<◌, ◌≤◌, ℕ, List, Result, map, IfErr, [], length, IfOk, IfSome};
+ghost use Rattle.std.specs.Prelude.{◌≡◌, ◌+◌, ◌-◌, ◌^◌, ◌<◌, ◌≤◌, ℕ, List, Result, map, IfErr, [], length, IfOk, IfSome, Ok};
 ghost use Rattle.lists.specs.Agreement.{AgreesUnlessMemory};
 ghost use Rattle.toxicap.specs.PrintedReports.{PrintsOf};
 ghost use Rattle.command_line.specs.Asking.{IsPlanInRange};
 ghost use Rattle.run_files.specs.declared.error.RunFault.{RunFault};
-ghost use Rattle.toxicap.specs.RunEnds.{written};
+ghost use Rattle.toxicap.specs.RunEnds.{without_value, written};
+ghost use Rattle.toxicap.specs.RunSummaries.{summary_of_texts};
 ghost use Rattle.toxicap.specs.Answering.{called_for};
 ghost use Rattle.toxicap.specs.StoredOutputs.{StoresIn, disk_histories};
 ghost use Rattle.pcap_records.specs.Reading.{capture_limit};
@@ -22,6 +23,7 @@ use crate::reading::read_inputs;
 use crate::reports::seen_reports;
 use crate::storing::store_rehearsal;
 use command_line::Asked;
+use conn_workers::RunSummary;
 use disks::laws::publishing_leaves_whole;
 use disks::{Disk, ReadDisk, ReadFiles};
 use job_matrix::Plan;
@@ -35,7 +37,7 @@ use std::sync::Wait;
 use std::thread::Threads;
 
 /// Reads first the hosts of a command line, then its scenario files, then the capture, from `reader` if no file is named. The answers are
-/// stored in its folder; if it names none, the reports are printed on `writer`.
+/// stored in its folder; if it names none, the reports are printed on `writer`. Then it returns the summary of the run.
 pub(crate) fn run_asked<H: Threads + Wait + Sync, D: ReadDisk + Sync, R: Read, W: Write>(
     rt: &H,
     disk: &mut D,
@@ -43,7 +45,7 @@ pub(crate) fn run_asked<H: Threads + Wait + Sync, D: ReadDisk + Sync, R: Read, W
     asked: &Asked<'_>,
     reader: &mut Counted<R>,
     writer: &mut Counted<W>,
-) -> Result<(), RunFault>
+) -> Result<RunSummary, RunFault>
 where
     D::File: Sync,
     D::Draft: Send,
@@ -53,7 +55,7 @@ where
     requires writes { writer.old.failed < 2 ^ 64 - 1 }
     ensures runs { RunsBy asked.now result (disk_histories (D.history disk.old) (D.history disk.new))
         (streams R.remaining reader.old reader.new W.contents writer.old writer.new) }
-    ensures failed_calls { D.faults disk.new ≡ D.faults disk.old + failed_calls asked.now.out result }
+    ensures failed_calls { D.faults disk.new ≡ D.faults disk.old + failed_calls asked.now.out (without_value result) }
 {
     let hosts = read_hosts(alloc, &asked.hosts)?;
     let mut read = ReadFiles::new(alloc);
@@ -81,18 +83,21 @@ fn print_answers<H: Threads + Wait + Sync, W: Write>(
     writer: &mut Counted<W>,
     texts: &[&[u8]],
     options: &Options,
-) -> Result<(), RunFault>
+) -> Result<RunSummary, RunFault>
     requires { writer.old.failed < 2 ^ 64 - 1 }
-    ensures { (text : List ℕ) → length text ≤ capture_limit → IsSeenOf seen text
-        → PrintsOf result (called_for options.now.hosts (map (λ t. t.now) texts.now) options.now.seed text) (written W.contents writer.old writer.new) }
+    ensures prints { (text : List ℕ) → length text ≤ capture_limit → IsSeenOf seen text
+        → PrintsOf (without_value result) (called_for options.now.hosts (map (λ t. t.now) texts.now) options.now.seed text) (written W.contents writer.old writer.new) }
+    ensures summary { (text : List ℕ) → length text ≤ capture_limit → IsSeenOf seen text
+        → IfOk result (λ summary. summary_of_texts options.now.hosts (map (λ t. t.now) texts.now) text ≡ Ok summary) }
 {
     let crew = Workers {
         rt,
         plan: options.plan,
     };
-    let reports = seen_reports(&crew, alloc, seen, texts, &options.hosts, options.seed)?;
+    let (reports, summary) = seen_reports(&crew, alloc, seen, texts, &options.hosts, options.seed)?;
     let texts = reports.texts(alloc)?;
-    write_texts(writer, &texts)
+    write_texts(writer, &texts)?;
+    Ok(summary)
 }
 
 fn see_capture<D: ReadDisk, R: Read>(
@@ -119,13 +124,14 @@ fn store_answers<H: Threads + Wait + Sync, D: Disk + Sync>(
     folder: &Folder<'_>,
     texts: &[&[u8]],
     options: &Options,
-) -> Result<(), RunFault>
+) -> Result<RunSummary, RunFault>
 where
     D::Draft: Send,
     requires { D.faults disk.old < 2 ^ 64 - 1 }
-    ensures stored { StoresIn folder.now result (called_for options.now.hosts (map (λ t. t.now) texts.now) options.now.seed text.entry)
+    ensures stored { StoresIn folder.now (without_value result) (called_for options.now.hosts (map (λ t. t.now) texts.now) options.now.seed text.entry)
         (disk_histories (D.history disk.old) (D.history disk.new)) }
-    ensures faults { D.faults disk.new ≡ D.faults disk.old + failed_stores folder.now result }
+    ensures faults { D.faults disk.new ≡ D.faults disk.old + failed_stores folder.now (without_value result) }
+    ensures summary { IfOk result (λ summary. summary_of_texts options.now.hosts (map (λ t. t.now) texts.now) text.entry ≡ Ok summary) }
 {
     publishing_leaves_whole();
     let inputs = read_inputs(alloc, text, texts, &options.hosts)?;

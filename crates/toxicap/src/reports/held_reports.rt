@@ -27,7 +27,7 @@ impl Model for HeldReports {
 
     ghost view = { λ r. reports_held r.heads.items r.shares };
 
-    ghost invariant = { λ r. All (λ share. length share ≡ length r.heads.items) r.shares };
+    ghost invariant = { λ r. All (λ share. length share.texts ≡ length r.heads.items) r.shares };
 }
 
 impl HeldReports {
@@ -36,7 +36,7 @@ impl HeldReports {
     ghost use Rattle.toxicap.specs.HeldReports.{reports_held};
 
     pub(crate) fn of(heads: Vec<ReportText>, shares: Values<ShareTexts>) -> HeldReports
-        requires { All (λ share. length share ≡ length heads.items) shares }
+        requires { All (λ share. length share.texts ≡ length heads.items) shares }
         ensures { result ≡ reports_held heads.items shares }
     {
         HeldReports { heads, shares }
@@ -63,7 +63,7 @@ fn texts_in_turn<'t>(
     heads: &'t [ReportText],
     shares: &'t [ShareTexts],
 ) -> Result<Vec<&'t [u8]>, AllocError>
-    requires { All (λ share. length share ≡ length heads.now) shares.now }
+    requires { All (λ share. length share.texts ≡ length heads.now) shares.now }
     ensures { IfOk result (λ texts. joined texts.items ≡ reports_held heads.now shares.now) }
 {
     let room = heads.len().saturating_mul(shares.len().saturating_add(1));
@@ -80,11 +80,11 @@ fn put_texts<'t>(
     shares: &'t [ShareTexts],
     number: usize,
 ) -> Result<(), AllocError>
-    requires { All (λ share. number < length share) shares.now }
+    requires { All (λ share. number < length share.texts) shares.now }
     ensures { OnOk result (joined texts.new.items ≡ joined texts.old.items ++ text_of number shares.now) }
 {
     for share in shares {
-        texts.push(share.as_slice()[number].as_slice())?;
+        texts.push(share.texts.as_slice()[number].as_slice())?;
     }
     Ok(())
 }

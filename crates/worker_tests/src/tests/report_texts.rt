@@ -21,7 +21,7 @@ fn check_lines(
 ) {
     let mut lines = Vec::new(alloc);
     for share in shares {
-        let text = share.as_slice().get(place).expect(rt, "a text");
+        let text = share.texts.as_slice().get(place).expect(rt, "a text");
         lines
             .extend_from_slice(text.as_slice())
             .expect(rt, "memory");

@@ -1,9 +1,22 @@
-use Rattle.std.proofs.Common.{Ok}
+use Rattle.std.proofs.Common.{◌≡◌, Ok, Err, Result, refl, ap, sym, ◌∙◌}
+use Rattle.conn_workers.specs.declared.summaries.RunSummary.{RunSummary}
+use Rattle.run_files.specs.declared.error.RunFault.{RunFault}
+use Rattle.toxicap.specs.Commands.{of_run}
+use Rattle.toxicap.specs.RunEnds.{without_value}
 use Rattle.toxicap.proofs.commands.command_over.Goals as goal
 
--- a run ended with an outcome, and the outcome was told
+same_fault : (run : Result RunSummary RunFault) → without_value run ≡ without_value (of_run run)
+same_fault (Ok summary) = refl
+same_fault (Err fault) = refl
+
 pub returns-in-Ok-clause-ends : goal.returns-in-Ok-clause-ends
 returns-in-Ok-clause-ends g c =
-    let ran = c.run_asked-outcome.ensures in
+    let ran = c.run_asked.ensures in
     let told = c.report_outcome.ensures in
-    (Ok c.in-Ok.asked, c.in-Ok.ensures, (ran.runs, told.status, told.told), ran.failed_calls)
+    let outcome : c.of_run-outcome.result ≡ of_run c.run_asked.result = c.of_run-outcome.ensures in
+    let same = same_fault c.run_asked.result ∙ ap without_value (sym outcome) in (
+      Ok c.in-Ok.asked,
+      c.in-Ok.ensures,
+      ((c.run_asked.result, outcome, ran.runs), told.status, told.told),
+      rw same at ran.failed_calls,
+    )

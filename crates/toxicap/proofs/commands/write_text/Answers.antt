@@ -2,7 +2,6 @@ use Rattle.toxicap.specs.RunEnds.{written}
 use Rattle.toxicap.proofs.RunSteps.{so_far, writes}
 use Rattle.toxicap.proofs.commands.write_text.Goals as goal
 
--- a text was written, as far as the writes go
 pub returns : goal.returns
 returns g c =
     let wrote = c.write_bytes.ensures in

@@ -7,6 +7,7 @@ use Rattle.disks.specs.FileContents.{Held}
 use Rattle.disks.specs.Histories.{History, PublishedAgain, PublishedFile, Publishes, held_after, held_at, held_now, with_published}
 use Rattle.scenarios.specs.declared.hosts.KnownHost.{KnownHost}
 use Rattle.command_line.specs.declared.asked.Asked.{Asked}
+use Rattle.conn_workers.specs.declared.summaries.RunSummary.{RunSummary}
 use Rattle.run_files.specs.declared.error.RunFault.{RunFault}
 use Rattle.run_files.specs.declared.outputs.Output.{Output}
 use Rattle.run_files.specs.Folders.{in_folder}
@@ -58,18 +59,18 @@ asked_for : (held : Held) (asked : Asked) (text : List ℕ) (hosts : List KnownH
 asked_for held asked text hosts files known read = rw (known, read) refl
 
 -- what a run that ended well called for
-called : (old : History) (after : Option History) (asked : Asked) (s : Streams) → RunsBy asked (Ok tt) (disk_histories (Some old) after) s
+called : (old : History) (after : Option History) (asked : Asked) (s : Streams) (summary : RunSummary) → RunsBy asked (Ok summary) (disk_histories (Some old) after) s
     → (text : List ℕ) × LoadsCapture (Some old) asked.capture s.Unread s.Loaded (Ok text)
     × AnswersInto asked.out (Ok tt) (outputs_asked (held_now old) asked text) (disk_histories (Some old) after) s
-called old after asked s run =
-    let (hosts, known, from_hosts) = went_on (UnlessMemory (hosts_asked asked)) tt _ _ run in
-    let (files, read, from_files) = went_on (LoadsFiles (Some old) asked.scenarios.items) tt _ _ from_hosts in
-    let (text, loaded, ends) = went_on (LoadsCapture (Some old) asked.capture s.Unread s.Loaded) tt _ _ from_files in
+called old after asked s summary run =
+    let (hosts, known, from_hosts) = went_on (UnlessMemory (hosts_asked asked)) summary _ _ run in
+    let (files, read, from_files) = went_on (LoadsFiles (Some old) asked.scenarios.items) summary _ _ from_hosts in
+    let (text, loaded, ends) = went_on (LoadsCapture (Some old) asked.capture s.Unread s.Loaded) summary _ _ from_files in
     let calls = asked_for (held_now old) asked text hosts files known read.2 in
-    (text, loaded, subst (λ (expected : Result (List Output) RunFault). AnswersInto asked.out (Ok tt) expected (disk_histories (Some old) after) s) (sym calls) ends)
+    (text, loaded, subst (λ (expected : Result (List Output) RunFault). AnswersInto asked.out (Ok tt) expected (disk_histories (Some old) after) s) (sym calls) ends.0)
 
 pub returns : goal.returns
-returns g c = λ words asked again old new cut mended n path r r2 s s2 w w2 x x2 reads run later begins reads2 run2 calls.
-    let (one, loaded, ends) = called old (Some new) asked _ run in
-    let (two, loaded2, ends2) = called cut (Some mended) again _ run2 in
+returns g c = λ words asked again old new cut mended n path r r2 s s2 w w2 x x2 first other reads run later begins reads2 run2 calls.
+    let (one, loaded, ends) = called old (Some new) asked _ first run in
+    let (two, loaded2, ends2) = called cut (Some mended) again _ other run2 in
     answers_same c.published_again.ensures old new cut mended n path later begins asked.out again.out (cc (reads.2.out, reads2.2.out)) _ _ (calls one two loaded loaded2) _ _ ends ends2

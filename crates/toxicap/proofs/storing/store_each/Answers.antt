@@ -30,7 +30,6 @@ loop-draft-init g c =
       rises = rw items (omega (arith, c.in_ok-drafts.ensures.some));
     }
 
--- there was no memory for the next drafts
 pub returns-in_err-drafts-clause-stored : goal.returns-in_err-drafts-clause-stored
 returns-in_err-drafts-clause-stored g c =
     let fault = err_from_is_err_and c.from_residual.result c.from_residual.ensures.1 in
@@ -55,7 +54,6 @@ returns-in_err-drafts-clause-faults g c =
     let fault = err_from_is_err_and c.from_residual.result c.from_residual.ensures.1 in
     rw (fault.1, fault.2) (omega (arith, c.loop-number.invariant.no_fault))
 
--- the folder did not take the next one
 pub returns-in_err-store_draft-clause-stored : goal.returns-in_err-store_draft-clause-stored
 returns-in_err-store_draft-clause-stored g c =
     let all : List Output = outputs_from c.args.sources.now in

@@ -22,7 +22,6 @@ returns-in_err-capture-clause-faults g c =
     (told_refusal _ expected (c.in_err-capture.ensures.refused c.args.seed)) in
     rw (fault.1, fault.2) (omega (arith, none))
 
--- the folder could not be held
 pub returns-in_err-hold_for-clause-stored : goal.returns-in_err-hold_for-clause-stored
 returns-in_err-hold_for-clause-stored g c =
     let held = c.in_err-hold_for.ensures in
@@ -40,7 +39,6 @@ returns-in_err-hold_for-clause-faults g c =
     let fault = err_from_is_err_and c.from_residual-in_err-hold_for.result c.from_residual-in_err-hold_for.ensures.1 in
     rw (fault.1, fault.2) c.in_err-hold_for.ensures.faults
 
--- it is held
 pub returns-clause-stored : goal.returns-clause-stored
 returns-clause-stored g c = (
   Ok (outputs_for c.in_ok-capture.capture c.args.scenarios.now c.args.seed),

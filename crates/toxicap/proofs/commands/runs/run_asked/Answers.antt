@@ -6,14 +6,12 @@ use Rattle.toxicap.specs.Inputs.{texts_or_no_proxies}
 use Rattle.toxicap.proofs.RunSteps.{then_seen, then_unseen}
 use Rattle.toxicap.proofs.commands.runs.run_asked.Goals as goal
 
--- a host is refused
 pub returns-in_err-hosts-clause-runs : goal.returns-in_err-hosts-clause-runs
 returns-in_err-hosts-clause-runs g c =
     let fault = err_from_is_err_and c.from_residual.result c.from_residual.ensures.1 in
     let is = rw c.deref.ensures.value at c.in_err-hosts.ensures.exact in
     rw (fault.1, fault.2) (Err _, is, (refl, (refl, (refl, refl))))
 
--- a scenario file is refused
 pub returns-in_err-files-clause-runs : goal.returns-in_err-files-clause-runs
 returns-in_err-files-clause-runs g c =
     let fault = err_from_is_err_and c.from_residual-in_err-files.result c.from_residual-in_err-files.ensures.1 in
@@ -22,13 +20,11 @@ returns-in_err-files-clause-runs g c =
     let own = rw c.deref-2.ensures.value at c.in_err-files.ensures.of_file in
     rw (fault.1, fault.2) (Ok c.in_ok-hosts.hosts, known, (Err _, (tt, own, contents), (refl, (refl, (refl, refl)))))
 
--- there is no memory for the list of their texts
 pub returns-in_err-texts-clause-runs : goal.returns-in_err-texts-clause-runs
 returns-in_err-texts-clause-runs g c =
     let fault = err_from_is_err_and c.from_residual-in_err-texts.result c.from_residual-in_err-texts.ensures.1 in
     rw (fault.1, fault.2) (Err Memory, tt, (refl, (refl, (refl, refl))))
 
--- the capture is refused, of which parts were to be seen
 pub returns-in_err-seen-clause-runs : goal.returns-in_err-seen-clause-runs
 returns-in_err-seen-clause-runs g c =
     let fault = err_from_is_err_and c.from_residual-in_err-seen.result c.from_residual-in_err-seen.ensures.1 in
@@ -39,7 +35,6 @@ returns-in_err-seen-clause-runs g c =
     rw (fault.1, fault.2)
     (Ok c.in_ok-hosts.hosts, known, (Ok _, (length-map c.in_ok-files.files.items _ ∙ each, tt, contents), then_unseen _ _ _ _ loaded sees loads (refl, refl)))
 
--- reports are printed
 pub returns-in_default-clause-runs : goal.returns-in_default-clause-runs
 returns-in_default-clause-runs g c =
     let known = rw c.deref.ensures.value at c.in_ok-hosts.ensures.exact in
@@ -47,17 +42,17 @@ returns-in_default-clause-runs g c =
     let contents = rw c.deref-2.ensures.value at c.in_ok-files.ensures.contents in
     let are : map (λ t. t.now) c.in_ok-texts.texts.items ≡ texts_or_no_proxies (map (λ f. f.items) c.in_ok-files.files.items) = rw c.deref-3.ensures.value at c.in_ok-texts.ensures in
     let (loaded, sees, within, loads) = c.in_ok-seen.ensures in
-    let printed = rw (c.deref-in_default.ensures.value, are) at c.print_answers.ensures in (
+    let printed = rw (c.deref-in_default.ensures.value, are) at c.print_answers.ensures.prints in
+    let summary = rw (c.deref-in_default.ensures.value, are) at c.print_answers.ensures.summary in (
       Ok c.in_ok-hosts.hosts,
       known,
       (
         Ok _,
         (length-map c.in_ok-files.files.items _ ∙ each, tt, contents),
-        then_seen _ _ _ _ c.in_ok-seen.seen loaded sees within loads (λ text short is. rw c.in_default.is (printed text short is, refl)),
+        then_seen _ _ _ _ c.in_ok-seen.seen loaded sees within loads (λ text short is. (rw c.in_default.is (printed text short is, refl), summary text short is)),
       ),
     )
 
--- the capture is refused
 pub returns-in_err-text-clause-runs : goal.returns-in_err-text-clause-runs
 returns-in_err-text-clause-runs g c =
     let fault = err_from_is_err_and c.from_residual-in_err-text.result c.from_residual-in_err-text.ensures.1 in
@@ -67,7 +62,6 @@ returns-in_err-text-clause-runs g c =
     rw (fault.1, fault.2)
     (Ok c.in_ok-hosts.hosts, known, (Ok _, (length-map c.in_ok-files.files.items _ ∙ each, tt, contents), (Err _, c.in_err-text.ensures, (refl, (refl, refl)))))
 
--- outputs are stored
 pub returns-clause-runs : goal.returns-clause-runs
 returns-clause-runs g c =
     let known = rw c.deref.ensures.value at c.in_ok-hosts.ensures.exact in
@@ -75,4 +69,5 @@ returns-clause-runs g c =
     let contents = rw c.deref-2.ensures.value at c.in_ok-files.ensures.contents in
     let are : map (λ t. t.now) c.in_ok-texts.texts.items ≡ texts_or_no_proxies (map (λ f. f.items) c.in_ok-files.files.items) = rw c.deref-3.ensures.value at c.in_ok-texts.ensures in
     let stored = rw (c.deref-4.ensures.value, are, c.new-folder.ensures) at c.store_answers.ensures.stored in
-    (Ok c.in_ok-hosts.hosts, known, (Ok _, (length-map c.in_ok-files.files.items _ ∙ each, tt, contents), (Ok c.in_ok-text.text, c.in_ok-text.ensures, rw c.in-Some.is (stored, refl))))
+    let summary = rw (c.deref-4.ensures.value, are) at c.store_answers.ensures.summary in
+    (Ok c.in_ok-hosts.hosts, known, (Ok _, (length-map c.in_ok-files.files.items _ ∙ each, tt, contents), (Ok c.in_ok-text.text, c.in_ok-text.ensures, (rw c.in-Some.is (stored, refl), summary))))

@@ -1,10 +1,10 @@
 use Rattle.std.proofs.Common.{map, Err, refl, arith}
 use Rattle.std.proofs.lemmas.Result.{err_from_is_err_and}
 use Rattle.toxicap.proofs.AnswerSteps.{of_called}
+use Rattle.toxicap.specs.RunEnds.{without_value}
 use Rattle.toxicap.proofs.StoringEnds.{refused_faults, stores_in}
 use Rattle.toxicap.proofs.commands.runs.store_answers.Goals as goal
 
--- a text is refused
 pub returns-in_err-inputs-clause-stored : goal.returns-in_err-inputs-clause-stored
 returns-in_err-inputs-clause-stored g c =
     let fault = err_from_is_err_and c.from_residual.result c.from_residual.ensures.1 in
@@ -17,8 +17,12 @@ returns-in_err-inputs-clause-faults g c =
     let none = refused_faults c.args.folder.now _ _ (of_called own.hosts (map (λ t. t.now) c.args.texts.now) own.seed c.args.text) (c.in_err-inputs.ensures.refused own.seed) in
     rw (fault.1, fault.2) (omega (arith, none))
 
--- the rehearsal is stored, as far as it comes
 pub returns-clause-stored : goal.returns-clause-stored
 returns-clause-stored g c =
     let stored = rw (c.bytes.ensures, c.deref.ensures.value) at c.store_rehearsal.ensures.stored in
-    rw (c.in_ok-inputs.ensures.taken c.args.options.now.seed) (stores_in c.publishing_leaves_whole.ensures c.args.folder.now _ _ c.store_rehearsal.result _ stored)
+    rw (c.in_ok-inputs.ensures.taken c.args.options.now.seed) (stores_in c.publishing_leaves_whole.ensures c.args.folder.now _ _ (without_value c.store_rehearsal.result) _ stored)
+
+pub returns-clause-summary : goal.returns-clause-summary
+returns-clause-summary g c =
+    let (bytes, scenarios) = c.in_ok-inputs.ensures.read in
+    rw (bytes, scenarios) (rw (c.bytes.ensures, c.deref.ensures.value) at c.store_rehearsal.ensures.summary)

@@ -37,7 +37,6 @@ returns-clause-next g c =
     let many = ap length is ∙ placed ∙ length-some all c.args.number c.min-2.result within in
     is ∙ ap (λ n. placed_from folder 0 (take n (drop c.args.number all))) (sym many)
 
--- no two drafts have one path
 pub returns-then-min-eq1-clause-apart : goal.returns-then-min-eq1-clause-apart
 returns-then-min-eq1-clause-apart g c =
     let own = c.args.sources.now in

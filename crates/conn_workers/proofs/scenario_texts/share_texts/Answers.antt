@@ -4,7 +4,7 @@ use Rattle.scenarios.specs.declared.proxies.Proxy.{Proxy}
 use Rattle.conn_workers.specs.ReportTexts.{texts_under}
 use Rattle.conn_workers.specs.RowShares.{row_text}
 use Rattle.conn_workers.proofs.ShareSteps.{length-texts_under, text_at}
-use Rattle.conn_workers.proofs.scenario_texts.texts_under.Goals as goal
+use Rattle.conn_workers.proofs.scenario_texts.share_texts.Goals as goal
 
 pub loop-number-preserved : goal.loop-number-preserved
 loop-number-preserved c =
@@ -24,4 +24,5 @@ pub returns : goal.returns
 returns c =
     let all : List (List ℕ) = texts_under c.args.seed c.args.scenarios.now c.args.recordings.now in
     let over : length all ≤ c.loop-number.number = omega (arith, c.loop-number-test.false, length-texts_under c.args.seed c.args.scenarios.now c.args.recordings.now) in
-    c.of.ensures ∙ c.loop-number.invariant ∙ take_all c.loop-number.number all over
+    let texts = c.of.ensures ∙ c.loop-number.invariant ∙ take_all c.loop-number.number all over in
+    λ i. record { texts = texts i; connections = c.in_ok-connections.ensures i }

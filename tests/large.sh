@@ -8,12 +8,12 @@ cd "$(dirname "$0")/.."
 . tests/calls.sh
 capture=samples/http-get.pcap
 
-# same WHAT INPUT [ARGUMENT..]: a run over a file ends well and prints what stands in `wanted`.
+# same WHAT INPUT [ARGUMENT..]: a run over a file ends well and prints what stands in `expected`.
 same() {
     local what=$1
     shift
     run "$@"
-    verdict "$what" "$(well; difference "$work/wanted" "$work/output")"
+    verdict "$what" "$(well; difference "$work/expected" "$work/output")"
 }
 
 # refused WHAT LINE INPUT [ARGUMENT..]: a run over a file is refused with this line.
@@ -70,7 +70,7 @@ proxies() {
 printf '[{"name":"web","upstream":"10.77.0.2:80","toxics":[%s]}]' "$(toxics 1 40)" > "$work/one.json"
 printf '[{"name":"web","upstream":"10.77.0.2:80","toxics":[%s]}]' "$(toxics 8 5)" > "$work/eight.json"
 run "$capture" --scenario "$work/one.json"
-cp "$work/output" "$work/wanted"
+cp "$work/output" "$work/expected"
 same "eight toxics of a direction" "$capture" --scenario "$work/eight.json"
 
 # the last of 64 proxies is met as the only one of one is
@@ -78,7 +78,7 @@ proxies 1 > "$work/first.json"
 proxies 64 > "$work/last.json"
 proxies 70 > "$work/many.json"
 run "$capture" --scenario "$work/first.json"
-sed 's/ proxy 0 / proxy 63 /' "$work/output" > "$work/wanted"
+sed 's/ proxy 0 / proxy 63 /' "$work/output" > "$work/expected"
 same "64 proxies" "$capture" --scenario "$work/last.json"
 refused "70 proxies" "refused 20 TooMany scenario 0 proxy 64" "$capture" --scenario "$work/many.json"
 
@@ -93,7 +93,7 @@ hosts=()
 for host in {1..59}; do hosts+=(--host "h$host=10.9.9.$host"); done
 sed 's/10.77.0.2:80/the.server-of_this-capture:80/' "$work/one.json" > "$work/named.json"
 run "$capture" --scenario "$work/one.json"
-cp "$work/output" "$work/wanted"
+cp "$work/output" "$work/expected"
 same "60 hosts" "$capture" "${hosts[@]}" --host the.server-of_this-capture=10.77.0.2 --scenario "$work/named.json"
 refused "a host more than once among 60" "refused 23 BadHost host 59" "$capture" "${hosts[@]}" --host h5=10.77.0.2
 
@@ -101,7 +101,7 @@ refused "a host more than once among 60" "refused 23 BadHost host 59" "$capture"
 for ((host = 0; host < 40000; host++)); do echo "--host=n$host=10.1.$((host / 256 % 256)).$((host % 256))"; done > "$work/hosts"
 (ulimit -s 65536
     xargs -x -s 4000000 -n 50000 -a "$work/hosts" timeout "$patience" "$program" --capture "$capture" --scenario "$work/one.json" > "$work/output") || true
-verdict "40,000 hosts" "$(difference "$work/wanted" "$work/output")"
+verdict "40,000 hosts" "$(difference "$work/expected" "$work/output")"
 
 # 5,000 bytes that are no JSON
 printf '[%05000d' 7 > "$work/broken.json"
@@ -125,7 +125,7 @@ perl -e '
         print $file pack("VVVV", $record, 0, 262144, 262144);
     }
     truncate $file, 2 ** 30' "$work/longest"
-cat > "$work/wanted" << 'END'
+cat > "$work/expected" << 'END'
 scenario 0 records 4095 rest 196600 segment 0 short 0 notipv4 4095 badipv4 0 fragment 0 nottcp 0 cut 0 badtcp 0 sameends 0
 connections 0 unopened 0
 END
@@ -143,7 +143,7 @@ four=(--scenario "$work/eight.json" --scenario examples/slicer.json --scenario "
 mkdir "$work/alone"
 run "$capture" "${four[@]}" --out "$work/alone"
 run "$capture" "${four[@]}"
-cp "$work/output" "$work/wanted"
+cp "$work/output" "$work/expected"
 for workers in 2 3 5 16; do
     mkdir "$work/by$workers"
     run "$capture" "${four[@]}" --workers $workers --out "$work/by$workers"
@@ -153,13 +153,13 @@ done
 
 # Five scenarios, printed and stored: each as it is alone, but for its number.
 five=() number=0
-: > "$work/wanted"
+: > "$work/expected"
 rm -rf "$work/alone"
 mkdir "$work/each" "$work/alone" "$work/five"
 for scenario in latency limit_data slow_close timeout bandwidth; do
     five+=(--scenario "examples/$scenario.json")
     run "$capture" "${five[@]: -2}" --out "$work/each"
-    sed "s/^scenario 0 /scenario $number /" "$work/each/0000.txt" | tee "$work/alone/000$number.txt" >> "$work/wanted"
+    sed "s/^scenario 0 /scenario $number /" "$work/each/0000.txt" | tee "$work/alone/000$number.txt" >> "$work/expected"
     mv "$work/each/0000.pcap" "$work/alone/000$number.pcap"
     number=$((number + 1))
 done
@@ -174,7 +174,7 @@ verdict "five scenarios, stored" "$(well; folder_difference "$work/alone" "$work
 
 # A scenario file of over 64 KiB counts to its end: its toxic stands after 70,000 blanks, or what is no JSON.
 run "$capture" --scenario "$work/one.json"
-cp "$work/output" "$work/wanted"
+cp "$work/output" "$work/expected"
 { printf '[%70000s' ''; tail -c +2 "$work/one.json"; } > "$work/wide.json"
 same "a scenario after 70,000 blanks" "$capture" --scenario "$work/wide.json"
 printf '[]%70000s]' '' > "$work/wide.json"
@@ -213,7 +213,7 @@ verdict "150,000 slices" "$(
     grep -q ' up 150000/150000/0 ' "$work/sliced/0000.txt" || cat "$work/sliced/0000.txt"
     [ "$(stat -c %s "$work/sliced/0000.pcap")" = $((24 + 3 * 70 + 150000 * 71)) ] || echo '  a capture of another length'
 )"
-mv "$work/sliced/0000.txt" "$work/wanted" || true
+mv "$work/sliced/0000.txt" "$work/expected" || true
 same "150,000 slices, printed" "$work/dump" --scenario "$work/sliced.json"
 
 # The same capture as a file of over 64 KiB that is named, in its bytes.
@@ -231,7 +231,7 @@ payloads() {
 
 # 3,000 segments of a connection in other orders, backwards among them, apart and each going on into the next one: what is delivered is what was
 # sent, and none of it later than it was recorded.
-perl tests/capture.pl 3000 report > "$work/wanted"
+perl tests/capture.pl 3000 report > "$work/expected"
 for order in 3000{+,*}{1,2999,1009}; do
     perl tests/capture.pl "$order" > "$work/ordered.pcap"
     same "segments in the order $order, printed" "$work/ordered.pcap"
@@ -254,7 +254,7 @@ for name in three.pcap two.pcap more.pcap two.dump; do
     rm -rf "$work/alone"
     mkdir "$work/alone"
     run "$work/$name" "${four[@]}"
-    cp "$work/output" "$work/wanted"
+    cp "$work/output" "$work/expected"
     run "$work/$name" "${four[@]}" --out "$work/alone"
     [ $name != three.pcap ] || verdict "$name, worked out apart" "$(
         well
@@ -263,7 +263,7 @@ for name in three.pcap two.pcap more.pcap two.dump; do
             perl tests/capture.pl 14000 report "${met[number]}" $number | byte_difference - "$work/alone/000$number.txt"
             perl tests/capture.pl 14000 delivered | byte_difference - "$work/alone/000$number.pcap"
         done
-        cat "$work"/alone/*.txt | byte_difference - "$work/wanted"
+        cat "$work"/alone/*.txt | byte_difference - "$work/expected"
     )"
     for workers in 1 2 3 16; do
         same "$name by $workers workers" /dev/null --capture "$work/$name" "${four[@]}" --workers $workers
@@ -389,18 +389,18 @@ many=()
 for ((number = 0; number < 64; number++)); do
     many+=(--scenario examples/latency.json)
     sed "s/^scenario 0 /scenario $number /" "$work/output"
-done > "$work/wanted"
+done > "$work/expected"
 for workers in 1 2; do
     ulimit -S -v 54000
     run_with GLIBC_TUNABLES=glibc.malloc.arena_max=1 "$work/pairs.few" "${many[@]}" --workers $workers
     ulimit -S -v "$limit"
-    verdict "22 MB of reports printed in little memory by $workers workers" "$(well; byte_difference "$work/wanted" "$work/output")"
+    verdict "22 MB of reports printed in little memory by $workers workers" "$(well; byte_difference "$work/expected" "$work/output")"
 done
 
 # two reports of 980 KB
 perl tests/capture.pl 11000x3 > "$work/pairs.few"
 run "$work/pairs.few" --scenario examples/latency.json
-{ cat "$work/output"; sed 's/^scenario 0 /scenario 1 /' "$work/output"; } > "$work/wanted"
+{ cat "$work/output"; sed 's/^scenario 0 /scenario 1 /' "$work/output"; } > "$work/expected"
 same "two reports of 980 KB" "$work/pairs.few" "${many[@]:0:4}"
 
 # 256 reports of 12 KB, which 16 workers make in texts of 90 bytes, are printed by a write for each text: that of a head and those of 127 ranges.
@@ -410,10 +410,10 @@ many=()
 for ((number = 0; number < 256; number++)); do
     many+=(--scenario examples/latency.json)
     sed "s/^scenario 0 /scenario $number /" "$work/output"
-done > "$work/wanted"
+done > "$work/expected"
 same "256 reports" "$work/pairs.few" "${many[@]}"
 run_with "" "$work/pairs.few" "${many[@]}" --workers 16
-verdict "256 reports by 16 workers" "$(well; byte_difference "$work/wanted" "$work/output")"
+verdict "256 reports by 16 workers" "$(well; byte_difference "$work/expected" "$work/output")"
 if can_count "256 reports printed text by text"; then
     verdict "256 reports printed text by text" "$([ "$(count write)" -le $((256 * 128)) ] || echo "  writes: $(count write)")"
 fi

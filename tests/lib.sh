@@ -113,13 +113,13 @@ refusal() {
     told faults "$1"$'\n'
 }
 
-# byte_difference WANTED FOUND: where two files differ first, of which one may be `-`; nothing where they are the same, byte for byte.
+# byte_difference EXPECTED FOUND: where two files differ first, of which one may be `-`; nothing where they are the same, byte for byte.
 byte_difference() { cmp "$1" "$2" 2>&1 || true; }
 
-# folder_difference WANTED FOUND: what differs between two folders.
+# folder_difference EXPECTED FOUND: what differs between two folders.
 folder_difference() { diff -rq "$1" "$2" 2>&1 || true; }
 
-# difference WANTED FOUND: the lines in which two texts differ; nothing where they are the same, byte for byte.
+# difference EXPECTED FOUND: the lines in which two texts differ; nothing where they are the same, byte for byte.
 difference() {
     local expected found line file told=no
     for file in "$1" "$2"; do [ -f "$file" ] || { echo "  no file $file"; return 0; }; done
@@ -142,7 +142,7 @@ holds() {
     [ "$names" = "$*" ] || echo "  the folder has: $names"
 }
 
-# sum_difference WANTED FILE: what is at fault with a file that was to have this sum (sha256).
+# sum_difference EXPECTED FILE: what is at fault with a file that was to have this sum (sha256).
 sum_difference() {
     local found
     found=$(sha256sum "$2" 2> /dev/null || true)

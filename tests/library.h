@@ -148,8 +148,8 @@ static uint8_t ask(const struct question *asked, struct memory *memory)
                            &memory->sizes);
 }
 
-/* wanted_sizes: what a call without any room says that it wants. */
-static ToxicapSizes wanted_sizes(const struct question *asked)
+/* expected_sizes: what a call without any room says that it needs. */
+static ToxicapSizes expected_sizes(const struct question *asked)
 {
     struct memory none = {NULL, NULL, NULL, {0, 0, 0}, {7, 7, 7}};
     uint8_t status = ask(asked, &none);
@@ -191,7 +191,7 @@ static void too_small(const struct question *asked, ToxicapSizes room, ToxicapSi
 static struct memory answer(const struct question *asked, uint8_t *status)
 {
     uint8_t again;
-    ToxicapSizes expected = wanted_sizes(asked), more = {expected.captures + 9, expected.reports + 9, expected.lens + 9};
+    ToxicapSizes expected = expected_sizes(asked), more = {expected.captures + 9, expected.reports + 9, expected.lens + 9};
     struct memory right = answer_in(asked, expected, expected, status), large = answer_in(asked, more, expected, &again);
     must(*status == again && is_same(&right, &large), "with more room: another answer");
     must(*status == TOXICAP_REFUSED || expected.lens == (asked->with_captures ? 2 * asked->scenario_count : 0), "another number of lengths");

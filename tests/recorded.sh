@@ -1,5 +1,5 @@
 #!/usr/bin/env bash
-# The tools beside the program over two real captures: redis-cli at a server, with a pipeline, and HTTP by curl and nginx in a VLAN. What is wanted was
+# The tools beside the program over two real captures: redis-cli at a server, with a pipeline, and HTTP by curl and nginx in a VLAN. What is expected was
 # worked out by hand from what was recorded: of the first connection the server sent 5,011 and 289 bytes, of the others 45 and 4, and 2,178.
 # It wants python3; the searches also want the library for C, and Go is tried where it is.
 set -euo pipefail

@@ -6,7 +6,7 @@ cd "$(dirname "$0")/.."
 . tests/lib.sh
 session=crates/library_example/stdin
 
-# judged WANTED: what is at fault with the last run, which was to be refused with this line, or to tell this after the number of its scenario.
+# judged EXPECTED: what is at fault with the last run, which was to be refused with this line, or to tell this after the number of its scenario.
 judged() {
     case $1 in
         refused*) refusal "$1" ;;
@@ -17,14 +17,14 @@ judged() {
     esac
 }
 
-# text WANTED TEXT: what comes of this text as a capture.
+# text EXPECTED TEXT: what comes of this text as a capture.
 text() {
     printf '%s' "$2" > "$work/text"
     run "$work/text"
     verdict "${2:0:60}" "$(judged "$1")"
 }
 
-# capture WANTED DIGITS: what comes of a dump, and of its bytes.
+# capture EXPECTED DIGITS: what comes of a dump, and of its bytes.
 capture() {
     text "$@"
     tr -d ' ' <<< "$2" | tr a-f A-F | basenc -d --base16 > "$work/bytes"
@@ -76,7 +76,7 @@ capture "refused 5 RecordTooLong at 0" "$little 00000000 00000000 01000400 01000
 capture "refused 5 RecordTooLong at 0" "$big 00000000 00000000 00040001 00040001 ${packet}00"
 capture "refused 5 RecordTooLong at 1" "$little 00000000 00000000 03000000 03000000 000000 00000000 00000000 ffffffff ffffffff"
 
-# scenario WANTED TEXT [WORD..]: what comes of this text as a scenario for the plain session, and with these words.
+# scenario EXPECTED TEXT [WORD..]: what comes of this text as a scenario for the plain session, and with these words.
 scenario() {
     printf '%s' "$2" > "$work/scenario.json"
     run $session --scenario "$work/scenario.json" "${@:3}"
@@ -102,7 +102,7 @@ proxies() {
 scenario "$taken" "$(proxies 64)"
 scenario "refused 20 TooMany scenario 0 proxy 64" "$(proxies 65)"
 
-# proxy WANTED UPSTREAM [MEMBERS [WORD..]]: what comes of a proxy with this upstream, with further members and words.
+# proxy EXPECTED UPSTREAM [MEMBERS [WORD..]]: what comes of a proxy with this upstream, with further members and words.
 proxy() { scenario "$1" '[{"name":"web","upstream":"'"$2"'"'"${3-}"'}]' "${@:4}"; }
 proxy "$taken" 10.0.0.2:80
 for upstream in 10.0.0.2 :80 10.0.0.2:0 10.0.0.2:65536 '[::1]:80' 10.0.0.2:http 10.0.0.2:+80 10.0.0.2:000080 10.0.0.2:00000 10.0.0.2: '10.0.0.2:8 0'; do
@@ -118,7 +118,7 @@ for name in 010.0.0.2 10.0.0.256 1 ...; do
     verdict "the host $name is met" "$(grep -q ' 10.0.0.2:80 proxy 0 ' "$work/output" || echo '  it is not')"
 done
 
-# toxics WANTED NUMBER TOXICS: a proxy with these toxics is refused so at this one of them; where the number is empty, it is taken.
+# toxics EXPECTED NUMBER TOXICS: a proxy with these toxics is refused so at this one of them; where the number is empty, it is taken.
 toxics() { proxy "${2:+refused }$1${2:+ scenario 0 proxy 0 toxic $2}" 10.0.0.2:80 ',"toxics":['"$3"']'; }
 # of TYPE MEMBERS ATTRIBUTES: a toxic of this type on upstream.
 of() { printf '{"type":"%s","stream":"upstream"%s,"attributes":{%s}}' "$@"; }

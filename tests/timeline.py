@@ -13,7 +13,7 @@ def written(text):
     return re.sub(r'[0-9.]+(?= ms)', lambda found: f'{decimal.Decimal(found[0]).normalize():f}', text)
 
 
-def wanted_of(line, ticks):
+def expected_of(line, ticks):
     """The heading and the texts of both lanes of a report's line. `ticks` is the number of ticks of a millisecond. A refused
     connection has a reset of the server at its opening."""
     yield re.sub(r' proxy .*', '', line)
@@ -32,7 +32,7 @@ def main(drawn, report, capture):
     shown = [element.text for element in root.iter(SVG + 'text')]
     ticks = 10**6 if open(capture, 'rb').read(4) in (b'\x4d\x3c\xb2\xa1', b'\xa1\xb2\x3c\x4d') else 1000
     lines = [line for line in open(report).read().splitlines() if ' > ' in line]
-    expected = [text for line in lines for text in wanted_of(line, ticks)]
+    expected = [text for line in lines for text in expected_of(line, ticks)]
     found = [written(text) for text in shown if ' > ' in text or ' B, ' in text]
     for one, other in zip(expected, found):
         if one != other: print(f'  expected {one}, found {other}')

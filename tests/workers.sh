@@ -18,12 +18,12 @@ anew() {
 # least ONE OTHER: the lesser of two numbers.
 least() { echo $(($1 < $2 ? $1 : $2)); }
 
-# wanted BLOCKS RANGES CONNECTIONS SCENARIOS printed|stored WORKERS: how many threads each phase is to make, by docs/internals/architecture.md (the way of the
+# expected BLOCKS RANGES CONNECTIONS SCENARIOS printed|stored WORKERS: how many threads each phase is to make, by docs/internals/architecture.md (the way of the
 # program). One of the workers is the thread that is there, and there are no more workers than jobs. The phases and their jobs: where files are
 # stored, a named file of several blocks is loaded; the table is made, by ranges; then the lines of all printed reports, or what is recorded, by
 # connections. Where files are stored, drafts are made of as many scenarios as twice the workers, or as are left, each a job; of a last one by
 # connections.
-wanted() {
+expected() {
     local blocks=$1 ranges=$2 connections=$3 left=$4 where=$5 workers=$6 jobs=() count made all=()
     [ "$where" = printed ] || jobs+=("$blocks")
     jobs+=("$ranges" "$connections")
@@ -48,9 +48,9 @@ can_count "threads" || is_counted=no
 threads() {
     local due made
     [ $is_counted = yes ] || return 0
-    due=$(wanted "$@")
+    due=$(expected "$@")
     made=$(phases)
-    [ "$due" = "$made" ] || printf '  threads of each phase, wanted: %s\n  threads of each phase, made:   %s\n' "${due:-none}" "${made:-none}"
+    [ "$due" = "$made" ] || printf '  threads of each phase, expected: %s\n  threads of each phase, made:     %s\n' "${due:-none}" "${made:-none}"
 }
 
 # scenario NUMBER: one of many, of which each has other delays and slices; both are drawn at random.

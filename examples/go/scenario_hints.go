@@ -8,8 +8,8 @@ import (
 	"unicode"
 )
 
-// A wantedField is a field of a proxy or of a toxic: what it is, and whether it has to be there.
-type wantedField struct {
+// An expectedField is a field of a proxy or of a toxic: what it is, and whether it has to be there.
+type expectedField struct {
 	name, expected string
 	required       bool
 }
@@ -20,11 +20,11 @@ type attribute struct {
 	least, most    uint64
 }
 
-var proxyFields = []wantedField{
+var proxyFields = []expectedField{
 	{"name", "a text", true}, {"upstream", "a text", true}, {"enabled", "true or false", false}, {"toxics", "an array", false},
 	{"listen", "a text", false}}
 
-var toxicFields = []wantedField{{"type", "a text", true}, {"name", "a text", false}, {"stream", "a text", false}, {"attributes", "an object", false}}
+var toxicFields = []expectedField{{"type", "a text", true}, {"name", "a text", false}, {"stream", "a text", false}, {"attributes", "an object", false}}
 
 // scenarioHint gives what helps if a scenario was refused, after its number; proxy and toxic are -1 if the place has none.
 func scenarioHint(kind Kind, scenario []byte, proxy, toxic int) string {
@@ -122,7 +122,7 @@ func streamOf(stream string) string {
 }
 
 // wrongField tells of the first field that is not as it is to be. If each is, a name is empty.
-func wrongField(value any, fields []wantedField) string {
+func wrongField(value any, fields []expectedField) string {
 	if kind := kindOf(value); kind != "an object" {
 		return "it is " + kind + ", and an object is expected"
 	}

@@ -87,7 +87,7 @@ type expected struct {
 	end    *toxicap.Event
 }
 
-func wantedOf(line toxicap.Line) expected {
+func expectedOf(line toxicap.Line) expected {
 	w := expected{end: line.End}
 	for number, chunk := range line.Chunks {
 		for _, each := range chunk.Bytes {
@@ -122,7 +122,7 @@ func TestLaws(t *testing.T) {
 					if err != nil {
 						t.Fatal(err)
 					}
-					readAll(t, c, wantedOf(sides[1]), drawn, met)
+					readAll(t, c, expectedOf(sides[1]), drawn, met)
 				}
 			}
 		}

@@ -99,7 +99,7 @@ def is_alone(expected, end):
     return end in ("silent", "refused") and not any(isinstance(what, bytes) or what in ("fin", "refused") for _, _, what in expected)
 
 
-def wanted_side(mode, side, expected, untouched):
+def expected_side(mode, side, expected, untouched):
     """What a side of a connection is to have sent, as (chunks, end) by the output's events, or by those under []."""
     chunks, ends = ([(time, what) for time, way, what in found if way == ("up", "down")[side] and isinstance(what, bytes) is is_bytes]
                     for found, is_bytes in ((expected, True), (expected, False)))
@@ -127,7 +127,7 @@ def observe(folder, ends, tally):
             alone = mode != "plain" and bool(ends) and is_alone(output[number], ends[number])
             data = []
             for side in (0, 1):
-                chunks, end = wanted_side(mode, side, output[number], untouched[number])
+                chunks, end = expected_side(mode, side, output[number], untouched[number])
                 data.append(b"".join(what for _, what in chunks))
                 own = mode == ("client", "server")[side]
                 if (joined(chunks), chunks)[not own] != (joined(connection.chunks[side]), connection.chunks[side])[not own]:

@@ -1,5 +1,5 @@
 #!/usr/bin/env python3
-"""The wanted report and captures of a row, worked out apart from the program: docs/use/rules.md said again, byte by byte and without care
+"""The expected report and captures of a row, worked out apart from the program: docs/use/rules.md said again, byte by byte and without care
 for time. It was written from those rules alone and shares nothing with the program's text.
 
     tests/rows/expected.py FOLDER   writes FOLDER/report and FOLDER/0000.hex, 0001.hex .. (or .sha256 for those above 4,000 bytes)

@@ -9,7 +9,7 @@ CONNECTIONS = [each for path in sorted(pathlib.Path(os.environ['OUTPUTS']).glob(
 NEVER = 1 << 70
 
 
-class Wanted:
+class Expected:
     """What a line gives to one who reads it. Its instants count from the opening."""
 
     def __init__(self, line, opened):
@@ -55,7 +55,7 @@ class Laws(unittest.TestCase):
         for connection, side, line, drawn in sides():
             clock = Clock()
             clock.sleep(drawn.choice([0, 1.5]))
-            self.read(Socket(connection, side, clock), Wanted(line, clock.nanoseconds), drawn)
+            self.read(Socket(connection, side, clock), Expected(line, clock.nanoseconds), drawn)
 
     def read(self, reader, expected, drawn):
         """Reads to the end, with pauses and timeouts."""
@@ -87,7 +87,7 @@ class Laws(unittest.TestCase):
         """Reads of whole lengths, by makefile."""
         for connection, side, line, drawn in sides():
             reader = Socket(connection, side)
-            expected, end = Wanted(line, 0), 'bytes'
+            expected, end = Expected(line, 0), 'bytes'
             with reader, reader.makefile('rb') as file:
                 while end == 'bytes':
                     size, now = size_by(drawn), reader.clock.nanoseconds
@@ -105,7 +105,7 @@ class Laws(unittest.TestCase):
         for connection, side, line, drawn in sides():
             clock = Clock()
             clock.sleep(drawn.choice([0, 1.5]))
-            run(self.follow(connection, side, Wanted(line, clock.nanoseconds), drawn), clock)
+            run(self.follow(connection, side, Expected(line, clock.nanoseconds), drawn), clock)
 
     async def follow(self, connection, side, expected, drawn):
         """Reads to the end, with pauses and timeouts. A reset takes what was not read, as in asyncio."""

@@ -88,10 +88,10 @@ fn delivered<R: Abort + Threads + Sync, G: Gate>(
 }
 
 // A delivery as a test wants it: the numbers of its scenario and of its connection, how many segments it has, and its line.
-type WantedDelivery = (u32, u32, usize, &'static str);
+type ExpectedDelivery = (u32, u32, usize, &'static str);
 
 // Whether a delivery is such.
-fn is_wanted(delivery: &Delivery, (scenario, conn, segments, line): &WantedDelivery) -> bool {
+fn is_expected(delivery: &Delivery, (scenario, conn, segments, line): &ExpectedDelivery) -> bool {
     delivery.scenario == *scenario
         && delivery.conn == *conn
         && delivery.segments.as_slice().len() == *segments
@@ -99,18 +99,18 @@ fn is_wanted(delivery: &Delivery, (scenario, conn, segments, line): &WantedDeliv
 }
 
 // Whether deliveries are these, in this order.
-fn are_wanted(made: &[Delivery], expected: &[WantedDelivery]) -> bool {
+fn are_expected(made: &[Delivery], expected: &[ExpectedDelivery]) -> bool {
     let mut right = made.len() == expected.len();
     for (delivery, expected) in made.iter().zip(expected) {
-        right = right && is_wanted(delivery, expected);
+        right = right && is_expected(delivery, expected);
     }
     right
 }
 
 // What both connections contribute to a scenario without a proxy, and to one whose proxy is disabled.
-const BARE: [WantedDelivery; 2] = [(0, 0, 3, FIRST_LINE), (0, 1, 4, SECOND_LINE)];
+const BARE: [ExpectedDelivery; 2] = [(0, 0, 3, FIRST_LINE), (0, 1, 4, SECOND_LINE)];
 
-const REFUSED: [WantedDelivery; 2] = [(1, 0, 3, FIRST_LINE), (1, 1, 2, REFUSED_LINE)];
+const REFUSED: [ExpectedDelivery; 2] = [(1, 0, 3, FIRST_LINE), (1, 1, 2, REFUSED_LINE)];
 
 // That `workers` workers give a row for each of two scenarios.
 fn check_rows<R: Abort + Threads + Sync>(rt: &R, alloc: Global, workers: u32) {
@@ -118,7 +118,7 @@ fn check_rows<R: Abort + Threads + Sync>(rt: &R, alloc: Global, workers: u32) {
     let scenarios = [scenario(rt, alloc, &[]), scenario(rt, alloc, &[DISABLED])];
     let made = delivered(rt, alloc, &bytes, &scenarios, workers, &Through);
     let (first, second) = made.split_at(made.len().min(2));
-    let good = are_wanted(first, &BARE) && are_wanted(second, &REFUSED);
+    let good = are_expected(first, &BARE) && are_expected(second, &REFUSED);
     check(rt, "a row for each scenario", good);
 }
 
@@ -197,7 +197,7 @@ fn check_held<R: Abort + Threads + Sync>(rt: &R, alloc: Global, phase: Phase) {
     let scenarios = [scenario(rt, alloc, &[])];
     let gate = Holding::new(phase);
     let made = delivered(rt, alloc, &bytes, &scenarios, 2, &gate);
-    check(rt, "held", !gate.gave_up() && are_wanted(&made, &BARE));
+    check(rt, "held", !gate.gave_up() && are_expected(&made, &BARE));
 }
 
 #[test]

@@ -3,7 +3,7 @@ ghost use Rattle.std.specs.Prelude.{◌≡◌, [], All};
 ghost use Rattle.segment_writer.specs.WrittenSegments.{sorted_by_key};
 
 use super::checks::check;
-use super::merging::{WantedFrame, check_frames, written};
+use super::merging::{ExpectedFrame, check_frames, written};
 use pcap_records::read_capture;
 use segment_writer::SegList;
 use std::alloc::{AllocError, Global};
@@ -60,7 +60,7 @@ fn falling() -> [RecordedSegment<'static>; 3] {
 }
 
 // What is written of both, the first connection's frames and then the second's: all is at one instant.
-const WRITTEN: [WantedFrame; 7] = [
+const WRITTEN: [ExpectedFrame; 7] = [
     (5_000_000, 1, SYN, 0),
     (5_000_000, 2, SYN + ACK, 0),
     (5_000_000, 1, ACK, 0),

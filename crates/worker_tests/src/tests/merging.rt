@@ -123,10 +123,10 @@ fn merged(rt: &impl Abort, alloc: Global, segments: &[RecordedSegment<'_>]) -> V
 }
 
 // A frame as a test wants it: its stamp, the last byte of its sender's address, its flags and the length of its payload.
-pub(super) type WantedFrame = (u64, u8, u8, usize);
+pub(super) type ExpectedFrame = (u64, u8, u8, usize);
 
 // Whether a packet, stamped so, is this frame.
-fn is_frame(micros: u64, packet: &[u8], expected: &WantedFrame) -> bool {
+fn is_frame(micros: u64, packet: &[u8], expected: &ExpectedFrame) -> bool {
     let (at, sender, flags, len) = expected;
     micros == *at
         && packet.get(29) == Some(sender)
@@ -135,7 +135,12 @@ fn is_frame(micros: u64, packet: &[u8], expected: &WantedFrame) -> bool {
 }
 
 // That the frames of a capture are these.
-pub(super) fn check_frames(rt: &impl Abort, alloc: Global, bytes: &[u8], expected: &[WantedFrame]) {
+pub(super) fn check_frames(
+    rt: &impl Abort,
+    alloc: Global,
+    bytes: &[u8],
+    expected: &[ExpectedFrame],
+) {
     let capture = read_capture(alloc, bytes).expect(rt, "a capture");
     let mut right = capture.records().len() == expected.len();
     for ((place, record), expected) in capture.records().iter().enumerate().zip(expected) {

@@ -77,7 +77,7 @@ fn from_right(rt: &impl Abort, alloc: Global, capture: &Capture<'_>, cut: usize)
 }
 
 // A connection as a test wants it: its client, and the numbers of its members' records.
-pub(super) type Wanted = (Host, &'static [u32]);
+pub(super) type ExpectedConn = (Host, &'static [u32]);
 
 // Whether members are those of these records.
 fn are_members(members: &[Member], expected: &[u32]) -> bool {
@@ -89,7 +89,7 @@ fn are_members(members: &[Member], expected: &[u32]) -> bool {
 }
 
 // Whether a connection has this number, this client and these members, of which the first is its opening.
-fn is_wanted(conn: &Conn, number: u32, (client, members): &Wanted) -> bool {
+fn is_expected(conn: &Conn, number: u32, (client, members): &ExpectedConn) -> bool {
     conn.number == number
         && conn.client == peer(*client)
         && members.first() == Some(&conn.opening)
@@ -97,16 +97,21 @@ fn is_wanted(conn: &Conn, number: u32, (client, members): &Wanted) -> bool {
 }
 
 // Whether a table has these connections, numbered in turn, and this number of unopened segments.
-fn is_table(table: &Table, expected: &[Wanted], unopened: u64) -> bool {
+fn is_table(table: &Table, expected: &[ExpectedConn], unopened: u64) -> bool {
     let mut right = table.conns().len() == expected.len() && table.unopened() == unopened;
     for ((conn, expected), number) in table.conns().iter().zip(expected).zip(0_u32..) {
-        right = right && is_wanted(conn, number, expected);
+        right = right && is_expected(conn, number, expected);
     }
     right
 }
 
 // That a table has these connections, numbered in turn, and this number of unopened segments.
-pub(super) fn check_table(rt: &impl Abort, table: &Table, expected: &[Wanted], unopened: u64) {
+pub(super) fn check_table(
+    rt: &impl Abort,
+    table: &Table,
+    expected: &[ExpectedConn],
+    unopened: u64,
+) {
     check(rt, "a table", is_table(table, expected, unopened));
 }
 
@@ -122,7 +127,7 @@ pub(super) fn repeated() -> [RecordedSegment<'static>; 6] {
     ]
 }
 
-pub(super) const REPEATED: [Wanted; 2] = [(CLIENT, &[0, 1, 2, 3]), (CLIENT, &[4, 5])];
+pub(super) const REPEATED: [ExpectedConn; 2] = [(CLIENT, &[0, 1, 2, 3]), (CLIENT, &[4, 5])];
 
 // That ranges of `cut` records give this table, joined from the left and from the right.
 fn check_cut(
@@ -130,7 +135,7 @@ fn check_cut(
     alloc: Global,
     capture: &Capture<'_>,
     cut: usize,
-    expected: &[Wanted],
+    expected: &[ExpectedConn],
 ) {
     check_table(rt, &from_left(rt, alloc, capture, cut), expected, 0);
     check_table(rt, &from_right(rt, alloc, capture, cut), expected, 0);
@@ -149,7 +154,7 @@ fn a_repeated_opening_by_every_cut(rt: HostRuntime) {
 }
 
 // That a partial's table is this.
-fn check_partial(rt: &impl Abort, alloc: Global, partial: Partial, expected: &[Wanted]) {
+fn check_partial(rt: &impl Abort, alloc: Global, partial: Partial, expected: &[ExpectedConn]) {
     let table = finish(alloc, partial).expect(rt, "memory");
     check_table(rt, &table, expected, 0);
 }

@@ -13,7 +13,7 @@ use Rattle.conn_table.proofs.RangeSteps.{length-seen_packets}
 use Rattle.conn_workers.specs.CaptureTables.{whole_connections, whole_table}
 use Rattle.conn_workers.specs.DeliveryRows.{connections_of}
 use Rattle.conn_workers.specs.Recordings.{recording_in, recordings_of}
-use Rattle.conn_workers.specs.RunSummaries.{conn_seen, connection_seen}
+use Rattle.conn_workers.specs.RunSummaries.{seen_of_recording, seen_of_connection}
 use Rattle.conn_workers.proofs.TableConnections.{all_packets, all_segments, connections_are}
 
 pub counts_are : (c : CaptureView) → (whole_table c).counts ≡ counts_of (seen_packets 0 (contents_of c).packets)
@@ -24,10 +24,10 @@ pub unopened_is : (c : CaptureView) → (whole_table c).unopened ≡ unopened_co
 unfolding table_in
 unopened_is c = ap unopened_count (all_segments c)
 
-pub conns_are_seen : IndexedConnectionsAgree → (c : CaptureView) → map conn_seen (recordings_of c) ≡ map connection_seen (connections_of (seen_capture (contents_of c)))
+pub conns_are_seen : IndexedConnectionsAgree → (c : CaptureView) → map seen_of_recording (recordings_of c) ≡ map seen_of_connection (connections_of (seen_capture (contents_of c)))
 conns_are_seen agree c =
-    map-map conn_seen (recording_in c) (whole_connections c) ∙ sym (map-map connection_seen without_indices (whole_connections c))
-    ∙ ap (λ (cs : List Connection). map connection_seen cs) (connections_are agree c)
+    map-map seen_of_recording (recording_in c) (whole_connections c) ∙ sym (map-map seen_of_connection without_indices (whole_connections c))
+    ∙ ap (λ (cs : List Connection). map seen_of_connection cs) (connections_are agree c)
 
 pub packets_are_all : (c : CaptureView) → length c.records ≡ length (seen_capture (contents_of c)).packets
 packets_are_all c = sym (length-seen_packets 0 (contents_of c).packets ∙ length-map c.records (packet_of c.bytes))

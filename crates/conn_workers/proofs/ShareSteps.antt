@@ -12,8 +12,8 @@ use Rattle.std.proofs.lemmas.List.Folds.{flat_map-map}
 use Rattle.std.proofs.lemmas.List.FromFn.{length-enumerate_from}
 use Rattle.scenarios.specs.declared.proxies.Proxy.{Proxy}
 use Rattle.conn_workers.specs.Recordings.{RecordingView, recorded_delivery}
-use Rattle.conn_workers.specs.ReportTexts.{HoldLines, share_texts, text_shares, texts_under}
-use Rattle.conn_workers.specs.RunSummaries.{conn_seen}
+use Rattle.conn_workers.specs.ReportTexts.{HoldLines, share_of, text_shares, texts_under}
+use Rattle.conn_workers.specs.RunSummaries.{seen_of_recording}
 use Rattle.conn_workers.specs.RowShares.{HoldRow, row_text, row_share, ranges_of, row_shares}
 use Rattle.conn_workers.proofs.RowLemmas.{get_or-numbered}
 
@@ -89,12 +89,12 @@ module _ (seed : ℕ) (scenarios : List (List Proxy)) where
   pub texts_together : (size count : ℕ) (recordings : List RecordingView) → length recordings ≤ count * size
       → HoldLines seed scenarios recordings (text_shares size count seed scenarios recordings)
   texts_together size count recordings whole = record {
-    each = All-map (λ share. length share.texts ≡ length scenarios) (share_texts seed scenarios) (ranges_of size count recordings)
+    each = All-map (λ share. length share.texts ≡ length scenarios) (share_of seed scenarios) (ranges_of size count recordings)
         (All-from_get_or (λ rs. length (texts_under seed scenarios rs) ≡ length scenarios) (ranges_of size count recordings) [] (λ i within. length-texts_under _));
-    connections = read_together (share_texts seed scenarios) (λ share. share.connections) conn_seen (λ x. x ∷ []) (λ rs. sym (flat_map_single conn_seen rs)) size count recordings whole
-        ∙ flat_map-map (λ x. x ∷ []) conn_seen recordings ∙ flat_map_single conn_seen recordings;
+    connections = read_together (share_of seed scenarios) (λ share. share.connections) seen_of_recording (λ x. x ∷ []) (λ rs. sym (flat_map_single seen_of_recording rs)) size count recordings whole
+        ∙ flat_map-map (λ x. x ∷ []) seen_of_recording recordings ∙ flat_map_single seen_of_recording recordings;
     lines = λ number within.
         let s : ℕ × List Proxy = (number, get_or scenarios number []) in
-        read_together (share_texts seed scenarios) (λ share. get_or share.texts number []) (λ r. (recorded_delivery seed s r).line) (λ line. line)
+        read_together (share_of seed scenarios) (λ share. get_or share.texts number []) (λ r. (recorded_delivery seed s r).line) (λ line. line)
         (λ rs. text_at rs number [] within) size count recordings whole;
   }

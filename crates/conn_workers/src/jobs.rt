@@ -10,7 +10,7 @@ use crate::deliveries::Delivery;
 use crate::recordings::{Recording, Recordings};
 use crate::row_ranges::RowRanges;
 use crate::row_shares::RowShare;
-use crate::scenario_texts::{ShareTexts, share_texts};
+use crate::scenario_texts::{ShareTexts, share_of};
 use crate::under_scenario::UnderScenario;
 use conn_table::{Conn, Table};
 use job_matrix::{Plan, Work};
@@ -218,6 +218,6 @@ impl<'c, 'w, 'a> Work for TextJobs<'c, 'w, 'a> {
     fn value(&self, job: u64) -> Result<ShareTexts, AllocError> {
         let first = self.ranges.first(job);
         let recordings = self.lines.recorded(first, self.ranges.size)?;
-        share_texts(self.lines.alloc, &recordings, self.scenarios, self.seed)
+        share_of(self.lines.alloc, &recordings, self.scenarios, self.seed)
     }
 }

@@ -4,7 +4,7 @@ ghost use Rattle.std.specs.Prelude.{◌≡◌, ◌≤◌, IfOk, length};
 ghost use Rattle.conn_workers.specs.CaptureTables.{whole_table};
 ghost use Rattle.conn_workers.specs.DeliveryRows.{scenario_limit};
 ghost use Rattle.conn_workers.specs.Recordings.{recordings_of};
-ghost use Rattle.conn_workers.specs.ReportTexts.{HoldLines, share_texts};
+ghost use Rattle.conn_workers.specs.ReportTexts.{HoldLines, share_of};
 
 use crate::crews::Workers;
 use crate::jobs::TextJobs;
@@ -28,14 +28,14 @@ pub struct ShareTexts {
 }
 
 /// The share of connections with these recordings.
-pub(crate) fn share_texts(
+pub(crate) fn share_of(
     alloc: Global,
     recordings: &[Recording<'_, '_>],
     scenarios: &[Scenario],
     seed: u64,
 ) -> Result<ShareTexts, AllocError>
     requires { length scenarios.now ≤ scenario_limit }
-    ensures { IfOk result (λ v. v ≡ share_texts seed scenarios.now recordings.now) }
+    ensures { IfOk result (λ v. v ≡ share_of seed scenarios.now recordings.now) }
 {
     let mut texts = Vec::with_capacity(alloc, scenarios.len())?;
     for number in 0..scenarios.len() {

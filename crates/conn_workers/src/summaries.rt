@@ -5,7 +5,7 @@ ghost use Rattle.pcap_records.specs.CaptureView.{contents_of};
 ghost use Rattle.conn_table.specs.SeenCapture.{seen_capture};
 ghost use Rattle.conn_workers.specs.CaptureTables.{whole_table};
 ghost use Rattle.conn_workers.specs.Recordings.{recordings_of};
-ghost use Rattle.conn_workers.specs.RunSummaries.{conn_seen, meets, met_count, run_summary};
+ghost use Rattle.conn_workers.specs.RunSummaries.{seen_of_recording, meets, met_count, run_summary};
 
 use crate::recordings::Recording;
 use crate::scenario_texts::ShareTexts;
@@ -30,9 +30,9 @@ pub struct SeenConn {
 /// What a run has seen: its capture, and how many connections meet a proxy. No seed, plan or gate changes it.
 #[derive(Debug, Drop)]
 pub struct RunSummary {
-    /// The number of whole records.
+    /// The number of whole records in the capture.
     pub records: usize,
-    /// The number of bytes after them.
+    /// The number of bytes after the last whole record.
     pub rest: u32,
     /// The number of packets of each class.
     pub counts: Counts,
@@ -40,7 +40,7 @@ pub struct RunSummary {
     pub unopened: u64,
     /// The connections, in order of number.
     pub connections: Values<SeenConn>,
-    /// The number of connections that meet a proxy, for each scenario.
+    /// For each scenario the number of connections that meet a proxy, enabled or not. A run without scenario files has one scenario.
     pub met: Values<usize>,
 }
 
@@ -49,7 +49,7 @@ pub fn seen_conns(
     alloc: Global,
     recordings: &[Recording<'_, '_>],
 ) -> Result<Values<SeenConn>, AllocError>
-    ensures { IfOk result (λ v. v ≡ map conn_seen recordings.now) }
+    ensures { IfOk result (λ v. v ≡ map seen_of_recording recordings.now) }
 {
     let mut conns = Vec::with_capacity(alloc, recordings.len())?;
     for recording in recordings {
@@ -82,7 +82,7 @@ pub fn run_summary(
     scenarios: &[Scenario],
 ) -> Result<RunSummary, AllocError>
     requires table { table.now ≡ whole_table capture.now }
-    requires connections { connections ≡ map conn_seen (recordings_of capture.now) }
+    requires connections { connections ≡ map seen_of_recording (recordings_of capture.now) }
     ensures { IfOk result (λ summary. summary ≡ run_summary (seen_capture (contents_of capture.now)) scenarios.now) }
 {
     indexed_connections_agree();
@@ -102,7 +102,7 @@ fn met_counts(
     scenarios: &[Scenario],
     connections: &[SeenConn],
 ) -> Result<Values<usize>, AllocError>
-    ensures { IfOk result (λ v. v ≡ map (met_count connections.now) scenarios.now) }
+    ensures { IfOk result (λ v. v ≡ map (λ proxies. met_count proxies connections.now) scenarios.now) }
 {
     let counts = scenarios
         .iter()
@@ -111,7 +111,7 @@ fn met_counts(
 }
 
 fn met_count(scenario: &Scenario, connections: &[SeenConn]) -> usize
-    ensures { result ≡ met_count connections.now scenario.now }
+    ensures { result ≡ met_count scenario.now connections.now }
 {
     connections
         .iter()

@@ -14,7 +14,7 @@ whole_file bytes = record { bytes = bytes; lost = 0 }
 abbrev pub file_len : FileContents → ℕ
 file_len file = length file.bytes + file.lost
 
--- the file at each path, or None if none can be opened
+-- the contents of the file at each path, or None if none can be opened
 abbrev pub Held : Type 0
 Held = List ℕ → Option FileContents
 
@@ -22,7 +22,7 @@ abbrev pub IsFileAt : Option FileContents → Option FileContents → Type 0
 IsFileAt None contents = ⊥
 IsFileAt (Some file) contents = contents ≡ Some file
 
--- How opening a file ends, by the contents of the file and what its path holds. It is out of memory only if a file is there.
+-- How opening a path ends: `contents` gives those of an open file, and `held` is what the path holds. It is out of memory only if a file is there.
 abbrev pub Opens : {File : Type 0} → (File → Option FileContents) → Option FileContents → Result File DiskFault → Type 0
 Opens contents held (Ok file) = IsFileAt held (contents file)
 Opens contents held (Err fault.Failed) = held ≡ None

@@ -2,6 +2,7 @@
 use Rattle.std.specs.Prelude.{◌≡◌, ◌≤◌, ◌⊎◌, ⊤, ℕ, List, [], ◌∷◌, ◌++◌, length, take, fold, bytes_eq, if◌then◌else◌, Option, Some, None}
 use Rattle.disks.specs.FileContents.{Held, FileContents, whole_file}
 
+-- a file that was published: its path, and all its bytes
 pub record PublishedFile : Type 0 where
   pub path : List ℕ
   pub bytes : List ℕ
@@ -9,6 +10,7 @@ pub record PublishedFile : Type 0 where
 abbrev pub published_file : List ℕ → List ℕ → PublishedFile
 published_file path bytes = record { path = path; bytes = bytes }
 
+-- what paths hold once one holds this file, or once these files have been published
 abbrev pub held_with : Held → List ℕ → FileContents → Held
 held_with held at file = λ path. if bytes_eq path at then Some file else held path
 
@@ -29,16 +31,17 @@ held_at h n = held_after h.first (take n h.published)
 abbrev pub held_now : History → Held
 held_now h = held_after h.first h.published
 
--- Between two histories of a disk exactly these files were published. Nothing is claimed of a disk that tells none.
+-- Between two histories of a disk exactly these files were published. If the disk tells no history, nothing is claimed.
 abbrev pub Publishes : Option History → Option History → List PublishedFile → Type 0
 Publishes None new files = ⊤
 Publishes (Some h) new files = new ≡ Some (with_published h files)
 
+-- one of these files is at this path, and is held whole
 abbrev pub HoldsOneOf : List PublishedFile → List ℕ → Option FileContents → Type 0
 HoldsOneOf [] path held = ⊥
 HoldsOneOf (file ∷ files) path held = ((file.path ≡ path) × (held ≡ Some (whole_file file.bytes))) ⊎ HoldsOneOf files path held
 
--- at each n between two histories each path held what it holds in the first, or one of these files whole; drafts are not in a history
+-- At each moment from the first history to the second, each path held what it held in the first, or one of these files whole. Drafts are in no history.
 abbrev pub LeavesWhole : Option History → Option History → List PublishedFile → Type 0
 LeavesWhole (Some h) (Some k) files = (n : ℕ) → length h.published ≤ n → n ≤ length k.published → (path : List ℕ)
     → (held_at k n path ≡ held_now h path) ⊎ HoldsOneOf files path (held_at k n path)

@@ -137,7 +137,7 @@ impl<'a, F: Files> HostDraft<'a, F> {
         }
     }
 
-    fn published(mut self, path: &str) -> Result<(), DiskFault> {
+    fn publish_at(mut self, path: &str) -> Result<(), DiskFault> {
         if self.file.is_none() {
             return Err(DiskFault::Failed);
         }
@@ -223,7 +223,7 @@ where
     }
 
     fn publish(&mut self, draft: HostDraft<'a, F>, path: &str) -> Result<(), DiskFault> {
-        let published = draft.published(path);
+        let published = draft.publish_at(path);
         count_failure(&published, &mut self.failed);
         published
     }

@@ -103,7 +103,8 @@ impl MemoryDisk {
         Ok(())
     }
 
-    /// Makes one call of [`hold`](Disk::hold), [`publish`](Disk::publish) or [`allow_publishing`](Disk::allow_publishing) fail: the one after `calls` others.
+    /// Makes one call of [`hold`](Disk::hold), [`publish`](Disk::publish) or [`allow_publishing`](Disk::allow_publishing) fail: the one
+    /// after `calls` others.
     pub fn fail_after(&mut self, calls: u64)
         ensures { self.new ≡ self.old }
     {

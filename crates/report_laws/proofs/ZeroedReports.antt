@@ -19,7 +19,7 @@ use Rattle.report.specs.ReportText.{peers_text, counts_text, counts_text_of, con
 use Rattle.scenarios.specs.declared.proxies.Proxy.{Proxy}
 use Rattle.conn_workers.specs.MetProxies.{met_proxy}
 use Rattle.conn_workers.specs.Contributions.{contribution, contribution_of}
-use Rattle.conn_workers.specs.RunSummaries.{connection_seen, met_count, run_summary}
+use Rattle.conn_workers.specs.RunSummaries.{seen_of_connection, met_count, run_summary}
 use Rattle.conn_workers.specs.declared.summaries.SeenConn.{SeenConn}
 use Rattle.report_laws.specs.ZeroedPayloads.{zeroed_packet, zeroed_seen, report_of, ReportSeesLengths}
 use Rattle.report_laws.proofs.MappedLists.{zip_mapped}
@@ -109,15 +109,15 @@ report_sees_lengths one other alike seed s = sym (report_zeroed one seed s) ∙ 
 
 -- ---- summaries
 
-conn_zeroed : (c : Connection) → connection_seen (zeroed_connection c) ≡ connection_seen c
+conn_zeroed : (c : Connection) → seen_of_connection (zeroed_connection c) ≡ seen_of_connection c
 conn_zeroed c = ap (λ (r : RecordedConnection). let seen : SeenConn = record { server = server_of c; up_lost = r.up.lost; down_lost = r.down.lost } in seen) (connection_recorded c)
 
 module _ (c : SeenCapture) where
-  conns_zeroed : map connection_seen (connections (indexed_segments 0 (map zeroed_packet c.packets))) ≡ map connection_seen (connections (indexed_segments 0 c.packets))
+  conns_zeroed : map seen_of_connection (connections (indexed_segments 0 (map zeroed_packet c.packets))) ≡ map seen_of_connection (connections (indexed_segments 0 c.packets))
   conns_zeroed =
-      ap (λ xs. map connection_seen (connections xs)) (indexed_zeroed 0 c.packets)
-      ∙ ap (map connection_seen) (connections_zeroed (indexed_segments 0 c.packets))
-      ∙ map-map connection_seen zeroed_connection (connections (indexed_segments 0 c.packets))
+      ap (λ xs. map seen_of_connection (connections xs)) (indexed_zeroed 0 c.packets)
+      ∙ ap (map seen_of_connection) (connections_zeroed (indexed_segments 0 c.packets))
+      ∙ map-map seen_of_connection zeroed_connection (connections (indexed_segments 0 c.packets))
       ∙ ap (λ (seen : Connection → SeenConn). map seen (connections (indexed_segments 0 c.packets))) (fun_ext conn_zeroed)
 
   pub summary_zeroed : (scenarios : List (List Proxy)) → run_summary (zeroed_seen c) scenarios ≡ run_summary c scenarios
@@ -128,5 +128,5 @@ module _ (c : SeenCapture) where
     counts = counts_zeroed c.packets i;
     unopened = unopened_zeroed c 0 i;
     connections = conns_zeroed i;
-    met = map (met_count (conns_zeroed i)) scenarios;
+    met = map (λ proxies. met_count proxies (conns_zeroed i)) scenarios;
   }

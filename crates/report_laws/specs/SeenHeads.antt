@@ -23,7 +23,7 @@ ReportSeesHeads =
     (one other : Contents) → heads_of one ≡ heads_of other → (seed : ℕ) (scenario : ℕ × List Proxy)
     → report_of (seen_capture one) seed scenario ≡ report_of (seen_capture other) seed scenario
 
--- and the same summary of a run
+-- and the same summary of a run with these scenarios
 abbrev pub SummarySeesHeads : Type 0
 SummarySeesHeads =
     (one other : Contents) → heads_of one ≡ heads_of other → (scenarios : List (List Proxy))

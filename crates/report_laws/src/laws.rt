@@ -15,8 +15,8 @@ pub fn frame_sees_head()
     ensures { FrameSeesHead }
 {}
 
-/// Reports depend only on a capture's ticks, the number of bytes after its last whole record, and each packet's stamp, length and head.
-/// So a capture of which only the heads are kept loses no report, and the summary of a run stays the same.
+/// Reports and the summary of a run depend only on a capture's ticks, the number of bytes after its last whole record, and each packet's stamp, length and head.
+/// So a capture of which only the heads are kept has the same reports and summary.
 pub fn report_sees_heads()
     ensures report { ReportSeesHeads }
     ensures summary { SummarySeesHeads }

@@ -1,4 +1,4 @@
--- Named files: the text that is loaded of a path.
+-- Files at paths: the text that is loaded of each.
 use Rattle.std.specs.Prelude.{◌≡◌, ◌≤◌, ℕ, nat_lt, if◌then◌else◌, List, length, take, Option, Some, None, Result, Ok, Err}
 use Rattle.disks.specs.FileContents.{Held, FileContents}
 use Rattle.pcap_records.specs.Reading.{capture_limit}

@@ -32,12 +32,12 @@ abbrev pub stored_before : StoreFault → ℕ
 stored_before (ShelfFailed after) = after
 stored_before (Memory after) = after
 
--- How files were stored after `before` others, where `Took` means that some were: all of them; or the first of them, but not all.
+-- How files were stored after `before` others, where `Stored` means that some were: all of them; or the first of them, but not all.
 abbrev pub Stores : ℕ → List StoredFile → (List StoredFile → Type 0) → Result (Unit {0}) StoreFault → Type 0
-Stores before files Took (Ok _) = Took files
-Stores before files Took (Err fault) = (stored : ℕ) × (stored_before fault ≡ before + stored) × (stored < length files) × Took (take stored files)
+Stores before files Stored (Ok _) = Stored files
+Stores before files Stored (Err fault) = (stored : ℕ) × (stored_before fault ≡ before + stored) × (stored < length files) × Stored (take stored files)
 
--- how one file was put after `before` others: it was taken; or it was not, and all is as it was
+-- how one file was put after `before` others: it was; or it was not, and all is as it was
 abbrev pub PutsAfter : ℕ → Type 0 → Type 0 → Result (Unit {0}) StoreFault → Type 0
-PutsAfter before Taken AsBefore (Ok _) = Taken
-PutsAfter before Taken AsBefore (Err fault) = (stored_before fault ≡ before) × AsBefore
+PutsAfter before Put AsBefore (Ok _) = Put
+PutsAfter before Put AsBefore (Err fault) = (stored_before fault ≡ before) × AsBefore

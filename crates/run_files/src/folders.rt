@@ -20,8 +20,8 @@ const UNFINISHED: &str = "toxicap.unfinished";
 /// name is at any time the old one whole or the new one whole, even if the program is killed or the disk is full. A run
 /// [holds](Folder::hold) the folder first, and removes the drafts that killed runs left.
 ///
-/// Refused are a name of something other than a file, and that of a file that may not be written or that the run has read; a name with a
-/// slash, one of more than 255 bytes, and one that begins as those of drafts do.
+/// It refuses a name at which something except a file stands, and a file that may not be written or that the run has read. It also refuses
+/// a name with a slash, one of more than 255 bytes, and one that begins as those of drafts do.
 #[derive(Drop)]
 pub struct Folder<'a> {
     path: &'a str,
@@ -52,7 +52,7 @@ impl<'a> Folder<'a> {
         Folder { path, read }
     }
 
-    /// Holds the folder for the drafts of this run alone, and removes those that runs that are over have left there.
+    /// Holds the folder for the drafts of this run only, and removes drafts that earlier runs left there.
     ///
     /// # Errors
     /// The folder has no path, it is not there or cannot be opened, another run holds it, or not all files are known that this run has read.
@@ -100,7 +100,7 @@ impl<'a> Folder<'a> {
         Ok(path)
     }
 
-    /// Makes a draft the file of a name in the folder, after `after` other files.
+    /// Commits a draft: publishes it under a name in the folder, after `after` other files.
     ///
     /// # Errors
     /// The folder refuses the name, or the disk or the draft failed. The disk's files are as they were.

@@ -74,8 +74,6 @@ module _ (ticks seed : ℕ) (s : ℕ × List Proxy) where
   parts_lines [] = refl
   parts_lines (c ∷ cs) = ap (λ rest. (contribution_of ticks seed s c).line ∷ rest) (parts_lines cs)
 
--- ---- the next row
-
 abbrev pub next_scenario : List (List Proxy) → ℕ → ℕ × List Proxy
 next_scenario scenarios number = get_or (enumerate_from 0 scenarios) number (0, [])
 
@@ -89,8 +87,6 @@ pub next_row : (seed : ℕ) (c : SeenCapture) (scenarios : List (List Proxy)) (n
 next_row seed c scenarios number within count left wide is =
     let inside : number < length (enumerate_from 0 scenarios) = omega (arith, within, length-enumerate_from 0 scenarios) in
     ap₂ take wide is ∙ row_taken (delivery_of c.ticks seed) (enumerate_from 0 scenarios) (connections_of c) number (0, []) inside
-
--- ---- what is gathered of a row is the output of its scenario
 
 pub gathered_is : (c : SeenCapture) (seed : ℕ) (s : ℕ × List Proxy) (number unopened : ℕ) → number ≡ s.0 → unopened ≡ unopened_count (indexed_segments 0 c.packets)
     → let row = map (delivery_of c.ticks seed s) (connections_of c) in

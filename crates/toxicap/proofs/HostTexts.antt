@@ -15,8 +15,6 @@ use Rattle.scenarios.specs.Hosts.{address, is_name_byte, is_host_name, look_up, 
 use Rattle.scenarios.specs.ProxyLaws.{AddressesAreDotted}
 use Rattle.toxicap.specs.Inputs.{equals_sign, host_written}
 
--- ---- names
-
 name_byte_is_ascii : (b : ℕ) → is_name_byte b ≡ true → b < 128
 name_byte_is_ascii b is = grind (arith, is)
 
@@ -25,8 +23,6 @@ names_are_ascii [] is = IsAscii-nil
 names_are_ascii (b ∷ bs) is =
     let parts = and_parts (is_name_byte b) (list_all is_name_byte bs) is in
     IsAscii-cons b bs (name_byte_is_ascii b parts.0) (names_are_ascii bs parts.1)
-
--- ---- addresses
 
 dot_is_ascii : IsAscii (codes ".")
 dot_is_ascii = IsAscii-cons 46 [] (omega arith) IsAscii-nil
@@ -47,8 +43,6 @@ address_is_ascii dotted text addr is =
     let found = (dotted text addr).0 is in
     let of : IsDotted text found.0 = found.1 in
     subst IsAscii (sym of.spelled) (dotted_is_ascii of.a of.b of.c of.d of.fit.0 of.fit.1 of.fit.2 of.fit.3)
-
--- ---- hosts
 
 tested : (test : Bool) (addr : Option ℕ) (make : ℕ → KnownHost) (host : KnownHost)
     → (if test then option_map make addr else None) ≡ Some host → (test ≡ true) × ((a : ℕ) × (addr ≡ Some a))

@@ -11,8 +11,6 @@ use Rattle.pcap_records.specs.Instants.{microseconds, nanoseconds, ticks_of}
 use Rattle.pcap_records.specs.Reading.{Heading, Reading, capture_limit, file_header_len, number_in, magic, nanosecond_magic, heading_by, magic_heading, checked_heading, file_heading, reading}
 use Rattle.pcap_records.specs.Grammar.{ReadingsSplit}
 
--- ---- the heading of what was read is the one that the first four bytes tell
-
 checked_is : (told : Option Heading) (bytes : List ℕ) (h : Heading) → checked_heading told bytes ≡ Ok h → told ≡ Some h
 checked_is None bytes h is = absurd cc
 checked_is (Some x) bytes h is =
@@ -38,8 +36,6 @@ reading_heading : ReadingsSplit → (bytes : List ℕ) (r : Reading) → reading
 reading_heading readings_split bytes r is =
     let split = readings_split bytes r is in
     (split.0, heading_is bytes split.0 split.3.0, ap (λ (x : Reading). x.contents.ticks) split.3.3)
-
--- ---- its ticks are those of a unit
 
 heading_in : ℕ → Order → Heading
 heading_in ticks o = record { order = o; ticks = ticks }

@@ -25,8 +25,6 @@ module _ {R C V : Type 0} (f : R → C → V) (rs : List R) (cs : List C) (i : �
 pub own_number : {A : Type 0} (xs : List A) (i : ℕ) (d : ℕ × A) → i < length xs → (get_or (enumerate_from 0 xs) i d).0 ≡ i
 own_number xs i d within = ap (λ p. p.0) (get_or-enumerate_from 0 xs i d within) ∙ (let e : 0 + i ≡ i = omega arith in e)
 
--- ---- one element at a time
-
 -- the first of what is left is one more of what is taken
 pub record TakesOne {X : Type 0} (xs : List X) (i : ℕ) (x : X) (left : List X) : Type 0 where
   pub taken : take (i + 1) xs ≡ take i xs ++ x ∷ []

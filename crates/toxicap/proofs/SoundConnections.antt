@@ -13,8 +13,6 @@ use Rattle.reassembly.specs.Positions.{server_base, effective_members, is_answer
 use Rattle.toxicap.specs.SoundOutputs.{AreBytes}
 use Rattle.toxicap.proofs.EachElement.{each_dropped, each_filtered, each_on_left, each_on_right, each_taken}
 
--- ---- packets of a file of bytes
-
 abbrev pub HasBytes : Packet → Type 0
 HasBytes p = AreBytes p.bytes
 
@@ -32,8 +30,6 @@ packets_have readings_split bytes r is are =
     let records : AreBytes (flat_map raw_bytes raws ++ split.2) = rw whole.whole at (each_dropped (λ x. x < 256) 24 bytes are) in
     subst (λ ps. AllByRecursion HasBytes ps) (sym (ap (λ (x : Reading). x.contents.packets) split.3.3))
     (raws_have split.0 raws (each_on_left (λ x. x < 256) (flat_map raw_bytes raws) split.2 records))
-
--- ---- segments and connections
 
 abbrev HasSoundFields : IndexedSegment → Type 0
 HasSoundFields s = FieldsFit s.timed.fields

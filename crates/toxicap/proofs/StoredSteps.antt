@@ -25,8 +25,6 @@ files_at n (suc i) (x ∷ xs) within =
     let on : n + 1 + i ≡ n + suc i = omega arith in
     ap (λ k. take 2 (drop k (files_from n (x ∷ xs)))) further ∙ files_at (n + 1) i xs (omega (arith, within)) ∙ ap (λ k. files_from k (get_or xs i no_output ∷ [])) on
 
--- ---- what was committed to the folder
-
 -- some files, and then others
 commits_both : (folder : List ℕ) (a b c : Option History) (xs ys : List StoredFile) → CommitsIn folder a b xs → CommitsIn folder b c ys → CommitsIn folder a c (xs ++ ys)
 commits_both folder None b c xs ys first next = tt

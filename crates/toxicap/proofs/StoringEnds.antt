@@ -49,11 +49,11 @@ refused_faults folder fault expected own is = refl
 
 module _ (whole : PublishingLeavesWhole) (folder : List ℕ) (old new : Option History) where
   first_part : (files : List StoredFile) (n : ℕ) → CommitsIn folder old new (take n files) → LeavesWhole old new (map (in_folder folder) files)
-  first_part files n took = whole old new (map (in_folder folder) files) n (subst (Publishes old new) (sym (take-map (in_folder folder) n files)) took)
+  first_part files n committed = whole old new (map (in_folder folder) files) n (subst (Publishes old new) (sym (take-map (in_folder folder) n files)) committed)
 
   files_whole : (outcome : Result (Unit {0}) RunFault) (files : List StoredFile) → StoresFiles outcome files (CommitsIn folder old new)
       → LeavesWhole old new (map (in_folder folder) files)
-  files_whole (Ok u) files took = first_part files (length files) (subst (CommitsIn folder old new) (sym (take-length files)) took)
+  files_whole (Ok u) files committed = first_part files (length files) (subst (CommitsIn folder old new) (sym (take-length files)) committed)
   files_whole (Err (ShelfFailed after)) files stores = first_part files after stores.1
   files_whole (Err Memory) files stores = first_part files stores.0 stores.2
   files_whole (Err fault) files stores = absurd stores

@@ -14,8 +14,6 @@ use Rattle.conn_workers.specs.CaptureTables.{whole_table, whole_connections}
 use Rattle.conn_workers.specs.DeliveryRows.{connections_of}
 use Rattle.conn_workers.specs.Recordings.{recording_in, recordings_of}
 
--- ---- its records are all
-
 all_packets : (c : CaptureView) → packets_between c 0 (length c.records) 0 ≡ seen_packets 0 (contents_of c).packets
 all_packets c =
     let packets : List Packet = (contents_of c).packets in
@@ -28,8 +26,6 @@ all_segments c = ap (indexed_segments 0) (all_packets c)
 
 connections_are : IndexedConnectionsAgree → (c : CaptureView) → map without_indices (whole_connections c) ≡ connections_of (seen_capture (contents_of c))
 connections_are agree c = agree (segments_between c 0 (length c.records) 0) ∙ ap connections (all_segments c)
-
--- ---- what it shows
 
 -- a connection of the table for each connection of the capture
 pub as_many : IndexedConnectionsAgree → (c : CaptureView) → length (whole_table c).conns ≡ length (connections_of (seen_capture (contents_of c)))

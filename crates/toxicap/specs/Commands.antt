@@ -1,7 +1,7 @@
 -- How the program ends on a command line.
 --
--- The order of refusals, each told only where none before it came:
---   1. a fault of the command line, status 2: nothing is read or written but what tells it (`ProgramEnds`);
+-- Refusals come in this order, and only the first is told:
+--   1. a fault of the command line, status 2: nothing is read, and only what tells it is written (`ProgramEnds`);
 --   2. a host (`hosts_asked`, in Inputs);
 --   3. a scenario file that cannot be opened or read, or is too long: the first in order (`LoadsFiles`, in Inputs);
 --   4. the capture, from a named file or standard input: it cannot be opened or read, or is too long (`LoadsCapture`, in Inputs);
@@ -10,8 +10,8 @@
 --   7. there are too many scenarios (`answer`, in Rehearsal);
 --   8. the capture's own faults, in the order of `reading` (pcap_records, Reading);
 --   9. writing the reports fails (`WritesText`, in RunEnds), or a file cannot be stored (`StoresFiles`, in StoredOutputs).
--- Out of memory may come at any step. Then no byte of a report was printed, but some files may be stored.
-use Rattle.std.specs.Prelude.{◌≡◌, ℕ, List, Option, Some, None, Result, Ok, Err, IfOk, IsOk}
+-- Out of memory may come at any step. Then no byte of a report is printed; some files may be stored.
+use Rattle.std.specs.Prelude.{◌≡◌, ℕ, List, Option, Some, None, Result, Ok, Err, IfOk}
 use Rattle.std.specs.Borrow.{Bor}
 use Rattle.std.specs.String.{string_bytes}
 use Rattle.command_line.specs.declared.asked.Asked.{Asked}
@@ -47,7 +47,7 @@ streams remaining r s contents w x = record { Unread = s ≡ r; Loaded = LoadedB
 abbrev pub Unchanged : DiskHistories → Streams → Type 0
 Unchanged disk s = s.output.Unwritten × (disk.after ≡ disk.before)
 
--- nor was standard input read; scenario files may have been
+-- and standard input was not read; scenario files may have been
 abbrev pub Untouched : DiskHistories → Streams → Type 0
 Untouched disk s = s.Unread × Unchanged disk s
 
@@ -57,7 +57,7 @@ AnswersInto None outcome expected disk s = PrintsOf outcome expected s.output ×
 AnswersInto (Some folder) outcome expected disk s = StoresIn folder.now outcome expected disk × s.output.Unwritten
 
 -- The steps of a run, and how it ends: it reads the hosts, loads the scenario files and then the capture, and answers what the capture's text
--- calls for. The fault of a step is the outcome. A run that ends well gives its summary.
+-- calls for. The fault of a step is the outcome. A run that ends well gives the summary of the same texts.
 abbrev pub RunsBy : Asked → Result RunSummary RunFault → DiskHistories → Streams → Type 0
 RunsBy asked outcome disk s =
     Step (UnlessMemory (hosts_asked asked)) outcome (Untouched disk s) (λ hosts.
@@ -74,15 +74,15 @@ of_run (Err fault) = Err fault
 -- how the program ends if its words have no usage fault
 abbrev pub CommandEnds : Result Asked Stop → Result (Option RunSummary) RunFault → DiskHistories → Streams → Type 0
 CommandEnds (Ok asked) outcome disk s = (run : Result RunSummary RunFault) × (outcome ≡ of_run run) × RunsBy asked run disk s
-CommandEnds (Err (stop.Shown text)) outcome disk s = WritesText (without_value outcome) (string_bytes text) s.output × s.Unread × (disk.after ≡ disk.before)
+CommandEnds (Err (stop.Shown text)) outcome disk s = WritesText (without_value outcome) (string_bytes text) s.output × IfOk outcome (λ summary. summary ≡ None) × s.Unread × (disk.after ≡ disk.before)
 CommandEnds (Err (stop.Usage text)) outcome disk s = ⊥
 CommandEnds (Err stop.Memory) outcome disk s = (outcome ≡ Err Memory) × Untouched disk s
 
--- The exit status of the program, and the outcome that it stands for. A usage fault has status 2. Its outcome is Ok, since no run was begun, and
--- nothing is read or written except what tells the fault.
+-- The exit status of the program, and the outcome that it stands for. A usage fault has status 2. Its outcome is Ok None, since no run was begun.
+-- Nothing is read, and only what tells the fault is written.
 abbrev pub ProgramEnds : Result Asked Stop → ℕ → Result (Option RunSummary) RunFault → DiskHistories → Streams → Written → Type 0
 ProgramEnds (Err (stop.Usage text)) status outcome disk s faults =
-    (status ≡ usage_status) × IsOk outcome × WrittenSoFar (string_bytes text) faults × Untouched disk s
+    (status ≡ usage_status) × (outcome ≡ Ok None) × WrittenSoFar (string_bytes text) faults × Untouched disk s
 ProgramEnds line status outcome disk s faults = CommandEnds line outcome disk s × (status ≡ status_of outcome) × Tells outcome faults
 
 -- ---- calls of the disk
@@ -92,7 +92,7 @@ abbrev pub folder_of : Result Asked Stop → Option (Bor (List ℕ))
 folder_of (Ok asked) = asked.out
 folder_of (Err _) = None
 
--- the number of the disk's calls to hold a folder, or to allow or give a name, that failed in a run with this outcome: 0 or 1
+-- The number of the disk's calls that failed in a run with this outcome, 0 or 1. These calls hold a folder, check a path or publish a draft.
 abbrev pub failed_calls : Option (Bor (List ℕ)) → Result (Unit {0}) RunFault → ℕ
 failed_calls None outcome = 0
 failed_calls (Some folder) outcome = failed_stores folder.now outcome

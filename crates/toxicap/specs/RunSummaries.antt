@@ -1,4 +1,4 @@
--- The summary of a run, by what it was called with.
+-- The summary that a run calls for, by what it has read. More scenarios than a run may have are left out: no such run ends well.
 use Rattle.std.specs.Prelude.{ℕ, List, [], Result, Ok, Err}
 use Rattle.pcap_records.specs.Reading.{reading}
 use Rattle.pcap_records.specs.declared.fault.CaptureFault.{CaptureFault}
@@ -13,6 +13,7 @@ use Rattle.run_files.specs.declared.error.RunFault.{RunFault}
 use Rattle.toxicap.specs.Answering.{capture_bytes_of, scenarios_from}
 use Rattle.toxicap.specs.Rehearsal.{seen_file}
 
+-- by what is seen of a capture, or its fault
 abbrev pub summary_in : Result SeenCapture CaptureFault → List (List Proxy) → Result RunSummary RunFault
 summary_in (Ok c) scenarios = Ok (run_summary c scenarios)
 summary_in (Err f) scenarios = Err (run_fault f)
@@ -20,7 +21,7 @@ summary_in (Err f) scenarios = Err (run_fault f)
 abbrev pub summary_of_bytes : List ℕ → List (List Proxy) → Result RunSummary RunFault
 summary_of_bytes bytes scenarios = summary_in (seen_file (reading bytes)) scenarios
 
--- by the texts of the scenarios and of the capture
+-- by the scenarios' texts with these hosts, and the capture's text
 abbrev pub summary_of_texts : List KnownHost → List (List ℕ) → List ℕ → Result RunSummary RunFault
 summary_of_texts hosts texts text =
     and_then (capture_bytes_of text) (λ bytes. and_then (scenarios_from hosts [] texts) (summary_of_bytes bytes))

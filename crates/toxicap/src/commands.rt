@@ -1,5 +1,5 @@
 //! The program: from the words of its command line to an exit status.
-ghost use Rattle.std.specs.Prelude.{◌≡◌, ◌≢◌, ◌+◌, ◌-◌, ◌^◌, ◌<◌, ◌≤◌, map, None, Option, Result, Err};
+ghost use Rattle.std.specs.Prelude.{◌≡◌, ◌≢◌, ◌+◌, ◌-◌, ◌^◌, ◌<◌, ◌≤◌, map, IfOk, None, Option, Result, Err};
 ghost use Rattle.std.specs.IoError.{error_kind};
 ghost use Rattle.command_line.specs.Asking.{ReadsAs};
 ghost use Rattle.command_line.specs.declared.asked.Asked.{Asked};
@@ -62,8 +62,8 @@ where
 }
 
 /// [`command`] over any disk: its scenario files and its capture are loaded from there, and its outputs stored there. Beside the status
-/// stands the outcome that it is the status of: after a run that ended well its summary; `Ok(None)` at a fault of the command line, and if
-/// help was shown.
+/// stands the outcome that it is the status of. A run that ended well has its summary. A fault of the command line, help and the version
+/// have `Ok(None)`.
 ///
 /// If the disk tells its history, the outcome follows from it: each scenario is the text at its own path, and the capture that at its path;
 /// of several files at fault the first counts, in the order of the scenarios, and then the capture. After a run of status 0 the files of the
@@ -146,7 +146,8 @@ fn of_run(run: Result<RunSummary, RunFault>) -> Result<Option<RunSummary>, RunFa
 
 fn show<W: Write>(writer: &mut Counted<W>, text: &[u8]) -> Result<Option<RunSummary>, RunFault>
     requires { writer.old.failed < 2 ^ 64 - 1 }
-    ensures { WritesText (without_value result) text.now (written W.contents writer.old writer.new) }
+    ensures writes { WritesText (without_value result) text.now (written W.contents writer.old writer.new) }
+    ensures none { IfOk result (λ summary. summary ≡ None) }
 {
     write_bytes(writer, text)?;
     Ok(None)

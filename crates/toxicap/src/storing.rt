@@ -35,7 +35,7 @@ use std::thread::Threads;
 /// has its rows in memory, and at most two for each worker have drafts. It returns the summary of the run.
 ///
 /// # Errors
-/// Those of `rehearse`, and [`RunFault::ShelfFailed`] at the first file that the folder does not take.
+/// Those of `rehearse`, and [`RunFault::ShelfFailed`] at the first file that cannot be committed to the folder.
 pub(crate) fn store_rehearsal<R: Threads + Sync, D: Disk + Sync>(
     crew: &Workers<'_, R>,
     alloc: Global,

@@ -49,7 +49,7 @@ fn main(rt: HostRuntime) -> ExitCode {
     let files = Counting {
         rt: &rt,
         all: on_terminal.map_or(0, |asked| asked.scenarios.len() as u64),
-        named: AtomicU64::new(0),
+        published: AtomicU64::new(0),
     };
     let (status, outcome) = command_over(
         &files,

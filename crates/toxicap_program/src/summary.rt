@@ -1,4 +1,4 @@
-//! What a person would miss in reports.
+//! The last line of a run on a terminal: what is easily missed in its reports.
 use crate::run::{Run, Said, unit_of};
 use std::alloc::AllocError;
 use std::net::Ipv4Addr;
@@ -6,7 +6,7 @@ use std::rt::Files;
 use toxicap::RunSummary;
 
 impl<R: Files> Run<'_, R> {
-    /// What would be missed in the reports of a run.
+    /// What is easily missed in the reports of a run.
     pub fn summed_up(&self, summary: &RunSummary) -> Said {
         let scenarios = self.asked.scenarios.len();
         let start = if scenarios > 1 { "scenario 0: " } else { "" };
@@ -25,7 +25,7 @@ impl<R: Files> Run<'_, R> {
         Ok(text)
     }
 
-    // The first servers that differ.
+    // The servers of connections, each once, until their text has 80 bytes.
     fn put_servers(&self, text: &mut String, summary: &RunSummary) -> Result<(), AllocError> {
         let mut put = Vec::new(self.alloc);
         let mut servers = String::new(self.alloc);
@@ -58,7 +58,7 @@ fn put_connections(text: &mut String, summary: &RunSummary) -> Result<(), AllocE
     Ok(())
 }
 
-// What is in no report, and the classes of more than a tenth of the records.
+// What no connection delivers, and the classes of more than a tenth of the records.
 fn put_left_out(text: &mut String, summary: &RunSummary) -> Result<(), AllocError> {
     let mut lost = 0u64;
     for connection in summary.connections.as_slice() {

@@ -29,12 +29,12 @@ impl<R: Read> Read for Announced<R> {
     }
 }
 
-/// The files of a runtime. Standard error counts the stored scenarios, if `all` are at least two, when the second file of one is named.
+/// The files of a runtime. If `all` is at least two, standard error counts the stored scenarios: one more when its second file is published.
 #[derive(Drop)]
 pub struct Counting<'a, R> {
     pub rt: &'a R,
     pub all: u64,
-    pub named: AtomicU64,
+    pub published: AtomicU64,
 }
 
 impl<R: Threads> Threads for Counting<'_, R> {}
@@ -68,9 +68,12 @@ impl<R: Files + Eprint> Files for Counting<'_, R> {
 
     fn rename(&self, from: &str, to: &str) -> io::Result<()> {
         self.rt.rename(from, to)?;
-        let named = self.named.fetch_add(1, Ordering::SeqCst).wrapping_add(1);
-        let (stored, all) = (named / 2, self.all);
-        if all >= 2 && named % 2 == 0 {
+        let published = self
+            .published
+            .fetch_add(1, Ordering::SeqCst)
+            .wrapping_add(1);
+        let (stored, all) = (published / 2, self.all);
+        if all >= 2 && published % 2 == 0 {
             // what comes next is written over each count except the last
             let end = if stored < all { "\r" } else { "\n" };
             let _ = eprint!(self.rt; "stored {stored} of {all}{end}");

@@ -9,7 +9,7 @@ use std::io::Read;
 use std::process::Abort;
 use std::sync::Wait;
 use std::thread::Threads;
-use toxicap::{Counted, command_over};
+use toxicap::{Counted, RunFault, RunSummary, command_over};
 use worked_sessions::sessions::PLAIN_SESSION;
 
 // A proxy for the host `web` that holds the client's bytes for 100 ms.
@@ -20,12 +20,12 @@ const SLOW: &str =
 const BOTH_REPORTS: &str =
     "scenario 0 records 7 rest 0 segment 7 short 0 notipv4 0 badipv4 0 fragment 0 nottcp 0 cut 0 badtcp 0 sameends 0\nconnections 1 unopened 0\n0 10.0.0.1:40000 > 10.0.0.2:80 proxy - up 5/5/0 fin+2000 max 0 down 0/0/0 fin+3000 max 0\nscenario 1 records 7 rest 0 segment 7 short 0 notipv4 0 badipv4 0 fragment 0 nottcp 0 cut 0 badtcp 0 sameends 0\nconnections 1 unopened 0\n0 10.0.0.1:40000 > 10.0.0.2:80 proxy 0 up 5/5/0 fin+101000 max 100000 down 0/0/0 fin+3000 max 0\n";
 
-// The program over a disk, of words and no standard input: its status, and what it has written and told.
+// The program over a disk, of words and no standard input: its status, what it has written and told, and its outcome.
 pub fn ended_over<H: AllocGlobal + Threads + Wait + Sync, D: ReadDisk + Sync>(
     rt: &H,
     disk: &mut D,
     words: &[&str],
-) -> (u8, Vec<u8>, Vec<u8>)
+) -> (u8, Vec<u8>, Vec<u8>, Result<Option<RunSummary>, RunFault>)
 where
     D::File: Sync,
     D::Draft: Send,
@@ -34,7 +34,7 @@ where
     let mut input = Counted::new(b"".as_slice());
     let mut output = Counted::new(Vec::new(rt.alloc()));
     let mut faults = Counted::new(Vec::new(rt.alloc()));
-    let (status, _outcome) = command_over(
+    let (status, outcome) = command_over(
         rt,
         disk,
         rt.alloc(),
@@ -43,7 +43,8 @@ where
         &mut output,
         &mut faults,
     );
-    (status, output.into_inner(), faults.into_inner())
+    let (written, told) = (output.into_inner(), faults.into_inner());
+    (status, written, told, outcome)
 }
 
 // It ends with this status, and has written and told these texts.

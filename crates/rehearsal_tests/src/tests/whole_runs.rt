@@ -158,9 +158,33 @@ fn help_beside_a_folder(rt: HostRuntime) {
     let files = files_of(&rt, &BY_ONE).expect(&rt, "memory");
     let mut disk = disk_before(rt.alloc()).expect(&rt, "memory");
     let words = ["--capture=session", "--out=out", "--help"];
-    let (status, written, told) = ended_over(&rt, &mut disk, &words);
+    let (status, written, told, outcome) = ended_over(&rt, &mut disk, &words);
     let good = disk.failed() == 0 && has_first(rt.alloc(), &disk, &files, 0) == Ok(true);
     assert!(rt; good && status == 0 && !written.is_empty() && told.is_empty());
+    assert!(rt; matches!(outcome, Ok(None)));
+}
+
+// The summary is the same whether a run prints or stores.
+#[test]
+fn summaries_of_runs(rt: HostRuntime) {
+    for words in [
+        ["--capture=session"].as_slice(),
+        &["--capture=session", "--out=out"],
+    ] {
+        let mut disk = disk_before(rt.alloc()).expect(&rt, "memory");
+        let (_, _, _, outcome) = ended_over(&rt, &mut disk, words);
+        let Ok(Some(summary)) = outcome else {
+            rt.panic("no summary");
+        };
+        let counted = summary.records == 7 && summary.counts.segment == 7 && summary.unopened == 0;
+        let conns = summary.connections.as_slice();
+        let whole = conns
+            .iter()
+            .all(|conn| conn.up_lost == 0 && conn.down_lost == 0);
+        assert!(rt;
+            counted && conns.len() == 1 && whole && summary.met.as_slice() == [0].as_slice()
+        );
+    }
 }
 
 // A scenario that lies in the folder, under the name of a file of its run, stays there.

@@ -10,7 +10,7 @@ unfolding run_summary
 returns c =
     let capture = c.args.capture.now in
     let conns = c.requires.connections ∙ conns_are_seen c.indexed_connections_agree.ensures capture in
-    let met = c.in_ok-met.ensures ∙ ap (λ (cs : List SeenConn). map (met_count cs) c.args.scenarios.now) (c.as_slice.ensures ∙ conns) in
+    let met = c.in_ok-met.ensures ∙ ap (λ (cs : List SeenConn). map (λ proxies. met_count proxies cs) c.args.scenarios.now) (c.as_slice.ensures ∙ conns) in
     let records = c.records.ensures.records in
     λ i. record {
       records = (ap length records ∙ packets_are_all capture) i;

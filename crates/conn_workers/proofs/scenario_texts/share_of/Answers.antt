@@ -4,7 +4,7 @@ use Rattle.scenarios.specs.declared.proxies.Proxy.{Proxy}
 use Rattle.conn_workers.specs.ReportTexts.{texts_under}
 use Rattle.conn_workers.specs.RowShares.{row_text}
 use Rattle.conn_workers.proofs.ShareSteps.{length-texts_under, text_at}
-use Rattle.conn_workers.proofs.scenario_texts.share_texts.Goals as goal
+use Rattle.conn_workers.proofs.scenario_texts.share_of.Goals as goal
 
 pub loop-number-preserved : goal.loop-number-preserved
 loop-number-preserved c =

@@ -1,21 +1,21 @@
 //! The reports of a rehearsal alone, held in memory, and its summary: no segment is written, and no capture made.
-ghost use Rattle.run_files.specs.RunFault.{run_refusal};
 ghost use Rattle.toxicap.specs.PrintedReports.{reports_in};
-ghost use Rattle.run_files.specs.WrittenOutputs.{reports_of};
-ghost use Rattle.toxicap.specs.Answering.{called_for};
-ghost use Rattle.conn_table.specs.SeenCapture.{seen_capture};
-ghost use Rattle.conn_workers.specs.RunSummaries.{run_summary};
-ghost use Rattle.pcap_records.specs.CaptureView.{bytes_of, capture_refusal, contents_of};
-ghost use Rattle.lists.specs.Agreement.{Agrees, AgreesUnlessMemory};
+ghost use Rattle.toxicap.specs.CaptureOutputs.{outputs_for};
 ghost use Rattle.pcap_records.specs.Reading.{capture_limit, reading};
-ghost use Rattle.toxicap.specs.Rehearsal.{answer, scenario_limit};
-ghost use Rattle.pcap_records.specs.Heads.{heads_in};
+ghost use Rattle.toxicap.specs.HeadsAndRows.{heads_of};
+ghost use Rattle.run_files.specs.WrittenOutputs.{reports_of};
 ghost use Rattle.std.specs.Prelude.{◌≡◌, ◌≤◌, IfOk, List, Ok, length, map, ℕ};
 ghost use Rattle.run_files.specs.SeenTexts.{IsSeenOf};
+ghost use Rattle.toxicap.specs.Answering.{called_for};
 ghost use Rattle.toxicap.specs.RunSummaries.{summary_of_bytes, summary_of_texts};
-ghost use Rattle.toxicap.specs.CaptureOutputs.{outputs_for};
 ghost use Rattle.conn_workers.specs.CaptureTables.{whole_table};
-ghost use Rattle.toxicap.specs.HeadsAndRows.{heads_of};
+ghost use Rattle.conn_workers.specs.RunSummaries.{run_summary};
+ghost use Rattle.pcap_records.specs.CaptureView.{bytes_of, capture_refusal, contents_of};
+ghost use Rattle.run_files.specs.RunFault.{run_refusal};
+ghost use Rattle.conn_table.specs.SeenCapture.{seen_capture};
+ghost use Rattle.lists.specs.Agreement.{Agrees, AgreesUnlessMemory};
+ghost use Rattle.pcap_records.specs.Heads.{heads_in};
+ghost use Rattle.toxicap.specs.Rehearsal.{answer, scenario_limit};
 
 mod held_reports;
 

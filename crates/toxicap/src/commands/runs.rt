@@ -68,7 +68,7 @@ where
     };
     let Some(folder) = asked.out else {
         let seen = see_capture(alloc, disk, asked, reader)?;
-        return print_answers(rt, alloc, seen, writer, &texts, &options);
+        return print_answers(rt, alloc, writer, seen, &texts, &options);
     };
     let text = load_capture(rt, alloc, disk, asked, options.plan, reader, &mut read)?;
     let folder = Folder::new(folder, read);
@@ -79,8 +79,8 @@ where
 fn print_answers<H: Threads + Wait + Sync, W: Write>(
     rt: &H,
     alloc: Global,
-    seen: SeenText,
     writer: &mut Counted<W>,
+    seen: SeenText,
     texts: &[&[u8]],
     options: &Options,
 ) -> Result<RunSummary, RunFault>

@@ -1,6 +1,7 @@
 //! Tests over the public calls of the lower crates, with values from outside.
 mod captures;
 mod checks;
+mod dumps;
 mod frames;
 mod heads;
 mod instants;

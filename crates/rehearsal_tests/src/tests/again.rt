@@ -50,7 +50,7 @@ fn add_to_sum(sum: u32, bytes: &[u8]) -> u32 {
 }
 
 // Whether an answer has one output, whose capture and report have this sum.
-fn is_whole(answer: &Result<Outputs, RunFault>, sum: u32) -> bool {
+pub fn is_whole(answer: &Result<Outputs, RunFault>, sum: u32) -> bool {
     match answer {
         Ok(outputs) => match outputs.as_slice() {
             [output] => {

@@ -24,12 +24,12 @@ impl Read for Pieces<'_> {
     }
 }
 
-// A reader that gives at most `most` bytes a call gives all its bytes.
-fn check_pieces(rt: &(impl Abort + AllocGlobal), most: usize) {
+// A reader that gives at most `most` bytes a call gives all its bytes in `calls` calls, of which only the last gives none.
+fn check_pieces(rt: &(impl Abort + AllocGlobal), most: usize, calls: u32) {
     let mut reader = Counted::new(Pieces {
         rest: b"recorded sessions",
         most,
-        calls: 100,
+        calls,
     });
     let loaded = load(rt.alloc(), &mut reader);
     let good = match loaded {
@@ -41,10 +41,10 @@ fn check_pieces(rt: &(impl Abort + AllocGlobal), most: usize) {
 
 #[test]
 fn readers_of_few_bytes(rt: HostRuntime) {
-    check_pieces(&rt, 1);
-    check_pieces(&rt, 3);
-    check_pieces(&rt, 17);
-    check_pieces(&rt, 100);
+    check_pieces(&rt, 1, 18);
+    check_pieces(&rt, 3, 7);
+    check_pieces(&rt, 17, 2);
+    check_pieces(&rt, 100, 2);
 }
 
 // A reader that fails at its second call fails at each further one, and each is counted.

@@ -78,22 +78,13 @@ fn runs_over_failing_ends(rt: HostRuntime) {
         (1, 1000),
         (Ok(()), 1000),
     );
-    check_ends(&rt, "a second read fails", (60, 1), (1000, 1), unread);
-    check_ends(&rt, "the last read fails", (1000, 1), (1000, 1), unread);
-    check_ends(
-        &rt,
-        "the first write fails",
-        all,
-        (1000, 0),
-        (Err(RunFault::WriteFailed), 0),
-    );
-    check_ends(
-        &rt,
-        "the third write fails",
-        all,
-        (7, 2),
-        (Err(RunFault::WriteFailed), 14),
-    );
+    for reads in 0..3 {
+        check_ends(&rt, "a read fails", (60, reads), (1000, 1), unread);
+    }
+    for writes in 0..20u32 {
+        let written = (Err(RunFault::WriteFailed), 7 * writes as usize);
+        check_ends(&rt, "a write fails", all, (7, writes), written);
+    }
     check_ends(
         &rt,
         "a write takes nothing",

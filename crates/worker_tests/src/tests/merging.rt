@@ -157,7 +157,8 @@ fn nothing_to_merge(rt: HostRuntime) {
     let none = captured(rt.alloc(), Vec::new(rt.alloc())).expect(&rt, "memory");
     check(&rt, "no list", none.as_slice() == stated.as_slice());
     let two = among_empty_ones(&rt, rt.alloc(), Vec::new(rt.alloc())).expect(&rt, "memory");
-    let of_empty_ones = captured(rt.alloc(), two).expect(&rt, "memory");
+    let three = before_an_empty_one(&rt, rt.alloc(), two).expect(&rt, "memory");
+    let of_empty_ones = captured(rt.alloc(), three).expect(&rt, "memory");
     let same = of_empty_ones.as_slice() == stated.as_slice();
     check(&rt, "empty lists", same);
 }

@@ -1,8 +1,7 @@
 //! Dumps, and the lines of faults.
-use run_files::is_dump;
+use run_files::{RunFault, fault_line, is_dump, undump};
 use std::alloc::AllocGlobal;
 use std::process::Abort;
-use toxicap::{RunFault, fault_line, undump};
 
 // A dump's bytes, or the place of its fault.
 fn check_dump(rt: &(impl Abort + AllocGlobal), text: &str, expected: Result<&[u8], usize>) {

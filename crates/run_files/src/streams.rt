@@ -97,7 +97,7 @@ pub fn load<R: Read>(alloc: Global, reader: &mut Counted<R>) -> Result<Vec<u8>, 
     requires { reader.old.failed < 2 ^ 64 - 1 }
 
     ensures whole { IfOk result (λ bytes. IfSome (R.remaining reader.old.inner) (λ all. bytes.items ≡ all)) }
-    ensures lost { IfOk result (λ bytes. Consumes (R.remaining reader.old.inner) (R.remaining reader.new.inner) bytes.items) }
+    ensures consumed { IfOk result (λ bytes. Consumes (R.remaining reader.old.inner) (R.remaining reader.new.inner) bytes.items) }
     ensures at_end { OnOk result (IsAtEnd (R.remaining reader.new.inner)) }
     ensures within { IfOk result (λ bytes. length bytes.items ≤ capture_limit) }
     ensures none_failed { OnOk result (reader.new.failed ≡ reader.old.failed) }

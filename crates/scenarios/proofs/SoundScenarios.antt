@@ -13,7 +13,7 @@ use Rattle.scenarios.specs.Refusals.{at_place, of_proxy}
 use Rattle.scenarios.specs.Fields.{required_text, is_text_or_absent, optional_flag, optional_list}
 use Rattle.scenarios.specs.Upstreams.{colon, cut_at_last, port, host_address, upstream}
 use Rattle.scenarios.specs.ToxicsInFiles.{no_toxics, toxics_from}
-use Rattle.scenarios.specs.Proxies.{proxy_limit, ProxyFields, CheckedProxy, proxy_fields, has_name, accepted_proxy, checked_proxy, proxy_in, proxies_from}
+use Rattle.scenarios.specs.Proxies.{proxy_limit, ProxyFields, AcceptedProxy, proxy_fields, has_name, accepted_proxy, checked_proxy, proxy_in, proxies_from}
 use Rattle.scenarios.specs.Populate.{tree}
 use Rattle.scenarios.specs.ProxyLaws.{IsSound, NamesAreFree, ScenariosAreSound}
 use Rattle.scenarios.specs.declared.hosts.KnownHost.{KnownHost}
@@ -50,10 +50,10 @@ upstreams_have_ports hosts text peer is =
 -- ---- proxies
 
 -- a proxy has a free name and a port, whatever its toxics are
-SoundBefore : List Proxy → CheckedProxy → Type 0
+SoundBefore : List Proxy → AcceptedProxy → Type 0
 SoundBefore earlier c = (0 < length c.name) × (0 < c.upstream.port) × (c.upstream.port < 2 ^ 16) × (has_name earlier c.name ≡ false)
 
-accepted_is_sound : (hosts : List KnownHost) (earlier : List Proxy) (m : ProxyFields) (c : CheckedProxy) → 0 < length m.name → accepted_proxy hosts earlier m ≡ Ok c → SoundBefore earlier c
+accepted_is_sound : (hosts : List KnownHost) (earlier : List Proxy) (m : ProxyFields) (c : AcceptedProxy) → 0 < length m.name → accepted_proxy hosts earlier m ≡ Ok c → SoundBefore earlier c
 unfolding accepted_proxy SoundBefore
 accepted_is_sound hosts earlier m c named is =
     of_unless (has_name earlier m.name) _ _ c is λ free is₁.
@@ -61,7 +61,7 @@ accepted_is_sound hosts earlier m c named is =
     let ports = upstreams_have_ports hosts m.upstream peer (of_place _ (upstream hosts m.upstream) peer upstream_is) in
     rw (← same_ok _ _ is₂) (named, ports.0, ports.1, free)
 
-checked_is_sound : (hosts : List KnownHost) (earlier : List Proxy) (d : Data) (c : CheckedProxy) → checked_proxy hosts earlier d ≡ Ok c → SoundBefore earlier c × (length earlier < proxy_limit)
+checked_is_sound : (hosts : List KnownHost) (earlier : List Proxy) (d : Data) (c : AcceptedProxy) → checked_proxy hosts earlier d ≡ Ok c → SoundBefore earlier c × (length earlier < proxy_limit)
 unfolding checked_proxy
 checked_is_sound hosts earlier d c is =
     of_unless (nat_le proxy_limit (length earlier)) _ _ c is λ few is₁.

@@ -39,20 +39,20 @@ abbrev pub has_name : List Proxy → List ℕ → Bool
 has_name proxies name = list_any (λ p. bytes_eq p.name name) proxies
 
 -- a proxy that nothing refuses so far; its toxics are still to be read
-pub record CheckedProxy : Type 0 where
+pub record AcceptedProxy : Type 0 where
   pub name : List ℕ
   pub upstream : Peer
   pub enabled : Bool
   pub toxics : Items
 
-unfoldable pub accepted_proxy : List KnownHost → List Proxy → ProxyFields → Result CheckedProxy Refusal
+unfoldable pub accepted_proxy : List KnownHost → List Proxy → ProxyFields → Result AcceptedProxy Refusal
 accepted_proxy hosts earlier m =
     unless (has_name earlier m.name) (of_proxy (length earlier) DuplicateProxy)
     (and_then (at_place (of_proxy (length earlier)) (upstream hosts m.upstream)) (λ peer.
     Ok (record { name = m.name; upstream = peer; enabled = m.enabled; toxics = m.toxics })))
 
 -- a proxy before its toxics are read, after the earlier ones
-unfoldable pub checked_proxy : List KnownHost → List Proxy → Data → Result CheckedProxy Refusal
+unfoldable pub checked_proxy : List KnownHost → List Proxy → Data → Result AcceptedProxy Refusal
 checked_proxy hosts earlier d =
     unless (nat_le proxy_limit (length earlier)) (of_proxy (length earlier) TooMany)
     (with (proxy_fields d) (of_proxy (length earlier) BadMember) (accepted_proxy hosts earlier))

@@ -1,6 +1,6 @@
 -- What is seen of the code's fields of proxies and of toxics, and of accepted ones.
 use Rattle.serde_json.specs.View.{items_view}
-use Rattle.scenarios.specs.Proxies.{ProxyFields, CheckedProxy}
+use Rattle.scenarios.specs.Proxies.{ProxyFields, AcceptedProxy}
 use Rattle.scenarios.specs.ToxicsInFiles.{ToxicFields, ToxicsRead, NamedToxic, with_toxic}
 use Rattle.scenarios.specs.declared.proxies.FieldsRead.{FieldsRead}
 use Rattle.scenarios.specs.declared.proxies.Accepted.{Accepted}
@@ -11,7 +11,7 @@ abbrev pub seen_fields : FieldsRead → ProxyFields
 seen_fields m =
     record { name = m.name.now; upstream = m.upstream.now; enabled = m.enabled; toxics = items_view m.toxics.now }
 
-abbrev pub seen_proxy : Accepted → CheckedProxy
+abbrev pub seen_proxy : Accepted → AcceptedProxy
 seen_proxy p =
     record { name = p.name.now; upstream = p.upstream; enabled = p.enabled; toxics = items_view p.toxics.now }
 

@@ -1,5 +1,5 @@
 -- Drafts that are ready: of some outputs in a row, from a number on, each at its place.
-use Rattle.std.proofs.Common.{◌≡◌, ◌≢◌, ◌<◌, ◌≤◌, ◌+◌, ◌*◌, ◌^◌, ℕ, zero, suc, List, [], ◌∷◌, length, take, drop, get_or, refl, sym, ap, ap₂, subst, ◌∙◌, arith}
+use Rattle.std.proofs.Common.{◌≡◌, ◌≢◌, ◌<◌, ◌≤◌, ◌+◌, ◌*◌, ◌^◌, ℕ, zero, suc, List, [], ◌∷◌, length, map, take, drop, get_or, refl, sym, ap, ap₂, subst, ◌∙◌, arith}
 use Rattle.std.specs.List.{All, AllPairs}
 use Rattle.std.proofs.lemmas.List.{drop_more, get_or_default, get_or-drop, get_or-take, length-drop, length-map, length-take, length-take-le}
 use Rattle.std.proofs.lemmas.List.Elements.{All-cons, All-nil}
@@ -7,7 +7,10 @@ use Rattle.std.proofs.lemmas.List.Kept.{AllPairs-cons}
 use Rattle.run_files.specs.declared.outputs.Output.{Output}
 use Rattle.run_files.specs.Folders.{draft_path, DraftPathsDiffer}
 use Rattle.toxicap.specs.CaptureOutputs.{no_output}
-use Rattle.toxicap.specs.DraftPlaces.{PlacedOutput, placed_output, placed_from, outputs_in, paths_in}
+use Rattle.toxicap.specs.DraftPlaces.{PlacedOutput, placed_output, placed_from, paths_in}
+
+abbrev pub outputs_in : List PlacedOutput → List Output
+outputs_in placed = map (λ p. p.output) placed
 
 -- one output is the first of those from its number on
 pub alone : (all : List Output) (number : ℕ) → number < length all → get_or all number no_output ∷ [] ≡ take 1 (drop number all)

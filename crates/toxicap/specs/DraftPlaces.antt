@@ -1,5 +1,5 @@
 -- Outputs of which both files are drafts of a folder: the places that these have there.
-use Rattle.std.specs.Prelude.{◌≡◌, ℕ, ◌+◌, ◌*◌, List, [], ◌∷◌, map}
+use Rattle.std.specs.Prelude.{◌≡◌, ℕ, ◌+◌, ◌*◌, List, [], ◌∷◌}
 use Rattle.run_files.specs.declared.outputs.Output.{Output}
 use Rattle.run_files.specs.Folders.{draft_path}
 
@@ -22,9 +22,6 @@ placed_output folder place output = record {
 abbrev pub placed_from : List ℕ → ℕ → List Output → List PlacedOutput
 placed_from folder place [] = []
 placed_from folder place (output ∷ outputs) = placed_output folder place output ∷ placed_from folder (place + 1) outputs
-
-abbrev pub outputs_in : List PlacedOutput → List Output
-outputs_in placed = map (λ p. p.output) placed
 
 abbrev pub paths_in : List PlacedOutput → List (List ℕ)
 paths_in [] = []

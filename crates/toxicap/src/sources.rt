@@ -1,4 +1,4 @@
-//! What the outputs of all scenarios are made of, and what is made of it by whatever crew: an output in memory or as drafts.
+//! What the outputs of all scenarios are made of, and what is made of it by any crew: an output in memory or as drafts.
 ghost use Rattle.std.specs.Prelude.{◌≡◌, ◌≤◌, length};
 ghost use Rattle.toxicap.specs.HeadsAndRows.{RowsHaveNoKeyTwice};
 ghost use Rattle.toxicap.specs.Rehearsal.{scenario_limit};
@@ -12,7 +12,7 @@ use conn_workers::{Recordings, RowShares};
 use disks::Disk;
 use pcap_records::{Capture, Unit, Values};
 use report::ReportText;
-use row_captures::{segments_alone, written_draft};
+use row_captures::{segment_rows, written_draft};
 use row_reports::{reported_draft, whole_report};
 use run_files::{DraftedOutput, Folder, Output, Outputs};
 use scenarios::Scenario;
@@ -125,7 +125,7 @@ impl<'w, 'v, 'a> Sources<'w, 'v, 'a> {
         let row = self.row(crew, number)?;
         let draft = folder.draft(self.alloc, disk, 2 * place + 1)?;
         let report = reported_draft::<D>(draft, &self.heads[number], row.as_slice());
-        let rows = segments_alone(self.alloc, row)?;
+        let rows = segment_rows(self.alloc, row)?;
         let draft = folder.draft(self.alloc, disk, 2 * place)?;
         let capture = written_draft::<D>(self.alloc, &rows, self.unit, draft)?;
         Ok((capture, report))

@@ -33,12 +33,11 @@ use run_files::{
 };
 use std::alloc::{AllocError, Global};
 use std::io::{Read, Write};
-use std::sync::Wait;
 use std::thread::Threads;
 
 /// Reads first the hosts of a command line, then its scenario files, then the capture, from `reader` if no file is named. The answers are
 /// stored in its folder; if it names none, the reports are printed on `writer`. Then it returns the summary of the run.
-pub(crate) fn run_asked<H: Threads + Wait + Sync, D: ReadDisk + Sync, R: Read, W: Write>(
+pub(crate) fn run_asked<H: Threads + Sync, D: ReadDisk + Sync, R: Read, W: Write>(
     rt: &H,
     disk: &mut D,
     alloc: Global,
@@ -76,7 +75,7 @@ where
 }
 
 // All reports are made before the first byte is written.
-fn print_answers<H: Threads + Wait + Sync, W: Write>(
+fn print_answers<H: Threads + Sync, W: Write>(
     rt: &H,
     alloc: Global,
     writer: &mut Counted<W>,
@@ -116,7 +115,7 @@ fn see_capture<D: ReadDisk, R: Read>(
     }
 }
 
-fn store_answers<H: Threads + Wait + Sync, D: Disk + Sync>(
+fn store_answers<H: Threads + Sync, D: Disk + Sync>(
     rt: &H,
     disk: &mut D,
     alloc: Global,

@@ -12,7 +12,7 @@ use segment_writer::SegmentRow;
 use std::alloc::{AllocError, Global};
 use time_merge::{CaptureSink, write_capture};
 
-// A batch with this number of bytes, or more, is appended to a draft. It fits into a processor's own memory.
+// A batch with this number of bytes, or more, is appended to a draft. It fits into a processor's cache.
 const BATCH_LEN: usize = 1 << 18;
 
 // A draft that takes a capture, in batches.
@@ -35,7 +35,7 @@ impl<D: Disk> CaptureSink for DraftSink<D> {
 }
 
 // The segments of all shares, share by share. Their lines are dropped.
-pub(crate) fn segments_alone<'w, 'a>(
+pub(crate) fn segment_rows<'w, 'a>(
     alloc: Global,
     row: RowShares<'w, 'a>,
 ) -> Result<Vec<SegmentRow<'w, 'a>>, AllocError>
@@ -49,7 +49,7 @@ pub(crate) fn segments_alone<'w, 'a>(
     Ok(rows)
 }
 
-// A draft without bytes, after the capture of the segments of all rows is written to it.
+// Writes the capture of the segments of all rows to a draft without bytes, and returns the draft.
 pub(crate) fn written_draft<D: Disk>(
     alloc: Global,
     rows: &[SegmentRow<'_, '_>],

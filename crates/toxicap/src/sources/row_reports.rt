@@ -34,7 +34,7 @@ fn lines_len(shares: &[RowShare<'_, '_>]) -> usize {
     len
 }
 
-// A draft without bytes, after a report is appended to it.
+// Appends a report to a draft without bytes, and returns the draft.
 pub(crate) fn reported_draft<D: Disk>(
     draft: D::Draft,
     head: &ReportText,

@@ -1,9 +1,8 @@
 //! Drafts of outputs, made by workers in rounds, each of a few scenarios.
-ghost use Rattle.std.specs.Prelude.{◌≡◌, ◌≢◌, ◌+◌, ◌<◌, ◌≤◌, IfOk, drop, get_or, length, take};
+ghost use Rattle.std.specs.Prelude.{◌≡◌, ◌≢◌, ◌+◌, ◌<◌, ◌≤◌, IfOk, drop, length, take};
 ghost use Rattle.std.specs.List.{AllPairs};
-ghost use Rattle.run_files.specs.DraftedOutputs.{IsDraftOf};
-ghost use Rattle.toxicap.specs.CaptureOutputs.{no_output, outputs_from};
-ghost use Rattle.toxicap.specs.DraftPlaces.{AreAtPlace, paths_in, placed_from};
+ghost use Rattle.toxicap.specs.CaptureOutputs.{outputs_from};
+ghost use Rattle.toxicap.specs.DraftPlaces.{paths_in, placed_from};
 
 use crate::crews::{Alone, Workers};
 use crate::sources::Sources;
@@ -147,7 +146,7 @@ fn draft_by_workers<'s, 'w, 'v, 'a, R: Threads + Sync, D: Disk>(
     ensures next { IfOk result (λ v. v.items ≡ placed_from folder.now 0 (take (length v.items) (drop number
         (outputs_from sources.now)))) }
 {
-    let drafted = drafted_by(crew, sources, number, folder, disk)?;
+    let drafted = sources.drafted(crew, number, folder, disk, 0)?;
     let mut drafts = Vec::with_capacity(sources.alloc, 1)?;
     drafts.push(OutputDraft {
         sources,
@@ -155,21 +154,4 @@ fn draft_by_workers<'s, 'w, 'v, 'a, R: Threads + Sync, D: Disk>(
         drafted,
     })?;
     Ok(drafts)
-}
-
-fn drafted_by<R: Threads + Sync, D: Disk>(
-    crew: &Workers<'_, R>,
-    sources: &Sources<'_, '_, '_>,
-    number: usize,
-    folder: &Folder<'_>,
-    disk: &D,
-) -> Result<DraftedOutput<D::Draft>, AllocError>
-    requires { number < length sources.now.scenarios.now }
-    ensures drafts { IfOk result (IsDraftOf D.holds (get_or (outputs_from sources.now) number no_output)) }
-    ensures places { IfOk result (AreAtPlace D.path_of folder.now 0) }
-{
-    if crew.plan.workers() == 1 {
-        return sources.drafted(&Alone, number, folder, disk, 0);
-    }
-    sources.drafted(crew, number, folder, disk, 0)
 }

@@ -16,7 +16,7 @@ returns g c =
     let loads = c.in_ok-bytes.ensures.loads c.args.reader.now (rw c.new.ensures.items (Consumes-nil _, refl)) in
     record {
       whole = Consumes-all _ _ bytes [] bytes loads.0.0 loads.1 refl;
-      lost = loads.0.0;
+      consumed = loads.0.0;
       at_end = loads.1;
       within = c.in_ok-bytes.ensures.within;
       none_failed = loads.0.1;

@@ -21,13 +21,13 @@ use Rattle.toxicap.specs.StoredOutputs.{disk_histories}
 use Rattle.toxicap.proofs.RunSteps.{went_on}
 use Rattle.toxicap.proofs.laws.killed_runs_are_mended.Goals as goal
 
-none_named : (h : History) → Some h ≡ Some (with_published h [])
-none_named h = ap (λ (published : List PublishedFile). Some (record { first = h.first; published = published })) (sym (append-nil h.published))
+none_published : (h : History) → Some h ≡ Some (with_published h [])
+none_published h = ap (λ (published : List PublishedFile). Some (record { first = h.first; published = published })) (sym (append-nil h.published))
 
 module _ (published_again : PublishedAgain) (old new cut mended : History) (n : ℕ) (path : List ℕ)
     (later : length old.published ≤ n) (begins : (p : List ℕ) → held_now cut p ≡ held_at new n p) where
-  named_twice : (files : List PublishedFile) → Publishes (Some old) (Some new) files → Publishes (Some cut) (Some mended) files → held_now mended path ≡ held_now new path
-  named_twice files once twice =
+  published_twice : (files : List PublishedFile) → Publishes (Some old) (Some new) files → Publishes (Some cut) (Some mended) files → held_now mended path ≡ held_now new path
+  published_twice files once twice =
       let all : new ≡ with_published old files = cc in
       let rest : mended ≡ with_published cut files = cc in
       let some : List PublishedFile = take (n - length old.published) files in
@@ -44,13 +44,13 @@ module _ (published_again : PublishedAgain) (old new cut mended : History) (n : 
   answers_same : (out two : Option (Bor (List ℕ))) → option_map (λ f. f.now) out ≡ option_map (λ f. f.now) two → (expected again : Result (List Output) RunFault) → again ≡ expected
       → (s t : Streams) → AnswersInto out (Ok tt) expected (disk_histories (Some old) (Some new)) s → AnswersInto two (Ok tt) again (disk_histories (Some cut) (Some mended)) t
       → held_now mended path ≡ held_now new path
-  answers_same None None into expected again is s t one twice = named_twice [] (one.1 ∙ none_named old) (twice.1 ∙ none_named cut)
+  answers_same None None into expected again is s t one twice = published_twice [] (one.1 ∙ none_published old) (twice.1 ∙ none_published cut)
   answers_same (Some folder) (Some same) into expected again is s t one twice =
       let into2 : same.now ≡ folder.now = cc in
       let (outputs, are, once) = went_on (UnlessMemory expected) tt _ _ one.0 in
       let (others, are2, again2) = went_on (UnlessMemory again) tt _ _ twice.0 in
       let equal : others ≡ outputs = cc in
-      named_twice (map (in_folder folder.now) (files_from 0 outputs)) once.0 (again2.0 ∙ ap (λ (files : List PublishedFile). Some (with_published cut files)) (cc))
+      published_twice (map (in_folder folder.now) (files_from 0 outputs)) once.0 (again2.0 ∙ ap (λ (files : List PublishedFile). Some (with_published cut files)) (cc))
   answers_same None (Some folder) into expected again is s t one twice = absurd (cc)
   answers_same (Some folder) None into expected again is s t one twice = absurd (cc)
 

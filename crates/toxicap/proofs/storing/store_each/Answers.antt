@@ -5,9 +5,8 @@ use Rattle.std.proofs.lemmas.Result.{err_from_is_err_and}
 use Rattle.run_files.specs.declared.outputs.Output.{Output}
 use Rattle.run_files.specs.WrittenOutputs.{files_from}
 use Rattle.toxicap.specs.CaptureOutputs.{outputs_from}
-use Rattle.toxicap.specs.DraftPlaces.{outputs_in}
 use Rattle.toxicap.proofs.OutputSteps.{as_many_outputs}
-use Rattle.toxicap.proofs.ReadyDrafts.{ready_outputs, takes_first}
+use Rattle.toxicap.proofs.ReadyDrafts.{outputs_in, ready_outputs, takes_first}
 use Rattle.toxicap.proofs.StoringEnds.{nothing_committed}
 use Rattle.toxicap.proofs.StoredSteps.{length-files_from, committed_more, stops_at}
 use Rattle.toxicap.proofs.storing.store_each.Goals as goal

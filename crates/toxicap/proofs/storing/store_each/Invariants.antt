@@ -3,7 +3,7 @@ use Rattle.std.specs.Vec.Iter.{into_iter_items}
 use Rattle.run_files.specs.Folders.{CommitsIn}
 use Rattle.run_files.specs.WrittenOutputs.{files_from}
 use Rattle.toxicap.specs.CaptureOutputs.{outputs_from}
-use Rattle.toxicap.specs.DraftPlaces.{outputs_in}
+use Rattle.toxicap.proofs.ReadyDrafts.{outputs_in}
 use Rattle.toxicap.proofs.storing.store_each.Given as goal
 
 -- committed are the files of the outputs before this number, and no call of the disk failed

@@ -1,5 +1,5 @@
 use Rattle.std.proofs.Common.{◌≡◌, ◌++◌, map}
-use Rattle.toxicap.proofs.sources.row_captures.segments_alone.Given as goal
+use Rattle.toxicap.proofs.sources.row_captures.segment_rows.Given as goal
 
 abbrev pub invariant-loop-share : goal.invariant-loop-share
 invariant-loop-share l = record {

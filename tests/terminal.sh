@@ -146,7 +146,7 @@ scene() {
     helps "$1" "s.json$2" '--capture shop.pcap --scenario s.json'
 }
 web='"name":"web","upstream":"10.77.0.2:80"'
-expected='HOST:PORT is expected, as 10.0.0.2:6379 or redis:6379: no URL, no IPv6 address, a port from 1 to 65535'
+expected='HOST:PORT is expected, such as 10.0.0.2:6379 or redis:6379: no URL, no IPv6 address, a port from 1 to 65535'
 scene 'refused 10 NotJson scenario 0' ' is no JSON from line 2 column 4 on' $'[\n  {name": "web"}\n]'
 scene 'refused 10 NotJson scenario 0' ' ends before its JSON does' '[{"name":'
 scene 'refused 10 NotJson scenario 0' ' ends before its JSON does' ''
@@ -225,8 +225,8 @@ helps 'refused 6 CaptureTooLong' '/dev/stdin has more than 2^30 bytes: it is no 
     "--capture shop.pcap --scenario /dev/stdin < <(head -c $((2 ** 30 + 1)) /dev/zero)"
 many=$(printf -- ' --scenario bare.json%.0s' {1..257})
 helps 'refused 22 TooManyScenarios' '257 scenarios were named, and a run takes 256: run it more than once' "--capture shop.pcap$many"
-helps 'refused 23 BadHost host 1' '--host web: NAME=ADDR with an IPv4 address is expected, as redis=10.0.0.9' '--host a=10.0.0.9 --host web'
-helps 'refused 23 BadHost host 0' '--host web=10.0.0.256: NAME=ADDR with an IPv4 address is expected, as redis=10.0.0.9' '--host web=10.0.0.256'
+helps 'refused 23 BadHost host 1' '--host web: NAME=ADDR with an IPv4 address is expected, such as redis=10.0.0.9' '--host a=10.0.0.9 --host web'
+helps 'refused 23 BadHost host 0' '--host web=10.0.0.256: NAME=ADDR with an IPv4 address is expected, such as redis=10.0.0.9' '--host web=10.0.0.256'
 helps 'refused 23 BadHost host 1' '--host web=10.0.0.9: an earlier --host has the name' '--host web=10.0.0.2 --host web=10.0.0.9'
 cp "$here/shop.pcap" "$here/wide.pcap"
 truncate -s 200M "$here/wide.pcap"

@@ -49,7 +49,7 @@ func hostHint(number int, hosts []string) string {
 			return about + "an earlier host has the name"
 		}
 	}
-	return about + "NAME=ADDR with an IPv4 address is expected, as redis=10.0.0.9"
+	return about + "NAME=ADDR with an IPv4 address is expected, such as redis=10.0.0.9"
 }
 
 func isAddr(text string) bool { return net.ParseIP(text).To4() != nil && !strings.Contains(text, ":") }

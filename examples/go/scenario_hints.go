@@ -72,7 +72,7 @@ func proxyHint(kind Kind, tree, proxy any) string {
 		}
 		return fmt.Sprintf("proxy %d has the name: rename one of them", earlier)
 	case BadUpstream:
-		return "its " + whatIs(proxy, "upstream") + ", and HOST:PORT is expected, as 10.0.0.2:6379 or redis:6379: no URL, no IPv6 address, a port from 1 to 65535"
+		return "its " + whatIs(proxy, "upstream") + ", and HOST:PORT is expected, such as 10.0.0.2:6379 or redis:6379: no URL, no IPv6 address, a port from 1 to 65535"
 	case UnknownHost:
 		host := upstream
 		if cut := strings.LastIndexByte(upstream, ':'); cut >= 0 {

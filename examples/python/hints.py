@@ -40,7 +40,7 @@ REMEDIES: Dict[int, List[str]] = {
     11: ["an array of proxies is expected, as toxicap --help shows"],
     12: ["is {is}, and {expected} is expected"],
     13: ["proxy {earlier} has the name: rename one of them"],
-    14: ["HOST:PORT is expected, as 10.0.0.2:6379 or redis:6379: no URL, no IPv6 address, a port from 1 to 65535"],
+    14: ["HOST:PORT is expected, such as 10.0.0.2:6379 or redis:6379: no URL, no IPv6 address, a port from 1 to 65535"],
     15: ["names are not looked up: give the address that the capture has by {host}=ADDR among the hosts"],
     16: ["latency, bandwidth, slow_close, timeout, reset_peer, slicer or limit_data"],
     17: ["upstream or downstream is expected"],
@@ -49,7 +49,7 @@ REMEDIES: Dict[int, List[str]] = {
     20: ["a scenario has at most 64 proxies", "a stream has at most 8 toxics"],
     21: ["a whole number from 0 to 1000000 is expected", "0 or 1 is expected", "write \"toxicity_ppm\": {count} in its place"],
     22: ["a call takes 256: call more than once"],
-    23: ["NAME=ADDR with an IPv4 address is expected, as redis=10.0.0.9"],
+    23: ["NAME=ADDR with an IPv4 address is expected, such as redis=10.0.0.9"],
     40: ["memory was refused: fewer scenarios in a call, or a smaller capture, take less"],
     55: ["no hexadecimal digit is at line {line} column {column}", "give a pcap file, or a dump as xxd -p IN OUT makes it"],
 }

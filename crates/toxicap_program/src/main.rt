@@ -1,6 +1,6 @@
 //! The program `toxicap`: the library's `command_over` on the command line, the host's disk and the standard streams. On a terminal it
 //! also says that it reads standard input, how many scenarios are stored, and last what helps after a refusal or is missed in a report.
-//! What helps it says too if `TOXICAP_HINTS` of the environment is 1.
+//! It says what helps off a terminal too, if `TOXICAP_HINTS` of the environment is 1.
 #![tactic(auto)]
 
 macro_rules! say {
@@ -35,9 +35,9 @@ fn main(rt: HostRuntime) -> ExitCode {
     };
     let is_terminal = rt.stderr().is_terminal();
     let is_hinted = env::var(&rt, "TOXICAP_HINTS").is_ok_and(|word| word.as_str() == "1");
-    let asked = (is_terminal || is_hinted).then(|| read_arguments(rt.alloc(), &words).ok());
-    let asked = asked.flatten();
-    let on_terminal = asked.as_ref().filter(|_| is_terminal);
+    let read = (is_terminal || is_hinted).then(|| read_arguments(rt.alloc(), &words));
+    let asked = read.as_ref().and_then(|read| read.as_ref().ok());
+    let on_terminal = asked.filter(|_| is_terminal);
     let mut input = Counted::new(TeeReader {
         inner: Announced {
             input: rt.stdin(),
@@ -60,12 +60,12 @@ fn main(rt: HostRuntime) -> ExitCode {
         &mut Counted::new(rt.stdout()),
         &mut faults,
     );
-    if let Some(asked) = asked.as_ref().filter(|_| is_terminal || outcome.is_err()) {
+    if let Some(asked) = asked.filter(|_| is_terminal || outcome.is_err()) {
         let start = input.into_inner().copy;
         let first_bytes = start.get_ref().get(..start.position() as usize);
         print_line(&rt, asked, first_bytes.unwrap_or(&[]), outcome);
-    } else if asked.is_none() && (is_terminal || is_hinted) {
-        print_tip(&rt, &words);
+    } else if let Some(Err(Stop::Usage(told))) = &read {
+        print_tip(&rt, told);
     }
     ExitCode::from(status)
 }
@@ -96,10 +96,8 @@ fn print_line(
     }
 }
 
-fn print_tip(rt: &HostRuntime, words: &[String]) {
-    if let Err(Stop::Usage(told)) = read_arguments(rt.alloc(), words)
-        && let Ok(Some(tip)) = tip_of(rt.alloc(), &told)
-    {
+fn print_tip(rt: &HostRuntime, told: &str) {
+    if let Ok(Some(tip)) = tip_of(rt.alloc(), told) {
         let _ = eprintln!(rt; "tip: {tip}");
     }
 }

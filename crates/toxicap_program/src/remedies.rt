@@ -29,7 +29,7 @@ impl<R: Files> Run<'_, R> {
         }
     }
 
-    // The first scenario that is too long, or can only be, since the capture is not and it is read once.
+    // Names the first scenario above the limit. If the capture is not above it, a scenario of unknown length is taken to be.
     fn length_remedy(&self) -> Said {
         let capture_len = self.asked.capture.and_then(|path| self.len_of(path));
         let is_capture = capture_len.is_none_or(|len| len > LIMIT);
@@ -52,10 +52,10 @@ impl<R: Files> Run<'_, R> {
         if is_given && Ipv4Addr::parse_ascii(addr.as_bytes()).is_ok() {
             return say!(self.alloc; "--host {host}: an earlier --host has the name");
         }
-        say!(self.alloc; "--host {host}: NAME=ADDR with an IPv4 address is expected, as redis=10.0.0.9")
+        say!(self.alloc; "--host {host}: NAME=ADDR with an IPv4 address is expected, such as redis=10.0.0.9")
     }
 
-    // Of the files that were named the first that cannot be read now.
+    // The first named file that cannot be read now, and why.
     fn reading_remedy(&self) -> Said {
         let (alloc, asked) = (self.alloc, self.asked);
         for path in asked.scenarios.iter().copied().chain(asked.capture) {

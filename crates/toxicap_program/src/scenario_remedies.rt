@@ -6,7 +6,7 @@ use serde_json::{Error, Value, from_slice};
 use std::alloc::{AllocError, Global};
 use std::rt::Files;
 
-// The five fields of a proxy, and then those of a toxic: what each is, and whether it has to be there.
+// The five fields of a proxy, and then those of a toxic without its toxicity: what each is, and whether it has to be there.
 const FIELDS: [(&str, &str, bool); 9] = [
     ("name", "a text", true),
     ("upstream", "a text", true),
@@ -118,7 +118,7 @@ fn proxy_remedy(alloc: Global, tree: &Value, proxy: &Value, cause: Cause) -> Sai
         }
         Cause::BadUpstream => {
             let expected =
-                "HOST:PORT is expected, as 10.0.0.2:6379 or redis:6379: no URL, no IPv6 address, a port from 1 to 65535";
+                "HOST:PORT is expected, such as 10.0.0.2:6379 or redis:6379: no URL, no IPv6 address, a port from 1 to 65535";
             its(alloc, proxy, "upstream", expected)
         }
         Cause::UnknownHost => {
@@ -216,7 +216,7 @@ fn wrong_attribute(alloc: Global, toxic: &Value) -> Said {
     its(alloc, attributes, "size_variation", expected)
 }
 
-// Of a toxic's attributes the first that its type does not have, and those that it has.
+// The first attribute of a toxic that its type does not have, and those that it has.
 fn unknown_attribute(alloc: Global, toxic: &Value) -> Result<Option<String>, AllocError> {
     let toxic_type = text_at(toxic, "type");
     let Some(attributes) = field(toxic, "attributes").and_then(Value::as_object) else {

@@ -7,7 +7,7 @@ use std::sync::Wait;
 use std::sync::atomic::{AtomicU64, Ordering};
 use std::thread::Threads;
 
-/// Standard input. Before the first read, which waits, standard error says that it is read, unless that is said.
+/// Standard input. Standard error announces the first read, which may wait, unless `is_announced`.
 #[derive(Drop)]
 pub struct Announced<R> {
     pub input: R,

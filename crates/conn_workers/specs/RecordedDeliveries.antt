@@ -14,7 +14,7 @@ use Rattle.conn_workers.specs.MetProxies.{met_proxy}
 use Rattle.conn_workers.specs.Contributions.{contribution_by}
 use Rattle.conn_workers.specs.DeliveryRows.{connections_of, delivery}
 
--- The bytes of a delivered line are the first that were recorded, none earlier. No end is before the opening, and nothing is at the horizon.
+-- The bytes of a delivered line are the first that were recorded, none earlier. No end is before the opening, and all is before the horizon.
 pub record IsDeliveredOf (ticks opened : ℕ) (recorded delivered : Line) : Type 0 where
   pub first : values_of delivered.bytes ≡ take (length delivered.bytes) (values_of recorded.bytes)
   pub delayed : DelaysFirst delivered.bytes recorded.bytes

@@ -60,7 +60,7 @@ impl RowRanges {
     }
 }
 
-// The least size of ranges that makes at most eight for each worker.
+// A size of ranges that makes at most eight for each worker.
 fn even_size(all: usize, plan: Plan) -> usize
     ensures { 1 ≤ result }
 {

@@ -14,7 +14,7 @@ name_limit = 255
 abbrev pub is_refused : List ℕ → List ℕ → Bool
 is_refused folder name = length folder == 0 || nat_lt name_limit (length name) || has_slash name || is_draft_name name
 
--- the number of the disk's calls that failed if storing had this outcome: 0 in an empty path, which refuses every name itself
+-- the number of the disk's calls that failed if storing had this outcome: 0 in a folder with an empty path, which refuses every name itself
 abbrev pub failed_stores : List ℕ → Result (Unit {0}) RunFault → ℕ
 failed_stores folder outcome = failed_puts (length folder == 0) outcome
 

@@ -15,7 +15,7 @@ colon = 58
 abbrev pub port_digits : ℕ
 port_digits = 5
 
--- the cut in what follows x, with x put before; without one there, the cut at x, if x is the byte
+-- the cut of x ∷ rest by the cut of rest: that one with x before it; without one, the cut at x if x is the byte
 abbrev pub cut_after : Bool → ℕ → List ℕ → Option (List ℕ × List ℕ) → Option (List ℕ × List ℕ)
 cut_after is_byte x rest (Some parts) = Some (x ∷ parts.0, parts.1)
 cut_after true x rest None = Some ([], rest)

@@ -13,7 +13,7 @@ pub enum Cause {
     /// The text is no JSON array.
     #[error("the text is no array of proxies")]
     NotArray,
-    /// A field that has to be there is missing, or a field is of the wrong kind; or the item is no object.
+    /// A required field is missing, a field is of the wrong kind, a proxy's name is empty, or the item is no object.
     #[error("a field is missing or of the wrong kind")]
     BadMember,
     /// An earlier proxy has the name.

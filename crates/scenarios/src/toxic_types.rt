@@ -148,7 +148,7 @@ pub(crate) fn kind_in_range(toxic_type: ToxicType, toxic: &Value) -> Option<Kind
     if kind.fits() { Some(kind) } else { None }
 }
 
-// To how many of a million connections a toxic applies. A toxicity has to be valid even if `toxicity_ppm` is there.
+// The number of connections in a million that a toxic applies to. A toxicity has to be valid even if `toxicity_ppm` is there.
 pub(crate) fn ppm_of(toxic: &Value) -> Option<u64>
     ensures { result ≡ ppm_of (view toxic.now) }
 {

@@ -23,7 +23,7 @@ no_output = record { capture = []; report = [] }
 abbrev pub row_from : Sources → ℕ × List Proxy → List Delivery
 row_from own s = recorded_row own.seed s own.recordings.now
 
--- the output of that scenario: their segments in a capture, and their lines after the first two
+-- the output of a scenario with its number: the segments of its row as a capture, and its row's lines after its report's first two
 abbrev pub output_from : Sources → ℕ × List Proxy → Output
 output_from own s = record {
   capture = capture_of (ticks_of own.unit) (flat_map (λ d. d.segments) (row_from own s));

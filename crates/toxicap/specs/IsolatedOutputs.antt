@@ -56,8 +56,8 @@ HaveSameRecords x first second =
 
 -- ---- isolation
 
--- A capture is rehearsed twice with one seed, and scenario s has the proxies a, then b. Where a connection meets the same proxy of both, its line
--- is the same. Where each connection between its two ends does, the records between these ends are. What others meet does not matter.
+-- A capture is rehearsed twice with one seed, and scenario s has the proxies a, then b. If a connection meets the same proxy of both, its line
+-- is the same. If each connection between its two ends does, the records between these ends are. What others meet does not matter.
 abbrev pub OutputsAreIsolated : Type 0
 OutputsAreIsolated =
     (bytes : List ℕ) (read : Reading) (seed s number : ℕ) (a b : List Proxy) (first second : Output) (x : Connection)

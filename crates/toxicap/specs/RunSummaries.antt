@@ -1,4 +1,4 @@
--- The summary that a run calls for, by what it has read. More scenarios than a run may have are left out: no such run ends well.
+-- The summary that a run calls for, by what it has read. It has no limit of scenarios: a run with too many does not end well.
 use Rattle.std.specs.Prelude.{ℕ, List, [], Result, Ok, Err}
 use Rattle.pcap_records.specs.Reading.{reading}
 use Rattle.pcap_records.specs.declared.fault.CaptureFault.{CaptureFault}

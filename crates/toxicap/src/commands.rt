@@ -26,8 +26,8 @@ use std::thread::Threads;
 
 const NO_TEXT: &[u8] = b"error: a word of the command line is not text in UTF-8";
 
-/// The whole program on the arguments after its name: it reads what they name, the capture from `input` if they name none, rehearses,
-/// prints or stores the outputs, prints a refusal on `faults`, and answers the exit status.
+/// The whole program on the arguments after its name. It reads what they name, and the capture from `input` if they name none. Then it
+/// rehearses, prints or stores the outputs, prints a refusal on `faults`, and returns the exit status.
 ///
 /// The status is 0, 1 for a refusal, whose line is written with a line feed, or 2 for a fault of the command line, whose text is written;
 /// nothing is read then. `--help` and `--version` are written on `output`. Refusals come in this order: hosts, scenario files as bytes, the
@@ -62,8 +62,8 @@ where
 }
 
 /// [`command`] over any disk: its scenario files and its capture are loaded from there, and its outputs stored there. Beside the status
-/// stands the outcome that it is the status of. A run that ended well has its summary. A fault of the command line, help and the version
-/// have `Ok(None)`.
+/// stands the outcome that it is the status of. A run that ended well has its summary. Help or the version, once it is written, and a fault
+/// of the command line have `Ok(None)`.
 ///
 /// If the disk tells its history, the outcome follows from it: each scenario is the text at its own path, and the capture that at its path;
 /// of several files at fault the first counts, in the order of the scenarios, and then the capture. After a run of status 0 the files of the

@@ -21,7 +21,7 @@ pub fn byte_order_does_not_matter()
     ensures { ByteOrderDoesNotMatter }
 {}
 
-/// Each capture that a rehearsal gives, where it is no longer than a capture may be, is read back as a whole file without a
+/// Each capture that a rehearsal gives, if it is no longer than a capture may be, is read back as a whole file without a
 /// rest: its records are in order of time, and each holds a TCP segment with both checksums right. So the output of one
 /// rehearsal can be the input of another.
 pub fn outputs_are_read()
@@ -59,9 +59,9 @@ pub fn reports_see_lengths()
     report_sees_lengths();
 }
 
-/// Scenario s of one list and of another, for one capture and one seed. A connection that meets the same proxy under both has the same line in
-/// both reports. Where each connection between its two ends does, both output captures, as they are read, have the same records between these
-/// ends, in the same order. What other connections meet changes neither.
+/// Two scenarios have the same number in their lists, for one capture and one seed. A connection that meets the same proxy under both has the
+/// same line in both reports. If each connection between its two ends does, both output captures, as they are read, have the same records
+/// between these ends, in the same order. What other connections meet changes neither.
 pub fn outputs_are_isolated()
     ensures { OutputsAreIsolated }
 {

@@ -21,7 +21,7 @@ pub(crate) const SCENARIO_LIMIT: usize = 256;
 
 #[derive(Drop)]
 pub(crate) struct Inputs<'t> {
-    // A text that is no dump.
+    // The bytes of the capture, of a dump those that it holds.
     pub(crate) capture: Text<'t>,
     pub(crate) scenarios: Vec<Scenario>,
 }

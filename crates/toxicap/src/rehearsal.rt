@@ -77,7 +77,7 @@ fn list_outputs<R: Threads + Sync, G: Gate>(
     Ok(outputs)
 }
 
-/// The same of a capture wherever its bytes stand, by a crew.
+/// Rehearses as [`rehearse`] does, by a crew, a capture wherever its bytes stand.
 ///
 /// # Errors
 /// Those of [`rehearse`].

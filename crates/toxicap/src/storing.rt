@@ -31,11 +31,11 @@ use std::alloc::Global;
 use std::thread::Threads;
 
 /// Rehearses a capture under each of the scenarios and puts the files of their outputs into a folder, in order: those that `store_all`
-/// puts of what `rehearse` answers. The folder is held first, if there is a scenario. At one time at most one scenario for each worker
-/// has its rows in memory, and at most two for each worker have drafts. It returns the summary of the run.
+/// puts of what `rehearse` answers. The folder is held once the capture is read, if there is a scenario. At one time at most one scenario
+/// for each worker has its rows in memory, and at most two for each worker have drafts. It returns the summary of the run.
 ///
 /// # Errors
-/// Those of `rehearse`, and [`RunFault::ShelfFailed`] at the first file that cannot be committed to the folder.
+/// Those of `rehearse`, and [`RunFault::ShelfFailed`] if the folder cannot be held, or at the first file that cannot be committed to it.
 pub(crate) fn store_rehearsal<R: Threads + Sync, D: Disk + Sync>(
     crew: &Workers<'_, R>,
     alloc: Global,

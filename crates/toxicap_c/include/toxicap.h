@@ -8,7 +8,7 @@
  * It calls: `free`, `malloc`, `memcpy`, `memmove`, `memset` and `realloc` of the C library, and linked statically also `__udivti3` of the
  * compiler's own library, which gcc, clang and rustc link by themselves.
  *
- * In use: call with the room that you have (none will do), and where the status is TOXICAP_NO_ROOM make the room that `sizes` says, and
+ * In use: call with the room that you have (none will do); if the status is TOXICAP_NO_ROOM, make the room that `sizes` says, and
  * call again:
  *
  *     ToxicapSizes sizes;
@@ -20,13 +20,13 @@
  *
  * What the caller keeps, and nothing checks:
  *   - Each pointer leads to as many bytes (of `scenario_lens` and `lens`: entries) as the length or room after it says, aligned for its
- *     type, readable, and for an output writable. No length is 2^63 bytes or more. A pointer may be null where its length is 0.
+ *     type, readable, and for an output writable. No length is 2^63 bytes or more. A pointer may be null if its length is 0.
  *   - `sizes` is not null.
  *   - An output (`captures`, `reports`, `lens`, `sizes`) overlaps no other output and no input, and no other thread touches one during the
  *     call. Inputs may overlap each other, and are not changed by anyone during the call.
  *   - The thread has 256 KB of stack left.
  *   - No call is made in a signal handler, or in a process that was forked from one with threads.
- *   - Where `malloc`, `realloc` and `free` are not the C library's, they are those of one allocator, which aligns a block to each power of
+ *   - If `malloc`, `realloc` and `free` are not the C library's, they are those of one allocator, which aligns a block to each power of
  *     two up to 16 that divides its size.
  * Any thread may call, and calls may run at once.
  */
@@ -44,7 +44,7 @@ extern "C" {
 enum {
     /* Answered: the outputs are written, and `sizes` says how much of each. What stands after that in a buffer is as it was. */
     TOXICAP_ANSWERED = 0,
-    /* Refused: at the start of `reports` stands the line that the program prints, as `refused 5 RecordTooLong at 0`, without a line feed or
+    /* Refused: at the start of `reports` stands the line that the program prints, such as `refused 5 RecordTooLong at 0`, without a line feed or
        a zero byte at its end, and `sizes.reports` is its length in bytes. `sizes.captures` and `sizes.lens` are 0; the other buffers are
        as they were. docs/use/refusals.md has all refusals; `refused 40 Memory` is lack of memory. */
     TOXICAP_REFUSED = 1,
@@ -58,7 +58,7 @@ enum {
 /* How much is written of each output, or is required. */
 typedef struct {
     size_t captures; /* bytes */
-    size_t reports;  /* bytes; where the call is refused, those of the line */
+    size_t reports;  /* bytes; if the call is refused, those of the line */
     size_t lens;     /* entries: two for each scenario */
 } ToxicapSizes;
 
@@ -71,7 +71,7 @@ typedef struct {
  *   scenario_lens    the length of each text in bytes, in their order; scenario_count entries, which add up to scenarios_len. A length
  *                    that goes past the end of `scenarios` is cut there
  *   hosts            the addresses of names that scenarios use: lines NAME=ADDR with an IPv4 address, each ended by a line feed, which the
- *                    last one may do without; hosts_len bytes, 0 where no name is used
+ *                    last one may do without; hosts_len bytes, 0 if no name is used
  *   seed             what all drawing depends on
  *   captures         room for the captures, one right after another; captures_room bytes
  *   reports          room for the reports (UTF-8 text), one right after another, or for a refusal's line; reports_room bytes

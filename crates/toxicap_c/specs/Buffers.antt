@@ -38,7 +38,7 @@ sizes_of put = record { captures = length put.captures; reports = length put.rep
 abbrev pub no_sizes : ToxicapSizes
 no_sizes = record { captures = 0; reports = 0; lens = 0 }
 
--- a list over the first of another, whose rest stays
+-- a list over the first elements of another, whose rest stays
 abbrev pub laid_over : List ℕ → List ℕ → List ℕ
 laid_over front old = front ++ drop (length front) old
 
@@ -51,7 +51,7 @@ abbrev pub IsOver : Buffers → Buffers → Type 0
 IsOver put old =
     (length old.captures < length put.captures) ⊎ ((length old.reports < length put.reports) ⊎ (length old.lens < length put.lens))
 
--- It is put over the first of the buffers, or it does not fit and they are as they were. The sizes are its own.
+-- It is put over the first entries of the buffers, or it does not fit and they are as they were. The sizes are its own.
 abbrev pub Puts : Buffers → Bool → Buffers → Buffers → ToxicapSizes → Type 0
 Puts put true old new sizes = (new ≡ all_laid_over put old) × (sizes ≡ sizes_of put)
 Puts put false old new sizes = IsOver put old × (new ≡ old) × (sizes ≡ sizes_of put)

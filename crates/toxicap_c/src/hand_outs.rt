@@ -19,7 +19,7 @@ pub(crate) fn put_text(text: &[u8], reports: &mut [u8], sizes: &mut ToxicapSizes
     true
 }
 
-/// Puts outputs of these sizes over the first of the buffers if all fit, and returns whether they do.
+/// Puts outputs of these sizes over the first entries of the buffers if all fit, and returns whether they do.
 pub(crate) fn put_outputs(
     outputs: &[Output],
     expected: ToxicapSizes,

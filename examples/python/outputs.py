@@ -15,7 +15,7 @@ class Direction(NamedTuple):
     recorded: int
     """How many bytes the recording has."""
     lost: int
-    """How many bytes are missing in the recording."""
+    """How many bytes stand after a gap or a FIN, and are not delivered."""
     end: str
     """How it ends: `open`, `fin`, `close`, `reset` or `refused`."""
     at: Optional[int]
@@ -34,7 +34,7 @@ class Connection(NamedTuple):
     server: str
     """ADDRESS:PORT of the other side."""
     vlan: Optional[int]
-    """The number of its VLAN; None where its frames have no tag."""
+    """The number of its VLAN; None without one."""
     proxy: Optional[int]
     """The number of the proxy in the scenario that it meets, from 0; None where it meets none."""
     up: Direction

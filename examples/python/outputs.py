@@ -13,7 +13,7 @@ class Direction(NamedTuple):
     delivered: int
     """How many bytes came to the other side."""
     recorded: int
-    """How many bytes the recording has."""
+    """How many bytes the recording has before the first gap or FIN."""
     lost: int
     """How many bytes stand after a gap or a FIN, and are not delivered."""
     end: str
@@ -36,7 +36,7 @@ class Connection(NamedTuple):
     vlan: Optional[int]
     """The number of its VLAN; None without one."""
     proxy: Optional[int]
-    """The number of the proxy in the scenario that it meets, from 0; None where it meets none."""
+    """The number of the proxy in the scenario that it meets, from 0; None if it meets none."""
     up: Direction
     """What the client sent."""
     down: Direction
@@ -97,7 +97,7 @@ def connection_of(line: str) -> Connection:
 
 
 def parse_report(report: bytes) -> Report:
-    """The report of one scenario as data. ValueError is raised where it is none, or torn."""
+    """The report of one scenario as data. ValueError is raised if it is none, or torn."""
     lines = report.decode().splitlines()
     scenario, *counts = map(int, parts(COUNTS, " ".join(lines[:2])))
     parsed = Report(scenario, Counts(*counts), [connection_of(line) for line in lines[2:]])

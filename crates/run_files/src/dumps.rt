@@ -100,7 +100,7 @@ fn held_byte(pairs: &[Option<u8>], high: u8, low: u8) -> Option<u8>
     }
 }
 
-// The bytes of all pairs of digits. Looking a pair up is faster than decoding it, which mispredicts a branch at nearly every digit.
+// The bytes of all pairs of digits. Looking a pair up is faster than decoding it, which mispredicts a branch at many digits.
 fn hex_pairs(alloc: Global) -> Result<Vec<Option<u8>>, AllocError>
     ensures { IfOk result (λ pairs. HoldsPairs pairs.items) }
 {

@@ -29,7 +29,7 @@ impl<R: Files> Run<'_, R> {
         }
     }
 
-    // Names the first scenario above the limit. If the capture is not above it, a scenario of unknown length is taken to be.
+    // Names the first scenario above the limit. If the capture's length is known and within it, a scenario of unknown length is taken to be above.
     fn length_remedy(&self) -> Said {
         let capture_len = self.asked.capture.and_then(|path| self.len_of(path));
         let is_capture = capture_len.is_none_or(|len| len > LIMIT);

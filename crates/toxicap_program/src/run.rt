@@ -1,4 +1,4 @@
-//! A run that has ended, and its files looked at again. Only regular files and folders are opened: another file could wait.
+//! A run that has ended, and its files looked at again. Only regular files and folders are opened: to open another file could wait.
 use command_line::Asked;
 use std::alloc::{AllocError, Global};
 use std::fs::{self, Metadata};

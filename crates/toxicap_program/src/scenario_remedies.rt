@@ -6,7 +6,7 @@ use serde_json::{Error, Value, from_slice};
 use std::alloc::{AllocError, Global};
 use std::rt::Files;
 
-// The five fields of a proxy, and then those of a toxic without its toxicity: what each is, and whether it has to be there.
+// The five fields of a proxy, and then those of a toxic except both of its toxicity: what each is, and whether it has to be there.
 const FIELDS: [(&str, &str, bool); 9] = [
     ("name", "a text", true),
     ("upstream", "a text", true),

@@ -36,7 +36,10 @@ fn check_pieces(rt: &(impl Abort + AllocGlobal), most: usize, calls: u32) {
         Ok(bytes) => bytes.as_slice() == b"recorded sessions".as_slice() && reader.failed() == 0,
         Err(_) => false,
     };
-    assert!(rt; good, "{most} bytes a call");
+    assert!(rt;
+        good && reader.into_inner().calls == 0,
+        "{most} bytes a call"
+    );
 }
 
 #[test]

@@ -63,7 +63,7 @@ fn check_ends(
         && reader.failed() == u64::from(expected == Err(RunFault::ReadFailed))
         && writer.failed() == u64::from(expected == Err(RunFault::WriteFailed))
         && writer.into_inner().taken.as_slice() == &report[..report.len().min(written)];
-    assert!(rt; good, "{row}");
+    assert!(rt; good, "{row}: {reads} reads, {writes} writes");
 }
 
 #[test]
@@ -78,6 +78,7 @@ fn runs_over_failing_ends(rt: HostRuntime) {
         (1, 1000),
         (Ok(()), 1000),
     );
+    check_ends(&rt, "just enough", (60, 3), (7, 20), (Ok(()), 1000));
     for reads in 0..3 {
         check_ends(&rt, "a read fails", (60, reads), (1000, 1), unread);
     }

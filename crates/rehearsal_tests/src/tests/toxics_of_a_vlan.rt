@@ -18,7 +18,7 @@ const SESSION: &str = "4d3cb2a1 02000400 00000000 00000000 ffff0000 01000000
     01000000 604d2f00 3a000000 3a000000 0200000000020200000000018100e00708004500002800004000400600000a0000010a0000029c400050000003ef0000138a5010ffff00000000
 ";
 
-// Scenarios of one toxic, each with the sum of its output, by `tests/rows/expected.py`.
+// Scenarios of one toxic, each with the Adler-32 of the capture and then the report that `tests/rows/expected.py` makes.
 const TOXICS: [(&str, u32); 7] = [
     (
         "[{\"upstream\":\"10.0.0.2:80\",\"toxics\":[{\"type\":\"latency\",\"stream\":\"upstream\",\"attributes\":{\"latency\":100}}]}]",
@@ -61,7 +61,7 @@ fn check_toxics(rt: &(impl Abort + AllocGlobal + Threads + Wait + Sync), workers
 }
 
 #[test]
-fn each_toxic_in_nanoseconds_of_a_vlan(rt: HostRuntime) {
+fn each_toxic_in_nanoseconds_with_a_tag(rt: HostRuntime) {
     check_toxics(&rt, 1);
     check_toxics(&rt, 2);
 }

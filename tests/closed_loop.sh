@@ -46,6 +46,9 @@ verdict "turns below 1" "$(ends 2 'argument --turns: -1: a whole number from 1 o
 verdict "a seed below 0" "$(ends 2 "closed_loop: error: invalid value '-1' for '--seed <N>'" "${inputs[@]}" --seed=-1 --out "$work/out")"
 verdict "no folder" "$(ends 2 "closed_loop: $work/none is no folder: " "${inputs[@]}" --out "$work/none")"
 verdict "no capture" "$(ends 2 "closed_loop: $work/none: No such file or directory" --capture "$work/none" --scenario examples/latency.json --out "$work/out")"
+printf '#!/bin/sh\nkill -9 $$\n' > "$work/killed"
+chmod +x "$work/killed"
+verdict "a killed program" "$(TOXICAP=$work/killed ends 2 "closed_loop: $work/killed ended with status -9" "${inputs[@]}" --out "$work/out")"
 verdict "no scenario" "$(ends 2 'usage: ' --capture samples/shop.pcap --out "$work/out")"
 
 # an open loop would charge each answer with the queue of the earlier ones

@@ -226,6 +226,9 @@ helps "a capture without bytes" "refused 1 ShortHeader" --capture empty.pcap --s
 helps "a scenario as the capture" "refused 2 BadMagic" --capture a.json --scenario b.json
 refuses "no such capture" "explain: none.pcap: No such file or directory" --capture none.pcap --scenario b.json
 refuses "no such scenario" "explain: none.json: No such file or directory" --capture "$http" --scenario none.json
+printf '#!/bin/sh\nkill -9 $$\n' > "$work/killed"
+chmod +x "$work/killed"
+TOXICAP=$work/killed refuses "a killed program" "explain: $work/killed ended with status -9" --scenario b.json
 TOXICAP=$work/none refuses "no program" "explain: there is no program $work/none: put it on the path, or name it in TOXICAP" --scenario b.json
 for seed in x -1; do
     explains "a seed that is none: $seed" 2 "" --capture "$http" --scenario b.json "--seed=$seed"

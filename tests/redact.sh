@@ -306,6 +306,8 @@ verdict "a text that would stay" "$(
     silent output
     grep -q 'error: argument --text: a text needs a byte other than x$' "$work/faults" || cat "$work/faults"
 )"
+redact /dev/null --regex 'a{99999999999999}'
+verdict "a pattern that repeats too often" "$(fault 2; silent output; grep -q 'error: argument --regex: a{99999999999999}: ' "$work/faults" || cat "$work/faults")"
 redact /dev/null --regex '('
 verdict "a pattern that is none" "$(fault 2; silent output; grep -q 'error: argument --regex: (: missing )' "$work/faults" || cat "$work/faults")"
 

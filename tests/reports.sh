@@ -180,7 +180,12 @@ head -n 3 "$work/old" > "$work/torn"
 sed 1d "$work/old" > "$work/beheaded"
 writes "no report" 2 "report: none: line 1 is no report's: 'connections 4'; toxicap prints reports, and --out stores them as .txt" "$work/none"
 writes "a report without its first line" 2 "report: beheaded: line 1 comes before a line of a scenario: 'connections 2 unopened 0'" "$work/beheaded"
-writes "a torn report" 2 "report: the report of scenario 0 is torn: it has 1 of 2 connections" --form table "$work/torn"
+for form in json csv table; do
+    status=0
+    examples/report --form $form "$work/torn" > /dev/null 2> "$work/faults" || status=$?
+    verdict "a torn report, $form" "$(fault 2; told faults $'report: the report of scenario 0 is torn: it has 1 of 2 connections\n')"
+done
+writes "a torn line" 2 "report: cut: line 4 is torn: it has no line feed; store the report again" --form table <(head -c -1 "$work/old")
 writes "a diff of one report" 2 "report: a diff wants two files with equally many reports, or one file with two; these have 1" --form diff "$work/old"
 writes "a proxy that the file has not" 2 "report: scenario 0 names.json has no proxy 9" --form table --scenario "$work/names.json" \
     <(sed 's/proxy 1/proxy 9/' "$work/old")

@@ -67,10 +67,13 @@ func TestReport(t *testing.T) {
 	if report, err := ParseReport([]byte(tagged)); err != nil || !reflect.DeepEqual(report, expected) {
 		t.Error(report, err)
 	}
-	for place := strings.Index(tagged, "0 10."); place < len(tagged)-2; place++ {
-		if _, err := ParseReport([]byte(tagged[:place])); err == nil && tagged[place-1] != '\n' {
+	for place := range tagged {
+		if _, err := ParseReport([]byte(tagged[:place])); err == nil {
 			t.Errorf("%q is taken", tagged[:place])
 		}
+	}
+	if server := serverOf(map[string]any{"upstream": "redis:06379"}, []byte("web=10.0.0.1\nredis=10.0.0.3\n")); server != "10.0.0.3:6379" {
+		t.Error(server)
 	}
 	if _, err := ParseReport([]byte("refused 1 ShortHeader")); err == nil || err.Error() != `no report of toxicap: line 1 is "refused 1 ShortHeader"` {
 		t.Error(err)
@@ -101,8 +104,8 @@ func TestExplain(t *testing.T) {
 		{whole, `[]`, ""},
 		{whole, `[{"name": "web", "upstream": "10.77.0.2:8080"}]`,
 			`scenario 1 proxy 0 "web" (10.77.0.2:8080): no connection meets it; servers of the capture: 10.77.0.2:80`},
-		{whole, `[{"name": "web", "upstream": "10.77.0.2:80"}, {"name": "late", "upstream": "10.77.0.2:80"}]`,
-			`scenario 1 proxy 1 "late" (10.77.0.2:80): no connection meets it; proxy 0 stands before the same server, and is met first`},
+		{whole, `[{"name": "web", "upstream": "10.77.0.2:80"}, {"name": "late", "upstream": "10.77.0.2:080"}]`,
+			`scenario 1 proxy 1 "late" (10.77.0.2:080): no connection meets it; proxy 0 stands before the same server, and is met first`},
 		{whole, `[{"name": "web", "upstream": "10.77.0.2:80", "Enabled": false, "toxics": [{"type": "latency", "attributes": {"latencyy": 1, "rate": 1}},
 			{"type": "timeout", "timeout": 7, "enabled": false}], "stream": 1}]`, `scenario 1 proxy 0: unknown field Enabled (is it enabled?)
 scenario 1 proxy 0: unknown field stream (it belongs in the toxic)

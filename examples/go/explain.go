@@ -25,7 +25,7 @@ func Explain(capture []byte, scenarios [][]byte, hosts []byte, seed uint64) (lin
 		if number == 0 {
 			lines = withoutConnection(report)
 		}
-		lines = append(append(lines, warnings(scenarios[number], report)...), runs.withoutEffect(number)...)
+		lines = append(append(lines, warnings(scenarios[number], hosts, report)...), runs.withoutEffect(number)...)
 	}
 	return lines, runs.err
 }
@@ -37,7 +37,7 @@ func (o Output) Warnings() []string {
 	if err != nil {
 		return []string{err.Error()}
 	}
-	return append(withoutConnection(report), warnings(o.scenario, report)...)
+	return append(withoutConnection(report), warnings(o.scenario, o.hosts, report)...)
 }
 
 // passedOver says of each class of records that are not rehearsed, and of unopened segments, why they are not, and what to do.
@@ -91,7 +91,7 @@ func byCount(counts map[string]int) []string {
 }
 
 // warnings tells of unknown fields of a scenario, and of proxies that no connection meets, unless there is no connection.
-func warnings(scenario []byte, report Report) (lines []string) {
+func warnings(scenario, hosts []byte, report Report) (lines []string) {
 	place := fmt.Sprintf("scenario %d proxy ", report.Scenario)
 	proxies, _ := parsed(scenario).([]any)
 	for number, proxy := range proxies {
@@ -105,16 +105,16 @@ func warnings(scenario []byte, report Report) (lines []string) {
 	for number, proxy := range proxies {
 		if !met[number] && len(servers) > 0 {
 			lines = append(lines, fmt.Sprintf("%s%d %s (%s): no connection meets it; %s", place, number, quoted(textAt(proxy, "name")),
-				textAt(proxy, "upstream"), unmet(proxies[:number], proxy, servers)))
+				textAt(proxy, "upstream"), unmet(proxies[:number], proxy, hosts, servers)))
 		}
 	}
 	return lines
 }
 
 // unmet tells why a proxy is not met: an earlier one is in its place, or nobody connects to its server.
-func unmet(earlier []any, proxy any, servers map[string]int) string {
+func unmet(earlier []any, proxy any, hosts []byte, servers map[string]int) string {
 	for number, other := range earlier {
-		if textAt(other, "upstream") == textAt(proxy, "upstream") {
+		if serverOf(other, hosts) == serverOf(proxy, hosts) {
 			return fmt.Sprintf("proxy %d stands before the same server, and is met first", number)
 		}
 	}
@@ -123,6 +123,19 @@ func unmet(earlier []any, proxy any, servers map[string]int) string {
 		told = append(told[:5], "..")
 	}
 	return "servers of the capture: " + strings.Join(told, ", ")
+}
+
+// serverOf gives address and port of the server that a proxy stands before.
+func serverOf(proxy any, hosts []byte) string {
+	host, digits, _ := strings.Cut(textAt(proxy, "upstream"), ":")
+	for _, line := range strings.Split(string(hosts), "\n") {
+		if name, addr, _ := strings.Cut(line, "="); name == host {
+			host = addr
+			break
+		}
+	}
+	port, _ := strconv.Atoi(digits)
+	return host + ":" + strconv.Itoa(port)
 }
 
 // The fields that are known: of a proxy, of a toxic, and of the attributes of a type.

@@ -9,7 +9,7 @@ import (
 type Output struct {
 	Capture, Report []byte
 
-	scenario []byte // what Warnings looks at; nil if the output was made by hand
+	scenario, hosts []byte // what Warnings looks at; nil if the output was made by hand
 }
 
 // A Kind is what was refused, by its number. errors.Is(err, UnknownHost) tells whether an error is such a refusal.

@@ -86,7 +86,7 @@ func Rehearse(capture []byte, scenarios [][]byte, hosts []byte, seed uint64) ([]
 	for i := range outputs {
 		capture, report, scenario := lens[2*i], lens[2*i+1], scenarioLens[i]
 		// without room at their ends, so that what is appended to one does not go over the next
-		outputs[i] = Output{captures[:capture:capture], reports[:report:report], text[:scenario:scenario]}
+		outputs[i] = Output{captures[:capture:capture], reports[:report:report], text[:scenario:scenario], hosts}
 		captures, reports, text = captures[capture:], reports[report:], text[scenario:]
 	}
 	return outputs, nil

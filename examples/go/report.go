@@ -37,7 +37,7 @@ type Direction struct {
 var connectionLine = regexp.MustCompile(
 	`^[0-9]+ (\S+) > (\S+)(?: vlan ([0-9]+))? proxy ([0-9]+|-) up (\S+) (\S+) max ([0-9]+) down (\S+) (\S+) max ([0-9]+)$`)
 
-// ParseReport gives what a report says. An error names the line that is none of a report.
+// ParseReport gives what a report says. An error names the line that is none of a report, or what a torn report lacks.
 func ParseReport(text []byte) (Report, error) {
 	report := Report{Classes: map[string]int{}}
 	lines := strings.Split(strings.TrimSuffix(string(text), "\n"), "\n")
@@ -49,13 +49,19 @@ func ParseReport(text []byte) (Report, error) {
 	if len(lines) < 2 {
 		return Report{}, fmt.Errorf("no report of toxicap: it has %d lines, and has at least 2", len(lines))
 	}
+	if found, expected := len(report.Connections), strings.Fields(lines[1])[1]; expected != strconv.Itoa(found) {
+		return Report{}, fmt.Errorf("the report is torn: it has %d of %s connections", found, expected)
+	}
+	if !strings.HasSuffix(string(text), "\n") {
+		return Report{}, fmt.Errorf("the report is torn: its last line has no line feed")
+	}
 	return report, nil
 }
 
 // ParseReports gives the same of the reports one after another that Reports gives.
 func ParseReports(text []byte) (reports []Report, err error) {
 	for _, part := range strings.SplitAfter("\n"+string(text), "\nscenario ")[1:] {
-		report, err := ParseReport([]byte("scenario " + strings.TrimSuffix(part, "\nscenario ")))
+		report, err := ParseReport([]byte("scenario " + strings.TrimSuffix(part, "scenario ")))
 		if err != nil {
 			return nil, err
 		}

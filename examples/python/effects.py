@@ -280,7 +280,7 @@ class Toxic:
             idle = [one for one in idle if one not in undrawn]
         concealed = self.differing(idle, {**self.runs.none, self.number: MILLION}, self.runs.none) if idle else []
         yield from self.hidden(concealed)
-        yield from map(self.alone_reason, set(idle) - set(concealed))
+        yield from map(self.alone_reason, sorted(set(idle) - set(concealed)))
 
     def explained(self, met: List[int]) -> Tuple[int, str]:
         """On how many of the connections that meet its proxy it has an effect, and the words of it."""

@@ -59,4 +59,4 @@ def main(capture):
 
 
 if __name__ == "__main__":
-    main(*sys.argv[1:])
+    main(sys.argv[1] if len(sys.argv) == 2 else sys.exit("usage: find_bug.py CAPTURE"))

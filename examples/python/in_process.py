@@ -226,6 +226,8 @@ def are_stored(inputs: Inputs, folder: str) -> bool:
             words.append(f"--scenario={folder}/{at}" if at else f"--capture={folder}/0")
         run_program(words)
         os.unlink(f"{folder}/0")
+    except TimeoutError:  # raised by the caller's handler of a signal
+        raise
     except (OSError, ValueError):  # a zero byte in a host is a ValueError
         return False
     return pathlib.Path(folder, f"{len(inputs.scenarios) - 1:04}.txt").exists()  # the last file that it stores
@@ -239,8 +241,9 @@ def run_program(words: List[Any]) -> None:
         with contextlib.suppress(ChildProcessError):
             os.waitpid(child, 0)
     except BaseException:  # as by Ctrl-C: nothing may be written into a folder that is gone
-        os.kill(child, signal.SIGKILL)
-        os.waitpid(child, 0)
+        with contextlib.suppress(OSError):  # it has ended, and was waited for
+            os.kill(child, signal.SIGKILL)
+            os.waitpid(child, 0)
         raise
 
 
@@ -295,6 +298,8 @@ if __name__ == "__main__":
         parser.exit(1, f"{refusal.line}\n")
     except MemoryError:
         parser.exit(1, "refused 40 Memory\n")
+    except OSError as error:
+        parser.exit(2, f"{error.filename}: {error.strerror}\n")
     for number, output in enumerate(answers):
         pathlib.Path(f"{number:04}.pcap").write_bytes(output.capture)
         pathlib.Path(f"{number:04}.txt").write_bytes(output.report)

@@ -103,6 +103,8 @@ def parse_report(report: bytes) -> Report:
     parsed = Report(scenario, Counts(*counts), [connection_of(line) for line in lines[2:]])
     if len(parsed.connections) != parsed.counts.connections:
         raise ValueError(f"the report is torn: it has {len(parsed.connections)} of {parsed.counts.connections} connections")
+    if not report.endswith(b"\n"):
+        raise ValueError("the report is torn: its last line has no line feed")
     return parsed
 
 

@@ -104,7 +104,7 @@ class Socket(socket.socket):
         self._place = self._offset = 0  # the arrival that is read next, and how many of its bytes were read
         self._sent = bytearray()
         self._gone = self._met_reset = self._shut_read = self._shut_write = False
-        self.settimeout(timeout if isinstance(timeout, (int, float)) else socket.getdefaulttimeout())
+        self.settimeout(socket.getdefaulttimeout() if timeout is None or type(timeout) is object else timeout)
 
     def __repr__(self) -> str:
         return f"<toxicap.Socket {self._names[0]} to {self._names[1]}, {self.clock.now} s{', closed' * self._closed}>"

@@ -10,7 +10,7 @@ use std::{env, fs, io, process};
 fn main() -> io::Result<()> {
     let texts: Vec<Vec<u8>> = env::args()
         .skip(1)
-        .map(fs::read)
+        .map(|path| fs::read(&path).map_err(|error| io::Error::new(error.kind(), format!("{path}: {error}"))))
         .collect::<Result<_, _>>()?;
     let hosts = env::var("HOSTS").unwrap_or_default();
     let Some((capture, scenarios)) = texts.split_first() else {

@@ -130,6 +130,7 @@ class Data(unittest.TestCase):
             (b"", "this is in no report of toxicap: ''"),
             (report.replace(b"fin", b"fin+"), "this is in no report of toxicap: '3042/3042/0 fin"),
             (report[: report.rindex(b"\n3 ") + 1], "the report is torn: it has 3 of 4 connections"),
+            (report[:-1], "the report is torn: its last line has no line feed"),
         ):
             with self.subTest(message), self.assertRaises(ValueError) as raised:
                 parse_report(text)

@@ -206,20 +206,22 @@ class Ways(Folder):
         self.assertEqual([list(files.iterdir()), (self.folder / "modes").read_text()], [[], "700\n700\n"])
 
     def test_interrupted(self):
-        """The program ends with the call, and no file is left."""
+        """The program ends with the call, no file is left, and what the handler of a signal raises comes out."""
         files = self.folder / "files"
         files.mkdir()
         self.program.unlink()
         self.program.write_text(f"#!/bin/sh\necho $$ > {self.folder}/child\nexec sleep 60\n")
         self.program.chmod(0o755)
         self.patch(PROGRAM=self.program)
-        self.addCleanup(signal.signal, signal.SIGALRM, signal.signal(signal.SIGALRM, signal.default_int_handler))
-        signal.setitimer(signal.ITIMER_REAL, 0.5)
-        with mock.patch.dict(os.environ, TMPDIR=str(files)), self.assertRaises(KeyboardInterrupt):
-            rehearse(SHOP, [[]])
-        self.assertEqual(list(files.iterdir()), [])
-        with self.assertRaises(ProcessLookupError):
-            os.kill(int((self.folder / "child").read_text()), 0)
+        for raised in KeyboardInterrupt, TimeoutError:
+            handler = mock.Mock(side_effect=raised)
+            self.addCleanup(signal.signal, signal.SIGALRM, signal.signal(signal.SIGALRM, handler))
+            signal.setitimer(signal.ITIMER_REAL, 0.5)
+            with self.subTest(raised), mock.patch.dict(os.environ, TMPDIR=str(files)), self.assertRaises(raised):
+                rehearse(SHOP, [[]])
+            self.assertEqual(list(files.iterdir()), [])
+            with self.assertRaises(ProcessLookupError):
+                os.kill(int((self.folder / "child").read_text()), 0)
 
 
 

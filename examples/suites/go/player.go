@@ -160,6 +160,9 @@ func (p *Player) serve() {
 	for _, part := range p.parts {
 		socket, err := p.accept()
 		if err != nil {
+			if !os.IsTimeout(err) && p.life.Err() == nil {
+				p.fail(err.Error())
+			}
 			return
 		}
 		came := p.welcome(socket, part)

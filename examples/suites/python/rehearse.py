@@ -8,5 +8,5 @@ def rehearse(capture, scenario, *options):
     with tempfile.TemporaryDirectory() as folder:
         command = [os.environ.get('TOXICAP') or 'toxicap', '--capture', capture, '--scenario', scenario, '--out', folder, *options]
         ended = subprocess.run(command, capture_output=True, text=True)
-        if ended.returncode != 0: raise RuntimeError(ended.stderr.strip())
+        if ended.returncode != 0: raise RuntimeError(ended.stderr.strip() or f'{command[0]} ended with status {ended.returncode}')
         return tuple(pathlib.Path(folder, name).read_bytes() for name in ('0000.txt', '0000.pcap'))

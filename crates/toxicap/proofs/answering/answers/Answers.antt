@@ -10,4 +10,4 @@ returns-in_err-text g c =
 pub returns : goal.returns
 returns g c =
     let loaded = c.in_ok-text.ensures in
-    (Ok c.in_ok-text.text.items, (loaded.within, (loaded.lost, loaded.at_end, loaded.none_failed)), rw c.of.ensures at c.answers_by.ensures)
+    (Ok c.in_ok-text.text.items, (loaded.within, (loaded.consumed, loaded.at_end, loaded.none_failed)), rw c.of.ensures at c.answers_by.ensures)

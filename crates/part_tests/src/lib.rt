@@ -1,4 +1,4 @@
-//! Tests of calls of `pcap_records`, `frame_headers`, `toxic_defs`, `scenarios` and `run_files`, with values that are not from the code.
+//! Tests of calls of `disks`, `pcap_records`, `frame_headers`, `toxic_defs`, `scenarios` and `run_files`, with values that are not from the code.
 #![tactic(auto)]
 
 #[cfg(test)]

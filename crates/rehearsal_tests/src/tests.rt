@@ -2,7 +2,6 @@
 mod again;
 mod answering;
 mod captures;
-mod drafts;
 mod limits;
 mod named_files;
 mod one_thread;
@@ -10,7 +9,6 @@ mod plans;
 mod readers;
 mod rehearsed;
 mod running;
-mod shelves;
 mod shop_sample;
 mod storing_runs;
 mod toxics_of_a_vlan;

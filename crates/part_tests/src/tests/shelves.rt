@@ -1,12 +1,12 @@
 //! The files of a rehearsal on shelves: one that fails, and one in memory.
 ghost use Rattle.std.specs.Prelude.{◌≡◌, ◌≤◌};
 
-use job_matrix::Values;
-use std::alloc::{AllocError, AllocGlobal, Global};
-use std::process::Abort;
-use toxicap::{
+use pcap_records::Values;
+use run_files::{
     MemoryFile, MemoryShelf, Output, Outputs, RunFault, Shelf, ShelfError, StoreFault, store_all,
 };
+use std::alloc::{AllocError, AllocGlobal, Global};
+use std::process::Abort;
 
 // The files of two outputs, in the order in which they are stored.
 const FILES: [(&str, &[u8]); 4] = [

@@ -2,13 +2,12 @@
 ghost use Rattle.std.specs.Prelude.{◌≡◌, ◌-◌, ◌<◌, ◌^◌};
 
 use disks::{Disk, DiskFault, FileId, HostDisk, Lockable, MemoryDisk, ReadFiles};
-use run_files::{DraftedOutput, Folder, store_draft};
+use run_files::{DraftedOutput, Folder, StoreFault, store_draft};
 use std::alloc::{AllocError, AllocGlobal, Global};
 use std::fs::{self, Metadata};
 use std::os::unix::fs::{MetadataExt, symlink};
 use std::process::Abort;
 use std::rt::Files;
-use toxicap::StoreFault;
 
 // The files of two outputs with the numbers 7 and 8, in the order in which they are stored.
 const FILES: [(&str, &[u8]); 4] = [

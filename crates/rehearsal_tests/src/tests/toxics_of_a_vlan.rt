@@ -21,32 +21,32 @@ const SESSION: &str = "4d3cb2a1 02000400 00000000 00000000 ffff0000 01000000
 // Scenarios of one toxic, each with the Adler-32 of the capture and then the report that `tests/rows/expected.py` makes.
 const TOXICS: [(&str, u32); 7] = [
     (
-        "[{\"upstream\":\"10.0.0.2:80\",\"toxics\":[{\"type\":\"latency\",\"stream\":\"upstream\",\"attributes\":{\"latency\":100}}]}]",
+        "[{\"name\":\"a\",\"upstream\":\"10.0.0.2:80\",\"toxics\":[{\"type\":\"latency\",\"stream\":\"upstream\",\"attributes\":{\"latency\":100}}]}]",
         0x639f_8a80,
     ),
     (
-        "[{\"upstream\":\"10.0.0.2:80\",\"toxics\":[{\"type\":\"bandwidth\",\"stream\":\"upstream\",\"attributes\":{\"rate\":1}}]}]",
-        0xf811_8bbd,
+        "[{\"name\":\"a\",\"upstream\":\"10.0.0.2:80\",\"toxics\":[{\"type\":\"bandwidth\",\"stream\":\"upstream\",\"attributes\":{\"rate\":1}}]}]",
+        0xf725_8bbc,
     ),
     (
-        "[{\"upstream\":\"10.0.0.2:80\",\"toxics\":[{\"type\":\"slicer\",\"stream\":\"upstream\",\"attributes\":{\"average_size\":1,\"delay\":10}}]}]",
-        0x4f10_b3f0,
+        "[{\"name\":\"a\",\"upstream\":\"10.0.0.2:80\",\"toxics\":[{\"type\":\"slicer\",\"stream\":\"upstream\",\"attributes\":{\"average_size\":1,\"delay\":10}}]}]",
+        0x4d3c_b3ee,
     ),
     (
-        "[{\"upstream\":\"10.0.0.2:80\",\"toxics\":[{\"type\":\"slow_close\",\"stream\":\"upstream\",\"attributes\":{\"delay\":2}}]}]",
-        0x258f_889f,
+        "[{\"name\":\"a\",\"upstream\":\"10.0.0.2:80\",\"toxics\":[{\"type\":\"slow_close\",\"stream\":\"upstream\",\"attributes\":{\"delay\":2}}]}]",
+        0x22dd_889c,
     ),
     (
-        "[{\"upstream\":\"10.0.0.2:80\",\"toxics\":[{\"type\":\"limit_data\",\"stream\":\"upstream\",\"attributes\":{\"bytes\":4}}]}]",
-        0x4fa6_8875,
+        "[{\"name\":\"a\",\"upstream\":\"10.0.0.2:80\",\"toxics\":[{\"type\":\"limit_data\",\"stream\":\"upstream\",\"attributes\":{\"bytes\":4}}]}]",
+        0x4bfe_8871,
     ),
     (
-        "[{\"upstream\":\"10.0.0.2:80\",\"toxics\":[{\"type\":\"timeout\",\"stream\":\"upstream\",\"attributes\":{\"timeout\":1}}]}]",
-        0x0429_7d0c,
+        "[{\"name\":\"a\",\"upstream\":\"10.0.0.2:80\",\"toxics\":[{\"type\":\"timeout\",\"stream\":\"upstream\",\"attributes\":{\"timeout\":1}}]}]",
+        0xff88_7d07,
     ),
     (
-        "[{\"upstream\":\"10.0.0.2:80\",\"toxics\":[{\"type\":\"reset_peer\",\"stream\":\"upstream\",\"attributes\":{\"timeout\":1}}]}]",
-        0x08a0_7d27,
+        "[{\"name\":\"a\",\"upstream\":\"10.0.0.2:80\",\"toxics\":[{\"type\":\"reset_peer\",\"stream\":\"upstream\",\"attributes\":{\"timeout\":1}}]}]",
+        0x0324_7d21,
     ),
 ];
 

@@ -191,6 +191,8 @@ example() {
     rm -f "$folder"/*
     (cd "$folder"; timeout 20 "${@:2}" "${inputs[@]}") > "$work/output" 2> "$work/line" || ended=$?
     verdict "the example in $1, refused" "$([ $ended = 1 ] || echo "  status $ended"; difference "$work/expected-line" "$work/line"; holds "$folder")"
+    (cd "$folder"; timeout 20 "${@:2}" "${inputs[0]}" none.json) > "$work/output" 2> "$work/line" || true
+    verdict "the example in $1, no such scenario" "$(grep -q 'none\.json: ' "$work/line" && ! grep -q Traceback "$work/line" || cat "$work/line")"
 }
 unset HOSTS
 export TOXICAP_LIBRARY=$kit/lib/libtoxicap.so.1 CGO_CFLAGS="-I$kit/include" CGO_LDFLAGS="-L$kit/lib"

@@ -364,6 +364,7 @@ fi
 # trust: the bill of materials, the sums, and a signature by a key that is thrown away
 if can "the bill of materials" python3; then
     the_same "the bill of materials, the same twice" release/sbom "$parts"
+    verdict "a bill of no parts" "$(release/sbom "$work/none" "$work" > "$work/told" 2>&1 || true; grep -qF "$work/none: no toxicap-static that runs; " "$work/told" || cat "$work/told")"
     verdict "what the bill has" "$(python3 -B tests/packages/bill.py "$made/toxicap-$version.spdx.json" "$parts" 2>&1)"
 fi
 cp -r "$made" "$work/signed"

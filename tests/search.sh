@@ -49,6 +49,7 @@ seed 0 of [{"name": "redis", "upstream": "redis:6379", "toxics": [{"type": "slic
 prefix of 3007 bytes, then replies of 3000 0 bytes
 END
     verdict "Python: the example" "$(difference "$work/expected" "$work/found")"
+    verdict "Python: the example, no capture" "$(python3 -B examples/python/find_bug.py > "$work/found" 2>&1 || true; grep -qx 'usage: find_bug.py CAPTURE' "$work/found" || cat "$work/found")"
     mend python/find_bug.py 'if len(rest) < end:' 'if len(rest) < end + 2:'
     finds_nothing "Python: the example, mended" python3 -B "$copy/examples/python/find_bug.py" samples/shop.pcap
 fi

@@ -2,6 +2,7 @@
 bytes and refusals in each way. CAPTURE of the environment is a large capture of one connection to 10.77.0.2:80, whose client sends all; TOXICAP is the
 program."""
 import hashlib
+import itertools
 import json
 import os
 import pathlib
@@ -213,11 +214,11 @@ class Ways(Folder):
         self.program.write_text(f"#!/bin/sh\necho $$ > {self.folder}/child\nexec sleep 60\n")
         self.program.chmod(0o755)
         self.patch(PROGRAM=self.program)
-        for raised in KeyboardInterrupt, TimeoutError:
-            handler = mock.Mock(side_effect=raised)
-            self.addCleanup(signal.signal, signal.SIGALRM, signal.signal(signal.SIGALRM, handler))
+        for raised, children in itertools.product((KeyboardInterrupt, TimeoutError), (signal.SIG_DFL, signal.SIG_IGN)):
+            for number, handler in (signal.SIGALRM, mock.Mock(side_effect=raised)), (signal.SIGCHLD, children):
+                self.addCleanup(signal.signal, number, signal.signal(number, handler))
             signal.setitimer(signal.ITIMER_REAL, 0.5)
-            with self.subTest(raised), mock.patch.dict(os.environ, TMPDIR=str(files)), self.assertRaises(raised):
+            with self.subTest(raised, children=children), mock.patch.dict(os.environ, TMPDIR=str(files)), self.assertRaises(raised):
                 rehearse(SHOP, [[]])
             self.assertEqual(list(files.iterdir()), [])
             with self.assertRaises(ProcessLookupError):

@@ -88,6 +88,10 @@ class Http(unittest.TestCase):
             with self.assertRaises(socket.timeout): client.getresponse().read()
         self.assertEqual(client.sock.gettimeout(), 1.5)
 
+    def test_wrong_timeouts(self):
+        for error, timeout in (TypeError, '1'), (ValueError, -1):
+            with self.assertRaises(error): Socket(served(), timeout=timeout)
+
 
 class Mail(unittest.TestCase):
     def test_pop(self):

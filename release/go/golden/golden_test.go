@@ -71,17 +71,36 @@ func TestGolden(t *testing.T) {
 		}
 	}
 
-	// files with which nothing was compared are stale
-	for _, name := range []string{"slow.pcap", "slow.txt"} {
-		if err := os.Rename(path+filepath.Ext(name), filepath.Join(filepath.Dir(path), "old"+filepath.Ext(name))); err != nil {
+	// files with which nothing was compared are stale, but not a recording with notes
+	folder := filepath.Dir(path)
+	old, notes := filepath.Join(folder, "old"), filepath.Join(folder, "notes")
+	for _, ending := range []string{".pcap", ".txt"} {
+		if err := os.Rename(path+ending, old+ending); err != nil {
+			t.Fatal(err)
+		}
+		if err := os.WriteFile(notes+ending, []byte("notes"), 0o666); err != nil {
 			t.Fatal(err)
 		}
 	}
-	fake = &told{}
-	golden.Stale(fake, filepath.Dir(path))
-	fake.ends[0]()
-	old := filepath.Join(filepath.Dir(path), "old")
-	check(t, fake.errors, fmt.Sprintf("the golden files %s.pcap and .txt are stale: no test compares with them\n", old))
+	stale := func() string {
+		fake := &told{}
+		golden.Stale(fake, folder)
+		fake.ends[0]()
+		return fake.errors
+	}
+	check(t, stale(), fmt.Sprintf("the golden files %s.pcap and .txt are stale: no test compares with them\n", old))
+
+	// a comparison by another path is one with them
+	here, err := os.Getwd()
+	if err != nil {
+		t.Fatal(err)
+	}
+	another, err := filepath.Rel(here, old)
+	if err != nil {
+		t.Fatal(err)
+	}
+	golden.Same(t, another, output)
+	check(t, stale(), "")
 }
 
 // An output in which nothing happens is none for a golden file.

@@ -142,6 +142,18 @@ func TestACloseRightAfterAClient(t *testing.T) {
 	}
 }
 
+// A listener that fails ends the player, which says so: here it is shut down beside the player.
+func TestAListenerThatFails(t *testing.T) {
+	ends(t, "sessions-untouched", []int{1}, func(*toxicap.Player) {}, func(p *toxicap.Player) {
+		for descriptor := 0; descriptor < 1024; descriptor++ {
+			name, _ := syscall.Getsockname(descriptor)
+			if at, is := name.(*syscall.SockaddrInet4); is && at.Port == p.Port {
+				syscall.Shutdown(descriptor, syscall.SHUT_RDWR)
+			}
+		}
+	}, "accept tcp4 127.0.0.1:")
+}
+
 func TestSeveralClients(t *testing.T) {
 	both := outputs(t, "sessions-untouched")
 	player, err := toxicap.NewPlayer(both[0], both[1])

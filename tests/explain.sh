@@ -230,7 +230,7 @@ printf '#!/bin/sh\nkill -9 $$\n' > "$work/killed"
 chmod +x "$work/killed"
 TOXICAP=$work/killed refuses "a killed program" "explain: $work/killed ended with status -9" --scenario b.json
 told=$( (ulimit -f 0; "$explain" --scenario b.json < /dev/null 2>&1 || echo "status $?") )
-verdict "no room for a file" "$([[ $told = "explain: standard output or a file of TMPDIR: "*$'\nstatus 2' ]] || echo "$told")"
+verdict "no room for a file" "$([[ $told = "explain: a file of TMPDIR: "*$'\nstatus 2' ]] || echo "$told")"
 TOXICAP=$work/none refuses "no program" "explain: there is no program $work/none: put it on the path, or name it in TOXICAP" --scenario b.json
 for seed in x -1; do
     explains "a seed that is none: $seed" 2 "" --capture "$http" --scenario b.json "--seed=$seed"

@@ -34,6 +34,7 @@ pub record ChiefView : Type 0 where
   pub back : ℕ
   pub told : ℕ
 
+-- what a pass adds to the count of those told
 abbrev pub worth : Bool → ℕ
 worth true = 1
 worth false = 0
@@ -88,7 +89,7 @@ Fits n seat (Leads limit made back told jobs) = (seat ≡ 0) × (limit ≡ n) ×
 Fits n seat (Claims limit told jobs) = (seat ≢ 0) × (limit ≡ n) × (told ≤ 1)
 Fits n seat Spent = seat ≢ 0
 
--- The word and what all seats know, also those of dropped passes. `once`: the numbers below the word and n were claimed once, no others;
+-- The rule of a board: its word, and what all seats know, also those of dropped passes. `once`: the numbers below the word and n were claimed once, no others;
 -- `over`: the word went past n once for each pass that was told so; `passes`: a pass that was made is out or came back.
 pub record Kept (n : ℕ) (words : List ℕ) (views : List SeatView) : Type 0 where
   pub next : ℕ
@@ -103,7 +104,7 @@ pub record Kept (n : ℕ) (words : List ℕ) (views : List SeatView) : Type 0 wh
 abbrev pub Fair : ℕ → State ℕ SeatView → Type 0
 Fair n s = Kept n s.words s.views
 
--- a number below the limit is the pass's, above all that it had; from the limit on the pass is told that none is left
+-- A number below the limit becomes the pass's, and is greater than each that it had. From the limit on the pass is told that none is left.
 abbrev pub Claimed : Me ℕ SeatView → ℕ → Me ℕ SeatView → Type 0
 Claimed before found after =
     (found < limit_of before.0

@@ -4,6 +4,7 @@ use Rattle.std.specs.List.{range_with_len, slice_range}
 use Rattle.pcap_records.specs.declared.unit.Unit.{Unit}
 use Rattle.pcap_records.specs.declared.unit.Unit.TheVariants.{Micros, Nanos}
 
+-- ticks of a second, in a capture in microseconds or in nanoseconds
 abbrev pub microseconds : ℕ
 microseconds = 1000000
 

@@ -31,7 +31,7 @@ empty_line = record { bytes = []; end = live }
 
 -- ---- what was recorded
 
--- what a side sent, as far as the capture tells; `lost` counts its bytes after the first gap or its FIN
+-- what a side sent, as far as the capture tells; `lost` counts its bytes after the first gap or its FIN, whichever comes first
 pub record RecordedSide : Type 0 where
   pub line : Line
   pub lost : ℕ
@@ -63,7 +63,7 @@ byte_at base members x = record {
   starts = x == 0 || not (available_at base members (x + 1) == available_at base members x);
 }
 
--- A line of n bytes ends by the FIN if it stands right after them, once it and they have come; else by `other`.
+-- If the FIN stands right after the n bytes, the line ends by it, when the FIN and all n bytes have come. Else it ends by `other`.
 abbrev pub end_at : ℕ → ℕ → ℕ → End → Option TimedSegment → End
 end_at base n latest other None = other
 end_at base n latest other (Some m) = if n == fin_position base m then fin (max m.at latest) else other
@@ -75,7 +75,7 @@ reset_or_live (Some m) = reset m.at
 abbrev pub sent_by : Peer → List TimedSegment → List TimedSegment
 sent_by sender members = filter (λ m. same_peer m.fields.from sender) members
 
--- the side that a sender's segments make; it ends by `other` unless it reaches its FIN
+-- the side that a sender's segments make; unless it reaches its FIN it ends by `other`, a reset or live
 abbrev pub side_of : ℕ → List TimedSegment → End → RecordedSide
 side_of base members other =
     let n = line_length base members in
@@ -101,7 +101,7 @@ pub record RecordedConnection : Type 0 where
   pub mac_client : List ℕ
   pub mac_server : List ℕ
 
--- the client's line goes up, the server's down; the opening gives the instant and the Ethernet addresses
+-- the client's line goes up, the server's down; the opening gives the instant `opened` and the Ethernet addresses
 abbrev pub recorded_connection : Connection → RecordedConnection
 recorded_connection c = record {
   up = recorded_side (members_of c) (client_of c) (Some (client_base c));

@@ -29,13 +29,12 @@ abbrev pub outcome_of_storing : Result (Unit {0}) StoreFault → Result (Unit {0
 outcome_of_storing (Ok stored) = Ok stored
 outcome_of_storing (Err fault) = Err (run_fault_of_storing fault)
 
--- The number of failed calls of what stores files, where storing ended so: one if a file could not be stored, and none if it was refused
--- before a call.
+-- How many calls of the disk failed if storing ended so: one if a file could not be stored, but none if the folder is refused before a call.
 abbrev pub failed_puts : Bool → Result (Unit {0}) RunFault → ℕ
 failed_puts refused (Err (of_run.ShelfFailed after)) = if refused then 0 else 1
 failed_puts refused _ = 0
 
--- each fault except out of memory refuses something
+-- the refusal of a run that ends by a fault: out of memory refuses nothing
 abbrev pub run_refusal : RunFault → Option RunFault
 run_refusal of_run.Memory = None
 run_refusal fault = Some fault
@@ -73,7 +72,7 @@ fault_entry (of_run.ShelfFailed after) = (60, codes "ShelfFailed", After after)
 fault_entry of_run.ReadFailed = (61, codes "ReadFailed", Nowhere)
 fault_entry of_run.WriteFailed = (62, codes "WriteFailed", Nowhere)
 
--- a number that is known, after the name of what it counts
+-- a name and its number, if the number is known
 abbrev pub known_text : List ℕ → Option ℕ → List ℕ
 known_text name None = []
 known_text name (Some n) = name ++ decimal n

@@ -25,6 +25,7 @@ pub record WrittenSide : Type 0 where
   pub base : ℕ
   pub line : Line
 
+-- `opened` is the instant of its opening; it is refused if its proxy is disabled
 pub record WrittenConnection : Type 0 where
   pub number : ℕ
   pub opened : ℕ
@@ -50,7 +51,7 @@ abbrev pub pieces_led_by : LineByte → List Piece → List Piece
 pieces_led_by c [] = []
 pieces_led_by c (p ∷ ps) = record { at = c.at; bytes = c.value ∷ p.bytes; ends = p.ends } ∷ ps
 
--- the bytes, cut after each one that ends a chunk or fills its piece; the first piece has room for `room` of them
+-- the bytes, cut after each one that ends a chunk or fills its piece; the first piece has room for `room` of them, at least one
 unfoldable pub pieces : ℕ → ℕ → List LineByte → List Piece
 pieces limit room [] = []
 pieces limit room (c ∷ cs) =
@@ -67,18 +68,18 @@ pub record SentSegment : Type 0 where
   pub flags : ℕ
   pub payload : List ℕ
 
--- a FIN or a close takes up a sequence number, from the instant after its own on
+-- a FIN or a close takes up a sequence number, which only later acknowledgments count
 abbrev pub end_numbers_before : ℕ → End → ℕ
 end_numbers_before at live = 0
 end_numbers_before at (fin m) = if nat_lt m at then 1 else 0
 end_numbers_before at (close m) = if nat_lt m at then 1 else 0
 end_numbers_before at (reset m) = 0
 
--- the peer's next number, by what was delivered of it strictly before the instant
+-- the peer's next sequence number, by what was delivered of it strictly before the instant
 abbrev pub acknowledgment_number : WrittenSide → ℕ → ℕ
 acknowledgment_number peer at = (peer.base + 1 + length (filter (λ c. nat_lt c.at at) peer.line.bytes) + end_numbers_before at peer.line.end) % sequence_space
 
--- the number of a side's byte x, or of what comes after x bytes
+-- the sequence number of a side's byte x, or of its end after x bytes
 abbrev pub sequence_number : WrittenSide → ℕ → ℕ
 sequence_number own x = (own.base + 1 + x) % sequence_space
 
@@ -166,7 +167,7 @@ down_turn ticks c = map (framed_by_server ticks c 2) (enumerate_from 0 (segments
 
 -- ---- order
 
--- a key is lower: by moment, then connection, turn and place
+-- key a is lower than key b: by moment, then connection, turn and place
 abbrev pub is_key_below : SegKey → SegKey → Bool
 is_key_below a b =
     nat_lt a.moment b.moment || (a.moment == b.moment
@@ -179,7 +180,7 @@ has_lower_key key x y = is_key_below (key x) (key y)
 abbrev pub below : Framed → Framed → Bool
 below = has_lower_key (λ x. x.key)
 
--- into a list in order, before the first whose key is no lower
+-- a list with x before its first segment whose key is no lower: a list in order stays in order
 abbrev pub insert_by_key : Framed → List Framed → List Framed
 insert_by_key x [] = x ∷ []
 insert_by_key x (y ∷ ys) = if is_key_below y.key x.key then y ∷ insert_by_key x ys else x ∷ y ∷ ys

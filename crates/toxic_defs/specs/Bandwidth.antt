@@ -10,7 +10,7 @@ use Rattle.toxic_defs.specs.Slices.{sliced}
 abbrev pub ceiling : ℕ → ℕ → ℕ
 ceiling n d = (n + (d - 1)) / d
 
--- Each byte holds the wire for 1/`rate` of a millisecond (of `ticks`), after its instant and the bytes before it. Only the sum is rounded up.
+-- Each byte holds the wire for 1/`rate` of a millisecond, which has `ticks` ticks here, after its instant and the bytes before it. Only the sum is rounded up.
 abbrev pub bandwidth_leaves : ℕ → ℕ → ℕ → List LineByte → ℕ
 bandwidth_leaves limit ticks rate bytes =
     latest (λ y at. min (at + ceiling ((length bytes - y) * ticks) rate) limit) (instants_of bytes)
@@ -28,7 +28,7 @@ settled (b ∷ bytes) = joined b (settled bytes) ∷ settled bytes
 abbrev pub slice_time : ℕ
 slice_time = 100
 
--- a rate is in KB a second, which are bytes a millisecond
+-- each slice has the same size; a rate is in KB a second, which are bytes a millisecond
 abbrev pub rated_size : ℕ → ℕ → ℕ
 rated_size rate k = slice_time * rate
 

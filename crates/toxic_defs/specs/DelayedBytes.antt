@@ -1,4 +1,4 @@
--- Bytes of a line that leave later, under latency, a bandwidth or a slicer: each at an instant that the bytes up to it decide.
+-- Bytes of a line that leave later, under latency, a bandwidth or a slicer.
 use Rattle.std.specs.Prelude.{ℕ, ◌+◌, max, if◌then◌else◌, List, [], ◌∷◌, ◌++◌, map}
 use Rattle.reassembly.specs.RecordedLines.{LineByte}
 

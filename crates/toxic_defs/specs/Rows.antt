@@ -64,7 +64,7 @@ line_under f kind = run microseconds (rated 1000000 kind) known_key 0 f
 pub record ToxicRows : Type 0 where
   pub limit_closes : map (line_under hello_line) (LimitData 5 ∷ LimitData 4 ∷ LimitData 0 ∷ []) ≡ hello_line ∷ line_with (four_of_hello 1000) (close 1000) ∷ line_with [] (close 1000) ∷ []
   pub timeout_closes : map (line_under hello_line) (Timeout 0 ∷ Timeout 1 ∷ []) ≡ line_with [] live ∷ line_with [] (close 1000) ∷ []
-  -- a byte at the instant of the reset is lost, a FIN before it stays
+  -- a byte at the instant of the reset is dropped, a FIN before it stays
   pub peer_resets : map (line_under hello_line) (ResetPeer 0 ∷ ResetPeer 1 ∷ ResetPeer 2 ∷ ResetPeer 3 ∷ [])
       ≡ line_with [] (reset 0) ∷ line_with [] (reset 1000) ∷ line_with (hello 1000) (reset 2000) ∷ hello_line ∷ []
   pub closes_later : line_under hello_line (SlowClose 2) ≡ line_with (hello 1000) (fin 4000)

@@ -35,7 +35,7 @@ line_up_to (Some c) f = record {
   end = if is_after c.0 f.end then c.1 else f.end;
 }
 
--- bytes at the limit are lost, and an end there never comes
+-- bytes at the limit are dropped, and an end there never comes
 abbrev pub line_before : ℕ → Line → Line
 line_before limit f = record {
   bytes = filter (λ b. nat_lt b.at limit) f.bytes;
@@ -51,7 +51,7 @@ cut_line ticks up down f = line_before (horizon ticks) (line_up_to (first_closin
 abbrev pub closing_view : Closing → ℕ × End
 closing_view c = (c.at, end_view c.end)
 
--- the first instant whose bytes are lost: the one after the closing, or the limit
+-- the first instant whose bytes are dropped: the one after the closing, or the limit
 abbrev pub cut_instant : ℕ → Option (ℕ × End) → ℕ
 cut_instant limit None = limit
 cut_instant limit (Some c) = min (c.0 + 1) limit

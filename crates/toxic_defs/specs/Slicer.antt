@@ -9,7 +9,7 @@ use Rattle.toxic_defs.specs.Slices.{sliced}
 abbrev pub slice_size : (ℕ → ℕ) → ℕ → ℕ → ℕ → ℕ
 slice_size random average variation k = average - variation + random (1 + k) % (2 * variation + 1)
 
--- chunk k leaves `gap` after the one before it, and not before its own instant
+-- chunk k, the last of these, leaves `gap` after the one before it, and not before its own instant
 abbrev pub paced : ℕ → ℕ → ℕ → List ℕ → ℕ
 paced limit gap k ats = latest (λ j at. min (at + (k - j) * gap) limit) ats
 

@@ -38,7 +38,7 @@ IsFilled p = 0 < length p.bytes.now
 abbrev pub AreFilled : List LinePart → Type 0
 AreFilled parts = All IsFilled parts
 
--- `bytes`, after `before`, are cut from slice k on: `now` is cut, `rest` is not yet, the last slice still takes `more`. Any may follow.
+-- `bytes`, after `before`, are cut from slice k on: `now` is cut, `rest` is not yet, the last slice still takes `more`. Any bytes may follow.
 pub record CutOn (size : ℕ → ℕ) (k left : ℕ) (before bytes : List LineByte) (sizes : Sizes) (more : ℕ) (now rest : List LineByte) : Type 0 where
   pub number : ℕ
   pub gives : GivesSizes sizes size number

@@ -31,17 +31,17 @@ use Rattle.toxicap.specs.RunSummaries.{summary_of_texts}
 use Rattle.toxicap.specs.StoredOutputs.{StoresIn, DiskHistories}
 
 -- Statements about the reader and the writer that a run has for standard input and output. `Unread`: the reader is as it was. `Loaded`: loading
--- from it gave this text, or this fault. `output`: what was written. Nothing is said of what the disk reads at a path that leads there, such as
+-- from it gave this text, or this fault. `output`: what was written. Nothing is said of a path of the disk that leads to standard input, such as
 -- `/dev/stdin`.
 pub record Streams : Type 1 where
   pub Unread : Type 0
   pub Loaded : Result (List ℕ) RunFault → Type 0
   pub output : Written
 
--- The streams of a run. `r` and `s` are the reader before and after, and `remaining` gives the bytes that it has left. `w` and `x` are the writer
+-- The streams of a run. `r` and `r2` are the reader before and after, and `remaining` gives the bytes that it has left. `w` and `w2` are the writer
 -- before and after, and `contents` gives the bytes that it holds.
 abbrev pub streams : {R W : Type 0} → (R → Option (List ℕ)) → CountedView R → CountedView R → (W → Option (List ℕ)) → CountedView W → CountedView W → Streams
-streams remaining r s contents w x = record { Unread = s ≡ r; Loaded = LoadedBy remaining r s; output = written contents w x }
+streams remaining r r2 contents w w2 = record { Unread = r2 ≡ r; Loaded = LoadedBy remaining r r2; output = written contents w w2 }
 
 -- nothing was written, and as far as the disk tells no file was published
 abbrev pub Unchanged : DiskHistories → Streams → Type 0
@@ -66,20 +66,20 @@ RunsBy asked outcome disk s =
     AnswersInto asked.out (without_value outcome) (called_for hosts (texts_or_no_proxies files) asked.seed text) disk s
     × IfOk outcome (λ summary. summary_of_texts hosts (texts_or_no_proxies files) text ≡ Ok summary))))
 
--- the outcome of a command that is a run
+-- the outcome of a command, from that of its run
 abbrev pub of_run : Result RunSummary RunFault → Result (Option RunSummary) RunFault
 of_run (Ok summary) = Ok (Some summary)
 of_run (Err fault) = Err fault
 
--- how the program ends if its words have no usage fault
+-- how the program ends, except for a usage fault, which `ProgramEnds` has; `Shown` is help or the version
 abbrev pub CommandEnds : Result Asked Stop → Result (Option RunSummary) RunFault → DiskHistories → Streams → Type 0
 CommandEnds (Ok asked) outcome disk s = (run : Result RunSummary RunFault) × (outcome ≡ of_run run) × RunsBy asked run disk s
 CommandEnds (Err (stop.Shown text)) outcome disk s = WritesText (without_value outcome) (string_bytes text) s.output × IfOk outcome (λ summary. summary ≡ None) × s.Unread × (disk.after ≡ disk.before)
 CommandEnds (Err (stop.Usage text)) outcome disk s = ⊥
 CommandEnds (Err stop.Memory) outcome disk s = (outcome ≡ Err Memory) × Untouched disk s
 
--- The exit status of the program, and the outcome that it stands for. A usage fault has status 2. Its outcome is Ok None, since no run was begun.
--- Nothing is read, and only what tells the fault is written.
+-- The exit status of the program, and the outcome that it stands for. A usage fault has status 2, which alone tells it: the outcome is Ok None,
+-- since no run was begun. Nothing is read, and only the fault's text is written.
 abbrev pub ProgramEnds : Result Asked Stop → ℕ → Result (Option RunSummary) RunFault → DiskHistories → Streams → Written → Type 0
 ProgramEnds (Err (stop.Usage text)) status outcome disk s faults =
     (status ≡ usage_status) × (outcome ≡ Ok None) × WrittenSoFar (string_bytes text) faults × Untouched disk s
@@ -92,7 +92,7 @@ abbrev pub folder_of : Result Asked Stop → Option (Bor (List ℕ))
 folder_of (Ok asked) = asked.out
 folder_of (Err _) = None
 
--- The number of the disk's calls that failed in a run with this outcome, 0 or 1. These calls hold a folder, check a path or publish a draft.
+-- How many of the disk's calls that hold a folder, check a path or publish a draft failed in a run with this outcome: 0 or 1.
 abbrev pub failed_calls : Option (Bor (List ℕ)) → Result (Unit {0}) RunFault → ℕ
 failed_calls None outcome = 0
 failed_calls (Some folder) outcome = failed_stores folder.now outcome

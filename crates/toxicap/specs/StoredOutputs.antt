@@ -17,8 +17,8 @@ pub record DiskHistories : Type 0 where
 abbrev pub disk_histories : Option History → Option History → DiskHistories
 disk_histories before after = record { before = before; after = after }
 
--- How storing files ends, where `Committed` says which files were: on Ok all; if the folder fails, the first `after`; if memory runs out, some
--- first ones, never the last.
+-- How storing files ends. On Ok all files were committed. If the folder fails, the first `after` were; if memory runs out, some first ones,
+-- never the last.
 abbrev pub StoresFiles : Result (Unit {0}) RunFault → List StoredFile → (List StoredFile → Type 0) → Type 0
 StoresFiles (Ok _) files Committed = Committed files
 StoresFiles (Err (ShelfFailed after)) files Committed = (after < length files) × Committed (take after files)

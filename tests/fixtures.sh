@@ -271,6 +271,16 @@ verdict "standard output full" "$(fault 2; told faults $'fixtures: standard outp
 status=0
 (cd "$work/project" && "$examples/fixtures" verify >&- 2> "$work/faults") || status=$?
 verdict "standard output closed" "$(fault 2; told faults $'fixtures: standard output is closed\n')"
+# No room for the manifest: a script stands for the program, whose files have no bytes.
+printf '%s\n' '#!/bin/sh' 'for word; do case $word in' '--version) echo toxicap 0 ;;' '--out=*) : > "${word#*=}/0000.pcap"; : > "${word#*=}/0000.txt" ;;' 'esac; done' > "$work/empty"
+chmod +x "$work/empty"
+project
+keep
+for command in make verify; do
+    told=$( (cd "$work/project"; ulimit -f 0; TOXICAP=$work/empty "$examples/fixtures" $command < /dev/null 2>&1 || echo "status $?") )
+    verdict "no room for a file: $command" \
+        "$([[ $told = $'fixtures: a file beside the fixtures or of TMPDIR: File too large\nstatus 2' ]] || echo "$told"; folder_difference "$work/before" "$work/project")"
+done
 mkdir -p "$work/release/bin" "$work/release/share/toxicap/examples"
 cp "$examples/fixtures" "$work/release/share/toxicap/examples"
 ln -s ../share/toxicap/examples/fixtures "$work/release/bin/toxicap-fixtures"

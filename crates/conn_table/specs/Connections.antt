@@ -1,4 +1,5 @@
--- Connections: the segments of each pair of peers, from a beginning up to the pair's next one, by filtering the list of all segments.
+-- Connections: of each pair of peers and their VLAN the segments from a beginning on, before the pair's next one. Each filters the list of all
+-- segments.
 use Rattle.std.specs.Prelude.{ℕ, List, length, map, filter, Option, Some, None, is_none, Bool, false, ◌&&◌, ◌==◌, not, nat_lt, nat_le}
 use Rattle.std.specs.List.{enumerate_from, last_or}
 use Rattle.frame_headers.specs.Flags.{has_flag, syn_flag, ack_flag, rst_flag}
@@ -14,7 +15,7 @@ is_opening s = has_flag s.timed.fields.flags syn_flag && not (has_flag s.timed.f
 abbrev pub of_one_pair : IndexedSegment → IndexedSegment → Bool
 of_one_pair s x = same_pair (pair_of_segment x) (pair_of_segment s)
 
--- an opening repeats the last one before it if both have one sender and one sequence number
+-- an opening repeats the last one before it if both have the same sender and sequence number
 abbrev pub repeats : Option IndexedSegment → IndexedSegment → Bool
 repeats None s = false
 repeats (Some last) s = same_peer last.timed.fields.from s.timed.fields.from && (last.timed.fields.seq == s.timed.fields.seq)
@@ -23,14 +24,14 @@ repeats (Some last) s = same_peer last.timed.fields.from s.timed.fields.from && 
 abbrev pub openings_before : List IndexedSegment → IndexedSegment → List IndexedSegment
 openings_before segs s = filter (λ x. is_opening x && of_one_pair s x && nat_lt x.index s.index) segs
 
--- an opening begins a connection unless it repeats the last opening of its pair
+-- an opening begins a connection unless it repeats the last opening of its pair before it
 abbrev pub begins_in : List IndexedSegment → IndexedSegment → Bool
 begins_in segs s = is_opening s && not (repeats (last_of (openings_before segs s)) s)
 
 unfoldable pub beginnings : List IndexedSegment → List IndexedSegment
 beginnings segs = filter (begins_in segs) segs
 
--- the beginning of its connection: the last one of its pair at or before it
+-- the beginning of a segment's connection: the last one of its pair that is the segment, or stands before it
 abbrev pub beginning_of : List IndexedSegment → IndexedSegment → Option IndexedSegment
 beginning_of segs s = last_of (filter (λ b. of_one_pair s b && nat_le b.index s.index) (beginnings segs))
 
@@ -54,7 +55,7 @@ connection_of segs (number, b) = record { number = number; opening = b.timed; la
 unfoldable pub connections : List IndexedSegment → List Connection
 connections segs = map (connection_of segs) (enumerate_from 0 (beginnings segs))
 
--- no beginning of its pair stands at or before it
+-- a segment that no beginning of its pair is, or stands before
 abbrev pub is_unopened : List IndexedSegment → IndexedSegment → Bool
 is_unopened segs s = is_none (beginning_of segs s)
 

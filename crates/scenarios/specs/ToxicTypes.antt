@@ -1,4 +1,4 @@
--- Types, streams and numbers of toxics, as a file gives them, and toxics written as JSON.
+-- Types, streams and attributes of toxics, as a file gives them, and toxics written as JSON.
 use Rattle.std.specs.Prelude.{ℕ, ◌+◌, ◌*◌, ◌&&◌, List, [], ◌∷◌, ◌++◌, codes, bytes_eq, decimal, nat_le, if◌then◌else◌, Option, Some, None}
 use Rattle.serde_json.specs.Data.{unsigned, Data, number, string, object, Members, member, no_members}
 use Rattle.toxic_defs.specs.declared.kinds.Kind.{Kind}
@@ -45,17 +45,17 @@ stream_named text =
 abbrev pub default_name : ToxicType → Stream → List ℕ
 default_name type_is way = type_name type_is ++ codes "_" ++ stream_name way
 
--- the text in the file, unless it is empty
+-- the text in the file, or the default name if it is empty
 abbrev pub name_of : List ℕ → ToxicType → Stream → List ℕ
 name_of text type_is way = if bytes_eq text [] then default_name type_is way else text
 
--- ---- numbers
+-- ---- attributes
 
--- an attribute of a toxic: a whole number, 0 if it is absent
+-- an attribute of a toxic: a whole number, 0 if it is absent, None if it is anything else
 abbrev pub attribute : List ℕ → Data → Option ℕ
 attribute name d = absent_as (Some 0) (optional_whole 0 name) (field (codes "attributes") d)
 
--- the kind that a type and its own attributes make, if each is a whole number
+-- the kind that a type and the attributes of this type make, if each is a whole number
 abbrev pub kind_of : ToxicType → Data → Option Kind
 kind_of ToxicType.Latency d = do
   latency ← attribute (codes "latency") d
@@ -87,7 +87,7 @@ kind_in_range type_is d = do
   kind ← kind_of type_is d
   if fits kind then Some kind else None
 
--- a toxicity of 1 or 0 means all or none, unless `toxicity_ppm` gives a number; both have to be whole numbers in range
+-- A toxicity of 1, the default, means all connections, and 0 none, unless `toxicity_ppm` gives a number. Both have to be whole numbers in range.
 abbrev pub ppm_of : Data → Option ℕ
 ppm_of d = do
   toxicity ← optional_whole 1 (codes "toxicity") d
@@ -108,7 +108,7 @@ type_of (LimitData bytes) = ToxicType.LimitData
 abbrev pub whole_data : ℕ → Data
 whole_data n = number (unsigned n)
 
--- in the order of their names
+-- sorted by name
 abbrev pub attributes_data : Kind → Members
 attributes_data (Latency latency jitter) =
     member (codes "jitter") (whole_data jitter)

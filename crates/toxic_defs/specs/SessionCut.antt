@@ -6,13 +6,14 @@ use Rattle.reassembly.specs.LineView.{end_view}
 use Rattle.toxic_defs.specs.EndRule.{is_before}
 use Rattle.toxic_defs.specs.declared.session_cut.Closing.{Closing}
 
--- the closing of an end: a close or a reset, and its instant
+-- a closing: a close or a reset, with its instant
 abbrev pub closing_end : End → Option (ℕ × End)
 closing_end live = None
 closing_end (fin at) = None
 closing_end (close at) = Some (at, close at)
 closing_end (reset at) = Some (at, reset at)
 
+-- the earlier closing, or the first of two at one instant
 abbrev pub first_closing : Option (ℕ × End) → Option (ℕ × End) → Option (ℕ × End)
 first_closing None d = d
 first_closing (Some u) None = Some u
@@ -27,7 +28,7 @@ is_after c (reset at) = nat_lt c at
 
 -- ---- the cut
 
--- the bytes up to the instant stay, and an end after it becomes the closing one
+-- the bytes up to the closing's instant stay, and an end after it becomes the closing
 abbrev pub line_up_to : Option (ℕ × End) → Line → Line
 line_up_to None f = f
 line_up_to (Some c) f = record {
@@ -35,14 +36,14 @@ line_up_to (Some c) f = record {
   end = if is_after c.0 f.end then c.1 else f.end;
 }
 
--- bytes at the limit are dropped, and an end there never comes
+-- bytes at the limit or after it are dropped, and an end there never comes
 abbrev pub line_before : ℕ → Line → Line
 line_before limit f = record {
   bytes = filter (λ b. nat_lt b.at limit) f.bytes;
   end = if is_before limit f.end then f.end else live;
 }
 
--- one direction, cut at the first closing of either; if both close at one instant, neither end changes
+-- one direction, cut at the first closing of either; if both close at one instant before the horizon, each keeps its end
 unfoldable pub cut_line : ℕ → Line → Line → Line → Line
 cut_line ticks up down f = line_before (horizon ticks) (line_up_to (first_closing (closing_end up.end) (closing_end down.end)) f)
 

@@ -1,4 +1,4 @@
--- The answer to a rehearsal: for each scenario a capture and a report. `connections` filters the whole list of packets for one connection after
+-- The answer to a rehearsal: for each scenario a capture and a report. `connections` filters the whole list of segments for one connection after
 -- another.
 use Rattle.std.specs.Prelude.{◌≡◌, ℕ, List, length, map, nat_lt, if◌then◌else◌, Result, Ok, Err}
 use Rattle.std.specs.List.{enumerate_from, flat_map}
@@ -17,7 +17,7 @@ pub use Rattle.conn_workers.specs.DeliveryRows.{scenario_limit}
 use Rattle.time_merge.specs.MergedCapture.{capture_of}
 use Rattle.report.specs.ReportText.{report_text}
 
--- what each connection contributes, in order of the connections' numbers, under a scenario: its number, and its proxies in order
+-- what each connection contributes under a scenario, in order of their numbers; a scenario is its own number and its proxies in order
 abbrev pub contributions : SeenCapture → ℕ → ℕ × List Proxy → List Contribution
 contributions c seed scenario = map (contribution_of c.ticks seed scenario) (connections (indexed_segments 0 c.packets))
 
@@ -27,7 +27,7 @@ scenario_output c seed scenario = record {
   report = report_text scenario.0 c (unopened_count (indexed_segments 0 c.packets)) (map (λ p. p.line) (contributions c seed scenario));
 }
 
--- an output for each scenario; a seen capture does not tell the order of the bytes in its file's fields
+-- the outputs of the scenarios; a seen capture does not tell in which order its file has the bytes of a field
 unfoldable pub outputs_of : SeenCapture → List (List Proxy) → ℕ → List Output
 outputs_of c scenarios seed = map (scenario_output c seed) (enumerate_from 0 scenarios)
 

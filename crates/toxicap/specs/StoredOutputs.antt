@@ -17,7 +17,7 @@ pub record DiskHistories : Type 0 where
 abbrev pub disk_histories : Option History → Option History → DiskHistories
 disk_histories before after = record { before = before; after = after }
 
--- How storing files ends. On Ok all files were committed. If the folder fails, the first `after` were; if memory runs out, some first ones,
+-- How storing files ends. On Ok all files were committed. On ShelfFailed the first `after` were; if memory runs out, none or some first ones,
 -- never the last.
 abbrev pub StoresFiles : Result (Unit {0}) RunFault → List StoredFile → (List StoredFile → Type 0) → Type 0
 StoresFiles (Ok _) files Committed = Committed files
@@ -25,7 +25,7 @@ StoresFiles (Err (ShelfFailed after)) files Committed = (after < length files) �
 StoresFiles (Err Memory) files Committed = (stored : ℕ) × (stored ≤ length files - 1) × Committed (take stored files)
 StoresFiles (Err _) files Committed = ⊥
 
--- How storing in a folder ends, by what is expected: if that is a fault, no file is published. Else files are stored in order until one fails.
+-- How storing in a folder ends. If a fault is expected, no file is published. Else files are committed in order until one fails or memory runs out.
 -- At any moment each path held what it had held before, or one of these files whole; drafts are in no history.
 abbrev pub StoresIn : List ℕ → Result (Unit {0}) RunFault → Result (List Output) RunFault → DiskHistories → Type 0
 StoresIn folder outcome expected disk = Step (UnlessMemory expected) outcome (disk.after ≡ disk.before) (λ outputs.

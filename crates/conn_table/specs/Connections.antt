@@ -55,7 +55,7 @@ connection_of segs (number, b) = record { number = number; opening = b.timed; la
 unfoldable pub connections : List IndexedSegment → List Connection
 connections segs = map (connection_of segs) (enumerate_from 0 (beginnings segs))
 
--- a segment that no beginning of its pair is, or stands before
+-- a segment before each beginning of its pair, or of a pair that has none
 abbrev pub is_unopened : List IndexedSegment → IndexedSegment → Bool
 is_unopened segs s = is_none (beginning_of segs s)
 

@@ -26,8 +26,9 @@ use std::thread::Threads;
 
 const NO_TEXT: &[u8] = b"error: a word of the command line is not text in UTF-8";
 
-/// The whole program on the arguments after its name. It reads what they name, and the capture from `input` if they name none. Then it
-/// rehearses, prints or stores the outputs, prints a refusal on `faults`, and returns the exit status.
+/// The whole program on the arguments after its name, with the host's disk; [`command_over`] takes any disk. It reads what they name, and the
+/// capture from `input` if they name none. Then it rehearses, prints or stores the outputs, prints a refusal on `faults`, and returns the exit
+/// status.
 ///
 /// The status is 0, 1 for a refusal, whose line is written with a line feed, or 2 for a fault of the command line, whose text is written;
 /// nothing is read then. `--help` and `--version` are written on `output`. Refusals come in this order: hosts, scenario files as bytes, the

@@ -102,6 +102,18 @@ a.json: proxy 0 toxic 1 (slow_close_downstream): effect on 0 of 2 connections; o
 a.json: proxy 0 toxic 2 (latency_upstream): effect on 1 of 2 connections; on 1: no bytes flow upstream (downstream up to 0 bytes)" \
     --capture upload.dump --scenario a.json
 
+# Two reasons, in order of connections: connection 1 has no bytes of the server, 8 no SYN ACK.
+for number in {0..10}; do
+    client=10.0.0.1:$((50000 + number))
+    echo "$number.000000 $client>s SYN 1000 0"
+    [ "$number" = 8 ] || echo "$number.000100 s>$client SYN ACK 5000 1001"
+    [ "$number" = 1 ] || [ "$number" = 8 ] || echo "$number.000200 s>$client PSH ACK 5001 1001 \"hello\""
+done | made eleven.dump
+server a.json '{"type": "latency", "attributes": {"latency": 1}}'
+explains "two reasons" 0 "a.json: proxy 0 (s, 10.0.0.2:80): met by 11 connections
+a.json: proxy 0 toxic 0 (latency_downstream): effect on 9 of 11 connections; on 1: no bytes flow downstream (upstream up to 0 bytes); \
+on 1: no bytes flow downstream: the server's SYN ACK was not recorded" --capture eleven.dump --scenario a.json
+
 # By docs/use/rules.md word 0 modulo a million of connections 0, 2 and 3 is 107503, 837121 and 768073 for toxic 0 downstream of scenario 0 under the
 # seed 1, and 550896, 254620 and 676496 for that of scenario 1. Connection 3 has 7 bytes downstream, the others have over 3,000.
 redis a.json '{"type": "latency", "toxicity_ppm": 600000, "attributes": {"latency": 300}}, {"type": "limit_data", "attributes": {"bytes": 7}}'

@@ -262,6 +262,15 @@ verdict "lines with control characters" "$(listed 1 "changed program toxi\\ncap 
 # Recipes of all shapes: each ends with a line.
 project
 verdict "recipes of all shapes" "$(cd "$work/project" && python3 "$recipes" "$examples/fixtures" 60 1 2>&1)"
+# No room for the manifest: a script stands for the program, whose files have no bytes. Python finds no folder for verify then.
+printf '%s\n' '#!/bin/sh' 'for word; do case $word in' '--version) echo toxicap 0 ;;' '--out=*) : > "${word#*=}/0000.pcap"; : > "${word#*=}/0000.txt" ;;' 'esac; done' > "$work/empty"
+chmod +x "$work/empty"
+project
+keep
+for command in make verify; do
+    told=$( (cd "$work/project"; ulimit -f 0; TOXICAP=$work/empty "$examples/fixtures" $command < /dev/null 2>&1 || echo "status $?") )
+    verdict "no room for a file: $command" "$([[ $told = $'fixtures: a file beside the fixtures or of TMPDIR: '[FN]*$'\nstatus 2' ]] || echo "$told"; folder_difference "$work/before" "$work/project")"
+done
 # Standard output that takes nothing; the program beside the tool, and the name of both.
 project
 rm "$work/project/fixtures/redis-down.txt"
@@ -271,16 +280,6 @@ verdict "standard output full" "$(fault 2; told faults $'fixtures: standard outp
 status=0
 (cd "$work/project" && "$examples/fixtures" verify >&- 2> "$work/faults") || status=$?
 verdict "standard output closed" "$(fault 2; told faults $'fixtures: standard output is closed\n')"
-# No room for the manifest: a script stands for the program, whose files have no bytes.
-printf '%s\n' '#!/bin/sh' 'for word; do case $word in' '--version) echo toxicap 0 ;;' '--out=*) : > "${word#*=}/0000.pcap"; : > "${word#*=}/0000.txt" ;;' 'esac; done' > "$work/empty"
-chmod +x "$work/empty"
-project
-keep
-for command in make verify; do
-    told=$( (cd "$work/project"; ulimit -f 0; TOXICAP=$work/empty "$examples/fixtures" $command < /dev/null 2>&1 || echo "status $?") )
-    verdict "no room for a file: $command" \
-        "$([[ $told = $'fixtures: a file beside the fixtures or of TMPDIR: File too large\nstatus 2' ]] || echo "$told"; folder_difference "$work/before" "$work/project")"
-done
 mkdir -p "$work/release/bin" "$work/release/share/toxicap/examples"
 cp "$examples/fixtures" "$work/release/share/toxicap/examples"
 ln -s ../share/toxicap/examples/fixtures "$work/release/bin/toxicap-fixtures"

@@ -1,5 +1,5 @@
--- Connections: of each pair of peers and their VLAN the segments from a beginning on, before the pair's next one. Each filters the list of all
--- segments.
+-- Connections: of each pair of peers and their VLAN the segments from a beginning on, before the pair's next one. The
+-- definitions filter the list of all segments.
 use Rattle.std.specs.Prelude.{ℕ, List, length, map, filter, Option, Some, None, is_none, Bool, false, ◌&&◌, ◌==◌, not, nat_lt, nat_le}
 use Rattle.std.specs.List.{enumerate_from, last_or}
 use Rattle.frame_headers.specs.Flags.{has_flag, syn_flag, ack_flag, rst_flag}

@@ -41,7 +41,7 @@ abbrev pub HoldsOneOf : List PublishedFile → List ℕ → Option FileContents 
 HoldsOneOf [] path held = ⊥
 HoldsOneOf (file ∷ files) path held = ((file.path ≡ path) × (held ≡ Some (whole_file file.bytes))) ⊎ HoldsOneOf files path held
 
--- At each moment from the first history to the second, each path held what it held in the first, or one of these files whole. Drafts are in no history.
+-- At each moment from the first history to the second, each path held what it held in the first, or one of these files whole. No history has drafts.
 abbrev pub LeavesWhole : Option History → Option History → List PublishedFile → Type 0
 LeavesWhole (Some h) (Some k) files = (n : ℕ) → length h.published ≤ n → n ≤ length k.published → (path : List ℕ)
     → (held_at k n path ≡ held_now h path) ⊎ HoldsOneOf files path (held_at k n path)

@@ -89,8 +89,8 @@ Fits n seat (Leads limit made back told jobs) = (seat ≡ 0) × (limit ≡ n) ×
 Fits n seat (Claims limit told jobs) = (seat ≢ 0) × (limit ≡ n) × (told ≤ 1)
 Fits n seat Spent = seat ≢ 0
 
--- The rule of a board: its word, and what all seats know, also those of dropped passes. `once`: the numbers below the word and n were claimed once, no others;
--- `over`: the word went past n once for each pass that was told so; `passes`: a pass that was made is out or came back.
+-- The rule of a board: its word, and what all seats know, also those of dropped passes. `once`: the numbers below the word and n were claimed once,
+-- and no others; `over`: the word went past n once for each pass that was told so; `passes`: a pass that was made is out or came back.
 pub record Kept (n : ℕ) (words : List ℕ) (views : List SeatView) : Type 0 where
   pub next : ℕ
   pub word : words ≡ next ∷ []

@@ -60,6 +60,7 @@ end_text opened (fin at) = codes "fin+" ++ decimal (at - opened)
 end_text opened (close at) = codes "close+" ++ decimal (at - opened)
 end_text opened (reset at) = codes "reset+" ++ decimal (at - opened)
 
+-- "refused" stands for the end of a refused connection
 abbrev pub end_word : Bool → ℕ → End → List ℕ
 end_word true opened e = codes "refused"
 end_word false opened e = end_text opened e
@@ -96,12 +97,13 @@ connection_text number vlan client server r d =
 
 -- ---- lines that a report can describe
 
--- the lines of both directions have fewer than 2^32 bytes
+-- the lines of the client and of the server have fewer than 2^32 bytes, as the report's writer needs
 pub record AreShort (client server : Line) : Type 0 where
   pub up : length client.bytes < 2 ^ 32
   pub down : length server.bytes < 2 ^ 32
 
 -- ---- a report
 
+-- the report of scenario s: the counts of the capture c, and the connections with their lines
 unfoldable pub report_text : ℕ → SeenCapture → ℕ → List (List ℕ) → List ℕ
 report_text s c unopened lines = counts_text s c ++ (connections_text (length lines) unopened ++ flat_map (λ line. line) lines)

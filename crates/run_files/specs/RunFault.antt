@@ -29,7 +29,8 @@ abbrev pub outcome_of_storing : Result (Unit {0}) StoreFault → Result (Unit {0
 outcome_of_storing (Ok stored) = Ok stored
 outcome_of_storing (Err fault) = Err (run_fault_of_storing fault)
 
--- How many calls of the disk failed if storing ended so: one if a file could not be stored, but none if the folder is refused before a call.
+-- How many calls of the disk failed if storing ended so: one if a file could not be stored. If `refused`, no call was made: the folder refuses the
+-- file's name, or the folder's path is empty.
 abbrev pub failed_puts : Bool → Result (Unit {0}) RunFault → ℕ
 failed_puts refused (Err (of_run.ShelfFailed after)) = if refused then 0 else 1
 failed_puts refused _ = 0

@@ -10,7 +10,8 @@ use Rattle.toxic_defs.specs.Slices.{sliced}
 abbrev pub ceiling : ℕ → ℕ → ℕ
 ceiling n d = (n + (d - 1)) / d
 
--- Each byte holds the wire for 1/`rate` of a millisecond, which has `ticks` ticks here, after its instant and the bytes before it. Only the sum is rounded up.
+-- Each byte holds the wire for 1/`rate` of a millisecond, which has `ticks` ticks here, after its instant and the bytes before it. Only the sum is
+-- rounded up.
 abbrev pub bandwidth_leaves : ℕ → ℕ → ℕ → List LineByte → ℕ
 bandwidth_leaves limit ticks rate bytes =
     latest (λ y at. min (at + ceiling ((length bytes - y) * ticks) rate) limit) (instants_of bytes)

@@ -72,7 +72,7 @@ run ticks toxic key opened f = if applies toxic key then ended (effect ticks (wo
 
 -- ---- a chain
 
--- the toxics in turn, each on the line that the one before gave; s, c and d are the numbers of scenario, connection and direction, t the first toxic's
+-- The toxics in turn, each on the line that the one before gave. s, c, d and t are the numbers of scenario, connection, direction and first toxic.
 abbrev pub chain_from : ℕ → ℕ → ℕ → ℕ → ℕ → ℕ → ℕ → List RatedKind → Line → Line
 chain_from ticks opened seed s c d t [] f = f
 chain_from ticks opened seed s c d t (toxic ∷ toxics) f =

@@ -1,7 +1,7 @@
 -- How the program ends on a command line.
 --
 -- Refusals come in this order, and only the first is told:
---   1. a fault of the command line, status 2: nothing is read, and only what tells it is written (`ProgramEnds`);
+--   1. a fault of the command line, status 2: nothing is read, and only the fault's text is written (`ProgramEnds`);
 --   2. a host (`hosts_asked`, in Inputs);
 --   3. a scenario file that cannot be opened or read, or is too long: the first in order (`LoadsFiles`, in Inputs);
 --   4. the capture, from a named file or standard input: it cannot be opened or read, or is too long (`LoadsCapture`, in Inputs);
@@ -78,8 +78,8 @@ CommandEnds (Err (stop.Shown text)) outcome disk s = WritesText (without_value o
 CommandEnds (Err (stop.Usage text)) outcome disk s = ⊥
 CommandEnds (Err stop.Memory) outcome disk s = (outcome ≡ Err Memory) × Untouched disk s
 
--- The exit status of the program, and the outcome that it stands for. A usage fault has status 2, which alone tells it: the outcome is Ok None,
--- since no run was begun. Nothing is read, and only the fault's text is written.
+-- The exit status of the program, and the outcome that it stands for. A usage fault has the outcome Ok None, since no run was begun: its status, 2,
+-- and its text tell it. Nothing is read, and only that text is written.
 abbrev pub ProgramEnds : Result Asked Stop → ℕ → Result (Option RunSummary) RunFault → DiskHistories → Streams → Written → Type 0
 ProgramEnds (Err (stop.Usage text)) status outcome disk s faults =
     (status ≡ usage_status) × (outcome ≡ Ok None) × WrittenSoFar (string_bytes text) faults × Untouched disk s

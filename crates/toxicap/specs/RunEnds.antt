@@ -27,7 +27,7 @@ without_value (Err fault) = Err fault
 
 -- ---- what is written
 
--- What is said of a writer over a run: it wrote nothing; it wrote this whole text, and no write failed; it wrote this text, and then one write failed.
+-- Statements about a writer over a run: it wrote nothing; it wrote this whole text, and no write failed; it wrote this text, and then a write failed.
 pub record Written : Type 1 where
   pub Unwritten : Type 0
   pub Wrote : List ℕ → Type 0

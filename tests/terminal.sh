@@ -41,6 +41,7 @@ tips() {
 }
 ranges='--seed takes a whole number from 0 to 18446744073709551615, --workers from 1 to 16, --cut from 1 to 1048576'
 tips 'pass the capture with --capture x.pcap' x.pcap
+tips 'pass the capture with --capture too large.pcap' "'too large.pcap'"
 tips 'pass the scenario with --scenario cut.json' '--capture x.pcap cut.json'
 tips "$ranges" '--seed -1'
 tips "$ranges" '--seed x'
@@ -138,6 +139,9 @@ printf 'a text\n' > "$here/text.txt"
 helps 'refused 55 BadDump at 2' "text.txt $taken no hexadecimal digit is at line 1 column 3: $give" '--capture text.txt'
 helps 'refused 55 BadDump at 16' "dump.txt $taken no hexadecimal digit is at line 2 column 7: $give" '--capture dump.txt'
 helps 'refused 55 BadDump at 12' "odd.txt $taken its last byte has but one hexadecimal digit: $give" '--capture odd.txt'
+printf 'd4c3b2a1 0200\n' > "$here/few.txt"
+helps 'refused 1 ShortHeader' 'few.txt is read as a dump, by its first byte, of fewer than 24 bytes: the recording was stopped too early, or it is another file' \
+    '--capture few.txt'
 helps 'refused 55 BadDump at 16' "standard input $taken byte 16 is no hexadecimal digit, or its last byte has but one: $give" '< dump.txt'
 
 # scene LINE REMEDY SCENARIO: the same of a scenario, s.json.
@@ -178,6 +182,9 @@ scene 'refused 18 DuplicateToxic scenario 0 proxy 0 toxic 1' ', proxy 0 "web", t
 scene 'refused 18 DuplicateToxic scenario 0 proxy 0 toxic 1' \
     ', proxy 0 "web", toxic 1: an earlier toxic of the proxy has the name "timeout_downstream", which it has too without a "name": give it one' \
     "[{$web,\"toxics\":[{\"type\":\"timeout\"},{\"type\":\"timeout\"}]}]"
+scene 'refused 18 DuplicateToxic scenario 0 proxy 0 toxic 1' \
+    ', proxy 0 "web", toxic 1: an earlier toxic of the proxy has the name "timeout_downstream", which it has too without a "name": give it one' \
+    "[{$web,\"toxics\":[{\"type\":\"timeout\"},{\"type\":\"timeout\",\"stream\":\"\"}]}]"
 
 # limits FIELDS REMEDY: a toxic with these fields is refused for an attribute.
 limits() { scene 'refused 19 AttributeRange scenario 0 proxy 0 toxic 0' ", proxy 0 \"web\", toxic 0: its $2 is expected" "[{$web,\"toxics\":[{$1}]}]"; }
@@ -228,6 +235,9 @@ helps 'refused 22 TooManyScenarios' '257 scenarios were named, and a run takes 2
 helps 'refused 23 BadHost host 1' '--host web: NAME=ADDR with an IPv4 address is expected, such as redis=10.0.0.9' '--host a=10.0.0.9 --host web'
 helps 'refused 23 BadHost host 0' '--host web=10.0.0.256: NAME=ADDR with an IPv4 address is expected, such as redis=10.0.0.9' '--host web=10.0.0.256'
 helps 'refused 23 BadHost host 1' '--host web=10.0.0.9: an earlier --host has the name' '--host web=10.0.0.2 --host web=10.0.0.9'
+for name in 'my host' 10.0.0.1 ''; do
+    helps 'refused 23 BadHost host 0' "--host $name=10.0.0.9: a name of letters, digits, -, _ and . is expected, and no address" "--host '$name=10.0.0.9'"
+done
 cp "$here/shop.pcap" "$here/wide.pcap"
 truncate -s 200M "$here/wide.pcap"
 verdict "refused 40 Memory" "$(
@@ -248,7 +258,7 @@ cp "$here/shop.pcap" "$here/taken/0000.pcap"
 ln "$here/web.json" "$here/linked/0000.txt"
 helps 'refused 60 ShelfFailed after 1' 'out/0000.txt is a folder: move it, or choose another --out' '--capture shop.pcap --out out'
 helps 'refused 60 ShelfFailed after 1' 'piped/0000.txt is no file: move it, or choose another --out' '--capture shop.pcap --out piped'
-helps 'refused 60 ShelfFailed after 0' 'drafted/toxicap.unfinished-0 stands where files are first written: move it, or choose another --out' \
+helps 'refused 60 ShelfFailed after 0' 'drafted/toxicap.unfinished-0 stands where files are first written: wait for other runs of this folder, then move it, or choose another --out' \
     '--capture shop.pcap --out drafted'
 helps 'refused 60 ShelfFailed after 0' 'taken/0000.pcap: the run has read it, and it is not replaced: choose another --out' '--capture taken/0000.pcap --out taken'
 helps 'refused 60 ShelfFailed after 0' 'taken/0000.pcap: the run has read it, and it is not replaced: choose another --out' '--out taken < taken/0000.pcap'
@@ -260,6 +270,10 @@ helps 'refused 61 ReadFailed' 'nothing: No such file or directory' '--capture no
 helps 'refused 61 ReadFailed' '"": No such file or directory' "--capture ''"
 helps 'refused 61 ReadFailed' 'out: Is a directory' '--capture nothing --scenario bare.json --scenario out'
 helps 'refused 61 ReadFailed' 'standard input cannot be read: --capture names a file' '< .'
+python3 -c 'import socket, sys; socket.socket(socket.AF_UNIX).bind(sys.argv[1])' "$here/socket"
+socket='socket is no regular file, and may be what cannot be read: name a regular file in its place'
+helps 'refused 61 ReadFailed' "$socket" '--capture socket'
+helps 'refused 61 ReadFailed' "$socket" '--scenario socket < shop.pcap'
 if [ "$(id -u)" != 0 ]; then
     touch "$here/closed"
     chmod 0 "$here/closed"
@@ -286,6 +300,8 @@ capture byte.pcap $(awk -f tests/capture.awk << 'EOT'
 1.002000 c>s PSH ACK 1003 1 "c"
 EOT
 )
+# shellcheck disable=SC2046
+capture nine.pcap $(for n in {1..9}; do echo "1.00000$n c>10.77.1.$n:80 SYN 1000 0"; done | awk -f tests/capture.awk)
 capture nano.pcap 4d3cb2a1 "$start" 01000000
 capture short.pcap d4c3b2a1 "$start" 01000000 01000000 00000000 02000000 02000000 abcd
 sums '4 connections, 0 with a proxy; times in microseconds' '--capture shop.pcap'
@@ -294,12 +310,14 @@ servers='servers 10.77.0.3:6379 10.77.0.2:80'
 sums "scenario 0: 4 connections, 0 with a proxy; $servers; times in microseconds" '--capture shop.pcap --scenario bare.json --scenario web.json'
 sums "scenario 0: 4 connections, 1 with a proxy; scenario 1: 0 with a proxy; scenario 3: 0 with a proxy; $servers; times in microseconds" \
     '--capture shop.pcap --scenario web.json --scenario bare.json --scenario web.json --scenario bare.json'
+sums "9 connections, 0 with a proxy; servers$(printf ' 10.77.1.%s:80' {1..7}) ..; times in microseconds" '--capture nine.pcap --scenario bare.json'
 sums '1 connection, 0 with a proxy; times in microseconds' '--capture whole.pcap'
 sums '1 connection, 0 with a proxy; 1250 bytes lost; times in microseconds' '--capture hole.pcap'
 sums '1 connection, 0 with a proxy; 1 byte lost; times in microseconds' '--capture byte.pcap'
 sums '0 connections, 0 with a proxy; 3 segments without an opening; times in microseconds' '--capture late.pcap'
 sums '0 connections, 0 with a proxy; 1 segment without an opening; times in microseconds' '--capture alone.pcap'
 sums '0 connections, 0 with a proxy; times in nanoseconds' '--capture nano.pcap'
+sums '0 connections, 0 with a proxy; times in nanoseconds' '--capture nano.pcap --scenario bare.json'
 sums '0 connections, 0 with a proxy; 1 of 1 records short; times in microseconds' '--capture short.pcap'
 sums '0 connections, 0 with a proxy; 7 bytes of a record that is cut off; 1 of 1 records short' "< '$PWD/crates/toxicap_program/stdin'"
 head -c -1 "$here/whole.pcap" > "$here/cut.pcap"

@@ -44,12 +44,15 @@ func hostHint(number int, hosts []string) string {
 	}
 	name, addr, _ := strings.Cut(hosts[number], "=")
 	about := fmt.Sprintf("host %d %s: ", number, quoted(hosts[number]))
+	if !isAddr(addr) {
+		return about + "NAME=ADDR with an IPv4 address is expected, such as redis=10.0.0.9"
+	}
 	for _, earlier := range hosts[:number] {
-		if given, _, _ := strings.Cut(earlier, "="); given == name && isAddr(addr) {
+		if given, _, _ := strings.Cut(earlier, "="); given == name {
 			return about + "an earlier host has the name"
 		}
 	}
-	return about + "NAME=ADDR with an IPv4 address is expected, such as redis=10.0.0.9"
+	return about + "a name of letters, digits, -, _ and . is expected, and no address"
 }
 
 func isAddr(text string) bool { return net.ParseIP(text).To4() != nil && !strings.Contains(text, ":") }
@@ -83,6 +86,9 @@ func captureHint(kind Kind, capture []byte, at int) string {
 			return "is a dump, and has more than 2^30 bytes: xxd -r -p IN OUT makes a file of it, of half its length at most"
 		}
 		return "has more than 2^30 bytes: tshark -r IN -Y 'tcp.port == 6379' -F pcap -w OUT keeps what matters"
+	}
+	if isDump(capture) {
+		return "is read as a dump, by its first byte, of fewer than 24 bytes: the recording was stopped too early, or it is another file"
 	}
 	return "has fewer than 24 bytes: the recording was stopped too early, or it is another file"
 }

@@ -49,7 +49,7 @@ REMEDIES: Dict[int, List[str]] = {
     20: ["a scenario has at most 64 proxies", "a stream has at most 8 toxics"],
     21: ["a whole number from 0 to 1000000 is expected", "0 or 1 is expected", "write \"toxicity_ppm\": {count} in its place"],
     22: ["a call takes 256: call more than once"],
-    23: ["NAME=ADDR with an IPv4 address is expected, such as redis=10.0.0.9"],
+    23: ["NAME=ADDR with an IPv4 address is expected, such as redis=10.0.0.9", "a name of letters, digits, -, _ and . is expected, and no address"],
     40: ["memory was refused: fewer scenarios in a call, or a smaller capture, take less"],
     55: ["no hexadecimal digit is at line {line} column {column}", "give a pcap file, or a dump as xxd -p IN OUT makes it"],
 }
@@ -118,7 +118,7 @@ def of_capture(number: int, at: int, capture: bytes) -> str:
         return f"is a dump, and has more than 2^30 bytes: {remedy[1]}" if is_dump else f"has more than 2^30 bytes: {remedy[0]}"
     if number == 55:
         return f"is read as a dump, by its first byte, and {of_digits(at, capture)}: {remedy[1]}"
-    return f"has fewer than 24 bytes: {remedy[0]}"
+    return f"is read as a dump, by its first byte, of fewer than 24 bytes: {remedy[0]}" if is_dump else f"has fewer than 24 bytes: {remedy[0]}"
 
 
 def by_command(is_dump: bool, fault: str, command: str) -> str:
@@ -146,8 +146,10 @@ def of_host(at: int, hosts: bytes) -> str:
     lines = hosts.decode("utf-8", "replace").split("\n")
     name, _, address = lines[at].partition("=")
     is_given = name in [line.partition("=")[0] for line in lines[:at]]
-    is_twice = is_given and ADDRESS.fullmatch(address)
-    return f"host {at} {quoted(lines[at])}: {'an earlier host has the name' if is_twice else REMEDIES[23][0]}"
+    fault = REMEDIES[23][0]
+    if ADDRESS.fullmatch(address):
+        fault = "an earlier host has the name" if is_given else REMEDIES[23][1]
+    return f"host {at} {quoted(lines[at])}: {fault}"
 
 
 def line_and_column(before: bytes) -> Tuple[int, int]:

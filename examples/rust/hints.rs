@@ -43,7 +43,7 @@ const REMEDIES: [(u32, &[&str]); 22] = [
     (20, &["a scenario has at most 64 proxies", "a stream has at most 8 toxics"]),
     (21, &["a whole number from 0 to 1000000 is expected", "0 or 1 is expected", "write \"toxicity_ppm\": {count} in its place"]),
     (22, &["a call takes 256: call more than once"]),
-    (23, &["NAME=ADDR with an IPv4 address is expected, such as redis=10.0.0.9"]),
+    (23, &["NAME=ADDR with an IPv4 address is expected, such as redis=10.0.0.9", "a name of letters, digits, -, _ and . is expected, and no address"]),
     (40, &["memory was refused: fewer scenarios in a call, or a smaller capture, take less"]),
     (55, &["no hexadecimal digit is at line {line} column {column}", "give a pcap file, or a dump as xxd -p IN OUT makes it"]),
 ];
@@ -110,9 +110,10 @@ fn of_host(at: usize, hosts: &str) -> String {
     let (name, address) = lines[at].split_once('=').unwrap_or((lines[at], ""));
     let mut earlier = lines[..at].iter();
     let is_given = earlier.any(|line| line.split('=').next() == Some(name));
-    let fault = match is_given && address.parse::<Ipv4Addr>().is_ok() {
-        true => "an earlier host has the name",
-        false => part(23, 0),
+    let fault = match address.parse::<Ipv4Addr>() {
+        Err(_) => part(23, 0),
+        Ok(_) if is_given => "an earlier host has the name",
+        Ok(_) => part(23, 1),
     };
     format!("host {at} {}: {fault}", quoted(lines[at]))
 }
@@ -151,6 +152,10 @@ fn of_capture(number: u32, at: usize, capture: &[u8]) -> String {
             "{of_digits} {}: {}",
             placed(part(55, 0), capture, at),
             part(55, 1)
+        ),
+        _ if is_dump => format!(
+            "is read as a dump, by its first byte, of fewer than 24 bytes: {}",
+            part(1, 0)
         ),
         _ => format!("has fewer than 24 bytes: {}", part(1, 0)),
     }

@@ -1,6 +1,6 @@
-//! The program `toxicap`: the library's `command_over` on the command line, the host's disk and the standard streams. On a terminal it
-//! also says that it reads standard input, how many scenarios are stored, and last what helps after a refusal or is missed in a report.
-//! What helps is also said without a terminal if `TOXICAP_HINTS` of the environment is 1.
+//! The program `toxicap`: the library's `command_over` on the command line, the host's disk and the standard streams.
+//! On a terminal it also says that it reads standard input, and how many scenarios are stored. Last it says what helps after a refusal, or
+//! is missed in a report. What helps is also said without a terminal if `TOXICAP_HINTS` of the environment is 1.
 #![tactic(auto)]
 
 macro_rules! say {

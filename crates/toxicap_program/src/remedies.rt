@@ -49,13 +49,16 @@ impl<R: Files> Run<'_, R> {
         let mut earlier = hosts.iter().take(at);
         let is_given = earlier.any(|host| host.split('=').next() == Some(name));
         let host = shown(self.alloc, host)?;
-        if is_given && Ipv4Addr::parse_ascii(addr.as_bytes()).is_ok() {
+        if Ipv4Addr::parse_ascii(addr.as_bytes()).is_err() {
+            return say!(self.alloc; "--host {host}: NAME=ADDR with an IPv4 address is expected, such as redis=10.0.0.9");
+        }
+        if is_given {
             return say!(self.alloc; "--host {host}: an earlier --host has the name");
         }
-        say!(self.alloc; "--host {host}: NAME=ADDR with an IPv4 address is expected, such as redis=10.0.0.9")
+        say!(self.alloc; "--host {host}: a name of letters, digits, -, _ and . is expected, and no address")
     }
 
-    // The first named file that cannot be read now, and why.
+    // The first named file that cannot be read now, and why; or the first that is no regular file, since only those are read again.
     fn reading_remedy(&self) -> Said {
         let (alloc, asked) = (self.alloc, self.asked);
         for path in asked.scenarios.iter().copied().chain(asked.capture) {
@@ -63,6 +66,11 @@ impl<R: Files> Run<'_, R> {
                 let (path, cause) = (shown_path(alloc, path)?, said_by(alloc, &error)?);
                 return say!(alloc; "{path}: {cause}");
             }
+        }
+        let mut named = asked.scenarios.iter().copied().chain(asked.capture);
+        if let Some(path) = named.find(|path| self.len_of(path).is_none()) {
+            let path = shown_path(alloc, path)?;
+            return say!(alloc; "{path} is no regular file, and may be what cannot be read: name a regular file in its place");
         }
         if asked.capture.is_some() {
             return say!(alloc; "each file that was named can be read now: run it again");
@@ -95,6 +103,8 @@ impl<R: Files> Run<'_, R> {
                 say!(alloc; "has more than 2^30 bytes: tshark -r IN -Y 'tcp.port == 6379' -F pcap -w OUT keeps what matters")?,
             _ if self.is_scenario_too() =>
                 say!(alloc; "was read as a scenario, and is read once: --capture names a file")?,
+            _ if is_dump(first_bytes) =>
+                say!(alloc; "is read as a dump, by its first byte, of fewer than 24 bytes: the recording was stopped too early, or it is another file")?,
             _ =>
                 say!(alloc; "has fewer than 24 bytes: the recording was stopped too early, or it is another file")?,
         };
@@ -172,7 +182,7 @@ impl<R: Files> Run<'_, R> {
             let draft = say!(self.alloc; "{folder}/toxicap.unfinished-{place}")?;
             if fs::symlink_metadata(self.files, &draft).is_ok() {
                 let draft = shown_path(self.alloc, &draft)?;
-                return say!(self.alloc; "{draft} stands where files are first written: move it, or choose another --out");
+                return say!(self.alloc; "{draft} stands where files are first written: wait for other runs of this folder, then move it, or choose another --out");
             }
         }
         say!(self.alloc; "{name} could not be written: wait for other runs of this folder, or look at its rights, and at the room that is left")

@@ -141,7 +141,11 @@ fn toxic_remedy(alloc: Global, toxic: &Value, cause: Cause) -> Said {
         }
         Cause::BadStream => its(alloc, toxic, "stream", "upstream or downstream is expected"),
         Cause::DuplicateToxic if text_at(toxic, "name").is_empty() => {
-            let stream = field(toxic, "stream").map_or("downstream", |_| stream);
+            let stream = if stream.is_empty() {
+                "downstream"
+            } else {
+                stream
+            };
             say!(alloc; "an earlier toxic of the proxy has the name \"{toxic_type}_{stream}\", which it has too without a \"name\": give it one")
         }
         Cause::DuplicateToxic => {

@@ -13,7 +13,8 @@ impl<R: Files> Run<'_, R> {
         let mut text = String::from_str(self.alloc, start)?;
         put_connections(&mut text, summary)?;
         put_left_out(&mut text, summary)?;
-        if scenarios > 0 && summary.met.as_slice().contains(&0) {
+        let is_empty = summary.connections.as_slice().is_empty();
+        if scenarios > 0 && !is_empty && summary.met.as_slice().contains(&0) {
             self.put_servers(&mut text, summary)?;
         }
         if let Some(unit) = unit_of(&self.capture_start()?) {
@@ -25,21 +26,22 @@ impl<R: Files> Run<'_, R> {
         Ok(text)
     }
 
-    // The servers of connections, each once, until their text has 80 bytes.
+    // The servers of connections, each once, until their text has 80 bytes; two dots stand for those left out.
     fn put_servers(&self, text: &mut String, summary: &RunSummary) -> Result<(), AllocError> {
         let mut put = Vec::new(self.alloc);
         let mut servers = String::new(self.alloc);
         for connection in summary.connections.as_slice() {
             let server = connection.server;
-            if servers.len() < 80 && !put.as_slice().contains(&server) {
-                put.push(server)?;
-                write!(
-                    servers,
-                    " {}:{}",
-                    Ipv4Addr::from_bits(server.addr),
-                    server.port
-                )?;
+            if put.as_slice().contains(&server) {
+                continue;
             }
+            if servers.len() >= 80 {
+                servers.push_str(" ..")?;
+                break;
+            }
+            put.push(server)?;
+            let addr = Ipv4Addr::from_bits(server.addr);
+            write!(servers, " {addr}:{}", server.port)?;
         }
         write!(text, "; servers{servers}")
     }

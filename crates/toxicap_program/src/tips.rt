@@ -5,7 +5,8 @@ use std::alloc::{AllocError, Global};
 pub fn tip_of(alloc: Global, told: &str) -> Result<Option<String>, AllocError> {
     let (_, word) = told.split_once("unexpected argument '").unwrap_or(("", ""));
     let (word, _) = word.split_once("' found").unwrap_or(("", ""));
-    if told.contains("invalid digit") || told.contains("too large") || word.parse::<i64>().is_ok() {
+    let is_value = told.contains("invalid digit") || told.contains("too large");
+    if word.is_empty() && is_value || word.parse::<i64>().is_ok() {
         let tip =
             say!(alloc; "--seed takes a whole number from 0 to 18446744073709551615, --workers from 1 to 16, --cut from 1 to 1048576")?;
         return Ok(Some(tip));

@@ -7,8 +7,8 @@ use pcap_records::Moment;
 use std::alloc::{AllocError, Global};
 use std::marker::Model;
 
-/// A connection: the segments of a pair of peers from a beginning up to the pair's next one. A beginning is an opening, SYN and
-/// neither ACK nor RST (RFC 9293 section 3.5), that does not repeat the sender and sequence number of its pair's last opening.
+/// A connection: the segments of a pair of peers from a beginning up to the pair's next one. An opening has SYN, and neither ACK nor RST
+/// (RFC 9293 section 3.5). It is a beginning unless its pair's last opening has the same sender and sequence number.
 #[derive(Debug, Drop)]
 pub struct Conn {
     /// The number of connections that begin earlier in the file.
@@ -81,14 +81,6 @@ impl Members {
         ensures { result.now ≡ self.now }
     {
         &self.list
-    }
-
-    /// The members as a `Vec`.
-    pub fn into_vec(self) -> Vec<Member>
-        ensures { result.items ≡ self }
-    {
-        let Members { list } = self;
-        list
     }
 }
 

@@ -61,7 +61,7 @@ impl<'w> UnderScenario<'w> {
         let recorded = &recording.recorded;
         let delivered = self.delivered(recording)?;
         let line = line(self.alloc, conn, recorded, &delivered)?;
-        let segments = segments(self.alloc, conn, recorded, &delivered)?;
+        let segments = segments(self.alloc, conn, recorded, delivered)?;
         Ok(Delivery {
             scenario: self.number,
             conn: conn.number,

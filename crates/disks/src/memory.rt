@@ -139,7 +139,7 @@ impl MemoryDisk {
         self.find(path).map(|found| found.0)
     }
 
-    // The bytes of the file at a path, the number of lost ones after them, and its id: its place among the files that stand at paths, or did.
+    // The bytes of the file at a path, the number of lost ones after them, and its id. That is its place among files that stand at paths, or did.
     fn find(&self, path: &str) -> Option<(&[u8], u32, FileId)>
         ensures { found_contents result ≡ held_now (history_of self.now) path.now }
     {
@@ -281,7 +281,7 @@ impl ReadDisk for MemoryDisk {
             return Err(DiskFault::Failed);
         };
         Ok(MemoryDiskFile {
-            id: Some(id),
+            id,
             bytes: Vec::from_slice(alloc, bytes)?,
             lost,
             place: 0,

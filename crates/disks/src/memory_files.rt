@@ -4,7 +4,7 @@ use crate::disk::{DiskFault, DiskFile, FileId};
 /// A file of a disk in memory, which is open to be read.
 #[derive(Drop)]
 pub struct MemoryDiskFile {
-    pub(crate) id: Option<FileId>,
+    pub(crate) id: FileId,
     pub(crate) bytes: Vec<u8>,
     // The number of lost bytes after these.
     pub(crate) lost: u32,
@@ -21,7 +21,7 @@ impl DiskFile for MemoryDiskFile {
     ghost place = { λ f. f.place };
 
     fn id(&self) -> Result<Option<FileId>, DiskFault> {
-        Ok(self.id)
+        Ok(Some(self.id))
     }
 
     fn len(&self) -> Option<u64> {

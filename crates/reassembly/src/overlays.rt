@@ -72,8 +72,10 @@ pub(crate) fn gather<'a>(alloc: Global, patches: &[Patch<'a>]) -> Result<Vec<Pat
     ensures same { IfOk result (λ gathered. (x : ℕ) → first_byte (spans gathered.items) x ≡ first_byte (spans patches.now) x) }
     ensures ordered { IfOk result (λ gathered. AreOrdered 0 (spans gathered.items) limit) }
 {
-    if let Some(sorted) = sorted_apart(alloc, patches)? {
-        return Ok(sorted);
+    if patches.len() > FEW {
+        if let Some(sorted) = sorted_apart(alloc, patches)? {
+            return Ok(sorted);
+        }
     }
     layered(alloc, patches)
 }

@@ -24,6 +24,7 @@ use std::thread::Threads;
 const BLOCK_LIMIT: usize = CAPTURE_LIMIT / BLOCK_LEN;
 
 // Loads the text of a file from its first byte on, that of several blocks by the workers of a plan.
+// A dump of several blocks is found only after that, and is then loaded again by one thread.
 pub(crate) fn load_text<R: Threads + Sync, F: DiskFile + Sync + Drop>(
     rt: &R,
     alloc: Global,
@@ -76,7 +77,7 @@ fn blocks_by_workers<R: Threads + Sync, F: DiskFile + Sync>(
         rt,
         alloc,
         count as u64,
-        workers.min(count as u64),
+        workers,
         Phase::Ranges,
         &Through,
         &jobs,

@@ -25,31 +25,23 @@ use reassembly::Recorded;
 use std::alloc::{AllocError, Global};
 use toxic_defs::Delivered;
 
-/// The segments of a connection as they are written, in order of key: its opening (RFC 9293 section 3.5), and the pieces of each line with
-/// its end (section 3.6). Each acknowledges what the other side was delivered strictly before it (section 3.4). Nothing is written at the
-/// horizon.
+/// The segments of a connection as they are written, in order of key. They are its opening (RFC 9293 section 3.5), and of each line the
+/// pieces and the end (section 3.6). Those of a line acknowledge what their sender was delivered strictly before them (section 3.4).
+/// Nothing is written at the horizon.
 pub fn segments(
     alloc: Global,
     conn: &Conn,
     recorded: &Recorded<'_>,
-    delivered: &Delivered<'_>,
+    delivered: Delivered<'_>,
 ) -> Result<SegList, AllocError>
-    requires up { IsLine delivered.now.up.line }
-    requires down { IsLine delivered.now.down.line }
+    requires up { IsLine delivered.up.line }
+    requires down { IsLine delivered.down.line }
     ensures { IfOk result (λ list. list ≡ written_segments recorded.now.up.ticks
         (written_connection conn.now.number conn.now.vlan conn.now.client conn.now.server (recorded_view recorded.now)
-        (delivered_view delivered.now))) }
+        (delivered_view delivered.entry))) }
 {
-    let up = delivered.up.copy(alloc)?;
-    let down = delivered.down.copy(alloc)?;
-    let copy = Delivered {
-        proxy: delivered.proxy,
-        refused: delivered.refused,
-        up,
-        down,
-    };
     let endpoints = Endpoints::of(conn, recorded);
-    let row = SegmentRow::with_room(alloc, 0)?.with_connection(&endpoints, copy)?;
+    let row = SegmentRow::with_room(alloc, 0)?.with_connection(&endpoints, delivered)?;
     row.written(alloc)
 }
 

@@ -1,5 +1,5 @@
 //! Pieces of a line, and cursors over its parts.
-ghost use Rattle.std.specs.Prelude.{◌≡◌, ◌≤◌, ◌<◌, ◌+◌, ◌++◌, ◌∷◌, length, drop, take, vec_len, vec_capacity, IsOk, OnOk};
+ghost use Rattle.std.specs.Prelude.{◌≡◌, ◌≤◌, ◌<◌, ◌+◌, ◌++◌, ◌∷◌, length, drop, take, OnOk};
 ghost use Rattle.frame_headers.specs.Layout.{payload_limit};
 ghost use Rattle.reassembly.specs.LineView.{bytes_of_parts};
 ghost use Rattle.segment_writer.specs.WrittenSegments.{is_chunk_border};
@@ -117,7 +117,6 @@ pub(crate) fn copy_piece(
     requires cursor { IsCursor parts.now from }
     requires within { len ≤ length (left_at parts.now from) }
     ensures bytes { OnOk result (out.new.items ≡ out.old.items ++ values (take len (left_at parts.now from))) }
-    ensures succeeds { vec_len out.old + len ≤ vec_capacity out.old → IsOk result }
 {
     let mut here = from;
     let mut left = len;

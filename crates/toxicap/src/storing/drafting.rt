@@ -126,7 +126,7 @@ where
         crew.rt,
         sources.alloc,
         count,
-        count.min(workers as u64),
+        workers as u64,
         Phase::Jobs,
         &Through,
         &jobs,

@@ -51,7 +51,7 @@ pub(super) fn written(
         assert_eq!(rt; conn.number as usize, number);
         let recorded = lines(alloc, conn, capture)?;
         let delivered = delivered_by(alloc, &recorded, None, 0, 0, conn.number)?;
-        lists.push(segments(alloc, conn, &recorded, &delivered)?)?;
+        lists.push(segments(alloc, conn, &recorded, delivered)?)?;
     }
     Ok(lists)
 }

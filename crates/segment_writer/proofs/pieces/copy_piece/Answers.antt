@@ -1,4 +1,3 @@
-use Rattle.std.proofs.Common.{arith}
 use Rattle.segment_writer.proofs.PieceSteps.{passing_on, copied_on}
 use Rattle.segment_writer.proofs.pieces.copy_piece.Goals as goal
 
@@ -9,5 +8,4 @@ loop-left-preserved c =
     record {
       passing = passing_on c.args.parts.now c.loop-left.here c.next_bytes.result.1 c.loop-left.left _ c.next_bytes.result.0.now was.passing next.passed next.most;
       bytes = copied_on c.args.parts.now c.loop-left.here c.next_bytes.result.1 c.loop-left.left c.next_bytes.result.0.now c.loop-left.out.items _ _ next.passed next.most c.in_ok-extend_from_slice.ensures.items was.bytes;
-      room = (λ enough. omega (arith, was.room enough, c.in_ok-extend_from_slice.ensures.len, c.in_ok-extend_from_slice.ensures.capacity, next.most));
     }

@@ -1,4 +1,4 @@
-use Rattle.std.proofs.Common.{◌≡◌, ◌≤◌, ◌++◌, ◌+◌, take, drop, vec_len, vec_capacity}
+use Rattle.std.proofs.Common.{◌≡◌, ◌++◌, take, drop}
 use Rattle.segment_writer.specs.FirstPieces.{values}
 use Rattle.segment_writer.specs.LineCursors.{left_at}
 use Rattle.segment_writer.proofs.PieceSteps.{Passing}
@@ -8,7 +8,6 @@ abbrev pub invariant-loop-left : goal.invariant-loop-left
 invariant-loop-left l = record {
   passing : Passing l.parts l.here l.left (drop l.len (left_at l.parts l.fn.from));
   bytes : l.out.items ++ values (take l.left (left_at l.parts l.here)) ≡ l.initial.out.items ++ values (take l.len (left_at l.parts l.fn.from));
-  room : vec_len l.initial.out + l.len ≤ vec_capacity l.initial.out → vec_len l.out + l.left ≤ vec_capacity l.out;
 }
 
 abbrev pub decreases-loop-left : goal.decreases-loop-left

@@ -7,7 +7,7 @@ const (
 	ShortHeader      Kind = 1  // the capture has fewer than 24 bytes
 	BadMagic         Kind = 2  // the first four bytes are no magic number of a classic pcap
 	BadVersion       Kind = 3  // the capture is of another pcap version than 2.4
-	BadLink          Kind = 4  // the capture is not of link type Ethernet
+	BadLink          Kind = 4  // the capture's link type field is not 1, Ethernet
 	RecordTooLong    Kind = 5  // a record announces more than 262144 bytes
 	CaptureTooLong   Kind = 6  // a capture, a dump or a scenario file has more than 2^30 bytes
 	NotJson          Kind = 10 // the text is not JSON in UTF-8, or nests deeper than 127 levels, or has a number too large for a float

@@ -137,11 +137,11 @@ Reports:
     0 10.77.0.1:59690 > 10.77.0.2:80 proxy 0 up 82/82/0 close+3610 max 0
     down 100/216/0 close+3610 max 0
 
-  but all on one line: its number, client and server, and the number of the
-  proxy that it goes through, - for none. up is what the client sent, down
-  what the server sent: bytes delivered/recorded/lost after a gap of the
-  capture or a FIN; its end, by its time after the opening SYN; and the
-  longest that a byte was held back.
+  but all on one line: its number, client and server, vlan and its number if
+  it has a VLAN, and the number of the proxy that it goes through, - for
+  none. up is what the client sent, down what the server sent: bytes
+  delivered/recorded/lost after a gap of the capture or a FIN; its end, by
+  its time after the opening SYN; and the longest that a byte was held back.
 
   The end is fin+N where the peer closes, close+N where a toxic does, reset+N
   for a reset, open for none, refused where the proxy is disabled. Times are

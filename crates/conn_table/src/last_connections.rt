@@ -1,4 +1,4 @@
-//! The last connection of each pair, in a map of `indexmap`. Only a segment that begins a connection puts its pair there.
+//! The last connection of each pair, in a map of `indexmap`. Only an opening puts its pair there.
 //! Segments of a connection come in bursts, so the pairs that were looked up last stand in a small table beside the map.
 ghost use Rattle.std.specs.Prelude.{◌≡◌, ◌<◌};
 ghost use Rattle.conn_table.specs.LastConnections.{slot_of, current_in};

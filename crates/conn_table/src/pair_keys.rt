@@ -1,5 +1,5 @@
-//! How pairs are hashed: by SipHash, which takes a key first that is bound to the openings of a capture. Whoever makes a capture can
-//! work out its key, but other pairs have another key, and no pairs are bad for more keys of SipHash than others are.
+//! How pairs are hashed: by SipHash, which first takes a key that depends on the openings of a capture. Whoever makes a capture can work
+//! out its key, but other pairs have another key. Pairs that collide under one key do not under most others.
 ghost use Rattle.std.specs.Prelude.{◌≡◌};
 ghost use Rattle.conn_table.specs.PairWords.{addrs_word, ports_word};
 

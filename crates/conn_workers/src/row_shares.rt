@@ -67,7 +67,7 @@ pub fn deliver_row<'w, 'a, R: Threads + Sync, G: Gate>(
     work_all(crew.rt, alloc, count, workers, Phase::Jobs, gate, &jobs)
 }
 
-/// The same as [`deliver_row`], made by this thread in one share.
+/// The same as [`deliver_row`], made by this thread in one share, or in none if there are no connections.
 pub fn deliver_row_alone<'w, 'a>(
     alloc: Global,
     recordings: &'w Recordings<'_, 'a>,

@@ -24,6 +24,7 @@ use std::thread::Threads;
 pub struct ShareTexts {
     /// A text for each scenario.
     pub texts: Values<ReportText>,
+    /// What summaries show of these connections, in order of number.
     pub connections: Values<SeenConn>,
 }
 

@@ -20,6 +20,7 @@ use std::alloc::{AllocError, Global};
 /// A connection, as summaries show it.
 #[derive(Clone, Copy, Debug)]
 pub struct SeenConn {
+    /// The server's address and port.
     pub server: Peer,
     /// The number of the client's bytes after a gap or its FIN.
     pub up_lost: u64,

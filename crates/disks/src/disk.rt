@@ -70,7 +70,7 @@ pub trait DiskFile {
     fn len(&self) -> Option<u64>
         ensures { IfSome (contents self.now) (λ file. IfSome result (λ len. len ≡ file_len file)) };
 
-    /// Reads once from a place on, at most as many bytes as `room` has. It reads 0 bytes only at the end.
+    /// Reads once from a place on, at most as many bytes as `room` has. It reads 0 bytes only at the end or into an empty `room`.
     fn read_at(&self, room: &mut [u8], at: usize) -> Result<usize, DiskFault>
         ensures within { IfOk result (λ n. n ≤ length room.new) }
         ensures len { length room.new ≡ length room.old }
@@ -88,7 +88,7 @@ pub trait DiskFile {
         ensures as_before { OnErr result (place self.new ≡ place self.old) };
 }
 
-/// Where files are written: each as a draft, beside the others and by any thread if the disk is `Sync`, and published when it is whole.
+/// Where files are written: each as a draft, which is published when it is whole. If the disk is `Sync`, threads write drafts side by side.
 /// `history` is what the paths held at first and the files that were published since, or `None` if the disk does not tell that.
 /// `faults` is the number of failed calls. A draft `holds` some bytes, and one that has failed holds whatever is asked.
 /// A draft begins at its `path_of`, at which no file may be published. Drafts that are begun side by side need paths of their own.
@@ -110,6 +110,7 @@ pub trait Disk {
     ghost path_of: { Self.Draft → List ℕ };
 
     /// Holds a folder for the drafts of this run until the disk is dropped.
+    /// If the folder's file system has no locks, it succeeds and the folder is not held.
     /// It fails if the folder cannot be opened, if another run holds it, or if not all files that this run has read are known.
     fn hold(&mut self, folder: &str, read: &ReadFiles) -> Result<(), DiskFault>
         requires { faults self.old < 2 ^ 64 - 1 }

@@ -1,4 +1,4 @@
-//! The disk of the host, which tells nothing of what its paths hold, since others may change them: each method is a few calls of std.
+//! The disk of the host: each method is a few calls of std. It tells nothing of what its paths hold, since others may change them.
 ghost use Rattle.std.specs.Prelude.{None};
 
 use crate::disk::{Disk, DiskFault, DiskFile, FileId, ReadDisk, count_failure};

@@ -7,7 +7,7 @@ pub fn publishing_leaves_whole()
     ensures { PublishingLeavesWhole }
 {}
 
-/// Files that are published by work that is cut off, and then again by the whole work, are as if the whole work were done once.
+/// Files that cut-off work published, and that the whole work then publishes again, are as if the whole work were done once.
 pub fn published_again()
     ensures { PublishedAgain }
 {}

@@ -30,7 +30,7 @@ impl Flags {
     /// The acknowledgment number counts.
     pub const ACK: Flags = Flags { bits: 0x10 };
 
-    /// The flags that have a name here, from the lowest bit on.
+    /// The flags that have a name here, from the lowest bit on. Nothing calls it: its clause ties the constants to their definitions.
     pub fn named() -> [Flags; 5]
         ensures { result ≡ fin_flag ∷ syn_flag ∷ rst_flag ∷ psh_flag ∷ ack_flag ∷ [] }
     {

@@ -10,7 +10,7 @@ pub(crate) const MAC_LEN: usize = 6;
 /// The length of an Ethernet header without a tag: two addresses, and the type of what follows.
 pub(crate) const ETHERNET_LEN: usize = 14;
 
-/// The length of a tag, which stands before that type: a type of its own, and 16 bits, of which the lower 12 are a VLAN's number.
+/// The length of a tag, which stands before that type: a type of its own, and 16 bits. The lower 12 of these are a VLAN's number.
 pub(crate) const TAG_LEN: usize = 4;
 
 pub(crate) const TAG_TYPE: u16 = 0x8100;

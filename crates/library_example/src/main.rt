@@ -1,5 +1,5 @@
-//! A program over the library, as a user would write one: it reads a capture from standard input, rehearses it under one
-//! scenario without proxies, and writes the output capture to standard output.
+//! A program over the library, as a user would write one. It rehearses a capture from standard input under one scenario without
+//! proxies, and writes the output capture to standard output.
 #![tactic(auto)]
 
 use anyhow::{Context, Result};

@@ -13,8 +13,8 @@ pub enum CaptureFault {
     BadMagic,
     #[error("the version is not 2.4")]
     BadVersion,
-    /// The link type is not 1, Ethernet without frame check sequences.
-    #[error("the link type is not Ethernet")]
+    /// The link type field is not 1, Ethernet without frame check sequences.
+    #[error("the link type field is not 1, Ethernet")]
     BadLink,
     /// The record with this number, counted from 0, announces a packet of more than 262,144 bytes.
     #[error("record {at} announces a packet of more than 262144 bytes")]

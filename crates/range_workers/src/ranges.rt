@@ -13,7 +13,8 @@ pub(crate) struct Range {
     pub(crate) carry: Moment,
 }
 
-/// Ranges of `cut` records, the last with what is left, or one without records if the capture has none. Each stamp is read once.
+/// Ranges of `cut` records, the last with what is left, or one without records if the capture has none. The stamps before the last range
+/// are read once, those in it never.
 pub(crate) fn ranges_of(
     alloc: Global,
     capture: &Capture<'_>,

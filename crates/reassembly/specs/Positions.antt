@@ -45,7 +45,7 @@ server_base c = option_map (λ m. m.fields.seq) (find (is_answer (server_of c)) 
 abbrev pub sequence_space : ℕ
 sequence_space = 2 ^ 32
 
--- Position 0, shifted: all positions are shifted up by 2^31, so that none is negative.
+-- Position 0, shifted. A shifted position is 2^31 more than the position, so that it is not negative.
 abbrev pub origin : ℕ
 origin = 2 ^ 31
 

@@ -23,7 +23,7 @@ pub struct LinePart<'a> {
 pub enum End {
     /// Not at all.
     Live,
-    /// By a FIN of its peer.
+    /// By a FIN of its sender.
     Fin(Moment),
     /// By a close of a proxy.
     Close(Moment),

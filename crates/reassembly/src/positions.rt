@@ -10,7 +10,7 @@ use conn_table::Member;
 use frame_headers::Flags;
 use pcap_records::{FileBytes, Moment};
 
-/// Position 0, shifted: all positions are shifted up by 2^31, so that none is negative.
+/// Position 0, shifted. A shifted position is 2^31 more than the position, so that it is not negative.
 pub(crate) const ORIGIN: usize = 1 << 31;
 
 /// The shifted position at which a member's payload begins.

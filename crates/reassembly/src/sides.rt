@@ -67,7 +67,7 @@ fn first_fin(base: u32, from_client: bool, members: &[Member]) -> Option<Counted
         })
 }
 
-// Each position in a line, shifted by `ORIGIN`, is below it.
+// No position in a line reaches it.
 const LIMIT: usize = 1 << 33;
 
 /// One side's line: its parts, end and length, and the number of bytes after it.

@@ -1,4 +1,4 @@
-//! Tests over the public calls of all crates, with values from outside.
+//! Tests over the public calls of `toxicap`, `run_files` and `disks`, with values from outside.
 mod again;
 mod answering;
 mod captures;

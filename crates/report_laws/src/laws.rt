@@ -9,13 +9,13 @@ pub fn report_sees_lengths()
 {}
 
 /// Two packets of equal length with the same head (`head_len` of `pcap_records`) are seen as the same frame, except for payload bytes.
-/// Only headers and lengths are looked at. A head has Ethernet's with at most one tag (18 bytes), IPv4's with options (60 at most),
-/// and at least the first 14 bytes of TCP's.
+/// Only headers and lengths are looked at. A head is a packet's first 48 bytes if it has no tag and no IPv4 options, else its first 98.
 pub fn frame_sees_head()
     ensures { FrameSeesHead }
 {}
 
-/// Reports and the summary of a run depend only on a capture's ticks, the number of bytes after its last whole record, and each packet's stamp, length and head.
+/// Reports and the summary of a run depend on a capture's ticks, on the number of bytes after its last whole record, and on its packets.
+/// Of a packet only the stamp, the length and the head count.
 /// So a capture of which only the heads are kept has the same reports and summary.
 pub fn report_sees_heads()
     ensures report { ReportSeesHeads }

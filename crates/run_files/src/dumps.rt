@@ -23,8 +23,8 @@ pub fn is_dump(text: &[u8]) -> bool
 /// feed) anywhere.
 ///
 /// # Errors
-/// [`RunFault::BadDump`] has the place of the first byte that is neither a digit nor a blank; or the text's length if there is none and the
-/// number of digits is odd. [`RunFault::Memory`] comes only if the text has no such fault.
+/// [`RunFault::BadDump`] has the place of the first byte that is neither a digit nor a blank. If there is none and the number of digits
+/// is odd, the place is the text's length. [`RunFault::Memory`] comes only if the text has no such fault.
 pub fn undump(alloc: Global, text: &[u8]) -> Result<Vec<u8>, RunFault>
     ensures { Agrees run_refusal (λ bytes. bytes.items) result (dump_reading text.now) }
 {

@@ -18,17 +18,17 @@ pub enum RunFault {
     /// The capture is of another version than 2.4.
     #[error("the capture is not of version 2.4")]
     BadVersion,
-    /// The capture is of another link type than Ethernet.
-    #[error("the capture is not of link type Ethernet")]
+    /// The capture's link type field is not 1, Ethernet without frame check sequences.
+    #[error("the capture's link type field is not 1, Ethernet")]
     BadLink,
-    /// The record with this number, from 0, claims more bytes than a record may have.
-    #[error("record {at} is too long")]
+    /// The record with this number, from 0, announces a packet of more than 262,144 bytes.
+    #[error("record {at} announces a packet of more than 262144 bytes")]
     RecordTooLong { at: u32 },
     /// The scenario with this number, from 0, is refused.
     #[error("scenario {number}{}{refusal}", end_of_number(.refusal))]
     BadScenario { number: usize, refusal: Refusal },
     /// The host with this number, from 0, is refused.
-    #[error("host {at} is refused")]
+    #[error("host {at} is not NAME=ADDR with a valid name and an IPv4 address, or its name was given before")]
     BadHost { at: usize },
     /// More than 256 scenarios were given.
     #[error("there are more than 256 scenarios")]
@@ -39,7 +39,7 @@ pub enum RunFault {
     #[error("out of memory")]
     Memory,
     /// The dump is broken at this byte, from 0, or at its end, which is its length.
-    #[error("the dump is broken at byte {at}")]
+    #[error("the dump has no hexadecimal digit at byte {at}, where one is expected")]
     BadDump { at: usize },
     /// A file could not be stored, after `after` that were stored whole.
     #[error("a file cannot be stored, after {after} that were")]

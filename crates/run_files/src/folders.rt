@@ -17,7 +17,7 @@ const UNFINISHED: &str = "toxicap.unfinished";
 /// A folder of a disk. Contracts see its path; what its files are follows from the disk's history.
 ///
 /// A file is written as a draft beside the others, `toxicap.unfinished-0` at place 0, and is committed when it is whole. So the file of a
-/// name is at any time the old one whole or the new one whole, even if the program is killed or the disk is full. A run
+/// name is always the old one whole or the new one whole. That holds even if the program is killed or the disk is full. A run
 /// [holds](Folder::hold) the folder first, and removes the drafts that killed runs left.
 ///
 /// It refuses a name at which something except a file stands, and a file that may not be written or that the run has read. It also refuses
@@ -53,9 +53,10 @@ impl<'a> Folder<'a> {
     }
 
     /// Holds the folder for the drafts of this run only, and removes drafts that earlier runs left there.
+    /// If the folder's file system has no locks, it succeeds and does neither.
     ///
     /// # Errors
-    /// The folder has no path, it is not there or cannot be opened, another run holds it, or not all files are known that this run has read.
+    /// The folder has no path, it is not there or cannot be opened, or another run holds it. Or not all files that this run has read are known.
     pub fn hold<D: Disk>(&self, alloc: Global, disk: &mut D) -> Result<(), StoreFault>
         requires { D.faults disk.old < 2 ^ 64 - 1 }
         ensures as_before { D.history disk.new ≡ D.history disk.old }
@@ -71,8 +72,8 @@ impl<'a> Folder<'a> {
             .map_err(|_| StoreFault::Memory { after: 0 })
     }
 
-    /// Begins a draft without bytes, at the path of its place. Drafts that exist at once need places of their own, and so have paths of their
-    /// own ([`draft_paths_differ`](crate::laws::draft_paths_differ)). A draft that fails is not committed.
+    /// Begins a draft without bytes, at the path of its place. Drafts that exist at once need places of their own: in a folder with a path
+    /// they then have paths of their own ([`draft_paths_differ`](crate::laws::draft_paths_differ)). A draft that fails is not committed.
     pub fn draft<D: Disk>(
         &self,
         alloc: Global,

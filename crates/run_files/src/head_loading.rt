@@ -23,7 +23,7 @@ use pcap_records::HeadReader;
 use std::alloc::Global;
 use std::io::Read;
 
-/// Loads the file at a path as far as reports see it: a dump whole, and of any other file the heads, which are taken as it is read.
+/// Loads the file at a path as far as reports see it: a dump whole, of any other file the heads. They are taken as it is read.
 ///
 /// # Errors
 /// Those of [`load_file`](crate::load_file). A fault of the capture itself is part of what is seen.
@@ -36,7 +36,7 @@ pub fn see_file<D: ReadDisk>(alloc: Global, disk: &D, path: &str) -> Result<Seen
     see_whole(alloc, &mut OpenFile { file })
 }
 
-/// The same of all that a reader has.
+/// Loads all that a reader has as far as reports see it, as [`see_file`] does of a file.
 ///
 /// # Errors
 /// Those of [`load`](crate::load). A fault of the capture itself is part of what is seen.

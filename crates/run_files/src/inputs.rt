@@ -27,7 +27,7 @@ pub(crate) trait Input {
 
     ghost is_at_end: { Self → Type 0 };
 
-    /// Reads once, at most as many bytes as `room` has; 0 of them only at the end. None if the read failed.
+    /// Reads once, at most as many bytes as `room` has; 0 of them only at the end or into an empty `room`. None if the read failed.
     fn read_more(&mut self, room: &mut [u8]) -> Option<usize>
         requires { can_read self.old }
         ensures within { IfSome result (λ n. n ≤ length room.new) }
@@ -82,7 +82,7 @@ impl<F: DiskFile> Input for OpenFile<F> {
     }
 }
 
-// Reads once more after `came` bytes. Gives the number of bytes that came then, 0 only at the end.
+// Reads once more after `came` bytes. Gives the number of bytes that came then, 0 only at the end or into an empty `room`.
 pub(crate) fn read_next<I: Input>(
     input: &mut I,
     room: &mut [u8],

@@ -36,7 +36,8 @@ pub fn load_file<D: ReadDisk>(
     load_whole(alloc, file)
 }
 
-/// The same, a file of several blocks by the workers of a plan. What is written to the file meanwhile may be loaded or not.
+/// Loads the file at a path as [`load_file`] does, one of several blocks by the workers of a plan. What is written to the file meanwhile may
+/// be loaded or not. The errors are those of [`load_file`].
 pub fn load_by_workers<R: Threads + Sync, D: ReadDisk>(
     rt: &R,
     alloc: Global,

@@ -48,8 +48,8 @@ pub fn print_reports<W: Write>(outputs: &Outputs, writer: &mut Counted<W>) -> Re
     Ok(())
 }
 
-/// Puts the files of a rehearsal on a shelf: `0000.pcap` and `0000.txt`, the capture and the report of the first output, then
-/// `0001.pcap` and on, with the number of the scenario in at least four digits.
+/// Puts the files of a rehearsal on a shelf, for each output its capture and its report: `0000.pcap`, `0000.txt`, `0001.pcap` and on.
+/// The number is that of the scenario, in at least four digits.
 ///
 /// # Errors
 /// The first file that cannot be stored ends it; none is tried again. The shelf then has the `after` files before that one and no other.

@@ -47,12 +47,14 @@ impl Model for MemoryFile {
 }
 
 impl MemoryFile {
+    /// The name under which the file was put.
     pub fn name(&self) -> &str
         ensures { result.now ≡ self.now.name }
     {
         &self.name
     }
 
+    /// All bytes of the file.
     pub fn bytes(&self) -> &[u8]
         ensures { result.now ≡ self.now.bytes }
     {

@@ -30,7 +30,7 @@ impl<T> Model for Counted<T> {
 }
 
 impl<T> Counted<T> {
-    /// Counts from 0.
+    /// Wraps a reader or a writer, of which no call is counted as failed yet.
     pub fn new(inner: T) -> Self
         ensures { result ≡ record { inner = inner; failed = 0 } }
     {
@@ -53,8 +53,8 @@ impl<T> Counted<T> {
 }
 
 impl<R: Read> Counted<R> {
-    /// Reads once, at most as many bytes as `buf` has room for; 0 of them only at the end. Each error is a failed call,
-    /// [`ErrorKind::Interrupted`] too, and takes no byte.
+    /// Reads once, at most as many bytes as `buf` has room for; 0 of them only at the end or into an empty `buf`. Each error is a failed
+    /// call, [`ErrorKind::Interrupted`] too, and takes no byte.
     pub fn read_some(&mut self, buf: &mut [u8]) -> io::Result<usize>
         requires { self.old.failed < 2 ^ 64 - 1 }
         ensures bound { ReadsAtMost result buf.new }

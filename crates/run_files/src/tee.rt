@@ -4,7 +4,9 @@ use std::io::{self, Read, Write};
 /// A reader that copies what it gives to a writer. Contracts see the reader only: the copy may be short.
 #[derive(Drop)]
 pub struct TeeReader<R, W> {
+    /// The reader that is read.
     pub inner: R,
+    /// The writer that gets a copy. If a write fails or takes only a part, the rest of that read is not copied.
     pub copy: W,
 }
 

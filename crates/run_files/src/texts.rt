@@ -77,7 +77,7 @@ impl<'t> Text<'t> {
         }
     }
 
-    /// The bytes of the capture, as a text: those of the dump if the text is taken for one, and else the text as it is, which is not copied.
+    /// The bytes of the capture, as a text: those of the dump if the text is taken for one. Any other text is returned as it is, not copied.
     ///
     /// # Errors
     /// Those of [`undump`](crate::undump).

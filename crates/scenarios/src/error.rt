@@ -8,19 +8,19 @@ use thiserror::Error;
 #[derive(Clone, Copy, Debug, PartialEq, Eq, Error)]
 pub enum Cause {
     /// The text is not JSON, or not UTF-8, or nests deeper than 127 levels, or has a number too large for a float.
-    #[error("the text is not JSON")]
+    #[error("the text is not JSON in UTF-8, or nests deeper than 127 levels, or has a number too large for a float")]
     NotJson,
     /// The text is no JSON array.
     #[error("the text is no array of proxies")]
     NotArray,
     /// A required field is missing, a field is of the wrong kind, a proxy's name is empty, or the item is no object.
-    #[error("a field is missing or of the wrong kind")]
+    #[error("a field is missing or of the wrong kind, a proxy's name is empty, or an item is no object")]
     BadMember,
     /// An earlier proxy has the name.
     #[error("an earlier proxy has the name")]
     DuplicateProxy,
-    /// The upstream is not HOST:PORT.
-    #[error("the upstream is not HOST:PORT")]
+    /// The upstream is not HOST:PORT with a port from 1 to 65535.
+    #[error("the upstream is not HOST:PORT with a port from 1 to 65535")]
     BadUpstream,
     /// The upstream's host is a name that the list of hosts does not have.
     #[error("the upstream's host is not known")]

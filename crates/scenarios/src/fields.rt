@@ -1,4 +1,4 @@
-//! Fields of JSON objects. `None` means that a field is missing or of the wrong kind.
+//! Fields of JSON objects; a null field is absent. `None` means that a field is of the wrong kind, or that a required one is absent.
 ghost use Rattle.std.specs.Prelude.{◌≡◌, option_map};
 ghost use Rattle.serde_json.specs.View.{view, items_view};
 ghost use Rattle.scenarios.specs.Fields.{field, required_text, is_text_or_absent, is_object_or_absent, optional_text, optional_whole, optional_flag, optional_list};

@@ -19,7 +19,7 @@ pub fn scenarios_are_sound()
     ensures { ScenariosAreSound }
 {}
 
-/// A list of at most 64 proxies, each with its own name, that is written as JSON is read as these proxies.
+/// A list of at most 64 sound proxies (`IsProxy`), each with its own name, that is written as JSON is read as these proxies.
 #[tactic(auto, using(crate::proofs::ReadBacks::proxies_are_read_back))]
 pub fn proxies_are_read_back()
     ensures { ProxiesAreReadBack }

@@ -32,7 +32,7 @@ pub struct Framed {
     pub bytes: RecordBytes,
 }
 
-/// A list of written segments, which lends their keys and appends their records.
+/// A list of written segments, which tells their keys and appends their records.
 pub trait Keys: Drop {
     ghost use Rattle.std.specs.Prelude.{◌≡◌, ◌<◌, ◌++◌, List, length, min, slice_index_or, OnOk, OnErr};
     ghost use Rattle.std.specs.List.{flat_map};
@@ -50,12 +50,12 @@ pub trait Keys: Drop {
         requires { index < length (segments self.now) }
         ensures { result ≡ (slice_index_or (segments self.now) index no_segment).key };
 
-    /// The length of a record, or `usize::MAX` if it is more.
+    /// The number of bytes of a record, or `usize::MAX` if it is more.
     fn record_len(&self, index: usize) -> usize
         requires { index < length (segments self.now) }
         ensures { result ≡ min (length (slice_index_or (segments self.now) index no_segment).bytes) usize.MAX };
 
-    /// The length of all records, or `usize::MAX` if it is more.
+    /// The number of bytes of all records, or `usize::MAX` if it is more.
     fn written_len(&self) -> usize
         ensures { result ≡ min (length (flat_map (λ x. x.bytes) (segments self.now))) usize.MAX };
 

@@ -11,7 +11,8 @@ pub fn rising_is_sorted()
     ensures { RisingIsSorted }
 {}
 
-/// The first piece of some bytes is what their chunk still has, at most the limit, and what comes after it is cut in the same way.
+/// The first piece of some bytes is what their chunk still has, at most what there is room for.
+/// The bytes after it are cut with room for the limit.
 #[tactic(auto, using(crate::proofs::PieceCuts::first_piece))]
 pub fn first_piece()
     ensures { FirstPiece }

@@ -134,8 +134,8 @@ fn written<L: Keys, S: CaptureSink>(
 // The number of records that room is made for at once.
 const GROUP_LEN: usize = 64;
 
-// Makes room for the records of a group if one begins. Their segments lie in the memory of as many connections: asking all of them for their
-// lengths first loads this memory, so that it is near at hand once their records are written.
+// Makes room for the records of a group if one begins. Their segments lie in the memory of as many connections. Asking for all lengths first
+// loads this memory, so that it is near at hand once the records are written.
 fn make_room<L: Keys>(
     batch: &mut Vec<u8>,
     lists: &[L],

@@ -28,8 +28,8 @@ struct ShortKeys {
     short_keys: Vec<u64>,
 }
 
-// The places of all segments of lists in order, if short keys can give it: if there are not too many, none is too late, and they stand in
-// order, connection by connection, so that those of one moment stand in order.
+// The places of all segments of lists in order, if short keys can give it. There must not be too many segments, and none may be before the
+// first one or too late. They must stand in order, connection by connection, so that those of one moment do.
 pub(crate) fn by_short_keys<L: Keys>(
     alloc: Global,
     lists: &[L],

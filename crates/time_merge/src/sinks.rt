@@ -1,8 +1,9 @@
 //! Where a capture is written.
 ghost use Rattle.std.specs.Prelude.{◌≡◌};
 
-/// Where a capture is written. It is offered the bytes that it has not taken yet, again and again, until all are written. Contracts see the
-/// bytes that it `took`, and the `place` where it keeps them.
+/// Where a capture is written. After each record it is offered the bytes that it has not taken yet. What it leaves after the last record is
+/// returned to the caller of [`write_capture`](crate::write_capture). Contracts see the bytes that it `took`, and the `place` where it keeps
+/// them.
 pub trait CaptureSink {
     ghost use Rattle.std.specs.Prelude.{◌≡◌, ℕ, List};
     ghost use Rattle.time_merge.specs.Sinks.{IsOffered};

@@ -34,7 +34,7 @@ pub enum Kind {
         size_variation: u64,
         delay: u64,
     },
-    /// Closes if more than `bytes` bytes come.
+    /// Lets the first `bytes` bytes through, and closes when another byte comes.
     LimitData {
         bytes: u64,
     },

@@ -50,12 +50,12 @@ pub fn toxics_delay()
     ensures chain { ChainsDelay }
 {}
 
-/// The session cut keeps this too.
+/// The session cut keeps what toxics keep: a line has the first recorded bytes, none before it was recorded, and no end before the opening.
 pub fn cut_lines_delay()
     ensures { CutLinesDelay }
 {}
 
-/// The values of such a line are the first ones that were recorded.
+/// If bytes are the first recorded ones, none before it was recorded, their values are the first recorded values.
 #[tactic(auto, using(crate::proofs::KeptBytes::the_first))]
 pub fn delayed_bytes_are_the_first()
     ensures { DelayedBytesAreTheFirst }

@@ -8,7 +8,7 @@ use crate::end_rule::finished;
 use pcap_records::Moment;
 use reassembly::{End, Line, LinePart};
 
-/// The first bytes of a line; one with more than `most` is closed when the next one would have come.
+/// The first `most` bytes of a line. If the line has more, it is closed when the next byte would have come.
 pub(crate) fn run_limit_data<'a>(line: Line<'a>, most: u64) -> Line<'a>
     ensures line { result.line ≡ ended (limited most line.entry.line) }
     ensures ticks { result.ticks ≡ line.entry.ticks }

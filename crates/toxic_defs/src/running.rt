@@ -21,6 +21,7 @@ use reassembly::Line;
 use std::alloc::{AllocError, Global};
 
 /// What the toxics of a direction make of a line, each of what the one before gave. Toxic `t` draws the words of the key with that number.
+/// `opened` is when the connection was opened; `direction` is 0 for up, 1 for down.
 pub fn chain<'a>(
     alloc: Global,
     toxics: &[Toxic],

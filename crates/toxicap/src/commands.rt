@@ -27,14 +27,14 @@ use std::thread::Threads;
 const NO_TEXT: &[u8] = b"error: a word of the command line is not text in UTF-8";
 
 /// The whole program on the arguments after its name, with the host's disk; [`command_over`] takes any disk. It reads what they name, and the
-/// capture from `input` if they name none. Then it rehearses, prints or stores the outputs, prints a refusal on `faults`, and returns the exit
-/// status.
+/// capture from `input` if they name none. Then it rehearses, and prints or stores the outputs. It prints a refusal on `faults`, and returns
+/// the exit status.
 ///
-/// The status is 0, 1 for a refusal, whose line is written with a line feed, or 2 for a fault of the command line, whose text is written;
-/// nothing is read then. `--help` and `--version` are written on `output`. Refusals come in this order: hosts, scenario files as bytes, the
-/// capture's bytes, its dump, the scenarios, their number, the capture's own faults, and last a write or a file that fails. Out of memory
-/// comes when an allocation fails; without memory for its line a refusal has none. A write on `faults` that fails ends the line early and
-/// leaves the status as it is. The call waits for the threads of the rehearsal: its clauses hold if it returns.
+/// The status is 0, 1 for a refusal, or 2 for a fault of the command line, of which only the text is written, and nothing is read. A refusal's
+/// line is written with a line feed. `--help` and `--version` are written on `output`. Refusals come in this order: hosts, scenario files as
+/// bytes, the capture's bytes, its dump, the scenarios, their number, the capture's own faults, and last a write or a file that fails.
+/// Out of memory comes when an allocation fails; without memory for its line a refusal has none. A write on `faults` that fails ends the line
+/// early and leaves the status as it is. The call waits for the threads of the rehearsal: its clauses hold if it returns.
 pub fn command<H: Files + Threads + Wait + Sync, S: AsStr, I: Read, O: Write, E: Write>(
     rt: &H,
     alloc: Global,
@@ -66,12 +66,12 @@ where
 /// stands the outcome that it is the status of. A run that ended well has its summary. Help or the version, once it is written, and a fault
 /// of the command line have `Ok(None)`.
 ///
-/// If the disk tells its history, the outcome follows from it: each scenario is the text at its own path, and the capture that at its path;
-/// of several files at fault the first counts, in the order of the scenarios, and then the capture. After a run of status 0 the files of the
-/// outputs stand in the folder, and no others were published; if the folder fails or memory runs out, a first part of them was; at any
-/// other refusal, and without `--out`, the disk is as it was. Of the calls that hold a folder, check a path or publish a draft, one has failed
-/// exactly if a file could not be stored in a folder that has a path. Whenever the run is cut off, each path holds what it held before it, or
-/// the whole file that was to be published there.
+/// If the disk tells its history, the outcome follows from it. Each scenario is the text at its own path, and the capture that at its path.
+/// Of several files at fault the first counts, in the order of the scenarios, and then the capture. After a run of status 0 the files of the
+/// outputs stand in the folder, and no others were published. If the folder fails or memory runs out, a first part of them was. At any
+/// other refusal, and without `--out`, the disk is as it was. Of the calls that hold a folder, check a path or publish a draft, at most one
+/// fails. One has failed exactly if a file could not be stored in a folder that has a path. Whenever the run is cut off, each path holds what
+/// it held before it, or the whole file that was to be published there.
 pub fn command_over<
     H: Threads + Wait + Sync,
     D: ReadDisk + Sync,
@@ -123,8 +123,8 @@ where
     }
 }
 
-/// What the program answers if its command line cannot be had, for this error: 1 for out of memory, which is printed as any refusal is, and
-/// else 2, with a line that says that a word is no text.
+/// What the program answers if its command line cannot be had, for this error. Out of memory gives 1, and is printed as any refusal is. Any
+/// other error gives 2, and a line that says that a word is no text.
 pub fn refuse_words<E: Write>(alloc: Global, error: &Error, faults: &mut Counted<E>) -> u8
     requires { faults.old.failed < 2 ^ 64 - 1 }
     ensures memory { error_kind error.now ≡ ErrorKind.OutOfMemory → (result ≡ 1) × Tells {A = Unit {0}} (Err RunFault.Memory) (written E.contents faults.old faults.new) }

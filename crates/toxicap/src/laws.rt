@@ -15,15 +15,14 @@ pub use run_files::laws::{draft_paths_differ, dumps_read_back};
 use segment_writer::laws::sorted_never_falls;
 use std::io::{Read, Write};
 
-/// Two captures with the same records and rest are rehearsed alike, whichever order the bytes of their fields have.
+/// Two captures with the same unit of time, records and rest are rehearsed alike, whichever order the bytes of their fields have.
 #[tactic(auto, unfolding(crate::specs::Rehearsal::answer))]
 pub fn byte_order_does_not_matter()
     ensures { ByteOrderDoesNotMatter }
 {}
 
-/// Each capture that a rehearsal gives, if it is no longer than a capture may be, is read back as a whole file without a
-/// rest: its records are in order of time, and each holds a TCP segment with both checksums right. So the output of one
-/// rehearsal can be the input of another.
+/// Each capture that a rehearsal gives is read back as a whole file without a rest, if it is no longer than a capture may be. Its records
+/// are in order of time, and each holds a TCP segment with both checksums right. So the output of one rehearsal can be the input of another.
 pub fn outputs_are_read()
     ensures { OutputsAreRead }
 {
@@ -34,7 +33,8 @@ pub fn outputs_are_read()
     sorted_never_falls();
 }
 
-/// What a text calls for is refused only by a fault of the texts: no host is refused then, and no call of a reader, a writer or a shelf has failed.
+/// What a text calls for is refused only by a fault of the texts. No host is refused then, and no call of a reader, a writer or a shelf has
+/// failed.
 pub fn refused_by_texts()
     ensures { RefusedByTexts }
 {}
@@ -44,15 +44,16 @@ pub fn files_are_loaded_in_order()
     ensures { FilesAreLoadedInOrder }
 {}
 
-/// A run that is killed at any moment, and then run again to its end, leaves each path with what it would hold if it had not been killed.
+/// A run is killed at any moment, and run again. If it calls for the same outputs again and ends with status 0, each path then holds what a
+/// whole run of status 0 leaves there.
 pub fn killed_runs_are_mended<I: Read, O: Write>()
     ensures { KilledRunsAreMended I.remaining O.contents }
 {
     published_again();
 }
 
-/// Two captures that differ only in bytes of the payloads of TCP segments have the same reports, whatever the scenarios and the seed, or the
-/// same refusal. So as many other bytes in place of a secret change no report.
+/// Two captures may differ only in bytes of the payloads of TCP segments. Then they have the same reports, whatever the scenarios and the
+/// seed, or the same refusal. So as many other bytes in place of a secret change no report.
 pub fn reports_see_lengths()
     ensures { ReportsSeeLengths }
 {

@@ -1,8 +1,8 @@
 //! Toxiproxy taken offline: recorded TCP sessions replayed through its toxics.
 //!
 //! `rehearse` is the main call; its contract names the definition in `specs/Rehearsal.antt`. `answers` reads the capture and the scenarios
-//! first, and `command` is the program without what it says on a terminal. `rehearse_alone` and `answers_alone` work by one thread and take
-//! no runtime.
+//! first, and `command` is the program without its hints and what it says on a terminal. `rehearse_alone` and `answers_alone` work by one
+//! thread and take no runtime.
 #![tactic(auto)]
 
 mod answering;

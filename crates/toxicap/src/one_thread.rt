@@ -43,7 +43,8 @@ pub fn reports_alone(
     Ok(text)
 }
 
-/// Rehearses the capture that a text holds, as [`answers`](crate::answers) does, and with its errors. A text that is no dump is not copied.
+/// Rehearses the capture that a text holds, as [`answers`](crate::answers) does, and with its errors except [`RunFault::ReadFailed`]. A text
+/// that is no dump is not copied.
 pub fn answers_alone(
     alloc: Global,
     text: &[u8],

@@ -25,8 +25,8 @@ use std::alloc::{AllocError, Global};
 use std::sync::Wait;
 use std::thread::Threads;
 
-/// Rehearses a capture under each of the scenarios, in order. The answer is that of the definition, `answer` in `specs/Rehearsal.antt`,
-/// whatever the plan and the gate.
+/// Rehearses a capture under each of the scenarios, in order. `capture` has the bytes of a classic pcap file: a dump is not decoded here.
+/// Random words are drawn from `seed`. The answer is that of the definition, `answer` in `specs/Rehearsal.antt`, whatever the plan and the gate.
 ///
 /// # Errors
 /// `TooManyScenarios` for more than 256, before the capture is looked at; then the capture's own fault; then `Memory`.

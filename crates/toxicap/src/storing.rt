@@ -30,7 +30,7 @@ use scenarios::Scenario;
 use std::alloc::Global;
 use std::thread::Threads;
 
-/// Rehearses a capture under each of the scenarios and puts the files of their outputs into a folder, in order: those that `store_all`
+/// Rehearses a capture under each of the scenarios and puts the files of their outputs into a folder, in order. They are those that `store_all`
 /// puts of what `rehearse` answers. The folder is held once the capture is read, if there is a scenario. At one time at most one scenario
 /// for each worker has its rows in memory, and at most two for each worker have drafts. It returns the summary of the run.
 ///

@@ -44,9 +44,9 @@ extern "C" {
 enum {
     /* Answered: the outputs are written, and `sizes` says how much of each. What stands after that in a buffer is as it was. */
     TOXICAP_ANSWERED = 0,
-    /* Refused: at the start of `reports` stands the line that the program prints, such as `refused 5 RecordTooLong at 0`, without a line feed or
-       a zero byte at its end, and `sizes.reports` is its length in bytes. `sizes.captures` and `sizes.lens` are 0; the other buffers are
-       as they were. docs/use/refusals.md has all refusals; `refused 40 Memory` is lack of memory. */
+    /* Refused: at the start of `reports` stands the line that the program prints, such as `refused 5 RecordTooLong at 0`. It has no line feed
+       and no zero byte at its end, and `sizes.reports` is its length in bytes. `sizes.captures` and `sizes.lens` are 0; the other buffers
+       are as they were. docs/use/refusals.md has all refusals; `refused 40 Memory` is lack of memory. */
     TOXICAP_REFUSED = 1,
     /* Too little room: `sizes` says what is required, of an answer or of a refusal's line, and at least one of these is more than the room.
        All buffers are as they were. */
@@ -67,7 +67,8 @@ typedef struct {
  *
  *   capture          a classic pcap of Ethernet frames, or a dump of one in hexadecimal; capture_len bytes
  *   scenarios        the texts of the scenarios (JSON, in Toxiproxy's populate form), one right after another; scenarios_len bytes.
- *                    The text `[]` is a scenario without a proxy: the sessions as they were recorded
+ *                    The text `[]` is a scenario without a proxy: the sessions as they were recorded. Without a text nothing is
+ *                    written, while the program without a scenario uses this one
  *   scenario_lens    the length of each text in bytes, in their order; scenario_count entries, which add up to scenarios_len. A length
  *                    that goes past the end of `scenarios` is cut there
  *   hosts            the addresses of names that scenarios use: lines NAME=ADDR with an IPv4 address, each ended by a line feed, which the

@@ -6,7 +6,7 @@ use std::thread;
 // The most turns that one waits for another.
 const TURNS: u64 = 100_000_000;
 
-/// Waits until `flag` is up. Where it does not come up within the turns that one waits, `gave_up` is raised.
+/// Waits until `flag` is 1. If it is not after `TURNS` turns, `gave_up` becomes 1.
 pub fn wait_for(flag: &AtomicU64, gave_up: &AtomicU64) {
     'turns: for _ in 0..TURNS {
         if flag.load(Ordering::SeqCst) == 1 {

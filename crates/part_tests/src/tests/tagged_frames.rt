@@ -1,5 +1,5 @@
-//! Frames with a tag, as they are read and written: frames of the plain session with a tag put after their two Ethernet addresses, and
-//! values worked by hand.
+//! Frames with a tag, as they are read and written, and values worked by hand.
+//! The frames are those of the plain session with a tag put after their two Ethernet addresses.
 ghost use Rattle.std.specs.Prelude.{◌≤◌, length};
 
 use super::checks::check;

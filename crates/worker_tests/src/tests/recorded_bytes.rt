@@ -1,5 +1,5 @@
-//! What a caller of `record` and `deliver` learns of recorded bytes, by the laws of deliveries: the contracts of the callers here say
-//! it of the answers themselves.
+//! What a caller of `record` and `deliver` learns of recorded bytes, by the laws of deliveries.
+//! The contracts of the callers here say it of the answers themselves.
 ghost use Rattle.std.specs.Prelude.{◌≡◌, ◌≤◌, length, IfOk};
 ghost use Rattle.std.specs.List.{AllByRecursion};
 ghost use Rattle.toxic_defs.specs.Laws.{IsRecordedInTime};

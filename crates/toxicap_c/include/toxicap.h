@@ -67,8 +67,8 @@ typedef struct {
  *
  *   capture          a classic pcap of Ethernet frames, or a dump of one in hexadecimal; capture_len bytes
  *   scenarios        the texts of the scenarios (JSON, in Toxiproxy's populate form), one right after another; scenarios_len bytes.
- *                    The text `[]` is a scenario without a proxy: the sessions as they were recorded. Without a text nothing is
- *                    written, while the program without a scenario uses this one
+ *                    The text `[]` is a scenario without a proxy: the sessions as they were recorded. Without a text there
+ *                    is no output, while the program without a scenario uses this one
  *   scenario_lens    the length of each text in bytes, in their order; scenario_count entries, which add up to scenarios_len. A length
  *                    that goes past the end of `scenarios` is cut there
  *   hosts            the addresses of names that scenarios use: lines NAME=ADDR with an IPv4 address, each ended by a line feed, which the

@@ -5,10 +5,10 @@ ghost use Rattle.conn_workers.specs.RowShares.{HoldRow};
 use crate::crews::Workers;
 use crate::jobs::ShareJobs;
 use crate::recordings::Recordings;
-use job_matrix::{Gate, Phase, Plan, Through, Values, work_all, work_alone};
+use job_matrix::{Phase, Plan, Through, Values, work_all, work_alone};
 use report::ReportText;
 use scenarios::Scenario;
-use segment_writer::{Keys, SegKey, SegmentRow};
+use segment_writer::SegmentRow;
 use std::alloc::{AllocError, Global};
 use std::thread::Threads;
 
@@ -21,50 +21,25 @@ pub struct RowShare<'w, 'a> {
     pub lines: ReportText,
 }
 
-impl Keys for RowShare<'_, '_> {
-    ghost segments = { λ s. s.segments };
-
-    fn count(&self) -> usize {
-        self.segments.count()
-    }
-
-    fn key(&self, index: usize) -> SegKey {
-        self.segments.key(index)
-    }
-
-    fn record_len(&self, index: usize) -> usize {
-        self.segments.record_len(index)
-    }
-
-    fn written_len(&self) -> usize {
-        self.segments.written_len()
-    }
-
-    fn put(&self, index: usize, out: &mut Vec<u8>) -> Result<(), AllocError> {
-        self.segments.put(index, out)
-    }
-}
-
 /// Shares in order of the connections' numbers. The plan decides how many there are, but not what they hold together.
 pub type RowShares<'w, 'a> = Values<RowShare<'w, 'a>>;
 
 /// What each connection contributes to the scenario with this number. Workers make it in phase `Jobs`, with one job for each range of
 /// connections.
-pub fn deliver_row<'w, 'a, R: Threads + Sync, G: Gate>(
+pub fn deliver_row<'w, 'a, R: Threads + Sync>(
     crew: &Workers<'_, R>,
     alloc: Global,
     recordings: &'w Recordings<'_, 'a>,
     number: u32,
     scenario: &Scenario,
     seed: u64,
-    gate: &G,
 ) -> Result<RowShares<'w, 'a>, AllocError>
     ensures { IfOk result (HoldRow seed (number, scenario.now) recordings.now) }
 {
     let jobs = ShareJobs::of(alloc, recordings, number, scenario, seed, crew.plan);
     let count = jobs.ranges.count;
     let workers = crew.plan.workers() as u64;
-    work_all(crew.rt, alloc, count, workers, Phase::Jobs, gate, &jobs)
+    work_all(crew.rt, alloc, count, workers, Phase::Jobs, &Through, &jobs)
 }
 
 /// The same as [`deliver_row`], made by this thread in one share, or in none if there are no connections.

@@ -102,8 +102,9 @@ impl<'w> UnderScenario<'w> {
         ensures { IfOk result (λ share. share
             ≡ row_share self.now.seed (self.now.number, self.now.scenario.now) recordings.now) }
     {
-        let mut segments = SegmentRow::with_room(self.alloc, recordings.len())?;
         let mut lines = self.room_for_lines(recordings.len())?;
+        // The row may grow, so it is made last.
+        let mut segments = SegmentRow::with_room(self.alloc, recordings.len())?;
         for recording in recordings {
             let delivered = self.put_line_of(&mut lines, recording)?;
             segments = segments.with_connection(&recording.endpoints, delivered)?;

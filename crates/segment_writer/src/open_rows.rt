@@ -42,8 +42,8 @@ pub(crate) struct OpenRow<'w, 'a> {
     pub(crate) segments: Vec<RowSegment<'w, 'a>>,
 }
 
-/// The most segments without payload of a connection: the opening, and the end of each line.
-pub(crate) const BARE_SEGMENTS: usize = 5;
+// The most segments without payload of a connection: the opening, and the end of each line.
+const BARE_SEGMENTS: usize = 5;
 
 // The most segments with payload that room is made for at once: many parts of a line at one instant are few segments.
 const ROOM_LIMIT: usize = 1024;

@@ -11,7 +11,7 @@ ghost use Rattle.segment_writer.specs.WrittenSegments.{written_segments};
 use crate::connection_segments::put_connection;
 use crate::endpoints::Endpoints;
 use crate::framed::{Framed, Keys, SegKey, SegList};
-use crate::open_rows::{BARE_SEGMENTS, OpenRow};
+use crate::open_rows::OpenRow;
 use crate::payloads::payload_bytes;
 use crate::records::{put_record, record_len};
 use crate::segment_outline::side_sender;
@@ -20,6 +20,9 @@ use pcap_records::Values;
 use std::alloc::{AllocError, Global};
 use std::marker::Model;
 use toxic_defs::Delivered;
+
+// The most segments of a short connection, such as one that has a request and its answer.
+const SHORT_SEGMENTS: usize = 8;
 
 /// The written segments of connections, one connection after another, whose endpoints and payloads are borrowed. Contracts see them with
 /// their records.
@@ -41,11 +44,11 @@ impl<'w, 'a> Model for SegmentRow<'w, 'a> {
 }
 
 impl<'w, 'a> SegmentRow<'w, 'a> {
-    /// A row without segments, with room for those of `connections` connections that carry no bytes.
+    /// A row without segments, with room for those of `connections` short connections.
     pub fn with_room(alloc: Global, connections: usize) -> Result<SegmentRow<'w, 'a>, AllocError>
         ensures { IfOk result (λ row. row ≡ []) }
     {
-        let room = connections.saturating_mul(BARE_SEGMENTS);
+        let room = connections.saturating_mul(SHORT_SEGMENTS);
         let row = OpenRow {
             gathered: Vec::new(alloc),
             segments: Vec::with_capacity(alloc, room)?,

@@ -146,6 +146,6 @@ impl<'r, R: Threads + Sync> Crew for Workers<'r, R> {
         scenario: &Scenario,
         seed: u64,
     ) -> Result<RowShares<'w, 'a>, AllocError> {
-        deliver_row(self, alloc, recordings, number, scenario, seed, &Through)
+        deliver_row(self, alloc, recordings, number, scenario, seed)
     }
 }

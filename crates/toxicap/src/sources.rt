@@ -97,9 +97,9 @@ impl<'w, 'v, 'a> Sources<'w, 'v, 'a> {
         ensures { IfOk result (λ o. o ≡ get_or (outputs_from self.now) number no_output) }
     {
         let row = self.row(crew, number)?;
-        let shares = row.as_slice();
-        let bytes = merged_capture(self.alloc, shares, self.unit)?;
-        let report = whole_report(self.alloc, &self.heads[number], shares)?;
+        let report = whole_report(self.alloc, &self.heads[number], row.as_slice())?;
+        let rows = segment_rows(self.alloc, row)?;
+        let bytes = merged_capture(self.alloc, &rows, self.unit)?;
         Ok(Output {
             capture: Values::of(bytes),
             report,

@@ -1,5 +1,5 @@
 //! The capture of what connections contribute to a scenario, written to a draft.
-ghost use Rattle.std.specs.Prelude.{◌≡◌, [], IfOk, map};
+ghost use Rattle.std.specs.Prelude.{◌≡◌, [], IfOk};
 ghost use Rattle.std.specs.List.{flat_map};
 ghost use Rattle.pcap_records.specs.Instants.{ticks_of};
 ghost use Rattle.segment_writer.specs.KeyLaws.{HasNoKeyTwice};
@@ -39,7 +39,7 @@ pub(crate) fn segment_rows<'w, 'a>(
     alloc: Global,
     row: RowShares<'w, 'a>,
 ) -> Result<Vec<SegmentRow<'w, 'a>>, AllocError>
-    ensures { IfOk result (λ rows. rows.items ≡ map (λ s. s.segments) row.entry) }
+    ensures { IfOk result (λ rows. flat_map (λ r. r) rows.items ≡ flat_map (λ s. s.segments) row.entry) }
 {
     let shares = row.into_vec();
     let mut rows = Vec::with_capacity(alloc, shares.len())?;

@@ -156,7 +156,7 @@ fn check_second_row<R: Abort + Threads + Sync>(
     let alone = is_second_row(rt, alloc, row);
     check(rt, "alone", alone);
     let crew = Workers { rt, plan };
-    let row = deliver_row(&crew, alloc, recordings, 1, &second, 42, &Through);
+    let row = deliver_row(&crew, alloc, recordings, 1, &second, 42);
     let by_workers = is_second_row(rt, alloc, row.expect(rt, "memory"));
     check(rt, "by workers", by_workers);
 }

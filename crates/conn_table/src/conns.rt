@@ -82,6 +82,14 @@ impl Members {
     {
         &self.list
     }
+
+    /// The members as a `Vec`.
+    pub fn into_vec(self) -> Vec<Member>
+        ensures { result.items ≡ self }
+    {
+        let Members { list } = self;
+        list
+    }
 }
 
 /// Two peers without order, the lower one first, by address and then by port, and their VLAN. Peers in another VLAN are others.

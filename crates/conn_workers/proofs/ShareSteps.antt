@@ -1,20 +1,25 @@
 -- What ranges of connections contribute, against what all of them do.
 use Rattle.std.proofs.Common.{◌≡◌, ◌<◌, ◌≤◌, ℕ, zero, suc, ◌+◌, ◌*◌, List, [], ◌∷◌, ◌++◌, length, map, take, drop, get_or, refl, sym, ap, ◌∙◌, arith}
 use Rattle.std.specs.List.{enumerate_from, flat_map}
+use Rattle.std.specs.List.Sorted.{IsPermutation}
 use Rattle.std.proofs.Math.Nat.{suc-mul}
 use Rattle.std.proofs.Math.Path.{fun_ext}
 use Rattle.std.proofs.Math.Seq.{drop-drop}
 use Rattle.std.proofs.lemmas.Grind.{flat_map-append}
-use Rattle.std.proofs.lemmas.List.{length-map, length-drop, get_or-map, take-append-drop}
+use Rattle.std.proofs.lemmas.List.{flat_map_more, length-map, length-drop, get_or-map, take-append-drop, take_more}
 use Rattle.std.proofs.lemmas.List.Elements.{All-from_get_or, All-map}
 use Rattle.std.proofs.lemmas.List.Concat.{flat_map_single}
 use Rattle.std.proofs.lemmas.List.Folds.{flat_map-map}
 use Rattle.std.proofs.lemmas.List.FromFn.{length-enumerate_from}
+use Rattle.std.proofs.lemmas.List.Sorted.{IsPermutation-append, IsPermutation-refl}
+use Rattle.segment_writer.specs.WrittenSegments.{WrittenConnection, sorted_by_key, written_segments, written_turns}
+use Rattle.segment_writer.specs.declared.framed.Framed.{Framed}
+use Rattle.segment_writer.proofs.InOrder.{sorted_append, sorted_keeps_all, sorted_twice}
 use Rattle.scenarios.specs.declared.proxies.Proxy.{Proxy}
 use Rattle.conn_workers.specs.Recordings.{RecordingView, recorded_delivery}
 use Rattle.conn_workers.specs.ReportTexts.{HoldLines, share_of, text_shares, texts_under}
 use Rattle.conn_workers.specs.RunSummaries.{seen_of_recording}
-use Rattle.conn_workers.specs.RowShares.{HoldRow, row_text, row_share, ranges_of, row_shares}
+use Rattle.conn_workers.specs.RowShares.{HoldRow, row_segments, row_text, row_share, ranges_of, row_shares}
 use Rattle.conn_workers.proofs.RowLemmas.{get_or-numbered}
 
 -- ---- ranges
@@ -64,12 +69,31 @@ module _ {X D V Y : Type 0} (make : List X → V) (read : V → List Y) (f : X �
       flat_map-map read make (ranges_of size count xs) ∙ ap (λ (g : List X → List Y). flat_map g (ranges_of size count xs)) (fun_ext same)
       ∙ together (λ x. own (f x)) size count xs whole ∙ sym (flat_map-map own f xs)
 
+-- what is moved in each part is moved in all
+all_moved : {X Y : Type 0} (f g : X → List Y) → ((x : X) → IsPermutation (f x) (g x)) → (xs : List X) → IsPermutation (flat_map f xs) (flat_map g xs)
+all_moved f g moved [] = IsPermutation-refl []
+all_moved f g moved (x ∷ xs) = IsPermutation-append (f x) (g x) (flat_map f xs) (flat_map g xs) (moved x) (all_moved f g moved xs)
+
+-- what is made of one element more
+pub taken_more : {X Y : Type 0} (f : X → List Y) (xs : List X) (i : ℕ) (x : X) → i < length xs → x ≡ get_or xs i x → flat_map f (take i xs) ++ f x ≡ flat_map f (take (i + 1) xs)
+taken_more f xs i x within is = flat_map_more f [] (take i xs) x ∙ ap (flat_map f) (ap (λ y. take i xs ++ y ∷ []) is ∙ sym (take_more xs i x within))
+
+-- the segments of one connection more, once all are put in order
+pub segments_more : (ticks : ℕ) (c : WrittenConnection) (made more had all : List Framed) → more ≡ made ++ written_turns ticks c → sorted_by_key made ≡ sorted_by_key had → had ++ written_segments ticks c ≡ all
+    → sorted_by_key more ≡ sorted_by_key all
+unfolding written_segments
+segments_more ticks c made more had all added same is =
+    ap sorted_by_key added ∙ sorted_append made (written_turns ticks c) had (sorted_by_key (written_turns ticks c)) same (sym (sorted_twice (written_turns ticks c))) ∙ ap sorted_by_key is
+
 pub row_together : (seed : ℕ) (s : ℕ × List Proxy) (recordings : List RecordingView) (size count : ℕ) → length recordings ≤ count * size
     → HoldRow seed s recordings (row_shares size count seed s recordings)
-row_together seed s recordings size count whole = record {
-  segments = read_together (row_share seed s) (λ x. x.segments) (recorded_delivery seed s) (λ d. d.segments) (λ rs. refl) size count recordings whole;
-  lines = read_together (row_share seed s) (λ x. x.lines) (recorded_delivery seed s) (λ d. d.line) (λ rs. refl) size count recordings whole;
-}
+row_together seed s recordings size count whole =
+    let parts = ranges_of size count recordings in record {
+      sorted = All-map (λ x. sorted_by_key x.segments ≡ x.segments) (row_share seed s) parts (All-from_get_or (λ rs. sorted_by_key (row_share seed s rs).segments ≡ (row_share seed s rs).segments) parts [] (λ i within. sorted_twice _));
+      segments = rw (flat_map-map (λ x. x.segments) (row_share seed s) parts, flat_map-map (λ d. d.segments) (recorded_delivery seed s) recordings, ← together (λ r. (recorded_delivery seed s r).segments) size count recordings whole)
+          (all_moved (row_segments seed s) (λ rs. sorted_by_key (row_segments seed s rs)) (λ rs. sorted_keeps_all (row_segments seed s rs)) parts);
+      lines = read_together (row_share seed s) (λ x. x.lines) (recorded_delivery seed s) (λ d. d.line) (λ rs. refl) size count recordings whole;
+    }
 
 module _ (seed : ℕ) (scenarios : List (List Proxy)) where
   -- a text for each

@@ -8,15 +8,15 @@ use crate::recordings::Recordings;
 use job_matrix::{Phase, Plan, Through, Values, work_all, work_alone};
 use report::ReportText;
 use scenarios::Scenario;
-use segment_writer::SegmentRow;
+use segment_writer::SortedRow;
 use std::alloc::{AllocError, Global};
 use std::thread::Threads;
 
 /// What some connections, one after another, contribute to one scenario. It borrows what is recorded of them.
 #[derive(Drop)]
 pub struct RowShare<'w, 'a> {
-    /// The segments that are written of them, each connection's in order of key.
-    pub segments: SegmentRow<'w, 'a>,
+    /// The segments that are written of them, in order of key.
+    pub segments: SortedRow<'w, 'a>,
     /// Their lines of the report, each with its line feed.
     pub lines: ReportText,
 }

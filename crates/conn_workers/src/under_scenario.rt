@@ -109,6 +109,7 @@ impl<'w> UnderScenario<'w> {
             let delivered = self.put_line_of(&mut lines, recording)?;
             segments = segments.with_connection(&recording.endpoints, delivered)?;
         }
+        let segments = segments.sorted(self.alloc)?;
         let lines = ReportText::of(lines);
         Ok(RowShare { segments, lines })
     }

@@ -1,18 +1,18 @@
 -- Segments in order of key.
-use Rattle.std.proofs.Common.{◌≡◌, ℕ, Bool, true, false, cond, ◌||◌, ◌&&◌, ◌==◌, nat_lt, nat_cmp, is_lt, List, [], ◌∷◌, if◌then◌else◌, refl, ap, ◌∙◌, subst, Ordering, Less, Equal, Greater}
+use Rattle.std.proofs.Common.{◌≡◌, ℕ, Bool, true, false, cond, ◌||◌, ◌&&◌, ◌==◌, nat_lt, nat_cmp, is_lt, List, [], ◌∷◌, ◌++◌, if◌then◌else◌, refl, ap, ◌∙◌, subst, Ordering, Less, Equal, Greater}
 use Rattle.std.specs.Cmp.{IsStrictWeakOrder}
 use Rattle.std.specs.Ordering.{ordering_then}
-use Rattle.std.specs.List.Sorted.{IsPermutation, IsSortedBy, IsSortedByKey}
+use Rattle.std.specs.List.Sorted.{IsPermutation, IsSortedBy, IsSortedByKey, IsStableBy, IsStableByKey}
 use Rattle.std.proofs.lemmas.List.Sorted.{ranks_by}
 use Rattle.segment_writer.specs.declared.framed.SegKey.{SegKey}
 use Rattle.segment_writer.specs.declared.framed.Framed.{Framed}
 use Rattle.segment_writer.specs.contracts.framed.SegKeyOrd.TheImpl.{ghosts}
 use Rattle.segment_writer.specs.contracts.framed.SegKeyOrd.TheImpl.Laws.{total-law}
 use Rattle.segment_writer.specs.WrittenSegments.{is_key_below, has_lower_key, below, insert_by_key, sorted_by_key}
-use Rattle.segment_writer.specs.KeyLaws.{NeverFalls, SortedKeepsAll, SortedNeverFalls}
+use Rattle.segment_writer.specs.KeyLaws.{NeverFalls, SortedNeverFalls}
 use Rattle.segment_writer.specs.KeyOrder.{RisesFrom, RisingIsSorted}
 use Rattle.segment_writer.specs.OrderedLists.{NoneBelow, Ordered, insert_by, sorted_by}
-use Rattle.segment_writer.proofs.Sorting.{ordered_stays, keeps_all, none_below-chain, ordered-sorted, sorted_ordered}
+use Rattle.segment_writer.proofs.Sorting.{ordered_stays, keeps_all, none_below-chain, ordered-sorted, sorted-append, sorted-only, sorted_ordered}
 
 -- ---- the derived order of keys is that of the definition
 
@@ -39,9 +39,11 @@ key_order key = subst IsStrictWeakOrder (λ i x y. derived_is_lower (key x) (key
 pub below_order : IsStrictWeakOrder below
 below_order = key_order (λ x. x.key)
 
--- what was put in order by a key is in order by it
-pub sorted_by_keys : {X : Type 0} (key : X → SegKey) (xs : List X) → IsSortedByKey key ghosts.cmp xs → Ordered (has_lower_key key) xs
-sorted_by_keys key xs sorted = sorted_ordered (has_lower_key key) (key_order key) xs (subst (λ lt. IsSortedBy lt xs) (λ i x y. derived_is_lower (key x) (key y) i) sorted)
+-- what was put in order by a key is in order by it, and what ties stays in its order
+pub sorted_by_keys : {X : Type 0} (key : X → SegKey) (xs ys : List X) → IsSortedByKey key ghosts.cmp ys → IsStableByKey key ghosts.cmp xs ys → ys ≡ sorted_by (has_lower_key key) xs
+sorted_by_keys key xs ys sorted stable =
+    sorted-only (has_lower_key key) (key_order key) xs ys (sorted_ordered (has_lower_key key) (key_order key) ys (subst (λ lt. IsSortedBy lt ys) (λ i x y. derived_is_lower (key x) (key y) i) sorted))
+    (subst (λ lt. IsStableBy lt xs ys) (λ i x y. derived_is_lower (key x) (key y) i) stable)
 
 inserted_by_key : (x : Framed) (ys : List Framed) → insert_by below x ys ≡ insert_by_key x ys
 inserted_by_key x [] = refl
@@ -55,12 +57,21 @@ each_in_order (x ∷ xs) = inserted_by_key x (sorted_by below xs) ∙ ap (insert
 pub in_order_by_key : sorted_by below ≡ sorted_by_key
 in_order_by_key = λ i xs. each_in_order xs i
 
+pub ordered_is_sorted : (xs : List Framed) → Ordered below xs → sorted_by_key xs ≡ xs
+ordered_is_sorted = subst (λ (sorted : List Framed → List Framed). (xs : List Framed) → Ordered below xs → sorted xs ≡ xs) in_order_by_key (ordered_stays below)
+
+pub sorted_append : (xs ys xs' ys' : List Framed) → sorted_by_key xs ≡ sorted_by_key xs' → sorted_by_key ys ≡ sorted_by_key ys' → sorted_by_key (xs ++ ys) ≡ sorted_by_key (xs' ++ ys')
+sorted_append = subst (λ (sorted : List Framed → List Framed). (xs ys xs' ys' : List Framed) → sorted xs ≡ sorted xs' → sorted ys ≡ sorted ys' → sorted (xs ++ ys) ≡ sorted (xs' ++ ys')) in_order_by_key (sorted-append below below_order)
+
 -- ---- laws
 
 pub sorted_never_falls : SortedNeverFalls
 sorted_never_falls = subst (λ (sorted : List Framed → List Framed). (xs : List Framed) → NeverFalls (sorted xs)) in_order_by_key (ordered-sorted below below_order)
 
-pub sorted_keeps_all : SortedKeepsAll
+pub sorted_twice : (xs : List Framed) → sorted_by_key (sorted_by_key xs) ≡ sorted_by_key xs
+sorted_twice xs = ordered_is_sorted (sorted_by_key xs) (sorted_never_falls xs)
+
+pub sorted_keeps_all : (xs : List Framed) → IsPermutation xs (sorted_by_key xs)
 sorted_keeps_all = subst (λ (sorted : List Framed → List Framed). (xs : List Framed) → IsPermutation xs (sorted xs)) in_order_by_key (keeps_all below)
 
 ordered-rising : (x : Framed) (ys : List Framed) → RisesFrom x.key ys → NoneBelow below x ys × Ordered below ys
@@ -73,4 +84,4 @@ ordered-rising x (y ∷ ys) rise =
 pub rising_is_sorted : RisingIsSorted
 unfolding sorted_by_key
 rising_is_sorted [] rise = refl
-rising_is_sorted (x ∷ xs) rise = subst (λ (sorted : List Framed → List Framed). sorted (x ∷ xs) ≡ x ∷ xs) in_order_by_key (ordered_stays below (x ∷ xs) (ordered-rising x xs rise))
+rising_is_sorted (x ∷ xs) rise = ordered_is_sorted (x ∷ xs) (ordered-rising x xs rise)

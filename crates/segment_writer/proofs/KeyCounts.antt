@@ -50,7 +50,7 @@ module _ (k : SegKey) where
       let all = key_count-permuted xs (filter p xs ++ filter (λ x. not (p x)) xs) (IsPermutation-filter_both p (λ x. not (p x)) (λ x. refl) xs) in
       omega (arith, all, key_count-append (filter p xs) (filter (λ x. not (p x)) xs))
 
-  none_that : (P : Framed → Type 0) → ((x : Framed) → P x → same_key k x.key ≡ true → ⊥) → (xs : List Framed) → All P xs → key_count xs ≡ 0
+  pub none_that : (P : Framed → Type 0) → ((x : Framed) → P x → same_key k x.key ≡ true → ⊥) → (xs : List Framed) → All P xs → key_count xs ≡ 0
   none_that P other [] all = refl
   none_that P other (x ∷ xs) all = key_count-cons x xs ∙ by (same_key k x.key) refl (none_that P other xs (All-tail P x xs all))
     where

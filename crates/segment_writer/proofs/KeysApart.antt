@@ -129,54 +129,6 @@ module _ (ticks : ℕ) (c : WrittenConnection) where
       let kept : List Framed = segments_before_horizon ticks ((opening ++ ups) ++ downs) in
       All-permutation (λ (x : Framed). x.key.conn ≡ c.number) kept (sorted_by_key kept) (sorted_keeps_all kept) (kept_conns c.number early opening ups downs (opening_counts c.refused ticks c) ups_count downs_count)
 
--- ---- the turns of a client and its server
-
-side_counts : (s : Sender) (n : ℕ) (sent : List SentSegment) → Counts s.conn (turn_number s.turn) n (map (framed_by s) (enumerate_from n sent))
-side_counts s n [] = tt
-side_counts s n (x ∷ sent) = ((refl, refl, refl), side_counts s (n + 1) sent)
-
-module _ (refused : Bool) (client : Sender) (at : ℕ) (up down : Line) (first : client.turn ≡ Opening) where
-  abbrev client_opening : List Framed
-  client_opening = opening_by refused client (peer_in client Opening) at
-
-  abbrev client_ups : List Framed
-  client_ups = map (framed_by (in_turn client ClientLine)) (enumerate_from 0 (segments_sent_by (own_side client up) (peer_side client down)))
-
-  abbrev server_downs : List Framed
-  server_downs = map (framed_by (peer_in client ServerLine)) (enumerate_from 0 (segments_sent_by (own_side (peer_in client ServerLine) down) (peer_side (peer_in client ServerLine) up)))
-
-  abbrev client_early : Framed → Bool
-  client_early x = nat_lt x.key.moment (horizon (ticks_of client.unit))
-
-  client_counts : Counts client.conn 0 0 client_opening
-  client_counts = by refused
-    where
-      zero : turn_number client.turn ≡ 0
-      zero = ap turn_number first
-
-      by : (b : Bool) → Counts client.conn 0 0 (opening_by b client (peer_in client Opening) at)
-      by true = ((refl, zero, refl), ((refl, refl, refl), tt))
-      by false = ((refl, zero, refl), ((refl, refl, refl), ((refl, zero, refl), tt)))
-
-  written_kept : turns_written refused client at up down ≡ filter client_early ((client_opening ++ client_ups) ++ server_downs)
-  unfolding line_written
-  written_kept =
-      ap (λ xs. xs ++ filter client_early server_downs) (sym (filter-append client_early client_opening client_ups)) ∙ sym (filter-append client_early (client_opening ++ client_ups) server_downs)
-
-  -- no two of their segments have one key
-  pub client_once : HasNoKeyTwice (turns_written refused client at up down)
-  client_once =
-      subst HasNoKeyTwice (sym written_kept)
-      (kept_once client.conn client_early client_opening client_ups server_downs client_counts (side_counts (in_turn client ClientLine) 0 (segments_sent_by (own_side client up) (peer_side client down)))
-      (side_counts (peer_in client ServerLine) 0 (segments_sent_by (own_side (peer_in client ServerLine) down) (peer_side (peer_in client ServerLine) up))))
-
-  -- all are of the client's connection
-  pub client_conns : All (λ (x : Framed). x.key.conn ≡ client.conn) (turns_written refused client at up down)
-  client_conns =
-      subst (All (λ (x : Framed). x.key.conn ≡ client.conn)) (sym written_kept)
-      (kept_conns client.conn client_early client_opening client_ups server_downs client_counts (side_counts (in_turn client ClientLine) 0 (segments_sent_by (own_side client up) (peer_side client down)))
-      (side_counts (peer_in client ServerLine) 0 (segments_sent_by (own_side (peer_in client ServerLine) down) (peer_side (peer_in client ServerLine) up))))
-
 -- ---- in order, and no key twice: keys rise
 
 once_behind : (x : Framed) (xs : List Framed) → HasNoKeyTwice (x ∷ xs) → HasNoKeyTwice xs

@@ -14,5 +14,6 @@ pub mod OneOrderLaw
 pub mod KeyCounts
 pub mod KeysApart
 pub mod RowSteps
-pub mod RowOrder
+pub mod TurnOrder
+pub mod ShortKeySteps
 pub mod PuttingSteps

@@ -4,11 +4,12 @@ use Rattle.std.specs.List.{All}
 use Rattle.std.specs.List.Sorted.{ties, IsPermutation}
 use Rattle.std.proofs.lemmas.List.Sums.{length-filter}
 use Rattle.std.proofs.lemmas.List.Elements.{All-cons, All-head, All-tail, All-nil}
-use Rattle.std.proofs.lemmas.List.Sorted.{sum_by-IsPermutation, All-permutation}
-use Rattle.segment_writer.specs.KeyLaws.{OneOrder}
-use Rattle.segment_writer.specs.WrittenSegments.{below}
+use Rattle.std.proofs.lemmas.List.Sorted.{sum_by-IsPermutation, All-permutation, IsPermutation-trans}
+use Rattle.segment_writer.specs.KeyLaws.{HasNoKeyTwice, NeverFalls, OneOrder}
+use Rattle.segment_writer.specs.WrittenSegments.{below, sorted_by_key}
+use Rattle.segment_writer.specs.declared.framed.Framed.{Framed}
 use Rattle.segment_writer.proofs.Sorting.{sorted-only}
-use Rattle.segment_writer.proofs.InOrder.{below_order, in_order_by_key}
+use Rattle.segment_writer.proofs.InOrder.{below_order, in_order_by_key, sorted_keeps_all, sorted_never_falls}
 
 -- ---- a test that one element passes at most
 
@@ -56,7 +57,11 @@ module _ {X : Type 0} (p : X → Bool) where
 
 -- ---- keys
 
-pub one_order : OneOrder
-one_order xs ys once moved falls =
+-- any list of the same segments that never falls is the one in order
+pub in_one_order : (xs ys : List Framed) → HasNoKeyTwice xs → IsPermutation xs ys → NeverFalls ys → ys ≡ sorted_by_key xs
+in_one_order xs ys once moved falls =
     sorted-only below below_order xs ys falls (λ z. same_passes (ties below z) xs ys moved (let few = once z.key in omega (arith, length-filter (ties below z) xs)))
     ∙ (λ i. in_order_by_key i xs)
+
+pub one_order : OneOrder
+one_order xs ys once moved = in_one_order xs (sorted_by_key ys) once (IsPermutation-trans xs ys (sorted_by_key ys) moved (sorted_keeps_all ys)) (sorted_never_falls ys)

@@ -16,7 +16,7 @@ use Rattle.segment_writer.specs.declared.payloads.Payload.{Payload}
 use Rattle.segment_writer.specs.declared.payloads.Payload.TheVariants.{Lent, Gathered}
 use Rattle.segment_writer.specs.declared.segment_outline.SegmentOutline.{SegmentOutline}
 use Rattle.segment_writer.specs.declared.open_rows.OpenRow.{OpenRow}
-use Rattle.segment_writer.specs.declared.open_rows.RowSegment.{RowSegment}
+use Rattle.segment_writer.specs.declared.row_segments.RowSegment.{RowSegment}
 use Rattle.segment_writer.specs.declared.senders.Sender.{Sender}
 
 -- ---- all of a list

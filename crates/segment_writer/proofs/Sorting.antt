@@ -1,10 +1,10 @@
 -- Lists in order by a test. Putting a list in order keeps its elements, and what ties keeps its order: no other list is so.
-use Rattle.std.proofs.Common.{◌≡◌, suc, arith, slice_index_or, Bool, true, false, cond, not, ◌&&◌, List, [], ◌∷◌, filter, if◌then◌else◌, refl, sym, ap, ◌∙◌, subst}
+use Rattle.std.proofs.Common.{◌≡◌, suc, arith, slice_index_or, Bool, true, false, cond, not, ◌&&◌, List, [], ◌∷◌, ◌++◌, filter, map, if◌then◌else◌, refl, sym, ap, ap₂, ◌∙◌, subst}
 use Rattle.std.specs.List.{AllByRecursion}
 use native.Mathlib.Numerals.{add-one}
 use Rattle.std.specs.Cmp.{IsStrictWeakOrder}
 use Rattle.std.specs.List.Sorted.{ties, IsSortedBy, IsStableBy, IsPermutation}
-use Rattle.std.proofs.lemmas.List.Elements.{All-from_recursion, recursion_from_All}
+use Rattle.std.proofs.lemmas.List.Elements.{All-from_recursion, filter-append, recursion_from_All}
 use Rattle.std.proofs.lemmas.List.Sorted.{IsPermutation-refl, IsPermutation-sym, IsPermutation-cons, IsPermutation-middle, IsPermutation-trans, All-permutation}
 use Rattle.lists.proofs.Lists.{all_filter, all_weaker}
 use Rattle.segment_writer.specs.OrderedLists.{NoneBelow, Ordered, insert_by, sorted_by}
@@ -138,3 +138,30 @@ module _ {X : Type 0} (lt : X → X → Bool) where
 
     pub sorted-only : (xs ys : List X) → Ordered lt ys → IsStableBy lt xs ys → ys ≡ sorted_by lt xs
     sorted-only xs ys ordered stable = only_one ys (sorted_by lt xs) ordered (ordered-sorted xs) (λ z. stable z ∙ sym (filter-sorted z xs))
+
+    -- lists of which what ties is the same are one list in order
+    same_order : (xs ys : List X) → IsStableBy lt xs ys → sorted_by lt ys ≡ sorted_by lt xs
+    same_order xs ys same = sorted-only xs (sorted_by lt ys) (ordered-sorted ys) (λ z. filter-sorted z ys ∙ same z)
+
+    same_ties : (xs ys : List X) → sorted_by lt xs ≡ sorted_by lt ys → IsStableBy lt ys xs
+    same_ties xs ys same z = sym (filter-sorted z xs) ∙ ap (filter (ties lt z)) same ∙ filter-sorted z ys
+
+    pub sorted-append : (xs ys xs' ys' : List X) → sorted_by lt xs ≡ sorted_by lt xs' → sorted_by lt ys ≡ sorted_by lt ys' → sorted_by lt (xs ++ ys) ≡ sorted_by lt (xs' ++ ys')
+    sorted-append xs ys xs' ys' first second = same_order (xs' ++ ys') (xs ++ ys) (λ z.
+        filter-append (ties lt z) xs ys ∙ ap₂ (λ (us vs : List X). us ++ vs) (same_ties xs xs' first z) (same_ties ys ys' second z) ∙ sym (filter-append (ties lt z) xs' ys'))
+
+-- ---- what is in order, and what is made of it
+
+module _ {X Y : Type 0} (f : X → Y) (lt : Y → Y → Bool) where
+  insert-map : (x : X) (ys : List X) → map f (insert_by (λ a b. lt (f a) (f b)) x ys) ≡ insert_by lt (f x) (map f ys)
+  insert-map x [] = refl
+  insert-map x (y ∷ ys) = by (lt (f y) (f x)) (insert-map x ys)
+    where
+      by : (b : Bool) → map f (insert_by (λ a b. lt (f a) (f b)) x ys) ≡ insert_by lt (f x) (map f ys)
+          → map f (if b then y ∷ insert_by (λ a b. lt (f a) (f b)) x ys else x ∷ y ∷ ys) ≡ (if b then f y ∷ insert_by lt (f x) (map f ys) else f x ∷ f y ∷ map f ys)
+      by true rest = ap (λ zs. f y ∷ zs) rest
+      by false rest = refl
+
+  pub sorted-map : (xs : List X) → map f (sorted_by (λ a b. lt (f a) (f b)) xs) ≡ sorted_by lt (map f xs)
+  sorted-map [] = refl
+  sorted-map (x ∷ xs) = insert-map x (sorted_by (λ a b. lt (f a) (f b)) xs) ∙ ap (insert_by lt (f x)) (sorted-map xs)

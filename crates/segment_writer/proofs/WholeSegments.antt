@@ -10,9 +10,9 @@ use Rattle.reassembly.specs.declared.line_parts.End as code
 use Rattle.reassembly.specs.LineLaws.{IsInChunks, GoesOn, IsNotBefore, last_instant}
 use Rattle.toxic_defs.specs.DeliveredLines.{DeliveredConnection}
 use Rattle.segment_writer.specs.Endpoints.{connection_between, endpoints_by, IsClient}
-use Rattle.segment_writer.specs.WrittenSegments.{WrittenConnection, frame_bytes, sorted_by_key, opening_turn, up_turn, down_turn, segments_before_horizon, written_segments}
+use Rattle.segment_writer.specs.WrittenSegments.{WrittenConnection, frame_bytes, opening_turn, up_turn, down_turn, segments_before_horizon, written_turns}
 use Rattle.segment_writer.specs.TimelyLines.{Climbs, LinesAreTimely}
-use Rattle.segment_writer.specs.Senders.{client_in, peer_in, line_written, opening_by, opening_written, connection_written}
+use Rattle.segment_writer.specs.Senders.{client_in, peer_in, line_written, opening_by, opening_written, turns_written}
 use Rattle.segment_writer.specs.declared.framed.Framed.{Framed}
 use Rattle.segment_writer.specs.declared.senders.Sender.{Sender}
 use Rattle.segment_writer.specs.declared.senders.Turn.TheVariants.{Opening, ClientLine, ServerLine}
@@ -56,19 +56,18 @@ client_is s opened d is = λ i. record {
 
 -- ---- the three turns
 
-pub connection_is : (client : Sender) (unit : Unit) (ticks : ℕ) (c : WrittenConnection) (up down : Line) → client ≡ client_in unit c Opening → ticks_of unit ≡ ticks → up ≡ c.client.line → down ≡ c.server.line
-    → connection_written c.refused client c.opened up down ≡ written_segments ticks c
-unfolding line_written frame_bytes written_segments
-connection_is client unit ticks c up down client_is same up_is down_is =
+pub turns_are : (client : Sender) (unit : Unit) (ticks : ℕ) (c : WrittenConnection) (up down : Line) → client ≡ client_in unit c Opening → ticks_of unit ≡ ticks → up ≡ c.client.line → down ≡ c.server.line
+    → turns_written c.refused client c.opened up down ≡ written_turns ticks c
+unfolding line_written frame_bytes
+turns_are client unit ticks c up down client_is same up_is down_is =
     let in_time : Framed → Bool = λ x. nat_lt x.key.moment (horizon ticks) in
     let opening : opening_written c.refused (client_in unit c Opening) (peer_in (client_in unit c Opening) Opening) c.opened ≡ segments_before_horizon ticks (opening_turn c.refused ticks c) =
     ap (segments_before_horizon (ticks_of unit)) (opening_is unit c.refused c) ∙ ap (λ n. segments_before_horizon n (opening_turn c.refused n c)) same in
     let ups : line_written (client_in unit c ClientLine) c.client.line c.server.line ≡ segments_before_horizon ticks (up_turn ticks c) = ap (λ n. segments_before_horizon n (up_turn n c)) same in
     let downs : line_written (peer_in (client_in unit c Opening) ServerLine) c.server.line c.client.line ≡ segments_before_horizon ticks (down_turn ticks c) = ap (λ n. segments_before_horizon n (down_turn n c)) same in
-    (λ i. connection_written c.refused (client_is i) c.opened (up_is i) (down_is i))
-    ∙ ap sorted_by_key
-    (ap₂ (λ xs ys. xs ++ ys) (ap₂ (λ xs ys. xs ++ ys) opening ups ∙ sym (filter-append in_time (opening_turn c.refused ticks c) (up_turn ticks c))) downs
-    ∙ sym (filter-append in_time (opening_turn c.refused ticks c ++ up_turn ticks c) (down_turn ticks c)))
+    (λ i. turns_written c.refused (client_is i) c.opened (up_is i) (down_is i))
+    ∙ ap₂ (λ xs ys. xs ++ ys) (ap₂ (λ xs ys. xs ++ ys) opening ups ∙ sym (filter-append in_time (opening_turn c.refused ticks c) (up_turn ticks c))) downs
+    ∙ sym (filter-append in_time (opening_turn c.refused ticks c ++ up_turn ticks c) (down_turn ticks c))
 
 -- parts with the bytes of a line, and its end
 pub line_is : (parts : List LinePart) (ended : code.End) (l : Line) → bytes_of_parts parts ≡ l.bytes → end_view ended ≡ l.end → line_of parts ended ≡ l

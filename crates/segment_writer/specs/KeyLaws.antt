@@ -19,15 +19,12 @@ HasNoKeyTwice xs = (k : SegKey) → count_by (λ x. same_key k x.key) xs ≤ 1
 abbrev pub NeverFalls : List Framed → Type 0
 NeverFalls = Ordered below
 
--- segments of which no two have one key have one order in which keys never fall
+-- if no key stands twice, segments have one order, whichever stands first
 abbrev pub OneOrder : Type 0
-OneOrder = (xs ys : List Framed) → HasNoKeyTwice xs → IsPermutation xs ys → NeverFalls ys → ys ≡ sorted_by_key xs
+OneOrder = (xs ys : List Framed) → HasNoKeyTwice xs → IsPermutation xs ys → sorted_by_key ys ≡ sorted_by_key xs
 
 abbrev pub SortedNeverFalls : Type 0
 SortedNeverFalls = (xs : List Framed) → NeverFalls (sorted_by_key xs)
-
-abbrev pub SortedKeepsAll : Type 0
-SortedKeepsAll = (xs : List Framed) → IsPermutation xs (sorted_by_key xs)
 
 abbrev pub OnceInAnyOrder : Type 0
 OnceInAnyOrder = (xs ys : List Framed) → IsPermutation xs ys → HasNoKeyTwice xs → HasNoKeyTwice ys

@@ -10,5 +10,6 @@ pub mod OrderedLists
 pub mod KeyLaws
 pub mod SentRows
 pub mod SegmentRows
+pub mod ShortKeys
 pub mod OpenRows
 pub mod Endpoints

@@ -6,9 +6,10 @@ use Rattle.frame_headers.specs.Layout.{payload_limit}
 use Rattle.segment_writer.specs.Senders.{frame_with, header_with}
 use Rattle.segment_writer.specs.SegmentOutlines.{side_sender}
 use Rattle.segment_writer.specs.declared.framed.Framed.{Framed}
+use Rattle.segment_writer.specs.declared.framed.SegKey.{SegKey}
 use Rattle.segment_writer.specs.declared.payloads.Payload.{Payload}
 use Rattle.segment_writer.specs.declared.payloads.Payload.TheVariants.{Lent, Gathered}
-use Rattle.segment_writer.specs.declared.open_rows.RowSegment.{RowSegment}
+use Rattle.segment_writer.specs.declared.row_segments.RowSegment.{RowSegment}
 use Rattle.segment_writer.specs.declared.senders.Sender.{Sender}
 
 -- ---- payloads
@@ -30,9 +31,12 @@ gathered_for bytes (Gathered start len) = bytes
 abbrev pub sender_of : RowSegment → Sender
 sender_of s = side_sender s.client.now s.is_server
 
+abbrev pub segment_key : RowSegment → SegKey
+segment_key s = record { moment = s.moment; conn = s.client.now.conn; turn = s.turn; place = s.place }
+
 abbrev pub framed_at : List ℕ → RowSegment → Framed
 framed_at gathered s = record {
-  key = record { moment = s.moment; conn = s.client.now.conn; turn = s.turn; place = s.place };
+  key = segment_key s;
   bytes = record_bytes (ticks_of (sender_of s).unit) s.moment (frame_with (header_with (sender_of s) s.seq s.ack s.flags) (payload_in gathered s.payload));
 }
 

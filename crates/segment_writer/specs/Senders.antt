@@ -140,6 +140,3 @@ abbrev pub turns_written : Bool → Sender → ℕ → Line → Line → List Fr
 turns_written refused client at up down =
     (opening_written refused client (peer_in client Opening) at ++ line_written (in_turn client ClientLine) up down)
     ++ line_written (peer_in client ServerLine) down up
-
-abbrev pub connection_written : Bool → Sender → ℕ → Line → Line → List Framed
-connection_written refused client at up down = sorted_by_key (turns_written refused client at up down)

@@ -193,5 +193,9 @@ sorted_by_key (x ∷ xs) = insert_by_key x (sorted_by_key xs)
 abbrev pub segments_before_horizon : ℕ → List Framed → List Framed
 segments_before_horizon ticks xs = filter (λ x. nat_lt x.key.moment (horizon ticks)) xs
 
+-- turn by turn
+abbrev pub written_turns : ℕ → WrittenConnection → List Framed
+written_turns ticks c = segments_before_horizon ticks ((opening_turn c.refused ticks c ++ up_turn ticks c) ++ down_turn ticks c)
+
 unfoldable pub written_segments : ℕ → WrittenConnection → List Framed
-written_segments ticks c = sorted_by_key (segments_before_horizon ticks ((opening_turn c.refused ticks c ++ up_turn ticks c) ++ down_turn ticks c))
+written_segments ticks c = sorted_by_key (written_turns ticks c)

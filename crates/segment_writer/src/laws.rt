@@ -1,6 +1,6 @@
 //! Theorems about the definitions of this crate, and worked rows of them: the contract of each function is a theorem, or is evaluated.
 ghost use Rattle.segment_writer.specs.FirstPieces.{FirstPiece};
-ghost use Rattle.segment_writer.specs.KeyLaws.{KeysRise, KeysStandOnce, OnceInAnyOrder, OneOrder, SortedKeepsAll, SortedNeverFalls};
+ghost use Rattle.segment_writer.specs.KeyLaws.{KeysRise, KeysStandOnce, OnceInAnyOrder, OneOrder, SortedNeverFalls};
 ghost use Rattle.segment_writer.specs.KeyOrder.{RisingIsSorted};
 ghost use Rattle.segment_writer.specs.SentRows.{LaterSent, CrossingSent, TurnsInOrder, RefusedInOrder, NoneAtHorizon, PiecesCut};
 ghost use Rattle.segment_writer.specs.TimelyLines.{LinesAreTimely};
@@ -24,7 +24,7 @@ pub fn lines_are_timely()
     ensures { LinesAreTimely }
 {}
 
-/// If no key stands twice, there is one order: any list of the same segments that never falls is the one in order.
+/// If no key stands twice, segments have one order of key, whichever stands first.
 pub fn one_order()
     ensures { OneOrder }
 {}
@@ -44,12 +44,6 @@ pub fn keys_stand_once()
 #[tactic(auto, using(crate::proofs::InOrder::sorted_never_falls))]
 pub fn sorted_never_falls()
     ensures { SortedNeverFalls }
-{}
-
-/// Putting segments in order keeps all of them.
-#[tactic(auto, using(crate::proofs::InOrder::sorted_keeps_all))]
-pub fn sorted_keeps_all()
-    ensures { SortedKeepsAll }
 {}
 
 /// If no key stands twice, none does in another order of the segments.

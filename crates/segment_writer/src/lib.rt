@@ -9,12 +9,16 @@ mod open_rows;
 mod payloads;
 mod pieces;
 mod records;
+mod row_segments;
 mod segment_outline;
 mod segment_rows;
 mod senders;
+mod short_keys;
+mod sorted_rows;
 mod turns;
 
 pub use connection_segments::segments;
 pub use endpoints::Endpoints;
 pub use framed::{Framed, Keys, RecordBytes, SegKey, SegList};
 pub use segment_rows::SegmentRow;
+pub use sorted_rows::SortedRow;

@@ -1,38 +1,23 @@
 //! Rows of written segments whose fields are open, and how segments are put into them.
-ghost use Rattle.std.specs.Prelude.{◌≡◌, ◌<◌, ◌≤◌, ◌++◌, [], ◌∷◌, ℕ, List, OnOk, drop, length, take};
-ghost use Rattle.std.specs.List.Sorted.{IsPermutation};
+ghost use Rattle.std.specs.Prelude.{◌≡◌, ◌<◌, ◌++◌, [], ◌∷◌, ℕ, List, IfOk, OnOk};
 ghost use Rattle.pcap_records.specs.Instants.{horizon, ticks_of};
 ghost use Rattle.reassembly.specs.declared.line_parts.LinePart.{LinePart};
-ghost use Rattle.segment_writer.specs.OrderedLists.{Ordered};
 ghost use Rattle.segment_writer.specs.SegmentOutlines.{framed_of, outlined_payload, side_sender, IsOutline};
 ghost use Rattle.segment_writer.specs.SegmentRows.{framed_at, payload_in, IsHeld, IsInRow};
-ghost use Rattle.segment_writer.specs.OpenRows.{row_key, IsLonger, IsRow, IsSideOf};
+ghost use Rattle.segment_writer.specs.OpenRows.{written_in, IsLonger, IsRow, IsSideOf};
 ghost use Rattle.segment_writer.specs.Senders.{framed_by};
-ghost use Rattle.segment_writer.specs.WrittenSegments.{has_lower_key, opening_segment};
+ghost use Rattle.segment_writer.specs.WrittenSegments.{opening_segment};
 
-use crate::framed::SegKey;
+use crate::framed::{Framed, SegList};
 use crate::payloads::{Payload, payload_of};
 use crate::records::bare_outline;
+use crate::row_segments::RowSegment;
 use crate::segment_outline::SegmentOutline;
 use crate::senders::{Numbers, Sender};
 use frame_headers::Flags;
-use pcap_records::Moment;
+use pcap_records::{Moment, Values};
 use reassembly::LinePart;
-use std::alloc::AllocError;
-
-/// A segment in a row: all of it but the bytes of its headers. `client` is that of its connection, in the opening.
-#[derive(Clone, Copy, Debug)]
-pub(crate) struct RowSegment<'w, 'a> {
-    pub(crate) moment: Moment,
-    pub(crate) payload: Payload<'a>,
-    pub(crate) client: &'w Sender,
-    pub(crate) place: u32,
-    pub(crate) seq: u32,
-    pub(crate) ack: u32,
-    pub(crate) turn: u8,
-    pub(crate) is_server: bool,
-    pub(crate) flags: Flags,
-}
+use std::alloc::{AllocError, Global};
 
 /// A row of written segments that is put together.
 #[derive(Debug, Drop)]
@@ -40,6 +25,51 @@ pub(crate) struct OpenRow<'w, 'a> {
     /// The payloads that no single slice of the capture has.
     pub(crate) gathered: Vec<u8>,
     pub(crate) segments: Vec<RowSegment<'w, 'a>>,
+}
+
+impl<'w, 'a> OpenRow<'w, 'a> {
+    ghost use Rattle.std.specs.Prelude.{◌≡◌, [], IfOk, length, min};
+    ghost use Rattle.std.specs.List.{flat_map};
+    ghost use Rattle.segment_writer.specs.OpenRows.{written_in, IsRow};
+
+    /// A row without segments, with room for `room` of them.
+    pub(crate) fn with_room(alloc: Global, room: usize) -> Result<OpenRow<'w, 'a>, AllocError>
+        ensures { IfOk result (λ row. (written_in row ≡ []) × IsRow row) }
+    {
+        Ok(OpenRow {
+            gathered: Vec::new(alloc),
+            segments: Vec::with_capacity(alloc, room)?,
+        })
+    }
+
+    /// The segments, each with its record.
+    pub(crate) fn written(&self, alloc: Global) -> Result<SegList, AllocError>
+        requires { IsRow self.now }
+        ensures { IfOk result (λ list. list ≡ written_in self.now) }
+    {
+        let mut list = Vec::with_capacity(alloc, self.segments.len())?;
+        for segment in &self.segments {
+            let mut bytes = Vec::with_capacity(alloc, segment.record_len(&self.gathered))?;
+            segment.put(&self.gathered, &mut bytes)?;
+            list.push(Framed {
+                key: segment.key(),
+                bytes: Values::of(bytes),
+            })?;
+        }
+        Ok(SegList::of(list))
+    }
+
+    /// The number of bytes of all records, or `usize::MAX` if it is more.
+    pub(crate) fn written_len(&self) -> usize
+        requires { IsRow self.now }
+        ensures { result ≡ min (length (flat_map (λ x. x.bytes) (written_in self.now))) usize.MAX }
+    {
+        let mut len = 0usize;
+        for segment in &self.segments {
+            len = len.saturating_add(segment.record_len(&self.gathered));
+        }
+        len
+    }
 }
 
 // The most segments without payload of a connection: the opening, and the end of each line.
@@ -119,27 +149,4 @@ fn segment_in_row<'w, 'a>(
         is_server: outline.is_server,
         flags: outline.flags,
     }
-}
-
-/// Puts the segments from `start` on in order of key. They are of the connection with the number `conn`.
-pub(crate) fn sort_from(segments: &mut Vec<RowSegment<'_, '_>>, start: usize, conn: u32)
-    requires { start ≤ length segments.old.items }
-    ensures first { take start segments.new.items ≡ take start segments.old.items }
-    ensures moved { IsPermutation (drop start segments.old.items) (drop start segments.new.items) }
-    ensures ordered { Ordered (has_lower_key (row_key conn)) (drop start segments.new.items) }
-{
-    sort_segments(&mut segments[start..], conn);
-}
-
-fn sort_segments(segments: &mut [RowSegment<'_, '_>], conn: u32)
-    ensures moved { IsPermutation segments.old segments.new }
-    ensures count { length segments.new ≡ length segments.old }
-    ensures ordered { Ordered (has_lower_key (row_key conn)) segments.new }
-{
-    segments.sort_unstable_by_key(|segment| SegKey {
-        moment: segment.moment,
-        conn,
-        turn: segment.turn,
-        place: segment.place,
-    });
 }

@@ -11,7 +11,8 @@ use Rattle.std.proofs.lemmas.List.Elements.{All-nil, All-cons, All-head, All-tai
 use Rattle.itertools.specs.KMerge.{SourcesGive, joined_lists}
 use Rattle.segment_writer.specs.declared.framed.Framed.{Framed}
 use Rattle.segment_writer.specs.WrittenSegments.{sorted_by_key}
-use Rattle.segment_writer.specs.KeyLaws.{NeverFalls, SortedNeverFalls}
+use Rattle.segment_writer.specs.KeyLaws.{NeverFalls}
+use Rattle.segment_writer.proofs.InOrder.{sorted_never_falls}
 use Rattle.time_merge.specs.declared.key_order.KeyedSegment.{KeyedSegment}
 use Rattle.time_merge.specs.KeyedSegments.{keyed_segments, all_keyed_segments, keyed_cmp}
 use Rattle.time_merge.proofs.KeyedOrder.{below, derived, derived_is_below, keys_sorted}
@@ -48,15 +49,15 @@ module _ {L : Type 0} (segments : L → List Framed) where
   abbrev pub InOrder : L → Type 0
   InOrder l = sorted_by_key (segments l) ≡ segments l
 
-  sorted_from : SortedNeverFalls → (n : ℕ) (lists : List L) → All InOrder lists → All (IsSortedBy below) (map keys_of_list (enumerate_from n lists))
-  sorted_from never_falls n [] all = All-nil (IsSortedBy below)
-  sorted_from never_falls n (l ∷ lists) all =
-      let own : NeverFalls (segments l) = subst (λ (ys : List Framed). NeverFalls ys) (All-head InOrder l lists all) (never_falls (segments l)) in
+  sorted_from : (n : ℕ) (lists : List L) → All InOrder lists → All (IsSortedBy below) (map keys_of_list (enumerate_from n lists))
+  sorted_from n [] all = All-nil (IsSortedBy below)
+  sorted_from n (l ∷ lists) all =
+      let own : NeverFalls (segments l) = subst (λ (ys : List Framed). NeverFalls ys) (All-head InOrder l lists all) (sorted_never_falls (segments l)) in
       All-cons (IsSortedBy below) (keyed_segments n 0 (segments l)) (map keys_of_list (enumerate_from (n + 1) lists)) (keys_sorted n 0 (segments l) own)
-      (sorted_from never_falls (n + 1) lists (All-tail InOrder l lists all))
+      (sorted_from (n + 1) lists (All-tail InOrder l lists all))
 
-  pub all_sorted : SortedNeverFalls → (lists : List L) → All InOrder lists → All (IsSortedBy derived) (keys_of_lists lists)
-  all_sorted never_falls lists all = subst (λ lt. All (IsSortedBy lt) (keys_of_lists lists)) (sym derived_is_below) (sorted_from never_falls 0 lists all)
+  pub all_sorted : (lists : List L) → All InOrder lists → All (IsSortedBy derived) (keys_of_lists lists)
+  all_sorted lists all = subst (λ lt. All (IsSortedBy lt) (keys_of_lists lists)) (sym derived_is_below) (sorted_from 0 lists all)
 
   -- what a merge gave of all keys, and nothing is left
   pub gave_all : (lists : List L) (xs rest items : List KeyedSegment) → IsPermutation (joined_lists (keys_of_lists lists)) (xs ++ rest) → rest ≡ [] → items ≡ xs → IsPermutation (all_keyed_segments segments lists) items

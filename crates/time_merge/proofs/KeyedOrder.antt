@@ -9,9 +9,10 @@ use Rattle.std.proofs.lemmas.List.Sorted.{ranks_by, sorted_far, IsPermutation-ma
 use Rattle.segment_writer.specs.declared.framed.SegKey.{SegKey}
 use Rattle.segment_writer.specs.declared.framed.Framed.{Framed}
 use Rattle.segment_writer.specs.WrittenSegments.{is_key_below, below as segment_below, sorted_by_key}
-use Rattle.segment_writer.specs.KeyLaws.{NeverFalls, HasNoKeyTwice, OneOrder}
+use Rattle.segment_writer.specs.KeyLaws.{NeverFalls, HasNoKeyTwice}
 use Rattle.segment_writer.specs.OrderedLists.{NoneBelow}
 use Rattle.segment_writer.proofs.InOrder.{derived_is_lower}
+use Rattle.segment_writer.proofs.OneOrderLaw.{in_one_order}
 use Rattle.time_merge.specs.declared.key_order.KeyedSegment.{KeyedSegment}
 use Rattle.time_merge.specs.contracts.key_order.KeyedSegmentOrd.TheImpl.Laws.{total-law, matches_partial_cmp-law}
 use Rattle.time_merge.specs.contracts.key_order.KeyedSegmentPartialOrd.TheImpl.{ghosts as partial}
@@ -94,10 +95,10 @@ module _ {L : Type 0} (segments : L → List Framed) (lists : List L) where
   pub merged_keyed : (ks : List KeyedSegment) → IsPermutation (all_keyed_segments segments lists) ks → All (IsKeyed segments lists) ks
   merged_keyed ks moved = All-permutation (IsKeyed segments lists) (all_keyed_segments segments lists) ks moved (all_keyed segments lists)
 
-  pub merged_sorted : OneOrder → HasNoKeyTwice (flat_map segments lists) → (ks : List KeyedSegment) → IsPermutation (all_keyed_segments segments lists) ks → IsSorted keyed_cmp ks
+  pub merged_sorted : HasNoKeyTwice (flat_map segments lists) → (ks : List KeyedSegment) → IsPermutation (all_keyed_segments segments lists) ks → IsSorted keyed_cmp ks
       → map (segment_of segments lists) ks ≡ sorted_by_key (flat_map segments lists)
-  merged_sorted one_order once ks moved sorted =
-      one_order (flat_map segments lists) (map (segment_of segments lists) ks) once
+  merged_sorted once ks moved sorted =
+      in_one_order (flat_map segments lists) (map (segment_of segments lists) ks) once
       (subst (λ (xs : List Framed). IsPermutation xs (map (segment_of segments lists) ks)) (all_shown segments lists) (IsPermutation-map (segment_of segments lists) (all_keyed_segments segments lists) ks moved))
       (never_falls ks (merged_keyed ks moved) (sorted_far below below_order ks sorted))
 

@@ -1,4 +1,4 @@
--- Segments by their keys, with the list and index where they stand: what is merged, or sorted, in place of segments.
+-- Segments by their keys, with the list and index where they stand: what is merged in place of segments.
 use Rattle.std.specs.Prelude.{◌≡◌, ◌<◌, ℕ, ◌+◌, List, [], ◌∷◌, length, drop, map, slice_index_or}
 use Rattle.std.specs.List.{enumerate_from, flat_map, range_with_len}
 use Rattle.std.specs.List.Sorted.{IsPermutation, IsSorted}
@@ -10,8 +10,8 @@ use Rattle.segment_writer.specs.SegmentOutlines.{no_segment}
 use Rattle.time_merge.specs.declared.key_order.KeyedSegment.{KeyedSegment}
 use Rattle.time_merge.specs.declared.key_order.KeyedSegments.{KeyedSegments}
 use Rattle.time_merge.specs.declared.orders.Place.{Place}
-use Rattle.time_merge.specs.declared.orders.Places.{Places}
-use Rattle.time_merge.specs.declared.orders.Places.TheVariants.{Listed, OfOneList}
+use Rattle.time_merge.specs.declared.orders.Order.{Order}
+use Rattle.time_merge.specs.declared.orders.Order.TheVariants.{Listed, OfOneList}
 
 abbrev pub key_cmp : SegKey → SegKey → Ordering
 key_cmp = then_cmp (on (λ k. k.moment) nat_cmp) (then_cmp (on (λ k. k.conn) nat_cmp) (then_cmp (on (λ k. k.turn) nat_cmp) (on (λ k. k.place) nat_cmp)))
@@ -25,7 +25,7 @@ no_place = record { list = 0; index = 0 }
 abbrev pub place_in_first : ℕ → Place
 place_in_first index = record { list = 0; index = index }
 
-abbrev pub places_in : Places → List Place
+abbrev pub places_in : Order → List Place
 places_in (Listed places) = places.items
 places_in (OfOneList n) = map place_in_first (range_with_len 0 n)
 

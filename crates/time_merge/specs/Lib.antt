@@ -1,4 +1,3 @@
 pub mod MergedCapture
 pub mod KeyedSegments
 pub mod Sinks
-pub mod ShortKeys

@@ -4,7 +4,6 @@
 mod key_order;
 mod merging;
 mod orders;
-mod short_keys;
 mod sinks;
 
 pub use merging::{Merged, merge, merged_capture, write_capture};

@@ -4,11 +4,11 @@ ghost use Rattle.std.specs.List.{flat_map};
 ghost use Rattle.pcap_records.specs.Instants.{ticks_of};
 ghost use Rattle.segment_writer.specs.KeyLaws.{HasNoKeyTwice};
 ghost use Rattle.segment_writer.specs.WrittenSegments.{sorted_by_key};
-ghost use Rattle.time_merge.specs.KeyedSegments.{IsPlace, segment_at};
+ghost use Rattle.time_merge.specs.KeyedSegments.{IsPlace, places_in, segment_at};
 ghost use Rattle.time_merge.specs.MergedCapture.{all_segments, capture_in_turn, capture_of};
 ghost use Rattle.time_merge.specs.Sinks.{HasFirstPart, IsWritten};
 
-use crate::key_order::{in_order, merged_keys, order_of, sorted_places};
+use crate::key_order::merged_order;
 use crate::orders::{Order, Place};
 use crate::sinks::{CaptureSink, InMemory};
 use pcap_records::{FILE_HEADER_LEN, Unit, write_header};
@@ -22,9 +22,7 @@ pub fn merge(alloc: Global, lists: Vec<SegList>) -> Result<Merged, AllocError>
     requires once { HasNoKeyTwice (all_segments lists.items) }
     ensures { IfOk result (λ merged. merged ≡ sorted_by_key (all_segments lists.items)) }
 {
-    let keys = merged_keys(alloc, &lists)?;
-    let order = order_of(alloc, &keys)?;
-    let order = in_order(&lists, order);
+    let order = merged_order(alloc, &lists)?;
     Ok(Merged { lists, order })
 }
 
@@ -38,13 +36,13 @@ pub struct Merged {
 impl Model for Merged {
     ghost use Rattle.std.specs.Prelude.{List, All, map};
     ghost use Rattle.segment_writer.specs.declared.framed.Framed.{Framed};
-    ghost use Rattle.time_merge.specs.KeyedSegments.{IsPlace, segment_at};
+    ghost use Rattle.time_merge.specs.KeyedSegments.{IsPlace, places_in, segment_at};
 
     ghost Value = { List Framed };
 
-    ghost view = { λ m. map (segment_at (λ l. l) m.lists.items) m.order };
+    ghost view = { λ m. map (segment_at (λ l. l) m.lists.items) (places_in m.order) };
 
-    ghost invariant = { λ m. All (IsPlace (λ l. l) m.lists.items) m.order };
+    ghost invariant = { λ m. All (IsPlace (λ l. l) m.lists.items) (places_in m.order) };
 }
 
 impl Merged {
@@ -56,8 +54,8 @@ impl Merged {
     }
 }
 
-/// Writes the capture of the segments of all lists, whose instants count in `unit`, to a sink. The segments may stand in any order. What the
-/// sink has taken, and after it the returned bytes, are the capture. After an error the sink has a first part of it.
+/// Writes the capture of the segments of lists that are in order of key, whose instants count in `unit`, to a sink. What the sink has taken,
+/// and after it the returned bytes, are the capture. After an error the sink has a first part of it.
 #[tactic(auto, unfolding(crate::specs::MergedCapture::capture_of))]
 pub fn write_capture<L: Keys, S: CaptureSink>(
     alloc: Global,
@@ -65,28 +63,29 @@ pub fn write_capture<L: Keys, S: CaptureSink>(
     unit: Unit,
     sink: &mut S,
 ) -> Result<Vec<u8>, AllocError>
+    requires sorted { All (λ l. sorted_by_key (L.segments l) ≡ L.segments l) lists.now }
     requires once { HasNoKeyTwice (flat_map L.segments lists.now) }
     requires empty { S.took sink.old [] }
     ensures written { IfOk result (λ rest. IsWritten (S.took sink.new) rest.items (capture_of (ticks_of unit) (flat_map L.segments lists.now))) }
     ensures first { OnErr result (HasFirstPart (S.took sink.new) (capture_of (ticks_of unit) (flat_map L.segments lists.now))) }
     ensures same { S.place sink.new ≡ S.place sink.old }
 {
-    let order = sorted_places(alloc, lists)?;
+    let order = merged_order(alloc, lists)?;
     written(Vec::new(alloc), lists, &order, unit, sink)
 }
 
-/// The capture of the segments of all lists, whose instants count in `unit`. The segments may stand in any order. Its memory is allocated
-/// at once.
+/// The capture of the segments of lists that are in order of key, whose instants count in `unit`. Its memory is allocated at once.
 #[tactic(auto, unfolding(crate::specs::MergedCapture::capture_of))]
 pub fn merged_capture<L: Keys>(
     alloc: Global,
     lists: &[L],
     unit: Unit,
 ) -> Result<Vec<u8>, AllocError>
-    requires { HasNoKeyTwice (flat_map L.segments lists.now) }
+    requires sorted { All (λ l. sorted_by_key (L.segments l) ≡ L.segments l) lists.now }
+    requires once { HasNoKeyTwice (flat_map L.segments lists.now) }
     ensures { IfOk result (λ bytes. bytes.items ≡ capture_of (ticks_of unit) (flat_map L.segments lists.now)) }
 {
-    let order = sorted_places(alloc, lists)?;
+    let order = merged_order(alloc, lists)?;
     captured(alloc, lists, &order, unit)
 }
 
@@ -97,8 +96,8 @@ fn captured<L: Keys>(
     order: &Order,
     unit: Unit,
 ) -> Result<Vec<u8>, AllocError>
-    requires { All (IsPlace L.segments lists.now) order.now }
-    ensures { IfOk result (λ bytes. bytes.items ≡ capture_in_turn (ticks_of unit) (map (segment_at L.segments lists.now) order.now)) }
+    requires { All (IsPlace L.segments lists.now) (places_in order.now) }
+    ensures { IfOk result (λ bytes. bytes.items ≡ capture_in_turn (ticks_of unit) (map (segment_at L.segments lists.now) (places_in order.now))) }
 {
     let room = Vec::with_capacity(alloc, capture_len(lists))?;
     written(room, lists, order, unit, &mut InMemory)
@@ -112,13 +111,13 @@ fn written<L: Keys, S: CaptureSink>(
     unit: Unit,
     sink: &mut S,
 ) -> Result<Vec<u8>, AllocError>
-    requires stand { All (IsPlace L.segments lists.now) order.now }
+    requires stand { All (IsPlace L.segments lists.now) (places_in order.now) }
     requires batch { batch.items ≡ [] }
     requires empty { S.took sink.old [] }
     ensures written { IfOk result (λ rest. IsWritten (S.took sink.new) rest.items
-        (capture_in_turn (ticks_of unit) (map (segment_at L.segments lists.now) order.now))) }
+        (capture_in_turn (ticks_of unit) (map (segment_at L.segments lists.now) (places_in order.now)))) }
     ensures first { OnErr result (HasFirstPart (S.took sink.new)
-        (capture_in_turn (ticks_of unit) (map (segment_at L.segments lists.now) order.now))) }
+        (capture_in_turn (ticks_of unit) (map (segment_at L.segments lists.now) (places_in order.now)))) }
     ensures same { S.place sink.new ≡ S.place sink.old }
 {
     let mut batch = batch;
@@ -142,8 +141,8 @@ fn make_room<L: Keys>(
     order: &Order,
     number: usize,
 ) -> Result<(), AllocError>
-    requires stand { All (IsPlace L.segments lists.now) order.now }
-    requires within { number ≤ length order.now }
+    requires stand { All (IsPlace L.segments lists.now) (places_in order.now) }
+    requires within { number ≤ length (places_in order.now) }
     ensures { batch.new.items ≡ batch.old.items }
 {
     if number % GROUP_LEN != 0 {
@@ -154,8 +153,8 @@ fn make_room<L: Keys>(
 
 // The length of the records of a group that begins with this number.
 fn group_len<L: Keys>(lists: &[L], order: &Order, number: usize) -> usize
-    requires stand { All (IsPlace L.segments lists.now) order.now }
-    requires within { number ≤ length order.now }
+    requires stand { All (IsPlace L.segments lists.now) (places_in order.now) }
+    requires within { number ≤ length (places_in order.now) }
 {
     let mut len = 0usize;
     for next in number..order.len().min(number.saturating_add(GROUP_LEN)) {

@@ -1,19 +1,23 @@
 -- The outputs of a capture, and of the sources that are made of it.
 use Rattle.std.proofs.Common.{◌≡◌, ◌<◌, ℕ, suc, ◌+◌, List, [], ◌∷◌, ◌++◌, length, map, get_or, refl, sym, ap, ap₂, subst, ◌∙◌, arith, append_assoc}
-use Rattle.std.specs.List.{enumerate_from, flat_map}
+use Rattle.std.specs.List.{All, enumerate_from, flat_map}
+use Rattle.std.specs.List.Sorted.{IsPermutation}
 use Rattle.std.proofs.lemmas.List.{get_or-map, length-map}
+use Rattle.std.proofs.lemmas.List.Elements.{All-map}
 use Rattle.std.proofs.lemmas.List.Folds.{flat_map-map}
 use Rattle.std.proofs.lemmas.List.FromFn.{get_or-enumerate_from, get_or-map-range_with_len, length-enumerate_from}
 use Rattle.pcap_records.specs.CaptureView.{CaptureView, contents_of}
 use Rattle.conn_table.specs.SeenCapture.{SeenCapture, seen_capture}
 use Rattle.segment_writer.specs.declared.framed.Framed.{Framed}
-use Rattle.segment_writer.specs.KeyLaws.{KeysStandOnce}
-use Rattle.time_merge.specs.MergedCapture.{all_segments, capture_of}
+use Rattle.segment_writer.specs.KeyLaws.{HasNoKeyTwice, KeysStandOnce, OneOrder}
+use Rattle.segment_writer.specs.WrittenSegments.{sorted_by_key}
+use Rattle.time_merge.specs.MergedCapture.{all_segments, capture_in_turn, capture_of}
 use Rattle.report.specs.ReportText.{connections_text, counts_text, report_text}
 use Rattle.scenarios.specs.declared.proxies.Proxy.{Proxy}
 use Rattle.conn_workers.specs.declared.deliveries.Delivery.{Delivery}
 use Rattle.conn_workers.specs.CaptureTables.{whole_table}
 use Rattle.conn_workers.specs.DeliveryLaws.{LinesAreContributed, RowsAreContributed}
+use Rattle.conn_workers.specs.declared.row_shares.RowShare.{RowShare}
 use Rattle.conn_workers.specs.DeliveryRows.{connections_of, delivery_of}
 use Rattle.conn_workers.specs.Recordings.{RecordingView, recorded_delivery, recorded_lines, recorded_row, recordings_of}
 use Rattle.run_files.specs.declared.outputs.Output.{Output}
@@ -109,6 +113,20 @@ pub stand_once : (capture : CaptureView) (seed : ℕ) (recordings : List Recordi
     → RowsHaveNoKeyTwice seed recordings
 stand_once capture seed recordings are contributed once = λ s.
     rw are (rw (row_segments capture seed s contributed) (row_stands_once capture.ticks seed s once (seen_capture (contents_of capture))))
+
+-- ---- of shares
+
+-- of the same segments in another order the capture is the same
+pub capture_moved : OneOrder → (ticks : ℕ) (xs ys : List Framed) → HasNoKeyTwice xs → IsPermutation xs ys → capture_of ticks ys ≡ capture_of ticks xs
+unfolding capture_of
+capture_moved one_order ticks xs ys once moved = ap (capture_in_turn ticks) (one_order xs ys once moved)
+
+module _ (rows : List (List Framed)) (row : List RowShare) (are : rows ≡ map (λ s. s.segments) row) where
+  pub rows_together : flat_map (λ r. r) rows ≡ flat_map (λ s. s.segments) row
+  rows_together = ap (flat_map (λ (r : List Framed). r)) are ∙ flat_map-map (λ (r : List Framed). r) (λ (s : RowShare). s.segments) row
+
+  pub rows_sorted : All (λ s. sorted_by_key s.segments ≡ s.segments) row → All (λ r. sorted_by_key r ≡ r) rows
+  rows_sorted sorted = subst (All (λ r. sorted_by_key r ≡ r)) (sym are) (All-map (λ (r : List Framed). sorted_by_key r ≡ r) (λ (s : RowShare). s.segments) row sorted)
 
 -- ---- of sources
 

@@ -16,7 +16,7 @@ use row_captures::{segment_rows, written_draft};
 use row_reports::{reported_draft, whole_report};
 use run_files::{DraftedOutput, Folder, Output, Outputs};
 use scenarios::Scenario;
-use segment_writer::laws::keys_stand_once;
+use segment_writer::laws::{keys_stand_once, once_in_any_order, one_order};
 use std::alloc::{AllocError, Global};
 use time_merge::merged_capture;
 
@@ -72,10 +72,11 @@ impl<'w, 'v, 'a> Sources<'w, 'v, 'a> {
 impl<'w, 'v, 'a> Sources<'w, 'v, 'a> {
     ghost use Rattle.run_files.specs.DraftedOutputs.{IsDraftOf};
     ghost use Rattle.toxicap.specs.CaptureOutputs.{no_output, outputs_from};
-    ghost use Rattle.std.specs.Prelude.{◌≡◌, ◌^◌, ◌<◌, ◌≤◌, ◌++◌, [], IfOk, get_or, length};
+    ghost use Rattle.std.specs.Prelude.{◌≡◌, ◌^◌, ◌<◌, ◌≤◌, ◌++◌, [], All, IfOk, get_or, length};
     ghost use Rattle.pcap_records.specs.Instants.{ticks_of};
     ghost use Rattle.toxicap.specs.DraftPlaces.{AreAtPlace};
     ghost use Rattle.segment_writer.specs.KeyLaws.{HasNoKeyTwice};
+    ghost use Rattle.segment_writer.specs.WrittenSegments.{sorted_by_key};
     ghost use Rattle.time_merge.specs.MergedCapture.{capture_of};
     ghost use Rattle.std.specs.List.{flat_map};
 
@@ -120,7 +121,7 @@ impl<'w, 'v, 'a> Sources<'w, 'v, 'a> {
         requires within { number < length self.now.scenarios.now }
         requires place { place ≤ 2 ^ 32 }
         ensures drafts { IfOk result (IsDraftOf D.holds (get_or (outputs_from self.now) number no_output)) }
-        ensures places { IfOk result (AreAtPlace D.path_of folder.now place) }
+        ensures places { IfOk result (AreAtPlace D.path_of folder.now.path place) }
     {
         let row = self.row(crew, number)?;
         let draft = folder.draft(self.alloc, disk, 2 * place + 1)?;
@@ -134,12 +135,15 @@ impl<'w, 'v, 'a> Sources<'w, 'v, 'a> {
     fn row<C: Crew>(&self, crew: &C, number: usize) -> Result<RowShares<'w, 'a>, AllocError>
         requires crew { C.shares crew.now }
         requires within { number < length self.now.scenarios.now }
+        ensures sorted { IfOk result (λ row. All (λ s. sorted_by_key s.segments ≡ s.segments) row) }
         ensures once { IfOk result (λ row. HasNoKeyTwice (flat_map (λ s. s.segments) row)) }
         ensures capture { IfOk result (λ row. capture_of (ticks_of self.now.unit) (flat_map (λ s. s.segments) row)
             ≡ (get_or (outputs_from self.now) number no_output).capture) }
         ensures report { IfOk result (λ row. get_or self.now.heads.now number [] ++ flat_map (λ s. s.lines) row
             ≡ (get_or (outputs_from self.now) number no_output).report) }
     {
+        one_order();
+        once_in_any_order();
         let scenario = &self.scenarios[number];
         crew.deliver_row(
             self.alloc,

@@ -1,14 +1,15 @@
 //! The capture of what connections contribute to a scenario, written to a draft.
-ghost use Rattle.std.specs.Prelude.{◌≡◌, [], IfOk};
+ghost use Rattle.std.specs.Prelude.{◌≡◌, [], All, IfOk, map};
 ghost use Rattle.std.specs.List.{flat_map};
 ghost use Rattle.pcap_records.specs.Instants.{ticks_of};
 ghost use Rattle.segment_writer.specs.KeyLaws.{HasNoKeyTwice};
+ghost use Rattle.segment_writer.specs.WrittenSegments.{sorted_by_key};
 ghost use Rattle.time_merge.specs.MergedCapture.{capture_of};
 
 use conn_workers::RowShares;
 use disks::Disk;
 use pcap_records::Unit;
-use segment_writer::SegmentRow;
+use segment_writer::SortedRow;
 use std::alloc::{AllocError, Global};
 use time_merge::{CaptureSink, write_capture};
 
@@ -38,8 +39,8 @@ impl<D: Disk> CaptureSink for DraftSink<D> {
 pub(crate) fn segment_rows<'w, 'a>(
     alloc: Global,
     row: RowShares<'w, 'a>,
-) -> Result<Vec<SegmentRow<'w, 'a>>, AllocError>
-    ensures { IfOk result (λ rows. flat_map (λ r. r) rows.items ≡ flat_map (λ s. s.segments) row.entry) }
+) -> Result<Vec<SortedRow<'w, 'a>>, AllocError>
+    ensures { IfOk result (λ rows. rows.items ≡ map (λ s. s.segments) row.entry) }
 {
     let shares = row.into_vec();
     let mut rows = Vec::with_capacity(alloc, shares.len())?;
@@ -52,10 +53,11 @@ pub(crate) fn segment_rows<'w, 'a>(
 // Writes the capture of the segments of all rows to a draft without bytes, and returns the draft.
 pub(crate) fn written_draft<D: Disk>(
     alloc: Global,
-    rows: &[SegmentRow<'_, '_>],
+    rows: &[SortedRow<'_, '_>],
     unit: Unit,
     draft: D::Draft,
 ) -> Result<D::Draft, AllocError>
+    requires sorted { All (λ r. sorted_by_key r ≡ r) rows.now }
     requires once { HasNoKeyTwice (flat_map (λ r. r) rows.now) }
     requires empty { D.holds draft [] }
     ensures holds { IfOk result (λ d. D.holds d (capture_of (ticks_of unit) (flat_map (λ r. r) rows.now))) }

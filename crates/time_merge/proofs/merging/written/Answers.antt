@@ -5,7 +5,7 @@ use Rattle.std.proofs.lemmas.List.{flat_map_more, get_or_default, map-append, ta
 use Rattle.pcap_records.specs.Instants.{ticks_of}
 use Rattle.pcap_records.specs.Writing.{file_header}
 use Rattle.segment_writer.specs.declared.framed.Framed.{Framed}
-use Rattle.time_merge.specs.KeyedSegments.{no_place, segment_at}
+use Rattle.time_merge.specs.KeyedSegments.{no_place, places_in, segment_at}
 use Rattle.time_merge.specs.MergedCapture.{capture_in_turn}
 use Rattle.time_merge.specs.Sinks.{HasFirstPart, IsOffered, IsWritten}
 use Rattle.time_merge.specs.declared.orders.Place.{Place}
@@ -47,17 +47,17 @@ taken_first Took ticks segment order i batch (front, took, is) =
 pub returns-in_err-make_room-clause-first : goal.returns-in_err-make_room-clause-first
 returns-in_err-make_room-clause-first g c =
     on_err c.from_residual-in_err-make_room.result (taken_first (g.S.CaptureSink.took c.loop-number.sink) (ticks_of c.args.unit)
-    (segment_at g.L.Keys.segments c.args.lists.now) c.args.order.now c.loop-number.number c.loop-number.batch.items c.loop-number.invariant.written)
+    (segment_at g.L.Keys.segments c.args.lists.now) (places_in c.args.order.now) c.loop-number.number c.loop-number.batch.items c.loop-number.invariant.written)
 
 pub returns-in_err-put_segment-clause-first : goal.returns-in_err-put_segment-clause-first
 returns-in_err-put_segment-clause-first g c =
     on_err c.from_residual-in_err-put_segment.result (taken_first (g.S.CaptureSink.took c.loop-number.sink) (ticks_of c.args.unit)
-    (segment_at g.L.Keys.segments c.args.lists.now) c.args.order.now c.loop-number.number c.loop-number.batch.items c.loop-number.invariant.written)
+    (segment_at g.L.Keys.segments c.args.lists.now) (places_in c.args.order.now) c.loop-number.number c.loop-number.batch.items c.loop-number.invariant.written)
 
 pub loop-number-preserved : goal.loop-number-preserved
 loop-number-preserved g c =
     let was = c.loop-number.invariant.written in
-    let order = c.args.order.now in
+    let order : List Place = places_in c.args.order.now in
     let number = c.loop-number.number in
     let place = c.place.result in
     let within : number < length order = omega (arith, c.loop-number-test.true, c.len-number-end.ensures) in

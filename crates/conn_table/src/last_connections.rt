@@ -25,6 +25,9 @@ pub(crate) struct Recent {
 // The most pairs whose last connection stands in the table of recent ones.
 const MOST_SLOTS: usize = 4096;
 
+// The slots for each opening, if they are not too many.
+const SLOTS_EACH: usize = 4;
+
 /// The last connection of each pair.
 #[derive(Drop)]
 pub(crate) struct LastConnections {
@@ -36,7 +39,7 @@ pub(crate) struct LastConnections {
 fn slots_for(openings: usize) -> usize
     ensures { 0 < result }
 {
-    (4 * openings.min(MOST_SLOTS / 4)).next_power_of_two()
+    (SLOTS_EACH * openings.min(MOST_SLOTS / SLOTS_EACH)).next_power_of_two()
 }
 
 // No answer depends on the slot. If pairs share one, more of them are looked up in the map.

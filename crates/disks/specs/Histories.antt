@@ -1,5 +1,7 @@
 -- What a disk tells of its paths: what they held at first, and the files that were published since, in order.
-use Rattle.std.specs.Prelude.{◌≡◌, ◌≤◌, ◌⊎◌, ⊤, ℕ, List, [], ◌∷◌, ◌++◌, length, take, fold, bytes_eq, if◌then◌else◌, Option, Some, None}
+use Rattle.std.specs.Prelude.{◌≡◌, ◌≤◌, ◌⊎◌, ⊤, ℕ, List, [], ◌∷◌, ◌++◌, length, take, fold, bytes_eq, if◌then◌else◌, Option, Some, None, Result, Ok, Err}
+use Rattle.disks.specs.declared.disk.DiskFault.{DiskFault}
+use Rattle.disks.specs.declared.disk.DiskFault.TheVariants as fault
 use Rattle.disks.specs.FileContents.{Held, FileContents, whole_file}
 
 -- a file that was published: its path, and all its bytes
@@ -30,6 +32,12 @@ held_at h n = held_after h.first (take n h.published)
 
 abbrev pub held_now : History → Held
 held_now h = held_after h.first h.published
+
+-- how many calls of the disk failed if one ended so: one that ran out of memory did not fail
+abbrev pub failures : Result (Unit {0}) DiskFault → ℕ
+failures (Ok _) = 0
+failures (Err fault.Failed) = 1
+failures (Err fault.Memory) = 0
 
 -- Between two histories of a disk exactly these files were published. If the disk tells no history, nothing is claimed.
 abbrev pub Publishes : Option History → Option History → List PublishedFile → Type 0

@@ -1,12 +1,15 @@
-//! The disk of the host: each method is a few calls of std. It tells nothing of what its paths hold, since others may change them.
-ghost use Rattle.std.specs.Prelude.{None};
+//! The disk of the host: each method is a few calls of its files. It tells nothing of what its paths hold, since others may change them.
+ghost use Rattle.std.specs.Prelude.{◌≡◌, true, None, IsTrue};
+ghost use Rattle.disks.specs.DraftPaths.{is_draft_name, IsDraftPath};
 
-use crate::disk::{Disk, DiskFault, DiskFile, FileId, ReadDisk, count_failure};
+use crate::disk::{Disk, DiskFault, DiskFile, FileId, ReadDisk, count_failure, count_fault};
+use crate::host_drafts::HostDraft;
+use crate::host_files::{FoundFile, HostFiles, WrittenFile, id_of};
 use crate::read_files::ReadFiles;
 use std::alloc::{AllocError, Global};
-use std::fs::{self, DirEntry, File, Metadata, OpenFile, OpenOptions, TryLockError};
-use std::io::{Error, ErrorKind, Read, Write};
-use std::os::unix::fs::{FileExt, MetadataExt};
+use std::fs::{DirEntry, File, OpenFile, TryLockError};
+use std::io::{Error, ErrorKind, Read};
+use std::os::unix::fs::FileExt;
 use std::rt::Files;
 
 /// A file that one process can hold while it has the file open.
@@ -22,48 +25,70 @@ impl Lockable for File {
     }
 }
 
+/// A file that was published, and its path.
+#[derive(Drop)]
+struct PublishedFile {
+    path: String,
+    file: WrittenFile,
+}
+
 /// The file system that a runtime opens files of.
 #[derive(Drop)]
 pub struct HostDisk<'a, F: Files> {
-    files: &'a F,
+    alloc: Global,
+    files: HostFiles<'a, F>,
     held: Option<F::File>,
+    published: Vec<PublishedFile>,
     failed: u64,
 }
 
 impl<'a, F: Files> HostDisk<'a, F> {
     ghost use Rattle.std.specs.Prelude.{◌≡◌};
 
-    /// A disk of a runtime's files, of which no call has failed yet.
-    pub fn new(files: &'a F) -> Self
+    /// A disk of a runtime's files, of which no call has failed yet. It allocates nothing.
+    pub fn new(alloc: Global, files: &'a F) -> Self
         ensures { result.failed ≡ 0 }
     {
         HostDisk {
-            files,
+            alloc,
+            files: HostFiles::of(files),
             held: None,
+            published: Vec::new(alloc),
             failed: 0,
         }
     }
 
     // Refuses a path of anything except a file, of a file that may not be written, or of one that was read. A pipe is not opened: it would wait.
     fn look_at(&self, path: &str, read: &ReadFiles) -> Result<(), DiskFault> {
-        match fs::metadata(self.files, path) {
-            Ok(metadata) if metadata.is_file() && !read.contains(id_of(&metadata)) => {
-                OpenOptions::new().write(true).open(self.files, path)?;
-                Ok(())
-            }
-            Err(error) if error.kind() == ErrorKind::NotFound => Ok(()),
-            _ => Err(DiskFault::Failed),
+        match self.files.found(path)? {
+            None => Ok(()),
+            Some(found) if !found.was_read(read) => found.try_writing(&self.files, read),
+            Some(_) => Err(DiskFault::Failed),
         }
+    }
+
+    fn publish_draft(&mut self, draft: HostDraft<'a, F>, path: &str) -> Result<(), DiskFault>
+        ensures { self.new.failed ≡ self.old.failed }
+    {
+        let file = draft.written().ok_or(DiskFault::Failed)?;
+        let kept = String::from_str(self.alloc, path)?;
+        self.published
+            .push(PublishedFile { path: kept, file })
+            .map_err(AllocError::from)?;
+        let published = draft.publish(path);
+        if published.is_err() {
+            self.published.pop();
+        }
+        published
     }
 
     // Removes an entry of a folder if it is a draft that was left. Only a file is: a run leaves no link, pipe or folder.
     fn remove_left(&self, entry: &DirEntry<(&'a F, Global), Global>, read: &ReadFiles) {
         if is_numbered_draft(entry.file_name().as_bytes())
-            && let Ok(metadata) = entry.metadata()
-            && metadata.is_file()
-            && !read.contains(id_of(&metadata))
+            && let Some(found) = FoundFile::in_folder(entry)
+            && !found.was_read(read)
         {
-            let _ = fs::remove_file(self.files, entry.path());
+            found.remove(&self.files, read);
         }
     }
 }
@@ -74,18 +99,30 @@ where
 {
     ghost use Rattle.std.specs.Prelude.{◌≡◌, true, OnOk};
 
-    // Without locks drafts of other runs may be there, so `None` lets `sweep` remove none. Only a folder is opened: a pipe would wait.
-    fn held_folder(&self, folder: &str, read: &ReadFiles) -> Result<Option<F::File>, DiskFault>
-        ensures { OnOk result (read.now.are_known ≡ true) }
+    // Without locks drafts of other runs may be there, so `sweep` removes none if nothing is held.
+    fn hold_folder(&mut self, folder: &str, read: &ReadFiles) -> Result<(), DiskFault>
+        ensures known { OnOk result (read.now.are_known ≡ true) }
+        ensures same { self.new.failed ≡ self.old.failed }
     {
-        if !read.are_known() || !fs::metadata(self.files, folder)?.is_dir() {
+        if !read.are_known() {
             return Err(DiskFault::Failed);
         }
-        let opened = fs::open(self.files, folder)?;
-        match opened.try_hold() {
-            Ok(()) => Ok(Some(opened)),
-            Err(TryLockError::WouldBlock) => Err(DiskFault::Failed),
-            Err(TryLockError::Error(_)) => Ok(None),
+        let opened = self.files.open_folder(folder)?;
+        self.held = match opened.try_hold() {
+            Ok(()) => Some(opened),
+            Err(TryLockError::WouldBlock) => return Err(DiskFault::Failed),
+            Err(TryLockError::Error(_)) => None,
+        };
+        Ok(())
+    }
+}
+
+impl<F: Files> HostDisk<'_, F> {
+    // Whether the folder that is held stands at the path still.
+    fn holds(&self, folder: &str) -> bool {
+        match (&self.held, self.files.id(folder)) {
+            (Some(held), Ok(id)) => held.metadata().is_ok_and(|metadata| id_of(&metadata) == id),
+            _ => false,
         }
     }
 }
@@ -93,71 +130,12 @@ where
 // The name of each draft begins with it; a number without leading zeros follows.
 const DRAFT_NAME: &[u8] = b"toxicap.unfinished-";
 
-fn is_numbered_draft(name: &[u8]) -> bool {
+fn is_numbered_draft(name: &[u8]) -> bool
+    ensures { IsTrue result → is_draft_name name.now ≡ true }
+{
     match name.strip_prefix(DRAFT_NAME) {
         None | Some([] | [b'0', _, ..]) => false,
         Some(number) => number.iter().all(|digit| digit.is_ascii_digit()),
-    }
-}
-
-fn id_of(metadata: &Metadata) -> FileId {
-    FileId {
-        device: metadata.dev(),
-        inode: metadata.ino(),
-    }
-}
-
-/// A draft of the host: a file, which is removed if the draft is dropped and was not published.
-pub struct HostDraft<'a, F: Files> {
-    files: &'a F,
-    path: String,
-    // `None` once the draft has failed.
-    file: Option<F::File>,
-    is_there: bool,
-}
-
-impl<'a, F: Files> HostDraft<'a, F> {
-    ghost use Rattle.std.specs.Prelude.{◌≡◌};
-
-    // An empty draft at a path where nothing stands; a link there is not followed.
-    fn begun(files: &'a F, path: String) -> HostDraft<'a, F>
-        ensures { result.path ≡ path }
-    {
-        let opened = OpenOptions::new()
-            .write(true)
-            .create_new(true)
-            .open(files, &path);
-        let file = opened.ok();
-        let is_there = file.is_some();
-        HostDraft {
-            files,
-            path,
-            file,
-            is_there,
-        }
-    }
-
-    fn publish_at(mut self, path: &str) -> Result<(), DiskFault> {
-        if self.file.is_none() {
-            return Err(DiskFault::Failed);
-        }
-        fs::rename(self.files, &self.path, path)?;
-        self.is_there = false;
-        Ok(())
-    }
-}
-
-impl<F: Files> Drop for HostDraft<'_, F> {
-    fn drop(self) {
-        let HostDraft {
-            files,
-            path,
-            file: _,
-            is_there,
-        } = self;
-        if is_there {
-            let _ = fs::remove_file(files, &path);
-        }
     }
 }
 
@@ -179,18 +157,25 @@ where
 
     ghost path_of = { λ d. string_bytes d.path };
 
+    ghost standing = { λ _. None };
+
+    ghost input = { λ _. None };
+
+    ghost is_held = { λ _ _. Unit {0} };
+
+    ghost is_swept = { λ _ _ _. Unit {0} };
+
     fn hold(&mut self, folder: &str, read: &ReadFiles) -> Result<(), DiskFault> {
-        let held = self.held_folder(folder, read);
-        count_failure(&held, &mut self.failed);
-        self.held = held?;
-        Ok(())
+        let held = self.hold_folder(folder, read);
+        count_fault(&held, &mut self.failed);
+        held
     }
 
     fn sweep(&self, alloc: Global, folder: &str, read: &ReadFiles) -> Result<(), AllocError> {
-        if self.held.is_none() {
+        if !self.holds(folder) {
             return Ok(());
         }
-        let entries = match fs::read_dir(&(self.files, alloc), folder) {
+        let entries = match self.files.entries(alloc, folder) {
             Ok(entries) => entries,
             Err(error) => return unless_memory(error),
         };
@@ -204,34 +189,44 @@ where
     }
 
     fn draft(&self, path: String) -> HostDraft<'a, F> {
-        HostDraft::begun(self.files, path)
+        HostDraft::begun(self.files.again(), path)
     }
 
     fn append(draft: &mut HostDraft<'a, F>, bytes: &[u8]) {
-        let Some(file) = &mut draft.file else {
-            return;
-        };
-        if file.write_all(bytes).is_err() {
-            draft.file = None;
-        }
+        draft.append(bytes);
+    }
+
+    fn has_failed(draft: &HostDraft<'a, F>) -> bool {
+        draft.id().is_none()
     }
 
     fn allow_publishing(&mut self, path: &str, read: &ReadFiles) -> Result<(), DiskFault> {
         let allowed = self.look_at(path, read);
-        count_failure(&allowed, &mut self.failed);
+        count_fault(&allowed, &mut self.failed);
         allowed
     }
 
     fn publish(&mut self, draft: HostDraft<'a, F>, path: &str) -> Result<(), DiskFault> {
-        let published = draft.publish_at(path);
-        count_failure(&published, &mut self.failed);
+        let published = self.publish_draft(draft, path);
+        count_fault(&published, &mut self.failed);
         published
     }
 
-    fn input_id(&self) -> Result<Option<FileId>, DiskFault> {
-        let metadata = fs::metadata(self.files, STANDARD_INPUT)?;
-        Ok(Some(id_of(&metadata)))
+    fn see_published(&mut self) -> Result<(), usize> {
+        let replaced = self
+            .published
+            .iter()
+            .position(|own| !self.files.is_written_at(&own.path, &own.file));
+        let seen = replaced.map_or(Ok(()), Err);
+        count_failure(&seen, &mut self.failed);
+        seen
     }
+
+    fn input_id(&self) -> Result<Option<FileId>, DiskFault> {
+        Ok(Some(self.files.id(STANDARD_INPUT)?))
+    }
+
+    ghost told = { λ _. tt };
 }
 
 fn unless_memory(error: Error) -> Result<(), AllocError> {
@@ -251,6 +246,8 @@ impl<F: OpenFile + FileExt + Read + Drop> DiskFile for HostFile<F> {
     ghost contents = { λ _. None };
 
     ghost place = { λ _. 0 };
+
+    ghost identity = { λ _. None };
 
     fn id(&self) -> Result<Option<FileId>, DiskFault> {
         let metadata = self.file.metadata()?;
@@ -280,7 +277,7 @@ where
     type File = HostFile<F::File>;
 
     fn open(&self, _alloc: Global, path: &str) -> Result<HostFile<F::File>, DiskFault> {
-        let file = fs::open(self.files, path)?;
+        let file = self.files.open(path)?;
         Ok(HostFile { file })
     }
 }

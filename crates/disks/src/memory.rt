@@ -1,6 +1,7 @@
 //! A disk in memory, which tells what its paths hold, and fails when it is told to.
+ghost use Rattle.std.specs.Prelude.{◌≡◌};
 
-use crate::disk::{Disk, DiskFault, FileId, ReadDisk, count_failure};
+use crate::disk::{Disk, DiskFault, FileId, ReadDisk, count_fault};
 use crate::memory_files::MemoryDiskFile;
 use crate::read_files::ReadFiles;
 use std::alloc::{AllocError, Global};
@@ -71,7 +72,8 @@ pub struct MemoryDraft {
 impl MemoryDisk {
     ghost use Rattle.std.specs.Prelude.{◌≡◌, [], ◌∷◌, ◌++◌, false, OnOk, OnErr, option_map};
     ghost use Rattle.disks.specs.Histories.{held_now, published_file};
-    ghost use Rattle.disks.specs.MemoryDisks.{history_of, found_contents};
+    ghost use Rattle.disks.specs.MemoryDisks.{history_of, found_contents, found_file, standing_of};
+    ghost use Rattle.disks.specs.Standing.{HasRead};
 
     /// A disk without files, of which no call has failed. It allocates nothing.
     pub fn new(alloc: Global) -> MemoryDisk
@@ -141,7 +143,8 @@ impl MemoryDisk {
 
     // The bytes of the file at a path, the number of lost ones after them, and its id. That is its place among files that stand at paths, or did.
     fn find(&self, path: &str) -> Option<(&[u8], u32, FileId)>
-        ensures { found_contents result ≡ held_now (history_of self.now) path.now }
+        ensures contents { found_contents result ≡ held_now (history_of self.now) path.now }
+        ensures file { found_file result ≡ standing_of self.now path.now }
     {
         let mut found: Option<(&[u8], u32, FileId)> = None;
         for place in 0..self.first.len() {
@@ -160,7 +163,8 @@ impl MemoryDisk {
     }
 
     fn look_at(&mut self, path: &str, read: &ReadFiles) -> Result<(), DiskFault>
-        ensures { self.new ≡ self.old }
+        ensures as_before { self.new ≡ self.old }
+        ensures unread { OnOk result (HasRead read.now (standing_of self.old path.now) → ⊥) }
     {
         if self.fails_now() {
             return Err(DiskFault::Failed);
@@ -202,7 +206,9 @@ impl MemoryDisk {
     }
 }
 
-fn id_at(device: u64, place: usize) -> FileId {
+fn id_at(device: u64, place: usize) -> FileId
+    ensures { result ≡ record { device = device; inode = place } }
+{
     FileId {
         device,
         inode: place as u64,
@@ -210,9 +216,10 @@ fn id_at(device: u64, place: usize) -> FileId {
 }
 
 impl Disk for MemoryDisk {
-    ghost use Rattle.std.specs.Prelude.{◌≡◌, false, Some};
+    ghost use Rattle.std.specs.Prelude.{◌≡◌, false, None, Some};
     ghost use Rattle.std.specs.String.{string_bytes};
-    ghost use Rattle.disks.specs.MemoryDisks.{history_of};
+    ghost use Rattle.disks.specs.MemoryDisks.{history_of, standing_of};
+    ghost use Rattle.disks.specs.ToldOfMemory.{told_of_memory};
 
     type Draft = MemoryDraft;
 
@@ -224,13 +231,21 @@ impl Disk for MemoryDisk {
 
     ghost path_of = { λ d. string_bytes d.path };
 
+    ghost standing = { λ d. Some (standing_of d) };
+
+    ghost input = { λ _. Some None };
+
+    ghost is_held = { λ _ _. Unit {0} };
+
+    ghost is_swept = { λ _ _ _. Unit {0} };
+
     fn hold(&mut self, _folder: &str, read: &ReadFiles) -> Result<(), DiskFault> {
         let held = if self.fails_now() || !read.are_known() {
             Err(DiskFault::Failed)
         } else {
             Ok(())
         };
-        count_failure(&held, &mut self.failed);
+        count_fault(&held, &mut self.failed);
         held
     }
 
@@ -256,21 +271,32 @@ impl Disk for MemoryDisk {
         }
     }
 
+    fn has_failed(draft: &MemoryDraft) -> bool {
+        draft.has_failed
+    }
+
     fn allow_publishing(&mut self, path: &str, read: &ReadFiles) -> Result<(), DiskFault> {
         let allowed = self.look_at(path, read);
-        count_failure(&allowed, &mut self.failed);
+        count_fault(&allowed, &mut self.failed);
         allowed
     }
 
     fn publish(&mut self, draft: MemoryDraft, path: &str) -> Result<(), DiskFault> {
         let published = self.keep(draft, path);
-        count_failure(&published, &mut self.failed);
+        count_fault(&published, &mut self.failed);
         published
+    }
+
+    // No other run changes it.
+    fn see_published(&mut self) -> Result<(), usize> {
+        Ok(())
     }
 
     fn input_id(&self) -> Result<Option<FileId>, DiskFault> {
         Ok(None)
     }
+
+    ghost told = { λ d. told_of_memory d };
 }
 
 impl ReadDisk for MemoryDisk {

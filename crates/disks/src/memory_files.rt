@@ -20,6 +20,8 @@ impl DiskFile for MemoryDiskFile {
 
     ghost place = { λ f. f.place };
 
+    ghost identity = { λ f. Some (Some f.id) };
+
     fn id(&self) -> Result<Option<FileId>, DiskFault> {
         Ok(Some(self.id))
     }

@@ -5,14 +5,14 @@ use Rattle.std.specs.List.{list_all, position_from}
 use Rattle.std.specs.Result.{result_unwrap_or}
 use Rattle.std.proofs.lemmas.Bool.{and_parts, cases_eq}
 use Rattle.std.proofs.lemmas.List.{append-nil}
-use Rattle.std.proofs.lemmas.List.Sums.{sum_by-cons, list_all-from_AllPass}
+use Rattle.std.proofs.lemmas.List.Sums.{sum_by-cons, list_all-from_AllPass, AllPass-from_list_all}
 use Rattle.std.proofs.lemmas.Iterator.Adapters.{position_from-zero}
 use Rattle.lists.proofs.Lists.{slice_get-set_other, slice_get-set_same}
 use Rattle.hex.specs.Hex.{decode_of, decode_pairs, digit_or_error, hex_digit_value, is_hex_digit, pair_value, ◌>>=◌}
 use Rattle.hex.specs.declared.error.FromHexError.{FromHexError}
-use Rattle.hex.proofs.HexLemmas.{decode_of-even, decode_of-ok, decode_pairs-ok}
+use Rattle.hex.proofs.HexLemmas.{decode_of-digits, decode_of-even, decode_of-ok, decode_pairs-ok}
 use Rattle.hex.proofs.Pairs.{decode_pairs-ok_pair, decode_start, prepend, prepend-cons_byte}
-use Rattle.run_files.specs.Dumps.{BeginsWith, HoldsPairs, is_blank, is_foreign, dumped_bytes, dump_reading, without_blanks}
+use Rattle.run_files.specs.Dumps.{BeginsWith, HoldsPairs, is_blank, is_foreign, dumped_bytes, dump_reading, dump_reading_from, without_blanks}
 
 blank_digit : (b : ℕ) → is_blank b ≡ true → is_hex_digit b ≡ false
 blank_digit b h = grind arith
@@ -33,6 +33,18 @@ module _ (blank digit : ℕ → Bool) where
           → cond (not (is_blank || digit b)) (Some i) (position_from (λ b. not (blank b || digit b)) (i + 1) rest) ≡ None
       by_test true ih h = ih h
       by_test false ih h = let parts = and_parts (digit b) _ h in rw parts.0 (ih parts.1)
+
+  -- and back
+  all_digits : (i : ℕ) (text : List ℕ) → position_from (λ b. not (blank b || digit b)) i text ≡ None → list_all digit (kept text) ≡ true
+  all_digits i [] h = refl
+  all_digits i (b ∷ rest) h = by_tests (blank b) (digit b) refl (all_digits (i + 1) rest) h
+    where
+      by_tests : (is_blank is_digit : Bool) → digit b ≡ is_digit → (position_from (λ b. not (blank b || digit b)) (i + 1) rest ≡ None → list_all digit (kept rest) ≡ true)
+          → cond (not (is_blank || is_digit)) (Some i) (position_from (λ b. not (blank b || digit b)) (i + 1) rest) ≡ None
+          → list_all digit (cond (not is_blank) (b ∷ kept rest) (kept rest)) ≡ true
+      by_tests true is_digit is ih h = ih h
+      by_tests false true is ih h = rw is (ih h)
+      by_tests false false is ih h = cc h
 
   -- its digits are as many as its bytes that are no blanks
   count_kept : ((b : ℕ) → blank b ≡ true → digit b ≡ false) → (text : List ℕ) → list_all digit (kept text) ≡ true
@@ -121,3 +133,16 @@ dump_reading-decoded text bytes decoded =
     let count : count_by is_hex_digit text ≡ length (without_blanks text) = count_kept is_blank is_hex_digit blank_digit text digits in
     let back : dumped_bytes text ≡ bytes = ap (λ r. result_unwrap_or r []) decoded in
     rw none (rw (count, back) (rw parts.0 refl))
+
+pub dump_reading-bytes : (bytes text : List ℕ) → dump_reading text ≡ Ok bytes → decode_of (without_blanks text) ≡ Ok bytes
+unfolding dump_reading
+dump_reading-bytes bytes text read = by (position is_foreign text) refl read
+  where
+    by : (at : Option ℕ) → position is_foreign text ≡ at → dump_reading_from at text ≡ Ok bytes → decode_of (without_blanks text) ≡ Ok bytes
+    by (Some at) is h = cc h
+    by None is h =
+        let digits = all_digits is_blank is_hex_digit 0 text (sym (position_from-zero is_foreign text) ∙ is) in
+        let count : count_by is_hex_digit text ≡ length (without_blanks text) = count_kept is_blank is_hex_digit blank_digit text digits in
+        let decoded = decode_of-digits (without_blanks text) (grind (arith, count, h)) (AllPass-from_list_all is_hex_digit (without_blanks text) digits) in
+        let back : dumped_bytes text ≡ decoded.0 = ap (λ r. result_unwrap_or r []) decoded.1 in
+        decoded.1 ∙ grind (arith, back, h)

@@ -7,3 +7,4 @@ mod PrintedPart
 mod SeenParts
 mod LoadedTexts
 pub mod StoredFiles
+mod KeptFiles

@@ -40,6 +40,10 @@ ReadsBack = (bytes text : List ℕ) → IsBytes bytes
     → (without_blanks text ≡ encode_lower bytes) ⊎ (without_blanks text ≡ encode_upper bytes)
     → dump_reading text ≡ Ok bytes
 
+-- a dump's bytes are those that hex decodes: `dumped_bytes` has its default only for a text that is none
+abbrev pub AreDecoded : Type 0
+AreDecoded = (bytes text : List ℕ) → dump_reading text ≡ Ok bytes → decode_of (without_blanks text) ≡ Ok bytes
+
 -- a text is taken for a dump if its first byte is a hexadecimal digit
 abbrev pub is_dump : List ℕ → Bool
 is_dump [] = false

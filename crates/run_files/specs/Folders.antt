@@ -1,14 +1,21 @@
 -- Folders of a disk: which names they refuse, where their drafts are, and which files were committed to them.
-use Rattle.std.specs.Prelude.{◌≡◌, ◌<◌, ◌^◌, ℕ, nat_lt, ◌==◌, Bool, ◌||◌, if◌then◌else◌, List, [], ◌++◌, codes, length, map, Option, Result}
+use Rattle.std.specs.Prelude.{◌≡◌, ◌⊎◌, ⊤, false, Some, None, ◌<◌, ◌^◌, ℕ, nat_lt, ◌==◌, Bool, ◌||◌, if◌then◌else◌, List, [], ◌++◌, codes, length, map, Option, Result}
 use Rattle.std.specs.Fmt.{decimal}
 use Rattle.disks.specs.DraftPaths.{has_slash, is_draft_name, path_in, unfinished}
 use Rattle.disks.specs.Histories.{History, PublishedFile, published_file, Publishes}
+use Rattle.disks.specs.ReadFiles.{ReadFilesView}
+use Rattle.disks.specs.Standing.{HasRead, Standing}
 use Rattle.run_files.specs.StoredFiles.{StoredFile}
 use Rattle.run_files.specs.declared.error.RunFault.{RunFault}
 use Rattle.run_files.specs.RunFault.{failed_puts}
 
 abbrev pub name_limit : ℕ
 name_limit = 255
+
+-- its path, and the files that its run has read
+pub record FolderView : Type 0 where
+  pub path : List ℕ
+  pub read : ReadFilesView
 
 -- a folder refuses this name, and with an empty path each name
 abbrev pub is_refused : List ℕ → List ℕ → Bool
@@ -38,3 +45,14 @@ in_folder folder file = published_file (path_in folder file.name) file.bytes
 -- as far as the disk tells, exactly these files were published, in this order, all in this folder
 abbrev pub CommitsIn : List ℕ → Option History → Option History → List StoredFile → Type 0
 CommitsIn folder old new files = Publishes old new (map (in_folder folder) files)
+
+-- no file of the folder has this path: it is that of none of the names that the folder takes
+abbrev pub IsOutside : List ℕ → List ℕ → Type 0
+IsOutside folder path = (name : List ℕ) → is_refused folder name ≡ false → path ≡ path_in folder name → ⊥
+
+-- The same file stands at each path, or none as before, except at paths of the folder at which no file stood that the run had read. If the disk does
+-- not tell what stands, nothing is claimed.
+abbrev pub Leaves : FolderView → Option Standing → Option Standing → Type 0
+Leaves folder None new = ⊤
+Leaves folder (Some old) None = ⊥
+Leaves folder (Some old) (Some new) = (path : List ℕ) → HasRead folder.read (old path) ⊎ IsOutside folder.path path → new path ≡ old path

@@ -2,7 +2,7 @@
 ghost use Rattle.std.specs.Prelude.{◌≡◌, false, ℕ, List, ◌+◌, ◌-◌, ◌^◌, ◌<◌, ◌≤◌, ◌*◌, ◌++◌, [], ◌∷◌, length, OnOk};
 ghost use Rattle.run_files.specs.DraftedOutputs.{IsDraftOf};
 ghost use Rattle.disks.specs.DraftPaths.{has_slash};
-ghost use Rattle.run_files.specs.Folders.{CommitsIn, failed_stores};
+ghost use Rattle.run_files.specs.Folders.{CommitsIn, failed_stores, Leaves};
 ghost use Rattle.run_files.specs.RunFault.{outcome_of_storing};
 ghost use Rattle.run_files.specs.declared.outputs.Output.{Output};
 ghost use Rattle.run_files.specs.StoredFiles.{stored_file};
@@ -31,10 +31,12 @@ pub fn store_draft<D: Disk>(
 ) -> Result<(), StoreFault>
     requires faults { D.faults disk.old < 2 ^ 64 - 1 }
     requires number { number < 2 ^ 32 }
-    ensures faults { D.faults disk.new ≡ D.faults disk.old + failed_stores folder.now (outcome_of_storing result) }
-    ensures path { OnOk result (0 < length folder.now) }
+    ensures faults { D.faults disk.new ≡ D.faults disk.old + failed_stores folder.now.path (outcome_of_storing result) }
+    ensures path { OnOk result (0 < length folder.now.path) }
+    ensures leaves { Leaves folder.now (D.standing disk.old) (D.standing disk.new) }
+    ensures swept { D.is_swept disk.old folder.now.path folder.now.read → D.is_swept disk.new folder.now.path folder.now.read }
     ensures stores { (output : Output) → IsDraftOf D.holds output drafts
-        → Stores (2 * number) (files_from number (output ∷ [])) (CommitsIn folder.now (D.history disk.old) (D.history disk.new)) result }
+        → Stores (2 * number) (files_from number (output ∷ [])) (CommitsIn folder.now.path (D.history disk.old) (D.history disk.new)) result }
 {
     let (capture, report) = drafts;
     let after = 2 * number as u64;
@@ -55,10 +57,12 @@ fn commit_file<D: Disk>(
     requires number { number < 2 ^ 32 }
     requires ending { length ending.now ≤ 5 }
     requires slash { has_slash ending.now ≡ false }
-    ensures faults { D.faults disk.new ≡ D.faults disk.old + failed_stores folder.now (outcome_of_storing result) }
-    ensures path { OnOk result (0 < length folder.now) }
+    ensures faults { D.faults disk.new ≡ D.faults disk.old + failed_stores folder.now.path (outcome_of_storing result) }
+    ensures path { OnOk result (0 < length folder.now.path) }
+    ensures leaves { Leaves folder.now (D.standing disk.old) (D.standing disk.new) }
+    ensures swept { D.is_swept disk.old folder.now.path folder.now.read → D.is_swept disk.new folder.now.path folder.now.read }
     ensures puts { (bytes : List ℕ) → D.holds draft bytes → PutsAfter after
-        (CommitsIn folder.now (D.history disk.old) (D.history disk.new) (stored_file (four_digits number ++ ending.now) bytes ∷ []))
+        (CommitsIn folder.now.path (D.history disk.old) (D.history disk.new) (stored_file (four_digits number ++ ending.now) bytes ∷ []))
         (D.history disk.new ≡ D.history disk.old) result }
 {
     let Ok(name) = file_name(alloc, number, ending) else {

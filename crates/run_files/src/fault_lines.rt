@@ -96,7 +96,8 @@ fn push_place(line: &mut String, place: &FaultPlace) -> Result<(), AllocError>
     }
 }
 
-/// The line of a fault: `refused`, its number, its name and, if it has one, its place. No line feed stands at its end.
+/// The line of a fault: `refused`, its number, its name and, if it has one, its place. No line feed stands at its end. If there is no memory for
+/// it, [`memory_line`] says that.
 #[tactic(auto, unfolding(crate::specs::RunFault::fault_text))]
 pub fn fault_line(alloc: Global, fault: &RunFault) -> Result<String, AllocError>
     ensures { IfOk result (λ line. string_bytes line ≡ fault_text fault.now) }
@@ -105,4 +106,11 @@ pub fn fault_line(alloc: Global, fault: &RunFault) -> Result<String, AllocError>
     let mut line = format!(in alloc; "refused {number} {name}")?;
     push_place(&mut line, &place)?;
     Ok(line)
+}
+
+/// The line of [`RunFault::Memory`], for which no memory is needed.
+pub fn memory_line() -> &'static str
+    ensures { result.now ≡ fault_text RunFault.Memory }
+{
+    "refused 40 Memory"
 }

@@ -1,11 +1,14 @@
 //! Folders of a disk, to which a file is committed when it is whole.
-ghost use Rattle.std.specs.Prelude.{◌≡◌, IfOk};
+ghost use Rattle.std.specs.Prelude.{◌≡◌, Err, IfOk, false};
 ghost use Rattle.std.specs.String.{string_bytes};
 ghost use Rattle.disks.specs.DraftPaths.{path_in};
+ghost use Rattle.disks.specs.Histories.{failures};
+ghost use Rattle.run_files.specs.RunFault.{failed_puts, run_fault_of_storing};
+ghost use Rattle.run_files.specs.WrittenOutputs.{stored_before};
 
 use crate::error::StoreFault;
 use disks::laws::drafts_are_named;
-use disks::{Disk, ReadFiles};
+use disks::{Disk, DiskFault, ReadFiles};
 use std::alloc::{AllocError, Global};
 use std::marker::Model;
 
@@ -14,7 +17,7 @@ const NAME_LIMIT: usize = 255;
 
 const UNFINISHED: &str = "toxicap.unfinished";
 
-/// A folder of a disk. Contracts see its path; what its files are follows from the disk's history.
+/// A folder of a disk. Contracts see its path, and which files the run has read; what its files are follows from the disk's history.
 ///
 /// A file is written as a draft beside the others, `toxicap.unfinished-0` at place 0, and is committed when it is whole. So the file of a
 /// name is always the old one whole or the new one whole. That holds even if the program is killed or the disk is full. A run
@@ -29,25 +32,26 @@ pub struct Folder<'a> {
 }
 
 impl<'a> Model for Folder<'a> {
-    ghost use Rattle.std.specs.Prelude.{ℕ, List};
+    ghost use Rattle.run_files.specs.Folders.{FolderView};
 
-    ghost Value = { List ℕ };
+    ghost Value = { FolderView };
 
-    ghost view = { λ f. f.path.now };
+    ghost view = { λ f. record { path = f.path.now; read = f.read } };
 }
 
 impl<'a> Folder<'a> {
-    ghost use Rattle.std.specs.Prelude.{◌≡◌, ◌||◌, ℕ, List, length, ◌+◌, ◌-◌, ◌^◌, ◌<◌, ◌∷◌, [], false, Err, IfErr, IfOk, IsTrue, OnErr, OnOk};
+    ghost use Rattle.std.specs.Prelude.{◌≡◌, ◌||◌, ℕ, List, length, ◌+◌, ◌-◌, ◌^◌, ◌<◌, ◌∷◌, [], true, false, Err, IfErr, IfOk, IfSome, IsTrue, None, OnErr, OnOk};
     ghost use Rattle.std.specs.String.{string_bytes};
     ghost use Rattle.disks.specs.DraftPaths.{IsDraftPath};
-    ghost use Rattle.run_files.specs.Folders.{draft_path, failed_stores, is_refused, CommitsIn};
+    ghost use Rattle.disks.specs.Standing.{ChangesAt, HasRead};
+    ghost use Rattle.run_files.specs.Folders.{draft_path, failed_stores, is_refused, CommitsIn, Leaves};
     ghost use Rattle.run_files.specs.RunFault.{failed_puts, outcome_of_storing};
     ghost use Rattle.run_files.specs.StoredFiles.{stored_file};
     ghost use Rattle.run_files.specs.WrittenOutputs.{PutsAfter, stored_before};
 
     /// The folder at a path, for a run that has read these files: it replaces none of them.
     pub fn new(path: &'a str, read: ReadFiles) -> Self
-        ensures { result ≡ path.now }
+        ensures { result ≡ record { path = path.now; read = read } }
     {
         Folder { path, read }
     }
@@ -59,14 +63,21 @@ impl<'a> Folder<'a> {
     /// The folder has no path, it is not there or cannot be opened, or another run holds it. Or not all files that this run has read are known.
     pub fn hold<D: Disk>(&self, alloc: Global, disk: &mut D) -> Result<(), StoreFault>
         requires { D.faults disk.old < 2 ^ 64 - 1 }
+        ensures known { OnOk result (self.now.read.are_known ≡ true) }
+        ensures held { OnOk result (D.is_held disk.new self.now.path) }
+        ensures swept { OnOk result (D.is_swept disk.new self.now.path self.now.read) }
         ensures as_before { D.history disk.new ≡ D.history disk.old }
-        ensures faults { D.faults disk.new ≡ D.faults disk.old + failed_stores self.now (outcome_of_storing result) }
-        ensures path { OnOk result (0 < length self.now) }
-        ensures without_path { length self.now ≡ 0 → result ≡ Err (StoreFault.ShelfFailed 0) }
+        ensures stands { D.standing disk.new ≡ D.standing disk.old }
+        ensures faults { D.faults disk.new ≡ D.faults disk.old + failed_stores self.now.path (outcome_of_storing result) }
+        ensures path { OnOk result (0 < length self.now.path) }
+        ensures without_path { length self.now.path ≡ 0 → result ≡ Err (StoreFault.ShelfFailed 0) }
         ensures none { IfErr result (λ fault. stored_before fault ≡ 0) }
     {
-        if self.path.is_empty() || disk.hold(self.path, &self.read).is_err() {
+        if self.path.is_empty() {
             return Err(StoreFault::ShelfFailed { after: 0 });
+        }
+        if let Err(fault) = disk.hold(self.path, &self.read) {
+            return Err(unstored(fault, 0));
         }
         disk.sweep(alloc, self.path, &self.read)
             .map_err(|_| StoreFault::Memory { after: 0 })
@@ -81,7 +92,7 @@ impl<'a> Folder<'a> {
         place: usize,
     ) -> Result<D::Draft, AllocError>
         ensures empty { IfOk result (λ draft. D.holds draft []) }
-        ensures path { IfOk result (λ draft. D.path_of draft ≡ draft_path self.now place) }
+        ensures path { IfOk result (λ draft. D.path_of draft ≡ draft_path self.now.path place) }
     {
         let path = self.draft_path(alloc, place)?;
         Ok(disk.draft(path))
@@ -89,7 +100,7 @@ impl<'a> Folder<'a> {
 
     // In a folder without a path it is the empty path, at which no file can be.
     fn draft_path(&self, alloc: Global, place: usize) -> Result<String, AllocError>
-        ensures is { IfOk result (λ path. string_bytes path ≡ draft_path self.now place) }
+        ensures is { IfOk result (λ path. string_bytes path ≡ draft_path self.now.path place) }
         ensures unfinished { IfOk result (λ path. IsDraftPath (string_bytes path)) }
     {
         drafts_are_named();
@@ -115,11 +126,15 @@ impl<'a> Folder<'a> {
     ) -> Result<(), StoreFault>
         requires { D.faults disk.old < 2 ^ 64 - 1 }
         ensures puts { (bytes : List ℕ) → D.holds draft bytes → PutsAfter after
-            (CommitsIn self.now (D.history disk.old) (D.history disk.new) (stored_file name.now bytes ∷ [])) (D.history disk.new ≡ D.history disk.old) result }
-        ensures allowed { OnOk result (is_refused self.now name.now ≡ false) }
-        ensures refused { IsTrue (is_refused self.now name.now) → result ≡ Err (StoreFault.ShelfFailed after) }
+            (CommitsIn self.now.path (D.history disk.old) (D.history disk.new) (stored_file name.now bytes ∷ [])) (D.history disk.new ≡ D.history disk.old) result }
+        ensures allowed { OnOk result (is_refused self.now.path name.now ≡ false) }
+        ensures refused { IsTrue (is_refused self.now.path name.now) → result ≡ Err (StoreFault.ShelfFailed after) }
         ensures as_before { OnErr result (D.history disk.new ≡ D.history disk.old) }
-        ensures faults { D.faults disk.new ≡ D.faults disk.old + failed_puts (is_refused self.now name.now) (outcome_of_storing result) }
+        ensures unread { OnOk result (IfSome (D.standing disk.old) (λ stood. HasRead self.now.read (stood (path_in self.now.path name.now)) → ⊥)) }
+        ensures others { ChangesAt (D.standing disk.old) (D.standing disk.new) (path_in self.now.path name.now) }
+        ensures leaves { Leaves self.now (D.standing disk.old) (D.standing disk.new) }
+        ensures swept { D.is_swept disk.old self.now.path self.now.read → D.is_swept disk.new self.now.path self.now.read }
+        ensures faults { D.faults disk.new ≡ D.faults disk.old + failed_puts (is_refused self.now.path name.now) (outcome_of_storing result) }
     {
         drafts_are_named();
         if self.refuses(name) {
@@ -128,21 +143,55 @@ impl<'a> Folder<'a> {
         let Ok(path) = path_in(alloc, self.path, name) else {
             return Err(StoreFault::Memory { after });
         };
-        if disk.allow_publishing(&path, &self.read).is_err() {
-            return Err(StoreFault::ShelfFailed { after });
+        if let Err(fault) = disk.allow_publishing(&path, &self.read) {
+            return Err(unstored(fault, after));
         }
-        disk.publish(draft, &path)
-            .map_err(|_| StoreFault::ShelfFailed { after })
+        match disk.publish(draft, &path) {
+            Ok(()) => Ok(()),
+            Err(fault) => Err(unstored(fault, after)),
+        }
+    }
+
+    /// Looks whether each file of the disk's that was committed stands at its path still, after `files` of them. Without any it looks at none.
+    ///
+    /// # Errors
+    /// One does not. `after` counts those that were committed before the first such, at most `files - 1`.
+    pub fn see_committed<D: Disk>(&self, disk: &mut D, files: u64) -> Result<(), StoreFault>
+        requires { D.faults disk.old < 2 ^ 64 - 1 }
+        ensures replaced { IfErr result (λ fault. (stored_before fault < files) × (D.history disk.new ≡ None)) }
+        ensures as_before { D.history disk.new ≡ D.history disk.old }
+        ensures stands { D.standing disk.new ≡ D.standing disk.old }
+        ensures swept { D.is_swept disk.old self.now.path self.now.read → D.is_swept disk.new self.now.path self.now.read }
+        ensures faults { D.faults disk.new ≡ D.faults disk.old + failed_stores self.now.path (outcome_of_storing result) }
+    {
+        if files == 0 || self.path.is_empty() {
+            return Ok(());
+        }
+        disk.see_published()
+            .map_err(|before| StoreFault::ShelfFailed {
+                after: (before as u64).min(files - 1),
+            })
     }
 
     fn refuses(&self, name: &str) -> bool
-        ensures { result ≡ is_refused self.now name.now }
+        ensures { result ≡ is_refused self.now.path name.now }
     {
         let bytes = name.as_bytes();
         self.path.is_empty()
             || bytes.len() > NAME_LIMIT
             || bytes.contains(&b'/')
             || bytes.starts_with(UNFINISHED.as_bytes())
+    }
+}
+
+// Why a file is not stored after `after` others, if a call of the disk ended so.
+fn unstored(fault: DiskFault, after: u64) -> StoreFault
+    ensures before { stored_before result ≡ after }
+    ensures failures { failed_puts false (Err (run_fault_of_storing result)) ≡ failures (Err fault) }
+{
+    match fault {
+        DiskFault::Failed => StoreFault::ShelfFailed { after },
+        DiskFault::Memory => StoreFault::Memory { after },
     }
 }
 

@@ -21,7 +21,7 @@ mod texts;
 pub use drafts::{DraftedOutput, store_draft};
 pub use dumps::{is_dump, undump};
 pub use error::{RunFault, ShelfError, StoreFault};
-pub use fault_lines::fault_line;
+pub use fault_lines::{fault_line, memory_line};
 pub use folders::Folder;
 pub use head_loading::{see_file, see_input};
 pub use loading::{load_by_workers, load_file};

@@ -3,8 +3,10 @@ ghost use Rattle.lists.specs.Agreement.{AgreesUnlessMemory};
 ghost use Rattle.disks.specs.Histories.{held_now};
 ghost use Rattle.run_files.specs.Paths.{IsOfFile, text_at};
 ghost use Rattle.run_files.specs.RunFault.{run_refusal};
-ghost use Rattle.std.specs.Prelude.{◌≡◌, ◌≤◌, length, IfErr, IfOk, IfSome, Err};
+ghost use Rattle.std.specs.Prelude.{◌≡◌, ◌≤◌, length, IfErr, IfOk, IfSome, OnOk, Err, Ok, Some};
 ghost use Rattle.disks.specs.FileContents.{IsFileAt};
+ghost use Rattle.disks.specs.ReadFiles.{with_file};
+ghost use Rattle.disks.specs.Standing.{id_of};
 ghost use Rattle.pcap_records.specs.Reading.{capture_limit};
 
 use crate::block_loading::load_text;
@@ -28,6 +30,7 @@ pub fn load_file<D: ReadDisk>(
 ) -> Result<Vec<u8>, RunFault>
     ensures contents { IfSome (D.history disk.now) (λ h.
         AgreesUnlessMemory run_refusal (λ bytes. bytes.items) result (text_at (held_now h) path.now)) }
+    ensures read { IfSome (D.standing disk.now) (λ stood. OnOk result (read.new ≡ with_file read.old (Ok (id_of (stood path.now))))) }
     ensures within { IfOk result (λ bytes. length bytes.items ≤ capture_limit) }
     ensures of_file { IfErr result IsOfFile }
 {
@@ -50,6 +53,7 @@ where
     D::File: Sync,
     ensures contents { IfSome (D.history disk.now) (λ h.
         AgreesUnlessMemory run_refusal (λ text. text) result (text_at (held_now h) path.now)) }
+    ensures read { IfSome (D.standing disk.now) (λ stood. OnOk result (read.new ≡ with_file read.old (Ok (id_of (stood path.now))))) }
     ensures within { IfOk result (λ text. length text ≤ capture_limit) }
     ensures of_file { IfErr result IsOfFile }
 {
@@ -61,6 +65,7 @@ where
 pub(crate) fn opened<D: ReadDisk>(alloc: Global, disk: &D, path: &str) -> Result<D::File, RunFault>
     ensures contents { IfSome (D.history disk.now) (λ h. IfOk result (λ file. IsFileAt (held_now h path.now) (D.File.contents file))) }
     ensures place { IfOk result (λ file. D.File.place file ≡ 0) }
+    ensures identity { IfSome (D.standing disk.now) (λ stood. IfOk result (λ file. D.File.identity file ≡ Some (id_of (stood path.now)))) }
     ensures untold { IfSome (D.history disk.now) (λ h. IfErr result (λ fault.
         IfSome (run_refusal fault) (λ refused. text_at (held_now h) path.now ≡ Err refused))) }
     ensures of_file { IfErr result IsOfFile }

@@ -19,3 +19,4 @@ mod ReadyDrafts
 mod SeenReports
 mod ReportLines
 mod OutputsIsolated
+mod InputsKept

@@ -62,6 +62,18 @@ ready_outputs folder all number drafts are =
     ap outputs_in are ∙ outputs_placed folder 0 (take (length drafts) (drop number all))
     ∙ ap (λ n. take n (drop number all)) (sym (length-map drafts (λ (p : PlacedOutput). p.output)))
 
+-- the first n of them
+pub first_placed : (folder : List ℕ) (place n : ℕ) (outputs : List Output) (drafts : List PlacedOutput)
+    → drafts ≡ placed_from folder place (take (length drafts) outputs)
+    → take n drafts ≡ placed_from folder place (take (length (take n drafts)) outputs)
+first_placed folder place zero outputs drafts are = refl
+first_placed folder place (suc n) outputs [] are = refl
+first_placed folder place (suc n) [] (d ∷ drafts) are = absurd (omega (arith, ap length are))
+first_placed folder place (suc n) (o ∷ outputs) (d ∷ drafts) are =
+    let one : d ≡ placed_output folder place o = cc in
+    let others : drafts ≡ placed_from folder (place + 1) (take (length drafts) outputs) = cc in
+    ap₂ (λ (p : PlacedOutput) (ps : List PlacedOutput). p ∷ ps) one (first_placed folder (place + 1) n outputs drafts others)
+
 pub length-placed : (folder : List ℕ) (place : ℕ) (outputs : List Output) → length (placed_from folder place outputs) ≡ length outputs
 length-placed folder place [] = refl
 length-placed folder place (o ∷ outputs) = omega (arith, length-placed folder (place + 1) outputs)

@@ -41,6 +41,17 @@ not_held folder outputs (store.ShelfFailed after) had now same first =
     let none : after ≡ 0 = first.0 in rw none (some_files outputs first.1, still_none folder had now same)
 not_held folder outputs (store.Memory after) had now same first = (0, omega arith, still_none folder had now same)
 
+-- a disk that does not tell what was committed claims nothing
+untold : (folder : List ℕ) (had now : Option History) (files some : List StoredFile) → CommitsIn folder had now files → now ≡ None → CommitsIn folder had now some
+untold folder None now files some committed is = tt
+untold folder (Some h) now files some committed is = absurd cc
+
+-- one of the files was replaced after it was committed
+pub replaced : (folder : List ℕ) (files some : List StoredFile) (fault : StoreFault) (had now : Option History) → CommitsIn folder had now some
+    → (stored_before fault < length files) × (now ≡ None) → StoresFiles (Err (run_fault_of_storing fault)) files (CommitsIn folder had now)
+replaced folder files some (store.ShelfFailed after) had now committed is = (is.0, untold folder had now some (take after files) committed is.1)
+replaced folder files some (store.Memory after) had now committed is = (0, omega arith, untold folder had now some [] committed is.1)
+
 -- no call of the disk has failed where texts or a capture are refused
 pub refused_faults : (folder : List ℕ) (fault : RunFault) (expected : Result (List Output) RunFault) → IfErr expected IsOfText
     → UnlessMemory expected (Err fault) → failed_stores folder (Err fault) ≡ 0

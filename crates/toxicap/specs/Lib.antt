@@ -18,3 +18,4 @@ pub mod WrittenRows
 pub mod GroupingRows
 pub mod SeenLengths
 pub mod IsolatedOutputs
+pub mod KeptInputs

@@ -3,7 +3,7 @@ use Rattle.std.specs.Prelude.{◌≡◌, ℕ, ◌+◌, ◌<◌, ◌⊎◌, List,
 use Rattle.std.specs.Io.KnownBytes.{Appends}
 use Rattle.lists.specs.Agreement.{AgreesUnlessMemory}
 use Rattle.run_files.specs.declared.error.RunFault.{RunFault}
-use Rattle.run_files.specs.declared.error.RunFault.TheVariants.{WriteFailed}
+use Rattle.run_files.specs.declared.error.RunFault.TheVariants.{Memory, WriteFailed}
 use Rattle.run_files.specs.RunFault.{fault_text, run_refusal}
 use Rattle.run_files.specs.Streams.{CountedView}
 
@@ -68,7 +68,7 @@ no_text = codes "error: a word of the command line is not text in UTF-8"
 abbrev pub text_with_line_feed : List ℕ → List ℕ
 text_with_line_feed text = text ++ codes "\n"
 
--- What is printed of an outcome: of a fault its line, as far as the writes go, or nothing if there is no memory for the line.
+-- What is printed of an outcome: of a fault its line, or that of out of memory if there is none for its own, as far as the writes go.
 abbrev pub Tells : {A : Type 0} → Result A RunFault → Written → Type 0
 Tells (Ok _) w = w.Unwritten
-Tells (Err fault) w = w.Unwritten ⊎ WrittenSoFar (text_with_line_feed (fault_text fault)) w
+Tells (Err fault) w = WrittenSoFar (text_with_line_feed (fault_text fault)) w ⊎ WrittenSoFar (text_with_line_feed (fault_text Memory)) w

@@ -1,11 +1,13 @@
 //! The program: from the words of its command line to an exit status.
-ghost use Rattle.std.specs.Prelude.{◌≡◌, ◌≢◌, ◌+◌, ◌-◌, ◌^◌, ◌<◌, ◌≤◌, map, IfOk, None, Option, Result, Err};
+ghost use Rattle.std.specs.Prelude.{◌≡◌, ◌≢◌, ◌+◌, ◌-◌, ◌^◌, ◌<◌, ◌≤◌, map, IfOk, None, Option, Result};
 ghost use Rattle.std.specs.IoError.{error_kind};
 ghost use Rattle.command_line.specs.Asking.{ReadsAs};
 ghost use Rattle.command_line.specs.declared.asked.Asked.{Asked};
 ghost use Rattle.command_line.specs.declared.error.Stop.{Stop};
 ghost use Rattle.conn_workers.specs.declared.summaries.RunSummary.{RunSummary};
+ghost use Rattle.run_files.specs.RunFault.{fault_text};
 ghost use Rattle.toxicap.specs.Commands.{ProgramEnds, failed_calls, folder_of, of_run, streams};
+ghost use Rattle.toxicap.specs.KeptInputs.{StandAfter, SweptAfter};
 ghost use Rattle.toxicap.specs.RunEnds.{Tells, WritesText, WrittenSoFar, no_text, status_of, text_with_line_feed, usage_status, without_value, written};
 ghost use Rattle.toxicap.specs.StoredOutputs.{disk_histories};
 
@@ -14,7 +16,7 @@ mod runs;
 use command_line::{Stop, read_arguments};
 use conn_workers::RunSummary;
 use disks::{HostDisk, Lockable, ReadDisk};
-use run_files::{Counted, RunFault, fault_line, write_bytes, write_texts};
+use run_files::{Counted, RunFault, fault_line, memory_line, write_bytes, write_texts};
 use runs::run_asked;
 use std::alloc::Global;
 use std::convert::AsStr;
@@ -33,8 +35,9 @@ const NO_TEXT: &[u8] = b"error: a word of the command line is not text in UTF-8"
 /// The status is 0, 1 for a refusal, or 2 for a fault of the command line, of which only the text is written, and nothing is read. A refusal's
 /// line is written with a line feed. `--help` and `--version` are written on `output`. Refusals come in this order: hosts, scenario files as
 /// bytes, the capture's bytes, its dump, the scenarios, their number, the capture's own faults, and last a write or a file that fails.
-/// Out of memory comes when an allocation fails; without memory for its line a refusal has none. A write on `faults` that fails ends the line
-/// early and leaves the status as it is. The call waits for the threads of the rehearsal: its clauses hold if it returns.
+/// Out of memory comes when an allocation fails. If that is one for a refusal's line, the line of out of memory stands in its place. A write
+/// on `faults` that fails ends the line early and leaves the status as it is. The call waits for the threads of the rehearsal: its clauses
+/// hold if it returns.
 pub fn command<H: Files + Threads + Wait + Sync, S: AsStr, I: Read, O: Write, E: Write>(
     rt: &H,
     alloc: Global,
@@ -58,7 +61,7 @@ where
         × ProgramEnds line result outcome (disk_histories None None)
         (streams I.remaining input.old input.new O.contents output.old output.new) (written E.contents faults.old faults.new) }
 {
-    let mut disk = HostDisk::new(rt);
+    let mut disk = HostDisk::new(alloc, rt);
     command_over(rt, &mut disk, alloc, words, input, output, faults).0
 }
 
@@ -71,7 +74,8 @@ where
 /// outputs stand in the folder, and no others were published. If the folder fails or memory runs out, a first part of them was. At any
 /// other refusal, and without `--out`, the disk is as it was. Of the calls that hold a folder, check a path or publish a draft, at most one
 /// fails. One has failed exactly if a file could not be stored in a folder that has a path. Whenever the run is cut off, each path holds what
-/// it held before it, or the whole file that was to be published there.
+/// it held before it, or the whole file that was to be published there. If the disk tells what stands, the scenario files and the capture stand
+/// as they did, each the same file: no input is replaced. After a run of status 0 its folder had been held, and swept of drafts.
 pub fn command_over<
     H: Threads + Wait + Sync,
     D: ReadDisk + Sync,
@@ -101,7 +105,9 @@ where
     ensures ends { (line : Result Asked Stop) × ReadsAs (map S.text words.now) line
         × ProgramEnds line result.0 result.1 (disk_histories (D.history disk.old) (D.history disk.new))
         (streams I.remaining input.old input.new O.contents output.old output.new) (written E.contents faults.old faults.new)
-        × (D.faults disk.new ≡ D.faults disk.old + failed_calls (folder_of line) (without_value result.1)) }
+        × (D.faults disk.new ≡ D.faults disk.old + failed_calls (folder_of line) (without_value result.1))
+        × StandAfter line (D.input disk.old) (D.standing disk.old) (D.standing disk.new)
+        × SweptAfter line result.1 (D.is_swept disk.new) }
 {
     match read_arguments(alloc, words) {
         Ok(asked) => {
@@ -123,17 +129,18 @@ where
     }
 }
 
-/// What the program answers if its command line cannot be had, for this error. Out of memory gives 1, and is printed as any refusal is. Any
-/// other error gives 2, and a line that says that a word is no text.
-pub fn refuse_words<E: Write>(alloc: Global, error: &Error, faults: &mut Counted<E>) -> u8
+/// What the program answers if its command line cannot be had, for this error. Out of memory gives 1, and its line. Any other error gives 2,
+/// and a line that says that a word is no text.
+pub fn refuse_words<E: Write>(error: &Error, faults: &mut Counted<E>) -> u8
     requires { faults.old.failed < 2 ^ 64 - 1 }
-    ensures memory { error_kind error.now ≡ ErrorKind.OutOfMemory → (result ≡ 1) × Tells {A = Unit {0}} (Err RunFault.Memory) (written E.contents faults.old faults.new) }
+    ensures memory { error_kind error.now ≡ ErrorKind.OutOfMemory → (result ≡ 1)
+        × WrittenSoFar (text_with_line_feed (fault_text RunFault.Memory)) (written E.contents faults.old faults.new) }
     ensures no_text { error_kind error.now ≢ ErrorKind.OutOfMemory → (result ≡ usage_status)
         × WrittenSoFar (text_with_line_feed no_text) (written E.contents faults.old faults.new) }
 {
     if error.kind() == ErrorKind::OutOfMemory {
-        let outcome: Result<(), RunFault> = Err(RunFault::Memory);
-        return report_outcome(alloc, &outcome, faults);
+        write_line(faults, memory_line().as_bytes());
+        return 1;
     }
     write_line(faults, NO_TEXT);
     2
@@ -166,8 +173,9 @@ fn report_outcome<A, W: Write>(
     let Err(fault) = outcome else {
         return 0;
     };
-    if let Ok(line) = fault_line(alloc, fault) {
-        write_line(faults, line.as_bytes());
+    match fault_line(alloc, fault) {
+        Ok(line) => write_line(faults, line.as_bytes()),
+        Err(_) => write_line(faults, memory_line().as_bytes()),
     }
     1
 }

@@ -27,5 +27,5 @@ pub use one_thread::{answers_alone, rehearse_alone, report_answers_alone, report
 pub use rehearsal::rehearse;
 pub use run_files::{
     Counted, MemoryFile, MemoryShelf, Output, Outputs, RunFault, Shelf, ShelfError, StoreFault,
-    fault_line, load, print_reports, store_all, undump,
+    fault_line, load, memory_line, print_reports, store_all, undump,
 };

@@ -38,6 +38,7 @@ pub(crate) fn read_inputs<'t>(
     hosts: &Hosts,
 ) -> Result<Inputs<'t>, RunFault>
     ensures taken { IfOk result (λ i. (seed : ℕ) → called_for hosts.now (map (λ t. t.now) texts.now) seed text.entry ≡ answer i.capture i.scenarios.items seed) }
+    ensures one_each { IfOk result (λ i. length i.scenarios.items ≡ length texts.now) }
     ensures read { IfOk result (λ i. (capture_bytes_of text.entry ≡ Ok i.capture) × (scenarios_from hosts.now [] (map (λ t. t.now) texts.now) ≡ Ok i.scenarios.items)) }
     ensures refused { IfErr result (λ fault. (seed : ℕ) → UnlessMemory (called_for hosts.now (map (λ t. t.now) texts.now) seed text.entry) (Err fault)) }
 {
@@ -56,7 +57,8 @@ pub(crate) fn read_texts(
     texts: &[&[u8]],
     hosts: &Hosts,
 ) -> Result<Vec<Scenario>, RunFault>
-    ensures { AgreesUnlessMemory run_refusal (λ v. v.items) result (scenarios_from hosts.now [] (map (λ t. t.now) texts.now)) }
+    ensures one_each { IfOk result (λ v. length v.items ≡ length texts.now) }
+    ensures read { AgreesUnlessMemory run_refusal (λ v. v.items) result (scenarios_from hosts.now [] (map (λ t. t.now) texts.now)) }
 {
     let mut scenarios = Vec::with_capacity(alloc, texts.len())?;
     for (number, text) in texts.iter().enumerate() {

@@ -1,12 +1,12 @@
 //! Outputs that are stored as they are made, a few scenarios after another.
-ghost use Rattle.std.specs.Prelude.{◌≡◌, ◌+◌, ◌-◌, ◌^◌, ◌<◌, ◌≤◌, IfErr, IfOk, List, Ok, Result, length};
+ghost use Rattle.std.specs.Prelude.{◌≡◌, ◌+◌, ◌-◌, ◌^◌, ◌<◌, ◌≤◌, IfErr, IfOk, List, Ok, OnOk, Result, length};
 ghost use Rattle.lists.specs.Agreement.{Agrees};
 ghost use Rattle.conn_table.specs.SeenCapture.{seen_capture};
 ghost use Rattle.conn_workers.specs.RunSummaries.{run_summary};
 ghost use Rattle.pcap_records.specs.CaptureView.{bytes_of, contents_of};
 ghost use Rattle.run_files.specs.declared.error.RunFault.{RunFault};
 ghost use Rattle.run_files.specs.declared.outputs.Output.{Output};
-ghost use Rattle.run_files.specs.Folders.{CommitsIn, failed_stores};
+ghost use Rattle.run_files.specs.Folders.{CommitsIn, failed_stores, Leaves};
 ghost use Rattle.run_files.specs.RunFault.{outcome_of_storing, run_refusal};
 ghost use Rattle.run_files.specs.WrittenOutputs.{files_from, stored_before};
 ghost use Rattle.toxicap.specs.CaptureOutputs.{outputs_for, outputs_from};
@@ -35,7 +35,8 @@ use std::thread::Threads;
 /// for each worker has its rows in memory, and at most two for each worker have drafts. It returns the summary of the run.
 ///
 /// # Errors
-/// Those of `rehearse`, and [`RunFault::ShelfFailed`] if the folder cannot be held, or at the first file that cannot be committed to it.
+/// Those of `rehearse`, and [`RunFault::ShelfFailed`] if the folder cannot be held, or at the first file that cannot be committed to it, or
+/// that does not stand there when all are committed.
 pub(crate) fn store_rehearsal<R: Threads + Sync, D: Disk + Sync>(
     crew: &Workers<'_, R>,
     alloc: Global,
@@ -48,10 +49,12 @@ pub(crate) fn store_rehearsal<R: Threads + Sync, D: Disk + Sync>(
 where
     D::Draft: Send,
     requires { D.faults disk.old < 2 ^ 64 - 1 }
+    ensures leaves { Leaves folder.now (D.standing disk.old) (D.standing disk.new) }
+    ensures swept { OnOk result (0 < length scenarios.now → D.is_swept disk.new folder.now.path folder.now.read) }
     ensures stored { Step (λ (made : Result (List Output) RunFault). Agrees run_refusal (λ outputs. outputs) made
         (answer (bytes_of capture.entry) scenarios.now seed)) (without_value result) (D.history disk.new ≡ D.history disk.old)
-        (λ outputs. StoresFiles (without_value result) (files_from 0 outputs) (CommitsIn folder.now (D.history disk.old) (D.history disk.new))) }
-    ensures faults { D.faults disk.new ≡ D.faults disk.old + failed_stores folder.now (without_value result) }
+        (λ outputs. StoresFiles (without_value result) (files_from 0 outputs) (CommitsIn folder.now.path (D.history disk.old) (D.history disk.new))) }
+    ensures faults { D.faults disk.new ≡ D.faults disk.old + failed_stores folder.now.path (without_value result) }
     ensures summary { IfOk result (λ summary. summary_of_bytes (bytes_of capture.entry) scenarios.now ≡ Ok summary) }
 {
     let capture = read_rehearsed(alloc, capture, scenarios)?;
@@ -68,7 +71,9 @@ fn hold_for<D: Disk>(
 ) -> Result<(), StoreFault>
     requires { D.faults disk.old < 2 ^ 64 - 1 }
     ensures as_before { D.history disk.new ≡ D.history disk.old }
-    ensures faults { D.faults disk.new ≡ D.faults disk.old + failed_stores folder.now (outcome_of_storing result) }
+    ensures stands { D.standing disk.new ≡ D.standing disk.old }
+    ensures faults { D.faults disk.new ≡ D.faults disk.old + failed_stores folder.now.path (outcome_of_storing result) }
+    ensures swept { OnOk result (0 < length scenarios.now → D.is_swept disk.new folder.now.path folder.now.read) }
     ensures refused { IfErr result (λ fault. (stored_before fault ≡ 0) × (0 < length scenarios.now)) }
 {
     if scenarios.is_empty() {
@@ -92,9 +97,11 @@ where
     D::Draft: Send,
     requires few { length scenarios.now ≤ scenario_limit }
     requires faults { D.faults disk.old < 2 ^ 64 - 1 }
+    ensures leaves { Leaves folder.now (D.standing disk.old) (D.standing disk.new) }
+    ensures swept { D.is_swept disk.old folder.now.path folder.now.read → OnOk result (D.is_swept disk.new folder.now.path folder.now.read) }
     ensures stored { StoresFiles (without_value result) (files_from 0 (outputs_for capture.entry scenarios.now seed))
-        (CommitsIn folder.now (D.history disk.old) (D.history disk.new)) }
-    ensures faults { D.faults disk.new ≡ D.faults disk.old + failed_stores folder.now (without_value result) }
+        (CommitsIn folder.now.path (D.history disk.old) (D.history disk.new)) }
+    ensures faults { D.faults disk.new ≡ D.faults disk.old + failed_stores folder.now.path (without_value result) }
     ensures summary { IfOk result (λ summary. summary ≡ run_summary (seen_capture (contents_of capture.entry)) scenarios.now) }
 {
     let table = crew.table(alloc, &capture)?;
@@ -116,9 +123,11 @@ fn store_each<R: Threads + Sync, D: Disk + Sync>(
 where
     D::Draft: Send,
     requires { D.faults disk.old < 2 ^ 64 - 1 }
+    ensures leaves { Leaves folder.now (D.standing disk.old) (D.standing disk.new) }
+    ensures swept { D.is_swept disk.old folder.now.path folder.now.read → OnOk result (D.is_swept disk.new folder.now.path folder.now.read) }
     ensures stored { StoresFiles result (files_from 0 (outputs_from sources.now))
-        (CommitsIn folder.now (D.history disk.old) (D.history disk.new)) }
-    ensures faults { D.faults disk.new ≡ D.faults disk.old + failed_stores folder.now result }
+        (CommitsIn folder.now.path (D.history disk.old) (D.history disk.new)) }
+    ensures faults { D.faults disk.new ≡ D.faults disk.old + failed_stores folder.now.path result }
 {
     let mut number = 0;
     while number < sources.scenarios.len() {
@@ -128,5 +137,6 @@ where
             number += 1;
         }
     }
+    folder.see_committed(disk, 2 * sources.scenarios.len() as u64)?;
     Ok(())
 }

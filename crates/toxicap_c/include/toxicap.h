@@ -46,12 +46,13 @@ enum {
     TOXICAP_ANSWERED = 0,
     /* Refused: at the start of `reports` stands the line that the program prints, such as `refused 5 RecordTooLong at 0`. It has no line feed
        and no zero byte at its end, and `sizes.reports` is its length in bytes. `sizes.captures` and `sizes.lens` are 0; the other buffers
-       are as they were. docs/use/refusals.md has all refusals; `refused 40 Memory` is lack of memory. */
+       are as they were. docs/use/refusals.md has all refusals; `refused 40 Memory` is lack of memory, also for the line of another. */
     TOXICAP_REFUSED = 1,
-    /* Too little room: `sizes` says what is required, of an answer or of a refusal's line, and at least one of these is more than the room.
-       All buffers are as they were. */
+    /* Too little room: `sizes` says what is required, of the answer or of a refusal's line, and at least one of these is more than the room.
+       All buffers are as they were. Lack of memory is never told so. */
     TOXICAP_NO_ROOM = 2,
-    /* Lack of memory, and no memory to make the line of that refusal. All of `sizes` is 0, all buffers are as they were. */
+    /* Lack of memory, and the room for reports is less than the 17 bytes of `refused 40 Memory`. All of `sizes` is 0, all buffers are as they
+       were. */
     TOXICAP_NO_MEMORY = 3
 };
 

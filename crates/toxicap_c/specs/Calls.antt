@@ -2,6 +2,7 @@
 use Rattle.std.specs.Prelude.{◌≡◌, ◌⊎◌, ℕ, true, false, List, [], ◌∷◌, take, drop, Result, Ok, Err, IfSome}
 use Rattle.scenarios.specs.Refusals.{and_then}
 use Rattle.run_files.specs.declared.error.RunFault.{RunFault}
+use Rattle.run_files.specs.declared.error.RunFault.TheVariants.{Memory}
 use Rattle.run_files.specs.declared.outputs.Output.{Output}
 use Rattle.run_files.specs.RunFault.{run_refusal}
 use Rattle.toxicap.specs.Answering.{called_for}
@@ -10,7 +11,7 @@ use Rattle.toxicap.specs.Inputs.{hosts_from}
 use Rattle.toxicap_c.specs.declared.sizes.ToxicapSizes.{ToxicapSizes}
 use Rattle.toxicap_c.specs.declared.statuses.Status.{Status}
 use Rattle.toxicap_c.specs.declared.statuses.Status.TheVariants.{Answered, Refused, LittleRoom, NoMemory}
-use Rattle.toxicap_c.specs.Buffers.{Buffers, put_of, put_of_reports, put_of_fault, no_sizes, Puts}
+use Rattle.toxicap_c.specs.Buffers.{Buffers, put_of, put_of_reports, put_of_fault, no_sizes, IsOver, Puts}
 use Rattle.toxicap_c.specs.Statuses.{code_of}
 
 -- texts one after another: each is the next `len` bytes, or those that are left
@@ -35,21 +36,17 @@ reports_put (Err fault) = Err fault
 abbrev pub IsTold : RunFault → Result Buffers RunFault → Type 0
 IsTold fault expected = IfSome (run_refusal fault) (λ refused. expected ≡ Err refused)
 
-abbrev pub IsToPut : Buffers → Result Buffers RunFault → Type 0
-IsToPut put expected = (expected ≡ Ok put) ⊎ ((fault : RunFault) × IsTold fault expected × (put ≡ put_of_fault fault))
+-- what was called for: an answer, or a refusal's line
+abbrev pub IsCalledFor : Buffers → Result Buffers RunFault → Type 0
+IsCalledFor put expected = (expected ≡ Ok put) ⊎ ((fault : RunFault) × (expected ≡ Err fault) × (put ≡ put_of_fault fault))
 
--- Answered: `put` was put. Refused: a refusal's line was. Little room: that does not fit. No memory: nothing was put, and the sizes are 0.
+-- Answered: `put` was put. Refused: the line of a refusal was, or that of out of memory. Little room: what was called for does not fit. No memory:
+-- memory ran out, and the line that says so does not fit; nothing was put, and the sizes are 0.
 abbrev pub Ends : Result Buffers RunFault → Status → Buffers → Buffers → ToxicapSizes → Type 0
 Ends expected Answered old new sizes = (put : Buffers) × (expected ≡ Ok put) × Puts put true old new sizes
 Ends expected Refused old new sizes = (fault : RunFault) × IsTold fault expected × Puts (put_of_fault fault) true old new sizes
-Ends expected LittleRoom old new sizes = (put : Buffers) × IsToPut put expected × Puts put false old new sizes
-Ends expected NoMemory old new sizes = (new ≡ old) × (sizes ≡ no_sizes)
+Ends expected LittleRoom old new sizes = (put : Buffers) × IsCalledFor put expected × Puts put false old new sizes
+Ends expected NoMemory old new sizes = IsOver (put_of_fault Memory) old × (new ≡ old) × (sizes ≡ no_sizes)
 
 abbrev pub EndsWith : Result Buffers RunFault → ℕ → Buffers → Buffers → ToxicapSizes → Type 0
 EndsWith expected code old new sizes = (status : Status) × (code ≡ code_of status) × Ends expected status old new sizes
-
-abbrev pub EndsByFault : RunFault → Status → Buffers → Buffers → ToxicapSizes → Type 0
-EndsByFault fault Answered old new sizes = ⊥
-EndsByFault fault Refused old new sizes = Puts (put_of_fault fault) true old new sizes
-EndsByFault fault LittleRoom old new sizes = Puts (put_of_fault fault) false old new sizes
-EndsByFault fault NoMemory old new sizes = (new ≡ old) × (sizes ≡ no_sizes)

@@ -1,15 +1,17 @@
 //! The calls that C makes. Rattle's `extern "C"` passes each slice as a pointer and a length, and leaves `alloc` out.
-ghost use Rattle.std.specs.Prelude.{[], List, ℕ};
+ghost use Rattle.std.specs.Prelude.{◌≡◌, [], List, IfOk, OnOk, Result, Some, ℕ};
+ghost use Rattle.std.specs.String.{string_bytes};
+ghost use Rattle.run_files.specs.RunFault.{fault_text, run_refusal};
 ghost use Rattle.toxicap.specs.PrintedReports.{reports_in};
-ghost use Rattle.toxicap_c.specs.Buffers.{buffers};
-ghost use Rattle.toxicap_c.specs.Calls.{Ends, EndsWith, EndsByFault, answer_put, asked_for, reports_put};
+ghost use Rattle.toxicap_c.specs.Buffers.{Buffers, buffers};
+ghost use Rattle.toxicap_c.specs.Calls.{Ends, EndsWith, IsTold, answer_put, asked_for, reports_put};
 
 use crate::hand_outs::{put_outputs, put_text};
 use crate::parameters::{Parameters, reports_for, sized_outputs_for};
 use crate::sizes::{ToxicapSizes, no_sizes};
 use crate::statuses::{Status, code_of};
-use run_files::{RunFault, fault_line};
-use std::alloc::Global;
+use run_files::{RunFault, fault_line, memory_line};
+use std::alloc::{AllocError, Global};
 
 /// Rehearses a capture under scenarios, whose texts of `scenario_lens` bytes follow one another. `hosts` has a line `NAME=ADDR` for each host.
 /// It puts the captures, the reports, and for each scenario the lengths of both, at the beginnings of the buffers. The rest of these stays.
@@ -17,8 +19,8 @@ use std::alloc::Global;
 ///
 /// # Errors
 /// - 1: refused (hosts first, then as [`toxicap::answers_alone`] does) or out of memory. The line that says so, without LF, is in `reports`.
-/// - 2: a buffer is too small for the answer or for that line; `sizes` says what is needed, and the buffers are as they were.
-/// - 3: out of memory even for that line; the sizes are 0, and the buffers are as they were.
+/// - 2: a buffer is too small for the answer or for a refusal's line; `sizes` says what is needed, and the buffers are as they were.
+/// - 3: out of memory, and `reports` is too small for that line; the sizes are 0, and the buffers are as they were.
 #[unsafe(no_mangle)]
 pub extern "C" fn toxicap_rehearse(
     alloc: Global,
@@ -114,18 +116,39 @@ fn hand_out_reports(
     }
 }
 
-// Puts the line of a refusal.
+// Puts the line of a fault. If there is no memory for a refusal's line, out of memory is told in its place.
 fn tell(alloc: Global, fault: &RunFault, reports: &mut [u8], sizes: &mut ToxicapSizes) -> Status
-    ensures { (captures lens : List ℕ)
-        → EndsByFault fault.now result (buffers captures reports.old lens) (buffers captures reports.new lens) sizes.new }
+    ensures { (captures lens : List ℕ) (expected : Result Buffers RunFault) → IsTold fault.now expected
+        → Ends expected result (buffers captures reports.old lens) (buffers captures reports.new lens) sizes.new }
 {
-    let Ok(line) = fault_line(alloc, fault) else {
-        *sizes = no_sizes();
-        return Status::NoMemory;
+    let Ok(line) = refusal_line(alloc, fault) else {
+        return tell_memory(reports, sizes);
     };
     if put_text(line.as_bytes(), reports, sizes) {
         Status::Refused
     } else {
         Status::LittleRoom
     }
+}
+
+// The line of a fault that is not out of memory.
+fn refusal_line(alloc: Global, fault: &RunFault) -> Result<String, AllocError>
+    ensures text { IfOk result (λ line. string_bytes line ≡ fault_text fault.now) }
+    ensures refusal { OnOk result (run_refusal fault.now ≡ Some fault.now) }
+{
+    if let RunFault::Memory = fault {
+        return Err(AllocError);
+    }
+    fault_line(alloc, fault)
+}
+
+fn tell_memory(reports: &mut [u8], sizes: &mut ToxicapSizes) -> Status
+    ensures { (captures lens : List ℕ) (expected : Result Buffers RunFault)
+        → Ends expected result (buffers captures reports.old lens) (buffers captures reports.new lens) sizes.new }
+{
+    if put_text(memory_line().as_bytes(), reports, sizes) {
+        return Status::Refused;
+    }
+    *sizes = no_sizes();
+    Status::NoMemory
 }

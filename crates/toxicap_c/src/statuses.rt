@@ -10,7 +10,7 @@ pub(crate) enum Status {
     Refused,
     /// The buffers have too little room, and are as they were (2).
     LittleRoom,
-    /// Memory ran out even for the line of a refusal, and the buffers are as they were (3).
+    /// Memory ran out, the buffer of reports has too little room for the line that says so, and the buffers are as they were (3).
     NoMemory,
 }
 

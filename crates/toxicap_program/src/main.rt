@@ -21,7 +21,7 @@ use run::{HEADER_LEN, Run};
 use run_files::TeeReader;
 use std::io::{Cursor, IsTerminal};
 use std::process::ExitCode;
-use std::sync::atomic::AtomicU64;
+use std::sync::atomic::{AtomicU64, Ordering};
 use std::{env, io};
 use terminal::{Announced, Counting};
 use tips::tip_of;
@@ -31,7 +31,7 @@ fn main(rt: HostRuntime) -> ExitCode {
     let mut faults = Counted::new(rt.stderr());
     let words = match words_of(&rt) {
         Ok(words) => words,
-        Err(error) => return ExitCode::from(refuse_words(rt.alloc(), &error, &mut faults)),
+        Err(error) => return ExitCode::from(refuse_words(&error, &mut faults)),
     };
     let is_terminal = rt.stderr().is_terminal();
     let is_hinted = env::var(&rt, "TOXICAP_HINTS").is_ok_and(|word| word.as_str() == "1");
@@ -53,7 +53,7 @@ fn main(rt: HostRuntime) -> ExitCode {
     };
     let (status, outcome) = command_over(
         &files,
-        &mut HostDisk::new(&files),
+        &mut HostDisk::new(rt.alloc(), &files),
         rt.alloc(),
         &words,
         &mut input,
@@ -63,7 +63,8 @@ fn main(rt: HostRuntime) -> ExitCode {
     if let Some(asked) = asked.filter(|_| is_terminal || outcome.is_err()) {
         let start = input.into_inner().copy;
         let first_bytes = start.get_ref().get(..start.position() as usize);
-        print_line(&rt, asked, first_bytes.unwrap_or(&[]), outcome);
+        let stored = files.published.load(Ordering::SeqCst);
+        print_line(&rt, asked, first_bytes.unwrap_or(&[]), stored, outcome);
     } else if let Some(Err(Stop::Usage(told))) = &read {
         print_tip(&rt, told);
     }
@@ -78,6 +79,7 @@ fn print_line(
     rt: &HostRuntime,
     asked: &Asked<'_>,
     first_bytes: &[u8],
+    stored: u64,
     outcome: Result<Option<RunSummary>, RunFault>,
 ) {
     let run = Run {
@@ -85,6 +87,7 @@ fn print_line(
         alloc: rt.alloc(),
         asked,
         first_bytes,
+        stored,
     };
     let line = match outcome {
         Ok(None) => return,

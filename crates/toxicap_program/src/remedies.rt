@@ -8,8 +8,8 @@ use std::net::Ipv4Addr;
 use std::rt::Files;
 use toxicap::RunFault;
 
-// How many drafts a folder has at most: two of an output, and at once of two outputs for each of 16 workers.
-const DRAFT_LIMIT: u32 = 64;
+// How many drafts a folder has if those of one output are made alone, as they are after drafts of several failed.
+const DRAFT_LIMIT: u32 = 2;
 
 impl<R: Files> Run<'_, R> {
     pub fn remedy(&self, fault: RunFault) -> Said {
@@ -18,14 +18,22 @@ impl<R: Files> Run<'_, R> {
             RunFault::TooManyScenarios =>
                 say!(self.alloc; "{} scenarios were named, and a run takes 256: run it more than once", self.asked.scenarios.len()),
             RunFault::BadHost { at } => self.host_remedy(at),
-            RunFault::Memory =>
-                say!(self.alloc; "memory was refused: fewer --workers, or a smaller capture, take less"),
+            RunFault::Memory => self.memory_remedy(),
             RunFault::ShelfFailed { after } => self.folder_remedy(after),
             RunFault::ReadFailed => self.reading_remedy(),
             RunFault::WriteFailed =>
                 say!(self.alloc; "standard output took no more: the disk is full, or what read it has ended"),
             RunFault::CaptureTooLong => self.length_remedy(),
             _ => self.capture_remedy(fault),
+        }
+    }
+
+    fn memory_remedy(&self) -> Said {
+        let remedy =
+            say!(self.alloc; "memory was refused: fewer --workers, or a smaller capture, take less")?;
+        match self.asked.out {
+            Some(_) => say!(self.alloc; "{remedy}; {} files were stored", self.stored),
+            None => Ok(remedy),
         }
     }
 

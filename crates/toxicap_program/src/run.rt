@@ -23,6 +23,8 @@ pub struct Run<'a, R> {
     pub asked: &'a Asked<'a>,
     /// The first bytes that it read of standard input.
     pub first_bytes: &'a [u8],
+    /// The number of files that it stored.
+    pub stored: u64,
 }
 
 impl<R: Files> Run<'_, R> {

@@ -2,6 +2,12 @@
 use crate::run::Said;
 use std::alloc::Global;
 
+// The most characters that are shown of a name or a value.
+const TEXT_LIMIT: usize = 60;
+
+// The most characters that are shown of a path.
+const PATH_LIMIT: usize = 200;
+
 // The first characters of a text, escaped if they do not print, and two dots if it is longer. Quotes and backslashes stay.
 fn first_of(alloc: Global, text: &str, most: usize) -> Said {
     let mut shown = String::new(alloc);
@@ -19,7 +25,7 @@ fn first_of(alloc: Global, text: &str, most: usize) -> Said {
 }
 
 pub fn shown(alloc: Global, text: &str) -> Said {
-    first_of(alloc, text, 60)
+    first_of(alloc, text, TEXT_LIMIT)
 }
 
 pub fn quoted(alloc: Global, text: &str) -> Said {
@@ -28,5 +34,6 @@ pub fn quoted(alloc: Global, text: &str) -> Said {
 
 /// A path as it is shown: an empty one in quotes.
 pub fn shown_path(alloc: Global, path: &str) -> Said {
-    first_of(alloc, if path.is_empty() { "\"\"" } else { path }, 200)
+    let shown = if path.is_empty() { "\"\"" } else { path };
+    first_of(alloc, shown, PATH_LIMIT)
 }

@@ -5,6 +5,12 @@ use std::net::Ipv4Addr;
 use std::rt::Files;
 use toxicap::RunSummary;
 
+// Once the text of servers has this number of bytes, further ones are left out.
+const SERVERS_LEN: usize = 80;
+
+// A class is told if it has more than one of this number of records.
+const RECORDS_EACH: u64 = 10;
+
 impl<R: Files> Run<'_, R> {
     /// What is easily missed in the reports of a run.
     pub fn summed_up(&self, summary: &RunSummary) -> Said {
@@ -26,7 +32,7 @@ impl<R: Files> Run<'_, R> {
         Ok(text)
     }
 
-    // The servers of connections, each once, until their text has 80 bytes; two dots stand for those left out.
+    // The servers of connections, each once; two dots stand for those left out.
     fn put_servers(&self, text: &mut String, summary: &RunSummary) -> Result<(), AllocError> {
         let mut put = Vec::new(self.alloc);
         let mut servers = String::new(self.alloc);
@@ -35,7 +41,7 @@ impl<R: Files> Run<'_, R> {
             if put.as_slice().contains(&server) {
                 continue;
             }
-            if servers.len() >= 80 {
+            if servers.len() >= SERVERS_LEN {
                 servers.push_str(" ..")?;
                 break;
             }
@@ -93,7 +99,7 @@ fn put_left_out(text: &mut String, summary: &RunSummary) -> Result<(), AllocErro
         (counts.same_ends, "sameends"),
     ];
     for (count, class) in classes {
-        if u64::from(count).saturating_mul(10) > records as u64 {
+        if u64::from(count).saturating_mul(RECORDS_EACH) > records as u64 {
             write!(text, "; {count} of {records} records {class}")?;
         }
     }

@@ -183,12 +183,18 @@ fn a_draft_that_has_failed(rt: HostRuntime) {
     assert!(rt; refused && none && disk.failed() == 1);
 }
 
+// Removes a folder that a failed test has left.
+fn clear(rt: &(impl AllocGlobal + Files), path: &str) {
+    let _ = fs::remove_dir_all(rt, path);
+}
+
 // Two drafts in a folder become its files, in place of older ones; drafts that are dropped leave nothing.
 #[test]
 fn a_folder_by_drafts(rt: HostRuntime) {
+    clear(&rt, "drafts");
     fs::create_dir(&rt, "drafts").expect(&rt, "a folder");
     fs::write(&rt, "drafts/0008.txt", "an older file").expect(&rt, "a file");
-    let mut disk = HostDisk::new(&rt);
+    let mut disk = HostDisk::new(rt.alloc(), &rt);
     let folder = folder_at(&rt, "drafts");
     let dropped = two_drafts(rt.alloc(), &folder, &disk).expect(&rt, "memory");
     let begun = files_in(&rt, "drafts");
@@ -205,7 +211,7 @@ fn a_folder_by_drafts(rt: HostRuntime) {
 // Where there is no folder a draft fails, and that shows when it is to be committed.
 #[test]
 fn no_folder_by_drafts(rt: HostRuntime) {
-    let mut disk = HostDisk::new(&rt);
+    let mut disk = HostDisk::new(rt.alloc(), &rt);
     let folder = folder_at(&rt, "nowhere");
     let drafts = two_drafts(rt.alloc(), &folder, &disk).expect(&rt, "memory");
     let stored = store_both(rt.alloc(), drafts, &folder, &mut disk);
@@ -234,15 +240,30 @@ fn check_no_name(rt: &(impl Abort + AllocGlobal + Files), path: &str, name: &str
     assert!(rt; refused && disk.failed() == 0, "{name:?}");
 }
 
+// A name of 260 bytes.
+const LONG: &str =
+    "toxicap-name-toxicap-name-toxicap-name-toxicap-name-toxicap-name-toxicap-name-toxicap-name-toxicap-name-toxicap-name-toxicap-name-toxicap-name-toxicap-name-toxicap-name-toxicap-name-toxicap-name-toxicap-name-toxicap-name-toxicap-name-toxicap-name-toxicap-name-";
+
 #[test]
 fn names_that_a_folder_refuses(rt: HostRuntime) {
-    let long =
-        "toxicap-name-toxicap-name-toxicap-name-toxicap-name-toxicap-name-toxicap-name-toxicap-name-toxicap-name-toxicap-name-toxicap-name-toxicap-name-toxicap-name-toxicap-name-toxicap-name-toxicap-name-toxicap-name-toxicap-name-toxicap-name-toxicap-name-toxicap-name-";
     check_no_name(&rt, ".", "../toxicap-name");
-    check_no_name(&rt, ".", long);
+    check_no_name(&rt, ".", LONG);
     check_no_name(&rt, ".", "toxicap.unfinished");
     check_no_name(&rt, ".", "toxicap.unfinished-name");
     check_no_name(&rt, "", "toxicap-name");
+}
+
+// Whether a folder takes a file whose name has this many bytes.
+fn takes_name(rt: &(impl Abort + AllocGlobal), len: usize) -> bool {
+    let mut disk = MemoryDisk::new(rt.alloc());
+    let name = LONG.get(..len).expect(rt, "a name");
+    put_in(rt, &folder_at(rt, "."), &mut disk, name, b"") == Ok(())
+}
+
+#[test]
+fn names_of_the_greatest_length(rt: HostRuntime) {
+    let good = takes_name(&rt, 254) && takes_name(&rt, 255) && !takes_name(&rt, 256);
+    assert!(rt; good);
 }
 
 // Names that a folder allows and the host's disk refuses.
@@ -251,7 +272,7 @@ where
     R::File: Lockable,
 {
     let folder = folder_at(rt, ".");
-    let mut disk = HostDisk::new(rt);
+    let mut disk = HostDisk::new(rt.alloc(), rt);
     let refused = put_in(rt, &folder, &mut disk, name, b"") == REFUSED;
     assert!(rt; refused, "{name:?}");
 }
@@ -273,7 +294,7 @@ fn put_after_reading<R: Abort + AllocGlobal + Files>(
 where
     R::File: Lockable,
 {
-    let mut disk = HostDisk::new(rt);
+    let mut disk = HostDisk::new(rt.alloc(), rt);
     let mut read = ReadFiles::new(rt.alloc());
     if let Ok(metadata) = fs::metadata(rt, path) {
         read.add(Ok(Some(id_of(&metadata)))).expect(rt, "memory");
@@ -293,6 +314,7 @@ fn id_of(metadata: &Metadata) -> FileId {
 // What the run has read stays, under its name and through a link.
 #[test]
 fn a_folder_spares_what_was_read(rt: HostRuntime) {
+    clear(&rt, "spared");
     fs::create_dir(&rt, "spared").expect(&rt, "a folder");
     fs::write(&rt, "spared/input", "as recorded").expect(&rt, "a file");
     symlink(&rt, "input", "spared/link").expect(&rt, "a link");
@@ -318,15 +340,16 @@ fn held<D: Disk>(
 // One run at once holds a folder, and removes what others have left there.
 #[test]
 fn a_folder_is_held_by_one(rt: HostRuntime) {
-    let nowhere = held(&rt, "held", &mut HostDisk::new(&rt)) == REFUSED;
+    clear(&rt, "held");
+    let nowhere = held(&rt, "held", &mut HostDisk::new(rt.alloc(), &rt)) == REFUSED;
     fs::create_dir(&rt, "held").expect(&rt, "a folder");
     fs::write(&rt, "held/toxicap.unfinished-7", "left").expect(&rt, "a file");
     fs::write(&rt, "held/toxicap.unfinished-x", "a user's").expect(&rt, "a file");
-    let mut first = HostDisk::new(&rt);
+    let mut first = HostDisk::new(rt.alloc(), &rt);
     let once = held(&rt, "held", &mut first) == Ok(()) && files_in(&rt, "held") == 1;
-    let not_twice = held(&rt, "held", &mut HostDisk::new(&rt)) == REFUSED;
+    let not_twice = held(&rt, "held", &mut HostDisk::new(rt.alloc(), &rt)) == REFUSED;
     drop(first);
-    let again = held(&rt, "held", &mut HostDisk::new(&rt)) == Ok(());
+    let again = held(&rt, "held", &mut HostDisk::new(rt.alloc(), &rt)) == Ok(());
     assert!(rt; nowhere && once && not_twice && again);
     fs::remove_dir_all(&rt, "held").expect(&rt, "removed");
 }

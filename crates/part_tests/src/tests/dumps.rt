@@ -1,5 +1,5 @@
 //! Dumps, and the lines of faults.
-use run_files::{RunFault, fault_line, is_dump, undump};
+use run_files::{RunFault, fault_line, is_dump, memory_line, undump};
 use std::alloc::AllocGlobal;
 use std::process::Abort;
 
@@ -84,6 +84,7 @@ fn lines_of_faults(rt: HostRuntime) {
         "refused 23 BadHost host 1",
     );
     check_line(&rt, RunFault::Memory, "refused 40 Memory");
+    assert!(rt; memory_line() == "refused 40 Memory");
     check_line(
         &rt,
         RunFault::BadDump { at: 30 },

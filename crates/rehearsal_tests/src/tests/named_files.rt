@@ -141,6 +141,14 @@ impl Disk for Faulty {
 
     ghost path_of = { λ path. string_bytes path };
 
+    ghost standing = { λ _. None };
+
+    ghost input = { λ _. None };
+
+    ghost is_held = { λ _ _. Unit {0} };
+
+    ghost is_swept = { λ _ _ _. Unit {0} };
+
     fn hold(&mut self, _folder: &str, read: &ReadFiles) -> Result<(), DiskFault> {
         if read.are_known() {
             return Ok(());
@@ -159,6 +167,10 @@ impl Disk for Faulty {
 
     fn append(_draft: &mut String, _bytes: &[u8]) {}
 
+    fn has_failed(_draft: &String) -> bool {
+        false
+    }
+
     fn allow_publishing(&mut self, _path: &str, _read: &ReadFiles) -> Result<(), DiskFault> {
         Ok(())
     }
@@ -167,9 +179,15 @@ impl Disk for Faulty {
         Ok(())
     }
 
+    fn see_published(&mut self) -> Result<(), usize> {
+        Ok(())
+    }
+
     fn input_id(&self) -> Result<Option<FileId>, DiskFault> {
         Ok(None)
     }
+
+    ghost told = { λ _. tt };
 }
 
 impl ReadDisk for Faulty {
@@ -198,6 +216,8 @@ impl DiskFile for FaultyFile {
     ghost contents = { λ _. None };
 
     ghost place = { λ _. 0 };
+
+    ghost identity = { λ _. None };
 
     fn id(&self) -> Result<Option<FileId>, DiskFault> {
         Ok(None)

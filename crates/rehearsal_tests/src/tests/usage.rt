@@ -118,7 +118,7 @@ fn an_output_that_refuses_once(rt: HostRuntime) {
 // A command line that cannot be had for this cause: its status, and what is told.
 fn check_words(rt: &(impl Abort + AllocGlobal), cause: ErrorKind, status: u8, told: &str) {
     let mut faults = Counted::new(Vec::new(rt.alloc()));
-    let ended = refuse_words(rt.alloc(), &Error::from(cause), &mut faults);
+    let ended = refuse_words(&Error::from(cause), &mut faults);
     let good = ended == status && faults.into_inner().as_slice() == told.as_bytes();
     assert!(rt; good, "{told}");
 }

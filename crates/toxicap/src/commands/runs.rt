@@ -1,7 +1,8 @@
 //! A run that a command line asks for.
 ghost use Rattle.toxicap.specs.Inputs.{IsOfFiles, LoadedBy, LoadsCapture, texts_from, texts_or_no_proxies};
 ghost use Rattle.disks.specs.Histories.{held_now};
-ghost use Rattle.std.specs.Prelude.{◌≡◌, ◌+◌, ◌-◌, ◌^◌, ◌<◌, ◌≤◌, ℕ, List, Result, map, IfErr, [], length, IfOk, IfSome, Ok};
+ghost use Rattle.toxicap.specs.KeptInputs.{InputsStand, ReadsCapture, SweptFor, with_files};
+ghost use Rattle.std.specs.Prelude.{◌≡◌, ◌+◌, ◌-◌, ◌^◌, ◌<◌, ◌≤◌, ℕ, List, Result, map, IfErr, [], length, IfOk, IfSome, OnOk, Ok};
 ghost use Rattle.lists.specs.Agreement.{AgreesUnlessMemory};
 ghost use Rattle.toxicap.specs.PrintedReports.{PrintsOf};
 ghost use Rattle.command_line.specs.Asking.{IsPlanInRange};
@@ -11,7 +12,7 @@ ghost use Rattle.toxicap.specs.RunSummaries.{summary_of_texts};
 ghost use Rattle.toxicap.specs.Answering.{called_for};
 ghost use Rattle.toxicap.specs.StoredOutputs.{StoresIn, disk_histories};
 ghost use Rattle.pcap_records.specs.Reading.{capture_limit};
-ghost use Rattle.run_files.specs.Folders.{failed_stores};
+ghost use Rattle.run_files.specs.Folders.{failed_stores, Leaves};
 ghost use Rattle.run_files.specs.SeenTexts.{IsSeenOf, SeesAs};
 ghost use Rattle.toxicap.specs.Commands.{RunsBy, failed_calls, streams};
 ghost use Rattle.run_files.specs.RunFault.{run_refusal};
@@ -54,6 +55,8 @@ where
     requires writes { writer.old.failed < 2 ^ 64 - 1 }
     ensures runs { RunsBy asked.now result (disk_histories (D.history disk.old) (D.history disk.new))
         (streams R.remaining reader.old reader.new W.contents writer.old writer.new) }
+    ensures swept { OnOk result (SweptFor asked.now.out (D.is_swept disk.new)) }
+    ensures inputs { InputsStand asked.now (D.input disk.old) (D.standing disk.old) (D.standing disk.new) }
     ensures failed_calls { D.faults disk.new ≡ D.faults disk.old + failed_calls asked.now.out (without_value result) }
 {
     let hosts = read_hosts(alloc, &asked.hosts)?;
@@ -127,9 +130,11 @@ fn store_answers<H: Threads + Sync, D: Disk + Sync>(
 where
     D::Draft: Send,
     requires { D.faults disk.old < 2 ^ 64 - 1 }
-    ensures stored { StoresIn folder.now (without_value result) (called_for options.now.hosts (map (λ t. t.now) texts.now) options.now.seed text.entry)
+    ensures leaves { Leaves folder.now (D.standing disk.old) (D.standing disk.new) }
+    ensures swept { OnOk result (0 < length texts.now → D.is_swept disk.new folder.now.path folder.now.read) }
+    ensures stored { StoresIn folder.now.path (without_value result) (called_for options.now.hosts (map (λ t. t.now) texts.now) options.now.seed text.entry)
         (disk_histories (D.history disk.old) (D.history disk.new)) }
-    ensures faults { D.faults disk.new ≡ D.faults disk.old + failed_stores folder.now (without_value result) }
+    ensures faults { D.faults disk.new ≡ D.faults disk.old + failed_stores folder.now.path (without_value result) }
     ensures summary { IfOk result (λ summary. summary_of_texts options.now.hosts (map (λ t. t.now) texts.now) text.entry ≡ Ok summary) }
 {
     publishing_leaves_whole();
@@ -162,6 +167,7 @@ fn load_files<D: ReadDisk>(
 ) -> Result<Vec<Vec<u8>>, RunFault>
     ensures contents { IfSome (D.history disk.now) (λ h. AgreesUnlessMemory run_refusal (λ files. map (λ f. f.items) files.items) result
         (texts_from (held_now h) [] (map (λ path. path.now) named.now))) }
+    ensures read { IfSome (D.standing disk.now) (λ stood. OnOk result (read.new ≡ with_files stood read.old (map (λ path. path.now) named.now))) }
     ensures one_each { IfOk result (λ files. length files.items ≡ length named.now) }
     ensures of_file { IfErr result (IsOfFiles (length named.now)) }
 {
@@ -186,7 +192,8 @@ fn load_capture<H: Threads + Sync, D: ReadDisk, R: Read>(
 where
     D::File: Sync,
     requires { reader.old.failed < 2 ^ 64 - 1 }
-    ensures { LoadsCapture (D.history disk.now) asked.now.capture (reader.new ≡ reader.old) (LoadedBy R.remaining reader.old reader.new) result }
+    ensures loads { LoadsCapture (D.history disk.now) asked.now.capture (reader.new ≡ reader.old) (LoadedBy R.remaining reader.old reader.new) result }
+    ensures read { OnOk result (ReadsCapture asked.now.capture (D.input disk.now) (D.standing disk.now) read.old read.new) }
 {
     match asked.capture {
         Some(path) => load_by_workers(rt, alloc, disk, path, plan, read),
@@ -198,7 +205,8 @@ where
 }
 
 fn texts_of<'a>(alloc: Global, files: &'a [Vec<u8>]) -> Result<Vec<&'a [u8]>, AllocError>
-    ensures { IfOk result (λ texts. map (λ t. t.now) texts.items ≡ texts_or_no_proxies (map (λ f. f.items) files.now)) }
+    ensures some { IfOk result (λ texts. 0 < length texts.items) }
+    ensures are { IfOk result (λ texts. map (λ t. t.now) texts.items ≡ texts_or_no_proxies (map (λ f. f.items) files.now)) }
 {
     let mut texts = Vec::new(alloc);
     for file in files {

@@ -54,6 +54,10 @@ impl<'s, 'w, 'v, 'a, D: Disk> OutputDraft<'s, 'w, 'v, 'a, D> {
     {
         self.drafted
     }
+
+    fn has_failed(&self) -> bool {
+        D::has_failed(&self.drafted.0) || D::has_failed(&self.drafted.1)
+    }
 }
 
 // Scenarios in a row: job j makes drafts of the output of the one with number first + j, in place j of the folder.
@@ -74,7 +78,7 @@ impl<'j, 'f, 's, 'w, 'v, 'a, D: Disk + Sync> Work for DraftJobs<'j, 'f, 's, 'w, 
     ghost use Rattle.toxicap.specs.CaptureOutputs.{outputs_from};
     ghost use Rattle.toxicap.specs.DraftPlaces.{placed_from};
 
-    ghost values = { λ w. placed_from w.folder.now 0 (take w.count (drop w.first
+    ghost values = { λ w. placed_from w.folder.now.path 0 (take w.count (drop w.first
         (outputs_from w.sources.now))) };
 
     fn value(&self, job: u64) -> Result<OutputDraft<'s, 'w, 'v, 'a, D>, AllocError> {
@@ -91,8 +95,9 @@ impl<'j, 'f, 's, 'w, 'v, 'a, D: Disk + Sync> Work for DraftJobs<'j, 'f, 's, 'w, 
     }
 }
 
-/// Drafts of the outputs of some scenarios from a number on, one at least. Each is made by one of the workers; if one scenario is left, its
-/// connections are spread over the workers. A single worker makes those of one scenario.
+/// Drafts of the outputs of some scenarios from a number on, one at least. Several workers make those of a round, each of one worker. If the
+/// first of a round has failed, or one scenario is left, its connections are spread over the workers: then other drafts take no room of the
+/// disk. A single worker makes those of one scenario.
 pub(crate) fn drafts_from<'s, 'w, 'v, 'a, R: Threads + Sync, D: Disk + Sync>(
     crew: &Workers<'_, R>,
     sources: &'s Sources<'w, 'v, 'a>,
@@ -104,34 +109,59 @@ where
     D::Draft: Send,
     requires { number < length sources.now.scenarios.now }
     ensures some { IfOk result (λ v. 0 < length v.items) }
-    ensures next { IfOk result (λ v. v.items ≡ placed_from folder.now 0 (take (length v.items) (drop number
+    ensures next { IfOk result (λ v. v.items ≡ placed_from folder.now.path 0 (take (length v.items) (drop number
         (outputs_from sources.now)))) }
-    ensures apart { IfOk result (λ v. 0 < length folder.now → AllPairs (λ one other. one ≢ other) (paths_in v.items)) }
+    ensures apart { IfOk result (λ v. 0 < length folder.now.path → AllPairs (λ one other. one ≢ other) (paths_in v.items)) }
 {
     draft_paths_differ();
     let left = sources.scenarios.len() - number;
     let workers = crew.plan.workers() as usize;
-    if left.min(workers) == 1 {
-        return draft_by_workers(crew, sources, number, folder, disk);
+    let round = left.min(SCENARIOS_EACH * workers);
+    if left.min(workers) > 1 {
+        let drafts = drafts_of_round(crew, sources, number, round, folder, disk)?;
+        if !drafts.is_empty() {
+            return Ok(drafts);
+        }
     }
+    draft_by_workers(crew, sources, number, folder, disk)
+}
+
+// Drafts of the outputs of `count` scenarios, up to the first of which one has failed. The others are dropped.
+fn drafts_of_round<'s, 'w, 'v, 'a, R: Threads + Sync, D: Disk + Sync>(
+    crew: &Workers<'_, R>,
+    sources: &'s Sources<'w, 'v, 'a>,
+    number: usize,
+    count: usize,
+    folder: &Folder<'_>,
+    disk: &D,
+) -> Result<Vec<OutputDraft<'s, 'w, 'v, 'a, D>>, AllocError>
+where
+    D::Draft: Send,
+    requires { number + count ≤ length sources.now.scenarios.now }
+    ensures next { IfOk result (λ v. v.items ≡ placed_from folder.now.path 0 (take (length v.items) (drop number
+        (outputs_from sources.now)))) }
+{
     let jobs = DraftJobs {
         sources,
         first: number,
-        count: left.min(SCENARIOS_EACH * workers),
+        count,
         folder,
         disk,
     };
-    let count = jobs.count as u64;
+    let workers = crew.plan.workers() as u64;
     let drafts = work_all(
         crew.rt,
         sources.alloc,
-        count,
-        workers as u64,
+        count as u64,
+        workers,
         Phase::Jobs,
         &Through,
         &jobs,
     )?;
-    Ok(drafts.into_vec())
+    let mut drafts = drafts.into_vec();
+    let whole = drafts.iter().position(OutputDraft::has_failed);
+    drafts.truncate(whole.unwrap_or(usize::MAX));
+    Ok(drafts)
 }
 
 fn draft_by_workers<'s, 'w, 'v, 'a, R: Threads + Sync, D: Disk>(
@@ -143,7 +173,7 @@ fn draft_by_workers<'s, 'w, 'v, 'a, R: Threads + Sync, D: Disk>(
 ) -> Result<Vec<OutputDraft<'s, 'w, 'v, 'a, D>>, AllocError>
     requires { number < length sources.now.scenarios.now }
     ensures some { IfOk result (λ v. 0 < length v.items) }
-    ensures next { IfOk result (λ v. v.items ≡ placed_from folder.now 0 (take (length v.items) (drop number
+    ensures next { IfOk result (λ v. v.items ≡ placed_from folder.now.path 0 (take (length v.items) (drop number
         (outputs_from sources.now)))) }
 {
     let drafted = sources.drafted(crew, number, folder, disk, 0)?;

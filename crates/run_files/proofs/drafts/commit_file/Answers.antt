@@ -7,7 +7,7 @@ use Rattle.run_files.proofs.drafts.commit_file.Goals as goal
 -- a call of the disk failed if the folder allowed the name
 pub returns-clause-faults : goal.returns-clause-faults
 returns-clause-faults g c =
-    let folder : List ℕ = c.args.folder.now in
+    let folder : List ℕ = c.args.folder.now.path in
     let name = c.deref.ensures ∙ c.in-Ok.ensures in
     let allowed = ap (is_refused folder) name ∙ name_allowed c.args.number c.requires.number folder c.args.ending.now c.requires.ending c.requires.slash in
     subst (λ (b : Bool). g.D.Disk.faults c.commit.new.disk ≡ g.D.Disk.faults c.args.disk.now + failed_puts b (outcome_of_storing c.commit.result)) allowed

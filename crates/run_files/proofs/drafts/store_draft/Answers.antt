@@ -7,7 +7,7 @@ use Rattle.run_files.proofs.drafts.store_draft.Goals as goal
 
 pub returns-in_err-commit_file-clause-stores : goal.returns-in_err-commit_file-clause-stores
 returns-in_err-commit_file-clause-stores g c = λ output held.
-    let folder : List ℕ = c.args.folder.now in
+    let folder : List ℕ = c.args.folder.now.path in
     let number : ℕ = c.args.number in
     let fault = err_from_is_err_and c.from_residual.result c.from_residual.ensures.1 in
     rw (fault.1, fault.2)
@@ -15,7 +15,7 @@ returns-in_err-commit_file-clause-stores g c = λ output held.
 
 pub returns-clause-stores : goal.returns-clause-stores
 returns-clause-stores g c = λ output held.
-    let folder : List ℕ = c.args.folder.now in
+    let folder : List ℕ = c.args.folder.now.path in
     let number : ℕ = c.args.number in
     put_first (CommitsIn folder) (CommitsIn-append folder) (2 * number) (2 * number + 1) _ (capture_file number output) (report_file number output ∷ []) _ _ _ c.commit_file-2.result refl refl
     (c.in_ok-commit_file.ensures.puts output.capture held.0)

@@ -1,13 +1,21 @@
-use Rattle.std.proofs.Common.{◌≡◌, Ok, Err, Result, refl, ap, sym, ◌∙◌}
+use Rattle.std.proofs.Common.{◌≡◌, ℕ, List, Option, OnOk, Ok, Err, Result, refl, ap, sym, subst, ◌∙◌}
+use Rattle.command_line.specs.declared.asked.Asked.{Asked}
 use Rattle.conn_workers.specs.declared.summaries.RunSummary.{RunSummary}
+use Rattle.disks.specs.ReadFiles.{ReadFilesView}
 use Rattle.run_files.specs.declared.error.RunFault.{RunFault}
 use Rattle.toxicap.specs.Commands.{of_run}
+use Rattle.toxicap.specs.KeptInputs.{SweptAfter, SweptFor}
 use Rattle.toxicap.specs.RunEnds.{without_value}
 use Rattle.toxicap.proofs.commands.command_over.Goals as goal
 
 same_fault : (run : Result RunSummary RunFault) → without_value run ≡ without_value (of_run run)
 same_fault (Ok summary) = refl
 same_fault (Err fault) = refl
+
+swept_after : (asked : Asked) (run : Result RunSummary RunFault) (Swept : List ℕ → ReadFilesView → Type 0)
+    → OnOk run (SweptFor asked.out Swept) → SweptAfter (Ok asked) (of_run run) Swept
+swept_after asked (Ok summary) Swept swept = swept
+swept_after asked (Err fault) Swept swept = tt
 
 pub returns-in-Ok-clause-ends : goal.returns-in-Ok-clause-ends
 returns-in-Ok-clause-ends g c =
@@ -19,4 +27,7 @@ returns-in-Ok-clause-ends g c =
       c.in-Ok.ensures,
       ((c.run_asked.result, outcome, ran.runs), told.status, told.told),
       rw same at ran.failed_calls,
+      ran.inputs,
+      subst (λ (o : Result (Option RunSummary) RunFault). SweptAfter (Ok c.in-Ok.asked) o (g.D.Disk.is_swept c.run_asked.new.disk)) (sym outcome)
+          (swept_after c.in-Ok.asked c.run_asked.result _ ran.swept),
     )

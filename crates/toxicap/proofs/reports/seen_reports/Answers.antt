@@ -11,7 +11,7 @@ returns-in_err-scenarios-in-Heads-clause-reports g c = λ text within seen.
     let is = subst (λ s. IsSeenOf s text) c.in-Heads.is seen in
     let texts = map (λ t. t.now) c.args.texts.now in
     rw (fault.1, fault.2) (of_fault_printed _ (called_for c.args.hosts.now texts c.args.seed text)
-    (refused_scenarios c.args.hosts.now texts c.args.seed _ text text within (not_dumped text is.0) c.in_err-scenarios-in-Heads.ensures))
+    (refused_scenarios c.args.hosts.now texts c.args.seed _ text text within (not_dumped text is.0) c.in_err-scenarios-in-Heads.ensures.read))
 
 pub returns-in_ok-scenarios-in-Heads-clause-reports : goal.returns-in_ok-scenarios-in-Heads-clause-reports
 returns-in_ok-scenarios-in-Heads-clause-reports g c = λ text within seen.
@@ -19,10 +19,10 @@ returns-in_ok-scenarios-in-Heads-clause-reports g c = λ text within seen.
     let texts = map (λ t. t.now) c.args.texts.now in
     let told = rw c.deref.ensures.value at c.head_reports.ensures.reports text is.1 in
     rw (called_rehearsal c.args.hosts.now texts c.args.seed text text c.in_ok-scenarios-in-Heads.scenarios.items within
-    (not_dumped text is.0) c.in_ok-scenarios-in-Heads.ensures) told
+    (not_dumped text is.0) c.in_ok-scenarios-in-Heads.ensures.read) told
 
 pub returns-in_ok-scenarios-in-Heads-clause-summary : goal.returns-in_ok-scenarios-in-Heads-clause-summary
 returns-in_ok-scenarios-in-Heads-clause-summary g c = λ text within seen.
     let is = subst (λ s. IsSeenOf s text) c.in-Heads.is seen in
     let summary = rw c.deref.ensures.value at c.head_reports.ensures.summary text is.1 in
-    rw (not_dumped text is.0, c.in_ok-scenarios-in-Heads.ensures) summary
+    rw (not_dumped text is.0, c.in_ok-scenarios-in-Heads.ensures.read) summary

@@ -1,29 +1,34 @@
-use Rattle.std.proofs.Common.{◌≡◌, ◌≤◌, ◌*◌, List, length, refl, ap, arith, rules}
+use Rattle.std.proofs.Common.{◌≡◌, ◌≤◌, ◌*◌, ℕ, List, length, take, Option, refl, sym, ap, subst, arith, rules}
 use Rattle.std.specs.Vec.Iter.{into_iter_items}
 use Rattle.std.proofs.lemmas.List.{take_all}
 use Rattle.std.proofs.lemmas.Result.{err_from_is_err_and}
+use Rattle.disks.specs.Histories.{History}
 use Rattle.run_files.specs.declared.outputs.Output.{Output}
+use Rattle.run_files.specs.Folders.{CommitsIn}
 use Rattle.run_files.specs.WrittenOutputs.{files_from}
 use Rattle.toxicap.specs.CaptureOutputs.{outputs_from}
+use Rattle.toxicap.proofs.InputsKept.{Leaves-same, Leaves-then}
 use Rattle.toxicap.proofs.OutputSteps.{as_many_outputs}
 use Rattle.toxicap.proofs.ReadyDrafts.{outputs_in, ready_outputs, takes_first}
-use Rattle.toxicap.proofs.StoringEnds.{nothing_committed}
+use Rattle.toxicap.proofs.StoringEnds.{nothing_committed, replaced}
 use Rattle.toxicap.proofs.StoredSteps.{length-files_from, committed_more, stops_at}
 use Rattle.toxicap.proofs.storing.store_each.Goals as goal
 
 pub loop-number-init : goal.loop-number-init
-loop-number-init g c = record { committed = nothing_committed c.args.folder.now _; no_fault = refl }
+loop-number-init g c = record { committed = nothing_committed c.args.folder.now.path _; leaves = Leaves-same c.args.folder.now _ _ refl; swept = λ held. held; no_fault = refl }
 
 pub loop-draft-init : goal.loop-draft-init
 loop-draft-init g c =
     let loop = c.loop-number.invariant in
     let drafts = c.in_ok-drafts.drafts.items in
     let items : into_iter_items c.into_iter-draft-iterator.result ≡ drafts = search rules in
-    let ready = ready_outputs c.args.folder.now (outputs_from c.args.sources.now) c.loop-number.number drafts c.in_ok-drafts.ensures.next in
+    let ready = ready_outputs c.args.folder.now.path (outputs_from c.args.sources.now) c.loop-number.number drafts c.in_ok-drafts.ensures.next in
     record {
       can_next = tt;
       is_finite = tt;
       committed = loop.committed;
+      leaves = loop.leaves;
+      swept = loop.swept;
       no_fault = loop.no_fault;
       left = rw items ready;
       rises = rw items (omega (arith, c.in_ok-drafts.ensures.some));
@@ -59,7 +64,7 @@ returns-in_err-store_draft-clause-stored g c =
     let loop = c.loop-draft.invariant in
     let first = takes_first all _ _ c.loop-draft.number c.in-Some.draft.output loop.left (ap outputs_in c.in-Some.ensures.steps.0) in
     let fault = err_from_is_err_and c.from_residual-in_err-store_draft.result c.from_residual-in_err-store_draft.ensures.1 in
-    rw (fault.1, fault.2) (stops_at c.args.folder.now all c.loop-draft.number c.in-Some.draft.output first.below first.is _ _ _ loop.committed c.in_err-store_draft.field-0.0
+    rw (fault.1, fault.2) (stops_at c.args.folder.now.path all c.loop-draft.number c.in-Some.draft.output first.below first.is _ _ _ loop.committed c.in_err-store_draft.field-0.0
     (c.in_err-store_draft.ensures.stores c.in-Some.draft.output c.into_drafts.ensures.drafts))
 
 pub returns-in_err-store_draft-clause-faults : goal.returns-in_err-store_draft-clause-faults
@@ -75,16 +80,30 @@ loop-draft-preserved g c =
     record {
       can_next = tt;
       is_finite = tt;
-      committed = committed_more c.args.folder.now all c.loop-draft.number c.in-Some.draft.output first.below first.is _ _ _ loop.committed
+      committed = committed_more c.args.folder.now.path all c.loop-draft.number c.in-Some.draft.output first.below first.is _ _ _ loop.committed
           (c.in_ok-store_draft.ensures.stores c.in-Some.draft.output c.into_drafts.ensures.drafts);
+      leaves = Leaves-then c.args.folder.now _ _ _ loop.leaves c.in_ok-store_draft.ensures.leaves;
+      swept = λ held. c.in_ok-store_draft.ensures.swept (loop.swept held);
       no_fault = omega (arith, c.in_ok-store_draft.ensures.faults, loop.no_fault);
       left = first.left;
       rises = omega (arith, loop.rises, ap length c.in-Some.ensures.steps.0);
     }
+
+pub returns-in_err-see_committed-clause-stored : goal.returns-in_err-see_committed-clause-stored
+returns-in_err-see_committed-clause-stored g c =
+    let all : List Output = outputs_from c.args.sources.now in
+    let folder : List ℕ = c.args.folder.now.path in
+    let files = take (2 * c.loop-number.number) (files_from 0 all) in
+    let seen = c.in_err-see_committed.ensures in
+    let fault = err_from_is_err_and c.from_residual-in_err-see_committed.result c.from_residual-in_err-see_committed.ensures.1 in
+    let committed = subst (λ (h : Option History). CommitsIn folder (g.D.Disk.history c.args.disk.now) h files) (sym seen.as_before) c.loop-number.invariant.committed in
+    rw (fault.1, fault.2) (replaced folder (files_from 0 all) files c.in_err-see_committed.field-0.0 _ _ committed
+    (omega (arith, seen.replaced.0, as_many_outputs c.args.sources.now, length-files_from 0 all), seen.replaced.1))
 
 pub returns-clause-stored : goal.returns-clause-stored
 returns-clause-stored g c =
     let all : List Output = outputs_from c.args.sources.now in
     let over : length (files_from 0 all) ≤ 2 * c.loop-number.number =
     omega (arith, c.loop-number-test.false, as_many_outputs c.args.sources.now, length-files_from 0 all) in
-    rw (take_all (2 * c.loop-number.number) (files_from 0 all) over) at c.loop-number.invariant.committed
+    subst (λ (h : Option History). CommitsIn c.args.folder.now.path (g.D.Disk.history c.args.disk.now) h (files_from 0 all)) (sym c.in_ok-see_committed.ensures.as_before)
+    (rw (take_all (2 * c.loop-number.number) (files_from 0 all) over) at c.loop-number.invariant.committed)

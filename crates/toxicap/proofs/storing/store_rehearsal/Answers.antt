@@ -18,7 +18,7 @@ pub returns-in_err-capture-clause-faults : goal.returns-in_err-capture-clause-fa
 returns-in_err-capture-clause-faults g c =
     let fault = err_from_is_err_and c.from_residual.result c.from_residual.ensures.1 in
     let expected = answer (bytes_of c.args.capture) c.args.scenarios.now c.args.seed in
-    let none = refused_faults c.args.folder.now _ expected (of_answer (bytes_of c.args.capture) c.args.scenarios.now c.args.seed)
+    let none = refused_faults c.args.folder.now.path _ expected (of_answer (bytes_of c.args.capture) c.args.scenarios.now c.args.seed)
     (told_refusal _ expected (c.in_err-capture.ensures.refused c.args.seed)) in
     rw (fault.1, fault.2) (omega (arith, none))
 
@@ -31,7 +31,7 @@ returns-in_err-hold_for-clause-stored g c =
     rw (fault.1, fault.2) (
       Ok expected,
       c.in_ok-capture.ensures.answered c.args.seed,
-      not_held c.args.folder.now expected c.in_err-hold_for.field-0.0 _ _ held.as_before (held.refused.0, omega (arith, many, held.refused.1)),
+      not_held c.args.folder.now.path expected c.in_err-hold_for.field-0.0 _ _ held.as_before (held.refused.0, omega (arith, many, held.refused.1)),
     )
 
 pub returns-in_err-hold_for-clause-faults : goal.returns-in_err-hold_for-clause-faults

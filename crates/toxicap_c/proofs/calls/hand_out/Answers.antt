@@ -1,7 +1,6 @@
 use Rattle.std.proofs.Common.{List, false, inl, subst}
 use Rattle.run_files.specs.declared.outputs.Output.{Output}
 use Rattle.toxicap_c.specs.Buffers.{Puts, buffers, put_of}
-use Rattle.toxicap_c.proofs.ToldEnds.{told_ends}
 use Rattle.toxicap_c.proofs.calls.hand_out.Goals as goal
 
 -- there is too little room for the answer
@@ -12,4 +11,4 @@ returns-in-Ok c =
     (put_of c.in-Ok.outputs, inl c.in-Ok.ensures.answer, subst P c.as_slice.ensures c.if-put_outputs.ensures)
 
 pub returns : goal.returns
-returns c = told_ends _ c.in-Err.fault c.in-Err.ensures.answer c.tell.result _ _ _ (c.tell.ensures c.args.captures.now c.args.lens.now)
+returns c = c.tell.ensures c.args.captures.now c.args.lens.now _ c.in-Err.ensures.answer

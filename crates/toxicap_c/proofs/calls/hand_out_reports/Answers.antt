@@ -1,7 +1,7 @@
 use Rattle.std.proofs.Common.{ℕ, List, [], true, false, ap, inl, subst}
 use Rattle.toxicap_c.specs.Buffers.{Puts, buffers, put_of_reports}
 use Rattle.toxicap_c.specs.Calls.{reports_put}
-use Rattle.toxicap_c.proofs.ToldEnds.{reports_told, told_ends}
+use Rattle.toxicap_c.proofs.ToldEnds.{reports_told}
 use Rattle.toxicap_c.proofs.calls.hand_out_reports.Goals as goal
 
 pub returns-then-put_text : goal.returns-then-put_text
@@ -16,4 +16,4 @@ returns-in-Ok c =
     (put_of_reports c.in-Ok.text, inl (ap reports_put c.in-Ok.ensures), subst P c.as_slice.ensures (c.if-put_text.ensures [] []))
 
 pub returns : goal.returns
-returns c = told_ends _ c.in-Err.fault (reports_told c.in-Err.fault _ c.in-Err.ensures) c.tell.result _ _ _ (c.tell.ensures [] [])
+returns c = c.tell.ensures [] [] _ (reports_told c.in-Err.fault _ c.in-Err.ensures)

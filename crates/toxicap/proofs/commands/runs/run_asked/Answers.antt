@@ -3,6 +3,7 @@ use Rattle.std.proofs.lemmas.List.{length-map}
 use Rattle.std.proofs.lemmas.Result.{err_from_is_err_and}
 use Rattle.run_files.specs.declared.error.RunFault.TheVariants.{Memory}
 use Rattle.toxicap.specs.Inputs.{texts_or_no_proxies}
+use Rattle.toxicap.proofs.InputsKept.{inputs_stand}
 use Rattle.toxicap.proofs.RunSteps.{then_seen, then_unseen}
 use Rattle.toxicap.proofs.commands.runs.run_asked.Goals as goal
 
@@ -40,7 +41,7 @@ returns-in_default-clause-runs g c =
     let known = rw c.deref.ensures.value at c.in_ok-hosts.ensures.exact in
     let each = rw c.deref-2.ensures.value at c.in_ok-files.ensures.one_each in
     let contents = rw c.deref-2.ensures.value at c.in_ok-files.ensures.contents in
-    let are : map (λ t. t.now) c.in_ok-texts.texts.items ≡ texts_or_no_proxies (map (λ f. f.items) c.in_ok-files.files.items) = rw c.deref-3.ensures.value at c.in_ok-texts.ensures in
+    let are : map (λ t. t.now) c.in_ok-texts.texts.items ≡ texts_or_no_proxies (map (λ f. f.items) c.in_ok-files.files.items) = rw c.deref-3.ensures.value at c.in_ok-texts.ensures.are in
     let (loaded, sees, within, loads) = c.in_ok-seen.ensures in
     let printed = rw (c.deref-in_default.ensures.value, are) at c.print_answers.ensures.prints in
     let summary = rw (c.deref-in_default.ensures.value, are) at c.print_answers.ensures.summary in (
@@ -60,14 +61,21 @@ returns-in_err-text-clause-runs g c =
     let each = rw c.deref-2.ensures.value at c.in_ok-files.ensures.one_each in
     let contents = rw c.deref-2.ensures.value at c.in_ok-files.ensures.contents in
     rw (fault.1, fault.2)
-    (Ok c.in_ok-hosts.hosts, known, (Ok _, (length-map c.in_ok-files.files.items _ ∙ each, tt, contents), (Err _, c.in_err-text.ensures, (refl, (refl, refl)))))
+    (Ok c.in_ok-hosts.hosts, known, (Ok _, (length-map c.in_ok-files.files.items _ ∙ each, tt, contents), (Err _, c.in_err-text.ensures.loads, (refl, (refl, refl)))))
 
 pub returns-clause-runs : goal.returns-clause-runs
 returns-clause-runs g c =
     let known = rw c.deref.ensures.value at c.in_ok-hosts.ensures.exact in
     let each = rw c.deref-2.ensures.value at c.in_ok-files.ensures.one_each in
     let contents = rw c.deref-2.ensures.value at c.in_ok-files.ensures.contents in
-    let are : map (λ t. t.now) c.in_ok-texts.texts.items ≡ texts_or_no_proxies (map (λ f. f.items) c.in_ok-files.files.items) = rw c.deref-3.ensures.value at c.in_ok-texts.ensures in
+    let are : map (λ t. t.now) c.in_ok-texts.texts.items ≡ texts_or_no_proxies (map (λ f. f.items) c.in_ok-files.files.items) = rw c.deref-3.ensures.value at c.in_ok-texts.ensures.are in
     let stored = rw (c.deref-4.ensures.value, are, c.new-folder.ensures) at c.store_answers.ensures.stored in
     let summary = rw (c.deref-4.ensures.value, are) at c.store_answers.ensures.summary in
-    (Ok c.in_ok-hosts.hosts, known, (Ok _, (length-map c.in_ok-files.files.items _ ∙ each, tt, contents), (Ok c.in_ok-text.text, c.in_ok-text.ensures, (rw c.in-Some.is (stored, refl), summary))))
+    (Ok c.in_ok-hosts.hosts, known, (Ok _, (length-map c.in_ok-files.files.items _ ∙ each, tt, contents), (Ok c.in_ok-text.text, c.in_ok-text.ensures.loads, (rw c.in-Some.is (stored, refl), summary))))
+
+pub returns-clause-inputs : goal.returns-clause-inputs
+returns-clause-inputs g c =
+    let files = rw c.deref-2.ensures.value at c.in_ok-files.ensures.read in
+    let leaves = rw c.new-folder.ensures at c.store_answers.ensures.leaves in
+    inputs_stand c.args.asked.now (g.D.Disk.input c.args.disk.now) c.in-Some.folder (record { path = c.in-Some.folder.now; read = c.load_capture.new.read })
+    (g.D.Disk.standing c.args.disk.now) (g.D.Disk.standing c.store_answers.new.disk) c.new-read.result c.load_files.new.read c.in-Some.is refl files c.in_ok-text.ensures.read leaves

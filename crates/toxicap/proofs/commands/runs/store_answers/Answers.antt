@@ -14,13 +14,13 @@ pub returns-in_err-inputs-clause-faults : goal.returns-in_err-inputs-clause-faul
 returns-in_err-inputs-clause-faults g c =
     let own = c.args.options.now in
     let fault = err_from_is_err_and c.from_residual.result c.from_residual.ensures.1 in
-    let none = refused_faults c.args.folder.now _ _ (of_called own.hosts (map (λ t. t.now) c.args.texts.now) own.seed c.args.text) (c.in_err-inputs.ensures.refused own.seed) in
+    let none = refused_faults c.args.folder.now.path _ _ (of_called own.hosts (map (λ t. t.now) c.args.texts.now) own.seed c.args.text) (c.in_err-inputs.ensures.refused own.seed) in
     rw (fault.1, fault.2) (omega (arith, none))
 
 pub returns-clause-stored : goal.returns-clause-stored
 returns-clause-stored g c =
     let stored = rw (c.bytes.ensures, c.deref.ensures.value) at c.store_rehearsal.ensures.stored in
-    rw (c.in_ok-inputs.ensures.taken c.args.options.now.seed) (stores_in c.publishing_leaves_whole.ensures c.args.folder.now _ _ (without_value c.store_rehearsal.result) _ stored)
+    rw (c.in_ok-inputs.ensures.taken c.args.options.now.seed) (stores_in c.publishing_leaves_whole.ensures c.args.folder.now.path _ _ (without_value c.store_rehearsal.result) _ stored)
 
 pub returns-clause-summary : goal.returns-clause-summary
 returns-clause-summary g c =

@@ -9,7 +9,7 @@ use Rattle.toxicap.proofs.storing.drafting.draft_by_workers.Goals as goal
 pub returns-clause-next : goal.returns-clause-next
 returns-clause-next g c =
     let own = c.args.sources.now in
-    let folder : List ℕ = c.args.folder.now in
+    let folder : List ℕ = c.args.folder.now.path in
     let all : List Output = outputs_from own in
     let this : Output = get_or all c.args.number no_output in
     let within : c.args.number < length all = omega (arith, c.requires, as_many_outputs own) in

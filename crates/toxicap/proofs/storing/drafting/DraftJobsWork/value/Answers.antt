@@ -11,27 +11,27 @@ overflow_add-number g c =
     let own = c.args.self.now in
     let all : List Output = outputs_from own.sources.now in
     let within : own.first + own.count ≤ length all = omega (arith, own.within, as_many_outputs own.sources.now) in
-    omega (arith, placed_below all own.first own.count within own.folder.now 0 c.args.job c.requires, own.within, own.sources.now.few)
+    omega (arith, placed_below all own.first own.count within own.folder.now.path 0 c.args.job c.requires, own.within, own.sources.now.few)
 
 pub drafted-requires-clause-within : goal.drafted-requires-clause-within
 drafted-requires-clause-within g c =
     let own = c.args.self.now in
     let all : List Output = outputs_from own.sources.now in
     let within : own.first + own.count ≤ length all = omega (arith, own.within, as_many_outputs own.sources.now) in
-    omega (arith, placed_below all own.first own.count within own.folder.now 0 c.args.job c.requires, own.within)
+    omega (arith, placed_below all own.first own.count within own.folder.now.path 0 c.args.job c.requires, own.within)
 
 pub drafted-requires-clause-place : goal.drafted-requires-clause-place
 drafted-requires-clause-place g c =
     let own = c.args.self.now in
     let all : List Output = outputs_from own.sources.now in
     let within : own.first + own.count ≤ length all = omega (arith, own.within, as_many_outputs own.sources.now) in
-    omega (arith, placed_below all own.first own.count within own.folder.now 0 c.args.job c.requires, own.within, own.sources.now.few)
+    omega (arith, placed_below all own.first own.count within own.folder.now.path 0 c.args.job c.requires, own.within, own.sources.now.few)
 
 pub returns : goal.returns
 returns g c = λ other.
     let own = c.args.self.now in
     let sources = own.sources.now in
-    let folder : List ℕ = own.folder.now in
+    let folder : List ℕ = own.folder.now.path in
     let job : ℕ = c.args.job in
     let all : List Output = outputs_from sources in
     let within : own.first + own.count ≤ length all = omega (arith, own.within, as_many_outputs sources) in

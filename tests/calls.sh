@@ -51,11 +51,14 @@ end_begun() {
 # has_failed: whether the last run had such a call as was to fail.
 has_failed() { [ -e "$work/calls.failed" ]; }
 
+# failed_name: the name of the file of that call, without its folder.
+failed_name() { sed 's,.*/,,' "$work/calls.failed"; }
+
 # can_count WHAT: whether the calls of the last run were counted, as something wants; where they were not, that is skipped.
 can_count() { [ -e "$work/calls" ] || { skip "$1" "no call is counted: is the program linked statically?"; return 1; }; }
 
 # count KIND: how many calls of this kind the last run has made.
-kinds=(growth thread read write open rename remove stat close lock list)
+kinds=(growth thread read write open rename remove stat close lock list create sync)
 count() {
     local place
     for place in "${!kinds[@]}"; do

@@ -3,6 +3,7 @@
 #                                              and in a second of its own; a record has 1,320 bytes
 #     perl tests/capture.pl SEGMENTS+STEP      the same segments in another order: at place P the one of number STEP * P modulo SEGMENTS
 #     perl tests/capture.pl SEGMENTS*STEP      the same, and each goes on into the next one by three bytes that are not the next one's
+#     perl tests/capture.pl SEGMENTS+STEPxBYTES  or SEGMENTS*STEPxBYTES: the same segments with BYTES bytes each, up to 1,250
 #     perl tests/capture.pl CONNECTIONSxROUNDS CONNECTIONS connections, each of a client of its own: all openings, in a second round all answers to
 #                                              them, and in a third a byte of each client, the last one's first; records have 70, 70 and 71 bytes
 #     perl tests/capture.pl CONNECTIONSx3xBYTES  the same with BYTES bytes of each client, up to 1,250, of which each client has others
@@ -15,7 +16,9 @@ use strict;
 use warnings;
 
 my ($which, $what, $proxy, $scenario) = @ARGV;
-my ($count, $goes_on, $step, $rounds, $bytes) = $which =~ /^(\d+)(?:([+*])(\d+)|x([123])(?:x(\d+))?)?$/ or die "no such capture: $which\n";
+my ($count, $goes_on, $step, $size, $rounds, $bytes) = $which =~ /^(\d+)(?:([+*])(\d+)(?:x(\d+))?|x([123])(?:x(\d+))?)?$/
+    or die "no such capture: $which\n";
+$size //= 1250;
 ($what, $proxy, $scenario) = ($what // 'recorded', $proxy // '-', $scenario // 0);
 my $more = ($goes_on // '') eq '*' ? 'xyz' : '';
 my $is_delivered = $what eq 'delivered';
@@ -62,8 +65,11 @@ sub report {
     }
 }
 
-# body: the 1,250 bytes of a segment.
-sub body { return pack('N', shift) x 312 . 'ab' }
+# body: the bytes of a segment, 1,250 without another size.
+sub body {
+    my $number = pack 'N', shift;
+    return $size < 1250 ? substr $number x 313, 3, $size : $number x 312 . 'ab';
+}
 
 # sent: what a client sends in the third round.
 sub sent { return defined $bytes ? substr(body(shift), 0, $bytes) : 'x' }
@@ -88,7 +94,7 @@ if ($what eq 'sent') {
     exit;
 }
 if ($what eq 'report') {
-    if ($rounds) { report($rounds * $count, $count, $rounds == 3 ? length sent(0) : 0) } else { report($count + 2, 1, 1250 * $count) }
+    if ($rounds) { report($rounds * $count, $count, $rounds == 3 ? length sent(0) : 0) } else { report($count + 2, 1, $size * $count) }
     exit;
 }
 print pack('VvvVVVV', 0xa1b2c3d4, 2, 4, 0, 0, 65535, 1);
@@ -112,7 +118,7 @@ if ($rounds) {
         for my $place (0 .. $count - 1) {
             my $number = $numbers->[$place];
             my $body = body($number) . ($number < $count - 1 ? $more : '');
-            segment($place + 1, 0, $client, 0, 1 + 1250 * $number, 1, $push | $ack, $body);
+            segment($place + 1, 0, $client, 0, 1 + $size * $number, 1, $push | $ack, $body);
         }
         exit;
     }

@@ -63,8 +63,18 @@ unstored() {
     holds "$folder" "${files[@]:0:number}"
 }
 
-# perhaps_stored: it was to store the full answer, or to be refused as `unstored` has it.
-perhaps_stored() { if [ "$status" = 0 ]; then stored; else unstored; fi; }
+# unseen: it was to be refused for a file that could not be seen at its path once all were stored.
+unseen() {
+    fault 1
+    silent output
+    grep -qx 'refused 60 ShelfFailed after [0-3]' "$work/faults" || cat "$work/faults"
+    folder_difference "$new" "$folder"
+}
+
+# perhaps_stored: it was to store the full answer, or to be refused as `unstored` or `unseen` has it.
+perhaps_stored() {
+    if [ "$status" = 0 ]; then stored; elif [ "$(count rename)" = 4 ]; then unseen; else unstored; fi
+}
 
 # each WHAT KIND SETTINGS FAULT LAST INPUT [ARGUMENT..]: each call of a kind fails in turn, until a run makes no more of them: FAULT tells
 # what is at fault with a run, given the number of the call, and LAST with the last run.
@@ -112,6 +122,7 @@ unopened() {
     if [ "$1" -le 3 ]; then unread; elif [ "$1" = 5 ]; then stored; else unstored; fi
 }
 each "a file cannot be opened" open "CAUSE=$device" unopened stored "${named[@]}"
+each "a draft is not made" create "CAUSE=$device" unstored stored "${named[@]}"
 each "a read of a file fails" read "CAUSE=$device" unread stored "${named[@]}"
 each "a file is not written" write "CAUSE=$room" unstored stored "${named[@]}"
 each "a file takes nothing" write "CAUSE=$nothing" unstored stored "${named[@]}"

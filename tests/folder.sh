@@ -279,18 +279,15 @@ for number in 0 1; do
     verdict "the link at the path of draft $number" "$([ -L "$draft" ] || echo "  it is gone")"
 done
 
-# By two workers the drafts of four scenarios are eight: a run that reads one of their files has stored a first part of the outputs.
+# By two workers the drafts of four scenarios are eight: a run that reads the file of one of them stores all, as one worker does.
+four=("${late[@]}" "${late[@]}" "${late[@]}" "${late[@]}")
 folder
 cp "$capture" "$work/folder/toxicap.unfinished-5"
-run /dev/null --capture "$work/folder/toxicap.unfinished-5" "${late[@]}" "${late[@]}" "${late[@]}" "${late[@]}" --workers 2 --out "$work/folder"
-verdict "the capture at the path of draft 5" "$(
-    fault 1
-    silent output
-    grep -qx 'refused 60 ShelfFailed after [0-5]' "$work/faults" || cat "$work/faults"
-    [ "$(find "$work/folder" -name '0*' | wc -l)" = "$(tail -c 2 "$work/faults")" ] || echo "  the folder has: $(ls "$work/folder")"
-    find "$work/folder" -mindepth 1 ! -name '0*' ! -name toxicap.unfinished-5 -printf '  another file: %f\n'
-    byte_difference "$capture" "$work/folder/toxicap.unfinished-5"
-)"
+mkdir "$work/four"
+run "$capture" "${four[@]}" --out "$work/four"
+cp "$capture" "$work/four/toxicap.unfinished-5"
+run /dev/null --capture "$work/folder/toxicap.unfinished-5" "${four[@]}" --workers 2 --out "$work/folder"
+verdict "the capture at the path of draft 5" "$(well; silent output; folder_difference "$work/four" "$work/folder")"
 
 # One that no draft of the run wants stays, and all is stored.
 folder
@@ -527,7 +524,7 @@ for ((instant = 1; instant <= 40; instant += 3)); do
 done
 verdict "killed at 14 instants" "$bad"
 
-# Killed right before and right after each of its calls in turn that opens, reads, looks at, writes, renames, removes or closes a file, or holds or
+# Killed right before and right after each of its calls in turn that opens, makes, reads, looks at, writes, renames, removes or closes a file, or holds or
 # lists the folder: each output is the old file or the new one, whole, the new ones first, and beside them are drafts alone; the next run has its
 # outputs there and no more. Where drafts are removed, a run before had left two.
 both=("${late[@]}" --scenario examples/limit_data.json)
@@ -586,7 +583,7 @@ removed() {
 kills=0
 if can_count "kills before and after each call"; then
     for when in before after; do
-        for kind in open read stat write rename remove close lock list; do killed $when $kind; done
+        for kind in open create read stat write rename remove close lock list; do killed $when $kind; done
     done
     removed before toxicap.unfinished-1
     removed after ""

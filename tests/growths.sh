@@ -1,7 +1,7 @@
 #!/usr/bin/env bash
 # Each growth of memory refused in turn: the built program, and the calls `rehearse` and `answers` of its library, answer as with ample
-# memory (where a thread could not be made, by fewer workers), or they are refused for lack of memory. The program then prints nothing, and
-# has stored a first part of the files; the next call of the library, with the same values,
+# memory (where a thread could not be made, by fewer workers), or they are refused for lack of memory. The program says so then, also if all
+# later growths are refused too; it prints nothing, and has stored a first part of the files. The next call of the library, with the same values,
 # answers in full. There is no third answer.
 set -euo pipefail
 cd "$(dirname "$0")/.."
@@ -11,7 +11,8 @@ stored=crates/toxicap_program/stdin
 folder=$work/folder
 mkdir "$folder"
 
-# starved NUMBER INPUT [ARGUMENT..]: runs the program on a file, this growth refused; whether there was such a growth.
+# starved NUMBER INPUT [ARGUMENT..]: runs the program on a file, this growth refused, with `+` after the number all later ones too; whether there
+# was such a growth.
 starved() {
     local number=$1 left=("$folder"/*)
     shift
@@ -20,17 +21,16 @@ starved() {
     has_failed
 }
 
-# is_whole: whether the last run has the full answer, which stands in `ample` and `files`.
+# is_whole: whether the last run has the full answer, which stands in `ample`, `ample.faults` and `files`.
 is_whole() {
-    [ "$status" = 0 ] && [ ! -s "$work/faults" ] && cmp -s "$work/ample" "$work/output" || return 1
+    [ "$status" = "$ends" ] && cmp -s "$work/ample.faults" "$work/faults" && cmp -s "$work/ample" "$work/output" || return 1
     [ ! -e "$work/files/0000.pcap" ] || diff -rq "$work/files" "$folder" > /dev/null
 }
 
-# wanting: what the last run has that is not lack of memory, with a first part of the files and no other file. Where there is no memory for the
-# line either, nothing is told.
+# wanting: what the last run has that is not lack of memory, with a first part of the files and no other file.
 wanting() {
     local file names=()
-    if [ -s "$work/faults" ]; then refusal "refused 40 Memory"; else fault 1; silent output; fi
+    refusal "refused 40 Memory"
     for file in "$work"/files/*; do
         [ -e "$folder/${file##*/}" ] || break
         names+=("${file##*/}")
@@ -39,17 +39,19 @@ wanting() {
     holds "$folder" "${names[@]}"
 }
 
-# each WHAT INPUT [ARGUMENT..]: refuses each growth of a run in turn.
+# each WHAT INPUT [ARGUMENT..]: refuses each growth of a run in turn, which ends with the status `ends`; or if `later` is `+`, from each growth on
+# all, and no run is whole then.
 each() {
-    local what=$1 number=1 bad=""
+    local what=$1$later number=1 bad=""
     shift
     starved 0 "$@" || true
     rm -rf "$work/files"
     cp "$work/output" "$work/ample"
+    cp "$work/faults" "$work/ample.faults"
     cp -r "$folder" "$work/files"
-    bad=$(well)
-    while [ -z "$bad" ] && starved $number "$@"; do
-        is_whole || bad=$(wanting)
+    bad=$(fault $ends)
+    while [ -z "$bad" ] && starved $number$later "$@"; do
+        if [ -n "$later" ] || ! is_whole; then bad=$(wanting); fi
         [ -z "$bad" ] || bad="  growth $number"$'\n'"$bad"
         number=$((number + 1))
     done
@@ -57,7 +59,7 @@ each() {
     growths=$((growths + number - 1))
 }
 
-growths=0
+growths=0 ends=0 later=
 printf '[{"name":"web","upstream":"web:80","toxics":[{"type":"slicer","attributes":{"average_size":3,"size_variation":1,"delay":5}}]}]' > "$work/named.json"
 printf '[{"name":"a","upstream":"10.0.0.2:80","toxics":[{"type":"latency","attributes":{"latency":100,"jitter":20}}]}]' > "$work/late.json"
 od -An -v -tx1 samples/http-get.pcap | tr -d " " > "$work/dump"
@@ -73,6 +75,16 @@ each "three scenarios stored by 2 workers" samples/http-get.pcap --scenario exam
 perl tests/capture.pl 7000 > "$work/blocks.pcap"
 each "a capture of two blocks by 2 workers" /dev/null --capture "$work/blocks.pcap" --scenario examples/latency.json --workers 2
 each "--help" /dev/null --help
+later=+
+each "a dump" "$work/dump"
+each "two scenarios by 2 workers" "$stored" --scenario "$work/named.json" --scenario "$work/late.json" --host web=10.0.0.2 --workers 2 --cut 2
+each "three scenarios stored by 2 workers" samples/http-get.pcap --scenario examples/latency.json --scenario examples/slicer.json \
+    --scenario examples/bandwidth.json --workers 2 --cut 2 --out "$folder"
+each "--help" /dev/null --help
+ends=1
+each "a refusal" "$stored" --scenario "$work/named.json"
+later=
+each "a refusal" "$stored" --scenario "$work/named.json"
 
 # long WHAT CAPTURE [ARGUMENT..]: of a run that prints more than 2^20 bytes forty growths, from the first to the last, are refused in turn. Then
 # nothing is printed.
@@ -87,11 +99,7 @@ long() {
     for ((number = 1; number <= 40; number++)); do
         run_with "FAIL=growth:$((all * number / 40))" "$capture" "$@"
         [ "$status" != 0 ] || ! cmp -s "$work/ample" "$work/output" || continue
-        bad+=$(
-            fault 1
-            [ ! -s "$work/faults" ] || told faults $'refused 40 Memory\n'
-            silent output
-        )
+        bad+=$(refusal "refused 40 Memory")
         refused=$((refused + 1))
     done
     verdict "$what" "$bad$([ $refused -gt 20 ] || echo "  refused: $refused times")"

@@ -82,6 +82,15 @@ run() {
     timeout "$patience" "$program" "$@" < "$input" > "$work/output" 2> "$work/faults" || status=$?
 }
 
+# run_within SECONDS KILOBYTES INPUT [ARGUMENT..]: runs it so with no more time of the processors, and no more addresses, which may be `unlimited`.
+run_within() {
+    local seconds=$1 kilobytes=$2 input=$3
+    shift 3
+    status=0
+    (ulimit -S -t "$seconds" -v "$kilobytes"
+        GLIBC_TUNABLES=glibc.malloc.arena_max=1 exec timeout "$patience" "$program" "$@" < "$input" > "$work/output" 2> "$work/faults") || status=$?
+}
+
 # What is at fault with the last run; nothing where it went as it was to go.
 # fault STATUS: it was to end so. Told are its status and what it said.
 fault() {

@@ -5,7 +5,7 @@
                     made with each of their buffers too small, just right and too large
      again COUNT    COUNT calls, none of which may leave memory; from a thousand on the process may not grow after the tenth part of them
      threads COUNT  eight threads, each with 256 KB of stack, a seed of its own and COUNT calls
-     growths        each growth of memory is refused in turn
+     growths        each growth of memory is refused in turn, also with all later ones, and also with too little room for any line
      edges          a scenario's length past the end, a last host without a line feed, no scenario, a capture that is too long
    It is linked with --wrap for malloc, realloc, calloc and free, so that its growths are counted (of a static library, the library's too). */
 #define _GNU_SOURCE
@@ -133,11 +133,12 @@ static void threads(const struct question *asked, long count)
         release(&turns[number].expected);
 }
 
-/* starved: asks with this growth refused; whether there was such a growth. */
-static int starved(const struct question *asked, const struct memory *full, uint8_t full_status, long number)
+static const ToxicapSizes no_sizes = {0, 0, 0};
+
+/* starved: asks with this growth refused, and with this room for reports; whether there was such a growth. */
+static int starved(const struct question *asked, const struct memory *full, uint8_t full_status, long number, size_t reports_room)
 {
-    ToxicapSizes room = full->sizes;
-    room.reports += sizeof want_of_memory;
+    ToxicapSizes room = {full->sizes.captures, reports_room, full->sizes.lens};
     struct memory memory = memory_of(room);
     long before = blocks;
     growths = 0;
@@ -146,14 +147,18 @@ static int starved(const struct question *asked, const struct memory *full, uint
     int was_refused = growths >= number;
     refused_growth = 0;
     must(blocks == before, "a refused growth leaves memory");
-    must(leaves(&memory, memory.sizes), "a refused growth changes other bytes than it tells of");
+    must(leaves(&memory, status == TOXICAP_NO_ROOM ? no_sizes : memory.sizes), "a refused growth changes other bytes than it tells of");
     if (status == TOXICAP_NO_MEMORY)
-        must(was_refused && are_equal(memory.sizes, (ToxicapSizes){0, 0, 0}), "status 3 with sizes");
+        must(was_refused && room.reports < strlen(want_of_memory) && are_equal(memory.sizes, no_sizes), "status 3 with room or sizes");
     else if (status == TOXICAP_REFUSED && memory.sizes.reports == strlen(want_of_memory)
              && memcmp(memory.reports, want_of_memory, strlen(want_of_memory)) == 0)
         must(was_refused && memory.sizes.captures == 0 && memory.sizes.lens == 0, "out of memory where no growth was refused");
+    else if (status == TOXICAP_NO_ROOM)
+        must(room.reports < full->sizes.reports && are_equal(memory.sizes, full->sizes), "status 2 for something else than the answer");
     else
         must(status == full_status && is_same(full, &memory), "a refused growth gives a third answer");
+    must(!was_refused || !later_too || status == (room.reports < strlen(want_of_memory) ? TOXICAP_NO_MEMORY : TOXICAP_REFUSED),
+         "no lack of memory where all is refused from a growth on");
     release(&memory);
     return was_refused;
 }
@@ -164,9 +169,13 @@ static void each_growth(struct question *asked)
     for (asked->with_captures = 0; asked->with_captures < 2; asked->with_captures++) {
         uint8_t status;
         struct memory full = answer(asked, &status);
-        for (number = 1; starved(asked, &full, status, number); number++)
-            ;
-        must(number > 1, "no growth can be refused");
+        size_t rooms[] = {full.sizes.reports + sizeof want_of_memory, strlen(want_of_memory) - 1};
+        for (int way = 0; way < 4; way++) {
+            later_too = way / 2;
+            for (number = 1; starved(asked, &full, status, number, rooms[way % 2]); number++)
+                ;
+            must(number > 1, "no growth can be refused");
+        }
         printf("%ld growths\n", number - 1);
         release(&full);
     }

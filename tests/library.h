@@ -11,8 +11,14 @@ extern void *__real_malloc(size_t), *__real_calloc(size_t, size_t), *__real_real
 extern void __real_free(void *);
 
 static _Thread_local long growths, refused_growth, blocks;
+static _Thread_local int later_too;
 
-static int is_refused(void) { return ++growths == refused_growth; }
+/* is_refused: whether the growth asked for is the one that is refused, or with `later_too` one after it. */
+static int is_refused(void)
+{
+    growths++;
+    return refused_growth > 0 && (growths == refused_growth || (later_too && growths > refused_growth));
+}
 
 void *__wrap_malloc(size_t size)
 {

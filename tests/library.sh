@@ -86,9 +86,19 @@ answered "10 scenarios" "${shop[@]}" --scenario examples/cut-after-1kb.json
 many=() kinds=(latency bandwidth slow_close timeout slicer limit_data mobile-line)
 for ((scenario = 0; scenario < 256; scenario++)); do many+=(--scenario "examples/${kinds[scenario % 7]}.json"); done
 answered "256 scenarios" --capture samples/http-get.pcap "${many[@]}"
-hosts=()
+hosts=() longest=()
 for ((host = 0; host < 255; host++)); do hosts+=(--host "h$host=10.9.9.$host"); done
 answered "256 hosts" --capture samples/shop.pcap --scenario examples/slow-database.json "${hosts[@]}" --host redis=10.77.0.3
+
+for ((host = 255; host < 299; host++)); do hosts+=(--host "h$host=10.9.10.$((host - 255))"); done
+answered "300 hosts" --capture samples/shop.pcap --scenario examples/slow-database.json "${hosts[@]}" --host redis=10.77.0.3
+{ printf '[%65535s' ''; tail -c +2 examples/latency.json; } > "$work/wide.json"
+answered "a scenario of 64 KiB" --capture samples/http-get.pcap --scenario "$work/wide.json" --scenario examples/slicer.json
+for ((number = 0; number < 12; number++)); do longest+=(--scenario examples/latency.json); done
+perl tests/capture.pl 12000x3 > "$work/connections.pcap"
+answered "a report of 1 MiB" --capture "$work/connections.pcap" --scenario examples/latency.json
+perl tests/capture.pl 1000x3 > "$work/connections.pcap"
+answered "reports of 1 MiB" --capture "$work/connections.pcap" "${longest[@]}"
 
 # each kind of refusal
 # changed NAME PLACE BYTES: a sample with other bytes, as \x00, from a place on.

@@ -1,16 +1,16 @@
 #!/usr/bin/env python3
-"""Makes what pages tell of the tree itself: the crates, what they stand on and their definitions; the limits; the public calls.
+"""Makes what pages tell of the tree itself: the crates, what they stand on and their definitions; the constants; the public calls.
 
 A page of docs/ has such a part between two lines, `<!-- made: NAME -->` and `<!-- end -->`. Without an argument each part is written anew. With
 `--check` nothing is written: a part that is not what would be written fails, and so does one that no page has. The larger sample as a dump, for
-tests in Rattle, is made, or compared, too; and so are the tables of what helps after a refusal, in code between `made: hints` and `end`. The last
-line is `N passed, M failed`. A further argument is the folder of another copy of the repository."""
-import itertools, json, pathlib, re, sys
+tests in Rattle, is made, or compared, too; and so are the table of constants, and those of what helps after a refusal, in code between `made: hints`
+and `end`. The last line is `N passed, M failed`. A further argument is the folder of another copy of the repository."""
+import constants, itertools, json, pathlib, re, sys
 
 FOLDERS = [word for word in sys.argv[1:] if word != '--check']
 TREE = pathlib.Path(FOLDERS[0] if FOLDERS else pathlib.Path(__file__).resolve().parent.parent)
 MADE = re.compile(r'(<!-- made: (\w+) -->\n)(.*?)(<!-- end -->\n)', re.S)
-TESTS = ('part_tests', 'worker_tests', 'rehearsal_tests', 'worked_sessions', 'library_example')
+TESTS = constants.NOT_PRODUCT
 
 
 # ---- the tree
@@ -72,27 +72,12 @@ def made_crates():
         yield f'- **{crate}**: {sentence(first)}{"; on " if on else ""}{on}\n'
 
 
-# ---- limits
-
-LIMIT = re.compile(r'^ *(?:///|//) ([^\n]*)\n *(?:pub(?:\(crate\))? )?const ((?:\w+_)?LIMIT|GREATEST_\w+): (?:u\d+|usize) = (.*);$', re.M)
-DEFINED_LIMIT = re.compile(r'^-- ([^\n]*)\n[^\n]*\n(\w+_limit) = ([\d ^]+)$', re.M)
-
-
-def limits():
-    """The limits of the libraries, those that only definitions have too: of each its crate, file, name, value and comment."""
-    found, told = [], set()
-    for crate in libraries():
-        found += [(crate, path.stem, *row.groups()) for path in files(crate, 'src', '.rt') for row in LIMIT.finditer(read(path))]
-        found += [(crate, path.stem, *row.groups()) for path in files(crate, 'specs', '.antt') for row in DEFINED_LIMIT.finditer(read(path))]
-    for crate, file, text, name, value in sorted(found, key=lambda row: row[3].islower()):
-        if (crate, name.lower()) not in told: yield crate, file, name, value, text
-        told.add((crate, name.lower()))
-
+# ---- constants
 
 def made_limits():
-    """Each limit with its value, its file and what it limits."""
-    for crate, file, name, value, text in limits():
-        yield f'- `{name} = {value}` (`{crate}/{file}`): {text[0].lower()}{re.split("[:.]( |$)", text)[0][1:]}\n'
+    """The constants of each crate."""
+    for crate, rows in itertools.groupby(constants.listed(TREE), key=lambda row: row[0].split('/')[0]):
+        yield f'- {crate}: {", ".join(f"`{name}`" for _, name, _, _ in rows)}\n'
 
 
 # ---- calls
@@ -113,21 +98,6 @@ def clauses(code, head):
     return found
 
 
-def with_clauses(code, head):
-    """A function with the names of its clauses, or '-' if it has none."""
-    promised = clauses(code, head)
-    return head[3], ', '.join(filter(None, promised)) if promised else '-'
-
-
-def joined(told):
-    """Functions as they are told: after each the names of its clauses in brackets, after several in a row that have the same ones once."""
-    parts = []
-    for names, group in itertools.groupby(told, key=lambda each: each[1]):
-        functions = [function for function, _ in group]
-        parts += [f'{" and ".join(functions)} ({names})'] if names else functions
-    return ', '.join(parts)
-
-
 def handed_on(crate):
     """The names that a crate's lib.rt hands on from its modules, each with its module."""
     found = {}
@@ -137,26 +107,27 @@ def handed_on(crate):
 
 
 def calls(crate):
-    """The public calls of a crate, by their type, trait or module, with the names of their clauses, except methods that have only plain clauses."""
+    """The public calls of a crate, by their type, trait or module, except methods that have only clauses without a name."""
     names, rows = handed_on(crate), {}
     for path in files(crate, 'src', '.rt'):
         code = read(path)
         for block in re.finditer(r'^(pub trait|impl)(?:<.*?>)? (\w+)(?![^\n]* for ).*?^\}', code, re.M | re.S):
             if block[2] not in names: continue
             for head in FUNCTION.finditer(code, block.start(), block.end()):
-                told = with_clauses(code, head)
-                if told[1] and (head[2] == 'pub ' or block[1] == 'pub trait'): rows.setdefault(block[2], []).append(told)
+                promised = clauses(code, head)
+                is_told = any(promised) or not promised
+                if is_told and (head[2] == 'pub ' or block[1] == 'pub trait'): rows.setdefault(block[2], []).append(head[3])
         for head in FUNCTION.finditer(code):
             if head[1] or head[2] != 'pub ': continue
             if names.get(head[3]) == path.stem or path.stem == 'laws' or 'extern "C"' in head[0]:
-                rows.setdefault(path.stem, []).append(with_clauses(code, head))
+                rows.setdefault(path.stem, []).append(head[3])
     return rows
 
 
 def made_calls():
     """The public calls of each library, a line for each type, trait or module."""
     for crate in libraries():
-        rows = ''.join(f'  - {of}: {joined(told)}\n' for of, told in calls(crate).items())
+        rows = ''.join(f'  - {of}: {", ".join(told)}\n' for of, told in calls(crate).items())
         if rows: yield f'- {crate}\n{rows}'
 
 
@@ -285,15 +256,15 @@ def main():
             if made[3] != expected: faults.append(f'{path.relative_to(TREE)}, {made[2]}' + difference(made[3], expected))
         expected = MADE.sub(lambda made: made[1] + part(made[2]) + made[4], text)
         if '--check' not in sys.argv and expected != text: path.write_text(expected, encoding='utf-8')
-    expected = made_dump()
-    if '--check' not in sys.argv: DUMP.write_text(expected, encoding='utf-8')
-    elif read(DUMP) != expected: faults.append(f'{DUMP.relative_to(TREE)} is no dump of {SAMPLE.relative_to(TREE)}')
+    for path, expected in ((DUMP, made_dump()), (TREE / constants.TABLE, constants.table(TREE))):
+        if '--check' not in sys.argv: path.write_text(expected, encoding='utf-8')
+        elif read(path) != expected: faults.append(f'{path.relative_to(TREE)} is not as it would be made')
     faults += code_faults()
     if '--check' not in sys.argv: return
     missing = set(PARTS) - shown
     faults += [f'no page has the part: {name}' for name in sorted(missing)]
     for fault in faults: print('failed:', fault)
-    print(f'{len(shown | missing) + 1 + len(TABLES) - len(faults)} passed, {len(faults)} failed')
+    print(f'{len(shown | missing) + 2 + len(TABLES) - len(faults)} passed, {len(faults)} failed')
     sys.exit(1 if faults else 0)
 
 

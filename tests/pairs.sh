@@ -7,29 +7,7 @@ cd "$(dirname "$0")/.."
 . tests/lib.sh
 . tests/calls.sh
 patience=60
-capture=samples/shop.pcap
-folder=$work/folder
-
-# Eight scenarios each of one kind of run and of the other, and the files of both: each differs from that of the same name.
-declare -A words=([one]="" [other]="")
-for kind in one other; do
-    for number in {0..7}; do
-        case $kind in one) latency=1$number ;; other) latency=5$number ;; esac
-        toxics="[{\"type\":\"latency\",\"attributes\":{\"latency\":$latency,\"jitter\":3}}]"
-        printf '[{"name":"web","upstream":"10.77.0.2:80","toxics":%s},{"name":"redis","upstream":"10.77.0.3:6379","toxics":%s}]' \
-            "$toxics" "$toxics" > "$work/$kind$number.json"
-        words[$kind]+=" --scenario $work/$kind$number.json"
-    done
-    mkdir "$work/$kind"
-    # shellcheck disable=SC2086
-    run "$capture" ${words[$kind]} --out "$work/$kind"
-    verdict "a run alone, $kind" "$(well)"
-done
-mapfile -t names < <(cd "$work/one" && printf '%s\n' 0*)
-verdict "the files of one and the other" "$(
-    [ ${#names[@]} = 16 ] || echo "  files: ${names[*]}"
-    for name in "${names[@]}"; do ! cmp -s "$work/one/$name" "$work/other/$name" || echo "  $name is the same"; done
-)"
+. tests/two_runs.sh
 if can "worked out apart" python3; then
     for kind in one other; do
         mkdir "$work/apart"
@@ -38,12 +16,6 @@ if can "worked out apart" python3; then
         rm -r "$work/apart"
     done
 fi
-
-# anew: the folder without files.
-anew() {
-    rm -rf "$folder"
-    mkdir "$folder"
-}
 
 # kept: what is at fault with the last run, which was to be refused at once and to leave the folder as it was, as `before` has it.
 kept() {
@@ -117,44 +89,17 @@ if can "a folder that something else holds" flock; then
     exec 3<&-
 fi
 
-# 200 pairs. One of a pair tells what the folder has at the moment it ends: it reads the files from the last to the first, since a run that comes then
-# replaces them from the first on.
-for kind in one other; do (cd "$work/$kind" && sha256sum -- "${names[@]}" | sed "s/ .* / $kind /; s/  */ /g") > "$work/$kind.sums"; done
-declare -A whose=()
-while read -r sum kind name; do whose[$sum $name]=$kind; done < <(cat "$work/one.sums" "$work/other.sums")
-for ((place = ${#names[@]} - 1; place >= 0; place--)); do backwards+=("${names[place]}"); done
-
-# takes KIND WORKERS WAIT: one run of a pair, after a wait.
-takes() {
-    local kind=$1 status=0
-    sleep "$3"
-    # shellcheck disable=SC2086
-    timeout "$patience" "$program" --capture "$capture" ${words[$kind]} --workers "$2" --out "$folder" \
-        > "$work/$kind.output" 2> "$work/$kind.faults" || status=$?
-    (cd "$folder" && sha256sum -- "${backwards[@]}") > "$work/$kind.seen" 2> "$work/$kind.missing" || true
-    echo $status > "$work/$kind.status"
-}
-
-# seen KIND OTHER: what is at fault with a run of a pair. From the last file to the first there are at its end: if it has stored, its own files, and
-# then what the other one has replaced since; if it was refused, none, and then what the other one has stored.
-seen() {
-    local kind=$1 other=$2 sum name which later=$1
-    status=$(cat "$work/$kind.status")
-    cp "$work/$kind.output" "$work/output"
-    cp "$work/$kind.faults" "$work/faults"
-    if [ "$status" = 0 ]; then
-        well
-        silent output
-        [ ! -s "$work/$kind.missing" ] || cat "$work/$kind.missing"
-    else
-        refusal "refused 60 ShelfFailed after 0"
-        later=$other
-    fi
+# 200 pairs. A run that is refused is refused at once, and has seen none of its files.
+# refused_at_once KIND OTHER: what is at fault with a run of a pair that was refused.
+refused_at_once() {
+    local sum name
+    status=$(cat "$work/$1.status")
+    [ "$status" != 0 ] || return 0
+    cp "$work/$1.faults" "$work/faults"
+    told faults $'refused 60 ShelfFailed after 0\n'
     while read -r sum name; do
-        which=${whose[$sum $name]-torn}
-        [ "$which" = "$other" ] || [ "$which" = "$later" ] || echo "  at the end of $kind, with status $status, $name is of: $which"
-        later=$which
-    done < "$work/$kind.seen"
+        [ "${whose[$sum $name]-torn}" = "$2" ] || echo "  at the end of $1, which was refused, $name is of: ${whose[$sum $name]-torn}"
+    done < "$work/$1.seen"
 }
 
 # settled: what is at fault with the folder once both runs of a pair have ended: it has the files of one that stored.
@@ -177,7 +122,7 @@ for ((pair = 0; pair < 200; pair++)); do
     takes "${order[0]}" "${workers[0]}" 0 &
     takes "${order[1]}" "${workers[1]}" "0.00$((pair / 4 % 10))" &
     wait
-    fault=$(seen one other; seen other one; settled)
+    fault=$(seen one other; seen other one; refused_at_once one other; refused_at_once other one; settled)
     [ -z "$fault" ] || bad+="  pair $pair, $(cat "$work/one.status") and $(cat "$work/other.status"):"$'\n'"$fault"$'\n'
     [ "$(cat "$work"/{one,other}.status | xargs)" != "0 0" ] || both=$((both + 1))
 done

@@ -225,6 +225,48 @@ for letters in $'\xc3\xa4\xc3\x98 \xe6\x96\x87' $'\xf0\x9d\x84\x9e' $'a\xcc\x81'
     cp "$work/slow.json" "./$letters.json"
     placed_at "of $(printf %q "$letters")" "./$letters.pcap" "./$letters.json" "./$letters"
 done
+# the path - is a name like any other, and neither standard input nor standard output
+cp "$session_path" -- "$work/paths/-"
+run /dev/null --capture - --scenario "$work/slow.json" --host web=10.0.0.2
+verdict "--capture -" "$(well; told output "${slow/scenario 1/scenario 0}")"
+cp "$work/slow.json" -- "$work/paths/-"
+run "$session_path" --scenario - --host web=10.0.0.2
+verdict "--scenario -" "$(well; told output "${slow/scenario 1/scenario 0}")"
+run "$session_path" --out -
+verdict "--out -, which is a file" "$(refusal "refused 60 ShelfFailed after 0")"
+rm -- "$work/paths/-"
+unread "refused 61 ReadFailed" "$session_path" --capture -
+unread "refused 61 ReadFailed" "$work/slow.json" --scenario -
+unread "refused 60 ShelfFailed after 0" "$session_path" --out -
+mkdir -- "$work/paths/-"
+run "$session_path" --out -
+verdict "--out -" "$(well; silent output; holds "$work/paths/-" 0000.pcap 0000.txt)"
+# a slash or a line feed at the end of a path: a file has no slash, a folder may have some, and a name with a line feed is another one; a path that is
+# trimmed is found
+mkdir there2 $'there2\n' 'there3'
+cp "$session_path" plain
+cp "$work/slow.json" plain.json
+cp "$session_path" $'fed\n'
+cp "$work/slow.json" $'fed.json\n'
+for end in / // /. $'\n'; do
+    unread "refused 61 ReadFailed" "$session_path" --scenario "plain.json$end"
+    unread "refused 61 ReadFailed" /dev/null --capture "plain$end"
+done
+run /dev/null --capture $'fed\n' --scenario $'fed.json\n' --host web=10.0.0.2 --out $'there2\n'
+verdict "paths that end in a line feed" "$(
+    well
+    silent output
+    holds there2
+    holds $'there2\n' 0000.pcap 0000.txt
+    printf '%s' "${slow/scenario 1/scenario 0}" | byte_difference - $'there2\n/0000.txt'
+)"
+for path in fed fed.json; do unread "refused 61 ReadFailed" /dev/null --capture "$path"; done
+for end in / // /. ///./; do
+    rm -rf there3
+    mkdir there3
+    run "$session_path" --out "there3$end"
+    verdict "--out there3$end" "$(well; silent output; holds there3 0000.pcap 0000.txt)"
+done
 popd > /dev/null
 cp $session "$far/capture"
 cp "$work/slow.json" "$far/scenario"

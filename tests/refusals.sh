@@ -100,6 +100,7 @@ proxies() {
     for ((proxy = 1; proxy < $1; proxy++)); do printf ',{"name":"p%s","upstream":"10.0.0.2:80"}' $proxy; done
     printf ']'
 }
+scenario "$taken" "$(proxies 63)"
 scenario "$taken" "$(proxies 64)"
 scenario "refused 20 TooMany scenario 0 proxy 64" "$(proxies 65)"
 

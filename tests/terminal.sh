@@ -119,6 +119,10 @@ helps 'refused 5 RecordTooLong at 1' 'torn.pcap is damaged where record 1 begins
 helps 'refused 5 RecordTooLong at 0' 'first.pcap is damaged where its first record begins: record it again' '--capture first.pcap'
 truncate -s $((2 ** 30 + 1)) "$here/long"
 helps 'refused 6 CaptureTooLong' 'long has more than 2^30 bytes: it is no scenario' '--scenario long'
+truncate -s $((2 ** 30)) "$here/most"
+(cd "$here" && TOXICAP_HINTS=1 "$program" --scenario most --scenario long < shop.pcap > "$work/output" 2> "$work/faults") || true
+verdict "a scenario of 2^30 bytes is not too long" "$(told faults $'refused 6 CaptureTooLong\ntoxicap: long has more than 2^30 bytes: it is no scenario\n')"
+rm "$here/most"
 helps 'refused 6 CaptureTooLong' "long has more than 2^30 bytes: tshark -r IN -Y 'tcp.port == 6379' -F pcap -w OUT keeps what matters" '--capture long'
 printf 'd' > "$here/long"
 truncate -s $((2 ** 30 + 1)) "$here/long"
@@ -217,10 +221,14 @@ scene 'refused 21 BadToxicity scenario 0 proxy 0 toxic 0' ', proxy 0 "web", toxi
 # a name that would turn the terminal red, one that is long, and the second of two scenarios
 scene 'refused 14 BadUpstream scenario 0 proxy 0' ', proxy 0 "\\u{1b}[31mred\\n": its "upstream" is "\\u{202e}", and '"$expected" \
     '[{"name":"\u001b[31mred\n","upstream":"\u202e"}]'
-printf '[{"name":"%080d","upstream":"x"}]' 0 > "$here/long.json"
 printf '[]' > "$here/bare.json"
-helps 'refused 14 BadUpstream scenario 1 proxy 0' "long.json, proxy 0 \"$(printf %060d 0)..\": its \"upstream\" is \"x\", and $expected" \
-    '--capture shop.pcap --scenario bare.json --scenario long.json'
+# first MOST LENGTH: a name of this length as it is shown.
+first() { if [ "$2" -le "$1" ]; then printf "%0$2d" 0; else printf "%0$1d.." 0; fi; }
+for names in 59 60 61 80; do
+    printf "[{\"name\":\"%0${names}d\",\"upstream\":\"x\"}]" 0 > "$here/long.json"
+    helps 'refused 14 BadUpstream scenario 1 proxy 0' "long.json, proxy 0 \"$(first 60 $names)\": its \"upstream\" is \"x\", and $expected" \
+        '--capture shop.pcap --scenario bare.json --scenario long.json'
+done
 mkfifo "$here/pipe"
 verdict "a pipe is not read again" "$(
     said 'refused 11 NotArray scenario 0\r\ntoxicap: pipe is read once, and what is wrong is not known: keep the scenario in a file\r\n' \
@@ -260,6 +268,16 @@ helps 'refused 60 ShelfFailed after 1' 'out/0000.txt is a folder: move it, or ch
 helps 'refused 60 ShelfFailed after 1' 'piped/0000.txt is no file: move it, or choose another --out' '--capture shop.pcap --out piped'
 helps 'refused 60 ShelfFailed after 0' 'drafted/toxicap.unfinished-0 stands where files are first written: wait for other runs of this folder, then move it, or choose another --out' \
     '--capture shop.pcap --out drafted'
+# the drafts of an output that is made alone; where something stands at one of a round only, that does no harm
+bares=$(printf -- ' --scenario bare.json%.0s' {1..32})
+for drafts in 0 1 2; do
+    mkdir -p "$here/round$drafts/toxicap.unfinished-$drafts"
+    status=0
+    (cd "$here" && eval "TOXICAP_HINTS=1 '$program' --capture shop.pcap$bares --workers 16 --out round$drafts") > "$work/output" 2> "$work/faults" || status=$?
+    verdict "draft $drafts" "$(if [ $drafts = 2 ]; then well; else told faults "refused 60 ShelfFailed after $drafts
+toxicap: round$drafts/toxicap.unfinished-$drafts stands where files are first written: wait for other runs of this folder, then move it, or choose another --out
+"; fi)"
+done
 helps 'refused 60 ShelfFailed after 0' 'taken/0000.pcap: the run has read it, and it is not replaced: choose another --out' '--capture taken/0000.pcap --out taken'
 helps 'refused 60 ShelfFailed after 0' 'taken/0000.pcap: the run has read it, and it is not replaced: choose another --out' '--out taken < taken/0000.pcap'
 helps 'refused 60 ShelfFailed after 1' 'linked/0000.txt: the run has read it, and it is not replaced: choose another --out' \
@@ -268,6 +286,7 @@ helps 'refused 60 ShelfFailed after 1' 'linked/0000.txt: the run has read it, an
 # files that cannot be read: the scenarios in their order, and then the capture
 helps 'refused 61 ReadFailed' 'nothing: No such file or directory' '--capture nothing'
 helps 'refused 61 ReadFailed' '"": No such file or directory' "--capture ''"
+for paths in 199 200 201; do helps 'refused 61 ReadFailed' "$(first 200 $paths): No such file or directory" "--capture $(printf "%0${paths}d" 0)"; done
 helps 'refused 61 ReadFailed' 'out: Is a directory' '--capture nothing --scenario bare.json --scenario out'
 helps 'refused 61 ReadFailed' 'standard input cannot be read: --capture names a file' '< .'
 python3 -c 'import socket, sys; socket.socket(socket.AF_UNIX).bind(sys.argv[1])' "$here/socket"
@@ -311,6 +330,21 @@ sums "scenario 0: 4 connections, 0 with a proxy; $servers; times in microseconds
 sums "scenario 0: 4 connections, 1 with a proxy; scenario 1: 0 with a proxy; scenario 3: 0 with a proxy; $servers; times in microseconds" \
     '--capture shop.pcap --scenario web.json --scenario bare.json --scenario web.json --scenario bare.json'
 sums "9 connections, 0 with a proxy; servers$(printf ' 10.77.1.%s:80' {1..7}) ..; times in microseconds" '--capture nine.pcap --scenario bare.json'
+# servers whose text has 79, 80 and 81 bytes, before one more
+for put in 79:10:80 80:100:80 81:100:800; do
+    last=10.77.1.${put#*:}
+    # shellcheck disable=SC2046
+    capture servers.pcap $(for server in 10.77.1.{1..5}:80 "$last" 10.77.2.1:80; do echo "1.000000 c>$server SYN 1000 0"; done | awk -f tests/capture.awk)
+    more=$(if [ "${put%%:*}" -lt 80 ]; then echo 10.77.2.1:80; else echo ..; fi)
+    sums "7 connections, 0 with a proxy; servers$(printf ' 10.77.1.%s:80' {1..5}) $last $more; times in microseconds" '--capture servers.pcap --scenario bare.json'
+done
+# one record of nine, of ten and of eleven is of a class
+for records in 9 10 11; do
+    # shellcheck disable=SC2046
+    capture class.pcap $(for ((n = 1; n <= records; n++)); do echo "record 1.000000 $([ $n = 1 ] && echo 00 || printf '%028d' 0)"; done | awk -f tests/capture.awk)
+    one=$([ $records -gt 9 ] || echo "; 1 of $records records short")
+    sums "0 connections, 0 with a proxy$one; $((records - 1)) of $records records notipv4; times in microseconds" '--capture class.pcap'
+done
 sums '1 connection, 0 with a proxy; times in microseconds' '--capture whole.pcap'
 sums '1 connection, 0 with a proxy; 1250 bytes lost; times in microseconds' '--capture hole.pcap'
 sums '1 connection, 0 with a proxy; 1 byte lost; times in microseconds' '--capture byte.pcap'
@@ -322,6 +356,30 @@ sums '0 connections, 0 with a proxy; 1 of 1 records short; times in microseconds
 sums '0 connections, 0 with a proxy; 7 bytes of a record that is cut off; 1 of 1 records short' "< '$PWD/crates/toxicap_program/stdin'"
 head -c -1 "$here/whole.pcap" > "$here/cut.pcap"
 sums '1 connection, 0 with a proxy; 1319 bytes of a record that is cut off; times in microseconds' '--capture cut.pcap'
+
+# Counts above 128, and above 65,536: of connections with a proxy and without, of segments, of lost bytes, of bytes that are cut off, and of records;
+# and numbers of scenarios. A count in 8 or 16 bits is found.
+printf '[{"name":"server","upstream":"10.77.0.2:80"}]' > "$here/server.json"
+for count in 300 70000; do
+    perl tests/capture.pl ${count}x3 > "$here/many.pcap"
+    sums "$count connections, 0 with a proxy; times in microseconds" '--capture many.pcap'
+    sums "$count connections, $count with a proxy; times in microseconds" '--capture many.pcap --scenario server.json'
+    { head -c 24 "$here/many.pcap"; tail -c +$((25 + 70 * count)) "$here/many.pcap"; } > "$here/unopened.pcap"
+    sums "0 connections, 0 with a proxy; $((2 * count)) segments without an opening; times in microseconds" '--capture unopened.pcap'
+    perl -e 'print pack("VvvVVVV", 0xa1b2c3d4, 2, 4, 0, 0, 65535, 1), (pack("VVVV", 0, 0, 14, 14) . "\0" x 14) x shift' $count > "$here/others.pcap"
+    sums "0 connections, 0 with a proxy; $count of $count records notipv4; times in microseconds" '--capture others.pcap'
+    { cat "$here/whole.pcap"; printf '\0\0\0\0\0\0\0\0\0\0\04\0\0\0\04\0'; head -c $count /dev/zero; } > "$here/cut.pcap"
+    sums "1 connection, 0 with a proxy; $((count + 16)) bytes of a record that is cut off; times in microseconds" '--capture cut.pcap'
+    perl tests/capture.pl "$((count + 1))+1x1" > "$here/whole.pcap"
+    { head -c 164 "$here/whole.pcap"; tail -c +236 "$here/whole.pcap"; } > "$here/lost.pcap"
+    sums "1 connection, 0 with a proxy; $count bytes lost; times in microseconds" '--capture lost.pcap'
+done
+many=()
+for ((number = 0; number < 256; number++)); do many+=(--scenario "$([ $number = 137 ] || [ $number = 255 ] && echo bare || echo web).json"); done
+sums "scenario 0: 4 connections, 1 with a proxy; scenario 137: 0 with a proxy; scenario 255: 0 with a proxy; $servers; times in microseconds" \
+    "--capture shop.pcap ${many[*]}"
+rm "$here"/{many,unopened,others,lost}.pcap
+perl tests/capture.pl 3 > "$here/whole.pcap"
 printf '[{%s,"toxics":[{"type":"latency","attributes":{"delay":7}}]}]' "$web" > "$here/ignored.json"
 sums '4 connections, 1 with a proxy; times in microseconds; ignored.json: "delay" is ignored: latency has "latency" "jitter"' '--capture shop.pcap --scenario ignored.json'
 mkdir "$here/stored" "$here/both"

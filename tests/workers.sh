@@ -175,6 +175,27 @@ for workers in 9 16; do
 done
 rm -f "$work"/six.pcap "$work"/delivered "$folder"/*
 
+# Each kind of jobs, with four scenarios, and with a fifth that is left after a round of two workers: the blocks of a capture of 29 MB, 15 ranges of
+# its records, the recorded lines of 20,000 connections, the drafts of each scenario or the connections of the one that is left; or all reports.
+# A kind of jobs that one thread does alone is found.
+perl tests/capture.pl 20000x3x1250 > "$work/four.pcap"
+for workers in 1 2 3 4 5 16; do
+    run_with "" /dev/null --capture "$work/four.pcap" "${bare[@]:0:8}" --workers $workers
+    [ $workers != 1 ] || cp "$work/output" "$work/four"
+    verdict "four scenarios by $workers workers" "$(well; threads 0 15 20000 4 printed $workers; byte_difference "$work/four" "$work/output")"
+    for count in 4 5; do
+        anew "$folder"
+        run_with "" /dev/null --capture "$work/four.pcap" "${bare[@]:0:2*count}" --workers $workers --out "$folder"
+        verdict "$count scenarios of 29 MB stored by $workers workers" "$(
+            well
+            threads 4 15 20000 $count stored $workers
+            cat "$folder"/000[0-3].txt | byte_difference "$work/four" -
+            sha256sum "$folder"/*.pcap | cut -d ' ' -f 1 | uniq | tail -n +2
+        )"
+    done
+done
+rm -f "$work"/four* "$folder"/*
+
 # 100,000 connections, of 300,000 records in 74 ranges, which are three blocks.
 for what in recorded report delivered; do perl tests/capture.pl 100000x3 $what > "$work/$what" & done
 wait

@@ -9,15 +9,14 @@ macro_rules! say {
 
 mod remedies;
 mod run;
-mod scenario_remedies;
-mod shown;
 mod summary;
 mod terminal;
 mod tips;
 
 use command_line::{Asked, Stop, read_arguments};
 use disks::HostDisk;
-use run::{HEADER_LEN, Run};
+use pcap_records::FILE_HEADER_LEN;
+use run::Run;
 use run_files::TeeReader;
 use std::io::{Cursor, IsTerminal};
 use std::process::ExitCode;
@@ -44,7 +43,7 @@ fn main(rt: HostRuntime) -> ExitCode {
             faults: rt.stderr(),
             is_announced: on_terminal.is_none() || !rt.stdin().is_terminal(),
         },
-        copy: Cursor::new([0; HEADER_LEN]),
+        copy: Cursor::new([0; FILE_HEADER_LEN]),
     });
     let files = Counting {
         rt: &rt,

@@ -1,19 +1,12 @@
 //! A run that has ended, and its files looked at again. Only regular files and folders are opened: to open another file could wait.
 use command_line::Asked;
+use hints::Said;
+use pcap_records::{CAPTURE_LIMIT, FILE_HEADER_LEN};
 use std::alloc::{AllocError, Global};
 use std::fs::{self, Metadata};
 use std::io::{self, Read};
 use std::os::unix::fs::MetadataExt;
 use std::rt::Files;
-
-/// What is said of a run, unless an allocation failed.
-pub type Said = Result<String, AllocError>;
-
-/// The number of bytes that a capture has before its records.
-pub const HEADER_LEN: usize = 24;
-
-/// The most bytes that a capture, a dump or a scenario file may have.
-pub const LIMIT: u64 = 1 << 30;
 
 #[derive(Drop)]
 pub struct Run<'a, R> {
@@ -34,7 +27,8 @@ impl<R: Files> Run<'_, R> {
         let metadata = fs::metadata(self.files, path)?;
         if metadata.is_file() || metadata.is_dir() {
             let file = fs::open(self.files, path)?;
-            file.take(HEADER_LEN as u64).read_to_end(&mut first_bytes)?;
+            file.take(FILE_HEADER_LEN as u64)
+                .read_to_end(&mut first_bytes)?;
         }
         Ok(first_bytes)
     }
@@ -54,7 +48,8 @@ impl<R: Files> Run<'_, R> {
 
     /// The bytes of a regular file, unless they are too many or cannot be read.
     pub fn text_of(&self, path: &str) -> Option<Vec<u8>> {
-        self.len_of(path).filter(|len| *len <= LIMIT)?;
+        self.len_of(path)
+            .filter(|len| *len <= CAPTURE_LIMIT as u64)?;
         let mut text = Vec::new(self.alloc);
         let mut file = fs::open(self.files, path).ok()?;
         file.read_to_end(&mut text).ok()?;
@@ -78,13 +73,4 @@ pub fn said_by(alloc: Global, error: &io::Error) -> Said {
     let text = error.to_string(alloc)?;
     let cause = text.split_once(" (os error");
     String::from_str(alloc, cause.map_or(text.as_str(), |(cause, _)| cause))
-}
-
-/// The unit of the times of a capture with these first bytes, if they are a magic number.
-pub fn unit_of(first_bytes: &[u8]) -> Option<&'static str> {
-    match first_bytes {
-        [0xa1, 0xb2, 0xc3, 0xd4, ..] | [0xd4, 0xc3, 0xb2, 0xa1, ..] => Some("microseconds"),
-        [0xa1, 0xb2, 0x3c, 0x4d, ..] | [0x4d, 0x3c, 0xb2, 0xa1, ..] => Some("nanoseconds"),
-        _ => None,
-    }
 }

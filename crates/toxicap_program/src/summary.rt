@@ -1,5 +1,6 @@
 //! The last line of a run on a terminal: what is easily missed in its reports.
-use crate::run::{Run, Said, unit_of};
+use crate::run::Run;
+use hints::{Said, ignored_attribute, shown_path, unit_of};
 use std::alloc::AllocError;
 use std::net::Ipv4Addr;
 use std::rt::Files;
@@ -30,6 +31,18 @@ impl<R: Files> Run<'_, R> {
             write!(text, "; {ignored}")?;
         }
         Ok(text)
+    }
+
+    // The first attribute of the scenarios that is ignored.
+    fn ignored(&self) -> Result<Option<String>, AllocError> {
+        for path in self.asked.scenarios.iter() {
+            let text = self.text_of(path).unwrap_or(Vec::new(self.alloc));
+            if let Some(ignored) = ignored_attribute(self.alloc, &text)? {
+                let name = shown_path(self.alloc, path)?;
+                return say!(self.alloc; "{name}: {ignored}").map(Some);
+            }
+        }
+        Ok(None)
     }
 
     // The servers of connections, each once; two dots stand for those left out.

@@ -1,5 +1,5 @@
 //! Names, paths and values as a terminal shows them: short, and without a character that would command it.
-use crate::run::Said;
+use crate::lines::Said;
 use std::alloc::Global;
 
 // The most characters that are shown of a name or a value.
@@ -24,11 +24,11 @@ fn first_of(alloc: Global, text: &str, most: usize) -> Said {
     Ok(shown)
 }
 
-pub fn shown(alloc: Global, text: &str) -> Said {
+pub(crate) fn shown(alloc: Global, text: &str) -> Said {
     first_of(alloc, text, TEXT_LIMIT)
 }
 
-pub fn quoted(alloc: Global, text: &str) -> Said {
+pub(crate) fn quoted(alloc: Global, text: &str) -> Said {
     say!(alloc; "\"{}\"", shown(alloc, text)?)
 }
 

@@ -1,0 +1,4 @@
+mod LaidChunks
+mod PutChunks
+mod LaidParts
+mod LaidConnections

@@ -1,0 +1,3 @@
+pub mod Transcripts
+pub mod LaidParts
+pub mod Readings

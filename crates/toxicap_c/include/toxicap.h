@@ -1,9 +1,9 @@
 /*
  * toxicap in your own process: what recorded TCP sessions would have been under network faults, as bytes, without files and processes.
  *
- * Two calls. Both fill buffers of the caller's; nothing is handed out that has to be freed, and nothing is kept from one call to the next.
- * Equal inputs give equal bytes, those that the program `toxicap` gives. The library reads and writes no file, starts no thread and prints
- * nothing. The processor has to be x86-64-v2.
+ * Each call fills buffers of the caller's; nothing is handed out that has to be freed, and nothing is kept from one call to the next.
+ * Equal inputs give equal bytes; captures and reports are those that the program `toxicap` gives. The library reads and writes no file, starts
+ * no thread and prints nothing. The processor has to be x86-64-v2.
  *
  * It calls: `free`, `malloc`, `memcpy`, `memmove`, `memset` and `realloc` of the C library, and linked statically also `__udivti3` of the
  * compiler's own library, which gcc, clang and rustc link by themselves.
@@ -12,18 +12,18 @@
  * call again:
  *
  *     ToxicapSizes sizes;
- *     uint8_t status = toxicap_rehearse(.., captures, captures_room, reports, reports_room, lens, lens_room, &sizes);
+ *     uint8_t status = toxicap_rehearse(&inputs, captures, captures_room, reports, reports_room, lens, lens_room, &sizes);
  *     if (status == TOXICAP_NO_ROOM) {
  *         .. room of sizes.captures bytes, sizes.reports bytes and sizes.lens entries ..
- *         status = toxicap_rehearse(.. the same inputs, the new room ..);
+ *         status = toxicap_rehearse(&inputs, .. the new room .., &sizes);
  *     }
  *
  * What the caller keeps, and nothing checks:
- *   - Each pointer leads to as many bytes (of `scenario_lens` and `lens`: entries) as the length or room after it says, aligned for its
- *     type, readable, and for an output writable. No length is 2^63 bytes or more. A pointer may be null if its length is 0.
- *   - `sizes` is not null.
- *   - An output (`captures`, `reports`, `lens`, `sizes`) overlaps no other output and no input, and no other thread touches one during the
- *     call. Inputs may overlap each other, and are not changed by anyone during the call.
+ *   - Each pointer leads to as many elements as the length or room after it says, aligned for its type, readable, and for an output writable.
+ *     No length is 2^63 bytes or more. A pointer may be null if its length is 0.
+ *   - `inputs` and `sizes` are not null.
+ *   - An output overlaps no other output and no input, and no other thread touches one during the call. Inputs may overlap each other, and are
+ *     not changed by anyone during the call.
  *   - The thread has 256 KB of stack left.
  *   - No call is made in a signal handler, or in a process that was forked from one with threads.
  *   - If `malloc`, `realloc` and `free` are not the C library's, they are those of one allocator, which aligns a block to each power of
@@ -44,27 +44,19 @@ extern "C" {
 enum {
     /* Answered: the outputs are written, and `sizes` says how much of each. What stands after that in a buffer is as it was. */
     TOXICAP_ANSWERED = 0,
-    /* Refused: at the start of `reports` stands the line that the program prints, such as `refused 5 RecordTooLong at 0`. It has no line feed
-       and no zero byte at its end, and `sizes.reports` is its length in bytes. `sizes.captures` and `sizes.lens` are 0; the other buffers
-       are as they were. docs/use/refusals.md has all refusals; `refused 40 Memory` is lack of memory, also for the line of another. */
+    /* Refused: at the start of `reports` (of a transcript: `bytes`) stands the line that the program prints, such as
+       `refused 5 RecordTooLong at 0`, and after a line feed what helps, in one line. Neither a line feed nor a zero byte stands at the end.
+       Its length is in `sizes.reports` (`sizes.bytes`); the other sizes are 0, and the other buffers are as they were. docs/use/refusals.md has
+       all refusals. `refused 40 Memory` is lack of memory, also for the text of another refusal; it stands without a second line. */
     TOXICAP_REFUSED = 1,
-    /* Too little room: `sizes` says what is required, of the answer or of a refusal's line, and at least one of these is more than the room.
+    /* Too little room: `sizes` says what is required, of the answer or of a refusal's text, and at least one of these is more than the room.
        All buffers are as they were. Lack of memory is never told so. */
     TOXICAP_NO_ROOM = 2,
-    /* Lack of memory, and the room for reports is less than the 17 bytes of `refused 40 Memory`. All of `sizes` is 0, all buffers are as they
-       were. */
+    /* Lack of memory, and the room is less than the 17 bytes of `refused 40 Memory`. All of `sizes` is 0, all buffers are as they were. */
     TOXICAP_NO_MEMORY = 3
 };
 
-/* How much is written of each output, or is required. */
-typedef struct {
-    size_t captures; /* bytes */
-    size_t reports;  /* bytes; if the call is refused, those of the line */
-    size_t lens;     /* entries: two for each scenario */
-} ToxicapSizes;
-
-/*
- * Rehearses a capture under scenarios: for each scenario the capture of what each side would have received, and the report.
+/* What a rehearsal is made of.
  *
  *   capture          a classic pcap of Ethernet frames, or a dump of one in hexadecimal; capture_len bytes
  *   scenarios        the texts of the scenarios (JSON, in Toxiproxy's populate form), one right after another; scenarios_len bytes.
@@ -74,9 +66,31 @@ typedef struct {
  *                    that goes past the end of `scenarios` is cut there
  *   hosts            the addresses of names that scenarios use: lines NAME=ADDR with an IPv4 address, each ended by a line feed, which the
  *                    last one may do without; hosts_len bytes, 0 if no name is used
- *   seed             what all drawing depends on
+ *   seed             what all drawing depends on */
+typedef struct {
+    const uint8_t *capture;
+    size_t capture_len;
+    const uint8_t *scenarios;
+    size_t scenarios_len;
+    const size_t *scenario_lens;
+    size_t scenario_count;
+    const uint8_t *hosts;
+    size_t hosts_len;
+    uint64_t seed;
+} ToxicapInputs;
+
+/* How much is written of each output, or is required. */
+typedef struct {
+    size_t captures; /* bytes */
+    size_t reports;  /* bytes; if the call is refused, those of its text */
+    size_t lens;     /* entries: two for each scenario */
+} ToxicapSizes;
+
+/*
+ * Rehearses a capture under scenarios: for each scenario the capture of what each side would have received, and the report.
+ *
  *   captures         room for the captures, one right after another; captures_room bytes
- *   reports          room for the reports (UTF-8 text), one right after another, or for a refusal's line; reports_room bytes
+ *   reports          room for the reports (UTF-8 text), one right after another, or for a refusal's text; reports_room bytes
  *   lens             room for the lengths in bytes: lens[2 * i] of the capture and lens[2 * i + 1] of the report of scenario i, from 0 on;
  *                    lens_room ENTRIES
  *   sizes            what was written, or is required
@@ -84,11 +98,7 @@ typedef struct {
  * Gives the status.
  */
 uint8_t toxicap_rehearse(
-    const uint8_t *capture, size_t capture_len,
-    const uint8_t *scenarios, size_t scenarios_len,
-    const size_t *scenario_lens, size_t scenario_count,
-    const uint8_t *hosts, size_t hosts_len,
-    uint64_t seed,
+    const ToxicapInputs *inputs,
     uint8_t *captures, size_t captures_room,
     uint8_t *reports, size_t reports_room,
     size_t *lens, size_t lens_room,
@@ -101,13 +111,70 @@ uint8_t toxicap_rehearse(
  * Gives the status.
  */
 uint8_t toxicap_reports(
-    const uint8_t *capture, size_t capture_len,
-    const uint8_t *scenarios, size_t scenarios_len,
-    const size_t *scenario_lens, size_t scenario_count,
-    const uint8_t *hosts, size_t hosts_len,
-    uint64_t seed,
+    const ToxicapInputs *inputs,
     uint8_t *reports, size_t reports_room,
     ToxicapSizes *sizes);
+
+/* Bytes of a direction that came at once. */
+typedef struct {
+    uint64_t end;  /* the number of the direction's bytes up to the chunk's last */
+    uint64_t time; /* when it came, in nanoseconds since the opening */
+} ToxicapChunk;
+
+/* How a direction ends. */
+enum {
+    TOXICAP_OPEN = 0,    /* not at all */
+    TOXICAP_FIN = 1,     /* by a FIN, or a close by a toxic */
+    TOXICAP_RESET = 2,   /* by a reset */
+    TOXICAP_REFUSED_CONNECTION = 3 /* by a reset without an answer of the server, where a proxy is disabled */
+};
+
+/* What one side of a connection sent, as the other side received it. */
+typedef struct {
+    uint64_t bytes;    /* the number of its bytes */
+    uint64_t chunks;   /* the number of its chunks */
+    uint64_t end_time; /* when it ended, in nanoseconds since the opening; 0 if it did not */
+    uint64_t end;      /* how it ended, such as TOXICAP_FIN */
+} ToxicapDirection;
+
+/* A connection. */
+typedef struct {
+    uint64_t opened;         /* when it was opened, in nanoseconds since 1970 */
+    ToxicapDirection up;     /* what the client sent */
+    ToxicapDirection down;   /* what the server sent */
+    uint32_t client_address; /* of IPv4, its first byte the highest */
+    uint32_t server_address;
+    uint16_t client_port;
+    uint16_t server_port;
+    uint32_t vlan;           /* the number of the VLAN, or 0 without one */
+} ToxicapConnection;
+
+/* How much is written of each output of a transcript, or is required. */
+typedef struct {
+    size_t bytes;       /* if the call is refused, those of its text */
+    size_t chunks;      /* entries */
+    size_t connections; /* entries */
+} ToxicapTranscriptSizes;
+
+/*
+ * What both sides of each connection sent and when, of a recording, or a dump of one: what the rules say that was recorded, in order, without
+ * repeats, and no byte behind a gap. An output capture is read as a recording is: bytes of one time are one chunk, bytes at the time of a reset may
+ * lack, and where a connection's ports are used again, so do its bytes after the other's SYN.
+ *
+ *   bytes            room for the bytes of all directions, one right after another: of connection 0 what the client sent, then what the server
+ *                    sent, then of connection 1 and so on; or for a refusal's text; bytes_room bytes
+ *   chunks           room for the chunks of all directions, in the same order; chunks_room ENTRIES
+ *   connections      room for the connections, in order of their numbers; connections_room ENTRIES
+ *   sizes            what was written, or is required
+ *
+ * Gives the status.
+ */
+uint8_t toxicap_transcript(
+    const uint8_t *capture, size_t capture_len,
+    uint8_t *bytes, size_t bytes_room,
+    ToxicapChunk *chunks, size_t chunks_room,
+    ToxicapConnection *connections, size_t connections_room,
+    ToxicapTranscriptSizes *sizes);
 
 #ifdef __cplusplus
 }

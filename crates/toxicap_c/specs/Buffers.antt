@@ -1,9 +1,7 @@
 -- The three buffers of a caller, what is put into them, and how much of each that takes.
-use Rattle.std.specs.Prelude.{◌≡◌, ℕ, ◌<◌, ◌⊎◌, Bool, true, false, List, [], ◌∷◌, ◌++◌, length, drop}
+use Rattle.std.specs.Prelude.{◌≡◌, ℕ, ◌<◌, ◌≤◌, ◌⊎◌, Bool, true, false, List, [], ◌∷◌, ◌++◌, length, drop}
 use Rattle.std.specs.List.{flat_map}
-use Rattle.run_files.specs.declared.error.RunFault.{RunFault}
 use Rattle.run_files.specs.declared.outputs.Output.{Output}
-use Rattle.run_files.specs.RunFault.{fault_text}
 use Rattle.run_files.specs.WrittenOutputs.{reports_of}
 use Rattle.toxicap_c.specs.declared.sizes.ToxicapSizes.{ToxicapSizes}
 
@@ -29,9 +27,6 @@ put_of outputs = buffers (captures_of outputs) (reports_of outputs) (lens_of out
 abbrev pub put_of_reports : List ℕ → Buffers
 put_of_reports reports = buffers [] reports []
 
-abbrev pub put_of_fault : RunFault → Buffers
-put_of_fault fault = buffers [] (fault_text fault) []
-
 abbrev pub sizes_of : Buffers → ToxicapSizes
 sizes_of put = record { captures = length put.captures; reports = length put.reports; lens = length put.lens }
 
@@ -39,12 +34,17 @@ abbrev pub no_sizes : ToxicapSizes
 no_sizes = record { captures = 0; reports = 0; lens = 0 }
 
 -- a list over the first elements of another, whose rest stays
-abbrev pub laid_over : List ℕ → List ℕ → List ℕ
+abbrev pub laid_over : {A : Type 0} → List A → List A → List A
 laid_over front old = front ++ drop (length front) old
 
 abbrev pub all_laid_over : Buffers → Buffers → Buffers
 all_laid_over put old =
     buffers (laid_over put.captures old.captures) (laid_over put.reports old.reports) (laid_over put.lens old.lens)
+
+-- it is put over the first elements of a buffer, or it does not fit and the buffer is as it was
+abbrev pub PutsText : List ℕ → Bool → List ℕ → List ℕ → Type 0
+PutsText text true old new = (length text ≤ length old) × (new ≡ laid_over text old)
+PutsText text false old new = (length old < length text) × (new ≡ old)
 
 -- it takes more than at least one of them has
 abbrev pub IsOver : Buffers → Buffers → Type 0

@@ -1,3 +1,6 @@
 pub mod Statuses
 pub mod Buffers
+pub mod Refusals
+pub mod Endings
 pub mod Calls
+pub mod TranscriptCalls

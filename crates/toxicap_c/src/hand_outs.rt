@@ -1,22 +1,31 @@
 //! What is put into the buffers of a caller.
-ghost use Rattle.std.specs.Prelude.{◌≡◌, ◌+◌, ◌≤◌, ◌++◌, List, ℕ, drop, length, take};
+ghost use Rattle.std.specs.Prelude.{◌≡◌, [], ◌+◌, ◌≤◌, ◌++◌, drop, length, take};
 ghost use Rattle.run_files.specs.WrittenOutputs.{reports_of};
-ghost use Rattle.toxicap_c.specs.Buffers.{Puts, buffers, captures_of, laid_over, lens_of, put_of, put_of_reports, sizes_of};
+ghost use Rattle.toxicap_c.specs.Buffers.{Puts, PutsText, buffers, captures_of, laid_over, lens_of, put_of, put_of_reports, sizes_of};
 
-use crate::sizes::{ToxicapSizes, no_sizes, sizes_of_text};
+use crate::sizes::{ToxicapSizes, no_sizes};
 use run_files::Output;
 
 /// Puts a text over the first bytes of a buffer if it fits, and returns whether it does.
-pub(crate) fn put_text(text: &[u8], reports: &mut [u8], sizes: &mut ToxicapSizes) -> bool
-    ensures { (captures lens : List ℕ)
-        → Puts (put_of_reports text.now) result (buffers captures reports.old lens) (buffers captures reports.new lens) sizes.new }
+pub(crate) fn put_text(text: &[u8], buffer: &mut [u8]) -> bool
+    ensures { PutsText text.now result buffer.old buffer.new }
 {
-    *sizes = sizes_of_text(text);
-    if text.len() > reports.len() {
+    if text.len() > buffer.len() {
         return false;
     }
-    put_at(reports, 0, text);
+    put_at(buffer, 0, text);
     true
+}
+
+/// The same of reports, with their sizes.
+pub(crate) fn put_reports(text: &[u8], reports: &mut [u8], sizes: &mut ToxicapSizes) -> bool
+    ensures { Puts (put_of_reports text.now) result (buffers [] reports.old []) (buffers [] reports.new []) sizes.new }
+{
+    *sizes = ToxicapSizes {
+        reports: text.len(),
+        ..no_sizes()
+    };
+    put_text(text, reports)
 }
 
 /// Puts outputs of these sizes over the first entries of the buffers if all fit, and returns whether they do.
@@ -63,7 +72,8 @@ fn put_each(outputs: &[Output], captures: &mut [u8], reports: &mut [u8], lens: &
     }
 }
 
-fn put_at<T: Copy>(buffer: &mut [T], at: usize, items: &[T])
+/// Puts items over those of a buffer from a place on.
+pub(crate) fn put_at<T: Copy>(buffer: &mut [T], at: usize, items: &[T])
     requires { at + length items.now ≤ length buffer.old }
     ensures { buffer.new ≡ take at buffer.old ++ (items.now ++ drop (at + length items.now) buffer.old) }
 {

@@ -3,9 +3,13 @@
 
 mod calls;
 mod hand_outs;
-mod parameters;
+mod inputs;
+mod refusals;
 mod sizes;
 mod statuses;
+mod transcript_calls;
 
 pub use calls::{toxicap_rehearse, toxicap_reports};
+pub use inputs::ToxicapInputs;
 pub use sizes::ToxicapSizes;
+pub use transcript_calls::{ToxicapTranscriptSizes, toxicap_transcript};

@@ -1,6 +1,6 @@
 //! How much of each buffer is written, or needed.
-ghost use Rattle.std.specs.Prelude.{◌≡◌, IfSome, [], length};
-ghost use Rattle.toxicap_c.specs.Buffers.{no_sizes, put_of, put_of_reports, sizes_of};
+ghost use Rattle.std.specs.Prelude.{◌≡◌, IfSome};
+ghost use Rattle.toxicap_c.specs.Buffers.{no_sizes, put_of, sizes_of};
 
 use run_files::Output;
 
@@ -10,7 +10,7 @@ use run_files::Output;
 pub struct ToxicapSizes {
     /// Bytes of captures.
     pub captures: usize,
-    /// Bytes of reports, or of the line of a refusal.
+    /// Bytes of reports, or of the text of a refusal.
     pub reports: usize,
     /// Entries of lengths: two for each scenario.
     pub lens: usize,
@@ -22,16 +22,6 @@ pub(crate) fn no_sizes() -> ToxicapSizes
     ToxicapSizes {
         captures: 0,
         reports: 0,
-        lens: 0,
-    }
-}
-
-pub(crate) fn sizes_of_text(text: &[u8]) -> ToxicapSizes
-    ensures { result ≡ sizes_of (put_of_reports text.now) }
-{
-    ToxicapSizes {
-        captures: 0,
-        reports: text.len(),
         lens: 0,
     }
 }

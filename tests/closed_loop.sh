@@ -2,11 +2,10 @@
 # The closed loop: rows that were worked out by hand, and what holds of every capture (tests/closed_loop/laws.py); the tool examples/closed_loop; a
 # player of a closed loop; the function in Go, which has to give the same bytes; and sessions of three protocols through a proxy
 # (tests/closed_loop/sessions.py), in simulated time. With IDLE=1 they run in real time, with sockets of 127.0.0.1, and a table of them is printed.
-# LIBRARY names another libtoxicap_c.a by its whole path, as for release/library.
 set -euo pipefail
 cd "$(dirname "$0")/.."
 . tests/lib.sh
-export TOXICAP=$program
+export TOXICAP=$program PYTHONPATH=$PWD/clients/python
 tool=examples/closed_loop cases=$work/cases
 mkdir "$cases" "$work/sessions" "$work/out"
 
@@ -60,15 +59,10 @@ mkdir "$work/queue"
 verdict "a queue, played" "$(ends_with played python3 -B tests/closed_loop/played.py $tool "$work/queue.dump" "$work/queue.json" "$work/queue")"
 
 if can "the closed loop in Go" go gcc; then
-    kit=$work/kit copy=$work/copy
-    release/library "$kit" > "$work/told" || { echo "$0: there is no library" >&2; exit 2; }
-    mkdir "$copy"
-    cp -r examples "$copy"
-    cp tests/closed_loop/closed_loop_test.go "$copy/examples/go"
+    make_library
     verdict "the closed loop in Go" "$(
-        export CGO_CFLAGS=-I$kit/include CGO_LDFLAGS=-L$kit/lib GOFLAGS=-mod=mod GOPROXY=off GO111MODULE=on CASES=$cases
-        cd "$copy/examples/go"
-        { go vet . && timeout "$patience" go test -count=1 -run '^TestClosedLoop$' .; } > "$work/output" 2>&1 || cat "$work/output"
+        cd clients/go
+        CASES=$cases timeout "$patience" go test -count=1 -run '^TestClosedLoop$' . > "$work/output" 2>&1 || cat "$work/output"
     )"
 fi
 

@@ -1,19 +1,19 @@
 #!/usr/bin/env bash
-# The helpers for Go are built without cgo, and for other systems and processors than those of the library: there `Rehearse` says what it needs, and
+# The client in Go is built without cgo, and for other systems and processors than those of the library: there `Rehearse` says what it needs, and
 # all else is as it is.
 set -euo pipefail
 cd "$(dirname "$0")/.."
 . tests/lib.sh
 
 if ! can "Go elsewhere" go; then close; exit; fi
-export GOFLAGS=-mod=mod GOPROXY=off GO111MODULE=on CGO_ENABLED=0
+export CGO_ENABLED=0
+cd clients/go
 for place in linux/amd64 linux/arm64 windows/amd64 darwin/arm64; do
-    for module in examples/suites/go examples/go; do
-        verdict "$module, $place" "$(cd "$module" && GOOS=${place%/*} GOARCH=${place#*/} timeout 600 go vet ./... 2>&1 || echo "  status $?")"
-    done
+    verdict "$place" "$(GOOS=${place%/*} GOARCH=${place#*/} timeout 600 go vet . ./golden ./player ./tests/{conn,rehearse} 2>&1 || echo "  status $?")"
 done
 status=0
-(cd examples/go && timeout 600 go build -o "$work/rehearse" .) > "$work/told" 2>&1 || cat "$work/told"
+timeout 600 go build -o "$work/rehearse" ./tests/rehearse > "$work/told" 2>&1 || cat "$work/told"
+cd ../..
 "$work/rehearse" samples/http-get.pcap examples/latency.json > "$work/output" 2> "$work/faults" || status=$?
 verdict "a rehearsal without cgo" "$(
     fault 1

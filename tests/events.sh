@@ -1,7 +1,7 @@
 #!/usr/bin/env bash
-# The events that the helpers of examples/suites and examples/c read from output captures: put together they are what tshark follows of each
+# The events that the clients read from output captures: put together they are what tshark follows of each
 # connection, with each byte's instant, and what the reports count, over the samples and two real captures under all scenarios of examples/, in
-# microseconds and in nanoseconds with a VLAN tag; of the captures of tests/rows they are what the reports count. The helpers of Python, Go, Rust and C
+# microseconds and in nanoseconds with a VLAN tag; of the captures of tests/rows they are what the reports count. The clients in Python, Go, Rust and C
 # give the same events, and refuse captures that toxicap did not write, each for its fault; 30,000 connections of one pair take none of them long. It
 # wants python3.
 set -euo pipefail
@@ -86,7 +86,7 @@ python3 -B tests/events/broken.py "$outputs/http-get/$last.pcap" samples/http-ge
 mapfile -t broken < <(sed -n 's/^== //p' "$work/refusals")
 verdict "broken captures" "$([ ${#broken[@]} -gt 900 ] || echo "  ${#broken[@]}")"
 
-read_by Python python 30 env PYTHONPATH=examples/suites/python python3 -B tests/events/dump.py
+read_by Python python 30 env PYTHONPATH=clients/python python3 -B tests/events/dump.py
 verdict "the same port" "$(
     sed -n '/same-port/,/delivered/p' "$work/python.dump" | sed '1d; $d' > "$work/found"
     difference tests/events/same-port.events "$work/found"
@@ -98,10 +98,7 @@ compared "reports of samples" 100 --reports "$work/samples.dump"
 if can "what tshark follows" tshark; then compared "what tshark follows" 100 "$work/samples.dump"; fi
 
 if can "Go" go; then
-    mkdir "$work/dump"
-    cp tests/events/dump.go "$work/dump/main.go"
-    printf 'module dump\n\ngo 1.18\n\nrequire toxicap v0.0.0\n\nreplace toxicap => %s\n' "$PWD/examples/suites/go" > "$work/dump/go.mod"
-    verdict "Go, compiled" "$(cd "$work/dump" && GOFLAGS=-mod=mod GOPROXY=off GO111MODULE=on go build -o ../dump-go . 2>&1)"
+    verdict "Go, compiled" "$(cd clients/go && CGO_ENABLED=0 go build -o "$work/dump-go" ../../tests/events/dump.go 2>&1)"
     read_by Go go 5 "$work/dump-go"
 fi
 if can "Rust" rustc cc; then

@@ -350,10 +350,11 @@ status=0
 ./toxicap-explain --help > output 2> faults || status=$?
 verdict "its name" "$(well; [ "$(grep -cE '^(usage:|   ) toxicap-explain ' output)" = 3 ] || cat output)"
 # beside no program, in a folder of few parents
-mkdir alone
-cp -r "$explain" "${explain%/*}/python" alone
+mkdir -p alone/examples
+cp "$explain" "${explain%/*}/sums.py" alone/examples
+cp -r "${explain%/*/*}/clients" alone
 status=0
-(env -u TOXICAP PATH="$(dirname "$(type -P python3)"):/usr/bin:/bin" alone/explain --scenario b.json > output 2> faults) || status=$?
+(env -u TOXICAP PATH="$(dirname "$(type -P python3)"):/usr/bin:/bin" alone/examples/explain --scenario b.json > output 2> faults) || status=$?
 verdict "no program anywhere" "$(fault 2; told faults $'explain: there is no program toxicap: put it on the path, or name it in TOXICAP\n')"
 
 cd "$OLDPWD"

@@ -120,23 +120,6 @@ def of_kind(name, attribute, arm, limits, absent):
     fact(f'{what}: the default', attribute['default'] == (absent if least == '0' else 'required'), absent)
 
 
-def of_terminal(toxics):
-    """The attributes as the program prints them after a refusal."""
-    path = 'toxicap_program/src/scenario_remedies.rt'
-    code, greatest = text_of(f'crates/{path}'), 10**9
-    rows = re.findall(r'\("(\w+)", "(\w+)", "([^"]+)", (\d+), ([\d_]+)\)', between(code, 'const ATTRIBUTES', '];'))
-    fact(f'{path}: the types of toxics', {row[0] for row in rows} == set(toxics), rows)
-    for name, attributes in toxics.items():
-        found = [row[1:] for row in rows if row[0] == name]
-        fact(f'{path}: the attributes of {name}', [row[0] for row in found] == [each['attribute'] for each in attributes], found)
-        for attribute, (field, unit, least, most) in zip(attributes, found):
-            most = int(most.replace('_', ''))
-            expected = (int(attribute['least']), most_of(attribute, greatest))
-            fact(f'{path}: {name}, {field}: range', (int(least), most) == expected, (least, most))
-            fact(f'{path}: {name}, {field}: unit', unit.split()[0] == unit_of(attribute), unit)
-    fact(f'{path}: size_variation is below average_size', 'less than \\"average_size\\" is expected' in code)
-
-
 def of_help(toxics, help_text):
     found, name = {}, ''
     for line in between(help_text, 'What it is\n', '\n\n').splitlines():
@@ -190,7 +173,7 @@ def of_tools(toxics):
     expected = {name: [each['attribute'] for each in attributes] for name, attributes in toxics.items()}
     found = re.search(r'^ATTRIBUTES = (\{.*?\})$', text_of('tests/changed.py'), re.S | re.M)
     fact('tests/changed.py: the attributes of toxics', found and ast.literal_eval(found[1]) == expected)
-    fact('examples/python/effects.py: a million', '\nMILLION = 1000000\n' in text_of('examples/python/effects.py'))
+    fact('clients/python/toxicap/_effects.py: a million', '\nMILLION = 1000000\n' in text_of('clients/python/toxicap/_effects.py'))
 
 
 def attribute_texts(row, names):
@@ -300,7 +283,7 @@ def of_rules(toxics):
     fact('summary.rt: the frame classes, in order', [word for _, word in counted] == [name.lower() for name in classes if name != 'Segment'], counted)
     fact('summary.rt: the count of each', all(name.replace('_', '') == word for name, word in counted), counted)
     passed_over = {name.lower() for name in classes} - {'segment'} | {'unopened'}
-    for hints, head in (('examples/python/known.py', 'PASSED_OVER = {'), ('examples/go/explain.go', 'passedOver = map[string]string{')):
+    for hints, head in (('clients/python/toxicap/_known.py', 'PASSED_OVER = {'), ('clients/go/explain.go', 'passedOver = map[string]string{')):
         named = set(re.findall(r'^\s+"(\w+)":', between(text_of(hints), head, '\n}\n'), re.M))
         fact(f'{hints}: a hint for each frame class', named == passed_over, named ^ passed_over)
     fact(f'{page}: the ranges of attributes are in docs/use/scenarios.md', '[range](scenarios.md#the-toxics)' in section_of(page, 'Scenario files'))
@@ -319,9 +302,9 @@ def of_field_words(page, toxics):
 # ---- refusals
 
 LIMITS = {  # the constants that a refusal is about
-    'ShortHeader': ['pcap_records/src/heading.rt FILE_HEADER_LEN', 'toxicap_program/src/run.rt HEADER_LEN'],
+    'ShortHeader': ['pcap_records/src/heading.rt FILE_HEADER_LEN'],
     'RecordTooLong': ['pcap_records/src/reader.rt PACKET_LIMIT'],
-    'CaptureTooLong': ['pcap_records/src/heading.rt CAPTURE_LIMIT', 'toxicap_program/src/run.rt LIMIT'],
+    'CaptureTooLong': ['pcap_records/src/heading.rt CAPTURE_LIMIT'],
     'TooMany': ['scenarios/src/proxies.rt PROXY_LIMIT', 'scenarios/src/toxics.rt TOXIC_LIMIT'],
     'TooManyScenarios': ['toxicap/src/reading.rt SCENARIO_LIMIT'],
     'BadToxicity': ['toxic_defs/src/limits.rt MILLION']}
@@ -387,13 +370,11 @@ def of_help_refusals(refusals, help_text):
 
 
 def of_remedies(refusals):
-    """What the program prints after a refusal: for each one something, and what the table has of it."""
-    names = ['remedies', 'scenario_remedies']
-    code = {name: text_of(f'crates/toxicap_program/src/{name}.rt') for name in names}
-    texts = ' '.join(re.findall(r'"((?:[^"\\]|\\.)*)"', ' '.join(code.values()))).replace('\\"', '"')
+    """What helps after a refusal: for each one something, and what the table has of it."""
+    code = '\n'.join(map(text_of, ['crates/toxicap_program/src/remedies.rt', *(TREE / 'crates/hints/src').glob('*.rt')]))
+    texts = ' '.join(re.findall(r'"((?:[^"\\]|\\.)*)"', code)).replace('\\"', '"').replace('{help}', '--help')
     handled = {'ShortHeader', 'NotJson', 'NotArray', 'BadToxicity'}  # by a last arm, or by the text of a scenario
-    handled |= set(re.findall(r'RunFault::(\w+)', code['remedies'])) - {'BadScenario'}
-    handled |= set(re.findall(r'Cause::(\w+)', code['scenario_remedies']))
+    handled |= set(re.findall(r'RunFault::(\w+)', code)) - {'BadScenario'} | set(re.findall(r'Cause::(\w+)', code))
     expected = {each['name'] for each in refusals}
     fact('remedies: one for each refusal', expected == handled, expected ^ handled)
     for each in refusals:
@@ -401,6 +382,7 @@ def of_remedies(refusals):
     proxies, toxics = (constant(*limit.split()) for limit in LIMITS['TooMany'])
     fact('remedies: how many scenarios', f'a run takes {constant(*LIMITS["TooManyScenarios"][0].split())}:' in texts)
     fact('remedies: how many proxies', f'it is the {proxies + 1}th: a scenario has at most {proxies} proxies' in texts)
+    fact('remedies: size_variation is below average_size', 'less than "average_size" is expected' in texts)
     fact('remedies: how many toxics', f'a stream has at most {toxics} toxics' in texts)
 
 
@@ -458,7 +440,7 @@ def paths():
 def of_names():
     """Whether each name in backquotes is there: a path, a row of tests, and each word somewhere in the code, the tests or the tools."""
     there = paths()
-    code = [path for path in there if re.match(r'crates|tests|examples|release|\.ci', path) and (TREE / path).is_file()]
+    code = [path for path in there if re.match(r'crates|clients|tests|examples|release|\.ci', path) and (TREE / path).is_file()]
     words, names, functions = set(re.findall(r'\w+', ' '.join(there))), {path.split('/')[-1] for path in there}, set()
     for path in set(code) - {'tests/facts.py', 'tests/made.py', 'tests/constants.py'}:
         text = (TREE / path).read_text(encoding='utf-8', errors='ignore')
@@ -491,8 +473,10 @@ def main():
         fact(f'docs/toxics.tsv: what {name} does stands once', does == [True] + [False] * (len(attributes) - 1))
     source = text_of('crates/command_line/src/texts.rt')
     help_text = source.replace('\\\n', '').replace('\\"', '"').replace('\\\\', '\\')
+    version = re.search(r' VERSION: &str = "(.*)";', source)[1]
+    for client, head in (('python/toxicap/__init__.py', '__version__'), ('rust/Cargo.toml', 'version')):
+        fact(f'clients/{client}: the version', f'\n{head} = "{version}"\n' in text_of(f'clients/{client}'))
     of_code(toxics, any_toxic[1]['greatest'])
-    of_terminal(toxics)
     of_help(toxics, help_text)
     of_schema(toxics, any_toxic)
     of_tools(toxics)

@@ -44,8 +44,8 @@ mkdir "$work/out"
 run /dev/null --capture samples/shop.pcap --scenario examples/mobile-line.json --out "$work/out"
 here=$work/out/0000.pcap none="no output capture of toxicap"
 size=$(stat -c %s "$here")
-last=$(PYTHONPATH=examples/suites/python python3 -B -c 'import sys, events
-print(len(events.records(open(sys.argv[1], "rb").read())) - 1)' "$here")
+last=$(PYTHONPATH=clients/python python3 -B -c 'import sys, toxicap._events
+print(len(toxicap._events.records(open(sys.argv[1], "rb").read())) - 1)' "$here")
 sees "$here"
 cp "$work/output" "$work/whole"
 sees < "$here"

@@ -1,20 +1,19 @@
 #!/usr/bin/env bash
 # The commands that the pages for users show:
 #     tests/guide.sh [RELEASE]
-# Each page has a folder of its own, with samples/ and examples/. Each block ```sh of it is run there as one script, and has to print what stands in
-# the block ```text right after it. A command that fails ends its block, which has failed then, also within a pipe; but a block that shows a status
-# ($?) is run by plain bash, and goes on. Blocks ```sh live record: they are run in a private network of two hosts, as root with ip netns, each is
-# ended as by Ctrl-C after a session, and no later block may change a recording; of what they print only standard output is compared. A block is
-# skipped where a tool that it names is missing, and one over the library for C where that is not built. In examples/README.md a command on examples/
-# that is the last cell of a table's row is run too. RELEASE is the whole path of a release that is unpacked: its pages, its files and its program are
-# taken, and its blocks ```sh live are left out.
+# Each page has a folder of its own, with samples/, examples/ and clients/. Each block ```sh of it is run there as one script, and has to print what
+# stands in the block ```text right after it. A command that fails ends its block, which has failed then, also within a pipe; but a block that shows a
+# status ($?) is run by plain bash, and goes on. Blocks ```sh live record: they are run in a private network of two hosts, as root with ip netns, each
+# is ended as by Ctrl-C after a session, and no later block may change a recording; of what they print only standard output is compared. A block is
+# skipped where a tool that it names is missing, and one over the library for C where that is not built. RELEASE is the whole path of a release that
+# is unpacked: its pages, its files and its program are taken, and its blocks ```sh live are left out.
 set -uo pipefail
 cd "$(dirname "$0")/.." || exit 2
 . tests/lib.sh
 top=${1:-$PWD} release=${1:-}
 [ -z "$release" ] || program=$release/toxicap
 unset TOXICAP
-tools=(go rustc cc tshark editcap tcprewrite jq git xxd gzip parallel gcc python3 jsonschema tcpdump dumpcap ethtool curl)
+tools=(tshark editcap tcprewrite jq git xxd gzip parallel gcc python3 jsonschema tcpdump dumpcap ethtool curl)
 mapfile -t pages < <(cd "$top" && printf '%s\n' {,examples/,docs/}README.md docs/use/*.md)
 [ -n "$release" ] || pages+=(docs/internals/trust.md)
 client=toxicap-client-$$ server=toxicap-server-$$ network=no webs=()
@@ -81,7 +80,7 @@ run_block() {
     for file in $(captures_of "$3"); do
         [[ " $missed " != *" $file "* ]] || [ -e "$file" ] || { skip "$1" "$file is of a block that was skipped"; return; }
     done
-    if [[ $3 = *libtoxicap* || $3 = *-L*lib* ]] && [ ! -d lib ]; then
+    if [[ $3 = *libtoxicap* || $3 = *-L*lib* || $3 = *clients/python/find_bug* ]] && [ ! -d lib ]; then
         skip "$1" "there is no library for C: (cd crates/toxicap_c && rt lib) builds it"
         return
     fi
@@ -108,14 +107,12 @@ run_page() {
     missed=''
     mkdir -p "$work/pages/$1"
     cd "$work/pages/$1" || exit 2
-    cp -r "$top/samples" "$top/examples" .
+    cp -r "$top/samples" "$top/examples" "$top/clients" .
     [ ! -d "$work/library" ] || cp -a "$work/library/include" "$work/library/lib" .
     ! type -P git > /dev/null || git init -q .
     while IFS= read -r line; do
         number=$((number + 1))
-        if [[ $1 = examples/* && $line =~ ^'|'.*'| `'([^\`]*examples/[^\`]*)'` |'$ ]]; then
-            run_block "$1:$number" sh "${BASH_REMATCH[1]//\/tmp\//$work/}"
-        elif [[ $line != '```'* ]]; then
+        if [[ $line != '```'* ]]; then
             if [ $inside = yes ]; then text+=$line$'\n'; elif [ -n "$line" ]; then last=''; fi
         elif [ $inside = no ]; then
             inside=yes kind=${line#'```'} begun=$number text=''
@@ -140,11 +137,7 @@ if [ -n "$release" ]; then
     cp -a "$release/include" "$release/lib" "$work/library"
 elif [ -n "${LIBRARY:-}" ] || [ -f crates/toxicap_c/out/libtoxicap_c.a ]; then release/library "$work/library" > /dev/null
 fi
-if type -P go > /dev/null; then
-    GOCACHE=$(go env GOCACHE)
-    export GOCACHE GOFLAGS=-mod=mod GOPROXY=off
-fi
-export RUSTUP_HOME=${RUSTUP_HOME:-$HOME/.rustup} HOME=$work PATH=$work/bin:$PATH LC_ALL=C.UTF-8
+export HOME=$work PATH=$work/bin:$PATH LC_ALL=C.UTF-8
 if type -P git > /dev/null; then
     git config --global init.defaultBranch main
     git config --global user.name tester

@@ -158,6 +158,14 @@ sum_difference() {
     [ "$1" = "${found%% *}" ] || printf '  sum, expected: %s\n  sum, found:    %s\n' "$1" "${found%% *}"
 }
 
+# make_library: the library for C in the folder `kit`, where the clients find it; the end of the script where it is not built. LIBRARY names another
+# libtoxicap_c.a by its whole path, as for release/library.
+make_library() {
+    kit=$work/kit
+    release/library "$kit" > "$work/told" || { echo "$0: there is no library" >&2; exit 2; }
+    export TOXICAP_LIBRARY=$kit/lib/libtoxicap.so.1 PYTHONPATH=$PWD/clients/python CGO_CFLAGS=-I$kit/include CGO_LDFLAGS=-L$kit/lib
+}
+
 # close: the closing line, and the script's status.
 close() {
     [ $skipped = 0 ] || echo "$skipped skipped"

@@ -1,15 +1,17 @@
 /* Calls the library for C as the program is called, and looks at what a call does to the caller's memory:
        library TASK [COUNT] --capture FILE [--scenario FILE].. [--host NAME=ADDR].. [--seed N] [--out FOLDER]
    Without --scenario there is one scenario, `[]`. What is at fault is told on standard output, with status 3. The tasks are
-     answer         stores in the folder, or tells on standard error with status 1, what the program does; before that both calls have been
-                    made with each of their buffers too small, just right and too large
+     answer         stores in the folder, or tells on standard error with status 1, what the program does; before that each call has been
+                    made with each of its buffers too small, just right and too large
+     transcript     prints the capture's transcript as `tests/rows/expected.py --transcripts` does
      again COUNT    COUNT calls, none of which may leave memory; from a thousand on the process may not grow after the tenth part of them
      threads COUNT  eight threads, each with 256 KB of stack, a seed of its own and COUNT calls
-     growths        each growth of memory is refused in turn, also with all later ones, and also with too little room for any line
-     edges          a scenario's length past the end, a last host without a line feed, no scenario, a capture that is too long
+     growths        each growth of memory is refused in turn, also with all later ones, and also with room for want of memory alone, or too little
+     edges          a scenario's length past the end, a last host without a line feed, inputs that are null, a capture that is too long
    It is linked with --wrap for malloc, realloc, calloc and free, so that its growths are counted (of a static library, the library's too). */
 #define _GNU_SOURCE
 #include "library.h"
+#include <inttypes.h>
 #include <pthread.h>
 #include <stdio.h>
 #include <stdlib.h>
@@ -28,27 +30,78 @@ static void store(const char *folder, size_t number, const char *ending, const u
     must(file != NULL && fwrite(bytes, 1, len, file) == len && fclose(file) == 0, path);
 }
 
+/* begins: whether a refusal's text begins with this line. */
+static int begins(const struct memory *refusal, const char *line)
+{
+    size_t len = strlen(line);
+    return refusal->sizes.of[TEXT] > len && memcmp(refusal->parts[TEXT], line, len) == 0 && refusal->parts[TEXT][len] == '\n';
+}
+
 static int answered(struct question *asked, const char *folder)
 {
-    uint8_t status, reports_status;
+    uint8_t status, other;
     struct memory both = answer(asked, &status);
-    asked->with_captures = 0;
-    struct memory reports = answer(asked, &reports_status);
-    must(status == reports_status && reports.sizes.reports == both.sizes.reports
-             && memcmp(reports.reports, both.reports, both.sizes.reports) == 0, "the reports alone are others");
-    size_t capture = 0, report = 0;
-    for (size_t number = 0; 2 * number < both.sizes.lens; number++) {
-        store(folder, number, "pcap", both.captures + capture, both.lens[2 * number]);
-        store(folder, number, "txt", both.reports + report, both.lens[2 * number + 1]);
-        capture += both.lens[2 * number];
-        report += both.lens[2 * number + 1];
+    asked->call = REPORTS;
+    struct memory reports = answer(asked, &other);
+    must(status == other && reports.sizes.of[TEXT] == both.sizes.of[TEXT] && memcmp(reports.parts[TEXT], both.parts[TEXT], both.sizes.of[TEXT]) == 0,
+         "the reports alone are others");
+    size_t place[2] = {0, 0}, *lens = (size_t *)both.parts[2];
+    for (size_t number = 0; number < both.sizes.of[2]; number++) {
+        int part = number % 2;
+        store(folder, number / 2, part == 0 ? "pcap" : "txt", both.parts[part] + place[part], lens[number]);
+        place[part] += lens[number];
     }
-    must(status == TOXICAP_REFUSED || (capture == both.sizes.captures && report == both.sizes.reports), "the lengths do not add up to the sizes");
+    must(status == TOXICAP_REFUSED || (place[0] == both.sizes.of[0] && place[1] == both.sizes.of[1]), "the lengths do not add up to the sizes");
     if (status == TOXICAP_REFUSED)
-        fprintf(stderr, "%.*s\n", (int)both.sizes.reports, (const char *)both.reports);
+        fprintf(stderr, "%.*s\n", (int)strcspn((char *)both.parts[TEXT], "\n"), (char *)both.parts[TEXT]);
     release(&both);
     release(&reports);
+
+    /* a transcript is refused where the reports without a proxy are, with the same text */
+    struct question bare = {REPORTS, asked->capture, {(uint8_t *)"[]", 2}, {NULL, 0}, {2}, 1, 0};
+    reports = answer(&bare, &other);
+    bare.call = TRANSCRIPT;
+    uint8_t sent_status;
+    struct memory sent = answer(&bare, &sent_status);
+    must(sent_status == other && (other == TOXICAP_ANSWERED || is_same(&sent, &reports)), "a transcript is refused otherwise than reports");
+    release(&sent);
+    release(&reports);
     return status;
+}
+
+static void print_direction(const ToxicapDirection *way, const uint8_t *bytes, const ToxicapChunk *chunks)
+{
+    printf("%" PRIu64 " %" PRIu64 " %" PRIu64, way->bytes, way->end, way->end_time);
+    for (uint64_t chunk = 0, place = 0; chunk < way->chunks; chunk++) {
+        printf(" %" PRIu64 ":", chunks[chunk].time);
+        for (; place < chunks[chunk].end; place++)
+            printf("%02x", bytes[place]);
+    }
+    puts("");
+}
+
+static void transcript(struct question *asked)
+{
+    uint8_t status;
+    asked->call = TRANSCRIPT;
+    struct memory it = answer(asked, &status);
+    must(status == TOXICAP_ANSWERED, "the transcript is refused");
+    const uint8_t *bytes = it.parts[TEXT];
+    const ToxicapChunk *chunks = (ToxicapChunk *)it.parts[0];
+    const ToxicapConnection *all = (ToxicapConnection *)it.parts[2];
+    for (size_t number = 0; number < it.sizes.of[2]; number++) {
+        const ToxicapConnection *of = &all[number];
+        printf("%zu %" PRIu64 " %08x:%d > %08x:%d vlan %u\n", number, of->opened, of->client_address, of->client_port, of->server_address,
+               of->server_port, of->vlan);
+        for (int is_down = 0; is_down < 2; is_down++) {
+            const ToxicapDirection *way = is_down ? &of->down : &of->up;
+            print_direction(way, bytes, chunks);
+            bytes += way->bytes;
+            chunks += way->chunks;
+        }
+    }
+    must(bytes == it.parts[TEXT] + it.sizes.of[TEXT] && chunks == (ToxicapChunk *)it.parts[0] + it.sizes.of[0], "the directions do not add up");
+    release(&it);
 }
 
 /* resident: the memory of this process, in kilobytes. */
@@ -75,7 +128,7 @@ static double now(void)
 static void again(const struct question *asked, long count)
 {
     uint8_t status;
-    struct memory first = answer(asked, &status), other = memory_of(first.sizes);
+    struct memory first = answer(asked, &status), other = memory_of(asked, first.sizes);
     // (what the first measurement itself takes is not to count)
     long before = blocks, early = resident();
     double begun = now();
@@ -104,7 +157,7 @@ struct turn {
 static void *ask_again(void *given)
 {
     struct turn *turn = given;
-    struct memory other = memory_of(turn->expected.sizes);
+    struct memory other = memory_of(&turn->asked, turn->expected.sizes);
     for (long number = 0; number < turn->count; number++)
         must(ask(&turn->asked, &other) == turn->status && is_same(&turn->expected, &other), "a thread has another answer");
     release(&other);
@@ -121,7 +174,7 @@ static void threads(const struct question *asked, long count)
         struct turn *turn = &turns[number];
         turn->asked = *asked;
         turn->asked.seed += number;
-        turn->asked.with_captures = number % 4 != 3;
+        turn->asked.call = number % CALLS;
         turn->expected = answer(&turn->asked, &turn->status);
         turn->count = count;
     }
@@ -133,13 +186,12 @@ static void threads(const struct question *asked, long count)
         release(&turns[number].expected);
 }
 
-static const ToxicapSizes no_sizes = {0, 0, 0};
-
-/* starved: asks with this growth refused, and with this room for reports; whether there was such a growth. */
-static int starved(const struct question *asked, const struct memory *full, uint8_t full_status, long number, size_t reports_room)
+/* starved: asks with this growth refused, and with this room for a text; whether there was such a growth. */
+static int starved(const struct question *asked, const struct memory *full, uint8_t full_status, long number, size_t text_room)
 {
-    ToxicapSizes room = {full->sizes.captures, reports_room, full->sizes.lens};
-    struct memory memory = memory_of(room);
+    struct sizes room = full->sizes;
+    room.of[TEXT] = text_room;
+    struct memory memory = memory_of(asked, room);
     long before = blocks;
     growths = 0;
     refused_growth = number;
@@ -148,16 +200,16 @@ static int starved(const struct question *asked, const struct memory *full, uint
     refused_growth = 0;
     must(blocks == before, "a refused growth leaves memory");
     must(leaves(&memory, status == TOXICAP_NO_ROOM ? no_sizes : memory.sizes), "a refused growth changes other bytes than it tells of");
+    size_t len = strlen(want_of_memory);
     if (status == TOXICAP_NO_MEMORY)
-        must(was_refused && room.reports < strlen(want_of_memory) && are_equal(memory.sizes, no_sizes), "status 3 with room or sizes");
-    else if (status == TOXICAP_REFUSED && memory.sizes.reports == strlen(want_of_memory)
-             && memcmp(memory.reports, want_of_memory, strlen(want_of_memory)) == 0)
-        must(was_refused && memory.sizes.captures == 0 && memory.sizes.lens == 0, "out of memory where no growth was refused");
+        must(was_refused && text_room < len && are_equal(memory.sizes, no_sizes), "status 3 with room or sizes");
+    else if (status == TOXICAP_REFUSED && memory.sizes.of[TEXT] == len && memcmp(memory.parts[TEXT], want_of_memory, len) == 0)
+        must(was_refused && memory.sizes.of[0] == 0 && memory.sizes.of[2] == 0, "out of memory where no growth was refused");
     else if (status == TOXICAP_NO_ROOM)
-        must(room.reports < full->sizes.reports && are_equal(memory.sizes, full->sizes), "status 2 for something else than the answer");
+        must(text_room < full->sizes.of[TEXT] && are_equal(memory.sizes, full->sizes), "status 2 for something else than the answer");
     else
         must(status == full_status && is_same(full, &memory), "a refused growth gives a third answer");
-    must(!was_refused || !later_too || status == (room.reports < strlen(want_of_memory) ? TOXICAP_NO_MEMORY : TOXICAP_REFUSED),
+    must(!was_refused || !later_too || status == (text_room < len ? TOXICAP_NO_MEMORY : TOXICAP_REFUSED),
          "no lack of memory where all is refused from a growth on");
     release(&memory);
     return was_refused;
@@ -165,14 +217,14 @@ static int starved(const struct question *asked, const struct memory *full, uint
 
 static void each_growth(struct question *asked)
 {
-    long number;
-    for (asked->with_captures = 0; asked->with_captures < 2; asked->with_captures++) {
+    for (asked->call = REHEARSE; asked->call < CALLS; asked->call++) {
         uint8_t status;
+        long number = 0;
         struct memory full = answer(asked, &status);
-        size_t rooms[] = {full.sizes.reports + sizeof want_of_memory, strlen(want_of_memory) - 1};
-        for (int way = 0; way < 4; way++) {
-            later_too = way / 2;
-            for (number = 1; starved(asked, &full, status, number, rooms[way % 2]); number++)
+        size_t len = strlen(want_of_memory), rooms[] = {full.sizes.of[TEXT] + len, len, len - 1};
+        for (int way = 0; way < 6; way++) {
+            later_too = way / 3;
+            for (number = 1; starved(asked, &full, status, number, rooms[way % 3]); number++)
                 ;
             must(number > 1, "no growth can be refused");
         }
@@ -181,55 +233,66 @@ static void each_growth(struct question *asked)
     }
 }
 
-/* tells: the call is refused with this line. */
+/* tells: the call is refused with this line, and what helps after it. */
 static void tells(const struct question *asked, const char *line)
 {
     uint8_t status;
     struct memory memory = answer(asked, &status);
-    must(status == TOXICAP_REFUSED && memory.sizes.reports == strlen(line) && memcmp(memory.reports, line, strlen(line)) == 0, line);
+    must(status == TOXICAP_REFUSED && begins(&memory, line), line);
+    release(&memory);
+}
+
+/* gives: the call has this answer. */
+static void gives(const struct question *asked, const struct memory *expected, uint8_t expected_status, const char *what)
+{
+    uint8_t status;
+    struct memory memory = answer(asked, &status);
+    must(status == expected_status && is_same(expected, &memory), what);
     release(&memory);
 }
 
 static void edges(struct question *asked)
 {
-    uint8_t status, other_status;
-    struct memory expected = answer(asked, &status);
-    size_t last = asked->scenario_count - 1, count = asked->scenario_count, too_long = ((size_t)1 << 30) + 1;
+    uint8_t status;
+    struct memory expected = answer(asked, &status), nothing = {.sizes = no_sizes};
+    size_t last = asked->scenario_count - 1, too_long = ((size_t)1 << 30) + 1;
     struct question changed = *asked;
 
     changed.scenario_lens[last] = (size_t)-1 / 2;
-    struct memory past_end = answer(&changed, &other_status);
-    must(status == other_status && is_same(&expected, &past_end), "a scenario's length past the end changes the answer");
-    release(&past_end);
+    gives(&changed, &expected, status, "a scenario's length past the end changes the answer");
 
     changed = *asked;
     changed.hosts.len -= changed.hosts.len > 0;
-    struct memory no_line_feed = answer(&changed, &other_status);
-    must(status == other_status && is_same(&expected, &no_line_feed), "a last host without a line feed changes the answer");
-    release(&no_line_feed);
+    gives(&changed, &expected, status, "a last host without a line feed changes the answer");
 
     changed = *asked;
     add(&changed.hosts, "\n", 1);
     asked->hosts = changed.hosts;
     tells(&changed, changed.hosts.len > 1 ? "refused 23 BadHost host 1" : "refused 23 BadHost host 0");
 
-    changed.hosts.len--;
+    /* null for hosts, for scenarios with their lengths, and for the capture */
+    changed.hosts = (struct text){NULL, 0};
+    gives(&changed, &expected, status, "hosts that are null change the answer");
+    changed.scenarios = changed.hosts;
     changed.scenario_count = 0;
-    struct memory none = answer(&changed, &other_status);
-    must(other_status == TOXICAP_ANSWERED && are_equal(none.sizes, (ToxicapSizes){0, 0, 0}), "no scenario is not answered with nothing");
-    release(&none);
+    gives(&changed, &nothing, TOXICAP_ANSWERED, "no scenario is not answered with nothing");
+    changed.capture = changed.hosts;
+    for (changed.call = REHEARSE; changed.call < CALLS; changed.call++)
+        tells(&changed, "refused 1 ShortHeader");
 
-    changed.scenario_count = count;
+    changed = *asked;
+    changed.hosts.len--;
     changed.capture = (struct text){mmap(NULL, too_long, PROT_READ, MAP_PRIVATE | MAP_ANONYMOUS | MAP_NORESERVE, -1, 0), too_long};
     must(changed.capture.bytes != MAP_FAILED, "no room for a capture that is too long");
-    tells(&changed, "refused 6 CaptureTooLong");
+    for (changed.call = REHEARSE; changed.call < CALLS; changed.call++)
+        tells(&changed, "refused 6 CaptureTooLong");
     munmap(changed.capture.bytes, too_long);
     release(&expected);
 }
 
 int main(int count, char **words)
 {
-    static struct question asked = {.with_captures = 1};
+    static struct question asked = {.call = REHEARSE};
     const char *folder = ".", *task = count > 1 ? words[1] : "";
     long times = count > 2 ? atol(words[2]) : 0;
     for (int word = times > 0 ? 3 : 2; word + 1 < count; word += 2) {
@@ -258,6 +321,8 @@ int main(int count, char **words)
     int status = 0;
     if (strcmp(task, "answer") == 0)
         status = answered(&asked, folder);
+    else if (strcmp(task, "transcript") == 0)
+        transcript(&asked);
     else if (strcmp(task, "again") == 0)
         again(&asked, times);
     else if (strcmp(task, "threads") == 0)

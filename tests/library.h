@@ -7,6 +7,9 @@
 enum { GUARD = 64, FREE_BYTE = 0xa5, MOST_SCENARIOS = 300 };
 static const char want_of_memory[] = "refused 40 Memory";
 
+_Static_assert(sizeof(ToxicapInputs) == 72 && sizeof(ToxicapSizes) == 24 && sizeof(ToxicapTranscriptSizes) == 24, "inputs or sizes have padding");
+_Static_assert(sizeof(ToxicapChunk) == 16 && sizeof(ToxicapDirection) == 32 && sizeof(ToxicapConnection) == 88, "a transcript has padding");
+
 extern void *__real_malloc(size_t), *__real_calloc(size_t, size_t), *__real_realloc(void *, size_t);
 extern void __real_free(void *);
 
@@ -82,19 +85,27 @@ static void add_file(struct text *text, const char *path)
     fclose(file);
 }
 
-/* What is asked: which of both calls, and its inputs. */
+/* What is asked: which call, and its inputs, of which a transcript takes the capture alone. */
+enum call { REHEARSE, REPORTS, TRANSCRIPT, CALLS };
 struct question {
-    int with_captures;
+    enum call call;
     struct text capture, scenarios, hosts;
     size_t scenario_lens[MOST_SCENARIOS], scenario_count;
     uint64_t seed;
 };
 
-/* The caller's memory: each buffer with a guard before and after its room, all of one byte before a call. */
+/* How much of each output of a call: of captures, reports and lens, or of chunks, bytes and connections. */
+enum { PARTS = 3, TEXT = 1 }; /* a refusal's text is in the output TEXT */
+struct sizes {
+    size_t of[PARTS];
+};
+static const struct sizes no_sizes = {{0, 0, 0}};
+
+/* The caller's memory: each buffer with a guard before and after its room, all of one byte before a call. An entry of each takes `item` bytes. */
 struct memory {
-    uint8_t *captures, *reports;
-    size_t *lens;
-    ToxicapSizes room, sizes;
+    uint8_t *parts[PARTS];
+    size_t item[PARTS];
+    struct sizes room, sizes;
 };
 
 static void *guarded(size_t size)
@@ -105,22 +116,25 @@ static void *guarded(size_t size)
     return block + GUARD;
 }
 
-static struct memory memory_of(ToxicapSizes room)
+static struct memory memory_of(const struct question *asked, struct sizes room)
 {
-    return (struct memory){guarded(room.captures), guarded(room.reports), guarded(room.lens * sizeof(size_t)), room, {7, 7, 7}};
+    struct memory it = {.item = {1, 1, sizeof(size_t)}, .room = room};
+    if (asked->call == TRANSCRIPT)
+        it.item[0] = sizeof(ToxicapChunk), it.item[2] = sizeof(ToxicapConnection);
+    for (int part = 0; part < PARTS; part++)
+        it.parts[part] = guarded(room.of[part] * it.item[part]);
+    return it;
 }
 
 static void release(struct memory *memory)
 {
-    free(memory->captures - GUARD);
-    free(memory->reports - GUARD);
-    free((uint8_t *)memory->lens - GUARD);
+    for (int part = 0; part < PARTS; part++)
+        free(memory->parts[part] - GUARD);
 }
 
 /* is_free: whether a buffer, with its guards, is as it was except for the bytes `written` at its start. */
-static int is_free(const void *buffer, size_t size, size_t written)
+static int is_free(const uint8_t *bytes, size_t size, size_t written)
 {
-    const uint8_t *bytes = buffer;
     for (size_t place = 0; place < GUARD; place++)
         if (bytes[-1 - (long)place] != FREE_BYTE)
             return 0;
@@ -131,82 +145,109 @@ static int is_free(const void *buffer, size_t size, size_t written)
 }
 
 /* leaves: whether the buffers are as they were but for these sizes. */
-static int leaves(const struct memory *memory, ToxicapSizes written)
+static int leaves(const struct memory *memory, struct sizes written)
 {
-    return is_free(memory->captures, memory->room.captures, written.captures) && is_free(memory->reports, memory->room.reports, written.reports)
-        && is_free(memory->lens, memory->room.lens * sizeof(size_t), written.lens * sizeof(size_t));
+    for (int part = 0; part < PARTS; part++)
+        if (!is_free(memory->parts[part], memory->room.of[part] * memory->item[part], written.of[part] * memory->item[part]))
+            return 0;
+    return 1;
 }
 
-static int are_equal(ToxicapSizes one, ToxicapSizes other)
+static int are_equal(struct sizes one, struct sizes other)
 {
-    return one.captures == other.captures && one.reports == other.reports && one.lens == other.lens;
+    return memcmp(&one, &other, sizeof one) == 0;
 }
 
 static uint8_t ask(const struct question *asked, struct memory *memory)
 {
-    ToxicapSizes room = memory->room;
-    if (asked->with_captures)
-        return toxicap_rehearse(asked->capture.bytes, asked->capture.len, asked->scenarios.bytes, asked->scenarios.len, asked->scenario_lens,
-                                asked->scenario_count, asked->hosts.bytes, asked->hosts.len, asked->seed, memory->captures, room.captures,
-                                memory->reports, room.reports, memory->lens, room.lens, &memory->sizes);
-    return toxicap_reports(asked->capture.bytes, asked->capture.len, asked->scenarios.bytes, asked->scenarios.len, asked->scenario_lens,
-                           asked->scenario_count, asked->hosts.bytes, asked->hosts.len, asked->seed, memory->reports, room.reports,
-                           &memory->sizes);
+    uint8_t *const *parts = memory->parts, status;
+    const size_t *room = memory->room.of;
+    if (asked->call == TRANSCRIPT) {
+        ToxicapTranscriptSizes found = {7, 7, 7};
+        status = toxicap_transcript(asked->capture.bytes, asked->capture.len, parts[TEXT], room[TEXT], (ToxicapChunk *)parts[0], room[0],
+                                    (ToxicapConnection *)parts[2], room[2], &found);
+        memory->sizes = (struct sizes){{found.chunks, found.bytes, found.connections}};
+        return status;
+    }
+    ToxicapSizes found = {7, 7, 7};
+    ToxicapInputs inputs = {asked->capture.bytes, asked->capture.len, asked->scenarios.bytes, asked->scenarios.len,
+                            asked->scenario_count > 0 ? asked->scenario_lens : NULL, asked->scenario_count, asked->hosts.bytes, asked->hosts.len,
+                            asked->seed};
+    if (asked->call == REHEARSE)
+        status = toxicap_rehearse(&inputs, parts[0], room[0], parts[TEXT], room[TEXT], (size_t *)parts[2], room[2], &found);
+    else
+        status = toxicap_reports(&inputs, parts[TEXT], room[TEXT], &found);
+    memory->sizes = (struct sizes){{found.captures, found.reports, found.lens}};
+    return status;
 }
 
 /* expected_sizes: what a call without any room says that it needs. */
-static ToxicapSizes expected_sizes(const struct question *asked)
+static struct sizes expected_sizes(const struct question *asked)
 {
-    struct memory none = {NULL, NULL, NULL, {0, 0, 0}, {7, 7, 7}};
+    struct memory none = {.item = {0, 0, 0}};
     uint8_t status = ask(asked, &none);
-    must(status == TOXICAP_NO_ROOM || (status == TOXICAP_ANSWERED && asked->scenario_count == 0), "without room: another status than 2");
-    must(asked->with_captures || (none.sizes.captures == 0 && none.sizes.lens == 0), "reports alone want room for captures or lengths");
+    int may_be_nothing = asked->call == TRANSCRIPT || asked->scenario_count == 0;
+    must(status == TOXICAP_NO_ROOM || (status == TOXICAP_ANSWERED && may_be_nothing), "without room: another status than 2");
+    must((status == TOXICAP_ANSWERED) == are_equal(none.sizes, no_sizes), "without room: status 2 although nothing is required");
+    must(asked->call != REPORTS || (none.sizes.of[0] == 0 && none.sizes.of[2] == 0), "reports alone want room for captures or lengths");
     return none.sizes;
 }
 
-/* answer_in: the answer to a call with this room, which is to be enough; `status` is its status. */
-static struct memory answer_in(const struct question *asked, ToxicapSizes room, ToxicapSizes expected, uint8_t *status)
+/* is_refusal: whether a text is a refusal: its line, and after a line feed what helps, in one line. */
+static int is_refusal(const uint8_t *text, size_t len)
 {
-    struct memory memory = memory_of(room);
+    const uint8_t *end = memchr(text, '\n', len);
+    return len > 8 && memcmp(text, "refused ", 8) == 0 && memchr(text, 0, len) == NULL && end != NULL && (size_t)(end - text) + 1 < len
+        && memchr(end + 1, '\n', text + len - end - 1) == NULL;
+}
+
+/* answer_in: the answer to a call with this room, which is to be enough; `status` is its status. */
+static struct memory answer_in(const struct question *asked, struct sizes room, struct sizes expected, uint8_t *status)
+{
+    struct memory memory = memory_of(asked, room);
     *status = ask(asked, &memory);
     must(*status == TOXICAP_ANSWERED || *status == TOXICAP_REFUSED, "with enough room: neither answered nor refused");
     must(are_equal(memory.sizes, expected), "with enough room: other sizes than those that were expected");
     must(leaves(&memory, expected), "with enough room: bytes past the answer, or before a buffer, are changed");
+    must(*status == TOXICAP_ANSWERED || (expected.of[0] == 0 && expected.of[2] == 0), "a refusal with other sizes than its text's");
+    must(*status == TOXICAP_ANSWERED || is_refusal(memory.parts[TEXT], expected.of[TEXT]), "a refusal of another form");
     return memory;
 }
 
 /* is_same: whether both answers are the same bytes. */
 static int is_same(const struct memory *one, const struct memory *other)
 {
-    return are_equal(one->sizes, other->sizes) && memcmp(one->captures, other->captures, one->sizes.captures) == 0
-        && memcmp(one->reports, other->reports, one->sizes.reports) == 0
-        && memcmp(one->lens, other->lens, one->sizes.lens * sizeof(size_t)) == 0;
+    for (int part = 0; part < PARTS; part++)
+        if (one->sizes.of[part] != other->sizes.of[part]
+            || memcmp(one->parts[part], other->parts[part], one->sizes.of[part] * one->item[part]) != 0)
+            return 0;
+    return 1;
 }
 
-/* too_small: a call with this room, in which something is missing, says what is expected and leaves all buffers. */
-static void too_small(const struct question *asked, ToxicapSizes room, ToxicapSizes expected)
+/* too_small: with this room, which is not enough, nothing is changed. */
+static void too_small(const struct question *asked, struct sizes room, struct sizes expected)
 {
-    struct memory memory = memory_of(room);
+    struct memory memory = memory_of(asked, room);
     must(ask(asked, &memory) == TOXICAP_NO_ROOM, "with too little room: another status than 2");
     must(are_equal(memory.sizes, expected), "with too little room: other sizes than without room");
-    must(leaves(&memory, (ToxicapSizes){0, 0, 0}), "with too little room: a buffer is changed");
+    must(leaves(&memory, no_sizes), "with too little room: a buffer is changed");
     release(&memory);
 }
 
-/* answer: asks with each room that is just right, too large and, by one, too small, and gives what just room gave. */
+/* answer: asks with each room that is just right, by one too large and by one too small, and gives what just room gave. */
 static struct memory answer(const struct question *asked, uint8_t *status)
 {
     uint8_t again;
-    ToxicapSizes expected = expected_sizes(asked), more = {expected.captures + 9, expected.reports + 9, expected.lens + 9};
+    struct sizes expected = expected_sizes(asked), more = {{expected.of[0] + 1, expected.of[1] + 1, expected.of[2] + 1}};
     struct memory right = answer_in(asked, expected, expected, status), large = answer_in(asked, more, expected, &again);
     must(*status == again && is_same(&right, &large), "with more room: another answer");
-    must(*status == TOXICAP_REFUSED || expected.lens == (asked->with_captures ? 2 * asked->scenario_count : 0), "another number of lengths");
+    must(*status == TOXICAP_REFUSED || asked->call != REHEARSE || expected.of[2] == 2 * asked->scenario_count, "another number of lengths");
     release(&large);
-    if (expected.captures > 0)
-        too_small(asked, (ToxicapSizes){expected.captures - 1, more.reports, more.lens}, expected);
-    if (expected.reports > 0)
-        too_small(asked, (ToxicapSizes){more.captures, expected.reports - 1, more.lens}, expected);
-    if (expected.lens > 0)
-        too_small(asked, (ToxicapSizes){more.captures, more.reports, expected.lens - 1}, expected);
+    for (int part = 0; part < PARTS; part++)
+        if (expected.of[part] > 0) {
+            struct sizes less = more;
+            less.of[part] = expected.of[part] - 1;
+            too_small(asked, less, expected);
+        }
     return right;
 }

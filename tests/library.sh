@@ -1,14 +1,13 @@
 #!/usr/bin/env bash
-# The library for C that release/library makes, against the program: the same bytes and lines of refusals, buffers that are left as they were
-# but for the answer, ten thousand calls, eight threads, growths of memory that are refused, and the examples in C, Python, Go and Rust;
-# and what helps after refusals in Rust, against tests/hints/rows.
-# LIBRARY names another libtoxicap_c.a by its whole path, as for release/library. tests/library.c makes the calls.
+# The library for C that release/library makes, against the program: the same bytes and lines of refusals, transcripts as they are worked out apart,
+# buffers that are left as they were but for the answer, ten thousand calls, eight threads, growths of memory that are refused, and programs over the
+# clients in C, Python, Go and Rust; and in Rust sockets, and what helps after refusals, against tests/hints/rows.
+# tests/library.c makes the calls.
 set -euo pipefail
 cd "$(dirname "$0")/.."
 . tests/lib.sh
 export CC=${CC:-gcc}
-kit=$work/kit
-release/library "$kit" > "$work/told" || { echo "$0: there is no library" >&2; exit 2; }
+make_library
 cat "$work/told"
 verdict "the same bytes twice" "$(release/library "$work/again" > /dev/null; folder_difference "$kit" "$work/again")"
 
@@ -72,6 +71,23 @@ for scenario in latency bandwidth slow_close timeout reset_peer slicer limit_dat
 done
 same "${shop[@]}"
 caller=$work/dynamic same "${shop[@]}"
+
+# transcripts: of recordings, and of outputs, such as those that the library gave last
+if can "transcripts" python3; then
+    captures=(samples/*.pcap tests/recorded/*.pcap "$work/found"/*.pcap tests/rows/*/{dump,*.hex})
+    for row in tests/rows/*/segments; do
+        captures+=("$work/$(basename "${row%/*}").dump")
+        awk -f tests/capture.awk "$row" > "${captures[-1]}"
+    done
+    python3 -B tests/rows/expected.py --transcripts "${captures[@]}" > "$work/expected-transcripts"
+    verdict "transcripts" "$(
+        for capture in "${captures[@]}"; do
+            echo "== $capture"
+            "$caller" transcript --capture "$capture" || true
+        done > "$work/transcripts"
+        difference "$work/expected-transcripts" "$work/transcripts"
+    )"
+fi
 
 # captures of 1, 5 and 20 MB, one in nanoseconds, and one of 2,500 connections; 10 and 256 scenarios, and 256 hosts
 for size in 1 5 20; do
@@ -164,7 +180,7 @@ task() {
 }
 late=(--capture samples/http-get.pcap --scenario examples/latency.json)
 mixed=(--capture samples/shop.pcap --scenario examples/mobile-line.json --scenario examples/slow-database.json --host redis=10.77.0.3)
-task "no scenario, no end of a host, a text past the end" edges "${late[@]}" --host redis=10.77.0.3
+task "inputs that are null, no end of a host, a text past the end" edges "${late[@]}" --host redis=10.77.0.3
 task "ten thousand calls" again 10000 "${late[@]}"
 task "two thousand calls that are refused" again 2000 --capture "$work/record" --scenario "$work/deep.json"
 task "eight threads" threads 100 "${mixed[@]}"
@@ -200,20 +216,20 @@ example() {
     )"
     rm -f "$folder"/*
     (cd "$folder"; timeout 20 "${@:2}" "${inputs[@]}") > "$work/output" 2> "$work/line" || ended=$?
+    sed -i 1q "$work/line" # what helps, which the example in C tells too, comes after it
     verdict "the example in $1, refused" "$([ $ended = 1 ] || echo "  status $ended"; difference "$work/expected-line" "$work/line"; holds "$folder")"
     (cd "$folder"; timeout 20 "${@:2}" "${inputs[0]}" none.json) > "$work/output" 2> "$work/line" || true
     verdict "the example in $1, no such scenario" "$(grep -q 'none\.json: ' "$work/line" && ! grep -q Traceback "$work/line" || cat "$work/line")"
 }
 unset HOSTS
-export TOXICAP_LIBRARY=$kit/lib/libtoxicap.so.1 CGO_CFLAGS="-I$kit/include" CGO_LDFLAGS="-L$kit/lib"
-verdict "the example in C, compiled" "$("$CC" -std=c11 -pedantic -Wall -Wextra -Werror -I "$kit/include" -o "$work/c" examples/c/rehearse.c \
+verdict "the example in C, compiled" "$("$CC" -std=c11 -pedantic -Wall -Wextra -Werror -I "$kit/include" -o "$work/c" clients/c/rehearse.c \
     "$kit/lib/libtoxicap.a" 2>&1 || true)"
 example C "$work/c"
 # seeds: what Python's function raises for seeds out of range, and that it takes the least and the greatest.
 seeds() {
-    PYTHONPATH=examples/python python3 -B - samples/http-get.pcap << 'END' 2>&1 || true
+    python3 -B - samples/http-get.pcap << 'END' 2>&1 || true
 import sys
-from in_process import rehearse
+from toxicap import rehearse
 capture = open(sys.argv[1], 'rb').read()
 for seed in -1, 2**64, -2**64:
     try: print('  taken:', seed, rehearse(capture, [b'[]'], seed=seed)[0][1][:20])
@@ -223,17 +239,26 @@ for seed in 0, 2**64 - 1: rehearse(capture, [b'[]'], seed=seed)
 END
 }
 if can "the example in Python" python3; then
-    example Python python3 -B "$PWD/examples/python/in_process.py"
+    example Python python3 -B "$PWD/clients/python/tests/rehearse.py"
     verdict "seeds in Python" "$(seeds)"
 fi
 if can "the example in Go" go; then
-    verdict "the example in Go, compiled" "$(cd examples/go; GOFLAGS=-mod=mod GOPROXY=off GO111MODULE=on go build -o "$work/go" . 2>&1 || true)"
+    verdict "the example in Go, compiled" "$(cd clients/go; go build -o "$work/go" ./tests/rehearse 2>&1 || true)"
     example Go "$work/go"
 fi
 if can "the example in Rust" rustc cc; then
-    verdict "the example in Rust, compiled" "$(rustc --edition 2021 -D warnings -L "$kit/lib" -o "$work/rust" examples/rust/main.rs 2>&1 || true)"
-    example Rust "$work/rust"
-    verdict "hints in Rust, compiled" "$(rustc --edition 2021 -D warnings --test -L "$kit/lib" -o "$work/rows" tests/hints/rows.rs 2>&1 || true)"
-    verdict "hints in Rust" "$(timeout 60 "$work/rows" -q > "$work/told" 2>&1 || cat "$work/told")"
+    # compiled FILE WORD..: a file of the client in Rust, compiled as the words say.
+    compiled() {
+        verdict "$1 in Rust, compiled" "$(rustc --edition 2021 -D warnings -L "$kit/lib" --extern "toxicap=$work/libtoxicap.rlib" --out-dir "$work" "${@:2}" \
+            "clients/rust/$1.rs" 2>&1 || true)"
+    }
+    verdict "the client in Rust, compiled" "$(rustc --edition 2021 -D warnings -L "$kit/lib" --crate-type rlib --crate-name toxicap --out-dir "$work" \
+        clients/rust/src/lib.rs 2>&1 || true)"
+    compiled examples/rehearse
+    example Rust "$work/rehearse"
+    for tests in sockets rows; do
+        compiled "tests/$tests" --test
+        verdict "$tests in Rust" "$(timeout 60 "$work/$tests" -q > "$work/told" 2>&1 || cat "$work/told")"
+    done
 fi
 close

@@ -5,7 +5,7 @@ A page of docs/ has such a part between two lines, `<!-- made: NAME -->` and `<!
 `--check` nothing is written: a part that is not what would be written fails, and so does one that no page has. The larger sample as a dump, for
 tests in Rattle, is made, or compared, too; and so are the table of constants, and those of what helps after a refusal, in code between `made: hints`
 and `end`. The last line is `N passed, M failed`. A further argument is the folder of another copy of the repository."""
-import constants, itertools, json, pathlib, re, sys
+import constants, itertools, pathlib, re, sys
 
 FOLDERS = [word for word in sys.argv[1:] if word != '--check']
 TREE = pathlib.Path(FOLDERS[0] if FOLDERS else pathlib.Path(__file__).resolve().parent.parent)
@@ -146,14 +146,6 @@ def made_dump():
 # ---- tables in code
 
 CODE_MADE = re.compile(r'((?:#|//) made: (\w+)[^\n]*\n)(.*?)((?:#|//) end\n)', re.S)
-IN_PROCESS = {  # what a remedy says of a command line, and what it says in a call
-    'as --help': 'as toxicap --help',
-    '--host {host}=ADDR': '{host}=ADDR among the hosts',
-    'by --scenario': 'as a scenario',
-    'by --capture': 'as the capture',
-    'a run takes 256: run it more than once': 'a call takes 256: call more than once',
-    'fewer --workers,': 'fewer scenarios in a call,',
-}
 
 
 def rows_of(path):
@@ -162,37 +154,12 @@ def rows_of(path):
 
 
 def attributes():
-    """The attributes of each type of toxics: name, unit, least, greatest, and whether it has to be there."""
+    """The attributes of each type of toxics: name, unit, least and greatest."""
     for row in rows_of('docs/toxics.tsv'):
         if row['toxic'] == 'any': continue
         most = 10**9 if row['greatest'] == 'below average_size' else int(row['greatest'])
         unit = row['unit'].replace(' of 1000 bytes', '')
-        yield row['toxic'], row['attribute'], unit, int(row['least']), most, row['default'] == 'required'
-
-
-def remedies():
-    """The parts of the remedy of each refusal of a call, by its number."""
-    for row in rows_of('docs/refusals.tsv'):
-        if int(row['number']) >= 60: continue  # of files
-        text = row['remedy']
-        for words, called in IN_PROCESS.items(): text = text.replace(words, called)
-        yield int(row['number']), text.split('; ')
-
-
-def python_hints():
-    """Both tables for Python."""
-    yield 'ATTRIBUTES: Dict[str, Dict[str, Tuple[str, int, int, bool]]] = {  # of each type: unit, least, greatest, and whether it has to be there\n'
-    found = {}
-    for kind, name, *told in attributes():
-        found.setdefault(kind, []).append(f'"{name}": ("{told[0]}", {told[1]}, {told[2]}, {told[3]})')
-    for kind, told in found.items():
-        line = f'    "{kind}": {{{", ".join(told)}}},\n'
-        yield line if len(line) <= 150 else f'    "{kind}": {{\n' + ''.join(f'        {each},\n' for each in told) + '    },\n'
-    yield '}\nREMEDIES: Dict[int, List[str]] = {\n'
-    for number, parts in remedies():
-        line = f'    {number}: {json.dumps(parts)},\n'
-        yield line if len(line) <= 150 else f'    {number}: [\n' + ''.join(f'        {json.dumps(part)},\n' for part in parts) + '    ],\n'
-    yield '}\n'
+        yield row['toxic'], row['attribute'], unit, int(row['least']), most
 
 
 def go_tables():
@@ -203,21 +170,19 @@ def go_tables():
     for row in kinds: yield f'\t{row["name"]:{width}} Kind = {row["number"]:2} // {row["means"]}\n'
     yield ')\n\nvar kindNames = map[Kind]string{\n'
     for row in kinds: yield f'\t{row["name"] + ":":{width + 1}} "{row["name"]}",\n'
-    yield '}\n\n// The attributes of each type of toxics, in the order in which they are checked.\nvar attributes = []attribute{\n'
-    for kind, name, unit, least, most, _ in attributes(): yield f'\t{{"{kind}", "{name}", "{unit}", {least}, {most}}},\n'
+    yield '}\n\n// The attributes of each type of toxics.\nvar attributes = []struct{ of, name string }{\n'
+    for kind, name, *_ in attributes(): yield f'\t{{"{kind}", "{name}"}},\n'
     yield '}\n\n'
 
 
-def rust_hints():
-    """Both tables for Rust."""
-    rows = [f'    ("{kind}", "{name}", "{unit}", {least}, {most}),\n' for kind, name, unit, least, most, _ in attributes()]
-    yield '/// The attributes of each type of toxics: what they count, and their least and greatest number.\n#[rustfmt::skip]\n'
-    yield f'const ATTRIBUTES: [(&str, &str, &str, u64, u64); {len(rows)}] = [\n{"".join(rows)}];\n\n'
-    rows = [f'    ({number}, &{json.dumps(parts)}),\n' for number, parts in remedies()]
-    yield f'/// The parts of the remedy of each refusal.\n#[rustfmt::skip]\nconst REMEDIES: [(u32, &[&str]); {len(rows)}] = [\n{"".join(rows)}];\n'
+def rattle_table():
+    """The table of attributes for Rattle."""
+    rows = [f'    ("{kind}", "{name}", "{unit}", {least}, {most}),\n' for kind, name, unit, least, most in attributes()]
+    yield '// The attributes of each type of toxics: what they count, and their least and greatest number.\n'
+    yield f'const ATTRIBUTES: [(&str, &str, &str, u64, u64); {len(rows)}] = [\n{"".join(rows)}];\n'
 
 
-TABLES = {'examples/python/hints.py': python_hints, 'examples/go/tables.go': go_tables, 'examples/rust/hints.rs': rust_hints}
+TABLES = {'crates/hints/src/attributes.rt': rattle_table, 'clients/go/tables.go': go_tables}
 
 
 def code_faults():

@@ -59,7 +59,7 @@ if can "all packages" python3 dpkg-deb tar gzip; then
     verdict "release/packages" "$(release/packages "$version" "$made" > "$work/told" 2>&1 || cat "$work/told")"
     verdict "release/packages into a folder with files" "$(! release/packages "$version" "$made" > "$work/told" 2>&1 || echo '  they are taken')"
 else
-    scripts=(module crate image)
+    scripts=(modules image)
     ! type -P python3 > /dev/null || scripts+=(wheel sbom)
     for each in "${scripts[@]}"; do "release/$each" "$parts" "$made" > "$work/told"; done
     release/sums "$made" > "$work/told"
@@ -156,7 +156,7 @@ END
 fi
 
 # C
-cp examples/c/rehearse.{c,h} "$away"
+cp clients/c/rehearse.{c,h} "$away"
 cp -r "$parts"/{include,lib} "$away"
 mkdir "$work/expected-files"
 run /dev/null --capture samples/shop.pcap --scenario examples/bandwidth.json --scenario examples/latency.json --out "$work/expected-files"
@@ -204,7 +204,7 @@ verdict "a header with another list of calls" "$(
 unpacked() { tar -C "$away" -xzf "$made/$1"; }
 
 # Go
-the_same "the module, the same twice" release/module "$parts"
+the_same "the modules for Go and Rust, the same twice" release/modules "$parts"
 if can "the module for Go" go gcc; then
     unpacked "toxicap-$version-go.tar.gz"
     # in_module COMMAND..: runs a command in the module, without a network.
@@ -278,7 +278,6 @@ END
 fi
 
 # Rust
-the_same "the crate, the same twice" release/crate "$parts"
 if can "the crate for Rust" cargo rustc cc; then
     unpacked "toxicap-$version-rust.tar.gz"
     # in_crate COMMAND..: runs a command in the crate, without a network.
@@ -292,8 +291,8 @@ if can "the crate for Rust" cargo rustc cc; then
     in_crate cargo package --no-verify --offline --list --allow-dirty > "$work/output" 2> "$work/faults" || cat "$work/faults" >> "$work/output"
     sed -i '/^Cargo\.lock$/d' "$work/output"
     {
-        printf '%s\n' Cargo.toml Cargo.toml.orig LICENCES.md README.md build.rs native/libtoxicap.a \
-            src/{events,hints,json,lib,rehearse,shown,sockets}.rs
+        printf '%s\n' Cargo.toml Cargo.toml.orig LICENCES.md README.md build.rs native/libtoxicap.a
+        git ls-files clients/rust/src | cut -d / -f 3-
         (cd "$work" && find share -type f -printf 'share/toxicap/%P\n')
     } | LC_ALL=C sort > "$work/expected"
     LC_ALL=C sort -o "$work/output" "$work/output"

@@ -1,13 +1,12 @@
 #!/usr/bin/env bash
-# The players of examples/suites, which serve a connection of an output capture to real clients: Python's http.client, Go's net/http, curl and
+# The players in Python and Go, which serve a connection of an output capture to real clients: Python's http.client, Go's net/http, curl and
 # redis-cli, where they are. The steps of players are compared with ones worked out by hand, and those of Go with those of Python. It wants python3;
 # sockets are those of 127.0.0.1, ports are the system's choice, and nothing waits longer than a few minutes.
 set -euo pipefail
 cd "$(dirname "$0")/.."
 . tests/lib.sh
 outputs=$work/outputs players=()
-suites=$PWD/examples/suites
-export PYTHONPATH=$suites/python OUTPUTS=$outputs
+export PYTHONPATH=$PWD/clients/python OUTPUTS=$outputs CGO_ENABLED=0
 clean_up() { [ ${#players[@]} = 0 ] || kill "${players[@]}" 2> /dev/null || true; }
 
 # outputs_of NAME CAPTURE UPSTREAM.. -- MEMBER: a folder of outputs: under proxies before these servers, each with this member, and under none.
@@ -98,16 +97,13 @@ verdict "steps of the examples" "$(
 for tests in clients limits; do
     verdict "Python, $tests" "$(timeout 900 python3 -B tests/player/$tests.py > "$work/output" 2>&1 || cat "$work/output")"
 done
-printf '#!/bin/sh\nexec python3 -B %q --limit 60 "$@"\n' "$suites/python/player.py" > "$work/player-python"
+printf '#!/bin/sh\nexec python3 -B -m toxicap.player --limit 60 "$@"\n' > "$work/player-python"
 chmod +x "$work/player-python"
 languages=(python)
 if can "Go" go; then
-    mkdir "$work/clients"
-    cp tests/player/*_test.go "$work/clients"
-    printf 'module clients\n\ngo 1.18\n\nrequire toxicap v0.0.0\n\nreplace toxicap => %s\n' "$suites/go" > "$work/clients/go.mod"
-    go_here() { (cd "$1" && GOFLAGS=-mod=mod GOPROXY=off GO111MODULE=on timeout 1200 go "${@:2}"); }
-    verdict "Go, net/http" "$(STEPS=$work/steps go_here "$work/clients" test -count=1 -timeout 900s ./... > "$work/output" 2>&1 || cat "$work/output")"
-    verdict "Go, a command" "$(go_here "$suites/go" build -o "$work/command" ./player 2>&1)"
+    go_here() { (cd clients/go && timeout 1200 go "$@"); }
+    verdict "Go, net/http" "$(STEPS=$work/steps go_here test -count=1 -timeout 900s ./tests/player > "$work/output" 2>&1 || cat "$work/output")"
+    verdict "Go, a command" "$(go_here build -o "$work/command" ./player 2>&1)"
     printf '#!/bin/sh\nexec %q -limit 60s "$@"\n' "$work/command" > "$work/player-go"
     chmod +x "$work/player-go"
     languages+=(go)

@@ -7,7 +7,7 @@ cd "$(dirname "$0")/.."
 . tests/lib.sh
 if ! can "the tools over real captures" python3; then close; exit; fi
 top=$PWD
-export TOXICAP=$program PYTHONDONTWRITEBYTECODE=1 PYTHONPATH=$top/examples/suites/python
+export TOXICAP=$program PYTHONDONTWRITEBYTECODE=1 PYTHONPATH=$top/clients/python
 cd "$work"
 cp "$top"/tests/recorded/*.pcap .
 echo '[]' > untouched.json
@@ -23,8 +23,8 @@ for capture in redis-pipeline vlan; do
     verdict "$capture" "$(well)"
     found=$(sed -n 's|.* down \([0-9]*\)/.*|\1|p' $capture-cut/0000.txt | xargs)
     verdict "$capture: report" "$([ "$found" = "$expected" ] || echo "  $found")"
-    found=$(python3 -c 'import events, sys
-print(*[sum(len(chunk) for time, chunk in down.chunks) for up, down in events.delivered(open(sys.argv[1], "rb").read())])' $capture-cut/0000.pcap 2>&1)
+    found=$(python3 -c 'import sys, toxicap
+print(*[sum(len(chunk) for time, chunk in down.chunks) for up, down in toxicap.delivered(open(sys.argv[1], "rb").read())])' $capture-cut/0000.pcap 2>&1)
     verdict "$capture: events" "$([ "$found" = "$expected" ] || echo "  $found")"
     "$top/examples/timeline" $capture-cut/0000.pcap > drawn.svg 2> faults || true
     verdict "$capture: timeline" "$(cat faults; python3 "$top/tests/timeline.py" drawn.svg $capture-cut/0000.txt $capture.pcap)"
@@ -65,7 +65,7 @@ verdict "redact: vlan" "$(grep -qa curl/7 vlan.pcap || echo '  no curl'; redacte
 # players: a client that sends what was sent gets 1,000 bytes and an end, and the whole answer as it was recorded
 cat > played.py << 'END'
 import socket, sys
-from events import delivered
+from toxicap import delivered
 sent = b''.join(chunk for time, chunk in delivered(open('redis-pipeline-untouched/0000.pcap', 'rb').read())[0][0].chunks)
 with socket.create_connection(('127.0.0.1', int(sys.argv[1])), timeout=60) as server:
     server.sendall(sent)
@@ -77,7 +77,7 @@ END
 for outputs in cut untouched; do
     case $outputs in cut) expected="9119 1000 b'+OK\\r'" ;; untouched) expected="9119 5011 b'+OK\\r'" ;; esac
     rm -f port
-    timeout 120 python3 "$top/examples/suites/python/player.py" --limit 60 redis-pipeline-$outputs/0000.pcap redis-pipeline-untouched/0000.pcap > port 2> faults &
+    timeout 120 python3 -m toxicap.player --limit 60 redis-pipeline-$outputs/0000.pcap redis-pipeline-untouched/0000.pcap > port 2> faults &
     for ((tries = 0; tries < 600; tries++)); do [ -s port ] && break || sleep 0.1; done
     found=$(timeout 100 python3 played.py "$(cat port)" 2>&1 || echo "  status $?")
     wait $! || found+="  the player: $(cat faults)"
@@ -85,8 +85,8 @@ for outputs in cut untouched; do
 done
 if can "the player in Go" go; then
     GOCACHE=$(cd "$top" && go env GOCACHE)
-    export GOCACHE GOFLAGS=-mod=mod GOPROXY=off
-    (cd "$top/examples/suites/go" && go build -o "$work/player" ./player)
+    export GOCACHE
+    (cd "$top/clients/go" && CGO_ENABLED=0 go build -o "$work/player" ./player)
     rm -f port
     timeout 120 ./player -limit 60s redis-pipeline-cut/0000.pcap redis-pipeline-untouched/0000.pcap > port 2> faults &
     for ((tries = 0; tries < 600; tries++)); do [ -s port ] && break || sleep 0.1; done
@@ -103,7 +103,7 @@ if [ -n "${LIBRARY:-}" ] || [ -f "$top/crates/toxicap_c/out/libtoxicap_c.a" ]; t
         "$program" --capture redis-pipeline.pcap --scenario seldom.json --seed $seed > report
         ! grep -q '^0 .* down 1000/5011/0 close' report || break
     done
-    found=$(TOXICAP_LIBRARY=lib/libtoxicap.so.1 PYTHONPATH=$top/examples/python python3 -c 'from search import least_seed
+    found=$(TOXICAP_LIBRARY=lib/libtoxicap.so.1 python3 -c 'from toxicap.search import least_seed
 capture, seldom = (open(name, "rb").read() for name in ("redis-pipeline.pcap", "seldom.json"))
 print(least_seed(capture, [seldom], b"", lambda outputs: b" down 1000/5011/0 close" in outputs[0][1], below=500))' 2>&1)
     verdict "searches" "$([ "$found" = $seed ] || echo "  $found, and by runs $seed")"

@@ -1,10 +1,10 @@
 #!/usr/bin/env bash
-# Sockets and asyncio's streams with a clock of their own (examples/python): their laws over output captures under random scenarios, what the system's
+# Sockets and asyncio's streams with a clock of their own (clients/python): their laws over output captures under random scenarios, what the system's
 # sockets do at the same calls, and clients over them. It wants python3; nothing waits, and the system's sockets are those of 127.0.0.1.
 set -euo pipefail
 cd "$(dirname "$0")/.."
 . tests/lib.sh
-export PYTHONPATH=examples/python:examples/suites/python OUTPUTS=$work/outputs SAMPLE=$work/late/0000.pcap
+export PYTHONPATH=clients/python OUTPUTS=$work/outputs SAMPLE=$work/late/0000.pcap
 
 # rehearsed FOLDER CAPTURE SCENARIO..: stores the outputs of a capture in a folder.
 rehearsed() {

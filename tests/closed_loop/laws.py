@@ -15,8 +15,8 @@ import sys
 TOP = pathlib.Path(__file__).resolve().parents[2]
 TOOL = runpy.run_path(str(TOP / "examples/closed_loop"))
 from captures import Talk, chance_capture, chance_toxics, pcap, scenario
-from closed_loop import Unsettled, closed_loop
-from events import delivered
+from toxicap import delivered
+from toxicap.closed_loop import Unsettled, closed_loop
 
 rehearse = functools.partial(TOOL["rehearse"], TOOL["program"](), ("the capture", "the scenario"))
 HOSTS = b"redis=10.77.0.3"

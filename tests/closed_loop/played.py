@@ -7,9 +7,8 @@ import subprocess
 import sys
 import time
 
-sys.path.append("examples/suites/python")
-from events import delivered
-from player import Player
+from toxicap import delivered
+from toxicap.player import Player
 
 
 def played(output, untouched, questions):

@@ -11,13 +11,11 @@ import pathlib
 import subprocess
 import sys
 
-TOP = pathlib.Path(__file__).resolve().parents[2]
-sys.path.insert(0, str(TOP / "examples/suites/python"))
 from captures import ACK, FIN, PSH, SYN, Talk, pcap, scenario
 from clocks import RealTime, SimulatedTime
-from events import delivered
 from protocols import PROTOCOLS
 from proxy import Proxy
+from toxicap import delivered
 
 IDLE = os.environ.get("IDLE") == "1"
 # a chunk may miss its time by LEAST seconds, or by this PART of its time if longer

@@ -1,5 +1,5 @@
 /* Prints the events of output captures: `dump CAPTURE..`. See dump.py. */
-#include "../../examples/c/events.h"
+#include "../../clients/c/events.h"
 #include <err.h>
 
 static const char *ways[] = {"up", "down"}, *ends[] = {"", "fin", "reset", "refused"};

@@ -5,7 +5,8 @@ import (
 	"fmt"
 	"os"
 	"strings"
-	"toxicap"
+
+	"example.org/toxicap"
 )
 
 func dump(capture []byte) error {

@@ -2,7 +2,7 @@
 capture a line `== CAPTURE`; for each event CONNECTION TIME DIRECTION and the bytes in hexadecimal, or the end; then for each direction `CONNECTION
 delivered DIRECTION END TIME:LENGTH..`; or the refusal."""
 import sys
-from events import delivered, events
+from toxicap import delivered, events
 
 
 def dump(capture):

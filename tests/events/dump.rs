@@ -1,5 +1,5 @@
 //! Prints the events of output captures: `dump CAPTURE..`. See dump.py.
-#[path = "../../examples/suites/rust/events.rs"]
+#[path = "../../clients/rust/src/events.rs"]
 mod events;
 
 use events::{delivered, events, Direction, NotOutput, What};

@@ -18,8 +18,8 @@ import sys
 
 TOP = pathlib.Path(__file__).resolve().parents[2]
 sys.dont_write_bytecode = True
-sys.path.insert(0, str(TOP / "examples/suites/python"))
-from events import events
+sys.path.insert(0, str(TOP / "clients/python"))
+from toxicap import events
 from made import generated
 from seen import seen
 

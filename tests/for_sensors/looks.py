@@ -14,8 +14,8 @@ import sys
 
 TOP = pathlib.Path(__file__).resolve().parents[2]
 sys.dont_write_bytecode = True
-sys.path.insert(0, str(TOP / "examples/suites/python"))
-from events import events
+sys.path.insert(0, str(TOP / "clients/python"))
+from toxicap import events
 from made import ACK, FIN, MSS, PSH, RST, SACK, SCALE, STAMPS, SYN, Host, capture, in_order, others, session
 from seen import seen
 

@@ -1,8 +1,8 @@
-"""Real clients at players: the tests of examples/suites/python/player.py, over the folder of outputs that OUTPUTS names. Nothing waits longer than a
-minute; what has to come late is looked at for its least time alone."""
+"""Real clients at players, over the folder of outputs that OUTPUTS names. Nothing waits longer than a minute; what has to come late is
+looked at for its least time alone."""
 import contextlib, http.client, os, pathlib, selectors, socket, statistics, time, unittest, unittest.mock
 from measure import measure
-from player import Player
+from toxicap.player import Player
 
 BODY = b'Hello from the sample server.\n'
 HEADER = (b'HTTP/1.0 200 OK\r\nServer: SimpleHTTP/0.6 Python/3.11.7\r\nDate: Sun, 22 Nov 2026 10:16:21 GMT\r\nContent-type: text/plain\r\n'

@@ -1,7 +1,7 @@
 """Prints the steps of players, as the helper for Python has them: dump_steps.py FOLDER.., each with the output 0000.pcap, and 0001.pcap of the scenario
 without toxics. For each a line `== FOLDER`, and for each step CONNECTION NEED CLOSED PAUSE DELAY, and the bytes in hexadecimal or the end."""
 import pathlib, sys
-from steps import sessions
+from toxicap._steps import sessions
 
 for folder in sys.argv[1:]:
     print('==', folder)

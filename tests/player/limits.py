@@ -1,7 +1,7 @@
 """What a player does with its clients: its limit, several connections, what clients sent, and how it is used. OUTPUTS is that of clients.py."""
-import contextlib, inspect, io, os, re, resource, socket, subprocess, sys, time, unittest, unittest.mock
+import contextlib, io, os, re, resource, socket, subprocess, sys, time, unittest, unittest.mock
 from clients import BODY, ask, connect, files, play, read
-from player import Player
+from toxicap.player import Player
 
 SHORT = 2  # a limit that is waited for
 SESSIONS = [b'*1\r\n$4\r\nPING\r\n', b'one?two?', b'sum', b'bye']  # what the recorded clients sent
@@ -154,7 +154,7 @@ class Limits(unittest.TestCase):
     def test_the_command(self):
         differs = "connection 0: the client sent b'bye' at byte 0, and the recorded one .*\n"
         for connection, option, told in ('3,1', '--gap=0.001', ''), ('all', '--same-requests', differs):
-            command = [sys.executable, '-B', inspect.getfile(Player), '--factor=0', '--limit=60', f'--connection={connection}', option, *files('sessions-late')]
+            command = [sys.executable, '-B', '-m', 'toxicap.player', '--factor=0', '--limit=60', f'--connection={connection}', option, *files('sessions-late')]
             with subprocess.Popen(command, text=True, stdout=subprocess.PIPE, stderr=subprocess.PIPE) as running:
                 port = int(running.stdout.readline())
                 for question in b'bye', b'one?two?':

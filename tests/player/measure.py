@@ -1,11 +1,11 @@
 """Measures a player: measure.py [OPTION..] OUTPUT UNTOUCHED plays a connection to a client of its own, in a process and in a thread, and prints for
 each: how many chunks came, how many of the borders between them a read kept, and how late a chunk was in milliseconds, median and largest. A chunk is
 due as long after the client's last byte before it as in the output. It has come when the client has read its last byte. The player is that of
-examples/suites/python, in this process, or a command that prints its port: --command 'player -limit 60s'."""
+clients/python, in this process, or a command that prints its port: --command 'player -limit 60s'."""
 import argparse, contextlib, itertools, multiprocessing, pathlib, shlex, socket, statistics, subprocess, threading, time
 from typing import NamedTuple
-from player import Player
-from steps import sessions
+from toxicap._steps import sessions
+from toxicap.player import Player
 
 
 class Measured(NamedTuple):

@@ -5,6 +5,9 @@ for time. It was written from those rules alone and shares nothing with the prog
     tests/rows/expected.py FOLDER   writes FOLDER/report and FOLDER/0000.hex, 0001.hex .. (or .sha256 for those above 4,000 bytes)
     tests/rows/expected.py --stored FOLDER CAPTURE SCENARIO..
                                     writes FOLDER/0000.pcap, 0000.txt and on, what --out has to store of a capture under scenario files
+    tests/rows/expected.py --transcripts CAPTURE..
+                                    prints the transcripts of captures, or of dumps: of each connection its number, opening, peers and VLAN; then of
+                                    each direction how many bytes it has, its end's number and time, and the time and bytes of its chunks
 
 The first reads FOLDER/segments (through tests/capture.awk), FOLDER/segments.awk or FOLDER/dump, FOLDER/arguments and the scenario files that these
 name. It refuses nothing: a row that is refused has its line written by hand."""
@@ -230,30 +233,54 @@ def vlan_of(conn): return ' vlan %d' % conn['first']['vlan'] if conn['first']['v
 def peer(end): return '%d.%d.%d.%d:%d' % (*end[0], end[1])
 
 
-def rehearse(b, scenario, number, seed, hosts):
-    """The report and the capture of a scenario."""
-    records, rest = read(b)
+def seen(records):
+    """How many records each class has, the connections, and how many segments are of none."""
     counts, segments, now = dict.fromkeys(CLASSES, 0), [], 0
     for stamp, packet in records:
         now = max(now, stamp)
         kind, fields = classify(packet)
         counts[kind] += 1
         if fields: segments.append(dict(fields, at=now))
-    conns, unopened = connections(segments)
+    return (counts, *connections(segments))
+
+
+def recordings(conn):
+    """The bases of a connection, and both recorded sides."""
+    members, reset = [], None
+    for s in conn['members']:
+        if s['flags'] & RST:
+            reset = s['at']
+            break
+        members.append(s)
+    x = conn['first']['seq']
+    y = next((s['seq'] for s in members if s['frm'] == conn['server'] and s['flags'] & (SYN | ACK) == SYN | ACK), None)
+    return x, y, [recorded(conn, conn['client'], x, members, reset), recorded(conn, conn['server'], y, members, reset)]
+
+
+def transcript(b):
+    """The lines of the transcript of a capture, or of a dump of one."""
+    try: b = bytes.fromhex(b.decode())
+    except ValueError: pass
+    for conn in seen(read(b)[0])[1]:
+        _, y, sides = recordings(conn)
+        o, unit = conn['opened'], 10**9 // SECOND
+        peers = ['%s:%d' % (end[0].hex(), end[1]) for end in (conn['client'], conn['server'])]
+        yield '%d %d %s > %s vlan %d' % (conn['number'], o * unit, *peers, conn['first']['vlan'] or 0)
+        for (line, end), _ in sides:
+            kind, at = ({'fin': 1, 'reset': 2 if y is not None else 3}[end[0]], end[1] - o) if end else (0, 0)
+            yield ' '.join(['%d %d %d' % (len(line), kind, at * unit)] + ['%d:%s' % ((at - o) * unit, bytes(data).hex()) for at, data in chunks(line)])
+
+
+def rehearse(b, scenario, number, seed, hosts):
+    """The report and the capture of a scenario."""
+    records, rest = read(b)
+    counts, conns, unopened = seen(records)
     report = ['scenario %d records %d rest %d ' % (number, len(records), rest) + ' '.join('%s %d' % (k, counts[k]) for k in CLASSES)]
     report.append('connections %d unopened %d' % (len(conns), unopened))
     everything = []
     for conn in conns:
         c, o = conn['number'], conn['opened']
-        members, reset = [], None
-        for s in conn['members']:
-            if s['flags'] & RST:
-                reset = s['at']
-                break
-            members.append(s)
-        x = conn['first']['seq']
-        y = next((s['seq'] for s in members if s['frm'] == conn['server'] and s['flags'] & (SYN | ACK) == SYN | ACK), None)
-        sides = [recorded(conn, conn['client'], x, members, reset), recorded(conn, conn['server'], y, members, reset)]
+        x, y, sides = recordings(conn)
         met = next((i for i, p in enumerate(scenario) if upstream(p, hosts) == peer(conn['server'])), None)
         refused = met is not None and scenario[met].get('enabled') is False
         lines = [line for line, _ in sides]
@@ -290,6 +317,9 @@ def stored(folder, capture, names):
 
 def main():
     if sys.argv[1] == '--stored': return stored(sys.argv[2], sys.argv[3], sys.argv[4:])
+    if sys.argv[1] == '--transcripts':
+        for name in sys.argv[2:]: print('== ' + name, *transcript(pathlib.Path(name).read_bytes()), sep='\n')
+        return
     row = pathlib.Path(sys.argv[1])
     tests = pathlib.Path(__file__).resolve().parent.parent
     if (row / 'dump').exists(): text = (row / 'dump').read_text()

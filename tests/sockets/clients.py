@@ -2,9 +2,7 @@
 capture of samples/http-get.pcap, half a second late. Lines are those of a server that sends these chunks at these seconds."""
 import asyncio, contextlib, http.client, io, os, pathlib, poplib, random, smtplib, socket, struct, time, unittest, unittest.mock
 import urllib.error, urllib.request
-from events import Line, delivered
-from sockets import Clock, Socket, StillOpen
-from streams import Loop, run, streams
+from toxicap import Clock, Line, Loop, Socket, StillOpen, delivered, run, streams
 
 YEAR = 365 * 24 * 3600
 

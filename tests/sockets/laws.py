@@ -1,9 +1,7 @@
 """The laws of sockets and streams, over the output captures in the folder OUTPUTS: reads of any sizes give the delivered bytes in order, each at its
 time, and ends and timeouts come at theirs. What is expected is worked out here from the time of each byte."""
 import asyncio, bisect, collections, itertools, os, pathlib, random, socket, unittest
-from events import delivered
-from sockets import Clock, Socket, StillOpen
-from streams import run, streams
+from toxicap import Clock, Socket, StillOpen, delivered, run, streams
 
 CONNECTIONS = [each for path in sorted(pathlib.Path(os.environ['OUTPUTS']).glob('*/*.pcap')) for each in delivered(path.read_bytes())]
 NEVER = 1 << 70

@@ -1,7 +1,6 @@
 """Once bytes and an end have come, a Socket does what the system's sockets do on 127.0.0.1, by any four calls in any order."""
 import itertools, select, socket, struct, unittest
-from events import Line
-from sockets import Socket
+from toxicap import Line, Socket
 
 CALLS = {
     'recv': lambda each: each.recv(3), 'send': lambda each: each.send(b'xy'), 'close': lambda each: each.close(),

@@ -1,0 +1,3 @@
+module example.org/toxicap
+
+go 1.18

@@ -1,3 +1,0 @@
-module example.org/toxicap/suite
-
-go 1.18

@@ -43,6 +43,7 @@ ranges='--seed takes a whole number from 0 to 18446744073709551615, --workers fr
 tips 'pass the capture with --capture x.pcap' x.pcap
 tips 'pass the capture with --capture too large.pcap' "'too large.pcap'"
 tips 'pass the scenario with --scenario cut.json' '--capture x.pcap cut.json'
+tips 'more.pcap is left over: a value with spaces needs quotes, and each of several scenarios a --scenario' '--capture x.pcap more.pcap'
 tips "$ranges" '--seed -1'
 tips "$ranges" '--seed x'
 tips "$ranges" '--seed 18446744073709551616'
@@ -70,7 +71,9 @@ verdict "without a terminal nothing is said" "$(fault 0; cat "$work/output" "$wo
 for hints in 1 0; do
     anew
     TOXICAP_HINTS=$hints run /dev/null "${three[@]}" --out "$folder"
-    verdict "an answer, TOXICAP_HINTS=$hints" "$(fault 0; cat "$work/output" "$work/faults"; diff -r "$work/counted" "$folder" || true)"
+    expected=''
+    [ $hints = 0 ] || expected=${shop/\\r\\n/$'\n'}
+    verdict "an answer, TOXICAP_HINTS=$hints" "$(fault 0; silent output; told faults "$expected"; diff -r "$work/counted" "$folder" || true)"
 done
 TOXICAP_HINTS=0 run /dev/null
 verdict "a refusal, TOXICAP_HINTS=0" "$(refusal 'refused 1 ShortHeader')"
@@ -114,7 +117,7 @@ helps 'refused 2 BadMagic' 'other.pcap is no classic pcap: editcap -F pcap IN OU
 helps 'refused 3 BadVersion' 'old.pcap is of another pcap version than 2.4: editcap -F pcap IN OUT writes it again' '--capture old.pcap'
 helps 'refused 4 BadLink' 'any.pcap is an "any" capture (link type 276): record on one interface, tcpdump -i eth0, not any' '--capture any.pcap'
 helps 'refused 4 BadLink' 'standard input is an "any" capture (link type 113): record on one interface, tcpdump -i eth0, not any' '< cooked.pcap'
-helps 'refused 4 BadLink' 'wifi.pcap is of link type 105, and Ethernet, 1, is expected: record on an Ethernet interface' '--capture wifi.pcap'
+helps 'refused 4 BadLink' 'wifi.pcap was recorded in monitor mode (link type 105): record without it, as Ethernet, tcpdump without -I' '--capture wifi.pcap'
 helps 'refused 5 RecordTooLong at 1' 'torn.pcap is damaged where record 1 begins: editcap -F pcap -r IN OUT 1-1 keeps what is before' '--capture torn.pcap'
 helps 'refused 5 RecordTooLong at 0' 'first.pcap is damaged where its first record begins: record it again' '--capture first.pcap'
 truncate -s $((2 ** 30 + 1)) "$here/long"
@@ -274,7 +277,7 @@ for drafts in 0 1 2; do
     mkdir -p "$here/round$drafts/toxicap.unfinished-$drafts"
     status=0
     (cd "$here" && eval "TOXICAP_HINTS=1 '$program' --capture shop.pcap$bares --workers 16 --out round$drafts") > "$work/output" 2> "$work/faults" || status=$?
-    verdict "draft $drafts" "$(if [ $drafts = 2 ]; then well; else told faults "refused 60 ShelfFailed after $drafts
+    verdict "draft $drafts" "$(if [ $drafts = 2 ]; then fault 0; else told faults "refused 60 ShelfFailed after $drafts
 toxicap: round$drafts/toxicap.unfinished-$drafts stands where files are first written: wait for other runs of this folder, then move it, or choose another --out
 "; fi)"
 done
@@ -286,6 +289,7 @@ helps 'refused 60 ShelfFailed after 1' 'linked/0000.txt: the run has read it, an
 # files that cannot be read: the scenarios in their order, and then the capture
 helps 'refused 61 ReadFailed' 'nothing: No such file or directory' '--capture nothing'
 helps 'refused 61 ReadFailed' '"": No such file or directory' "--capture ''"
+helps 'refused 61 ReadFailed' '-: No such file or directory; without --capture the capture is read from standard input' '--capture -'
 for paths in 199 200 201; do helps 'refused 61 ReadFailed' "$(first 200 $paths): No such file or directory" "--capture $(printf "%0${paths}d" 0)"; done
 helps 'refused 61 ReadFailed' 'out: Is a directory' '--capture nothing --scenario bare.json --scenario out'
 helps 'refused 61 ReadFailed' 'standard input cannot be read: --capture names a file' '< .'

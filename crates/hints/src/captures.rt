@@ -103,6 +103,9 @@ fn link_hint(alloc: Global, capture: &[u8]) -> Said {
     if matches!(link, 113 | 276) {
         return say!(alloc; "is an \"any\" capture (link type {link}): record on one interface, tcpdump -i eth0, not any");
     }
+    if matches!(link, 105 | 119 | 127 | 163) {
+        return say!(alloc; "was recorded in monitor mode (link type {link}): record without it, as Ethernet, tcpdump without -I");
+    }
     say!(alloc; "is of link type {link}, and Ethernet, 1, is expected: record on an Ethernet interface")
 }
 

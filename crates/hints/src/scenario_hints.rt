@@ -74,6 +74,10 @@ pub fn scenario_hint(
             );
             about(alloc, name, "", hint)
         }
+        Err(_) if text.ends_with(b".json") => {
+            let hint = "has a path in place of JSON: give the text of that file";
+            about(alloc, name, "", hint)
+        }
         Err(error) => about(alloc, name, "", &json_hint(alloc, speaker, &error)?),
     }
 }
@@ -97,10 +101,7 @@ fn tree_hint(alloc: Global, speaker: Speaker, name: &str, tree: &Value, refusal:
     ensures { IfOk result (λ line. IsAbout name.now (string_bytes line)) }
 {
     let Some(number) = refusal.proxy else {
-        let help = speaker.says("--help", "toxicap --help");
-        let hint =
-            say!(alloc; "is {}, and an array of proxies is expected, as {help} shows", kind_of(tree))?;
-        return about(alloc, name, "", &hint);
+        return about(alloc, name, "", &array_hint(alloc, speaker, tree)?);
     };
     let proxy = tree.get(number).unwrap_or(&Value::Null);
     let place = named(alloc, "proxy", number, proxy)?;
@@ -114,6 +115,19 @@ fn tree_hint(alloc: Global, speaker: Speaker, name: &str, tree: &Value, refusal:
     let hint = toxic_hint(alloc, toxic, refusal.cause)?;
     let place = say!(alloc; ", {place}, {toxic_place}:")?;
     about(alloc, name, &place, &hint)
+}
+
+// What helps if a text is no array. A live Toxiproxy prints an object that has its proxies by their names.
+fn array_hint(alloc: Global, speaker: Speaker, tree: &Value) -> Said {
+    if let Some(proxies) = tree.as_object() {
+        for (_, proxy) in proxies.iter() {
+            if field(proxy, "upstream").is_some() {
+                return say!(alloc; "is an object, as a live Toxiproxy prints it: jq -f examples/ppm.jq IN > OUT makes a scenario of it");
+            }
+        }
+    }
+    let help = speaker.says("--help", "toxicap --help");
+    say!(alloc; "is {}, and an array of proxies is expected, as {help} shows", kind_of(tree))
 }
 
 // The number of a proxy or a toxic, and its name if it has one.

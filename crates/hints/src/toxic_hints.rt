@@ -17,8 +17,10 @@ const FIELDS: &[(&str, &str, bool)] = &[
 pub(crate) fn toxic_hint(alloc: Global, toxic: &Value, cause: Cause) -> Said {
     let (toxic_type, stream) = (text_at(toxic, "type"), text_at(toxic, "stream"));
     match cause {
-        Cause::BadMember => wrong_field(alloc, toxic, FIELDS),
-        Cause::UnknownToxic => {
+        Cause::BadMember if !toxic.is_object() || !toxic_type.is_empty() => wrong_field(
+            alloc, toxic, FIELDS,
+        ),
+        Cause::BadMember | Cause::UnknownToxic => {
             let expected =
                 "latency, bandwidth, slow_close, timeout, reset_peer, slicer or limit_data is expected";
             its(alloc, toxic, "type", expected)

@@ -1,6 +1,6 @@
 //! The program `toxicap`: the library's `command_over` on the command line, the host's disk and the standard streams.
 //! On a terminal it also says that it reads standard input, and how many scenarios are stored. Last it says what helps after a refusal, or
-//! is missed in a report. What helps is also said without a terminal if `TOXICAP_HINTS` of the environment is 1.
+//! is missed in a report, also without a terminal if `TOXICAP_HINTS` of the environment is 1.
 #![tactic(auto)]
 
 macro_rules! say {
@@ -59,13 +59,13 @@ fn main(rt: HostRuntime) -> ExitCode {
         &mut Counted::new(rt.stdout()),
         &mut faults,
     );
-    if let Some(asked) = asked.filter(|_| is_terminal || outcome.is_err()) {
+    if let Some(asked) = asked {
         let start = input.into_inner().copy;
         let first_bytes = start.get_ref().get(..start.position() as usize);
         let stored = files.published.load(Ordering::SeqCst);
         print_line(&rt, asked, first_bytes.unwrap_or(&[]), stored, outcome);
     } else if let Some(Err(Stop::Usage(told))) = &read {
-        print_tip(&rt, told);
+        print_tip(&rt, &words, told);
     }
     ExitCode::from(status)
 }
@@ -98,8 +98,9 @@ fn print_line(
     }
 }
 
-fn print_tip(rt: &HostRuntime, told: &str) {
-    if let Ok(Some(tip)) = tip_of(rt.alloc(), told) {
+fn print_tip(rt: &HostRuntime, words: &[String], told: &str) {
+    let has_capture = words.iter().any(|word| word.starts_with("--capture"));
+    if let Ok(Some(tip)) = tip_of(rt.alloc(), told, has_capture) {
         let _ = eprintln!(rt; "tip: {tip}");
     }
 }

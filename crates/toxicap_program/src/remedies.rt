@@ -75,8 +75,11 @@ impl<R: Files> Run<'_, R> {
         let (alloc, asked) = (self.alloc, self.asked);
         for path in asked.scenarios.iter().copied().chain(asked.capture) {
             if let Err(error) = self.first_bytes_of(path) {
-                let (path, cause) = (shown_path(alloc, path)?, said_by(alloc, &error)?);
-                return say!(alloc; "{path}: {cause}");
+                let (name, cause) = (shown_path(alloc, path)?, said_by(alloc, &error)?);
+                if path == "-" && asked.capture == Some(path) {
+                    return say!(alloc; "{name}: {cause}; without --capture the capture is read from standard input");
+                }
+                return say!(alloc; "{name}: {cause}");
             }
         }
         let mut named = asked.scenarios.iter().copied().chain(asked.capture);

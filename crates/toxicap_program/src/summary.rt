@@ -1,4 +1,4 @@
-//! The last line of a run on a terminal: what is easily missed in its reports.
+//! The last line of a run that went well: what is easily missed in its reports.
 use crate::run::Run;
 use hints::{Said, ignored_attribute, shown_path, unit_of};
 use std::alloc::AllocError;

@@ -1,8 +1,9 @@
 //! What helps after a fault of the command line.
 use std::alloc::{AllocError, Global};
 
-/// What helps after a fault of which the text of [`Stop::Usage`](command_line::Stop) tells, if more than that text does.
-pub fn tip_of(alloc: Global, told: &str) -> Result<Option<String>, AllocError> {
+/// What helps after a fault of which the text of [`Stop::Usage`](command_line::Stop) tells, if more than that text does. `has_capture` says
+/// whether an option names the capture.
+pub fn tip_of(alloc: Global, told: &str, has_capture: bool) -> Result<Option<String>, AllocError> {
     let (_, word) = told.split_once("unexpected argument '").unwrap_or(("", ""));
     let (word, _) = word.split_once("' found").unwrap_or(("", ""));
     let is_value = told.contains("invalid digit") || told.contains("too large");
@@ -14,7 +15,12 @@ pub fn tip_of(alloc: Global, told: &str) -> Result<Option<String>, AllocError> {
     if word.is_empty() || word.starts_with('-') {
         return Ok(None);
     }
-    let is_scenario = word.ends_with(".json");
+    let (is_scenario, word) = (word.ends_with(".json"), word.escape_debug());
+    if has_capture && !is_scenario {
+        return say!(alloc; "{word} is left over: a value with spaces needs quotes, and each of several scenarios a --scenario").map(
+            Some,
+        );
+    }
     let input = if is_scenario { "scenario" } else { "capture" };
-    say!(alloc; "pass the {input} with --{input} {}", word.escape_debug()).map(Some)
+    say!(alloc; "pass the {input} with --{input} {word}").map(Some)
 }

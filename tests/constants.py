@@ -25,12 +25,12 @@ bytes of an address of Ethernet: reassembly/recordings 6; segment_writer/senders
 bits and decimals of an address of IPv4 and a port: conn_table/pair_keys 16 32; report/lines 16 24 256; report/texts 10
 pcap: pcap_records/heading FILE_HEADER_LEN MAGIC NANOSECOND_MAGIC ETHERNET 4 6 8 20; pcap_records/reader RECORD_HEADER_LEN 4 8; pcap_records/writing *
 ticks of a second, and the bits of its number: pcap_records/unit *
-captures and link types that are told by name: hints/captures 4 20 113 276 0x0a 0x0d 0x1f 0x8b 0xa1 0xb2 0xc3 0xd4 0x3c 0x4d
+captures and link types that are told by name: hints/captures 4 20 105 113 119 127 163 276 0x0a 0x0d 0x1f 0x8b 0xa1 0xb2 0xc3 0xd4 0x3c 0x4d
 digits of a dump, and two bytes of it: run_files/dumps PLACES 22 256
 streams of random words, by the rules: toxic_defs/words 8 16 30
 numbers of refusals and statuses: run_files/fault_lines *; toxicap_c/statuses 3
 table that tests/made.py writes, and digits of a toxicity: hints/attributes *; hints/toxic_hints 6
-ends of directions, and nanoseconds of a microsecond: transcripts/times 3 1_000
+ends of directions, and nanoseconds of a microsecond: laid_lines/times 3 4 1_000
 a mixing of bits, on which no answer depends: conn_table/last_connections 32 0x9e37_79b9_7f4a_7c15'''.split('\n')]
 
 # How often a size of tests/sides.sh has a constant, if not once: there are two workers, or four slots for each opening, or 40 connections for a worker.

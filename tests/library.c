@@ -3,7 +3,7 @@
    Without --scenario there is one scenario, `[]`. What is at fault is told on standard output, with status 3. The tasks are
      answer         stores in the folder, or tells on standard error with status 1, what the program does; before that each call has been
                     made with each of its buffers too small, just right and too large
-     transcript     prints the capture's transcript as `tests/rows/expected.py --transcripts` does
+     lines          prints the delivered lines as `tests/rows/expected.py --lines` does
      again COUNT    COUNT calls, none of which may leave memory; from a thousand on the process may not grow after the tenth part of them
      threads COUNT  eight threads, each with 256 KB of stack, a seed of its own and COUNT calls
      growths        each growth of memory is refused in turn, also with all later ones, and also with room for want of memory alone, or too little
@@ -55,16 +55,16 @@ static int answered(struct question *asked, const char *folder)
     if (status == TOXICAP_REFUSED)
         fprintf(stderr, "%.*s\n", (int)strcspn((char *)both.parts[TEXT], "\n"), (char *)both.parts[TEXT]);
     release(&both);
-    release(&reports);
 
-    /* a transcript is refused where the reports without a proxy are, with the same text */
-    struct question bare = {REPORTS, asked->capture, {(uint8_t *)"[]", 2}, {NULL, 0}, {2}, 1, 0};
-    reports = answer(&bare, &other);
-    bare.call = TRANSCRIPT;
-    uint8_t sent_status;
-    struct memory sent = answer(&bare, &sent_status);
-    must(sent_status == other && (other == TOXICAP_ANSWERED || is_same(&sent, &reports)), "a transcript is refused otherwise than reports");
-    release(&sent);
+    asked->call = LINES;
+    struct memory lines = answer(asked, &other);
+    must(status == other && (status == TOXICAP_ANSWERED || is_same(&lines, &reports)), "lines are refused otherwise than reports");
+    release(&lines);
+
+    asked->call = EFFECTS;
+    struct memory effects = answer(asked, &other);
+    must(status == other && (status == TOXICAP_ANSWERED || is_same(&effects, &reports)), "effects are refused otherwise than reports");
+    release(&effects);
     release(&reports);
     return status;
 }
@@ -80,19 +80,20 @@ static void print_direction(const ToxicapDirection *way, const uint8_t *bytes, c
     puts("");
 }
 
-static void transcript(struct question *asked)
+static void lines(struct question *asked)
 {
     uint8_t status;
-    asked->call = TRANSCRIPT;
+    asked->call = LINES;
     struct memory it = answer(asked, &status);
-    must(status == TOXICAP_ANSWERED, "the transcript is refused");
+    must(status == TOXICAP_ANSWERED, "the lines are refused");
     const uint8_t *bytes = it.parts[TEXT];
     const ToxicapChunk *chunks = (ToxicapChunk *)it.parts[0];
     const ToxicapConnection *all = (ToxicapConnection *)it.parts[2];
+    size_t count = it.sizes.of[2] / asked->scenario_count;
     for (size_t number = 0; number < it.sizes.of[2]; number++) {
         const ToxicapConnection *of = &all[number];
-        printf("%zu %" PRIu64 " %08x:%d > %08x:%d vlan %u\n", number, of->opened, of->client_address, of->client_port, of->server_address,
-               of->server_port, of->vlan);
+        printf("%zu %zu %" PRIu64 " %08x:%d > %08x:%d vlan %u\n", number / count, number % count, of->opened, of->client_address, of->client_port,
+               of->server_address, of->server_port, of->vlan);
         for (int is_down = 0; is_down < 2; is_down++) {
             const ToxicapDirection *way = is_down ? &of->down : &of->up;
             print_direction(way, bytes, chunks);
@@ -321,8 +322,8 @@ int main(int count, char **words)
     int status = 0;
     if (strcmp(task, "answer") == 0)
         status = answered(&asked, folder);
-    else if (strcmp(task, "transcript") == 0)
-        transcript(&asked);
+    else if (strcmp(task, "lines") == 0)
+        lines(&asked);
     else if (strcmp(task, "again") == 0)
         again(&asked, times);
     else if (strcmp(task, "threads") == 0)

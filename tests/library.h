@@ -7,8 +7,8 @@
 enum { GUARD = 64, FREE_BYTE = 0xa5, MOST_SCENARIOS = 300 };
 static const char want_of_memory[] = "refused 40 Memory";
 
-_Static_assert(sizeof(ToxicapInputs) == 72 && sizeof(ToxicapSizes) == 24 && sizeof(ToxicapTranscriptSizes) == 24, "inputs or sizes have padding");
-_Static_assert(sizeof(ToxicapChunk) == 16 && sizeof(ToxicapDirection) == 32 && sizeof(ToxicapConnection) == 88, "a transcript has padding");
+_Static_assert(sizeof(ToxicapInputs) == 72 && sizeof(ToxicapSizes) == 24 && sizeof(ToxicapLinesSizes) == 24 && sizeof(ToxicapEffectSizes) == 16, "inputs or sizes have padding");
+_Static_assert(sizeof(ToxicapChunk) == 16 && sizeof(ToxicapDirection) == 32 && sizeof(ToxicapConnection) == 88, "an entry of lines has padding");
 
 extern void *__real_malloc(size_t), *__real_calloc(size_t, size_t), *__real_realloc(void *, size_t);
 extern void __real_free(void *);
@@ -85,8 +85,8 @@ static void add_file(struct text *text, const char *path)
     fclose(file);
 }
 
-/* What is asked: which call, and its inputs, of which a transcript takes the capture alone. */
-enum call { REHEARSE, REPORTS, TRANSCRIPT, CALLS };
+/* What is asked: which call, and its inputs. */
+enum call { REHEARSE, REPORTS, LINES, EFFECTS, CALLS };
 struct question {
     enum call call;
     struct text capture, scenarios, hosts;
@@ -119,8 +119,10 @@ static void *guarded(size_t size)
 static struct memory memory_of(const struct question *asked, struct sizes room)
 {
     struct memory it = {.item = {1, 1, sizeof(size_t)}, .room = room};
-    if (asked->call == TRANSCRIPT)
+    if (asked->call == LINES)
         it.item[0] = sizeof(ToxicapChunk), it.item[2] = sizeof(ToxicapConnection);
+    if (asked->call == EFFECTS)
+        it.item[0] = sizeof(uint64_t);
     for (int part = 0; part < PARTS; part++)
         it.parts[part] = guarded(room.of[part] * it.item[part]);
     return it;
@@ -162,17 +164,22 @@ static uint8_t ask(const struct question *asked, struct memory *memory)
 {
     uint8_t *const *parts = memory->parts, status;
     const size_t *room = memory->room.of;
-    if (asked->call == TRANSCRIPT) {
-        ToxicapTranscriptSizes found = {7, 7, 7};
-        status = toxicap_transcript(asked->capture.bytes, asked->capture.len, parts[TEXT], room[TEXT], (ToxicapChunk *)parts[0], room[0],
-                                    (ToxicapConnection *)parts[2], room[2], &found);
-        memory->sizes = (struct sizes){{found.chunks, found.bytes, found.connections}};
-        return status;
-    }
-    ToxicapSizes found = {7, 7, 7};
     ToxicapInputs inputs = {asked->capture.bytes, asked->capture.len, asked->scenarios.bytes, asked->scenarios.len,
                             asked->scenario_count > 0 ? asked->scenario_lens : NULL, asked->scenario_count, asked->hosts.bytes, asked->hosts.len,
                             asked->seed};
+    if (asked->call == LINES) {
+        ToxicapLinesSizes found = {7, 7, 7};
+        status = toxicap_lines(&inputs, parts[TEXT], room[TEXT], (ToxicapChunk *)parts[0], room[0], (ToxicapConnection *)parts[2], room[2], &found);
+        memory->sizes = (struct sizes){{found.chunks, found.bytes, found.connections}};
+        return status;
+    }
+    if (asked->call == EFFECTS) {
+        ToxicapEffectSizes found = {7, 7};
+        status = toxicap_effects(&inputs, (uint64_t *)parts[0], room[0], parts[TEXT], room[TEXT], &found);
+        memory->sizes = (struct sizes){{found.counts, found.text, 0}};
+        return status;
+    }
+    ToxicapSizes found = {7, 7, 7};
     if (asked->call == REHEARSE)
         status = toxicap_rehearse(&inputs, parts[0], room[0], parts[TEXT], room[TEXT], (size_t *)parts[2], room[2], &found);
     else
@@ -186,7 +193,7 @@ static struct sizes expected_sizes(const struct question *asked)
 {
     struct memory none = {.item = {0, 0, 0}};
     uint8_t status = ask(asked, &none);
-    int may_be_nothing = asked->call == TRANSCRIPT || asked->scenario_count == 0;
+    int may_be_nothing = asked->call >= LINES || asked->scenario_count == 0;
     must(status == TOXICAP_NO_ROOM || (status == TOXICAP_ANSWERED && may_be_nothing), "without room: another status than 2");
     must((status == TOXICAP_ANSWERED) == are_equal(none.sizes, no_sizes), "without room: status 2 although nothing is required");
     must(asked->call != REPORTS || (none.sizes.of[0] == 0 && none.sizes.of[2] == 0), "reports alone want room for captures or lengths");

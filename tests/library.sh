@@ -1,5 +1,5 @@
 #!/usr/bin/env bash
-# The library for C that release/library makes, against the program: the same bytes and lines of refusals, transcripts as they are worked out apart,
+# The library for C that release/library makes, against the program: the same bytes and lines of refusals, delivered lines as they are worked out apart,
 # buffers that are left as they were but for the answer, ten thousand calls, eight threads, growths of memory that are refused, and programs over the
 # clients in C, Python, Go and Rust; and in Rust sockets, and what helps after refusals, against tests/hints/rows.
 # tests/library.c makes the calls.
@@ -26,6 +26,13 @@ build() {
 }
 verdict "linked statically" "$(build "$work/library" "$kit/lib/libtoxicap.a")"
 verdict "linked dynamically" "$(build "$work/dynamic" -L "$kit/lib" -ltoxicap "-Wl,-rpath,$kit/lib")"
+printf '#include <toxicap.h>\nvoid own(ToxicapSizes *sizes);\nvoid own(ToxicapSizes *sizes) { toxicap_reports(0, 0, 0, sizes); }\n' > "$work/own.c"
+verdict "a status that is left unused" "$(
+    "$CC" -Werror -c -I "$kit/include" -o "$work/own.o" "$work/own.c" > "$work/told" 2>&1 && echo '  it compiles'
+    grep -q 'unused-result' "$work/told" || cat "$work/told"
+)"
+"$CC" -w -shared -fPIC -I "$kit/include" -o "$work/own.so" "$work/own.c" "$kit/lib/libtoxicap.a"
+verdict "what a library with the archive hands on" "$(nm -D --defined-only "$work/own.so" | grep -v ' own$' || true)"
 caller=$work/library
 
 # differs ARGUMENT..: what differs between the program and the library, called with the same arguments.
@@ -72,21 +79,17 @@ done
 same "${shop[@]}"
 caller=$work/dynamic same "${shop[@]}"
 
-# transcripts: of recordings, and of outputs, such as those that the library gave last
-if can "transcripts" python3; then
-    captures=(samples/*.pcap tests/recorded/*.pcap "$work/found"/*.pcap tests/rows/*/{dump,*.hex})
-    for row in tests/rows/*/segments; do
-        captures+=("$work/$(basename "${row%/*}").dump")
-        awk -f tests/capture.awk "$row" > "${captures[-1]}"
+# delivered lines: of the samples and of outputs, such as those that the library gave last, as recorded and under all toxics
+if can "lines" python3; then
+    for capture in samples/*.pcap tests/recorded/*.pcap "$work/found"/*.pcap "$work/dump"; do
+        verdict "lines of ${capture#$work/}" "$(
+            for asked in "" "${shop[*]:2}"; do
+                python3 -B tests/rows/expected.py --lines --capture "$capture" $asked > "$work/expected-lines"
+                "$caller" lines --capture "$capture" $asked > "$work/lines" || true
+                difference "$work/expected-lines" "$work/lines"
+            done
+        )"
     done
-    python3 -B tests/rows/expected.py --transcripts "${captures[@]}" > "$work/expected-transcripts"
-    verdict "transcripts" "$(
-        for capture in "${captures[@]}"; do
-            echo "== $capture"
-            "$caller" transcript --capture "$capture" || true
-        done > "$work/transcripts"
-        difference "$work/expected-transcripts" "$work/transcripts"
-    )"
 fi
 
 # captures of 1, 5 and 20 MB, one in nanoseconds, and one of 2,500 connections; 10 and 256 scenarios, and 256 hosts
@@ -216,7 +219,10 @@ example() {
     )"
     rm -f "$folder"/*
     (cd "$folder"; timeout 20 "${@:2}" "${inputs[@]}") > "$work/output" 2> "$work/line" || ended=$?
-    sed -i 1q "$work/line" # what helps, which the example in C tells too, comes after it
+    # the examples in C, C++ and Rust also tell what helps
+    [[ $1 != C* && $1 != Rust ]] || sed 1d "$work/line" | grep -q '^scenario 1, proxy . ".*": names are not looked up: ' \
+        || verdict "the example in $1, what helps" "$(cat "$work/line")"
+    sed -i 1q "$work/line"
     verdict "the example in $1, refused" "$([ $ended = 1 ] || echo "  status $ended"; difference "$work/expected-line" "$work/line"; holds "$folder")"
     (cd "$folder"; timeout 20 "${@:2}" "${inputs[0]}" none.json) > "$work/output" 2> "$work/line" || true
     verdict "the example in $1, no such scenario" "$(grep -q 'none\.json: ' "$work/line" && ! grep -q Traceback "$work/line" || cat "$work/line")"
@@ -225,6 +231,11 @@ unset HOSTS
 verdict "the example in C, compiled" "$("$CC" -std=c11 -pedantic -Wall -Wextra -Werror -I "$kit/include" -o "$work/c" clients/c/rehearse.c \
     "$kit/lib/libtoxicap.a" 2>&1 || true)"
 example C "$work/c"
+if can "the example in C++" g++; then
+    verdict "the example in C++, compiled" "$(g++ -x c++ -std=c++11 -pedantic -Wall -Wextra -Werror -I "$kit/include" -o "$work/c++" clients/c/rehearse.c \
+        -x none "$kit/lib/libtoxicap.a" 2>&1 || true)"
+    example C++ "$work/c++"
+fi
 # seeds: what Python's function raises for seeds out of range, and that it takes the least and the greatest.
 seeds() {
     python3 -B - samples/http-get.pcap << 'END' 2>&1 || true
@@ -252,11 +263,11 @@ if can "the example in Rust" rustc cc; then
         verdict "$1 in Rust, compiled" "$(rustc --edition 2021 -D warnings -L "$kit/lib" --extern "toxicap=$work/libtoxicap.rlib" --out-dir "$work" "${@:2}" \
             "clients/rust/$1.rs" 2>&1 || true)"
     }
-    verdict "the client in Rust, compiled" "$(rustc --edition 2021 -D warnings -L "$kit/lib" --crate-type rlib --crate-name toxicap --out-dir "$work" \
-        clients/rust/src/lib.rs 2>&1 || true)"
+    verdict "the client in Rust, compiled" "$(rustc --edition 2021 --cfg 'feature="native"' -D warnings -L "$kit/lib" --crate-type rlib \
+        --crate-name toxicap --out-dir "$work" clients/rust/src/lib.rs 2>&1 || true)"
     compiled examples/rehearse
     example Rust "$work/rehearse"
-    for tests in sockets rows; do
+    for tests in sockets outputs rows; do
         compiled "tests/$tests" --test
         verdict "$tests in Rust" "$(timeout 60 "$work/$tests" -q > "$work/told" 2>&1 || cat "$work/told")"
     done

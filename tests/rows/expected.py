@@ -5,9 +5,10 @@ for time. It was written from those rules alone and shares nothing with the prog
     tests/rows/expected.py FOLDER   writes FOLDER/report and FOLDER/0000.hex, 0001.hex .. (or .sha256 for those above 4,000 bytes)
     tests/rows/expected.py --stored FOLDER CAPTURE SCENARIO..
                                     writes FOLDER/0000.pcap, 0000.txt and on, what --out has to store of a capture under scenario files
-    tests/rows/expected.py --transcripts CAPTURE..
-                                    prints the transcripts of captures, or of dumps: of each connection its number, opening, peers and VLAN; then of
-                                    each direction how many bytes it has, its end's number and time, and the time and bytes of its chunks
+    tests/rows/expected.py --lines --capture FILE ARGUMENT..
+                                    prints the delivered lines of a capture, or of a dump of one, under the program's arguments: of each scenario and
+                                    connection both numbers, the opening, peers and VLAN; then of each direction how many bytes it has, its end's
+                                    number and time, and the time and bytes of its chunks
 
 The first reads FOLDER/segments (through tests/capture.awk), FOLDER/segments.awk or FOLDER/dump, FOLDER/arguments and the scenario files that these
 name. It refuses nothing: a row that is refused has its line written by hand."""
@@ -17,6 +18,7 @@ MILLION, M32, M64 = 10**6, 2**32, 2**64
 FIN, SYN, RST, PSH, ACK = 1, 2, 4, 8, 16
 TAG = b'\x81\x00'
 CLASSES = 'segment short notipv4 badipv4 fragment nottcp cut badtcp sameends'.split()
+ENDS = 'open fin close reset'.split()
 
 
 def classify(p):
@@ -257,18 +259,36 @@ def recordings(conn):
     return x, y, [recorded(conn, conn['client'], x, members, reset), recorded(conn, conn['server'], y, members, reset)]
 
 
-def transcript(b):
-    """The lines of the transcript of a capture, or of a dump of one."""
+def delivered(conn, sides, scenario, number, seed, hosts):
+    """What a scenario delivers of the recorded sides of a connection: the number of the proxy that it meets, whether that refuses it, both lines."""
+    met = next((i for i, p in enumerate(scenario) if upstream(p, hosts) == peer(conn['server'])), None)
+    refused = met is not None and scenario[met].get('enabled') is False
+    lines = [line for line, _ in sides]
+    if met is not None:
+        for d, name in enumerate(('upstream', 'downstream')):
+            toxics = [t for t in scenario[met].get('toxics') or [] if (t.get('stream') or 'downstream') == name]
+            for t, toxic in enumerate(toxics):
+                draw = lambda k: word(seed, number * 2**30 + conn['number'] * 16 + d * 8 + t, k)
+                ppm = toxic.get('toxicity_ppm', MILLION * toxic.get('toxicity', 1))
+                if draw(0) % MILLION < ppm: lines[d] = through(toxic, *lines[d], conn['opened'], draw)
+    return met, refused, [([], None), ([], None)] if refused else cut(lines)
+
+
+def flat_lines(b, scenarios, seed, hosts):
+    """The delivered lines of a capture, or of a dump of one, under scenarios."""
     try: b = bytes.fromhex(b.decode())
     except ValueError: pass
-    for conn in seen(read(b)[0])[1]:
-        _, y, sides = recordings(conn)
-        o, unit = conn['opened'], 10**9 // SECOND
-        peers = ['%s:%d' % (end[0].hex(), end[1]) for end in (conn['client'], conn['server'])]
-        yield '%d %d %s > %s vlan %d' % (conn['number'], o * unit, *peers, conn['first']['vlan'] or 0)
-        for (line, end), _ in sides:
-            kind, at = ({'fin': 1, 'reset': 2 if y is not None else 3}[end[0]], end[1] - o) if end else (0, 0)
-            yield ' '.join(['%d %d %d' % (len(line), kind, at * unit)] + ['%d:%s' % ((at - o) * unit, bytes(data).hex()) for at, data in chunks(line)])
+    _, conns, _ = seen(read(b)[0])
+    unit = 10**9 // SECOND
+    for number, scenario in enumerate(scenarios):
+        for conn in conns:
+            o = conn['opened']
+            _, refused, lines = delivered(conn, recordings(conn)[2], scenario, number, seed, hosts)
+            peers = ['%s:%d' % (end[0].hex(), end[1]) for end in (conn['client'], conn['server'])]
+            yield '%d %d %d %s > %s vlan %d' % (number, conn['number'], o * unit, *peers, conn['first']['vlan'] or 0)
+            for line, end in lines:
+                kind, at = (ENDS.index(end[0]), end[1] - o) if end else (4 * refused, 0)
+                yield ' '.join(['%d %d %d' % (len(line), kind, at * unit)] + ['%d:%s' % ((at - o) * unit, bytes(data).hex()) for at, data in chunks(line)])
 
 
 def rehearse(b, scenario, number, seed, hosts):
@@ -281,17 +301,7 @@ def rehearse(b, scenario, number, seed, hosts):
     for conn in conns:
         c, o = conn['number'], conn['opened']
         x, y, sides = recordings(conn)
-        met = next((i for i, p in enumerate(scenario) if upstream(p, hosts) == peer(conn['server'])), None)
-        refused = met is not None and scenario[met].get('enabled') is False
-        lines = [line for line, _ in sides]
-        if met is not None:
-            for d, name in enumerate(('upstream', 'downstream')):
-                toxics = [t for t in scenario[met].get('toxics') or [] if (t.get('stream') or 'downstream') == name]
-                for t, toxic in enumerate(toxics):
-                    draw = lambda k: word(seed, number * 2**30 + c * 16 + d * 8 + t, k)
-                    ppm = toxic.get('toxicity_ppm', MILLION * toxic.get('toxicity', 1))
-                    if draw(0) % MILLION < ppm: lines[d] = through(toxic, *lines[d], o, draw)
-        lines = [([], None), ([], None)] if refused else cut(lines)
+        met, refused, lines = delivered(conn, sides, scenario, number, seed, hosts)
         everything += written(conn, x, y or 0, lines, refused)
         both = [told(lines[d], sides[d][0], sides[d][1], o, refused) for d in (0, 1)]
         ends = peer(conn['client']), peer(conn['server']), vlan_of(conn)
@@ -315,10 +325,17 @@ def stored(folder, capture, names):
         (folder / f'{number:04}.txt').write_text(report)
 
 
+def asked(folder, arguments):
+    """The scenarios, which lie in a folder, the seed and the hosts of a command line."""
+    options = [(arguments[i], arguments[i + 1]) for i in range(0, len(arguments), 2)]
+    scenarios = [json.loads((folder / value).read_text()) for name, value in options if name == '--scenario'] or [[]]
+    return scenarios, int(dict(options).get('--seed', 0)), dict(value.split('=') for name, value in options if name == '--host')
+
+
 def main():
     if sys.argv[1] == '--stored': return stored(sys.argv[2], sys.argv[3], sys.argv[4:])
-    if sys.argv[1] == '--transcripts':
-        for name in sys.argv[2:]: print('== ' + name, *transcript(pathlib.Path(name).read_bytes()), sep='\n')
+    if sys.argv[1] == '--lines':
+        for line in flat_lines(pathlib.Path(sys.argv[3]).read_bytes(), *asked(pathlib.Path(), sys.argv[4:])): print(line)
         return
     row = pathlib.Path(sys.argv[1])
     tests = pathlib.Path(__file__).resolve().parent.parent
@@ -328,10 +345,7 @@ def main():
         text = subprocess.run(['awk', '-f', tests / 'capture.awk'], input=segments, capture_output=True, check=True).stdout.decode()
     capture = bytes.fromhex(''.join(text.split()))
     arguments = (row / 'arguments').read_text().split() if (row / 'arguments').exists() else []
-    options = [(arguments[i], arguments[i + 1]) for i in range(0, len(arguments), 2)]
-    seed = int(dict(options).get('--seed', 0))
-    hosts = dict(value.split('=') for name, value in options if name == '--host')
-    scenarios = [json.loads((row / value).read_text()) for name, value in options if name == '--scenario'] or [[]]
+    scenarios, seed, hosts = asked(row, arguments)
     reports = ''
     for number, scenario in enumerate(scenarios):
         report, out = rehearse(capture, scenario, number, seed, hosts)
@@ -349,4 +363,4 @@ def main():
     (row / 'report').write_text(reports)
 
 
-main()
+if __name__ == '__main__': main()

@@ -1,6 +1,6 @@
 mod Meetings
-mod RowLemmas
-mod TableConnections
+pub mod RowLemmas
+pub mod TableConnections
 mod DeliverySteps
 mod ShareSteps
 mod Isolated

@@ -5,6 +5,7 @@ use Rattle.std.specs.Option.{MatchOption}
 use Rattle.pcap_records.specs.CaptureView.{CaptureView, contents_of}
 use Rattle.conn_table.specs.SeenCapture.{SeenCapture, seen_capture}
 use Rattle.conn_table.specs.Connections.{Connection}
+use Rattle.conn_table.specs.IndexedConnections.{without_indices}
 use Rattle.frame_headers.specs.declared.peers.Peer.{Peer}
 use Rattle.reassembly.specs.Positions.{members_of, server_of}
 use Rattle.toxic_defs.specs.DeliveredLines.{MetProxy}
@@ -14,6 +15,7 @@ use Rattle.conn_workers.specs.declared.deliveries.Delivery.{Delivery}
 use Rattle.conn_workers.specs.MetProxies.{met_proxy}
 use Rattle.conn_workers.specs.Contributions.{contribution_of}
 use Rattle.conn_workers.specs.DeliveryRows.{connections_of, delivery, delivery_of, deliveries}
+use Rattle.conn_workers.specs.CaptureTables.{whole_connections}
 use Rattle.conn_workers.specs.Recordings.{recordings_of, recorded_row, recorded_lines}
 
 pub record Rehearsed : Type 0 where
@@ -70,6 +72,10 @@ FirstProxyIsMet =
     (AllByRecursion (λ p. p.upstream ≢ server) proxies) (IsFirstMet server proxies)
 
 -- ---- what recordings give
+
+-- a capture's table has its connections, in order of number
+abbrev pub ConnectionsAreWhole : Type 0
+ConnectionsAreWhole = (c : CaptureView) → map without_indices (whole_connections c) ≡ connections_of (seen_capture (contents_of c))
 
 abbrev pub RowsAreContributed : Type 0
 RowsAreContributed =

@@ -1,5 +1,5 @@
 -- For each connection: its entry in the table, what is recorded of it, and what it contributes to a scenario.
-use Rattle.std.specs.Prelude.{◌≡◌, List, map, ℕ}
+use Rattle.std.specs.Prelude.{◌≡◌, List, map, ℕ, Option}
 use Rattle.pcap_records.specs.CaptureView.{CaptureView}
 use Rattle.conn_table.specs.IndexedConnections.{IndexedConnection, without_indices}
 use Rattle.conn_table.specs.Tables.{conn_in}
@@ -10,7 +10,7 @@ use Rattle.reassembly.specs.RecordedView.{recorded_view}
 use Rattle.reassembly.specs.declared.recordings.Recorded.{Recorded}
 use Rattle.conn_workers.specs.CaptureTables.{whole_connections}
 use Rattle.std.specs.List.{enumerate_from}
-use Rattle.toxic_defs.specs.DeliveredLines.{DeliveredConnection, delivered_connection}
+use Rattle.toxic_defs.specs.DeliveredLines.{DeliveredConnection, MetProxy, delivered_connection}
 use Rattle.segment_writer.specs.Endpoints.{EndpointsView, endpoints_of}
 use Rattle.segment_writer.specs.WrittenSegments.{written_segments}
 use Rattle.segment_writer.specs.WrittenConnections.{written_connection}
@@ -49,9 +49,12 @@ recorded_delivery_by number r d = record {
   line = connection_text r.conn.number r.conn.vlan r.conn.client r.conn.server r.recorded d;
 }
 
+-- what is delivered of a connection in the scenario of this number, if it meets this proxy or none
+abbrev pub delivered_by : ℕ → ℕ → Option MetProxy → RecordingView → DeliveredConnection
+delivered_by seed number met r = delivered_connection r.ticks seed number r.conn.number met r.recorded
+
 abbrev pub recorded_delivered : ℕ → ℕ × List Proxy → RecordingView → DeliveredConnection
-recorded_delivered seed (number, proxies) r =
-    delivered_connection r.ticks seed number r.conn.number (met_proxy r.conn.server proxies) r.recorded
+recorded_delivered seed (number, proxies) r = delivered_by seed number (met_proxy r.conn.server proxies) r
 
 abbrev pub recorded_delivery : ℕ → ℕ × List Proxy → RecordingView → Delivery
 recorded_delivery seed (number, proxies) r = recorded_delivery_by number r (recorded_delivered seed (number, proxies) r)

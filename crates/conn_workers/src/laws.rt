@@ -4,7 +4,7 @@ ghost use Rattle.std.specs.List.{AllByRecursion};
 ghost use Rattle.reassembly.specs.RecordedLines.{recorded_connection};
 ghost use Rattle.toxic_defs.specs.Laws.{IsRecordedInTime};
 ghost use Rattle.scenarios.specs.ProxyLaws.{IsSound};
-ghost use Rattle.conn_workers.specs.DeliveryLaws.{RowsAreWhole, DeliveriesArePlaced, ContributionsAreIsolated, FirstProxyIsMet, LinesAreContributed, RowsAreContributed};
+ghost use Rattle.conn_workers.specs.DeliveryLaws.{ConnectionsAreWhole, RowsAreWhole, DeliveriesArePlaced, ContributionsAreIsolated, FirstProxyIsMet, LinesAreContributed, RowsAreContributed};
 ghost use Rattle.conn_workers.specs.DeliveryRows.{deliveries};
 ghost use Rattle.conn_workers.specs.RecordedDeliveries.{table_connections, IsOfRecorded, IsOfScenario};
 ghost use Rattle.conn_workers.specs.Recordings.{recordings_of, recorded_row};
@@ -34,6 +34,13 @@ pub fn first_proxy_is_met()
     ensures { FirstProxyIsMet }
 {
     first_is_met();
+}
+
+/// The table of a capture has the connections of the definition, in order of number.
+pub fn connections_are_whole()
+    ensures { ConnectionsAreWhole }
+{
+    indexed_connections_agree();
 }
 
 /// The recordings of a capture give what its connections contribute to a scenario.

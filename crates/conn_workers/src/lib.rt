@@ -19,7 +19,9 @@ mod under_scenario;
 
 pub use crews::Workers;
 pub use deliveries::{Deliveries, Delivery, deliver};
+pub use met_proxies::met_proxy;
 pub use recordings::{Recording, Recordings, record, record_alone};
 pub use row_shares::{RowShare, RowShares, deliver_row, deliver_row_alone};
 pub use scenario_texts::{ShareTexts, report_texts, report_texts_alone};
 pub use summaries::{RunSummary, SeenConn, conns_together, run_summary, seen_conns};
+pub use under_scenario::UnderScenario;

@@ -22,7 +22,7 @@ fn met_of(number: u32, proxy: &Proxy) -> MetProxy<'_>
 }
 
 /// The first proxy of a scenario that is for a server.
-pub(crate) fn met_proxy(scenario: &Scenario, server: Peer) -> Option<MetProxy<'_>>
+pub fn met_proxy(scenario: &Scenario, server: Peer) -> Option<MetProxy<'_>>
     ensures met { option_map met_view result ≡ met_proxy server scenario.now }
     ensures few_up { IfSome result (λ m. length m.up.now ≤ most_toxics) }
     ensures few_down { IfSome result (λ m. length m.down.now ≤ most_toxics) }

@@ -9,15 +9,15 @@ use crate::deliveries::Delivery;
 use crate::met_proxies::met_proxy;
 use crate::recordings::Recording;
 use crate::row_shares::RowShare;
-use report::{LINE_ROOM, ReportText, line, put_line};
+use report::{LINE_ROOM, ReportText, put_line};
 use scenarios::Scenario;
-use segment_writer::{SegmentRow, segments};
+use segment_writer::SegmentRow;
 use std::alloc::{AllocError, Global};
-use toxic_defs::{Delivered, delivered_by};
+use toxic_defs::Delivered;
 
 /// A scenario with its number, and the seed of the random words.
 #[derive(Drop)]
-pub(crate) struct UnderScenario<'w> {
+pub struct UnderScenario<'w> {
     alloc: Global,
     number: u32,
     scenario: &'w Scenario,
@@ -25,7 +25,8 @@ pub(crate) struct UnderScenario<'w> {
 }
 
 impl<'w> UnderScenario<'w> {
-    pub(crate) fn of(alloc: Global, number: u32, scenario: &'w Scenario, seed: u64) -> Self
+    /// The scenario with its number, and this seed.
+    pub fn of(alloc: Global, number: u32, scenario: &'w Scenario, seed: u64) -> Self
         ensures number { result.number ≡ number }
         ensures scenario { result.scenario.now ≡ scenario.now }
         ensures seed { result.seed ≡ seed }
@@ -38,18 +39,15 @@ impl<'w> UnderScenario<'w> {
         }
     }
 
-    // What is delivered of a connection.
-    fn delivered<'a>(&self, recording: &Recording<'_, 'a>) -> Result<Delivered<'a>, AllocError>
+    /// What is delivered of a connection.
+    pub fn delivered<'a>(&self, recording: &Recording<'_, 'a>) -> Result<Delivered<'a>, AllocError>
         ensures value { IfOk result (λ d. delivered_view d
             ≡ recorded_delivered self.now.seed (self.now.number, self.now.scenario.now) recording.now) }
         ensures up { IfOk result (λ d. IsLine d.up.line) }
         ensures down { IfOk result (λ d. IsLine d.down.line) }
     {
-        let conn = recording.conn;
-        let recorded = &recording.recorded;
-        let met = met_proxy(self.scenario, conn.server);
-        let (seed, number) = (self.seed, self.number);
-        delivered_by(self.alloc, recorded, met, seed, number, conn.number)
+        let met = met_proxy(self.scenario, recording.conn.server);
+        recording.delivered(self.alloc, met, self.seed, self.number)
     }
 
     /// What a connection contributes.
@@ -57,17 +55,8 @@ impl<'w> UnderScenario<'w> {
         ensures { IfOk result (λ d. d
             ≡ recorded_delivery self.now.seed (self.now.number, self.now.scenario.now) recording.now) }
     {
-        let conn = recording.conn;
-        let recorded = &recording.recorded;
-        let delivered = self.delivered(recording)?;
-        let line = line(self.alloc, conn, recorded, &delivered)?;
-        let segments = segments(self.alloc, conn, recorded, delivered)?;
-        Ok(Delivery {
-            scenario: self.number,
-            conn: conn.number,
-            segments,
-            line,
-        })
+        let met = met_proxy(self.scenario, recording.conn.server);
+        recording.delivery(self.alloc, met, self.seed, self.number)
     }
 
     // An empty text with room for `count` lines.

@@ -14,8 +14,9 @@ use Rattle.run_files.specs.declared.error.RunFault.{RunFault}
 use Rattle.run_files.specs.declared.error.RunFault.TheVariants.{BadDump, CaptureTooLong, TooManyScenarios}
 use Rattle.run_files.specs.Dumps.{is_dump, is_foreign, dumped_bytes, dump_reading, dump_reading_from}
 use Rattle.run_files.specs.RunFault.{run_fault}
-use Rattle.toxicap.specs.Answering.{IsOfText, RefusedByTexts, answer_under, called_for, capture_bytes_of, numbered, scenarios_from}
+use Rattle.toxicap.specs.Answering.{IsOfText, RefusedByTexts, answer_of, capture_bytes_of, inputs_from, numbered, scenarios_from}
 use Rattle.toxicap.specs.Rehearsal.{answer, answer_to, scenario_limit, seen_file}
+use Rattle.toxicap.specs.declared.reading.Inputs.{Inputs}
 
 of_after : {A B : Type 0} (first : Result A RunFault) (next : A → Result B RunFault) → IfErr first IsOfText → ((a : A) → IfErr (next a) IsOfText) → IfErr (and_then first next) IsOfText
 of_after (Ok a) next own rest = rest a
@@ -67,13 +68,20 @@ of_scenarios hosts earlier (text ∷ texts) =
     of_after (numbered (length earlier) (scenario hosts text)) (λ proxies. scenarios_from hosts (earlier ++ proxies ∷ []) texts)
     (of_numbered (length earlier) (scenario hosts text)) (λ proxies. of_scenarios hosts (earlier ++ proxies ∷ []) texts)
 
+abbrev inputs_with : ℕ → List ℕ → List (List Proxy) → Result Inputs RunFault
+inputs_with seed bytes scenarios = Ok (record { capture = bytes; scenarios = scenarios; seed = seed })
+
+abbrev inputs_under : List KnownHost → List (List ℕ) → ℕ → List ℕ → Result Inputs RunFault
+inputs_under hosts texts seed bytes = and_then (scenarios_from hosts [] texts) (inputs_with seed bytes)
+
 pub of_called : RefusedByTexts
-unfolding called_for
+unfolding inputs_from
 of_called hosts texts seed text = by (nat_lt capture_limit (length text))
   where
-    of_bytes : (bytes : List ℕ) → IfErr (answer_under hosts texts seed bytes) IsOfText
-    of_bytes bytes = of_after (scenarios_from hosts [] texts) (λ scenarios. answer bytes scenarios seed) (of_scenarios hosts [] texts) (λ scenarios. of_answer bytes scenarios seed)
-
-    by : (b : Bool) → IfErr (if b then Err CaptureTooLong else and_then (capture_bytes_of text) (answer_under hosts texts seed)) IsOfText
+    by : (b : Bool) → IfErr (and_then (if b then Err CaptureTooLong else and_then (capture_bytes_of text) (inputs_under hosts texts seed)) answer_of) IsOfText
     by true = tt
-    by false = of_after (capture_bytes_of text) (answer_under hosts texts seed) (of_capture_bytes text) of_bytes
+    by false =
+        of_after (and_then (capture_bytes_of text) (inputs_under hosts texts seed)) answer_of
+        (of_after (capture_bytes_of text) (inputs_under hosts texts seed) (of_capture_bytes text)
+        (λ bytes. of_after (scenarios_from hosts [] texts) (inputs_with seed bytes) (of_scenarios hosts [] texts) (λ scenarios. tt)))
+        (λ i. of_answer i.capture i.scenarios i.seed)

@@ -20,3 +20,4 @@ mod SeenReports
 mod ReportLines
 mod OutputsIsolated
 mod InputsKept
+mod MadeOfInputs

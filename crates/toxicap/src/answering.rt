@@ -4,7 +4,7 @@ ghost use Rattle.toxicap.specs.Answering.{called_for};
 ghost use Rattle.toxicap.specs.Inputs.{LoadedBy};
 ghost use Rattle.toxicap.specs.RunEnds.{Step, UnlessMemory};
 
-use crate::crews::{Crew, Workers};
+use crate::crews::Workers;
 use crate::reading::read_inputs;
 use crate::rehearsal::rehearse_by;
 use job_matrix::Plan;
@@ -48,28 +48,6 @@ pub fn answers<H: Threads + Wait + Sync, R: Read>(
         rt,
         plan: options.plan,
     };
-    answers_by(
-        &crew,
-        alloc,
-        Text::of(text),
-        texts,
-        &options.hosts,
-        options.seed,
-    )
-}
-
-/// The answer to a capture's text and the texts of scenarios, whoever does the work.
-pub(crate) fn answers_by<C: Crew>(
-    crew: &C,
-    alloc: Global,
-    text: Text<'_>,
-    texts: &[&[u8]],
-    hosts: &Hosts,
-    seed: u64,
-) -> Result<Outputs, RunFault>
-    requires { C.shares crew.now }
-    ensures { UnlessMemory (called_for hosts.now (map (λ t. t.now) texts.now) seed text.entry) result }
-{
-    let inputs = read_inputs(alloc, text, texts, hosts)?;
-    rehearse_by(crew, alloc, inputs.capture.bytes(), &inputs.scenarios, seed)
+    let inputs = read_inputs(alloc, Text::of(text), texts, &options.hosts, options.seed)?;
+    rehearse_by(&crew, alloc, &inputs)
 }

@@ -1,8 +1,8 @@
 //! Toxiproxy taken offline: recorded TCP sessions replayed through its toxics.
 //!
 //! `rehearse` is the main call; its contract names the definition in `specs/Rehearsal.antt`. `answers` reads the capture and the scenarios
-//! first, and `command` is the program without its hints and what it says on a terminal. `rehearse_alone` and `answers_alone` work by one
-//! thread and take no runtime.
+//! first, and `command` is the program without its hints and what it says on a terminal. `read_inputs`, and what takes its `Inputs`, work by
+//! one thread and take no runtime.
 #![tactic(auto)]
 
 mod answering;
@@ -23,7 +23,8 @@ pub use commands::{command, command_over, refuse_words};
 pub use conn_workers::RunSummary;
 pub use host_lines::read_host_lines;
 pub use job_matrix::{Plan, Through};
-pub use one_thread::{answers_alone, rehearse_alone, report_answers_alone, reports_alone};
+pub use one_thread::{effects_alone, lines_alone, rehearse_alone, reports_alone};
+pub use reading::{Inputs, read_inputs};
 pub use rehearsal::rehearse;
 pub use run_files::{
     Counted, MemoryFile, MemoryShelf, Output, Outputs, RunFault, Shelf, ShelfError, StoreFault,

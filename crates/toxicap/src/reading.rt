@@ -1,17 +1,17 @@
 //! What a rehearsal takes, read of texts.
-ghost use Rattle.std.specs.Prelude.{◌≡◌, ℕ, ◌≤◌, [], IfErr, IfOk, Err, Ok, length, map};
+ghost use Rattle.std.specs.Prelude.{◌≡◌, ℕ, ◌≤◌, [], IfErr, IfOk, Ok, length, map};
 ghost use Rattle.lists.specs.Agreement.{AgreesUnlessMemory, Refuses};
 ghost use Rattle.conn_table.specs.SeenCapture.{seen_capture};
 ghost use Rattle.pcap_records.specs.CaptureView.{bytes_of, contents_of};
 ghost use Rattle.pcap_records.specs.Reading.{reading};
 ghost use Rattle.run_files.specs.RunFault.{run_refusal};
 ghost use Rattle.scenarios.specs.Populate.{scenario};
-ghost use Rattle.toxicap.specs.Answering.{called_for, capture_bytes_of, numbered, scenarios_from};
+ghost use Rattle.toxicap.specs.Answering.{inputs_from, numbered, scenarios_from};
 ghost use Rattle.toxicap.specs.CaptureOutputs.{outputs_for};
 ghost use Rattle.toxicap.specs.Rehearsal.{answer, scenario_limit, seen_file};
 ghost use Rattle.toxicap.specs.RunEnds.{UnlessMemory};
 
-use pcap_records::{CAPTURE_LIMIT, Capture, FileBytes, read_file};
+use pcap_records::{CAPTURE_LIMIT, Capture, FileBytes, Values, read_file};
 use run_files::{RunFault, Text};
 use scenarios::{Hosts, Scenario, ScenarioFault, read_scenario};
 use std::alloc::{AllocError, Global};
@@ -19,36 +19,43 @@ use std::alloc::{AllocError, Global};
 /// The most scenarios of a rehearsal.
 pub(crate) const SCENARIO_LIMIT: usize = 256;
 
+/// What a rehearsal takes.
 #[derive(Drop)]
-pub(crate) struct Inputs<'t> {
-    // The bytes of the capture, of a dump those that it holds.
-    pub(crate) capture: Text<'t>,
-    pub(crate) scenarios: Vec<Scenario>,
+pub struct Inputs<'t> {
+    /// The bytes of the capture; of a dump, those that it holds.
+    pub capture: Text<'t>,
+    /// The scenarios.
+    pub scenarios: Values<Scenario>,
+    /// What random words are drawn from.
+    pub seed: u64,
 }
 
-/// Reads the text of a capture, which may be a dump of it, and the texts of scenarios.
+/// Reads the text of a capture, which may be a dump of it, and the texts of scenarios, whose upstreams may name these hosts.
 ///
 /// # Errors
-/// What they call for, whatever the seed: `CaptureTooLong`, `BadDump`, or `BadScenario` for the first text that is refused; or `Memory`.
-#[tactic(auto, unfolding(crate::specs::Answering::called_for))]
-pub(crate) fn read_inputs<'t>(
+/// `CaptureTooLong`, `BadDump`, `BadScenario` for the first text that is refused; or `Memory`.
+#[tactic(auto, unfolding(crate::specs::Answering::inputs_from))]
+pub fn read_inputs<'t>(
     alloc: Global,
     text: Text<'t>,
     texts: &[&[u8]],
     hosts: &Hosts,
+    seed: u64,
 ) -> Result<Inputs<'t>, RunFault>
-    ensures taken { IfOk result (λ i. (seed : ℕ) → called_for hosts.now (map (λ t. t.now) texts.now) seed text.entry ≡ answer i.capture i.scenarios.items seed) }
-    ensures one_each { IfOk result (λ i. length i.scenarios.items ≡ length texts.now) }
-    ensures read { IfOk result (λ i. (capture_bytes_of text.entry ≡ Ok i.capture) × (scenarios_from hosts.now [] (map (λ t. t.now) texts.now) ≡ Ok i.scenarios.items)) }
-    ensures refused { IfErr result (λ fault. (seed : ℕ) → UnlessMemory (called_for hosts.now (map (λ t. t.now) texts.now) seed text.entry) (Err fault)) }
+    ensures inputs { UnlessMemory (inputs_from hosts.now (map (λ t. t.now) texts.now) seed text.entry) result }
+    ensures one_each { IfOk result (λ i. length i.scenarios ≡ length texts.now) }
 {
     let len = text.bytes().len();
     if len > CAPTURE_LIMIT {
         return Err(RunFault::CaptureTooLong);
     }
     let capture = text.undumped(alloc)?;
-    let scenarios = read_texts(alloc, texts, hosts)?;
-    Ok(Inputs { capture, scenarios })
+    let scenarios = Values::of(read_texts(alloc, texts, hosts)?);
+    Ok(Inputs {
+        capture,
+        scenarios,
+        seed,
+    })
 }
 
 #[tactic(auto, unfolding(crate::specs::Answering::scenarios_from))]

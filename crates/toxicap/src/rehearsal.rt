@@ -1,6 +1,6 @@
 //! Rehearsing a capture.
 ghost use Rattle.lists.specs.Agreement.{Agrees};
-ghost use Rattle.pcap_records.specs.CaptureView.{bytes_of};
+ghost use Rattle.toxicap.specs.Answering.{answer_of};
 ghost use Rattle.toxicap.specs.CaptureOutputs.{outputs_for};
 ghost use Rattle.toxicap.specs.Rehearsal.{answer, scenario_limit};
 ghost use Rattle.run_files.specs.RunFault.{run_refusal};
@@ -9,7 +9,7 @@ ghost use Rattle.std.specs.Prelude.{◌≡◌, ◌≤◌, IfOk, length};
 mod gathering;
 
 use crate::crews::Crew;
-use crate::reading::read_rehearsed;
+use crate::reading::{Inputs, read_rehearsed};
 use crate::reports::report_heads;
 use crate::sources::Sources;
 use conn_table::laws::indexed_connections_agree;
@@ -77,22 +77,21 @@ fn list_outputs<R: Threads + Sync, G: Gate>(
     Ok(outputs)
 }
 
-/// Rehearses as [`rehearse`] does, by a crew, a capture wherever its bytes stand.
+/// Rehearses as [`rehearse`] does, by a crew, inputs that were read.
 ///
 /// # Errors
 /// Those of [`rehearse`].
 pub(crate) fn rehearse_by<C: Crew>(
     crew: &C,
     alloc: Global,
-    capture: FileBytes<'_>,
-    scenarios: &[Scenario],
-    seed: u64,
+    inputs: &Inputs<'_>,
 ) -> Result<Outputs, RunFault>
     requires { C.shares crew.now }
-    ensures { Agrees run_refusal (λ outputs. outputs) result (answer (bytes_of capture.entry) scenarios.now seed) }
+    ensures { Agrees run_refusal (λ outputs. outputs) result (answer_of inputs.now) }
 {
-    let capture = read_rehearsed(alloc, capture, scenarios)?;
-    let outputs = outputs_by(crew, alloc, capture, scenarios, seed)?;
+    let scenarios = inputs.scenarios.as_slice();
+    let capture = read_rehearsed(alloc, inputs.capture.bytes(), scenarios)?;
+    let outputs = outputs_by(crew, alloc, capture, scenarios, inputs.seed)?;
     Ok(outputs)
 }
 

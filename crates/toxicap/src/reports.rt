@@ -6,11 +6,11 @@ ghost use Rattle.toxicap.specs.HeadsAndRows.{heads_of};
 ghost use Rattle.run_files.specs.WrittenOutputs.{reports_of};
 ghost use Rattle.std.specs.Prelude.{◌≡◌, ◌≤◌, IfOk, List, Ok, length, map, ℕ};
 ghost use Rattle.run_files.specs.SeenTexts.{IsSeenOf};
-ghost use Rattle.toxicap.specs.Answering.{called_for};
+ghost use Rattle.toxicap.specs.Answering.{answer_of, called_for};
 ghost use Rattle.toxicap.specs.RunSummaries.{summary_of_bytes, summary_of_texts};
 ghost use Rattle.conn_workers.specs.CaptureTables.{whole_table};
 ghost use Rattle.conn_workers.specs.RunSummaries.{run_summary};
-ghost use Rattle.pcap_records.specs.CaptureView.{bytes_of, capture_refusal, contents_of};
+ghost use Rattle.pcap_records.specs.CaptureView.{capture_refusal, contents_of};
 ghost use Rattle.run_files.specs.RunFault.{run_refusal};
 ghost use Rattle.conn_table.specs.SeenCapture.{seen_capture};
 ghost use Rattle.lists.specs.Agreement.{Agrees, AgreesUnlessMemory};
@@ -20,12 +20,12 @@ ghost use Rattle.toxicap.specs.Rehearsal.{answer, scenario_limit};
 mod held_reports;
 
 use crate::crews::Crew;
-use crate::reading::{SCENARIO_LIMIT, read_inputs, read_rehearsed, read_texts};
+use crate::reading::{Inputs, SCENARIO_LIMIT, read_inputs, read_rehearsed, read_texts};
 use conn_table::Table;
 use conn_workers::laws::lines_are_contributed;
 use conn_workers::{RunSummary, conns_together, run_summary};
 use held_reports::HeldReports;
-use pcap_records::{Capture, CaptureFault, FileBytes, KeptHeads};
+use pcap_records::{Capture, CaptureFault, KeptHeads};
 use report::{ReportText, report_head};
 use report_laws::laws::report_sees_heads;
 use run_files::{RunFault, SeenText, Text};
@@ -59,8 +59,8 @@ pub(crate) fn seen_reports<C: Crew>(
     }
 }
 
-/// The same of the whole text of a capture.
-pub(crate) fn text_reports<C: Crew>(
+// The same of the whole text of a capture.
+fn text_reports<C: Crew>(
     crew: &C,
     alloc: Global,
     text: Text<'_>,
@@ -72,8 +72,8 @@ pub(crate) fn text_reports<C: Crew>(
     ensures reports { AgreesUnlessMemory run_refusal (λ made. made.0) result (reports_in (called_for hosts.now (map (λ t. t.now) texts.now) seed text.entry)) }
     ensures summary { IfOk result (λ made. summary_of_texts hosts.now (map (λ t. t.now) texts.now) text.entry ≡ Ok made.1) }
 {
-    let inputs = read_inputs(alloc, text, texts, hosts)?;
-    rehearse_reports(crew, alloc, inputs.capture.bytes(), &inputs.scenarios, seed)
+    let inputs = read_inputs(alloc, text, texts, hosts, seed)?;
+    rehearse_reports(crew, alloc, &inputs)
 }
 
 // The same of the heads of a capture's packets, or its first fault.
@@ -105,16 +105,15 @@ fn head_reports<C: Crew>(
 pub(crate) fn rehearse_reports<C: Crew>(
     crew: &C,
     alloc: Global,
-    capture: FileBytes<'_>,
-    scenarios: &[Scenario],
-    seed: u64,
+    inputs: &Inputs<'_>,
 ) -> Result<MadeReports, RunFault>
     requires { C.shares crew.now }
-    ensures reports { Agrees run_refusal (λ made. made.0) result (reports_in (answer (bytes_of capture.entry) scenarios.now seed)) }
-    ensures summary { IfOk result (λ made. summary_of_bytes (bytes_of capture.entry) scenarios.now ≡ Ok made.1) }
+    ensures reports { Agrees run_refusal (λ made. made.0) result (reports_in (answer_of inputs.now)) }
+    ensures summary { IfOk result (λ made. summary_of_bytes inputs.now.capture inputs.now.scenarios ≡ Ok made.1) }
 {
-    let capture = read_rehearsed(alloc, capture, scenarios)?;
-    let made = made_reports(crew, alloc, &capture, scenarios, seed)?;
+    let scenarios = inputs.scenarios.as_slice();
+    let capture = read_rehearsed(alloc, inputs.capture.bytes(), scenarios)?;
+    let made = made_reports(crew, alloc, &capture, scenarios, inputs.seed)?;
     Ok(made)
 }
 

@@ -3,14 +3,15 @@ ghost use Rattle.std.specs.Prelude.{◌≡◌, ◌+◌, ◌-◌, ◌^◌, ◌<�
 ghost use Rattle.lists.specs.Agreement.{Agrees};
 ghost use Rattle.conn_table.specs.SeenCapture.{seen_capture};
 ghost use Rattle.conn_workers.specs.RunSummaries.{run_summary};
-ghost use Rattle.pcap_records.specs.CaptureView.{bytes_of, contents_of};
+ghost use Rattle.pcap_records.specs.CaptureView.{contents_of};
 ghost use Rattle.run_files.specs.declared.error.RunFault.{RunFault};
 ghost use Rattle.run_files.specs.declared.outputs.Output.{Output};
 ghost use Rattle.run_files.specs.Folders.{CommitsIn, failed_stores, Leaves};
 ghost use Rattle.run_files.specs.RunFault.{outcome_of_storing, run_refusal};
 ghost use Rattle.run_files.specs.WrittenOutputs.{files_from, stored_before};
+ghost use Rattle.toxicap.specs.Answering.{answer_of};
 ghost use Rattle.toxicap.specs.CaptureOutputs.{outputs_for, outputs_from};
-ghost use Rattle.toxicap.specs.Rehearsal.{answer, scenario_limit};
+ghost use Rattle.toxicap.specs.Rehearsal.{scenario_limit};
 ghost use Rattle.toxicap.specs.RunEnds.{Step, without_value};
 ghost use Rattle.toxicap.specs.RunSummaries.{summary_of_bytes};
 ghost use Rattle.toxicap.specs.StoredOutputs.{StoresFiles};
@@ -18,19 +19,19 @@ ghost use Rattle.toxicap.specs.StoredOutputs.{StoresFiles};
 mod drafting;
 
 use crate::crews::{Crew, Workers};
-use crate::reading::read_rehearsed;
+use crate::reading::{Inputs, read_rehearsed};
 use crate::reports::report_heads;
 use crate::sources::Sources;
 use conn_workers::{RunSummary, run_summary, seen_conns};
 use disks::Disk;
 use drafting::drafts_from;
-use pcap_records::{Capture, FileBytes};
+use pcap_records::Capture;
 use run_files::{Folder, RunFault, StoreFault, store_draft};
 use scenarios::Scenario;
 use std::alloc::Global;
 use std::thread::Threads;
 
-/// Rehearses a capture under each of the scenarios and puts the files of their outputs into a folder, in order. They are those that `store_all`
+/// Rehearses as `rehearse` does and puts the files of their outputs into a folder, in order. They are those that `store_all`
 /// puts of what `rehearse` answers. The folder is held once the capture is read, if there is a scenario. At one time at most one scenario
 /// for each worker has its rows in memory, and at most two for each worker have drafts. It returns the summary of the run.
 ///
@@ -40,9 +41,7 @@ use std::thread::Threads;
 pub(crate) fn store_rehearsal<R: Threads + Sync, D: Disk + Sync>(
     crew: &Workers<'_, R>,
     alloc: Global,
-    capture: FileBytes<'_>,
-    scenarios: &[Scenario],
-    seed: u64,
+    inputs: &Inputs<'_>,
     folder: &Folder<'_>,
     disk: &mut D,
 ) -> Result<RunSummary, RunFault>
@@ -50,16 +49,17 @@ where
     D::Draft: Send,
     requires { D.faults disk.old < 2 ^ 64 - 1 }
     ensures leaves { Leaves folder.now (D.standing disk.old) (D.standing disk.new) }
-    ensures swept { OnOk result (0 < length scenarios.now → D.is_swept disk.new folder.now.path folder.now.read) }
+    ensures swept { OnOk result (0 < length inputs.now.scenarios → D.is_swept disk.new folder.now.path folder.now.read) }
     ensures stored { Step (λ (made : Result (List Output) RunFault). Agrees run_refusal (λ outputs. outputs) made
-        (answer (bytes_of capture.entry) scenarios.now seed)) (without_value result) (D.history disk.new ≡ D.history disk.old)
+        (answer_of inputs.now)) (without_value result) (D.history disk.new ≡ D.history disk.old)
         (λ outputs. StoresFiles (without_value result) (files_from 0 outputs) (CommitsIn folder.now.path (D.history disk.old) (D.history disk.new))) }
     ensures faults { D.faults disk.new ≡ D.faults disk.old + failed_stores folder.now.path (without_value result) }
-    ensures summary { IfOk result (λ summary. summary_of_bytes (bytes_of capture.entry) scenarios.now ≡ Ok summary) }
+    ensures summary { IfOk result (λ summary. summary_of_bytes inputs.now.capture inputs.now.scenarios ≡ Ok summary) }
 {
-    let capture = read_rehearsed(alloc, capture, scenarios)?;
+    let scenarios = inputs.scenarios.as_slice();
+    let capture = read_rehearsed(alloc, inputs.capture.bytes(), scenarios)?;
     hold_for(alloc, scenarios, folder, disk)?;
-    store_outputs(crew, alloc, capture, scenarios, seed, folder, disk)
+    store_outputs(crew, alloc, capture, scenarios, inputs.seed, folder, disk)
 }
 
 // Without a scenario the folder is not looked at.

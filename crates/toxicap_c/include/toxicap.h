@@ -24,7 +24,7 @@
  *   - `inputs` and `sizes` are not null.
  *   - An output overlaps no other output and no input, and no other thread touches one during the call. Inputs may overlap each other, and are
  *     not changed by anyone during the call.
- *   - The thread has 256 KB of stack left.
+ *   - The thread has 256 KB of stack left. With 28 KB most calls crash, with 40 KB those of JSON that nests deeply.
  *   - No call is made in a signal handler, or in a process that was forked from one with threads.
  *   - If `malloc`, `realloc` and `free` are not the C library's, they are those of one allocator, which aligns a block to each power of
  *     two up to 16 that divides its size.
@@ -36,6 +36,17 @@
 #include <stddef.h>
 #include <stdint.h>
 
+/* The version of this header, which the library has too: 10,000 times the major number, 100 times the minor one, and the patch number. */
+#define TOXICAP_VERSION 10000
+#define TOXICAP_VERSION_TEXT "1.0.0"
+
+/* A result that is not to be left unused. */
+#if defined __GNUC__
+#define TOXICAP_CHECKED __attribute__((warn_unused_result))
+#else
+#define TOXICAP_CHECKED
+#endif
+
 #ifdef __cplusplus
 extern "C" {
 #endif
@@ -44,7 +55,7 @@ extern "C" {
 enum {
     /* Answered: the outputs are written, and `sizes` says how much of each. What stands after that in a buffer is as it was. */
     TOXICAP_ANSWERED = 0,
-    /* Refused: at the start of `reports` (of a transcript: `bytes`) stands the line that the program prints, such as
+    /* Refused: at the start of `reports` (of lines: `bytes`) stands the line that the program prints, such as
        `refused 5 RecordTooLong at 0`, and after a line feed what helps, in one line. Neither a line feed nor a zero byte stands at the end.
        Its length is in `sizes.reports` (`sizes.bytes`); the other sizes are 0, and the other buffers are as they were. docs/use/refusals.md has
        all refusals. `refused 40 Memory` is lack of memory, also for the text of another refusal; it stands without a second line. */
@@ -97,6 +108,7 @@ typedef struct {
  *
  * Gives the status.
  */
+TOXICAP_CHECKED
 uint8_t toxicap_rehearse(
     const ToxicapInputs *inputs,
     uint8_t *captures, size_t captures_room,
@@ -110,34 +122,36 @@ uint8_t toxicap_rehearse(
  *
  * Gives the status.
  */
+TOXICAP_CHECKED
 uint8_t toxicap_reports(
     const ToxicapInputs *inputs,
     uint8_t *reports, size_t reports_room,
     ToxicapSizes *sizes);
 
-/* Bytes of a direction that came at once. */
+/* Bytes of a direction that come at once. */
 typedef struct {
     uint64_t end;  /* the number of the direction's bytes up to the chunk's last */
-    uint64_t time; /* when it came, in nanoseconds since the opening */
+    uint64_t time; /* when it comes, in nanoseconds since the opening */
 } ToxicapChunk;
 
 /* How a direction ends. */
 enum {
-    TOXICAP_OPEN = 0,    /* not at all */
-    TOXICAP_FIN = 1,     /* by a FIN, or a close by a toxic */
-    TOXICAP_RESET = 2,   /* by a reset */
-    TOXICAP_REFUSED_CONNECTION = 3 /* by a reset without an answer of the server, where a proxy is disabled */
+    TOXICAP_OPEN = 0,              /* not at all */
+    TOXICAP_FIN = 1,               /* by a FIN */
+    TOXICAP_CLOSE = 2,             /* by a close of a toxic, which an output capture has as a FIN */
+    TOXICAP_RESET = 3,             /* by a reset */
+    TOXICAP_REFUSED_CONNECTION = 4 /* a disabled proxy refuses the connection */
 };
 
-/* What one side of a connection sent, as the other side received it. */
+/* What one side of a connection sent, as the other side receives it. */
 typedef struct {
     uint64_t bytes;    /* the number of its bytes */
     uint64_t chunks;   /* the number of its chunks */
-    uint64_t end_time; /* when it ended, in nanoseconds since the opening; 0 if it did not */
-    uint64_t end;      /* how it ended, such as TOXICAP_FIN */
+    uint64_t end_time; /* when it ends, in nanoseconds since the opening; 0 if it does not, or the connection is refused */
+    uint64_t end;      /* how it ends, such as TOXICAP_FIN */
 } ToxicapDirection;
 
-/* A connection. */
+/* A connection in a scenario. */
 typedef struct {
     uint64_t opened;         /* when it was opened, in nanoseconds since 1970 */
     ToxicapDirection up;     /* what the client sent */
@@ -149,32 +163,57 @@ typedef struct {
     uint32_t vlan;           /* the number of the VLAN, or 0 without one */
 } ToxicapConnection;
 
-/* How much is written of each output of a transcript, or is required. */
+/* How much is written of each output of `toxicap_lines`, or is required. */
 typedef struct {
     size_t bytes;       /* if the call is refused, those of its text */
     size_t chunks;      /* entries */
-    size_t connections; /* entries */
-} ToxicapTranscriptSizes;
+    size_t connections; /* entries: for each scenario one for each connection */
+} ToxicapLinesSizes;
 
 /*
- * What both sides of each connection sent and when, of a recording, or a dump of one: what the rules say that was recorded, in order, without
- * repeats, and no byte behind a gap. An output capture is read as a recording is: bytes of one time are one chunk, bytes at the time of a reset may
- * lack, and where a connection's ports are used again, so do its bytes after the other's SYN.
+ * What each side of each connection receives in each scenario, and when: what the output captures of `toxicap_rehearse` hold, without headers. No
+ * capture is made, which takes less time and memory.
  *
- *   bytes            room for the bytes of all directions, one right after another: of connection 0 what the client sent, then what the server
- *                    sent, then of connection 1 and so on; or for a refusal's text; bytes_room bytes
+ *   bytes            room for the bytes of all directions, one right after another: of scenario 0 those of connection 0, first what the client
+ *                    sent, then what the server sent, then of connection 1 and so on, then of scenario 1; or for a refusal's text;
+ *                    bytes_room bytes
  *   chunks           room for the chunks of all directions, in the same order; chunks_room ENTRIES
- *   connections      room for the connections, in order of their numbers; connections_room ENTRIES
+ *   connections      room for the connections, scenario after scenario, in each in order of their numbers; connections_room ENTRIES
  *   sizes            what was written, or is required
  *
  * Gives the status.
  */
-uint8_t toxicap_transcript(
-    const uint8_t *capture, size_t capture_len,
+TOXICAP_CHECKED
+uint8_t toxicap_lines(
+    const ToxicapInputs *inputs,
     uint8_t *bytes, size_t bytes_room,
     ToxicapChunk *chunks, size_t chunks_room,
     ToxicapConnection *connections, size_t connections_room,
-    ToxicapTranscriptSizes *sizes);
+    ToxicapLinesSizes *sizes);
+
+/* How much is written of each output of `toxicap_effects`, or is required. */
+typedef struct {
+    size_t counts; /* entries */
+    size_t text;   /* bytes of a refusal's text */
+} ToxicapEffectSizes;
+
+/*
+ * What each toxic does: for each proxy, scenario after scenario, how many connections meet it, and then for each of its toxics, those of what
+ * the client sends first, how many draw it by its toxicity, and how many have another line of the report, or other records in the output
+ * capture, than if the toxic were switched off. That toxic keeps its place, so all else is drawn as before.
+ *
+ *   counts           room for the numbers: one for each proxy and two for each toxic; counts_room ENTRIES
+ *   text             room for a refusal's text; text_room bytes
+ *   sizes            what was written, or is required
+ *
+ * Gives the status.
+ */
+TOXICAP_CHECKED
+uint8_t toxicap_effects(
+    const ToxicapInputs *inputs,
+    uint64_t *counts, size_t counts_room,
+    uint8_t *text, size_t text_room,
+    ToxicapEffectSizes *sizes);
 
 #ifdef __cplusplus
 }

@@ -5,7 +5,6 @@ use Rattle.std.proofs.lemmas.List.{take_more}
 use Rattle.std.proofs.lemmas.List.Concat.{flat_map-append}
 use Rattle.std.proofs.lemmas.List.Folds.{length-flat_map-take}
 use Rattle.std.proofs.Math.Seq.{take-append_seam, drop-append-add}
-use Rattle.run_files.specs.declared.outputs.Output.{Output}
 use Rattle.toxicap_c.specs.Buffers.{laid_over}
 
 laid_more : (done items old : List ℕ) (at : ℕ) → at ≡ length done
@@ -18,18 +17,18 @@ laid_more done items old at is =
     ∙ sym (append_assoc done items (drop (length done + length items) old))
     ∙ ap (λ n. (done ++ items) ++ drop n old) (sym (length-append done items))
 
-part_more : (part : Output → List ℕ) (outputs : List Output) (i : ℕ) (d : Output) → i < length outputs
+part_more : {P : Type 0} (part : P → List ℕ) (outputs : List P) (i : ℕ) (d : P) → i < length outputs
     → flat_map part (take (i + 1) outputs) ≡ flat_map part (take i outputs) ++ part (get_or outputs i d)
 part_more part outputs i d within =
     ap (flat_map part) (take_more outputs i d within)
     ∙ flat_map-append part (take i outputs) (get_or outputs i d ∷ [])
     ∙ ap (λ (more : List ℕ). flat_map part (take i outputs) ++ more) (append-nil (part (get_or outputs i d)))
 
--- a part of the first `i` outputs is laid over a buffer, and ends at `at`
-abbrev pub IsLaid : (Output → List ℕ) → List Output → ℕ → ℕ → List ℕ → List ℕ → Type 0
+-- a part of each of the first `i` is laid over a buffer, and ends at `at`
+abbrev pub IsLaid : {P : Type 0} → (P → List ℕ) → List P → ℕ → ℕ → List ℕ → List ℕ → Type 0
 IsLaid part outputs i at now old = (at ≡ length (flat_map part (take i outputs))) × (now ≡ laid_over (flat_map part (take i outputs)) old)
 
-module _ (part : Output → List ℕ) (outputs : List Output) (i at : ℕ) (d : Output) (items before old : List ℕ) (within : i < length outputs)
+module _ {P : Type 0} (part : P → List ℕ) (outputs : List P) (i at : ℕ) (d : P) (items before old : List ℕ) (within : i < length outputs)
     (own : items ≡ part (get_or outputs i d)) (laid : IsLaid part outputs i at before old) where
   pub part_fits : (room : ℕ) → length (flat_map part outputs) ≤ room → at + length items ≤ room
   part_fits room all = omega (arith, laid.0, ap length own, all, length-flat_map-take part outputs i d within)

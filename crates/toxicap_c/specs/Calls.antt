@@ -1,15 +1,13 @@
--- What the inputs of a call call for, and how the call ends.
+-- What the inputs of a call call for.
 use Rattle.std.specs.Prelude.{ℕ, List, [], ◌∷◌, take, drop, Result, Ok, Err}
 use Rattle.scenarios.specs.Refusals.{and_then}
 use Rattle.run_files.specs.declared.error.RunFault.{RunFault}
-use Rattle.run_files.specs.declared.outputs.Output.{Output}
-use Rattle.toxicap.specs.Answering.{called_for}
+use Rattle.toxicap.specs.Answering.{inputs_from}
 use Rattle.toxicap.specs.HostLines.{host_lines}
 use Rattle.toxicap.specs.Inputs.{hosts_from}
+use Rattle.toxicap.specs.declared.reading.Inputs.{Inputs}
 use Rattle.toxicap_c.specs.declared.inputs.ToxicapInputs.{ToxicapInputs}
-use Rattle.toxicap_c.specs.declared.sizes.ToxicapSizes.{ToxicapSizes}
-use Rattle.toxicap_c.specs.Buffers.{Buffers, put_of, put_of_reports, no_sizes, Puts}
-use Rattle.toxicap_c.specs.Endings.{EndsWith}
+use Rattle.toxicap_c.specs.Buffers.{Buffers}
 
 -- texts one after another: each is the next `len` bytes, or those that are left
 abbrev pub texts_in : List ℕ → List ℕ → List (List ℕ)
@@ -19,18 +17,14 @@ texts_in bytes (len ∷ lens) = take len bytes ∷ texts_in (drop len bytes) len
 abbrev pub texts_of : ToxicapInputs → List (List ℕ)
 texts_of i = texts_in i.scenarios.now i.scenario_lens.now
 
--- the outputs, or the first refusal: of the hosts, then of what the texts call for
-abbrev pub asked_for : ToxicapInputs → Result (List Output) RunFault
-asked_for i = and_then (hosts_from [] (host_lines i.hosts.now)) (λ known. called_for known (texts_of i) i.seed i.capture.now)
+-- what a rehearsal takes, or the first refusal: of the hosts, then of the texts
+abbrev pub inputs_asked : ToxicapInputs → Result Inputs RunFault
+inputs_asked i = and_then (hosts_from [] (host_lines i.hosts.now)) (λ known. inputs_from known (texts_of i) i.seed i.capture.now)
 
-abbrev pub answer_put : Result (List Output) RunFault → Result Buffers RunFault
-answer_put (Ok outputs) = Ok (put_of outputs)
-answer_put (Err fault) = Err fault
+abbrev pub put_by : {V A C : Type 0} → (V → Buffers A C) → Result V RunFault → Result (Buffers A C) RunFault
+put_by put (Ok made) = Ok (put made)
+put_by put (Err fault) = Err fault
 
-abbrev pub reports_put : Result (List ℕ) RunFault → Result Buffers RunFault
-reports_put (Ok reports) = Ok (put_of_reports reports)
-reports_put (Err fault) = Err fault
-
--- how a call of the first two kinds ends
-abbrev pub EndsAs : ℕ → Result Buffers RunFault → ℕ → Buffers → Buffers → ToxicapSizes → Type 0
-EndsAs = EndsWith Puts put_of_reports no_sizes
+-- what is put into the buffers if `make` says what is made of the inputs
+abbrev pub asked_for : {V A C : Type 0} → (V → Buffers A C) → (Inputs → Result V RunFault) → ToxicapInputs → Result (Buffers A C) RunFault
+asked_for put make i = put_by put (and_then (inputs_asked i) make)

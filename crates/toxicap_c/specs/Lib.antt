@@ -3,4 +3,3 @@ pub mod Buffers
 pub mod Refusals
 pub mod Endings
 pub mod Calls
-pub mod TranscriptCalls

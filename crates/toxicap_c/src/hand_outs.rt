@@ -1,9 +1,12 @@
 //! What is put into the buffers of a caller.
-ghost use Rattle.std.specs.Prelude.{◌≡◌, [], ◌+◌, ◌≤◌, ◌++◌, drop, length, take};
+ghost use Rattle.std.specs.Prelude.{◌≡◌, ℕ, List, [], ◌+◌, ◌≤◌, ◌++◌, drop, length, take};
+ghost use Rattle.std.specs.List.{flat_map};
+ghost use Rattle.laid_lines.specs.RecordedLines.{flat_view};
 ghost use Rattle.run_files.specs.WrittenOutputs.{reports_of};
-ghost use Rattle.toxicap_c.specs.Buffers.{Puts, PutsText, buffers, captures_of, laid_over, lens_of, put_of, put_of_reports, sizes_of};
+ghost use Rattle.toxicap_c.specs.Buffers.{Puts, PutsText, buffers, captures_of, effect_sizes, put_of_counts, laid_over, lens_of, lines_sizes, output_sizes, put_of, put_of_lines, put_of_reports, sizes_by};
 
-use crate::sizes::{ToxicapSizes, no_sizes};
+use crate::sizes::{ToxicapEffectSizes, ToxicapLinesSizes, ToxicapSizes, effect_sizes, no_sizes};
+use laid_lines::{LaidLines, ToxicapChunk, ToxicapConnection};
 use run_files::Output;
 
 /// Puts a text over the first bytes of a buffer if it fits, and returns whether it does.
@@ -19,7 +22,7 @@ pub(crate) fn put_text(text: &[u8], buffer: &mut [u8]) -> bool
 
 /// The same of reports, with their sizes.
 pub(crate) fn put_reports(text: &[u8], reports: &mut [u8], sizes: &mut ToxicapSizes) -> bool
-    ensures { Puts (put_of_reports text.now) result (buffers [] reports.old []) (buffers [] reports.new []) sizes.new }
+    ensures { Puts output_sizes (put_of_reports text.now) result (buffers [] reports.old []) (buffers [] reports.new []) sizes.new }
 {
     *sizes = ToxicapSizes {
         reports: text.len(),
@@ -37,8 +40,8 @@ pub(crate) fn put_outputs(
     lens: &mut [usize],
     sizes: &mut ToxicapSizes,
 ) -> bool
-    requires { expected ≡ sizes_of (put_of outputs.now) }
-    ensures { Puts (put_of outputs.now) result (buffers captures.old reports.old lens.old) (buffers captures.new reports.new lens.new) sizes.new }
+    requires { expected ≡ sizes_by output_sizes (put_of outputs.now) }
+    ensures { Puts output_sizes (put_of outputs.now) result (buffers captures.old reports.old lens.old) (buffers captures.new reports.new lens.new) sizes.new }
 {
     *sizes = expected;
     if expected.captures > captures.len() {
@@ -72,8 +75,58 @@ fn put_each(outputs: &[Output], captures: &mut [u8], reports: &mut [u8], lens: &
     }
 }
 
-/// Puts items over those of a buffer from a place on.
-pub(crate) fn put_at<T: Copy>(buffer: &mut [T], at: usize, items: &[T])
+/// The same of lines.
+pub(crate) fn put_lines(
+    lines: &LaidLines<'_>,
+    expected: ToxicapLinesSizes,
+    bytes: &mut [u8],
+    chunks: &mut [ToxicapChunk],
+    connections: &mut [ToxicapConnection],
+    sizes: &mut ToxicapLinesSizes,
+) -> bool
+    requires { expected ≡ sizes_by lines_sizes (put_of_lines (flat_view lines.now)) }
+    ensures { Puts lines_sizes (put_of_lines (flat_view lines.now)) result (buffers chunks.old bytes.old connections.old)
+        (buffers chunks.new bytes.new connections.new) sizes.new }
+{
+    *sizes = expected;
+    if expected.bytes > bytes.len() {
+        return false;
+    }
+    if expected.chunks > chunks.len() || expected.connections > connections.len() {
+        return false;
+    }
+    put_pieces(bytes, &lines.pieces);
+    put_at(chunks, 0, &lines.chunks);
+    put_at(connections, 0, &lines.connections);
+    true
+}
+
+/// The same of counts.
+pub(crate) fn put_counts(found: &[u64], counts: &mut [u64], sizes: &mut ToxicapEffectSizes) -> bool
+    ensures { (text : List ℕ) → Puts effect_sizes (put_of_counts found.now) result (buffers counts.old text []) (buffers counts.new text []) sizes.new }
+{
+    *sizes = effect_sizes(found.len(), 0);
+    if found.len() > counts.len() {
+        return false;
+    }
+    put_at(counts, 0, found);
+    true
+}
+
+fn put_pieces(buffer: &mut [u8], pieces: &[&[u8]])
+    requires { length (flat_map (λ p. p.now) pieces.now) ≤ length buffer.old }
+    ensures { buffer.new ≡ laid_over (flat_map (λ p. p.now) pieces.now) buffer.old }
+{
+    let mut at = 0;
+    for number in 0..pieces.len() {
+        let piece = pieces[number];
+        put_at(buffer, at, piece);
+        at += piece.len();
+    }
+}
+
+// Puts items over those of a buffer from a place on.
+fn put_at<T: Copy>(buffer: &mut [T], at: usize, items: &[T])
     requires { at + length items.now ≤ length buffer.old }
     ensures { buffer.new ≡ take at buffer.old ++ (items.now ++ drop (at + length items.now) buffer.old) }
 {

@@ -1,16 +1,28 @@
 //! The inputs of a call, and what they call for.
-ghost use Rattle.std.specs.Prelude.{◌≡◌, IfOk};
+ghost use Rattle.std.specs.Prelude.{◌≡◌, IfOk, Result};
 ghost use Rattle.lists.specs.Agreement.{AgreesUnlessMemory};
 ghost use Rattle.run_files.specs.RunFault.{run_refusal};
+ghost use Rattle.run_files.specs.declared.error.RunFault.{RunFault};
+ghost use Rattle.scenarios.specs.Refusals.{and_then};
+ghost use Rattle.effects.specs.EffectCounts.{effects_in};
+ghost use Rattle.laid_lines.specs.FlatLines.{flat_lines};
+ghost use Rattle.laid_lines.specs.RecordedLines.{flat_view};
+ghost use Rattle.toxicap.specs.Answering.{answer_of, made_of};
 ghost use Rattle.toxicap.specs.PrintedReports.{reports_in};
-ghost use Rattle.toxicap_c.specs.Buffers.{put_of, sizes_of};
-ghost use Rattle.toxicap_c.specs.Calls.{answer_put, asked_for};
+ghost use Rattle.toxicap.specs.RunEnds.{UnlessMemory};
+ghost use Rattle.toxicap.specs.declared.reading.Inputs.{Inputs};
+ghost use Rattle.toxicap_c.specs.Buffers.{lines_sizes, output_sizes, put_of, put_of_lines, sizes_by};
+ghost use Rattle.toxicap_c.specs.Calls.{inputs_asked};
 
-use crate::sizes::{ToxicapSizes, sizes_of};
+use crate::sizes::{ToxicapLinesSizes, ToxicapSizes, lines_sizes_of, sizes_of};
+use laid_lines::LaidLines;
+use lists::Values;
 use report::ReportText;
-use run_files::{Outputs, RunFault};
+use run_files::{Outputs, RunFault, Text};
 use std::alloc::{AllocError, Global};
-use toxicap::{answers_alone, read_host_lines, report_answers_alone};
+use toxicap::{
+    Inputs, effects_alone, lines_alone, read_host_lines, read_inputs, rehearse_alone, reports_alone,
+};
 
 /// What a rehearsal is made of.
 #[repr(C)]
@@ -30,19 +42,17 @@ pub struct ToxicapInputs<'a> {
 
 impl<'a> ToxicapInputs<'a> {
     ghost use Rattle.std.specs.Prelude.{◌≡◌, IfOk, map, length};
-    ghost use Rattle.toxicap_c.specs.Calls.{texts_of};
+    ghost use Rattle.toxicap.specs.RunEnds.{UnlessMemory};
+    ghost use Rattle.toxicap_c.specs.Calls.{inputs_asked, texts_of};
 
-    /// A capture without scenarios.
-    pub(crate) fn of_capture(capture: &'a [u8]) -> ToxicapInputs<'a>
-        ensures { length result.scenario_lens.now ≡ 0 }
+    /// What a rehearsal takes, read of these.
+    pub(crate) fn read(&self, alloc: Global) -> Result<Inputs<'a>, RunFault>
+        ensures { UnlessMemory (inputs_asked self.now) result }
     {
-        ToxicapInputs {
-            capture,
-            scenarios: &[],
-            scenario_lens: &[],
-            hosts: &[],
-            seed: 0,
-        }
+        let hosts = read_host_lines(alloc, self.hosts)?;
+        let texts = self.texts(alloc)?;
+        let capture = Text::lent(self.capture);
+        read_inputs(alloc, capture, &texts, &hosts, self.seed)
     }
 
     /// The texts of the scenarios.
@@ -66,31 +76,52 @@ pub(crate) fn sized_outputs_for(
     alloc: Global,
     inputs: &ToxicapInputs<'_>,
 ) -> Result<(Outputs, ToxicapSizes), RunFault>
-    ensures answer { AgreesUnlessMemory run_refusal (λ answer. put_of answer.0) result
-        (answer_put (asked_for inputs.now)) }
-    ensures sizes { IfOk result (λ answer. answer.1 ≡ sizes_of (put_of answer.0)) }
+    ensures answer { AgreesUnlessMemory run_refusal (λ answer. answer.0) result (and_then (inputs_asked inputs.now) answer_of) }
+    ensures sizes { IfOk result (λ answer. answer.1 ≡ sizes_by output_sizes (put_of answer.0)) }
 {
-    let outputs = outputs_for(alloc, inputs)?;
+    let inputs = inputs.read(alloc)?;
+    let outputs = rehearse_alone(alloc, &inputs)?;
     match sizes_of(outputs.as_slice()) {
         Some(sizes) => Ok((outputs, sizes)),
         None => Err(RunFault::Memory),
     }
 }
 
-fn outputs_for(alloc: Global, inputs: &ToxicapInputs<'_>) -> Result<Outputs, RunFault>
-    ensures { AgreesUnlessMemory run_refusal (λ outputs. outputs) result
-        (asked_for inputs.now) }
+pub(crate) fn reports_for(alloc: Global, inputs: &ToxicapInputs<'_>) -> Result<ReportText, RunFault>
+    ensures { AgreesUnlessMemory run_refusal (λ reports. reports) result (and_then (inputs_asked inputs.now) (λ i. reports_in (answer_of i))) }
 {
-    let hosts = read_host_lines(alloc, inputs.hosts)?;
-    let texts = inputs.texts(alloc)?;
-    answers_alone(alloc, inputs.capture, &texts, &hosts, inputs.seed)
+    let inputs = inputs.read(alloc)?;
+    let reports = reports_alone(alloc, &inputs)?;
+    Ok(reports)
 }
 
-pub(crate) fn reports_for(alloc: Global, inputs: &ToxicapInputs<'_>) -> Result<ReportText, RunFault>
-    ensures { AgreesUnlessMemory run_refusal (λ reports. reports) result
-        (reports_in (asked_for inputs.now)) }
+/// What toxics of inputs do, in numbers.
+pub(crate) fn effects_for(
+    alloc: Global,
+    inputs: &ToxicapInputs<'_>,
+) -> Result<Values<u64>, RunFault>
+    ensures { AgreesUnlessMemory run_refusal (λ counts. counts) result (and_then (inputs_asked inputs.now) (made_of effects_in)) }
 {
-    let hosts = read_host_lines(alloc, inputs.hosts)?;
-    let texts = inputs.texts(alloc)?;
-    report_answers_alone(alloc, inputs.capture, &texts, &hosts, inputs.seed)
+    let inputs = inputs.read(alloc)?;
+    let counts = effects_alone(alloc, &inputs)?;
+    Ok(counts)
+}
+
+/// The lines that inputs call for, if they were read, with their sizes, as [`sized_outputs_for`] answers.
+pub(crate) fn sized_lines_for<'r>(
+    alloc: Global,
+    read: &'r Result<Inputs<'_>, RunFault>,
+) -> Result<(LaidLines<'r>, ToxicapLinesSizes), RunFault>
+    ensures answer { (i : Result Inputs RunFault) → UnlessMemory i read.now → AgreesUnlessMemory run_refusal (λ answer. flat_view answer.0) result (and_then i (made_of flat_lines)) }
+    ensures sizes { IfOk result (λ answer. answer.1 ≡ sizes_by lines_sizes (put_of_lines (flat_view answer.0))) }
+{
+    let inputs = match read {
+        Ok(inputs) => inputs,
+        Err(fault) => return Err(*fault),
+    };
+    let lines = lines_alone(alloc, inputs)?;
+    match lines_sizes_of(&lines) {
+        Some(sizes) => Ok((lines, sizes)),
+        None => Err(RunFault::Memory),
+    }
 }

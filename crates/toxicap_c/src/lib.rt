@@ -7,9 +7,7 @@ mod inputs;
 mod refusals;
 mod sizes;
 mod statuses;
-mod transcript_calls;
 
-pub use calls::{toxicap_rehearse, toxicap_reports};
+pub use calls::{toxicap_effects, toxicap_lines, toxicap_rehearse, toxicap_reports};
 pub use inputs::ToxicapInputs;
-pub use sizes::ToxicapSizes;
-pub use transcript_calls::{ToxicapTranscriptSizes, toxicap_transcript};
+pub use sizes::{ToxicapEffectSizes, ToxicapLinesSizes, ToxicapSizes};

@@ -1,12 +1,14 @@
-//! Rehearsals by one thread alone, over texts and over what was read, with values from outside.
+//! Rehearsals by one thread alone, of inputs that are read of texts, with values from outside.
 use super::answering::{BOTH, NAMED, REFUSED_LINE, are_answers, dump};
 use super::captures::PLAIN_REPORT;
-use super::rehearsed::scenarios_of;
+use laid_lines::{LaidLines, ToxicapChunk, ToxicapDirection};
+use pcap_records::Values;
+use run_files::Text;
 use scenarios::Hosts;
 use std::alloc::{AllocGlobal, Global};
 use std::process::Abort;
 use toxicap::{
-    RunFault, answers_alone, fault_line, read_host_lines, rehearse_alone, report_answers_alone,
+    RunFault, effects_alone, fault_line, lines_alone, read_host_lines, read_inputs, rehearse_alone,
     reports_alone,
 };
 use worked_sessions::sessions::PLAIN_SESSION;
@@ -25,38 +27,86 @@ fn are_reports(reports: &[u8]) -> bool {
     }
 }
 
-// Whether the plain session is rehearsed under both scenarios, and its reports are made.
-fn is_rehearsed(alloc: Global) -> Result<bool, RunFault> {
-    let scenarios = scenarios_of(alloc, &["[]", BOTH])?;
-    let outputs = rehearse_alone(alloc, &PLAIN_SESSION, &scenarios, 7)?;
-    let reports = reports_alone(alloc, &PLAIN_SESSION, &scenarios, 7)?;
-    Ok(are_answers(alloc, outputs.as_slice())? && are_reports(reports.as_slice()))
+fn direction(bytes: u64, chunks: u64, end_time: u64, end: u64) -> ToxicapDirection {
+    ToxicapDirection {
+        bytes,
+        chunks,
+        end_time,
+        end,
+    }
 }
 
-#[test]
-fn scenarios_by_one_thread(rt: HostRuntime) {
-    assert!(rt; is_rehearsed(rt.alloc()) == Ok(true));
+// Whether these are their lines: a greeting, a FIN of each side, and a connection that is refused.
+fn are_lines(lines: &LaidLines<'_>) -> bool {
+    let hello = ToxicapChunk {
+        end: 5,
+        time: 1_000_000,
+    };
+    let none = direction(0, 0, 0, 4);
+    match (lines.pieces.as_slice(), lines.connections.as_slice()) {
+        ([greeting], [bare, met]) => {
+            *greeting == b"hello".as_slice()
+                && lines.chunks.as_slice() == [hello].as_slice()
+                && bare.opened == 1_000_000_000
+                && (bare.client_port, bare.server_port, bare.vlan) == (40000, 80, 0)
+                && bare.up == direction(5, 1, 2_000_000, 1)
+                && bare.down == direction(0, 0, 3_000_000, 1)
+                && (met.up, met.down) == (none, none)
+        }
+        _ => false,
+    }
 }
 
-// Whether a text of the plain session answers both, with the host that the second names.
-fn is_answered(alloc: Global, text: &[u8]) -> Result<bool, RunFault> {
+// Whether a text of the plain session answers `[]` and another scenario, with the host that `NAMED` names.
+fn is_answered(alloc: Global, text: &[u8], second: &str) -> Result<bool, RunFault> {
     let hosts = read_host_lines(alloc, HOSTS)?;
-    let texts = [b"[]".as_slice(), NAMED.as_bytes()];
-    let outputs = answers_alone(alloc, text, &texts, &hosts, 7)?;
-    let reports = report_answers_alone(alloc, text, &texts, &hosts, 7)?;
-    Ok(are_answers(alloc, outputs.as_slice())? && are_reports(reports.as_slice()))
+    let texts = [b"[]".as_slice(), second.as_bytes()];
+    let inputs = read_inputs(alloc, Text::lent(text), &texts, &hosts, 7)?;
+    let outputs = rehearse_alone(alloc, &inputs)?;
+    let reports = reports_alone(alloc, &inputs)?;
+    let lines = lines_alone(alloc, &inputs)?;
+    let are_all = are_reports(reports.as_slice()) && are_lines(&lines);
+    Ok(are_answers(alloc, outputs.as_slice())? && are_all)
 }
 
-fn check_answered(rt: &(impl Abort + AllocGlobal), row: &str, text: &[u8]) {
-    let good = is_answered(rt.alloc(), text) == Ok(true);
+fn check_answered(rt: &(impl Abort + AllocGlobal), row: &str, text: &[u8], second: &str) {
+    let good = is_answered(rt.alloc(), text, second) == Ok(true);
     assert!(rt; good, "{row}");
 }
 
 #[test]
 fn texts_by_one_thread(rt: HostRuntime) {
     let text = dump(rt.alloc(), &PLAIN_SESSION).expect(&rt, "memory");
-    check_answered(&rt, "a capture", &PLAIN_SESSION);
-    check_answered(&rt, "its dump", text.as_bytes());
+    check_answered(&rt, "a capture", &PLAIN_SESSION, BOTH);
+    check_answered(&rt, "a capture, and a name", &PLAIN_SESSION, NAMED);
+    check_answered(&rt, "its dump", text.as_bytes(), NAMED);
+}
+
+// The server of the plain session sends no byte. Of two proxies before it the first is met.
+const TOXICS: &str =
+    "[{\"name\":\"a\",\"upstream\":\"10.0.0.2:80\",\"toxics\":[{\"type\":\"limit_data\"},{\"type\":\"latency\",\"stream\":\"upstream\",\"attributes\":{\"latency\":5}},{\"type\":\"timeout\",\"toxicity\":0}]},{\"name\":\"b\",\"upstream\":\"10.0.0.2:80\",\"toxics\":[{\"type\":\"timeout\"}]}]";
+
+// What the toxics of the plain session's proxies do under `[]` and these.
+fn counts(alloc: Global) -> Result<Values<u64>, RunFault> {
+    let texts = [b"[]".as_slice(), TOXICS.as_bytes()];
+    let inputs = read_inputs(
+        alloc,
+        Text::lent(&PLAIN_SESSION),
+        &texts,
+        &Hosts::new(alloc),
+        7,
+    )?;
+    effects_alone(alloc, &inputs)
+}
+
+#[test]
+fn effects_by_one_thread(rt: HostRuntime) {
+    let expected = [1, 1, 1, 1, 0, 0, 0, 0, 0, 0];
+    let good = match counts(rt.alloc()) {
+        Ok(counts) => counts.as_slice() == expected.as_slice(),
+        Err(_) => false,
+    };
+    assert!(rt; good);
 }
 
 // Whether an answer is refused with this line.
@@ -70,12 +120,20 @@ fn is_refused<T>(alloc: Global, answer: &Result<T, RunFault>, line: &str) -> boo
     }
 }
 
-// A text under texts of scenarios, with no known host, is refused with this line, for its outputs and for its reports.
+// Whether a text under texts of scenarios, with no known host, is refused with this line, or each call of what is read of them is.
+fn is_told(alloc: Global, text: &[u8], texts: &[&[u8]], line: &str) -> bool {
+    let read = read_inputs(alloc, Text::lent(text), texts, &Hosts::new(alloc), 7);
+    let Ok(inputs) = &read else {
+        return is_refused(alloc, &read, line);
+    };
+    is_refused(alloc, &rehearse_alone(alloc, inputs), line)
+        && is_refused(alloc, &reports_alone(alloc, inputs), line)
+        && is_refused(alloc, &lines_alone(alloc, inputs), line)
+        && is_refused(alloc, &effects_alone(alloc, inputs), line)
+}
+
 fn check_told(rt: &(impl Abort + AllocGlobal), text: &[u8], texts: &[&[u8]], line: &str) {
-    let hosts = Hosts::new(rt.alloc());
-    let outputs = answers_alone(rt.alloc(), text, texts, &hosts, 7);
-    let reports = report_answers_alone(rt.alloc(), text, texts, &hosts, 7);
-    let good = is_refused(rt.alloc(), &outputs, line) && is_refused(rt.alloc(), &reports, line);
+    let good = is_told(rt.alloc(), text, texts, line);
     assert!(rt; good, "{line}");
 }
 

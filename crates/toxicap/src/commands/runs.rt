@@ -138,20 +138,12 @@ where
     ensures summary { IfOk result (λ summary. summary_of_texts options.now.hosts (map (λ t. t.now) texts.now) text.entry ≡ Ok summary) }
 {
     publishing_leaves_whole();
-    let inputs = read_inputs(alloc, text, texts, &options.hosts)?;
+    let inputs = read_inputs(alloc, text, texts, &options.hosts, options.seed)?;
     let crew = Workers {
         rt,
         plan: options.plan,
     };
-    store_rehearsal(
-        &crew,
-        alloc,
-        inputs.capture.bytes(),
-        &inputs.scenarios,
-        options.seed,
-        folder,
-        disk,
-    )
+    store_rehearsal(&crew, alloc, &inputs, folder, disk)
 }
 
 // A scenario without proxies.

@@ -1,8 +1,7 @@
 use Rattle.std.proofs.Common.{Ok, Err, refl, arith}
 use Rattle.std.proofs.lemmas.Result.{err_from_is_err_and}
-use Rattle.pcap_records.specs.CaptureView.{bytes_of}
+use Rattle.toxicap.specs.Answering.{answer_of}
 use Rattle.toxicap.specs.CaptureOutputs.{outputs_for}
-use Rattle.toxicap.specs.Rehearsal.{answer}
 use Rattle.toxicap.proofs.AnswerSteps.{of_answer}
 use Rattle.toxicap.proofs.OutputSteps.{as_many_for}
 use Rattle.toxicap.proofs.StoringEnds.{not_held, refused_faults}
@@ -12,25 +11,28 @@ use Rattle.toxicap.proofs.storing.store_rehearsal.Goals as goal
 pub returns-in_err-capture-clause-stored : goal.returns-in_err-capture-clause-stored
 returns-in_err-capture-clause-stored g c =
     let fault = err_from_is_err_and c.from_residual.result c.from_residual.ensures.1 in
-    rw (fault.1, fault.2) (Err _, c.in_err-capture.ensures.refused c.args.seed, (refl, refl))
+    let refused = rw (c.bytes.ensures, c.as_slice-scenarios.ensures) at c.in_err-capture.ensures.refused in
+    rw (fault.1, fault.2) (Err _, refused c.args.inputs.now.seed, (refl, refl))
 
 pub returns-in_err-capture-clause-faults : goal.returns-in_err-capture-clause-faults
 returns-in_err-capture-clause-faults g c =
     let fault = err_from_is_err_and c.from_residual.result c.from_residual.ensures.1 in
-    let expected = answer (bytes_of c.args.capture) c.args.scenarios.now c.args.seed in
-    let none = refused_faults c.args.folder.now.path _ expected (of_answer (bytes_of c.args.capture) c.args.scenarios.now c.args.seed)
-    (told_refusal _ expected (c.in_err-capture.ensures.refused c.args.seed)) in
+    let inputs = c.args.inputs.now in
+    let refused = rw (c.bytes.ensures, c.as_slice-scenarios.ensures) at c.in_err-capture.ensures.refused in
+    let none = refused_faults c.args.folder.now.path _ (answer_of inputs) (of_answer inputs.capture inputs.scenarios inputs.seed) (told_refusal _ (answer_of inputs) (refused inputs.seed)) in
     rw (fault.1, fault.2) (omega (arith, none))
 
 pub returns-in_err-hold_for-clause-stored : goal.returns-in_err-hold_for-clause-stored
 returns-in_err-hold_for-clause-stored g c =
     let held = c.in_err-hold_for.ensures in
     let fault = err_from_is_err_and c.from_residual-in_err-hold_for.result c.from_residual-in_err-hold_for.ensures.1 in
-    let expected = outputs_for c.in_ok-capture.capture c.args.scenarios.now c.args.seed in
-    let many = as_many_for c.in_ok-capture.capture c.args.scenarios.now c.args.seed in
-    rw (fault.1, fault.2) (
+    let scenarios = c.as_slice-scenarios.result.now in
+    let expected = outputs_for c.in_ok-capture.capture scenarios c.args.inputs.now.seed in
+    let many = as_many_for c.in_ok-capture.capture scenarios c.args.inputs.now.seed in
+    let answered = rw c.bytes.ensures at c.in_ok-capture.ensures.answered c.args.inputs.now.seed in
+    rw (fault.1, fault.2, ← c.as_slice-scenarios.ensures) (
       Ok expected,
-      c.in_ok-capture.ensures.answered c.args.seed,
+      answered,
       not_held c.args.folder.now.path expected c.in_err-hold_for.field-0.0 _ _ held.as_before (held.refused.0, omega (arith, many, held.refused.1)),
     )
 
@@ -40,8 +42,10 @@ returns-in_err-hold_for-clause-faults g c =
     rw (fault.1, fault.2) c.in_err-hold_for.ensures.faults
 
 pub returns-clause-stored : goal.returns-clause-stored
-returns-clause-stored g c = (
-  Ok (outputs_for c.in_ok-capture.capture c.args.scenarios.now c.args.seed),
-  c.in_ok-capture.ensures.answered c.args.seed,
-  rw (← c.in_ok-hold_for.ensures.as_before) c.store_outputs.ensures.stored,
-)
+returns-clause-stored g c =
+    let answered = rw c.bytes.ensures at c.in_ok-capture.ensures.answered c.args.inputs.now.seed in
+    rw (← c.as_slice-scenarios.ensures) (
+      Ok (outputs_for c.in_ok-capture.capture c.as_slice-scenarios.result.now c.args.inputs.now.seed),
+      answered,
+      rw (← c.in_ok-hold_for.ensures.as_before) c.store_outputs.ensures.stored,
+    )

@@ -1,0 +1,3 @@
+mod LineChunks
+mod LineParts
+mod LaidRows

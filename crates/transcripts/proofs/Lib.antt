@@ -1,4 +1,0 @@
-mod LaidChunks
-mod PutChunks
-mod LaidParts
-mod LaidConnections

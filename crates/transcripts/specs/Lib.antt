@@ -1,3 +1,0 @@
-pub mod Transcripts
-pub mod LaidParts
-pub mod Readings

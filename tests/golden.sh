@@ -1,6 +1,6 @@
 #!/usr/bin/env bash
-# What makes a rehearsal do nothing (explain), in Python and in the words of examples/explain, and the golden files of pytest's fixture, by
-# clients/python/tests/test_golden.py.
+# What makes a rehearsal do nothing (explain), in Python and in the words of examples/explain, and the fixtures of pytest with their golden files, by
+# test_golden.py and test_fixture.py of clients/python/tests.
 set -euo pipefail
 cd "$(dirname "$0")/.."
 . tests/lib.sh
@@ -14,5 +14,6 @@ if ! "$host" -c 'import pytest' 2> /dev/null; then
     skip "golden files of pytest" "pytest is not here"
 else
     verdict "golden files of pytest" "$("$host" -B clients/python/tests/test_golden.py Golden > "$work/output" 2>&1 || cat "$work/output")"
+    verdict "fixtures of pytest" "$("$host" -B clients/python/tests/test_fixture.py > "$work/output" 2>&1 || cat "$work/output")"
 fi
 close

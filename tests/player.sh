@@ -149,7 +149,7 @@ for language in "${languages[@]}"; do
     [ "$language" = python ] || verdict "$language, connections that are none" "$(
         for numbers in x 0,7; do timeout 60 "$work/player-$language" -connection $numbers "$outputs"/http-late/000{0,1}.pcap 2>&1 || true; done > "$work/output"
         told output 'player: -connection x: numbers of the report are expected, such as 0,2, or all
-player: there is no connection 7: there are 1, numbered from 0
+player: there is no connection 7: there are 0 (10.77.0.2:80)
 '
     )"
     verdict "$language, swapped outputs" "$(

@@ -1,6 +1,6 @@
 #!/usr/bin/env bash
 # Sockets and asyncio's streams with a clock of their own (clients/python): their laws over output captures under random scenarios, what the system's
-# sockets do at the same calls, and clients over them. It wants python3; nothing waits, and the system's sockets are those of 127.0.0.1.
+# sockets do at the same calls, clients over them, and dialers. It wants python3; nothing waits, and the system's sockets are those of 127.0.0.1.
 set -euo pipefail
 cd "$(dirname "$0")/.."
 . tests/lib.sh
@@ -18,6 +18,7 @@ if ! can "sockets and streams" python3; then close; exit; fi
 mkdir "$work/scenarios"
 python3 -B tests/sockets/scenarios.py "$work/scenarios" 60
 scenarios=()
+printf '[]' > "$work/scenarios/untouched.json"
 for scenario in "$work/scenarios"/*.json; do scenarios+=(--scenario "$scenario"); done
 awk -f tests/capture.awk tests/player/sessions > "$work/sessions.dump"
 for capture in samples/http-get.pcap samples/shop.pcap "$work/sessions.dump"; do
@@ -25,7 +26,7 @@ for capture in samples/http-get.pcap samples/shop.pcap "$work/sessions.dump"; do
 done
 printf '[{"name":"web","upstream":"10.77.0.2:80","toxics":[{"type":"latency","attributes":{"latency":500}}]}]' > "$work/late.json"
 rehearsed "$work/late" samples/http-get.pcap --scenario "$work/late.json"
-for each in laws system clients; do
+for each in laws system clients dialers; do
     verdict "$each" "$(timeout 600 python3 -B "tests/sockets/$each.py" > "$work/output" 2>&1 || { echo "  status $?"; cat "$work/output"; })"
 done
 close

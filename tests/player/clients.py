@@ -160,11 +160,19 @@ class Clients(unittest.TestCase):
 
     def test_faults(self):
         (late, untouched), (other, _) = outputs('http-late'), outputs('sessions-late')
-        for fault, arguments in (('there is no connection 1', (late, untouched, 1)), ('there is no connection -1', (late, untouched, -1)),
+        there = r'there is 0 to 10.77.0.2:80 \(216 bytes came\)$'
+        for fault, arguments in ((f'there is no connection 1: {there}', (late, untouched, 1)), (f'there is no connection -1: {there}', (late, untouched, -1)),
                                  ('there is no connection 2', (late, untouched, [0, 2])),
-                                 ('there is no connection', (late, untouched, [])),
+                                 ('there is no connection', (late, untouched, [])), ("connection 'data': a number", (late, untouched, 'data')),
                                  ('the outputs are not of one capture', (late, other)), ('no output capture of toxicap: it has', (late, b''))):
             with self.assertRaisesRegex(ValueError, f'^{fault}'): Player(*arguments)
+        with self.assertRaisesRegex(TypeError, '^a player of a stored output takes that under `\\[\\]` too$'): Player(late)
+
+    def test_answers_in_time(self):
+        """An answer after half a millisecond takes no further half of its own."""
+        path = files('slices')[1]
+        best = min(statistics.median(measure(path, path).late) for _ in range(10))  # a machine that does much else may need some
+        self.assertLess(best, 0.0004)
 
     def test_swapped_outputs(self):
         for name in 'http-late', 'http-late-up', 'http-cut', 'http-reset', 'http-closed', 'http-silent-up', 'http-down', 'sessions-late', 'sessions-cut':

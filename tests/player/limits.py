@@ -151,6 +151,13 @@ class Limits(unittest.TestCase):
             client.sendall(b'x' * 100000)
         self.assertEqual(player.received, [b'ONE!TWO!' + b'x' * 100000])
 
+    def test_a_flood(self):
+        """A client that sends without end is ended, also if no limit is near."""
+        with self.assertRaisesRegex(AssertionError, '^player: port [0-9]+: connection 1: the client sent 1[0-9]{6} bytes more than the recorded one$'):
+            with play('sessions-untouched', 1, limit=3600) as player, connect(player) as client, contextlib.suppress(ConnectionError):
+                for _ in range(100000): client.sendall(bytes(65536))
+        self.assertLess(len(player.received[0]), 1 << 21)
+
     def test_the_command(self):
         differs = "connection 0: the client sent b'bye' at byte 0, and the recorded one .*\n"
         for connection, option, told in ('3,1', '--gap=0.001', ''), ('all', '--same-requests', differs):

@@ -1,32 +1,34 @@
-"""Clients of the standard library, and of these tests' own, over sockets and streams: http.client, poplib, smtplib, and asyncio. SAMPLE is an output
-capture of samples/http-get.pcap, half a second late. Lines are those of a server that sends these chunks at these seconds."""
-import asyncio, contextlib, http.client, io, os, pathlib, poplib, random, smtplib, socket, struct, time, unittest, unittest.mock
+"""Clients of the standard library, and of these tests' own, over sockets, streams and dialers: http.client, poplib, smtplib, and asyncio. SAMPLE is an
+output capture of samples/http-get.pcap, half a second late. Lines are those of a server that sends these chunks at these seconds."""
+import asyncio, contextlib, errno, http.client, os, pathlib, poplib, random, smtplib, socket, ssl, struct, time, unittest
 import urllib.error, urllib.request
-from toxicap import Clock, Line, Loop, Socket, StillOpen, delivered, run, streams
+from toxicap import Clock, Dialer, Line, Lines, Loop, Socket, StillOpen, Unasked, delivered, run, streams
 
 YEAR = 365 * 24 * 3600
 
 
-def served(*chunks, end=None):
-    """A connection on which the server sends these, as (seconds, bytes), and ends so, as (seconds, kind)."""
-    return Line([], None), Line([(round(at * 10**9), what) for at, what in chunks], end and (round(end[0] * 10**9), end[1]))
+def line(chunks, end=None): return Line([(round(at * 10**9), what) for at, what in chunks], end and (round(end[0] * 10**9), end[1]))
+
+
+def served(*chunks, end=None, up=()):
+    """A connection on which the server sends these, as (seconds, bytes), and ends so, as (seconds, kind); `up` is what the client sends."""
+    return line(up), line(chunks, end)
+
+
+def dialer(*connections, **settings):
+    """A dialer of such connections, to ports from 1 on."""
+    return Dialer([Lines(*each, number, f'10.0.0.1:{number + 1}') for number, each in enumerate(connections)], **settings)
 
 
 REFUSED = Line([], (0, 'refused')), Line([], (0, 'refused'))
 ANSWER = (1, b'HTTP/1.1 200 OK\r\nContent-Length: 5\r\n\r\n'), (2, b'hel'), (4, b'lo')
 
 
-def connecting(clock, *connections):
-    """In place of socket.create_connection: each call opens the next of these connections."""
-    left = iter(connections)
-    return unittest.mock.patch('socket.create_connection', lambda _, timeout=None, *rest, **more: Socket(next(left), clock=clock, timeout=timeout))
-
-
 class Http(unittest.TestCase):
-    def fetch(self, connection, timeout=None):
+    def fetch(self, connection, timeout=None, agent='a client'):
         client = http.client.HTTPConnection('any.example')
         self.socket = client.sock = Socket(connection, timeout=timeout)
-        client.request('GET', '/')
+        client.request('GET', '/', headers={'User-Agent': agent})
         with client.getresponse() as response: return response.read()
 
     def raises(self, kind, at, *words):
@@ -36,8 +38,10 @@ class Http(unittest.TestCase):
 
     def test_recorded(self):
         sample = delivered(pathlib.Path(os.environ['SAMPLE']).read_bytes())[0]
-        self.assertEqual(self.fetch(sample), b'Hello from the sample server.\n')
-        self.assertEqual(self.socket.clock.nanoseconds, sample[1].chunks[-1][0])
+        with self.assertRaisesRegex(Unasked, '^the client sent 79 of 82 bytes before the next answer'): self.fetch(sample, 5, 'x')
+        self.assertEqual(self.socket.clock.now, 0)
+        self.assertEqual(self.fetch(sample, agent='a client as long'), b'Hello from the sample server.\n')
+        self.assertEqual(self.socket.clock.nanoseconds, sample[1].chunks[-1][0] - sample[0].chunks[-1][0])
         self.assertGreater(self.socket.clock.now, 0.5)
         self.assertTrue(self.socket.sent.startswith(b'GET / HTTP/1.1\r\nHost: any.example\r\n'))
 
@@ -70,17 +74,18 @@ class Http(unittest.TestCase):
 
     def test_tries(self):
         """urllib, and a client that tries again: the second connection opens when the first has failed, and a pause has passed."""
-        clock, found = Clock(), []
-        with connecting(clock, served(*ANSWER[:2], end=(3, 'reset')), REFUSED, served(*ANSWER)), unittest.mock.patch('time.sleep', clock.sleep):
+        found = []
+        tries = served(*ANSWER[:2], end=(3, 'reset')), REFUSED, served(*ANSWER)
+        with dialer(*tries) as given:
             while not found:
                 try: found.append(urllib.request.urlopen('http://any.example/', timeout=5).read())
                 except (ConnectionError, urllib.error.URLError): time.sleep(10)
-        self.assertEqual((found, clock.now), ([b'hello'], 3 + 10 + 10 + 4))
+        self.assertEqual((found, given.clock.now), ([b'hello'], 3 + 10 + 10 + 4))
 
     def test_default_timeout(self):
         self.addCleanup(socket.setdefaulttimeout, socket.getdefaulttimeout())
         socket.setdefaulttimeout(1.5)
-        with connecting(None, served(*ANSWER)):
+        with dialer(served(*ANSWER)):
             client = http.client.HTTPConnection('any.example')
             client.request('GET', '/')
             with self.assertRaises(socket.timeout): client.getresponse().read()
@@ -93,8 +98,9 @@ class Http(unittest.TestCase):
 
 class Mail(unittest.TestCase):
     def test_pop(self):
-        clock, mail = Clock(), served((0.5, b'+OK ready\r\n'), (1, b'+OK\r\n+O'), (1.5, b'K\r\n+OK 2 700\r\n'), (9, b'+OK late\r\n'))
-        with connecting(clock, mail):
+        mail = served((0.5, b'+OK ready\r\n'), (1, b'+OK\r\n+O'), (1.5, b'K\r\n+OK 2 700\r\n'), (9, b'+OK late\r\n'))
+        with dialer(mail) as given:
+            clock = given.clock
             client = poplib.POP3('any.example', timeout=3)
             client.user('someone')
             client.pass_('secret')
@@ -104,10 +110,10 @@ class Mail(unittest.TestCase):
             client.close()
 
     def test_smtp(self):
-        clock, mail = Clock(), served((1, b'220 ready\r\n'), (2, b'250-any\r\n250 OK\r\n'), (3, b'250 OK\r\n'), end=(4, 'reset'))
-        with connecting(clock, mail), self.assertRaises(smtplib.SMTPServerDisconnected):
+        mail = served((1, b'220 ready\r\n'), (2, b'250-any\r\n250 OK\r\n'), (3, b'250 OK\r\n'), end=(4, 'reset'))
+        with dialer(mail) as given, self.assertRaises(smtplib.SMTPServerDisconnected):
             with smtplib.SMTP('any.example', timeout=3) as client: client.sendmail('a@any.example', 'b@any.example', 'text')
-        self.assertEqual(clock.now, 4)
+        self.assertEqual(given.clock.now, 4)
 
 
 class Asyncio(unittest.TestCase):
@@ -122,15 +128,11 @@ class Asyncio(unittest.TestCase):
 
     def told(self, connection, timeout=None):
         """What the client gives or raises, and when."""
-        async def opened(*_, **__):
-            reader, self.writer = streams(connection)
-            return reader, self.writer
-
-        clock = Clock()
-        with unittest.mock.patch('asyncio.open_connection', opened):
-            try: found = run(self.ask(timeout), clock)
+        with dialer(connection) as given:
+            try: found = asyncio.run(self.ask(timeout))
             except Exception as error: found = type(error)
-        return found, clock.now
+        self.writer = given.opened[0] if given.opened else None
+        return found, given.clock.now
 
     def test_ends(self):
         answer = (1, b'\0'), (2, b'\5hel'), (4, b'lo')
@@ -194,6 +196,22 @@ class Asyncio(unittest.TestCase):
 
         self.assertEqual(run(main()), 6)
 
+    def test_requests(self):
+        """An answer comes after its request; a read without one is told, also at once if a request is short. Reads join chunks if asked."""
+        session = served((2, b'yes'), (2, b'no'), (2.0005, b'x'), up=[(1, b'ask')])
+
+        async def main(sent, joins=False, timeout=None):
+            reader, writer = streams(session, joins=joins)
+            await asyncio.sleep(5)
+            writer.write(sent)
+            return [await asyncio.wait_for(reader.read(99), timeout)], asyncio.get_running_loop().time()
+
+        for joins in False, True: self.assertEqual(run(main(b'ask', joins)), ([b'yesnox' if joins else b'yes'], 6.0005 if joins else 6))
+        for kind, sent, timeout in (Unasked, b'', None), (asyncio.TimeoutError, b'', 9), (Unasked, b'as', None), (Unasked, b'as', 9):
+            with self.subTest(sent), self.assertRaises(kind): run(main(sent, timeout=timeout))
+        with dialer(session) as given, self.assertRaises(asyncio.TimeoutError): run(self.ask(0.5))
+        self.assertEqual((given.opened[0].sent, given.clock.now), (b'ask\n', 0.5))
+
     def test_another_loop(self):
         async def main(): streams(served())
         with self.assertRaisesRegex(RuntimeError, 'no clock of its own: start the test by toxicap.run'): asyncio.run(main())
@@ -218,16 +236,25 @@ class Misuse(unittest.TestCase):
                 (ValueError, [served(), 'up'], "the side 'up' is neither 'client' nor 'server'"),
                 (ValueError, [served(), 'client', None, -1], 'Timeout value out of range')):
             with self.subTest(words), self.assertRaisesRegex(kind, text): Socket(*words)
+        with self.assertRaisesRegex(ValueError, r'^there is no connection 7: there are 0 to 10.0.0.1:1 \(0 bytes came\), 1 to 10.0.0.1:2 \(5 bytes came\)$'):
+            dialer(served(), served((1, b'hello')), connection=7)
+        with self.assertRaisesRegex(ValueError, '^connection \'data\': a number, numbers, "with data" or None is expected$'): dialer(connection='data')
 
     def test_calls(self):
-        """What has no meaning without a descriptor says so, and what has none after the end as the system does."""
+        """What has no meaning without a descriptor says what helps, by no OSError; and what has none after the end does as the system."""
         each = Socket(served((1, b'hello')))
-        for call in each.fileno, each.accept, each.dup, lambda: each.connect(('127.0.0.1', 80)), lambda: each.getsockopt(1, 2):
-            with self.assertRaisesRegex(io.UnsupportedOperation, 'has no file descriptor: read with settimeout in place of select'): call()
+        for name, words, text in (
+                ('fileno', [], r'as TLS \(ssl\), selectors and .* want. Test the client without TLS; read with settimeout, by select'),
+                ('connect', [('127.0.0.1', 80)], 'it is connected: a Dialer stands in for connect and create_connection'),
+                ('accept', [], 'it is no server: make one before the Dialer'), ('dup', [], 'no file descriptor')):
+            with self.assertRaisesRegex(RuntimeError, f'^{name} of a Socket of toxicap: .*{text}'): getattr(each, name)(*words)
+        with self.assertRaisesRegex(RuntimeError, r'TLS \(ssl\)'): ssl.create_default_context().wrap_socket(each, server_hostname='any.example')
         each.setsockopt(socket.IPPROTO_TCP, socket.TCP_NODELAY, 1)
+        options = (socket.IPPROTO_TCP, socket.TCP_NODELAY), (socket.SOL_SOCKET, socket.SO_TYPE), (socket.SOL_SOCKET, socket.SO_ERROR)
+        self.assertEqual([each.getsockopt(*option) for option in options], [1, socket.SOCK_STREAM, 0])
         for size in -1, 9:
             with self.assertRaises(ValueError): each.recv_into(bytearray(8), size)
-        with self.assertRaises(OSError): each.recv(1, socket.MSG_PEEK)
+        with self.assertRaises(OSError): each.recv(1, socket.MSG_OOB)
         self.assertEqual((each.recv(0), each.recv_into(bytearray()), each.clock.now), (b'', 0, 0))
         self.assertEqual((each.recv_into(memoryview(bytearray(8)).cast('H'), 3), each.recv(9), each.clock.now), (3, b'lo', 1))
         each.setblocking(False)
@@ -236,6 +263,18 @@ class Misuse(unittest.TestCase):
             each.close()
             file.write('kept')
         self.assertEqual((each.sent, each.fileno()), (b'kept', -1))
+
+    def test_messages(self):
+        """Flags of reads, and calls with several buffers."""
+        each, rooms = Socket(served((1, b'he'), (2, b'llo'), (3, b'more'), end=(4, 'fin'))), [bytearray(1), bytearray(4)]
+        self.assertEqual((each.recv(9, socket.MSG_PEEK), each.recvfrom(1), each.clock.now), (b'he', (b'h', None), 1))
+        self.assertEqual((each.recv(4, socket.MSG_WAITALL), each.clock.now), (b'ello', 2))
+        self.assertEqual((each.recvmsg_into(rooms), rooms, each.clock.now), ((4, [], 0, None), [b'm', b'ore\0'], 3))
+        self.assertEqual((each.sendmsg([b'a', bytearray(b'bc')]), each.sent), (3, b'abc'))
+        self.assertEqual((each.recv(4, socket.MSG_WAITALL), each.recvmsg(4), each.clock.now), (b'', (b'', [], 0, None), 4))
+        each = Socket(served(end=(1, 'reset')))
+        each.advance(1)
+        self.assertEqual([each.getsockopt(socket.SOL_SOCKET, socket.SO_ERROR) for _ in range(2)], [errno.ECONNRESET, 0])
 
 
 if __name__ == '__main__': unittest.main()

@@ -1,10 +1,14 @@
-"""The laws of sockets and streams, over the output captures in the folder OUTPUTS: reads of any sizes give the delivered bytes in order, each at its
-time, and ends and timeouts come at theirs. What is expected is worked out here from the time of each byte."""
+"""The laws of sockets and streams, over the output captures in the folder OUTPUTS, of each capture the last one under `[]`: reads of any sizes give the
+delivered bytes in order, each at its time, and ends and timeouts come at theirs. What is expected is worked out here from the time of each byte; what
+answers wait for, from the steps of players."""
 import asyncio, bisect, collections, itertools, os, pathlib, random, socket, unittest
-from toxicap import Clock, Socket, StillOpen, delivered, run, streams
+from toxicap import Clock, Socket, StillOpen, Unasked, delivered, run, streams
+from toxicap._steps import session
 
-CONNECTIONS = [each for path in sorted(pathlib.Path(os.environ['OUTPUTS']).glob('*/*.pcap')) for each in delivered(path.read_bytes())]
+CONNECTIONS = [each for folder in sorted(pathlib.Path(os.environ['OUTPUTS']).iterdir()) for files in [sorted(folder.glob('*.pcap'))]
+               for path in files for each in delivered(path.read_bytes(), files[-1].read_bytes())]
 NEVER = 1 << 70
+WITHIN = 10**6  # nanoseconds in which a read that joins chunks still takes what comes
 
 
 class Expected:
@@ -27,10 +31,11 @@ class Expected:
         start, self.place = self.place, min(bisect.bisect_right(self.times, now, self.place), self.place + size)
         return self.bytes[start:self.place]
 
-    def take_of_one(self, size, now):
-        """The same of one chunk."""
+    def read(self, size, now, joins):
+        """What one read gives then, and when: of one chunk, or joined."""
         border = next((border for border in self.borders if border > self.place), self.place)
-        return self.take(min(size, border - self.place), now)
+        found = self.take(size if joins else min(size, border - self.place), now + WITHIN * joins)
+        return found, max([now, *self.times[self.place - 1:self.place]])
 
 
 def sides():
@@ -51,11 +56,11 @@ class Laws(unittest.TestCase):
 
     def test_sockets(self):
         for connection, side, line, drawn in sides():
-            clock = Clock()
+            clock, joins = Clock(), drawn.random() < 0.5
             clock.sleep(drawn.choice([0, 1.5]))
-            self.read(Socket(connection, side, clock), Expected(line, clock.nanoseconds), drawn)
+            self.read(Socket(connection, side, clock, waits=False, joins=joins), Expected(line, clock.nanoseconds), joins, drawn)
 
-    def read(self, reader, expected, drawn):
+    def read(self, reader, expected, joins, drawn):
         """Reads to the end, with pauses and timeouts."""
         clock, end = reader.clock, 'bytes'
         while end == 'bytes':
@@ -71,8 +76,8 @@ class Laws(unittest.TestCase):
                 continue
             if expected.place == len(expected.bytes): end = expected.end
             self.assertEqual(kind, {'reset': ConnectionResetError, None: StillOpen}.get(end))
-            if end: self.assertEqual(clock.nanoseconds, max(now, due))
-            if not kind: self.assertEqual(found, expected.take_of_one(size, clock.nanoseconds))
+            if end and end != 'bytes': self.assertEqual(clock.nanoseconds, max(now, due))
+            if not kind: self.assertEqual((found, clock.nanoseconds), expected.read(size, max(now, due) if end else now, joins))
             self.met[end] += 1
         if end: self.assertEqual(reader.recv(9), b'')
 
@@ -84,7 +89,7 @@ class Laws(unittest.TestCase):
     def test_files(self):
         """Reads of whole lengths, by makefile."""
         for connection, side, line, drawn in sides():
-            reader = Socket(connection, side)
+            reader = Socket(connection, side, waits=False)
             expected, end = Expected(line, 0), 'bytes'
             with reader, reader.makefile('rb') as file:
                 while end == 'bytes':
@@ -106,8 +111,9 @@ class Laws(unittest.TestCase):
             run(self.follow(connection, side, Expected(line, clock.nanoseconds), drawn), clock)
 
     async def follow(self, connection, side, expected, drawn):
-        """Reads to the end, with pauses and timeouts. A reset takes what was not read, as in asyncio."""
-        (reader, writer), clock, end = streams(connection, side), asyncio.get_running_loop().clock, 'bytes'
+        """Reads to the end, with pauses and timeouts. A reset takes what was not read, as in asyncio. What came for a read that is late stays."""
+        fed = 0  # bytes that were handed to the reader
+        (reader, writer), clock, end = streams(connection, side, waits=False), asyncio.get_running_loop().clock, 'bytes'
         while end == 'bytes':
             if drawn.random() < 0.2: await asyncio.sleep(drawn.random() / 10)
             now, limit, size = clock.nanoseconds, drawn.choice([None, None, 10**drawn.uniform(0, 9)]), size_by(drawn)
@@ -118,6 +124,7 @@ class Laws(unittest.TestCase):
                 self.assertGreater(due, now + limit - 1)
                 self.assertLessEqual(abs(clock.nanoseconds - now - limit), 2)
                 self.met['late'] += 1
+                fed = max(fed, bisect.bisect_right(expected.times, clock.nanoseconds)) if exactly else fed
                 continue
             except asyncio.IncompleteReadError as error: found, end = error.partial, 'fin'
             except (ConnectionResetError, StillOpen) as error: kind = type(error)
@@ -125,10 +132,41 @@ class Laws(unittest.TestCase):
             self.assertEqual(kind, {'reset': ConnectionResetError, None: StillOpen}.get(end))
             if end == 'reset': self.assertEqual(clock.nanoseconds, max(now, expected.end_time))
             elif end: self.assertEqual(clock.nanoseconds, max(now, due))
-            if not kind: self.assertEqual(found, expected.take(size, clock.nanoseconds))
+            if not kind:
+                last = expected.place + size if exactly else expected.place + 1
+                fed = max(fed, next((border for border in expected.borders if border >= last), len(expected.bytes)))
+                self.assertEqual(found, expected.take(min(size, fed - expected.place), clock.nanoseconds))
             self.met[end] += 1
         if end == 'fin': self.assertEqual((expected.place, clock.nanoseconds >= expected.end_time), (len(expected.bytes), True))
         writer.close()
+
+    def test_requests(self):
+        """Each step comes as long after the last byte that it waits for, or the close, as in the output; with one byte less it never comes."""
+        for connection, side, line, drawn in sides():
+            steps, recorded = session(connection, side)
+            reader, sent, closed, came, asked = Socket(connection, side), 0, False, 0, 0
+            for step in steps:
+                never = Unasked if isinstance(step.what, bytes) else StillOpen
+                if step.need > sent:
+                    reader.send(recorded[sent:step.need - 1])
+                    self.meets(never, reader)
+                    reader.send(recorded[step.need - 1:step.need])
+                    sent, asked = step.need, reader.clock.nanoseconds
+                if step.closed and not closed:
+                    self.meets(never, reader)
+                    reader.shutdown(socket.SHUT_WR)
+                    closed, asked = True, reader.clock.nanoseconds
+                came, now = max(came, asked + step.pause + step.delay), reader.clock.nanoseconds
+                if isinstance(step.what, bytes): self.assertEqual(reader.recv(1 << 20), step.what)
+                elif step.what == 'fin': self.assertEqual(reader.recv(1), b'')
+                else: self.meets(ConnectionResetError, reader)
+                self.assertEqual(reader.clock.nanoseconds, max(now, came))
+                self.met[step.what if isinstance(step.what, str) else 'bytes'] += 1
+                reader.advance(drawn.choice([0, 0, 0.001]))
+        self.met.update({None: 99, 'late': 99})
+
+    def meets(self, kind, reader):
+        with self.assertRaises(kind): reader.recv(1)
 
 
 if __name__ == '__main__': unittest.main()

@@ -20,13 +20,13 @@ def await_event(each, event):
 
 
 class System(unittest.TestCase):
-    def compare(self, end, finish):
+    def compare(self, end, finish, up=None):
         """By a listener, peers that send `hello` and end by `finish`, and the same in a Socket."""
         with socket.socket() as listener:
             listener.bind(('127.0.0.1', 0))
             listener.listen(1)
             for order in itertools.product(CALLS, repeat=4):
-                ours = Socket((Line([], None), Line([(5, b'hello')], end and (7, end))), timeout=0)
+                ours = Socket((Line([], up), Line([(5, b'hello')], end and (7, end))), timeout=0)
                 ours.clock.sleep(1)
                 with ours, socket.create_connection(listener.getsockname()) as theirs, listener.accept()[0] as peer:
                     theirs.setblocking(False)
@@ -44,6 +44,14 @@ class System(unittest.TestCase):
             await_event(theirs, select.POLLRDHUP)
 
         self.compare('fin', finish)
+
+    def test_close(self):
+        """Both directions have ended: what is written then is answered by a reset."""
+        def finish(theirs, peer):
+            peer.close()
+            await_event(theirs, select.POLLRDHUP)
+
+        self.compare('fin', finish, (7, 'fin'))
 
     def test_reset(self):
         def finish(theirs, peer):

@@ -6,6 +6,7 @@ import pathlib
 import subprocess
 import unittest
 
+import toxicap
 from toxicap import Output, delivered, parse_report, proxy, rehearse, reports, sample, toxic
 from toxicap._known import KNOWN, REQUIRED
 
@@ -120,10 +121,32 @@ class Data(unittest.TestCase):
         self.assertEqual(ends, {"open", "fin", "close", "reset", "refused"})
         self.assertEqual(outputs[3].parsed.connections[0].vlan, 7)
 
-    def test_no_bytes(self):
-        [output] = rehearse(SHOP, b"[]")
-        with self.assertRaisesRegex(TypeError, "^this Output is no capture: give its bytes, such as output.capture$"):
-            delivered(output)
+    def test_what_an_output_knows(self):
+        """Its capture, also by a path, so that it knows what was recorded; an output of stored files does not."""
+        slow = [proxy("10.77.0.2:80", toxic("latency", latency=100))]
+        for source in SHOP, SHOP.read_bytes(), rehearse(SHOP, [[]])[0]:
+            [output] = rehearse(source, slow)
+            self.assertEqual(output.untouched, rehearse(source, b"[]")[0])
+            lines = delivered(output)[1]
+            self.assertEqual([lines.number, lines.server, *lines.recorded()], [1, "10.77.0.2:80", *delivered(output.untouched)[1]])
+            self.assertEqual([lines, delivered(output.capture)[1].recorded()], [delivered(output.capture)[1]] * 2)
+        stored = Output(*output)
+        with self.assertRaisesRegex(ValueError, "^this output was made of stored files, and does not know its capture"):
+            stored.untouched
+        self.assertEqual(delivered(stored, output.untouched)[1].recorded(), lines.recorded())
+        with self.assertRaisesRegex(TypeError, "^this int is no capture: give an Output, or the bytes of one$"):
+            delivered(5)
+
+    def test_names(self):
+        """What the package has is in `dir` and in `__all__`, also what is loaded later, and `closed_loop` stays a function."""
+        import toxicap.closed_loop as module
+
+        names = {"Dialer", "Loop", "Player", "closed_loop", "run", "streams"}
+        self.assertEqual([names - set(toxicap.__all__), names - set(dir(toxicap))], [set(), set()])
+        self.assertIs(module, toxicap.closed_loop)
+        self.assertEqual(toxicap.closed_loop(SHOP, b"[]").recording, SHOP.read_bytes())
+        with self.assertRaises(AttributeError):
+            toxicap.none_such
 
     def test_no_reports(self):
         [report] = reports(SHOP, b"[]")

@@ -53,10 +53,10 @@ class Search(unittest.TestCase):
         for row in ROWS:
             capture, hosts, texts = sample(row), row["hosts"].encode(), [json.dumps(scenario).encode() for scenario in row["scenarios"]]
             with self.subTest(row["row"]):
-                self.assertEqual(least_seed(capture, texts, hosts, finds(row), row["below"]), row["seed"])
+                self.assertEqual(least_seed(capture, texts, hosts, finds(row), row["below"], strict=False), row["seed"])
             if row.get("smallest"):
                 with self.subTest(row["row"], smallest=True):
-                    text, seed = shrink(capture, texts[0], finds(row), hosts, row["below"])
+                    text, seed = shrink(capture, texts[0], finds(row), hosts, row["below"], strict=False)
                     self.assertEqual(json.loads(text), row["smallest"])
                     self.assertEqual(seed, row["seed"])
 
@@ -86,7 +86,7 @@ class Search(unittest.TestCase):
         self.assertEqual(least_seed(GET, [b"[]"], b"", holds, 2**64), 0)
 
     def test_a_predicate_that_raises(self):
-        """An exception is a failure, and what pytest's `fail` raises is one too; what ends a run is none."""
+        """An exception is a failure, and shown; what pytest's `fail` raises is one too; what ends a run is none."""
 
         class Failed(BaseException):
             pass
@@ -100,14 +100,41 @@ class Search(unittest.TestCase):
 
         scenario = json.dumps(ROWS[2]["scenarios"][1]).replace("20000", "500000").encode()
         limited = least_seed(GET, [scenario], b"", lambda outputs: b" down 50/" in outputs[0].report, 20)
-        self.assertEqual(least_seed(GET, [scenario], b"", raises(AssertionError()), 20), limited)
-        smallest, seed = shrink(GET, scenario, raises(ValueError("refused 19 AttributeRange")), below=limited + 1)
+        with self.assertLogs("toxicap") as shown:
+            self.assertEqual(least_seed(GET, [scenario], b"", raises(AssertionError("cut")), 20), limited)
+            smallest, seed = shrink(GET, scenario, raises(ValueError("refused 19 AttributeRange")), below=limited + 1)
         self.assertEqual(json.loads(smallest)[0]["toxics"], [{"type": "limit_data", "attributes": {"bytes": 50}}])
-        with mock.patch.dict(sys.modules, pytest=types.SimpleNamespace(fail=types.SimpleNamespace(Exception=Failed))):
+        told = [f"seed {limited}: the predicate raised AssertionError: cut", f"seed {seed}: the predicate raised ValueError: refused 19 AttributeRange"]
+        self.assertEqual([record.getMessage() for record in shown.records], told)
+        with mock.patch.dict(sys.modules, pytest=types.SimpleNamespace(fail=types.SimpleNamespace(Exception=Failed))), self.assertLogs("toxicap"):
             self.assertEqual(least_seed(GET, [scenario], b"", raises(Failed()), 20), limited)
         for error in KeyboardInterrupt, Failed:
             with self.assertRaises(error):
                 least_seed(GET, [scenario], b"", raises(error()), 20)
+
+    def test_a_predicate_with_a_fault(self):
+        """Errors of programming end the search, where they were found as a seed before, unless they are asked for."""
+        for error in NameError, AttributeError, TypeError, ImportError, ModuleNotFoundError:
+
+            def predicate(outputs):
+                raise error("at fault")
+
+            for search in (lambda **more: least_seed(GET, [[]], b"", predicate, 9, **more), lambda **more: shrink(GET, [], predicate, **more)):
+                with self.assertRaisesRegex(error, "^at fault$"):
+                    search()
+            with self.assertLogs("toxicap"):
+                self.assertEqual(least_seed(GET, [[]], b"", predicate, 9, any_error=True), 0)
+            with self.assertRaisesRegex(ValueError, f"fails too .{error.__name__}: at fault.: there is nothing"):
+                shrink(GET, [], predicate, any_error=True)
+
+    def test_strict(self):
+        """A scenario that can do nothing is no scenario to search."""
+        idle = [{"name": "web", "upstream": "10.77.0.2:8080"}]
+        for search in least_seed, shrink:
+            words = (GET, [idle], b"", bool, 9) if search is least_seed else (GET, idle, bool)
+            with self.assertRaisesRegex(ValueError, "no connection meets it(.|\n)*strict=False takes"):
+                search(*words)
+        self.assertEqual(least_seed(GET, [idle], b"", bool, 9, strict=False), 0)
 
     def test_seeds_by_itself(self):
         """Without `below` a failing seed that is not 0 is found."""
@@ -126,7 +153,7 @@ class Search(unittest.TestCase):
         for idle in 0, 3:
             late = [{"type": "latency", "name": f"idle {number}"} for number in range(2 * idle)]
             web["toxics"] = [*late[:idle], {"type": "limit_data", "attributes": {"bytes": 50}}, *late[idle:]]
-            text, seed = shrink(GET, json.dumps([web, {"name": "idle", "upstream": "10.77.0.9:1"}]).encode(), is_cut, below=3)
+            text, seed = shrink(GET, json.dumps([web, {"name": "idle", "upstream": "10.77.0.9:1"}]).encode(), is_cut, below=3, strict=False)
             self.assertEqual([proxy["toxics"] for proxy in json.loads(text)], [[{"type": "limit_data", "attributes": {"bytes": 50}}]])
             self.assertEqual(len(calls), len({outputs[0] for outputs in calls}))
             counts.append(len(calls))
@@ -144,6 +171,9 @@ least_seed(open(sys.argv[1], "rb").read(), [b'[{"name":"a","upstream":"10.77.0.2
         options = {"check": True, "timeout": 100}
         subprocess.run(command, stderr=theirs, **options)
         self.assertRegex(os.read(ours, 10000), rb"\rrehearsal [34]: seed [23] below 4\x1b\[K\r\x1b\[K$")
+        told = []
+        least_seed(GET, [[]], b"", bool, 1, show=told.append)
+        self.assertEqual(told, ["rehearsal 1: seed 0 below 1"])
         self.assertEqual(subprocess.run(command, stderr=subprocess.PIPE, **options).stderr, b"")
         os.close(ours)
         os.close(theirs)

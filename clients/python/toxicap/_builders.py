@@ -1,14 +1,34 @@
 """Scenarios as Python makes them: proxies and toxics as dicts, as JSON has them.
 
     proxy("redis:6379", toxic("latency", latency=100), toxic("bandwidth", stream="upstream", rate=20, toxicity=0.5))"""
-from typing import Any, Dict, List, Mapping, Optional, Set
+from typing import Any, Dict, List, Literal, Mapping, Optional, Set, overload
 
 from ._known import KNOWN, REQUIRED
 
 MILLION = 1000000
+Made = Dict[str, Any]
+Stream = Optional[Literal["upstream", "downstream"]]
+Name = Optional[str]
 
 
-def toxic(kind: str, *, stream: Optional[str] = None, toxicity: float = 1, name: Optional[str] = None, **attributes: Any) -> Dict[str, Any]:
+@overload
+def toxic(kind: Literal["latency"], *, stream: Stream = ..., toxicity: float = ..., name: Name = ..., latency: int = ..., jitter: int = ...) -> Made: ...
+@overload
+def toxic(kind: Literal["bandwidth"], *, stream: Stream = ..., toxicity: float = ..., name: Name = ..., rate: int) -> Made: ...
+@overload
+def toxic(kind: Literal["slow_close"], *, stream: Stream = ..., toxicity: float = ..., name: Name = ..., delay: int = ...) -> Made: ...
+@overload
+def toxic(
+    kind: Literal["timeout", "reset_peer"], *, stream: Stream = ..., toxicity: float = ..., name: Name = ..., timeout: int = ...
+) -> Made: ...
+@overload
+def toxic(
+    kind: Literal["slicer"], *, stream: Stream = ..., toxicity: float = ..., name: Name = ..., average_size: int, size_variation: int = ...,
+    delay: int = ...
+) -> Made: ...
+@overload
+def toxic(kind: Literal["limit_data"], *, stream: Stream = ..., toxicity: float = ..., name: Name = ..., bytes: int = ...) -> Made: ...
+def toxic(kind: str, *, stream: Stream = None, toxicity: float = 1, name: Name = None, **attributes: Any) -> Made:
     """A toxic of a type, such as toxic("latency", latency=100, jitter=20), with the attributes that Toxiproxy gives it, and in the same units.
 
     stream    "upstream" is what the client sends; "downstream" is what the server sends, and stands where nothing is said
@@ -27,7 +47,7 @@ def toxic(kind: str, *, stream: Optional[str] = None, toxicity: float = 1, name:
         raise TypeError(f"a toxic {kind} wants {' and '.join(missing)}")
     if not isinstance(toxicity, (int, float)) or not 0 <= toxicity <= 1:
         raise ValueError(f"the toxicity {toxicity!r} is not from 0 to 1")
-    made: Dict[str, Any] = {"type": kind}
+    made: Made = {"type": kind}
     if name is not None:
         made["name"] = name
     if stream is not None:
@@ -39,10 +59,10 @@ def toxic(kind: str, *, stream: Optional[str] = None, toxicity: float = 1, name:
     return {**made, "attributes": attributes}
 
 
-def proxy(upstream: str, *toxics: Mapping[str, Any], name: Optional[str] = None, enabled: bool = True) -> Dict[str, Any]:
+def proxy(upstream: str, *toxics: Mapping[str, Any], name: Optional[str] = None, enabled: bool = True) -> Made:
     """A proxy for the connections to an upstream HOST:PORT, with its toxics. Without a name it has that of its upstream. Where two toxics without a
     name would have the same one, the second is named too, such as latency_downstream_2. One that is not enabled refuses its connections."""
-    made: Dict[str, Any] = {"name": upstream if name is None else name, "upstream": upstream}
+    made: Made = {"name": upstream if name is None else name, "upstream": upstream}
     if not enabled:
         made["enabled"] = False
     return {**made, "toxics": with_names(toxics)}

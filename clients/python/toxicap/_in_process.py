@@ -10,7 +10,7 @@ import re
 import signal
 from typing import Any, List
 
-from ._inputs import Capture, Hosts, Scenarios, capture_bytes, host_lines, scenario_texts, seed_number
+from ._inputs import Capture, Hosts, Scenarios, capture_bytes, host_lines, kept, scenario_texts, seed_number
 from ._library import NO_ROOM, Inputs, Refusal, Sizes, check_process, library, raise_refusal
 from ._outputs import Output
 from ._room import Room, guessed_room
@@ -51,10 +51,12 @@ def rehearse(capture: Capture, scenarios: Scenarios, hosts: Hosts = b"", seed: i
     The library holds outputs a second time. Those of more than 1 MB are stored by the program toxicap-static beside this module, which the wheel has,
     in the folder for temporary files, and read one after another. So a call takes at most 4 MB more than 1.2 times the bytes of its outputs. Without
     that program, or where there is no room for them, it takes up to 2.1 times their bytes."""
-    inputs = inputs_of(capture, scenarios, hosts, seed)
+    inputs, source = inputs_of(capture, scenarios, hosts, seed), kept(capture)
     if len(inputs.capture) * len(inputs.scenarios) <= LARGE and sliced_size(inputs) <= 4 * LARGE:
-        return outputs_of(inputs, len(inputs.scenarios))
-    return by_program(inputs) or in_parts(inputs)
+        outputs = outputs_of(inputs, len(inputs.scenarios))
+    else:
+        outputs = by_program(inputs) or in_parts(inputs)
+    return [output._of(source) for output in outputs]
 
 
 def sliced_size(inputs: Inputs) -> float:

@@ -5,7 +5,7 @@ import operator
 import os
 import pathlib
 import sys
-from typing import Any, Iterable, List, Mapping, Sequence, Union
+from typing import Any, Iterable, List, Mapping, Optional, Sequence, Union
 
 from ._outputs import Output
 
@@ -21,6 +21,13 @@ Hosts = Union[Text, Mapping[str, Any]]
 def capture_bytes(capture: Capture) -> bytes:
     """The bytes of a capture. It is given as bytes, as the path of a file, or as an Output, whose capture it is."""
     return capture.capture if isinstance(capture, Output) else bytes_of("capture", capture, "a path, bytes or an Output")
+
+
+def kept(capture: Capture) -> Any:
+    """What an output keeps of its capture: no bytes that the caller does not hold."""
+    if isinstance(capture, (str, os.PathLike)):
+        return pathlib.Path(os.path.abspath(from_base(capture)))
+    return capture.capture if isinstance(capture, Output) else capture
 
 
 def scenario_texts(scenarios: Scenarios) -> List[bytes]:
@@ -77,9 +84,16 @@ def bytes_of(argument: str, source: Any, expected: str, has_paths: bool = True) 
         raise wrong_type(argument, expected, source) from None
 
 
+base: Optional[pathlib.Path] = None  # the folder that relative paths count from: that of a test under pytest; None for the process's
+
+
+def from_base(path: Path) -> pathlib.Path:
+    return pathlib.Path(base or "", path)
+
+
 def file_bytes(argument: str, path: Path) -> bytes:
     try:
-        return pathlib.Path(path).read_bytes()
+        return from_base(path).read_bytes()
     except OSError:
         if isinstance(path, str) and path.lstrip()[:1] in ("[", "{"):
             raise TypeError(f"{argument}: a str is the path of a file; give JSON as bytes or as a list of dicts") from None

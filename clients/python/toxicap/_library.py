@@ -1,7 +1,7 @@
 """The library libtoxicap: its calls and types as toxicap.h has them, and what it refuses.
 
 It is the one that TOXICAP_LIBRARY names by its path, else the one beside this file, else the one in the folder lib of the release which this file lies
-in, else the system's."""
+in, else that of release/library in the clone which it lies in, else the system's."""
 import ctypes
 import functools
 import os
@@ -85,6 +85,14 @@ class Sizes(ctypes.Structure):
     _fields_ = [("captures", ctypes.c_size_t), ("reports", ctypes.c_size_t), ("lens", ctypes.c_size_t)]
 
 
+class LinesSizes(ctypes.Structure):
+    _fields_ = [("bytes", ctypes.c_size_t), ("chunks", ctypes.c_size_t), ("connections", ctypes.c_size_t)]
+
+
+class EffectSizes(ctypes.Structure):
+    _fields_ = [("counts", ctypes.c_size_t), ("text", ctypes.c_size_t)]
+
+
 @functools.lru_cache(maxsize=None)
 def library() -> ctypes.CDLL:
     """The library, with the types of its calls. It is loaded by the first call."""
@@ -92,13 +100,17 @@ def library() -> ctypes.CDLL:
     top = (here / "../../..").resolve()
     if top.parts[-2:] == ("share", "toxicap"):
         top = top.parents[1]
-    found = next(filter(pathlib.Path.exists, (here / name, top / "lib" / name)), name)
+    found = next(filter(pathlib.Path.exists, (here / name, top / "lib" / name, top / "release/out/lib" / name)), name)
     calls = ctypes.CDLL(os.environ.get("TOXICAP_LIBRARY") or str(found))
     room: List[Any] = [ctypes.c_char_p, ctypes.c_size_t]
     lens: List[Any] = [ctypes.POINTER(ctypes.c_size_t), ctypes.c_size_t]
     calls.toxicap_rehearse.argtypes = [ctypes.POINTER(Inputs), *room, *room, *lens, ctypes.POINTER(Sizes)]
     calls.toxicap_reports.argtypes = [ctypes.POINTER(Inputs), *room, ctypes.POINTER(Sizes)]
-    calls.toxicap_rehearse.restype = calls.toxicap_reports.restype = ctypes.c_uint8
+    calls.toxicap_lines.argtypes = [ctypes.POINTER(Inputs), *room, *room, *room, ctypes.POINTER(LinesSizes)]
+    counts: List[Any] = [ctypes.POINTER(ctypes.c_uint64), ctypes.c_size_t]
+    calls.toxicap_effects.argtypes = [ctypes.POINTER(Inputs), *counts, *room, ctypes.POINTER(EffectSizes)]
+    for call in calls.toxicap_rehearse, calls.toxicap_reports, calls.toxicap_lines, calls.toxicap_effects:
+        call.restype = ctypes.c_uint8
     return calls
 
 

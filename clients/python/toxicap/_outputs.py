@@ -1,4 +1,5 @@
 """What one scenario gives: the output capture, and the report as text and as data."""
+import functools
 import re
 from typing import Any, List, NamedTuple, Optional, Sequence
 
@@ -108,15 +109,36 @@ def parse_report(report: bytes) -> Report:
     return parsed
 
 
-class Output(NamedTuple):
-    """What one scenario gives."""
+class Files(NamedTuple):
+    """What the program stores of one scenario."""
 
     capture: bytes
     """A classic pcap of what each side received."""
     report: bytes
     """UTF-8 text: a line of counts, a line of connections, and a line for each connection."""
 
+
+class Output(Files):
+    """What one scenario gives."""
+
+    recording: Any = None
+    """The capture that it is of, as it was given to `rehearse` (a path is whole); None if the output was made of stored files."""
+
     @property
     def parsed(self) -> Report:
         """The report as data. It is parsed at each use."""
         return parse_report(self.report)
+
+    @functools.cached_property
+    def untouched(self) -> "Output":
+        """The output of the same capture under `[]`, rehearsed at the first use. ValueError is raised if the output was made of stored files."""
+        from . import _in_process
+
+        if self.recording is None:
+            raise ValueError("this output was made of stored files, and does not know its capture: give the output under `[]` too")
+        return _in_process.rehearse(self.recording, b"[]")[0]
+
+    def _of(self, recording: Any) -> "Output":
+        """The same, which knows its capture."""
+        self.recording = recording
+        return self

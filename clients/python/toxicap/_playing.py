@@ -1,8 +1,10 @@
 """One client of a player, while it is served."""
 import bisect, selectors, socket, struct, time
 from typing import Iterator, NamedTuple, Optional, Union
+from ._exchange import difference
 from ._steps import Session, Step
 
+FLOOD = 1 << 20  # how many bytes more than the recorded client's a player takes
 APART = 0.001  # seconds that lie between two chunks if twice that lies between them in the output, however late the player is
 
 
@@ -78,7 +80,7 @@ class Served:
     def read(self, times: int) -> None:
         """Takes what the client has sent, by at most `times` reads, and that it closed."""
         try:
-            while times and self.closed is None:
+            while times and self.closed is None and not self.floods:
                 self._take(self.client.recv(1 << 16))
                 times -= 1
         except BlockingIOError: pass
@@ -90,11 +92,13 @@ class Served:
         self.received += more
         self.heard.append(now)
         self.counts.append(len(self.received))
-        expected = self.session.sent[known:known + len(more)]
-        if more == expected or self.differs: return
-        place = next((place for place, pair in enumerate(zip(more, expected)) if pair[0] != pair[1]), len(expected))
-        expected = self.session.sent[known + place:known + place + 20]
-        self.differs = f'the client sent {more[place:place + 20]!r} at byte {known + place}, and the recorded one {expected!r}'
+        self.differs = self.differs or difference('client', known, more, self.session.sent)
+
+    @property
+    def floods(self) -> Optional[str]:
+        """That the client sends without end, in words."""
+        more = len(self.received) - len(self.session.sent)
+        return f'the client sent {more} bytes more than the recorded one' if more > FLOOD else None
 
     def watch(self, ready: selectors.BaseSelector) -> None:
         """Has a selector look for what the client may do next; closes at the end."""

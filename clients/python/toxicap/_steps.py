@@ -1,26 +1,26 @@
-"""What a player does: the steps of the server's side of each connection, each with what it waits for."""
+"""What comes to one side of a connection, step by step, and what each step waits for."""
 import bisect, itertools
-from typing import List, NamedTuple, Union
-from ._events import Line, delivered
-
-
-# What no toxic does: none makes a byte come earlier, or adds one.
-SWAPPED = 'has more or earlier bytes in the first output: the output under the scenario has to come first, the untouched one second'
-
+from typing import List, Literal, NamedTuple, Sequence, Tuple, Union
+from ._events import Line, Lines
 
 NEVER = 1 << 64  # later than all nanoseconds of a capture
+Side = Literal['client', 'server']
+SIDES: Tuple[Side, Side] = 'server', 'client'  # the side that the line of this number comes to
+
+Connection = Union[Lines, Tuple[Line, Line]]  # one of delivered(capture): (up, down)
+Choice = Union[int, Literal['with data'], Sequence[int], None]  # of connections: a number, 'with data', numbers, or all
 
 
 class Step(NamedTuple):
-    need: int  # how many bytes the recorded client had sent before it
-    closed: bool  # whether that client had closed before it
-    pause: int  # nanoseconds from the last of these to the recorded server's answer
+    need: int  # how many bytes the recorded side had sent before it
+    closed: bool  # whether that side had closed before it
+    pause: int  # nanoseconds from the last of these to the recorded peer's answer
     delay: int  # nanoseconds that the toxics added
     what: Union[bytes, str]  # a chunk of bytes, 'fin', 'reset' or 'refused'
 
 
 class Session(NamedTuple):
-    """A connection as a player has it: the server's steps, in order, and the bytes that the recorded client sent."""
+    """What comes to a side of a connection, in order, and the bytes that the recorded side sent."""
     steps: List[Step]
     sent: bytes
 
@@ -28,32 +28,28 @@ class Session(NamedTuple):
     def refused(self) -> bool: return [step.what for step in self.steps] == ['refused']
 
 
-def in_order(line: Line, recorded: Line) -> bool:
-    """Whether a line has no byte earlier than the recorded one, and none more; a ValueError where its bytes are others."""
-    sent, whole = (b''.join(what for _, what in chunks) for chunks in (line.chunks, recorded.chunks))
-    if not whole.startswith(sent) and not sent.startswith(whole): raise ValueError('the outputs are not of one capture')
-    if len(sent) > len(whole): return False
-    place, known, came, chunks = 0, 0, 0, iter(recorded.chunks)
-    for at, what in line.chunks:
-        place += len(what)
-        while known < place:
-            came, more = next(chunks)
-            known += len(more)
-        if at < came: return False
-    return True
+def session(connection: Connection, side: Side = 'client') -> Session:
+    """What comes to a side of a connection; a ValueError if what is known of its recording is of another one. Without a recording nothing waits for a
+    close: it may have been recorded after an answer that is late."""
+    place, recorded = SIDES.index(side), connection.recorded() if isinstance(connection, Lines) else connection
+    sent = Line(recorded[1 - place].chunks, None) if recorded is connection else recorded[1 - place]
+    return Session(steps(connection[place], sent, recorded[place]), sent.data)
 
 
-def sessions(output: bytes, untouched: bytes) -> List[Session]:
-    """The connections of two outputs of one capture, in the order of the report; a ValueError if they are not that."""
-    here, there = delivered(output), delivered(untouched)
-    if len(here) != len(there): raise ValueError('the outputs are not of one capture')
-    for number, (lines, untouched_lines) in enumerate(zip(here, there)):
-        if not all(map(in_order, lines, untouched_lines)): raise ValueError(f'connection {number} {SWAPPED}')
-    return [Session(steps(down, up, recorded), b''.join(what for _, what in up.chunks)) for (_, down), (up, recorded) in zip(here, there)]
+def chosen(found: List[Lines], connection: Choice) -> List[Lines]:
+    """Connections by a number, by several, `with data` of the server, or all; a ValueError that names those that are there."""
+    if connection is None: return found
+    if connection == 'with data': return [lines for lines in found if lines.recorded()[1].chunks]
+    if isinstance(connection, str): raise ValueError(f'connection {connection!r}: a number, numbers, "with data" or None is expected')
+    for number in [connection] if isinstance(connection, int) else connection:
+        if not 0 <= number < len(found):
+            known = [f'{lines.number} to {lines.server} ({len(lines[1].data)} bytes came)' for lines in found[:9]] + ['..'] * (len(found) > 9)
+            raise ValueError(f'there is no connection {number}: there {"is" if len(found) == 1 else "are"} {", ".join(known) or "none"}')
+    return [found[number] for number in ([connection] if isinstance(connection, int) else connection)]
 
 
 def steps(down: Line, up: Line, recorded: Line) -> List[Step]:
-    """What a player does for a line `down` whose recorded one is `recorded`, in order, when the recorded client's is `up`. A chunk stands for the
+    """What comes by a line `down` whose recorded one is `recorded`, in order, when what was recorded the other way is `up`. A chunk stands for the
     recorded one that has its last byte, an end for the first byte that no longer comes or for the recorded end. An end that a toxic made earlier than
     that stands for what was recorded last before it, of either side."""
     borders = list(itertools.accumulate(len(what) for _, what in recorded.chunks))

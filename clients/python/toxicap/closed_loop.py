@@ -23,10 +23,12 @@ import re
 import struct
 from typing import Callable, Dict, Iterator, List, NamedTuple, Optional, Sequence, Tuple
 
+from . import _in_process
 from ._events import Line, delivered
 from ._in_process import rehearse
 from ._inputs import Capture, Hosts, Scenario, capture_bytes, host_lines, scenario_text
 from ._outputs import Output
+from ._strict import check
 
 SYN, RST = 2, 4
 NEVER = 1 << 80  # later than all times of a capture
@@ -237,14 +239,18 @@ def sessions_of(recording: Recording, rehearse: Rehearse) -> List[Session]:
 
 
 def closed_loop(
-    capture: Capture, scenario: Scenario, hosts: Hosts = b"", seed: int = 0, turns: int = 10_000, rehearse: Rehearse = rehearse
+    capture: Capture, scenario: Scenario, hosts: Hosts = b"", seed: int = 0, turns: int = 10_000, rehearse: Rehearse = rehearse, strict: bool = True
 ) -> Loop:
     """The closed loop of a capture under one scenario; capture, scenario, hosts and seed are those of `rehearse`, and so are its errors. Equal
     arguments give equal bytes.
 
     turns     the most rounds that it may take; Unsettled is raised if that is not enough
-    rehearse  what rehearses: in_process.rehearse, or a function with its first four parameters"""
+    rehearse  what rehearses: in_process.rehearse, or a function with its first four parameters
+    strict    whether ValueError is raised if the scenario can do nothing (what `explain` finds), with a warning of each toxic without effect; only for
+              in_process.rehearse"""
     file, text, lines = capture_bytes(capture), scenario_text("scenario", scenario), host_lines(hosts)
+    if strict and rehearse is _in_process.rehearse:
+        check(file, [text], lines, seed, warns=2)
     [output] = rehearse(file, [text], lines, seed)
     recording = Recording(file)
     sessions = sessions_of(recording, rehearse)

@@ -1,24 +1,27 @@
 """Serves the server's side of connections of an output capture to real clients on 127.0.0.1, chunk by chunk, and ends as the capture does: by a FIN,
 by a reset, or not at all. In a test:
 
-    with Player(output, untouched) as player: fetch('127.0.0.1', player.port)
+    with Player(output) as player: fetch('127.0.0.1', player.port)
 
 or as a command, which prints the port and serves: player.py OUTPUT UNTOUCHED; its status is 1 if a client did not do its part. Both are output
 captures of one recording, the second under the scenario without toxics, `[]`: it says what the client had sent before each answer, and when the
-server answered."""
+server answered. An Output of `rehearse` knows its own."""
 import argparse, contextlib, selectors, socket, sys, threading, time
 from types import TracebackType
-from typing import List, Optional, Sequence, Type, Union
+from typing import Any, List, Optional, Set, Type
+from ._events import Written, delivered, knows_recording
 from ._playing import Pace, Served
-from ._steps import Session, sessions
+from ._steps import Choice, Session, chosen, session
 
 LONGEST = 3600.0  # seconds of one wait: selectors have a most
+COARSE = 0.001  # seconds to which a selector rounds its waits up
 
 
 class Player:
-    """Serves clients at 127.0.0.1, port `port`, in the body of one `with`. `connection` is a number in the report, a list of numbers, or None for all
-    of the capture. Each client that comes gets the next of them; several are served at the same time. Any other client is refused, and so is each if
-    the proxy was disabled. A list with connections of both kinds is a ValueError, since one port cannot do both.
+    """Serves clients at 127.0.0.1, port `port`, in the body of one `with`. `output` is an Output, or the bytes of a stored one and `untouched` of that
+    under `[]`. `connection` is a number in the report, a list of numbers, 'with data' for those on which the server sends, or None for all. Each client
+    that comes gets the next of them; several are served at the same time. Any other client is refused, and so is each if the proxy was disabled. A list
+    with connections of both kinds is a ValueError, since one port cannot do both.
 
     An answer waits until the client has sent as many bytes as the recorded one had before it (and has closed, if that one had). From then on it takes
     as long as in the output: the recorded server's pause and the toxics' delay. Both are multiplied by `factor` (0: at once); `pauses=False` leaves
@@ -32,15 +35,17 @@ class Player:
     `late`. So a client that hangs is found if `limit` is below its own timeout. A `with` to which no client came ends so, too.
 
     `received` is what each client has sent. With `same_requests` this has to be what the recorded client sent, from the first byte on; a client may
-    stop early. At another byte the player closes all connections, and `with` ends with an AssertionError. An exception of the body goes before both,
-    and gets their text as a note (from Python 3.11 on)."""
+    stop early. At another byte, and always after 1 MiB more than the recorded one, the player closes all connections, and `with` ends with an
+    AssertionError. An exception of the body goes before both, and gets their text as a note (from Python 3.11 on)."""
 
-    def __init__(self, output: bytes, untouched: bytes, connection: Union[int, Sequence[int], None] = 0, factor: float = 1, pauses: bool = True,
+    def __init__(self, output: Written, untouched: Optional[Written] = None, connection: Choice = 0, factor: float = 1, pauses: bool = True,
                  limit: float = 10, gap: float = 0, same_requests: bool = False) -> None:
-        found = sessions(output, untouched)
-        self.numbers = range(len(found)) if connection is None else [connection] if isinstance(connection, int) else list(connection)
-        self.refuses = refused(found, self.numbers)
-        self.sessions = [found[number] for number in self.numbers]
+        if untouched is None and not knows_recording(output): raise TypeError('a player of a stored output takes that under `[]` too')
+        found = delivered(output, untouched)
+        for lines in found: lines.recorded()
+        played = chosen(found, connection)
+        self.numbers, self.sessions = [lines.number for lines in played], [session(lines) for lines in played]
+        self.refuses = refused(self.sessions, self.numbers)
         self.pace, self.limit, self.same_requests = Pace(factor, pauses, gap), limit, same_requests
         self.served: List[Served] = []
         self.fault: Optional[Exception] = None  # what `with` ends with
@@ -105,14 +110,15 @@ class Player:
         while going or len(self.served) < len(self.sessions):
             due = min((one.awaits for one in going if isinstance(one.awaits, float)), default=None)
             begun = time.monotonic()
-            found = {key.fileobj for key, _ in ready.select(min(left if due is None else max(0, due - begun), LONGEST))}
+            found = awaited(ready, min(left if due is None else max(0, due - begun), LONGEST))
             now = time.monotonic()
             if due is None: left -= now - begun
             if self.listener in found: going += self._accept(ready)
             ended = self.woken in found
             for one in going:
                 if one.client in found or ended: one.read(1024 if ended else 1)
-                if self.same_requests and one.differs: return AssertionError(self._told(f'connection {one.number}: {one.differs}'))
+                wrong = one.differs if self.same_requests else one.floods
+                if wrong: return AssertionError(self._told(f'connection {one.number}: {wrong}'))
                 if one.client in found or isinstance(one.awaits, float) and one.awaits <= now: one.go_on()
                 one.watch(ready)
             if ended: return None
@@ -140,11 +146,19 @@ class Player:
     def _told(self, fault: str) -> str: return f'player: port {self.port}: {fault}'
 
 
-def refused(found: List[Session], numbers: Sequence[int]) -> bool:
-    """Whether these connections are refused; a ValueError if some are and some are not, and if there is no such connection."""
-    for number in numbers:
-        if not 0 <= number < len(found): raise ValueError(f'there is no connection {number}')
-    one, other = ([number for number in numbers if found[number].refused == how] for how in (True, False))
+def awaited(ready: selectors.BaseSelector, seconds: float) -> Set[Any]:
+    """What a selector finds within a time. Its own wait may be up to a millisecond longer, so the last one is slept."""
+    until = time.monotonic() + seconds
+    found = ready.select(max(0, seconds - COARSE))
+    if not found and seconds > 0:
+        time.sleep(max(0, min(until - time.monotonic(), COARSE)))
+        found = ready.select(0)
+    return {key.fileobj for key, _ in found}
+
+
+def refused(found: List[Session], numbers: List[int]) -> bool:
+    """Whether these connections are refused; a ValueError if some are and some are not, and if there is none."""
+    one, other = ([number for number, each in zip(numbers, found) if each.refused == how] for how in (True, False))
     if one and other:
         raise ValueError(f'connection {one[0]} is refused and connection {other[0]} is not: '
                          'one port cannot do both, name the connections of one server')
@@ -152,14 +166,15 @@ def refused(found: List[Session], numbers: Sequence[int]) -> bool:
     return bool(one)
 
 
-def numbers(text: str) -> Optional[List[int]]:
+def numbers(text: str) -> Choice:
+    if text == 'with data': return 'with data'
     return None if text == 'all' else [int(number) for number in text.split(',')]
 
 
 def main() -> None:
     parser = argparse.ArgumentParser(description='Prints a port of 127.0.0.1, and serves clients there as an output capture has it.')
     for name in 'output', 'untouched': parser.add_argument(name, type=lambda path: open(path, 'rb').read())
-    parser.add_argument('--connection', type=numbers, default=[0], help='its number in the report, several such as 0,2, or all; 0 without')
+    parser.add_argument('--connection', type=numbers, default=[0], help='its number in the report, several such as 0,2, "with data", or all; 0 without')
     parser.add_argument('--factor', type=float, default=1, help='what times are multiplied by; 0 for at once')
     parser.add_argument('--no-pauses', dest='pauses', action='store_false', help='only the delays that the toxics added')
     parser.add_argument('--limit', type=float, default=10, help='seconds to wait for clients, in all; 10 without')

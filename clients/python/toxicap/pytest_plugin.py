@@ -7,24 +7,22 @@ rehearses a capture under a scenario and compares what comes with slow.pcap and 
 `pytest --toxicap-stale` finds those that no test compared with."""
 from __future__ import annotations
 
+import contextlib
 import os
 import pathlib
-import warnings
-from typing import Any, Callable, Dict, Iterator, List, Optional, TypeVar, Union
+from typing import Any, Callable, Dict, Iterator, List, Optional, Union
 
 import pytest
 
-from . import Output, rehearse as rehearse_all
-from ._explain import explain
+from . import Output, _inputs, closed_loop, rehearse as rehearse_all
 from ._golden import differences
-from ._inputs import Capture, Hosts, Scenario, capture_bytes, scenario_text
+from ._inputs import Capture, Hosts, Scenario, capture_bytes, host_lines, scenario_text
+from ._strict import faults_of
 
-Source = TypeVar("Source")
 Around = Callable[..., Iterator[None]]
 around: Callable[[Around], Around] = pytest.hookimpl(hookwrapper=True)
 
 ENDINGS = ".txt", ".pcap"
-COMPARED = pytest.StashKey[Dict[str, List[str]]]()  # of a test: each golden path that it compared with, and the files that it wrote for it
 
 
 def pytest_addoption(parser: pytest.Parser) -> None:
@@ -43,12 +41,24 @@ class Comparisons:
     def __init__(self, config: pytest.Config) -> None:
         self.config, self.left_out = config, 0
         self.compared: Dict[str, List[str]] = {}
+        self.of_test: Dict[str, List[str]] = {}  # each golden path that the test which runs compared with, and the files that it wrote for it
         self.stale: List[str] = []
+
+    @around
+    def pytest_make_collect_report(self, collector: pytest.Collector) -> Iterator[None]:
+        with paths_from(collector.path.parent if isinstance(collector, pytest.Module) else None):
+            yield
+
+    @around
+    def pytest_runtest_protocol(self, item: pytest.Item) -> Iterator[None]:
+        self.of_test = {}
+        with paths_from(item.path.parent):
+            yield
 
     @around
     def pytest_runtest_makereport(self, item: pytest.Item, call: pytest.CallInfo[None]) -> Iterator[None]:
         outcome: Any = yield
-        outcome.get_result().toxicap_compared = item.stash.get(COMPARED, {})
+        outcome.get_result().toxicap_compared = self.of_test
 
     def pytest_runtest_logreport(self, report: pytest.TestReport) -> None:
         self.left_out += not report.passed
@@ -92,44 +102,44 @@ class Comparisons:
             terminalreporter.write_line(f"toxicap: stale golden files were not looked for: {why}")
 
 
-class Rehearsals:
-    """What the fixture gives: a function. Relative paths are those from the folder of the test's file."""
+@contextlib.contextmanager
+def paths_from(folder: Optional[pathlib.Path]) -> Iterator[None]:
+    """Has relative paths of all calls count from a folder: that of the test's file."""
+    before, _inputs.base = _inputs.base, folder
+    try:
+        yield
+    finally:
+        _inputs.base = before
 
-    def __init__(self, folder: pathlib.Path, updates: bool, compared: Dict[str, List[str]]) -> None:
-        self.folder, self.updates, self.compared = folder, updates, compared
+
+class Rehearsals:
+    """What the fixture gives: a function. Relative paths count from the folder of the test's file."""
+
+    def __init__(self, folder: pathlib.Path, comparisons: Comparisons, updates: bool) -> None:
+        self.folder, self.comparisons, self.updates = folder, comparisons, updates
 
     def __call__(
-        self,
-        capture: Capture,
-        scenario: Scenario,
-        hosts: Hosts = b"",
-        seed: int = 0,
-        golden: Union[None, str, os.PathLike[str]] = None,
-        strict: bool = True,
+        self, capture: Capture, scenario: Scenario, hosts: Hosts = b"", seed: int = 0, golden: Union[None, str, os.PathLike[str]] = None,
+        strict: bool = True, closed: bool = False
     ) -> Output:
         """The output of a capture under one scenario. Arguments and errors are those of toxicap.rehearse. The test fails if the rehearsal can do
         nothing: a field is unknown, a proxy meets no connection, or the capture has none; a toxic without effect is warned of (toxicap.explain).
         strict=False takes all of it. With `golden`, a path without ending, the test fails if the capture is not the file of that name with `.pcap`,
-        or the report the one with `.txt`; with the option --toxicap-update they are written."""
-        content, texts = capture_bytes(self._from_here(capture)), [scenario_text("scenario", self._from_here(scenario))]
-        [output] = rehearse_all(content, texts, hosts, seed)
-        found = explain(content, texts, hosts, seed) if strict else []
-        faults = [str(finding) for finding in found if not finding.is_warning]
+        or the report the one with `.txt`; with the option --toxicap-update they are written. With `closed` client and server wait for one another
+        (toxicap.closed_loop)."""
+        content, text = capture_bytes(capture), scenario_text("scenario", scenario)
+        faults = faults_of(content, [text], host_lines(hosts), seed, warns=2) if strict else []
         if faults:
-            pytest.fail("\n".join([*faults, "strict=False takes a rehearsal that does nothing"]), pytrace=False)
-        for finding in found:
-            warnings.warn(f"toxicap: {finding}", stacklevel=2)
+            pytest.fail("\n".join(faults), pytrace=False)
+        output = closed_loop(content, text, hosts, seed, strict=False).output if closed else rehearse_all(content, text, hosts, seed)[0]
         if golden is not None:
             path = pathlib.Path(os.path.normpath(self.folder / golden))
-            written = self.compared.setdefault(str(path), [])
+            written = self.comparisons.of_test.setdefault(str(path), [])
             files = [path.with_name(path.name + ending) for ending in ENDINGS]
             faults = [fault for file, came in zip(files, (output.report, output.capture)) for fault in self._fault(file, came, written)]
             if faults:
                 pytest.fail("\n".join([*faults, "`pytest --toxicap-update` writes golden files"]), pytrace=False)
         return output
-
-    def _from_here(self, source: Source) -> Union[Source, pathlib.Path]:
-        return self.folder / source if isinstance(source, (str, os.PathLike)) else source
 
     def _fault(self, path: pathlib.Path, found: bytes, written: List[str]) -> Iterator[str]:
         """What is wrong with a golden file, if anything; with --toxicap-update it is made right."""
@@ -148,7 +158,14 @@ class Rehearsals:
             yield "\n".join([f"the golden file {path} differs:", *differences(path.suffix, expected, found)])
 
 
-@pytest.fixture
+@pytest.fixture(scope="module")
 def rehearse(request: pytest.FixtureRequest) -> Rehearsals:
     """Rehearses a capture under a scenario, and compares what comes with golden files: see toxicap.pytest_plugin.Rehearsals."""
-    return Rehearsals(request.path.parent, request.config.getoption("toxicap_update"), request.node.stash.setdefault(COMPARED, {}))
+    comparisons: Any = request.config.pluginmanager.get_plugin("toxicap_comparisons")
+    return Rehearsals(request.path.parent, comparisons, request.config.getoption("toxicap_update"))
+
+
+@pytest.fixture(scope="module", params=[False, True], ids=["chunks", "joined"])
+def joins(request: pytest.FixtureRequest) -> bool:
+    """Has a test run twice, for `joins` of a Dialer: once its reads give bytes of one chunk, and once of all that have come."""
+    return bool(request.param)
